@@ -1,0 +1,53 @@
+-- The axes in their fixed order, and how wide each is.
+use Rattle.std.specs.Prelude.{ℕ, Bool, true, false, ◌==◌, List, [], ◌∷◌, slice_index}
+use Rattle.fx_elements.specs.declared.axis.Axis.{Axis}
+use Rattle.fx_elements.specs.declared.axis.Axis.TheVariants.{Source, Destination, Protocol, SourcePort, DestinationPort, ClassOfService}
+
+-- how many there are
+abbrev pub axis_count : ℕ
+axis_count = 6
+
+-- all of them, in order
+abbrev pub axes : List Axis
+axes = Source ∷ Destination ∷ Protocol ∷ SourcePort ∷ DestinationPort ∷ ClassOfService ∷ []
+
+-- the greatest value of each, in order
+abbrev pub tops : List ℕ
+tops = 4294967295 ∷ 4294967295 ∷ 255 ∷ 65535 ∷ 65535 ∷ 255 ∷ []
+
+-- the place of an axis, from 0
+abbrev pub axis_index : Axis → ℕ
+axis_index Source = 0
+axis_index Destination = 1
+axis_index Protocol = 2
+axis_index SourcePort = 3
+axis_index DestinationPort = 4
+axis_index ClassOfService = 5
+
+-- how many bits a value has
+abbrev pub axis_width : Axis → ℕ
+axis_width Source = 32
+axis_width Destination = 32
+axis_width Protocol = 8
+axis_width SourcePort = 16
+axis_width DestinationPort = 16
+axis_width ClassOfService = 8
+
+-- the values of an axis are addresses, which have prefixes
+abbrev pub is_address : Axis → Bool
+is_address Source = true
+is_address Destination = true
+is_address Protocol = false
+is_address SourcePort = false
+is_address DestinationPort = false
+is_address ClassOfService = false
+
+abbrev pub same_axis : Axis → Axis → Bool
+same_axis a b = axis_index a == axis_index b
+
+-- a packet's values, one for each axis in order
+abbrev pub Fields : Type 0
+Fields = List ℕ
+
+abbrev pub field : Fields → Axis → ℕ
+field fields axis = slice_index fields (axis_index axis)

@@ -1,0 +1,47 @@
+-- The information elements that are told apart, with their names and numbers in the IANA registry (RFC 7012, section 4).
+use Rattle.std.specs.Prelude.{ℕ, Bool, ◌==◌, if◌then◌else◌, List, [], ◌∷◌, codes, Option, Some, None}
+use Rattle.std.specs.Str.{bytes_eq}
+use Rattle.fx_elements.specs.declared.element.Element.{Element}
+use Rattle.fx_elements.specs.declared.element.Element.TheVariants.{OnAxis, OctetDeltaCount, PacketDeltaCount, OctetTotalCount, PacketTotalCount, SourcePrefix, DestinationPrefix, SourcePrefixLength, DestinationPrefixLength, IpVersion, Other}
+use Rattle.fx_elements.specs.declared.axis.Axis.{Axis}
+use Rattle.fx_elements.specs.declared.axis.Axis.TheVariants.{Source, Destination, Protocol, SourcePort, DestinationPort, ClassOfService}
+
+-- a line of the registry
+pub record Registered : Type 0 where
+  pub number : ℕ
+  pub name : List ℕ
+  pub element : Element
+
+abbrev pub registry : List Registered
+registry =
+    record { number = 1; name = codes "octetDeltaCount"; element = OctetDeltaCount } ∷
+    record { number = 2; name = codes "packetDeltaCount"; element = PacketDeltaCount } ∷
+    record { number = 4; name = codes "protocolIdentifier"; element = OnAxis Protocol } ∷
+    record { number = 5; name = codes "ipClassOfService"; element = OnAxis ClassOfService } ∷
+    record { number = 7; name = codes "sourceTransportPort"; element = OnAxis SourcePort } ∷
+    record { number = 8; name = codes "sourceIPv4Address"; element = OnAxis Source } ∷
+    record { number = 9; name = codes "sourceIPv4PrefixLength"; element = SourcePrefixLength } ∷
+    record { number = 11; name = codes "destinationTransportPort"; element = OnAxis DestinationPort } ∷
+    record { number = 12; name = codes "destinationIPv4Address"; element = OnAxis Destination } ∷
+    record { number = 13; name = codes "destinationIPv4PrefixLength"; element = DestinationPrefixLength } ∷
+    record { number = 44; name = codes "sourceIPv4Prefix"; element = SourcePrefix } ∷
+    record { number = 45; name = codes "destinationIPv4Prefix"; element = DestinationPrefix } ∷
+    record { number = 60; name = codes "ipVersion"; element = IpVersion } ∷
+    record { number = 85; name = codes "octetTotalCount"; element = OctetTotalCount } ∷
+    record { number = 86; name = codes "packetTotalCount"; element = PacketTotalCount } ∷ []
+
+-- the element of the first line with the name; a name that stands in none is another element's
+abbrev pub named_in : List Registered → List ℕ → Element
+named_in [] name = Other
+named_in (line ∷ lines) name = if bytes_eq name line.name then line.element else named_in lines name
+
+abbrev pub element_named : List ℕ → Element
+element_named name = named_in registry name
+
+abbrev pub numbered_in : List Registered → ℕ → Element
+numbered_in [] number = Other
+numbered_in (line ∷ lines) number = if number == line.number then line.element else numbered_in lines number
+
+-- an element of an enterprise is none of these
+abbrev pub element_numbered : ℕ → ℕ → Element
+element_numbered number enterprise = if enterprise == 0 then numbered_in registry number else Other

@@ -1,0 +1,4 @@
+pub mod Axes
+pub mod Spelling
+pub mod Elements
+pub mod Values

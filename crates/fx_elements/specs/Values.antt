@@ -1,0 +1,52 @@
+-- What the text of a value means.
+use Rattle.std.specs.Prelude.{ℕ, ◌+◌, ◌-◌, ◌*◌, ◌/◌, ◌^◌, Bool, if◌then◌else◌, List, [], ◌∷◌, ◌++◌, nat_lt, Option, Some, None, option_map, slice_index}
+use Rattle.std.specs.Fmt.{decimal}
+use Rattle.fx_elements.specs.declared.axis.Axis.{Axis}
+use Rattle.fx_elements.specs.declared.values.Range.{Range}
+use Rattle.fx_elements.specs.declared.element.Element.{Element}
+use Rattle.fx_elements.specs.declared.element.Element.TheVariants.{OnAxis, OctetDeltaCount, PacketDeltaCount, OctetTotalCount, PacketTotalCount, SourcePrefix, DestinationPrefix, SourcePrefixLength, DestinationPrefixLength, IpVersion, Other}
+use Rattle.fx_elements.specs.Axes.{axis_index, axis_width, is_address, tops}
+use Rattle.fx_elements.specs.Spelling.{number_of, quad_of, prefix_of, quad}
+
+-- one value, all of whose bits are fixed
+abbrev pub single : ℕ → ℕ → Range
+single width value = record { low = value; high = value; bits = width }
+
+-- the addresses that begin with the leading bits of this one
+abbrev pub with_prefix : ℕ × ℕ → Range
+with_prefix p =
+    record { low = p.0 / 2 ^ (32 - p.1) * 2 ^ (32 - p.1); high = p.0 / 2 ^ (32 - p.1) * 2 ^ (32 - p.1) + (2 ^ (32 - p.1) - 1); bits = p.1 }
+
+-- addresses are dotted quads, other values decimal numbers
+abbrev pub value_on : Axis → List ℕ → Option ℕ
+value_on axis text = if is_address axis then quad_of text else number_of (slice_index tops (axis_index axis)) text
+
+-- a single value on an axis, the addresses of a prefix; no other element has values
+abbrev pub values_of : Element → List ℕ → Option Range
+values_of (OnAxis axis) text = option_map (single (axis_width axis)) (value_on axis text)
+values_of SourcePrefix text = option_map with_prefix (prefix_of text)
+values_of DestinationPrefix text = option_map with_prefix (prefix_of text)
+values_of OctetDeltaCount text = None
+values_of PacketDeltaCount text = None
+values_of OctetTotalCount text = None
+values_of PacketTotalCount text = None
+values_of SourcePrefixLength text = None
+values_of DestinationPrefixLength text = None
+values_of IpVersion text = None
+values_of Other text = None
+
+abbrev pub axis_of : Element → Option Axis
+axis_of (OnAxis axis) = Some axis
+axis_of _ = None
+
+-- an address or a number
+abbrev pub value_text : Axis → ℕ → List ℕ
+value_text axis value = if is_address axis then quad value else decimal value
+
+-- how many leading bits a value has, where they are fewer than the axis's
+abbrev pub bits_text : Axis → ℕ → List ℕ
+bits_text axis bits = if nat_lt bits (axis_width axis) then 47 ∷ decimal bits else []
+
+-- a value with so many leading bits: the first value that begins with them, and their number where they are fewer than all
+abbrev pub leading_text : Axis → ℕ → ℕ → List ℕ
+leading_text axis bits value = value_text axis (value * 2 ^ (axis_width axis - bits)) ++ bits_text axis bits

@@ -1,0 +1,72 @@
+//! The axes: what tells packets and flows apart.
+ghost use Rattle.std.specs.Prelude.{◌≡◌, ◌^◌, ◌+◌, ◌<◌, ◌==◌, map, length, slice_index};
+ghost use Rattle.fx_elements.specs.Axes.{axis_index, axis_width, axis_count, is_address};
+
+/// How many axes there are.
+pub const AXES: usize = 6;
+
+/// An information element that a packet carries and that flows are told apart by (RFC 7012, section 3).
+/// The variants stand in the order in which keys are written and compared.
+#[derive(Clone, Copy, Debug, Default, PartialEq, Eq)]
+pub enum Axis {
+    /// sourceIPv4Address, 32 bits.
+    #[default]
+    Source,
+    /// destinationIPv4Address, 32 bits.
+    Destination,
+    /// protocolIdentifier, 8 bits.
+    Protocol,
+    /// sourceTransportPort, 16 bits.
+    SourcePort,
+    /// destinationTransportPort, 16 bits.
+    DestinationPort,
+    /// ipClassOfService, 8 bits.
+    ClassOfService,
+}
+
+/// The greatest value on each axis, in order.
+pub const TOPS: [u128; AXES] = [0xffff_ffff, 0xffff_ffff, 0xff, 0xffff, 0xffff, 0xff];
+
+impl Axis {
+    /// The axis's place in the order, from 0.
+    pub fn index(self) -> usize
+        ensures place { result ≡ axis_index self }
+        ensures bound { result < axis_count }
+    {
+        match self {
+            Axis::Source => 0,
+            Axis::Destination => 1,
+            Axis::Protocol => 2,
+            Axis::SourcePort => 3,
+            Axis::DestinationPort => 4,
+            Axis::ClassOfService => 5,
+        }
+    }
+
+    /// Whether the axis's values are addresses, which may be cut to a prefix.
+    pub fn is_address(self) -> bool
+        ensures { result ≡ is_address self }
+    {
+        matches!(self, Axis::Source | Axis::Destination)
+    }
+}
+
+/// How many bits a value on the axis has.
+pub fn width(axis: Axis) -> u32
+    ensures bits { result ≡ axis_width axis }
+    ensures bound { result < 129 }
+{
+    match axis {
+        Axis::Source | Axis::Destination => 32,
+        Axis::Protocol | Axis::ClassOfService => 8,
+        Axis::SourcePort | Axis::DestinationPort => 16,
+    }
+}
+
+/// The greatest value on the axis.
+pub fn top(axis: Axis) -> u128
+    ensures value { result ≡ slice_index TOPS (axis_index axis) }
+    ensures width { result + 1 ≡ 2 ^ axis_width axis }
+{
+    TOPS[axis.index()]
+}

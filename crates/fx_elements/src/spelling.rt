@@ -1,0 +1,88 @@
+ghost use Rattle.std.specs.Prelude.{◌≡◌, ◌<◌, ◌≤◌, ◌^◌, ◌-◌, ◌+◌, ℕ, List, length, IfSome, IfNone, option_map, Some, ◌↔◌};
+ghost use Rattle.std.specs.Fmt.{decimal};
+ghost use Rattle.fx_elements.specs.Spelling.{cut_at, digits_of, number_of, quad_of, prefix_of, quad, prefix};
+
+/// The parts before and after the first byte that is `at`.
+pub fn cut(text: &[u8], at: u8) -> Option<(&[u8], &[u8])>
+    ensures { option_map (λ p. (p.0.now, p.1.now)) result ≡ cut_at at text.now }
+{
+    for (i, b) in text.iter().enumerate() {
+        if *b == at {
+            return Some((text.split_at(i).0, text.split_at(i + 1).1));
+        }
+    }
+    None
+}
+
+/// The number of at most `top` that these digits spell.
+fn read_digits(text: &[u8], top: u128) -> Option<u128>
+    ensures value { result ≡ digits_of top text.now }
+    ensures bound { IfSome result (λ n. n ≤ top) }
+{
+    let mut n: u128 = 0;
+    for b in text {
+        if !b.is_ascii_digit() {
+            return None;
+        }
+        let digit = (*b - b'0') as u128;
+        if top < digit || (top - digit) / 10 < n {
+            return None;
+        }
+        n = n * 10 + digit;
+    }
+    Some(n)
+}
+
+/// The number of at most `top` whose decimal text this is.
+#[tactic(auto, unfolding(crate::specs::Spelling::number_of))]
+pub fn read_number(text: &[u8], top: u128) -> Option<u128>
+    ensures value { result ≡ number_of top text.now }
+    ensures bound { IfSome result (λ n. n ≤ top) }
+{
+    match text {
+        [] => None,
+        [b'0', _, ..] => None,
+        _ => read_digits(text, top),
+    }
+}
+
+/// The address whose dotted quad this is.
+#[tactic(auto, unfolding(crate::specs::Spelling::quad_of))]
+pub fn read_quad(text: &[u8]) -> Option<u128>
+    ensures value { result ≡ quad_of text.now }
+    ensures bound { IfSome result (λ v. v < 2 ^ 32) }
+{
+    let (a, rest) = cut(text, b'.')?;
+    let (b, rest) = cut(rest, b'.')?;
+    let (c, d) = cut(rest, b'.')?;
+    let a = read_number(a, 255)?;
+    let b = read_number(b, 255)?;
+    let c = read_number(c, 255)?;
+    let d = read_number(d, 255)?;
+    Some(((a * 256 + b) * 256 + c) * 256 + d)
+}
+
+/// The address and the number of leading bits of `a.b.c.d/n`.
+#[tactic(auto, unfolding(crate::specs::Spelling::prefix_of))]
+pub fn read_prefix(text: &[u8]) -> Option<(u128, u128)>
+    ensures value { result ≡ prefix_of text.now }
+    ensures bound { IfSome result (λ p. (p.0 < 2 ^ 32) × (0 < p.1) × (p.1 ≤ 32)) }
+{
+    let (address, bits) = cut(text, b'/')?;
+    let address = read_quad(address)?;
+    let bits = read_number(bits, 32)?;
+    if bits == 0 {
+        return None;
+    }
+    Some((address, bits))
+}
+
+/// A number, an address and a prefix each have one spelling: it is read, and nothing else is.
+pub fn one_spelling()
+    ensures number { (top n : ℕ) → top < 2 ^ 128 → n ≤ top → number_of top (decimal n) ≡ Some n }
+    ensures only_number { (top n : ℕ) (text : List ℕ) → top < 2 ^ 128 → number_of top text ≡ Some n → (text ≡ decimal n) × (n ≤ top) }
+    ensures address { (v : ℕ) → v < 2 ^ 32 → quad_of (quad v) ≡ Some v }
+    ensures only_address { (v : ℕ) (text : List ℕ) → quad_of text ≡ Some v → (text ≡ quad v) × (v < 2 ^ 32) }
+    ensures leading { (v n : ℕ) → v < 2 ^ 32 → 0 < n → n ≤ 32 → prefix_of (prefix v n) ≡ Some (v, n) }
+    ensures only_leading { (p : ℕ × ℕ) (text : List ℕ) → prefix_of text ≡ Some p → (text ≡ prefix p.0 p.1) × (p.0 < 2 ^ 32) × (0 < p.1) × (p.1 ≤ 32) }
+{}
