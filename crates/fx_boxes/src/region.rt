@@ -1,0 +1,119 @@
+ghost use Rattle.std.specs.Prelude.{◌≡◌, ◌≤◌, ◌<◌, ◌↔◌, ◌⊎◌, ℕ, List, slice_index, IfSome, IsSome, IsNone, IsTrue, MatchOption};
+ghost use Rattle.fx_elements.specs.Axes.{axis_index};
+ghost use Rattle.fx_boxes.specs.Boxes.{IsFields, Holds, holds, IsInside, IsDisjoint, IsStrictlyInside, below_part, above_part};
+
+use crate::fields::Fields;
+use fx_elements::{AXES, Axis, TOPS};
+use std::marker::Model;
+
+/// The fields whose value on each axis is from a low to a high.
+#[derive(Clone, Copy, Debug, PartialEq, Eq)]
+pub struct Region {
+    low: [u128; AXES],
+    high: [u128; AXES],
+}
+
+impl Model for Region {
+    ghost use Rattle.fx_boxes.specs.Boxes.{Bounds, IsRegion};
+
+    ghost Value = { Bounds };
+
+    ghost view = { λ r. record { low = r.low; high = r.high } };
+
+    ghost invariant = { λ r. IsRegion (record { low = r.low; high = r.high }) };
+
+    ghost inverse = { λ b. record { low = b.low; high = b.high } };
+}
+
+impl Region {
+    /// All fields.
+    pub fn whole() -> Region
+        ensures { (f : List ℕ) → IsFields f → Holds result f }
+    {
+        Region {
+            low: [0; AXES],
+            high: TOPS,
+        }
+    }
+
+    /// Whether the fields are in the region.
+    pub fn holds(&self, fields: &Fields) -> bool
+        ensures test { result ≡ holds self.now fields.now }
+        ensures fact { IsTrue result ↔ Holds self.now fields.now }
+    {
+        self.has(fields)
+    }
+
+    fn has(&self, fields: &Fields) -> bool
+        ensures { IsTrue result ↔ Holds self.now fields.now }
+    {
+        for k in 0..AXES {
+            if fields.value_at(k) < self.low[k] || self.high[k] < fields.value_at(k) {
+                return false;
+            }
+        }
+        true
+    }
+
+    /// The two parts of the region: values on the axis below `at`, and those from `at` on.
+    pub fn split(&self, axis: Axis, at: u128) -> Option<(Region, Region)>
+        ensures exact { IsSome result ↔ IsStrictlyInside self.now (axis_index axis) at }
+        ensures parts { IfSome result (λ parts. (parts.0 ≡ below_part self.now (axis_index axis) at) × (parts.1 ≡ above_part self.now (axis_index axis) at)) }
+        ensures below { IfSome result (λ parts. (f : List ℕ) → Holds parts.0 f ↔ (Holds self.now f × (slice_index f (axis_index axis) < at))) }
+        ensures above { IfSome result (λ parts. (f : List ℕ) → Holds parts.1 f ↔ (Holds self.now f × (at ≤ slice_index f (axis_index axis)))) }
+    {
+        let k = axis.index();
+        if at <= self.low[k] || self.high[k] < at {
+            return None;
+        }
+        let mut below = *self;
+        let mut above = *self;
+        below.high[k] = at - 1;
+        above.low[k] = at;
+        Some((below, above))
+    }
+
+    /// Whether all fields of this region are in the other.
+    pub fn inside(&self, other: &Region) -> bool
+        ensures { IsTrue result ↔ IsInside self.now other.now }
+    {
+        for k in 0..AXES {
+            if self.low[k] < other.low[k] || other.high[k] < self.high[k] {
+                return false;
+            }
+        }
+        true
+    }
+
+    /// Whether no fields are in both regions.
+    pub fn disjoint(&self, other: &Region) -> bool
+        ensures { IsTrue result ↔ IsDisjoint self.now other.now }
+    {
+        self.meet(other).is_none()
+    }
+
+    /// The fields that are in both regions, if there are any.
+    pub fn meet(&self, other: &Region) -> Option<Region>
+        ensures none { IsNone result ↔ IsDisjoint self.now other.now }
+        ensures both { IfSome result (λ both. (f : List ℕ) → Holds both f ↔ (Holds self.now f × Holds other.now f)) }
+    {
+        let mut low = self.low;
+        let mut high = self.high;
+        for k in 0..AXES {
+            low[k] = low[k].max(other.low[k]);
+            high[k] = high[k].min(other.high[k]);
+            if high[k] < low[k] {
+                return None;
+            }
+        }
+        Some(Region { low, high })
+    }
+
+    /// The least fields of the region.
+    pub fn corner(&self) -> Fields
+        ensures least { result ≡ self.now.low }
+        ensures held { Holds self.now result }
+    {
+        Fields::of(self.low)
+    }
+}
