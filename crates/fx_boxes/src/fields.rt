@@ -1,4 +1,4 @@
-ghost use Rattle.std.specs.Prelude.{◌≡◌, ◌≤◌, ◌<◌, slice_index, IfSome, ◌↔◌, IsSome};
+ghost use Rattle.std.specs.Prelude.{◌≡◌, ◌≤◌, ◌<◌, slice_index, length, IfSome, ◌↔◌, IsSome};
 ghost use Rattle.fx_elements.specs.Axes.{axis_index};
 ghost use Rattle.fx_boxes.specs.Boxes.{IsFields};
 
@@ -44,6 +44,15 @@ impl Fields {
         ensures { result ≡ slice_index self.now (axis_index axis) }
     {
         self.values[axis.index()]
+    }
+
+    /// The values, one for each axis in order.
+    pub fn values(&self) -> &[u128]
+        ensures value { result.now ≡ self.now }
+        ensures kept { IsFields result.now }
+        ensures count { length result.now ≡ AXES }
+    {
+        &self.values
     }
 
     /// The value at a place in the order of the axes.

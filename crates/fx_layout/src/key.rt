@@ -1,0 +1,176 @@
+//! The values that packets have under a layout.
+ghost use Rattle.std.specs.Prelude.{◌≡◌, ℕ, ◌-◌, ◌/◌, ◌^◌, ◌<◌, ◌≤◌, ◌&&◌, Bool, true, IfSome, is_some, bytes_eq};
+ghost use Rattle.fx_layout.specs.Keys as keys;
+ghost use Rattle.fx_elements.specs.Axes as axes;
+
+use crate::layout::{Layout, Part};
+use arrayvec::ArrayVec;
+use fx_boxes::Fields;
+use fx_elements::{AXES, Axis, width};
+use std::marker::Model;
+
+/// A layout and a value for each of its parts: the leading bits of an axis, as a number.
+#[derive(Debug, Drop)]
+pub struct Key {
+    layout: Layout,
+    values: ArrayVec<u128, AXES>,
+}
+
+impl Model for Key {
+    ghost use Rattle.fx_layout.specs.Keys as keys;
+
+    ghost Value = { keys.Key };
+
+    ghost view = { λ k. record { layout = k.layout; values = k.values.items } };
+
+    ghost invariant = { λ k. keys.HasBits k.layout k.values.items };
+}
+
+/// The leading `bits` of a value that has `width` bits.
+fn leading(width: u32, bits: u32, value: u128) -> u128
+    requires { width - bits < 128 }
+    ensures { result ≡ keys.leading width bits value }
+{
+    value >> width.saturating_sub(bits)
+}
+
+/// The leading bits of what the values have for an axis, 0 where they have none.
+fn cut_part(parts: &[Part], values: &[u128], axis: Axis, bits: u32) -> u128
+    requires { keys.Fits parts.now }
+    ensures { result ≡ keys.cut_in parts.now values.now axis bits }
+{
+    match parts {
+        [] => 0,
+        [part, parts @ ..] => match values {
+            [] => 0,
+            [value, values @ ..] => {
+                if part.axis.index() == axis.index() {
+                    leading(part.bits, bits, *value)
+                } else {
+                    cut_part(parts, values, axis, bits)
+                }
+            }
+        },
+    }
+}
+
+/// Whether the values are the same.
+fn same_values(a: &[u128], b: &[u128]) -> bool
+    ensures { result ≡ bytes_eq a.now b.now }
+{
+    a == b
+}
+
+/// Whether the first values come before the second, by the first value that differs.
+fn values_before(a: &[u128], b: &[u128]) -> bool
+    ensures { result ≡ keys.comes_before a.now b.now }
+{
+    match a {
+        [] => match b {
+            [] => false,
+            [_, ..] => true,
+        },
+        [v, vs @ ..] => match b {
+            [] => false,
+            [w, ws @ ..] => *v < *w || (*v == *w && values_before(vs, ws)),
+        },
+    }
+}
+
+impl Key {
+    /// The key of a packet with these fields.
+    pub(crate) fn of_packet(layout: &Layout, fields: &Fields) -> Key
+        ensures { result ≡ keys.key_of layout.now fields.now }
+    {
+        let numbers = fields.values();
+        let mut values: ArrayVec<u128, AXES> = ArrayVec::new();
+        for part in layout.parts() {
+            values.push(leading(
+                width(part.axis),
+                part.bits,
+                numbers[part.axis.index()],
+            ));
+        }
+        Key {
+            layout: layout.copy(),
+            values,
+        }
+    }
+
+    /// The key's layout.
+    pub fn layout(&self) -> &Layout
+        ensures { result.now ≡ self.now.layout }
+    {
+        &self.layout
+    }
+
+    /// A value for each part of the layout; each is below 2 to the power of its part's bits.
+    pub fn values(&self) -> &[u128]
+        ensures value { result.now ≡ self.now.values }
+        ensures bits { keys.HasBits self.now.layout result.now }
+    {
+        self.values.as_slice()
+    }
+
+    /// Whether the two keys are the same: equal layouts and equal values.
+    pub fn same(&self, other: &Key) -> bool
+        ensures { result ≡ keys.same_key self.now other.now }
+    {
+        self.layout.same(&other.layout)
+            && same_values(self.values.as_slice(), other.values.as_slice())
+    }
+
+    /// Whether the key's values come before those of the other, in axis order.
+    pub fn comes_before(&self, other: &Key) -> bool
+        ensures { result ≡ keys.comes_before self.now.values other.now.values }
+    {
+        values_before(self.values.as_slice(), other.values.as_slice())
+    }
+
+    /// The leading bits of what the key has for an axis, 0 where it has none.
+    pub fn cut(&self, axis: Axis, bits: u32) -> u128
+        ensures { result ≡ keys.cut self.now axis bits }
+    {
+        cut_part(self.layout.parts(), self.values.as_slice(), axis, bits)
+    }
+
+    /// The same key once more.
+    pub fn copy(&self) -> Key
+        ensures { result ≡ self.now }
+    {
+        let mut values: ArrayVec<u128, AXES> = ArrayVec::new();
+        for value in self.values.as_slice() {
+            values.push(*value);
+        }
+        Key {
+            layout: self.layout.copy(),
+            values,
+        }
+    }
+
+    /// The key under a coarser layout, or None where its own layout doesn't refine that.
+    pub fn project(&self, layout: &Layout) -> Option<Key>
+        ensures exact { is_some result ≡ keys.refines self.now.layout layout.now }
+        ensures value { IfSome result (λ key. key ≡ keys.project self.now layout.now) }
+    {
+        if !self.layout.refines(layout) {
+            return None;
+        }
+        let mut values: ArrayVec<u128, AXES> = ArrayVec::new();
+        for part in layout.parts() {
+            values.push(self.cut(part.axis, part.bits));
+        }
+        Some(Key {
+            layout: layout.copy(),
+            values,
+        })
+    }
+}
+
+/// The laws of keys: projecting a packet's key gives its key under the coarser layout, projections compose,
+/// and the test for the same key tells equality.
+pub fn keys_project()
+    ensures packet { (layout : keys.Layout) (other : keys.Layout) (fields : axes.Fields) → keys.Fits layout → keys.refines layout other ≡ true → keys.project (keys.key_of layout fields) other ≡ keys.key_of other fields }
+    ensures again { (key : keys.Key) (layout : keys.Layout) (other : keys.Layout) → keys.refines key.layout layout ≡ true → keys.refines layout other ≡ true → keys.project (keys.project key layout) other ≡ keys.project key other }
+    ensures same { (a : keys.Key) (b : keys.Key) → keys.same_key a b ≡ true → a ≡ b }
+{}

@@ -1,0 +1,173 @@
+//! Which leading bits of which axes make a key.
+ghost use Rattle.std.specs.Prelude.{◌≡◌, ℕ, ◌-◌, ◌/◌, ◌^◌, ◌<◌, ◌≤◌, ◌&&◌, not, Bool, true, false, List, [], IsSome, IfSome, is_some, length, nat_lt};
+ghost use Rattle.std.specs.List.{position, position_or_len};
+ghost use Rattle.fx_layout.specs.Keys as keys;
+ghost use Rattle.fx_elements.specs.Axes as axes;
+
+use crate::key::Key;
+use arrayvec::ArrayVec;
+use fx_boxes::Fields;
+use fx_elements::{AXES, Axis, width};
+use std::marker::Model;
+
+/// An axis and how many of its leading bits, at least one.
+#[derive(Clone, Copy, Debug, Default, PartialEq, Eq)]
+pub struct Part {
+    pub axis: Axis,
+    pub bits: u32,
+}
+
+/// Which leading bits of which axes make a key: each axis at most once, in axis order. An address may have
+/// any number of its bits, any other axis all of them.
+#[derive(Debug, Drop)]
+pub struct Layout {
+    parts: ArrayVec<Part, AXES>,
+}
+
+impl Model for Layout {
+    ghost use Rattle.fx_layout.specs.Keys as keys;
+
+    ghost Value = { keys.Layout };
+
+    ghost view = { λ l. l.parts.items };
+
+    ghost invariant = { λ l. keys.IsLayout l.parts.items };
+}
+
+/// Whether a layout may have the part.
+fn can_stand(part: Part) -> bool
+    ensures { result ≡ keys.can_stand part }
+{
+    let bits = width(part.axis);
+    part.bits >= 1 && (part.bits == bits || (part.axis.is_address() && part.bits <= bits))
+}
+
+/// Whether the parts have the axis with at least so many bits.
+fn parts_read(parts: &[Part], axis: Axis, bits: u32) -> bool
+    ensures { result ≡ keys.reads parts.now axis bits }
+{
+    match parts {
+        [] => false,
+        [part, rest @ ..] => {
+            if part.axis.index() == axis.index() {
+                bits <= part.bits
+            } else {
+                parts_read(rest, axis, bits)
+            }
+        }
+    }
+}
+
+/// The place of the first part of a later axis.
+fn later_part(parts: &[Part], axis: Axis) -> Option<usize>
+    ensures { result ≡ position (λ part. nat_lt (axes.axis_index axis) (axes.axis_index part.axis)) parts.now }
+{
+    parts
+        .iter()
+        .position(|part| axis.index() < part.axis.index())
+}
+
+/// The place of the first part of a later axis, or behind all parts.
+fn place_for(parts: &[Part], axis: Axis) -> usize
+    ensures bound { result ≤ length parts.now }
+    ensures place { result ≡ position_or_len (λ part. nat_lt (axes.axis_index axis) (axes.axis_index part.axis)) parts.now }
+{
+    match later_part(parts, axis) {
+        Some(place) => place,
+        None => parts.len(),
+    }
+}
+
+impl Layout {
+    /// The layout without parts: all packets have one key.
+    pub fn new() -> Layout
+        ensures { result ≡ [] }
+    {
+        Layout {
+            parts: ArrayVec::new(),
+        }
+    }
+
+    /// The layout with a part more, or None where it has the axis already or an axis can't have so many bits.
+    pub fn with(&self, axis: Axis, bits: u32) -> Option<Layout>
+        ensures exact { is_some result ≡ (keys.can_stand (record { axis = axis; bits = bits }) && not (is_some (keys.part_at self.now axis))) }
+        ensures value { IfSome result (λ layout. layout ≡ keys.with_part self.now (record { axis = axis; bits = bits })) }
+    {
+        let new = Part { axis, bits };
+        if !can_stand(new) || parts_read(self.parts.as_slice(), axis, 0) {
+            return None;
+        }
+        let mut parts = self.copy().parts;
+        parts.insert(place_for(self.parts.as_slice(), axis), new);
+        Some(Layout { parts })
+    }
+
+    /// The parts, in axis order.
+    pub fn parts(&self) -> &[Part]
+        ensures value { result.now ≡ self.now }
+        ensures kept { keys.IsLayout result.now }
+    {
+        self.parts.as_slice()
+    }
+
+    /// Whether the layout has the axis with at least so many bits.
+    pub fn reads(&self, axis: Axis, bits: u32) -> bool
+        ensures { result ≡ keys.reads self.now axis bits }
+    {
+        parts_read(self.parts.as_slice(), axis, bits)
+    }
+
+    /// Whether the layout reads all parts of the other.
+    pub fn refines(&self, other: &Layout) -> bool
+        ensures { result ≡ keys.refines self.now other.now }
+    {
+        let parts = self.parts.as_slice();
+        other
+            .parts
+            .as_slice()
+            .iter()
+            .all(|part| parts_read(parts, part.axis, part.bits))
+    }
+
+    /// Whether the two layouts are the same.
+    pub fn same(&self, other: &Layout) -> bool
+        ensures { result ≡ keys.same_layout self.now other.now }
+    {
+        same_parts(self.parts.as_slice(), other.parts.as_slice())
+    }
+
+    /// The same layout once more.
+    pub fn copy(&self) -> Layout
+        ensures { result ≡ self.now }
+    {
+        let mut parts: ArrayVec<Part, AXES> = ArrayVec::new();
+        for part in self.parts.as_slice() {
+            parts.push(*part);
+        }
+        Layout { parts }
+    }
+
+    /// The key of a packet with these fields.
+    pub fn key_of(&self, fields: &Fields) -> Key
+        ensures { result ≡ keys.key_of self.now fields.now }
+    {
+        Key::of_packet(self, fields)
+    }
+}
+
+fn same_parts(a: &[Part], b: &[Part]) -> bool
+    ensures { result ≡ keys.same_layout a.now b.now }
+{
+    match a {
+        [] => match b {
+            [] => true,
+            [_, ..] => false,
+        },
+        [p, ps @ ..] => match b {
+            [] => false,
+            [q, qs @ ..] => {
+                p.axis.index() == q.axis.index() && p.bits == q.bits && same_parts(ps, qs)
+            }
+        },
+    }
+}

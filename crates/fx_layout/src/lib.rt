@@ -1,0 +1,11 @@
+//! Layouts and keys: which leading bits of which axes tell flows apart, and the values that a packet has there.
+#![tactic(auto)]
+
+mod key;
+mod layout;
+
+pub use key::Key;
+pub use layout::{Layout, Part};
+
+#[cfg(test)]
+mod tests;
