@@ -1,0 +1,111 @@
+//! A device that fails at a call named beforehand.
+ghost use Rattle.std.specs.Prelude.{◌≡◌, ◌≢◌, ◌↔◌, ◌-◌, ◌≤◌, [], length, take, true, false, OnOk, OnErr, IfOk, IfErr, IsErr, IsTrue};
+ghost use Rattle.fx_base.specs.Device.{Reads, Writes};
+ghost use Rattle.fx_base.specs.Fault.{fault_at};
+ghost use Rattle.fx_base.specs.declared.fault.Place.TheVariants as places;
+
+use crate::fault::Fault;
+use crate::sink::Sink;
+use crate::source::Source;
+
+/// A device that fails at one call, for trials of what a failing device does.
+///
+/// That call doesn't reach the device. Each other call is the device's own.
+#[derive(Drop)]
+pub struct Fuse<D> {
+    device: D,
+    /// The number of calls up to the one that fails; with 0 none does.
+    calls: u64,
+    failed: bool,
+}
+
+impl<D> Fuse<D> {
+    /// The device, failing at call `at`, counted from 1. With 0 no call fails of itself.
+    pub fn new(device: D, at: u64) -> Fuse<D>
+        ensures device { result.device ≡ device }
+        ensures calls { result.calls ≡ at }
+        ensures ok { result.failed ≡ false }
+    {
+        Fuse {
+            device,
+            calls: at,
+            failed: false,
+        }
+    }
+
+    /// The device.
+    pub fn into_inner(self) -> D
+        ensures { result ≡ self.device }
+    {
+        let Fuse {
+            device,
+            calls: _,
+            failed: _,
+        } = self;
+        device
+    }
+
+    /// Counts a call, and answers whether it is the one that fails.
+    fn burns(&mut self) -> bool
+        ensures burns { IsTrue result ↔ (self.old.calls ≡ 1) }
+        ensures calls { self.new.calls ≡ self.old.calls - 1 }
+        ensures device { self.new.device ≡ self.old.device }
+    {
+        let burns = self.calls == 1;
+        self.calls = self.calls.saturating_sub(1);
+        burns
+    }
+}
+
+impl<D: Source> Source for Fuse<D> {
+    ghost left = { λ s. D.left s.device };
+
+    ghost failed = { λ s. s.failed };
+
+    fn read(&mut self, buffer: &mut [u8]) -> Result<usize, Fault>
+        ensures count { IfOk result (λ n. n ≤ length buffer.old) }
+        ensures ok { OnOk result (self.new.failed ≡ false) }
+        ensures octets { IfOk result (λ n. Reads (D.left self.old.device) (D.left self.new.device) (length buffer.old) (take n buffer.new) n) }
+        ensures err { IfErr result (λ e. (e ≡ fault_at 901 places.None) × (self.new.failed ≡ true) × (D.left self.new.device ≡ D.left self.old.device)) }
+
+        // The call that it names fails, and a call that fails otherwise is one where the device failed.
+        ensures burns { self.old.calls ≡ 1 → IsErr result }
+        ensures device { OnErr result (self.old.calls ≢ 1 → D.failed self.new.device ≡ true) }
+        ensures calls { self.new.calls ≡ self.old.calls - 1 }
+    {
+        if self.burns() {
+            self.failed = true;
+            return Err(Fault::bare(901));
+        }
+        let answer = self.device.read(buffer);
+        self.failed = answer.is_err();
+        answer
+    }
+}
+
+impl<D: Sink> Sink for Fuse<D> {
+    ghost taken = { λ s. D.taken s.device };
+
+    ghost failed = { λ s. s.failed };
+
+    fn write(&mut self, octets: &[u8]) -> Result<usize, Fault>
+        ensures count { IfOk result (λ n. n ≤ length octets.now) }
+        ensures some { IfOk result (λ n. n ≡ 0 → octets.now ≡ []) }
+        ensures ok { OnOk result (self.new.failed ≡ false) }
+        ensures octets { IfOk result (λ n. Writes (D.taken self.old.device) (D.taken self.new.device) (take n octets.now)) }
+        ensures err { IfErr result (λ e. (e ≡ fault_at 902 places.None) × (self.new.failed ≡ true)) }
+
+        // The call that it names fails, and a call that fails otherwise is one where the device failed.
+        ensures burns { self.old.calls ≡ 1 → IsErr result }
+        ensures device { OnErr result (self.old.calls ≢ 1 → D.failed self.new.device ≡ true) }
+        ensures calls { self.new.calls ≡ self.old.calls - 1 }
+    {
+        if self.burns() {
+            self.failed = true;
+            return Err(Fault::bare(902));
+        }
+        let answer = self.device.write(octets);
+        self.failed = answer.is_err();
+        answer
+    }
+}

@@ -1,0 +1,34 @@
+//! Octets in memory, to be read.
+ghost use Rattle.std.specs.Prelude.{◌≡◌, false, Some};
+
+use crate::fault::Fault;
+use crate::source::Source;
+
+/// Octets in memory, read from the front. No read fails.
+#[derive(Drop)]
+pub struct Octets<'a> {
+    rest: &'a [u8],
+}
+
+impl<'a> Octets<'a> {
+    /// A source of these octets.
+    pub fn new(octets: &'a [u8]) -> Octets<'a>
+        ensures { result.rest.now ≡ octets.now }
+    {
+        Octets { rest: octets }
+    }
+}
+
+impl Source for Octets<'_> {
+    ghost left = { λ s. Some s.rest.now };
+
+    ghost failed = { λ _. false };
+
+    fn read(&mut self, buffer: &mut [u8]) -> Result<usize, Fault> {
+        let n = buffer.len().min(self.rest.len());
+        let (now, later) = self.rest.split_at(n);
+        buffer[..n].copy_from_slice(now);
+        self.rest = later;
+        Ok(n)
+    }
+}

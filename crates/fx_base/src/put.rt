@@ -1,0 +1,81 @@
+//! Texts and numbers written into a sink. Nothing here takes memory.
+ghost use Rattle.std.specs.Prelude.{◌≡◌, true, false, OnOk, IfErr, decimal, map};
+ghost use Rattle.fx_base.specs.Device.{Writes};
+ghost use Rattle.fx_base.specs.Fault.{fault_at, place_text, shown};
+ghost use Rattle.fx_base.specs.declared.fault.Place.TheVariants as places;
+
+use crate::fault::{Fault, Place, shown_octet};
+use crate::sink::Sink;
+use itoa::Buffer;
+
+/// Writes all of a text.
+///
+/// Fails with 902, at no place, where a write fails. How much the sink has taken then is open.
+pub fn put_text<S: Sink>(sink: &mut S, text: &[u8]) -> Result<(), Fault>
+    ensures ok { OnOk result (Writes (S.taken sink.old) (S.taken sink.new) text.now) }
+    ensures going { OnOk result (S.failed sink.old ≡ false → S.failed sink.new ≡ false) }
+    ensures err { IfErr result (λ e. (e ≡ fault_at 902 places.None) × (S.failed sink.new ≡ true)) }
+{
+    let mut done = 0;
+    while done < text.len() {
+        done += sink.write(&text[done..])?;
+    }
+    Ok(())
+}
+
+/// Writes a number of up to 128 bits in decimal, without leading zeros.
+///
+/// Fails as [`put_text`].
+pub fn put_number_wide<S: Sink>(sink: &mut S, number: u128) -> Result<(), Fault>
+    ensures ok { OnOk result (Writes (S.taken sink.old) (S.taken sink.new) (decimal number)) }
+    ensures going { OnOk result (S.failed sink.old ≡ false → S.failed sink.new ≡ false) }
+    ensures err { IfErr result (λ e. (e ≡ fault_at 902 places.None) × (S.failed sink.new ≡ true)) }
+{
+    let mut buffer = Buffer::new();
+    put_text(sink, buffer.format(number).as_bytes())
+}
+
+/// Writes a number in decimal, without leading zeros.
+///
+/// Fails as [`put_text`].
+pub fn put_number<S: Sink>(sink: &mut S, number: u64) -> Result<(), Fault>
+    ensures ok { OnOk result (Writes (S.taken sink.old) (S.taken sink.new) (decimal number)) }
+    ensures going { OnOk result (S.failed sink.old ≡ false → S.failed sink.new ≡ false) }
+    ensures err { IfErr result (λ e. (e ≡ fault_at 902 places.None) × (S.failed sink.new ≡ true)) }
+{
+    put_number_wide(sink, u128::from(number))
+}
+
+/// Writes a text with each control character as `?`.
+fn put_shown<S: Sink>(sink: &mut S, text: &[u8]) -> Result<(), Fault>
+    ensures ok { OnOk result (Writes (S.taken sink.old) (S.taken sink.new) (map shown text.now)) }
+    ensures going { OnOk result (S.failed sink.old ≡ false → S.failed sink.new ≡ false) }
+    ensures err { IfErr result (λ e. (e ≡ fault_at 902 places.None) × (S.failed sink.new ≡ true)) }
+{
+    for octet in text {
+        put_text(sink, &[shown_octet(*octet)])?;
+    }
+    Ok(())
+}
+
+/// Writes a place as it is printed.
+///
+/// Fails as [`put_text`].
+pub fn put_place<S: Sink>(sink: &mut S, place: &Place) -> Result<(), Fault>
+    ensures ok { OnOk result (Writes (S.taken sink.old) (S.taken sink.new) (place_text place.now)) }
+    ensures going { OnOk result (S.failed sink.old ≡ false → S.failed sink.new ≡ false) }
+    ensures err { IfErr result (λ e. (e ≡ fault_at 902 places.None) × (S.failed sink.new ≡ true)) }
+{
+    match place {
+        Place::None => Ok(()),
+        Place::Line(line) => {
+            put_text(sink, b"line ")?;
+            put_number(sink, *line)
+        }
+        Place::Octet(octet) => {
+            put_text(sink, b"octet ")?;
+            put_number(sink, *octet)
+        }
+        Place::Text(text) => put_shown(sink, text.as_bytes()),
+    }
+}

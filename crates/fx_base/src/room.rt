@@ -1,0 +1,73 @@
+//! Room of a fixed size in memory, to be written.
+ghost use Rattle.std.specs.Prelude.{◌≡◌, ◌≤◌, [], length, take, true, false, Some, OnOk, OnErr, IfOk, IfErr};
+ghost use Rattle.fx_base.specs.Device.{Writes};
+ghost use Rattle.fx_base.specs.Fault.{fault_at};
+ghost use Rattle.fx_base.specs.declared.fault.Place.TheVariants as places;
+
+use crate::fault::Fault;
+use crate::sink::Sink;
+
+/// Room of a fixed size in memory. A write takes what fits, and fails where nothing does.
+#[derive(Drop)]
+pub struct Room<'a> {
+    octets: &'a mut [u8],
+    len: usize,
+    failed: bool,
+    ghost fits: { len ≤ length octets.now },
+}
+
+impl<'a> Room<'a> {
+    ghost use Rattle.fx_base.specs.Room.{room_octets, room_size};
+
+    /// Room of this slice's length, which has taken nothing.
+    pub fn new(octets: &'a mut [u8]) -> Room<'a>
+        ensures empty { room_octets result ≡ [] }
+        ensures size { room_size result ≡ length octets.old }
+        ensures ok { result.failed ≡ false }
+    {
+        Room {
+            octets,
+            len: 0,
+            failed: false,
+        }
+    }
+
+    /// The octets that it has taken.
+    pub fn octets(&self) -> &[u8]
+        ensures { result.now ≡ room_octets self.now }
+    {
+        &self.octets[..self.len]
+    }
+}
+
+impl Sink for Room<'_> {
+    ghost use Rattle.fx_base.specs.Room.{room_octets, room_size};
+
+    ghost taken = { λ s. Some (room_octets s) };
+
+    ghost failed = { λ s. s.failed };
+
+    fn write(&mut self, octets: &[u8]) -> Result<usize, Fault>
+        ensures count { IfOk result (λ n. n ≤ length octets.now) }
+        ensures some { IfOk result (λ n. n ≡ 0 → octets.now ≡ []) }
+        ensures ok { OnOk result (self.new.failed ≡ false) }
+        ensures octets { IfOk result (λ n. Writes (Some (room_octets self.old)) (Some (room_octets self.new)) (take n octets.now)) }
+        ensures err { IfErr result (λ e. (e ≡ fault_at 902 places.None) × (self.new.failed ≡ true)) }
+
+        // It fails only where it is full, and then holds what it held.
+        ensures full { OnErr result (length (room_octets self.old) ≡ room_size self.old) }
+        ensures kept { OnErr result (room_octets self.new ≡ room_octets self.old) }
+        ensures size { room_size self.new ≡ room_size self.old }
+    {
+        let n = octets.len().min(self.octets.len() - self.len);
+        if n == 0 && !octets.is_empty() {
+            self.failed = true;
+            return Err(Fault::bare(902));
+        }
+        let end = self.len + n;
+        self.octets[self.len..end].copy_from_slice(&octets[..n]);
+        self.len = end;
+        self.failed = false;
+        Ok(n)
+    }
+}

@@ -1,0 +1,28 @@
+//! What octets go to.
+ghost use Rattle.std.specs.Prelude.{◌≡◌, ℕ, ◌≤◌, List, [], length, take, Bool, true, false, Option, OnOk, IfOk, IfErr};
+ghost use Rattle.fx_base.specs.Device.{Writes};
+ghost use Rattle.fx_base.specs.Fault.{fault_at};
+ghost use Rattle.fx_base.specs.declared.fault.Place.TheVariants as places;
+
+use crate::fault::Fault;
+
+/// What octets go to, seen as the octets that it has taken, where it tells them, and as whether
+/// its last call failed.
+pub trait Sink: Drop {
+    /// The octets taken, where it tells them.
+    ghost taken: { Self → Option (List ℕ) };
+
+    /// Whether the last call failed.
+    ghost failed: { Self → Bool };
+
+    /// Takes some of the octets, from their front, and answers their number, which is 0 only
+    /// where there are none.
+    ///
+    /// Fails with 902, at no place. What it has taken then is open.
+    fn write(&mut self, octets: &[u8]) -> Result<usize, Fault>
+        ensures count { IfOk result (λ n. n ≤ length octets.now) }
+        ensures some { IfOk result (λ n. n ≡ 0 → octets.now ≡ []) }
+        ensures ok { OnOk result (failed self.new ≡ false) }
+        ensures octets { IfOk result (λ n. Writes (taken self.old) (taken self.new) (take n octets.now)) }
+        ensures err { IfErr result (λ e. (e ≡ fault_at 902 places.None) × (failed self.new ≡ true)) };
+}

@@ -1,0 +1,30 @@
+//! What octets come from.
+ghost use Rattle.std.specs.Prelude.{◌≡◌, ℕ, ◌≤◌, List, length, take, Bool, true, false, Option, OnOk, IfOk, IfErr};
+ghost use Rattle.fx_base.specs.Device.{Reads};
+ghost use Rattle.fx_base.specs.Fault.{fault_at};
+ghost use Rattle.fx_base.specs.declared.fault.Place.TheVariants as places;
+
+use crate::fault::Fault;
+
+/// The number of calls after which a source that hasn't ended counts as failing.
+pub(crate) const MOST_CALLS: u64 = 4_294_967_296;
+
+/// What octets come from, seen as the octets that it has left, where it tells them, and as
+/// whether its last call failed.
+pub trait Source: Drop {
+    /// The octets left, where it tells them.
+    ghost left: { Self → Option (List ℕ) };
+
+    /// Whether the last call failed.
+    ghost failed: { Self → Bool };
+
+    /// Puts the next octets at the buffer's front, and answers their number: none at the end, or
+    /// where the buffer is empty.
+    ///
+    /// Fails with 901, at no place, and then no octet is lost.
+    fn read(&mut self, buffer: &mut [u8]) -> Result<usize, Fault>
+        ensures count { IfOk result (λ n. n ≤ length buffer.old) }
+        ensures ok { OnOk result (failed self.new ≡ false) }
+        ensures octets { IfOk result (λ n. Reads (left self.old) (left self.new) (length buffer.old) (take n buffer.new) n) }
+        ensures err { IfErr result (λ e. (e ≡ fault_at 901 places.None) × (failed self.new ≡ true) × (left self.new ≡ left self.old)) };
+}
