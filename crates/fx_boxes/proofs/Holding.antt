@@ -45,11 +45,11 @@ holds_is b f h =
 pub holds_if : (b : Bounds) (f : Fields) → Holds b f → holds b f ≡ true
 holds_if b f h =
     join _ _ (is_between_if b f 0 (h 0 (omega arith)))
-      (join _ _ (is_between_if b f 1 (h 1 (omega arith)))
-        (join _ _ (is_between_if b f 2 (h 2 (omega arith)))
-          (join _ _ (is_between_if b f 3 (h 3 (omega arith)))
-            (join _ _ (is_between_if b f 4 (h 4 (omega arith)))
-              (join _ _ (is_between_if b f 5 (h 5 (omega arith))) refl)))))
+    (join _ _ (is_between_if b f 1 (h 1 (omega arith)))
+    (join _ _ (is_between_if b f 2 (h 2 (omega arith)))
+    (join _ _ (is_between_if b f 3 (h 3 (omega arith)))
+    (join _ _ (is_between_if b f 4 (h 4 (omega arith)))
+    (join _ _ (is_between_if b f 5 (h 5 (omega arith))) refl)))))
 
 pub told_by : (r : Bool) (b : Bounds) (f : Fields) → IsTrue r ↔ Holds b f → r ≡ holds b f
 told_by true b f h = sym (holds_if b f (h.0 refl))

@@ -55,6 +55,14 @@ impl Fields {
         &self.values
     }
 
+    /// The values as an array.
+    pub fn array(&self) -> [u128; AXES]
+        ensures value { result ≡ self.now }
+        ensures kept { IsFields result }
+    {
+        self.values
+    }
+
     /// The value at a place in the order of the axes.
     pub fn value_at(&self, k: usize) -> u128
         requires { k < AXES }

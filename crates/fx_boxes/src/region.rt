@@ -1,5 +1,5 @@
 ghost use Rattle.std.specs.Prelude.{◌≡◌, ◌≤◌, ◌<◌, ◌↔◌, ◌⊎◌, ℕ, List, slice_index, IfSome, IsSome, IsNone, IsTrue, MatchOption};
-ghost use Rattle.fx_elements.specs.Axes.{axis_index};
+ghost use Rattle.fx_elements.specs.Axes.{axis_count, axis_index};
 ghost use Rattle.fx_boxes.specs.Boxes.{IsFields, Holds, holds, IsInside, IsDisjoint, IsStrictlyInside, below_part, above_part};
 
 use crate::fields::Fields;
@@ -34,6 +34,24 @@ impl Region {
             low: [0; AXES],
             high: TOPS,
         }
+    }
+
+    /// The region from the least fields to the greatest, if no low is above its high.
+    pub fn between(low: &Fields, high: &Fields) -> Option<Region>
+        ensures exact { IsSome result ↔ ((k : ℕ) → k < axis_count → slice_index low.now k ≤ slice_index high.now k) }
+        ensures value { IfSome result (λ region. (region.low ≡ low.now) × (region.high ≡ high.now)) }
+    {
+        let least = low.array();
+        let greatest = high.array();
+        for k in 0..AXES {
+            if greatest[k] < least[k] {
+                return None;
+            }
+        }
+        Some(Region {
+            low: least,
+            high: greatest,
+        })
     }
 
     /// Whether the fields are in the region.

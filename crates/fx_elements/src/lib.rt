@@ -3,10 +3,15 @@
 
 mod axis;
 mod element;
+mod put;
 mod spelling;
 mod values;
 
 pub use axis::{AXES, Axis, TOPS, top, width};
 pub use element::{Element, by_id, by_name};
+pub use put::put_value;
 pub use spelling::{cut, one_spelling, read_number, read_prefix, read_quad};
 pub use values::{Range, read_on, read_value};
+
+#[cfg(test)]
+mod tests;

@@ -150,6 +150,7 @@ cut_below (part ∷ parts) (value ∷ values) axis bits h =
   where
     cases_le : (a b : ℕ) → (a ≤ b) ⊎ (b < a)
     cases_le a b = grind arith
+
     cut_here : (bits ≤ part.bits) ⊎ (part.bits < bits) → leading part.bits bits value < 2 ^ bits
     cut_here (inl le) = leading_below part.bits bits value le h.0
     cut_here (inr lt) =

@@ -85,11 +85,7 @@ impl Key {
         let numbers = fields.values();
         let mut values: ArrayVec<u128, AXES> = ArrayVec::new();
         for part in layout.parts() {
-            values.push(leading(
-                width(part.axis),
-                part.bits,
-                numbers[part.axis.index()],
-            ));
+            values.push(leading(width(part.axis), part.bits, numbers[part.axis.index()]));
         }
         Key {
             layout: layout.copy(),

@@ -1,0 +1,77 @@
+//! Values as they are printed.
+ghost use Rattle.std.specs.Prelude.{◌≡◌, ◌<◌, ◌≤◌, ◌^◌, ◌-◌, ◌*◌, ◌/◌, ◌%◌, true, false, OnOk, IfErr};
+ghost use Rattle.fx_base.specs.Device.{Writes};
+ghost use Rattle.fx_base.specs.Fault.{fault_at};
+ghost use Rattle.fx_base.specs.declared.fault.Place.TheVariants as places;
+ghost use Rattle.fx_elements.specs.Axes.{axis_width};
+ghost use Rattle.fx_elements.specs.Spelling.{quad};
+ghost use Rattle.fx_elements.specs.Values.{value_text, bits_text, leading_text};
+
+use crate::axis::{Axis, width};
+use fx_base::{Fault, Sink, put_number, put_number_wide, put_text};
+
+/// Writes an address as a dotted quad.
+fn put_quad<S: Sink>(sink: &mut S, address: u128) -> Result<(), Fault>
+    ensures ok { OnOk result (Writes (S.taken sink.old) (S.taken sink.new) (quad address)) }
+    ensures going { OnOk result (S.failed sink.old ≡ false → S.failed sink.new ≡ false) }
+    ensures err { IfErr result (λ e. (e ≡ fault_at 902 places.None) × (S.failed sink.new ≡ true)) }
+{
+    put_number_wide(sink, address / 0x100_0000)?;
+    put_text(sink, b".")?;
+    put_number_wide(sink, address / 0x1_0000 % 0x100)?;
+    put_text(sink, b".")?;
+    put_number_wide(sink, address / 0x100 % 0x100)?;
+    put_text(sink, b".")?;
+    put_number_wide(sink, address % 0x100)
+}
+
+/// Writes a value of an axis: an address as a dotted quad, any other as a decimal number.
+fn put_whole<S: Sink>(sink: &mut S, axis: Axis, value: u128) -> Result<(), Fault>
+    ensures ok { OnOk result (Writes (S.taken sink.old) (S.taken sink.new) (value_text axis value)) }
+    ensures going { OnOk result (S.failed sink.old ≡ false → S.failed sink.new ≡ false) }
+    ensures err { IfErr result (λ e. (e ≡ fault_at 902 places.None) × (S.failed sink.new ≡ true)) }
+{
+    if axis.is_address() {
+        put_quad(sink, value)
+    } else {
+        put_number_wide(sink, value)
+    }
+}
+
+/// The first value that begins with these leading bits.
+fn first_with(axis: Axis, bits: u32, value: u128) -> u128
+    requires fewer { bits ≤ axis_width axis }
+    requires fits { value < 2 ^ bits }
+    ensures { result ≡ value * 2 ^ (axis_width axis - bits) }
+{
+    value * (1u128 << (width(axis) - bits))
+}
+
+/// Writes how many bits a value has, where they are fewer than the axis's.
+fn put_bits<S: Sink>(sink: &mut S, axis: Axis, bits: u32) -> Result<(), Fault>
+    ensures ok { OnOk result (Writes (S.taken sink.old) (S.taken sink.new) (bits_text axis bits)) }
+    ensures going { OnOk result (S.failed sink.old ≡ false → S.failed sink.new ≡ false) }
+    ensures err { IfErr result (λ e. (e ≡ fault_at 902 places.None) × (S.failed sink.new ≡ true)) }
+{
+    if bits >= width(axis) {
+        return put_text(sink, b"");
+    }
+    put_text(sink, b"/")?;
+    put_number(sink, u64::from(bits))
+}
+
+/// Writes the leading bits of a value of the axis: the value that has them and zeros behind them, an address as
+/// a dotted quad, any other as a decimal number; behind it a slash and the number of bits where they are fewer
+/// than the axis's.
+///
+/// Fails with 902, at no place, where a write fails. How much the sink has taken then is open.
+pub fn put_value<S: Sink>(sink: &mut S, axis: Axis, bits: u32, value: u128) -> Result<(), Fault>
+    requires fewer { bits ≤ axis_width axis }
+    requires fits { value < 2 ^ bits }
+    ensures ok { OnOk result (Writes (S.taken sink.old) (S.taken sink.new) (leading_text axis bits value)) }
+    ensures going { OnOk result (S.failed sink.old ≡ false → S.failed sink.new ≡ false) }
+    ensures err { IfErr result (λ e. (e ≡ fault_at 902 places.None) × (S.failed sink.new ≡ true)) }
+{
+    put_whole(sink, axis, first_with(axis, bits, value))?;
+    put_bits(sink, axis, bits)
+}
