@@ -1,5 +1,5 @@
 //! The values that packets have under a layout.
-ghost use Rattle.std.specs.Prelude.{◌≡◌, ℕ, ◌-◌, ◌/◌, ◌^◌, ◌<◌, ◌≤◌, ◌&&◌, Bool, true, IfSome, is_some, bytes_eq};
+ghost use Rattle.std.specs.Prelude.{◌≡◌, ℕ, ◌-◌, ◌/◌, ◌^◌, ◌<◌, ◌≤◌, ◌&&◌, Bool, true, IfSome, is_some, length, bytes_eq};
 ghost use Rattle.fx_layout.specs.Keys as keys;
 ghost use Rattle.fx_elements.specs.Axes as axes;
 
@@ -104,6 +104,7 @@ impl Key {
     pub fn values(&self) -> &[u128]
         ensures value { result.now ≡ self.now.values }
         ensures bits { keys.HasBits self.now.layout result.now }
+        ensures room { length result.now ≤ AXES }
     {
         self.values.as_slice()
     }

@@ -3,9 +3,11 @@
 
 mod key;
 mod layout;
+mod values;
 
 pub use key::Key;
 pub use layout::{Layout, Part};
+pub use values::Values;
 
 #[cfg(test)]
 mod tests;
