@@ -1,0 +1,117 @@
+//! Classes of packets and their paths.
+ghost use Rattle.std.specs.Prelude.{◌≡◌};
+
+use fx_base::Name;
+use fx_boxes::Region;
+use std::marker::Model;
+
+/// A packet crosses an interface of a device.
+#[derive(Debug, Drop)]
+pub struct Crossing {
+    /// The number of the device, from 1.
+    pub device: u64,
+    /// The interface's name on the device.
+    pub interface: Name,
+    /// Whether the packet comes into the device.
+    pub inwards: bool,
+}
+
+/// The crossings that a packet makes.
+#[derive(Debug, Drop)]
+pub struct Path {
+    crossings: Vec<Crossing>,
+}
+
+impl Model for Path {
+    ghost use Rattle.std.specs.Prelude.{List};
+    ghost use Rattle.fx_machine.specs.declared.traffic.Crossing as of_crossing;
+
+    ghost Value = { List of_crossing.Crossing };
+
+    ghost view = { λ p. p.crossings.items };
+}
+
+impl Path {
+    /// The path with these crossings, in this order.
+    pub fn new(crossings: Vec<Crossing>) -> Path
+        ensures { result ≡ crossings.items }
+    {
+        Path { crossings }
+    }
+
+    /// The crossings, in order.
+    pub fn as_slice(&self) -> &[Crossing]
+        ensures { result.now ≡ self.now }
+    {
+        self.crossings.as_slice()
+    }
+}
+
+/// A class of packets: the fields that they may have, and the paths that they may take.
+#[derive(Debug, Drop)]
+pub struct Class {
+    region: Region,
+    paths: Vec<Path>,
+}
+
+impl Model for Class {
+    ghost use Rattle.fx_machine.specs.Classes as classes;
+
+    ghost Value = { classes.Class };
+
+    ghost view = { λ c. record { region = c.region; paths = c.paths.items } };
+}
+
+impl Class {
+    /// The class of the packets with fields in this region, each of which takes one of these paths.
+    pub fn new(region: Region, paths: Vec<Path>) -> Class
+        ensures { result ≡ record { region = region; paths = paths.items } }
+    {
+        Class { region, paths }
+    }
+
+    /// The fields that its packets may have.
+    pub fn region(&self) -> Region
+        ensures { result ≡ self.now.region }
+    {
+        self.region
+    }
+
+    /// The paths that its packets may take.
+    pub fn paths(&self) -> &[Path]
+        ensures { result.now ≡ self.now.paths }
+    {
+        self.paths.as_slice()
+    }
+}
+
+/// The classes of the packets that cross a network.
+#[derive(Debug, Drop)]
+pub struct Classes {
+    items: Vec<Class>,
+}
+
+impl Model for Classes {
+    ghost use Rattle.std.specs.Prelude.{List};
+    ghost use Rattle.fx_machine.specs.Classes as classes;
+
+    ghost Value = { List classes.Class };
+
+    ghost view = { λ c. c.items.items };
+}
+
+impl Classes {
+    /// These classes, in this order.
+    pub fn new(items: Vec<Class>) -> Classes
+        ensures { result ≡ items.items }
+    {
+        Classes { items }
+    }
+
+    /// The classes, in order.
+    pub fn as_slice(&self) -> &[Class]
+        ensures { result.now ≡ self.now }
+    {
+        self.items.as_slice()
+    }
+}
