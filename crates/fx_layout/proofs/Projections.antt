@@ -157,7 +157,7 @@ cuts_of_key layout (p ∷ ps) fields f r =
 pub project_key : (layout other : Layout) (fields : Fields) → Fits layout → refines layout other ≡ true → project (key_of layout fields) other ≡ key_of other fields
 project_key layout other fields f r = ap (λ (vs : List ℕ). record { layout = other; values = vs }) (cuts_of_key layout other fields f r)
 
-same_layout_is : (a b : Layout) → same_layout a b ≡ true → a ≡ b
+pub same_layout_is : (a b : Layout) → same_layout a b ≡ true → a ≡ b
 same_layout_is [] [] h = refl
 same_layout_is [] (q ∷ qs) h = absurd (cc)
 same_layout_is (p ∷ ps) [] h = absurd (cc)

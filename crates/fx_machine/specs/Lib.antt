@@ -1,2 +1,11 @@
 pub mod Network
 pub mod Classes
+pub mod Occurrences
+pub mod States
+pub mod Acts
+pub mod Steps
+pub mod Moves
+pub mod Sums
+pub mod Claim
+pub mod Places
+pub mod Views

@@ -11,7 +11,7 @@ mod traffic;
 
 pub use exporter::Exporter;
 pub use net::{Aggregation, Device, Holder, MatchEntry, Net, Process};
-pub use observation::{Point, Selection};
+pub use observation::{Occurrence, Point, Selection};
 pub use packet::Packet;
 pub use record::{Record, Records};
 pub use step::{Choices, HolderName, Step};

@@ -54,3 +54,14 @@ impl Point {
         }
     }
 }
+
+/// Where a packet is metered at a crossing.
+#[derive(Clone, Copy, Debug, PartialEq, Eq)]
+pub struct Occurrence {
+    /// The number of the observation point on the device, from 1.
+    pub point: usize,
+    /// The number of the selection process among the point's, from 1.
+    pub process: usize,
+    /// The place of its cache in the network's table of holders, from 0.
+    pub holder: usize,
+}

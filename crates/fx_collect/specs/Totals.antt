@@ -1,0 +1,46 @@
+-- What a collector has counted.
+use Rattle.std.specs.Prelude.{◌≡◌, ℕ, ◌+◌, ◌%◌, ◌^◌, ◌<◌, Bool, true, false, ◌&&◌, List, [], ◌∷◌, map, All, Option, Some, None, if◌then◌else◌}
+use Rattle.fx_base.specs.declared.counts.Counts.{Counts}
+use Rattle.fx_base.specs.Counts.{add_counts}
+use Rattle.fx_layout.specs.Keys.{Layout, Key, HasBits, refines, project}
+use Rattle.fx_machine.specs.declared.record.Record.{Record}
+use Rattle.fx_machine.specs.States.{add_at}
+
+pub record Totals : Type 0 where
+  pub layout : Layout  -- of all keys
+  pub entries : List Record  -- what was counted under each key
+  pub unassigned : ℕ  -- how many records couldn't be tallied, modulo 2 to the 64
+
+-- nothing was counted
+abbrev pub nothing : Layout → Totals
+nothing layout = record { layout = layout; entries = []; unassigned = 0 }
+
+-- the counts are added at the record's key under the layout; a record whose layout doesn't refine it is unassigned
+abbrev pub with_record : Totals → Record → Totals
+with_record t r =
+    if refines r.key.layout t.layout
+    then record t { entries = add_at t.entries (project r.key t.layout) r.counts }
+    else record t { unassigned = (t.unassigned + 1) % 2 ^ 64 }
+
+-- one record after another
+abbrev pub with_records : Totals → List Record → Totals
+with_records t [] = t
+with_records t (r ∷ rs) = with_records (with_record t r) rs
+
+-- ---- what is kept: values and counts
+
+-- what was counted before, with more
+abbrev pub added : Option Counts → Counts → Counts
+added None more = more
+added (Some counts) more = add_counts counts more
+
+-- the record of one layout that has these values and counts
+abbrev pub record_of : Layout → List ℕ × Counts → Record
+record_of layout p = record { key = record { layout = layout; values = p.0 }; counts = p.1 }
+
+abbrev pub records_of : Layout → List (List ℕ × Counts) → List Record
+records_of layout ps = map (record_of layout) ps
+
+-- all values have their bits
+abbrev pub AllHaveBits : Layout → List (List ℕ × Counts) → Type 0
+AllHaveBits layout ps = All (λ p. HasBits layout p.0) ps

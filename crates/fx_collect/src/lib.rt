@@ -1,0 +1,10 @@
+//! Totals: what a collector has counted under each key, and their text.
+#![tactic(auto)]
+
+mod report;
+mod totals;
+
+pub use totals::Totals;
+
+#[cfg(test)]
+mod tests;

@@ -1,0 +1,124 @@
+//! What a collector has counted under each key.
+ghost use Rattle.std.specs.Prelude.{◌≡◌, ℕ, ◌+◌, ◌%◌, ◌^◌, None, Some, IsPermutation, IfOk, IfErr, OnOk, option_copied, length};
+ghost use Rattle.fx_base.specs.Fault.{fault_at};
+ghost use Rattle.fx_base.specs.declared.fault.Place.TheVariants as places;
+ghost use Rattle.fx_layout.specs.Keys.{HasBits};
+ghost use Rattle.fx_machine.specs.States.{add_at};
+ghost use Rattle.fx_machine.specs.Sums.{total_at};
+ghost use Rattle.fx_collect.specs.Totals.{added, nothing, with_record};
+ghost use Rattle.fx_collect.specs.Report.{Ascends};
+
+use fx_base::{Counts, Fault};
+use fx_layout::{Key, Layout, Values};
+use fx_machine::Record;
+use indexmap::IndexMap;
+use std::alloc::Global;
+use std::marker::Model;
+
+/// The counts under each key of one layout, and the number of records that have no key under it.
+#[derive(Drop)]
+pub struct Totals {
+    pub(crate) layout: Layout,
+    pub(crate) counts: IndexMap<Values, Counts>,
+    pub(crate) unassigned: u64,
+}
+
+impl Model for Totals {
+    ghost use Rattle.fx_collect.specs.Totals as totals;
+
+    ghost Value = { totals.Totals };
+
+    ghost view = { λ t. record { layout = t.layout; entries = totals.records_of t.layout t.counts.entries; unassigned = t.unassigned } };
+
+    ghost invariant = { λ t. totals.AllHaveBits t.layout t.counts.entries };
+}
+
+/// What was counted before, with more.
+fn with_more(before: Option<&Counts>, more: &Counts) -> Counts
+    ensures { result ≡ added (option_copied before.entry) more.now }
+{
+    match before {
+        Some(counts) => counts.add(more),
+        None => *more,
+    }
+}
+
+impl Totals {
+    /// Totals under the keys of this layout, of nothing so far.
+    ///
+    /// Fails with 900, at no place, for want of memory.
+    pub fn new(alloc: Global, layout: Layout) -> Result<Totals, Fault>
+        ensures ok { IfOk result (λ totals. totals ≡ nothing layout) }
+        ensures err { IfErr result (λ e. e ≡ fault_at 900 places.None) }
+    {
+        Ok(Totals {
+            layout,
+            counts: IndexMap::new(alloc),
+            unassigned: 0,
+        })
+    }
+
+    /// Adds the counts at the values of a key.
+    fn add(&mut self, values: Values, counts: &Counts) -> Result<(), Fault>
+        requires { HasBits self.old.layout values }
+        ensures ok { OnOk result (self.new ≡ record self.old { entries = add_at self.old.entries (record { layout = self.old.layout; values = values }) counts.now }) }
+        ensures err { IfErr result (λ e. (e ≡ fault_at 900 places.None) × (self.new ≡ self.old)) }
+    {
+        let total = with_more(self.counts.get(&values), counts);
+        self.counts.insert(values, total)?;
+        Ok(())
+    }
+
+    /// Adds the record's counts at its key under the layout of these totals. A record whose layout doesn't
+    /// refine that is counted as unassigned, modulo 2 to the 64.
+    ///
+    /// Fails with 900, at no place, for want of memory; the totals are as before then.
+    pub fn tally(&mut self, entry: &Record) -> Result<(), Fault>
+        ensures ok { OnOk result (self.new ≡ with_record self.old entry.now) }
+        ensures err { IfErr result (λ e. (e ≡ fault_at 900 places.None) × (self.new ≡ self.old)) }
+    {
+        match entry.key.project(&self.layout) {
+            Some(key) => self.add(Values::of(&key), &entry.counts),
+            None => {
+                self.unassigned = self.unassigned.wrapping_add(1);
+                Ok(())
+            }
+        }
+    }
+
+    /// What was counted under the key, if anything was.
+    pub fn get(&self, key: &Key) -> Option<Counts>
+        ensures { result ≡ total_at self.now.entries key.now }
+    {
+        if !self.layout.same(key.layout()) {
+            return None;
+        }
+        self.counts.get(&Values::of(key)).copied()
+    }
+
+    /// How many keys there are.
+    pub fn len(&self) -> usize
+        ensures { result ≡ length self.now.entries }
+    {
+        self.counts.len()
+    }
+
+    /// The number of records that had no key under the layout, modulo 2 to the 64.
+    pub fn unassigned(&self) -> u64
+        ensures { result ≡ self.now.unassigned }
+    {
+        self.unassigned
+    }
+
+    /// Puts the keys in order: by the first value that differs.
+    ///
+    /// Fails with 900, at no place, for want of memory; the totals are as before then.
+    pub fn sort(&mut self) -> Result<(), Fault>
+        ensures sorted { OnOk result (Ascends self.new.entries) }
+        ensures same { OnOk result (IsPermutation self.old.entries self.new.entries × (self.new.layout ≡ self.old.layout) × (self.new.unassigned ≡ self.old.unassigned)) }
+        ensures err { IfErr result (λ e. (e ≡ fault_at 900 places.None) × (self.new ≡ self.old)) }
+    {
+        self.counts.sort_keys()?;
+        Ok(())
+    }
+}
