@@ -2,5 +2,4 @@ use Rattle.std.proofs.lemmas.Slice.Eq.{bytes_eq-Decides}
 use Rattle.fx_base.proofs.name.Name.same.Goals as goal
 
 pub returns : goal.returns
-returns c =
-    rw (c.eq.ensures, c.as_str.ensures.text, c.as_str-2.ensures.text) (bytes_eq-Decides c.args.self.now c.args.other.now)
+returns c = rw c.eq.ensures (bytes_eq-Decides c.args.self.now c.args.other.now)
