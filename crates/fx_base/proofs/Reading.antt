@@ -30,8 +30,5 @@ pub held_within : (held : List ℕ) (left : Option (List ℕ)) (n : ℕ) → n �
 held_within held None n h = tt
 held_within held (Some left) n h = omega (arith, h, length-append held left)
 
-pub untold_kept : (held held' : List ℕ) (left left' : Option (List ℕ)) → prepend_known held' left' ≡ prepend_known held left → left ≡ None → left' ≡ None
-untold_kept held held' left left' e none = untold_left held' left' (e ∙ ap (prepend_known held) none)
-
 pub untold_lent : (held held' : List ℕ) (left left' : Option (List ℕ)) → (left ≡ None → left' ≡ None) → prepend_known held left ≡ None → prepend_known held' left' ≡ None
 untold_lent held held' left left' kept none = ap (prepend_known held') (kept (untold_left held left none))

@@ -1,7 +1,7 @@
 -- A text's lines, one after another.
-use Rattle.std.proofs.Common.{◌≡◌, ℕ, suc, ◌+◌, ◌<◌, ◌≤◌, Bool, true, false, not, cond, ◌==◌, nat_lt, List, [], ◌∷◌, length, take, drop, Option, Some, None, IfSome, refl, sym, ap, ◌∙◌, subst, arith, inl, inr}
+use Rattle.std.proofs.Common.{◌≡◌, ℕ, suc, ◌+◌, ◌<◌, Bool, true, false, ◌==◌, nat_lt, List, [], ◌∷◌, length, Option, Some, None, IfSome, refl, arith, inl, inr}
 use Rattle.std.proofs.lemmas.Bool.{cases_lt, lt-ltb, le-ltb}
-use Rattle.fx_base.specs.Lines.{line_len, first_line, after_line, line_ends, text_lines, begin_line}
+use Rattle.fx_base.specs.Lines.{line_len, first_line, after_line, line_ends, text_lines}
 
 lt_suc : (n m : ℕ) → nat_lt (suc n) (suc m) ≡ nat_lt n m
 lt_suc n m =

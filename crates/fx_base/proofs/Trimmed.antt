@@ -1,5 +1,5 @@
 -- Where trimming a text leaves it as it is.
-use Rattle.std.proofs.Common.{◌≡◌, ℕ, ◌+◌, ◌-◌, ◌≤◌, ◌<◌, List, [], ◌∷◌, ◌++◌, length, get_or, refl, sym, ap, subst, suc, ◌∙◌, arith, Bool, true, false, cond, not, ◌&&◌, ◌==◌, eqb}
+use Rattle.std.proofs.Common.{◌≡◌, ℕ, ◌-◌, ◌≤◌, ◌<◌, List, [], ◌∷◌, ◌++◌, length, get_or, refl, sym, ap, subst, suc, ◌∙◌, arith, Bool, true, false, cond, not, ◌&&◌, ◌==◌}
 use Rattle.std.proofs.lemmas.List.{length-append}
 use Rattle.std.proofs.lemmas.Str.{chars-encodes, encodes-chars, scalars-chars, length-encode, len_utf8_bounds}
 use Rattle.std.proofs.lemmas.Bool.{eq-eqb, ne_eqb}

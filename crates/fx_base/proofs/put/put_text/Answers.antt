@@ -1,4 +1,4 @@
-use Rattle.std.proofs.Common.{rules, arith}
+use Rattle.std.proofs.Common.{rules}
 use Rattle.fx_base.proofs.Writing.{writes_both, part_next}
 use Rattle.fx_base.proofs.put.put_text.Goals as goal
 

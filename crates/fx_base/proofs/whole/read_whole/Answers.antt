@@ -1,4 +1,4 @@
-use Rattle.std.proofs.Common.{rules, arith, take, ◌∙◌, sym, inl, inr, refl}
+use Rattle.std.proofs.Common.{rules, arith, take, ◌∙◌, inr}
 use Rattle.std.proofs.lemmas.List.{length-append, length-take}
 use Rattle.fx_base.proofs.Reading.{read_more, read_end, untold_left, untold_read, held_within}
 use Rattle.fx_base.proofs.whole.read_whole.Goals as goal
