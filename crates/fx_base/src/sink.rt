@@ -26,3 +26,14 @@ pub trait Sink: Drop {
         ensures octets { IfOk result (λ n. Writes (taken self.old) (taken self.new) (take n octets.now)) }
         ensures err { IfErr result (λ e. (e ≡ fault_at 902 places.None) × (failed self.new ≡ true)) };
 }
+
+/// A sink that is lent.
+impl<S: Sink> Sink for &mut S {
+    ghost taken = { λ s. S.taken s.now };
+
+    ghost failed = { λ s. S.failed s.now };
+
+    fn write(&mut self, octets: &[u8]) -> Result<usize, Fault> {
+        (**self).write(octets)
+    }
+}

@@ -28,3 +28,14 @@ pub trait Source: Drop {
         ensures octets { IfOk result (λ n. Reads (left self.old) (left self.new) (length buffer.old) (take n buffer.new) n) }
         ensures err { IfErr result (λ e. (e ≡ fault_at 901 places.None) × (failed self.new ≡ true) × (left self.new ≡ left self.old)) };
 }
+
+/// A source that is lent.
+impl<S: Source> Source for &mut S {
+    ghost left = { λ s. S.left s.now };
+
+    ghost failed = { λ s. S.failed s.now };
+
+    fn read(&mut self, buffer: &mut [u8]) -> Result<usize, Fault> {
+        (**self).read(buffer)
+    }
+}
