@@ -1,0 +1,106 @@
+-- Lines `%%` in octets.
+use Rattle.std.proofs.Common.{◌≡◌, ◌≢◌, ℕ, zero, suc, ◌+◌, ◌-◌, ◌<◌, ◌≤◌, Bool, true, false, cond, ◌&&◌, List, [], ◌∷◌, ◌++◌, length, take, drop, refl, sym, ap, ◌∙◌, subst, arith, bytes_eq, ◌⊎◌, inl, inr, le-ltb, append_assoc}
+use Rattle.std.proofs.lemmas.List.{length-drop, length-take, length-take-le, take-append-drop}
+use Rattle.std.proofs.Math.Seq.{drop-drop}
+use Rattle.std.proofs.lemmas.Slice.Eq.{bytes_eq-Decides}
+use Rattle.fx_audit.specs.declared.bundle.Command.{Command}
+use Rattle.fx_audit.specs.declared.bundle.Command.TheVariants.{Replay}
+use Rattle.fx_audit.specs.Bundle.{mark, begins_line, is_mark_at, FirstText, HasNoMark, command_line, IsBundle}
+
+both : (a b : Bool) → (a && b) ≡ true → (a ≡ true) × (b ≡ true)
+both true true h = (refl, refl)
+both true false h = absurd (cc)
+both false b h = absurd (cc)
+
+not_true : (a : Bool) → (a ≡ true → ⊥) → a ≡ false
+not_true true h = absurd (h refl)
+not_true false h = refl
+
+-- the octets of a mark stand there
+pub mark_octets : (bytes : List ℕ) (at : ℕ) → is_mark_at bytes at ≡ true → take 3 (drop at bytes) ≡ mark
+mark_octets bytes at h = (bytes_eq-Decides (take 3 (drop at bytes)) mark).0 (both (begins_line bytes at) _ h).1
+
+-- a mark lies within the octets
+pub mark_within : (bytes : List ℕ) (at : ℕ) → is_mark_at bytes at ≡ true → at + 3 ≤ length bytes
+mark_within bytes at h =
+    let many : length (take 3 (drop at bytes)) ≡ 3 = ap length (mark_octets bytes at h) in
+    let fewer : length (take 3 (drop at bytes)) ≤ length (drop at bytes) = omega (arith, length-take 3 (drop at bytes)) in
+    omega (arith, many, fewer, length-drop at bytes)
+
+cases_lt : (a b : ℕ) → (a < b) ⊎ (b ≤ a)
+cases_lt a b = grind arith
+
+-- a mark is not past the end
+pub none_at_all : (bytes : List ℕ) → ((k : ℕ) → k < length bytes → is_mark_at bytes k ≡ false) → HasNoMark bytes
+none_at_all bytes h k = elim (cases_lt k (length bytes)) [ inl lt ↦ h k lt | inr le ↦ not_true _ (λ t. let in_it = mark_within bytes k t in omega arith) ]
+
+pub first_text_is : (bytes : List ℕ) (at : ℕ) → is_mark_at bytes at ≡ true → ((k : ℕ) → k < at → is_mark_at bytes k ≡ false) → FirstText bytes (take at bytes) (drop (at + 3) bytes)
+first_text_is bytes at h before =
+    let within = mark_within bytes at h in
+    let many : length (take at bytes) ≡ at = length-take-le at bytes (omega arith) in
+    record {
+      parts = sym (ap (λ (bs : List ℕ). take at bytes ++ bs) (ap (λ (bs : List ℕ). bs ++ drop (at + 3) bytes) (sym (mark_octets bytes at h)) ∙ ap (λ (bs : List ℕ). take 3 (drop at bytes) ++ bs) (sym (drop-drop 3 at bytes)) ∙ take-append-drop 3 (drop at bytes)) ∙ take-append-drop at bytes);
+      marked = subst (λ n. is_mark_at bytes n ≡ true) (sym many) h;
+      first = λ k lt. before k (omega (arith, lt, many));
+    }
+
+-- ---- there is one first text at most
+
+cases_three : (a b : ℕ) → (a < b) ⊎ ((a ≡ b) ⊎ (b < a))
+cases_three a b = grind arith
+
+same_length : (bytes one two behind_one behind_two : List ℕ) → FirstText bytes one behind_one → FirstText bytes two behind_two → length one ≡ length two
+same_length bytes one two r s f g =
+    elim (cases_three (length one) (length two)) [
+      | inl lt ↦ let no : is_mark_at bytes (length one) ≡ false = g.first (length one) lt in let yes = f.marked in absurd (cc)
+      | inr (inl e) ↦ e
+      | inr (inr lt) ↦ let no : is_mark_at bytes (length two) ≡ false = f.first (length two) lt in let yes = g.marked in absurd (cc)
+    ]
+
+taken : (text rest : List ℕ) → take (length text) (text ++ rest) ≡ text
+taken [] rest = refl
+taken (b ∷ bs) rest = ap (λ (xs : List ℕ). b ∷ xs) (taken bs rest)
+
+dropped : (text rest : List ℕ) → drop (length text) (text ++ rest) ≡ rest
+dropped [] rest = refl
+dropped (b ∷ bs) rest = dropped bs rest
+
+pub one_text : (bytes one two behind_one behind_two : List ℕ) → FirstText bytes one behind_one → FirstText bytes two behind_two → (one ≡ two) × (behind_one ≡ behind_two)
+one_text bytes one two r s f g =
+    let many = same_length bytes one two r s f g in
+    let left : one ≡ two = sym (taken one (mark ++ r)) ∙ ap (λ (bs : List ℕ). take (length one) bs) (sym f.parts ∙ g.parts) ∙ ap (λ n. take n (two ++ (mark ++ s))) many ∙ taken two (mark ++ s) in
+    let right : mark ++ r ≡ mark ++ s = sym (dropped one (mark ++ r)) ∙ ap (λ (bs : List ℕ). drop (length one) bs) (sym f.parts ∙ g.parts) ∙ ap (λ n. drop n (two ++ (mark ++ s))) many ∙ dropped two (mark ++ s) in
+    (left, ap (λ (bs : List ℕ). drop 3 bs) right)
+
+pub no_text : (bytes text rest : List ℕ) → HasNoMark bytes → FirstText bytes text rest → ⊥
+no_text bytes text rest h f = let no : is_mark_at bytes (length text) ≡ false = h (length text) in let yes = f.marked in absurd (cc)
+
+-- ---- there is one bundle at most
+
+one_command : (a b : Command) (r s : List ℕ) → command_line a ++ r ≡ command_line b ++ s → r ≡ s
+one_command Replay Replay r s e = ap (λ (bs : List ℕ). drop 7 bs) e
+
+pub behind_network : (bytes r0 r1 network n t h : List ℕ) (a b : Command) → bytes ≡ command_line a ++ r0 → FirstText r0 network r1 → IsBundle bytes b n t h → (r2 : List ℕ) × FirstText r1 t r2 × FirstText r2 h []
+behind_network bytes r0 r1 network n t h a b line f i =
+    let same : i.behind_command ≡ r0 = one_command b a _ _ (sym i.line ∙ line) in
+    let own : FirstText r0 n i.behind_network = subst (λ (bs : List ℕ). FirstText bs n i.behind_network) same i.first in
+    let rest : i.behind_network ≡ r1 = (one_text r0 n network i.behind_network r1 own f).1 in
+    (i.behind_traffic, subst (λ (bs : List ℕ). FirstText bs t i.behind_traffic) rest i.second, i.last)
+
+pub no_traffic : (bytes r0 r1 network n t h : List ℕ) (a b : Command) → bytes ≡ command_line a ++ r0 → FirstText r0 network r1 → HasNoMark r1 → IsBundle bytes b n t h → ⊥
+no_traffic bytes r0 r1 network n t h a b line f none i =
+    let rest = behind_network bytes r0 r1 network n t h a b line f i in no_text r1 t rest.0 none rest.1
+
+pub behind_traffic : (bytes r0 r1 r2 network traffic n t h : List ℕ) (a b : Command) → bytes ≡ command_line a ++ r0 → FirstText r0 network r1 → FirstText r1 traffic r2 → IsBundle bytes b n t h → FirstText r2 h []
+behind_traffic bytes r0 r1 r2 network traffic n t h a b line f g i =
+    let rest = behind_network bytes r0 r1 network n t h a b line f i in
+    let same : rest.0 ≡ r2 = (one_text r1 t traffic rest.0 r2 rest.1 g).1 in
+    subst (λ (bs : List ℕ). FirstText bs h []) same rest.2
+
+pub no_third : (bytes r0 r1 r2 network traffic n t h : List ℕ) (a b : Command) → bytes ≡ command_line a ++ r0 → FirstText r0 network r1 → FirstText r1 traffic r2 → HasNoMark r2 → IsBundle bytes b n t h → ⊥
+no_third bytes r0 r1 r2 network traffic n t h a b line f g none i =
+    no_text r2 h [] none (behind_traffic bytes r0 r1 r2 network traffic n t h a b line f g i)
+
+pub nothing_behind : (bytes r0 r1 r2 r3 network traffic third n t h : List ℕ) (a b : Command) → bytes ≡ command_line a ++ r0 → FirstText r0 network r1 → FirstText r1 traffic r2 → FirstText r2 third r3 → IsBundle bytes b n t h → r3 ≡ []
+nothing_behind bytes r0 r1 r2 r3 network traffic third n t h a b line f g k i =
+    (one_text r2 third h r3 [] k (behind_traffic bytes r0 r1 r2 network traffic n t h a b line f g i)).1

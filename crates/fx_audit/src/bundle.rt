@@ -1,0 +1,87 @@
+//! Bundles: a command and its texts in one text.
+ghost use Rattle.std.specs.Prelude.{◌≡◌, ℕ, ◌+◌, ◌<◌, ◌≤◌, List, [], true, false, take, drop, length, IfSome, IfNone, ◌++◌};
+ghost use Rattle.fx_audit.specs.Bundle.{begins_line, is_mark_at, FirstText, HasNoMark, IsBundle, command_line};
+ghost use Rattle.fx_audit.specs.declared.bundle.Command.{Command};
+
+/// A command that a bundle may name.
+#[derive(Clone, Copy, Debug, PartialEq, Eq)]
+pub enum Command {
+    Replay,
+}
+
+/// The command of a bundle and its texts.
+#[derive(Drop)]
+pub struct Bundle<'a> {
+    pub command: Command,
+    pub network: &'a [u8],
+    pub traffic: &'a [u8],
+    pub third: &'a [u8],
+}
+
+/// Whether a line begins at a place.
+fn begins_line(bytes: &[u8], at: usize) -> bool
+    requires { at ≤ length bytes.now }
+    ensures { result ≡ begins_line bytes.now at }
+{
+    at == 0 || bytes[at - 1] == b'\n'
+}
+
+/// Whether a line `%%` stands at a place.
+fn is_mark_at(bytes: &[u8], at: usize) -> bool
+    requires { at ≤ length bytes.now }
+    ensures { result ≡ is_mark_at bytes.now at }
+{
+    begins_line(bytes, at) && bytes[at..].starts_with(b"%%\n")
+}
+
+/// The place of the first line `%%`.
+#[tactic(auto, using(crate::proofs::Marks::mark_within))]
+fn first_mark(bytes: &[u8]) -> Option<usize>
+    ensures some { IfSome result (λ at. (at + 3 ≤ length bytes.now) × (is_mark_at bytes.now at ≡ true) × ((k : ℕ) → k < at → is_mark_at bytes.now k ≡ false)) }
+    ensures none { IfNone result (HasNoMark bytes.now) }
+{
+    for at in 0..bytes.len() {
+        if is_mark_at(bytes, at) {
+            return Some(at);
+        }
+    }
+    None
+}
+
+/// The first text of these octets, and what stands behind the line `%%` that ends it.
+fn first_text(bytes: &[u8]) -> Option<(&[u8], &[u8])>
+    ensures some { IfSome result (λ parts. FirstText bytes.now parts.0.now parts.1.now) }
+    ensures none { IfNone result (HasNoMark bytes.now) }
+{
+    let at = first_mark(bytes)?;
+    Some((bytes.split_at(at).0, bytes.split_at(at + 3).1))
+}
+
+/// What stands behind the line of a command, and the command.
+fn command_of(bytes: &[u8]) -> Option<(Command, &[u8])>
+    ensures some { IfSome result (λ p. bytes.now ≡ command_line p.0 ++ p.1.now) }
+    ensures none { IfNone result ((command : Command) (rest : List ℕ) → bytes.now ≡ command_line command ++ rest → ⊥) }
+{
+    let rest = bytes.strip_prefix(b"replay\n")?;
+    Some((Command::Replay, rest))
+}
+
+/// The bundle that these octets are, or None where they have another shape.
+pub fn read_bundle(bytes: &[u8]) -> Option<Bundle<'_>>
+    ensures some { IfSome result (λ bundle. IsBundle bytes.now bundle.command bundle.network.now bundle.traffic.now bundle.third.now) }
+    ensures none { IfNone result ((command : Command) (network : List ℕ) (traffic : List ℕ) (third : List ℕ) → IsBundle bytes.now command network traffic third → ⊥) }
+{
+    let (command, rest) = command_of(bytes)?;
+    let (network, rest) = first_text(rest)?;
+    let (traffic, rest) = first_text(rest)?;
+    let (third, rest) = first_text(rest)?;
+    if !rest.is_empty() {
+        return None;
+    }
+    Some(Bundle {
+        command,
+        network,
+        traffic,
+        third,
+    })
+}

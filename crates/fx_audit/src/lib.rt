@@ -1,0 +1,9 @@
+//! Commands over octets: documents and line texts in, exact text out.
+#![tactic(auto)]
+
+mod bundle;
+
+pub use bundle::{Bundle, Command, read_bundle};
+
+#[cfg(test)]
+mod tests;
