@@ -1,0 +1,3 @@
+pub mod Faults
+pub mod Choices
+pub mod Lists

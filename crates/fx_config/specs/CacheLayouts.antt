@@ -1,0 +1,86 @@
+-- Layouts of caches' records (RFC 6728, section 4.3.3).
+use Rattle.std.specs.Prelude.{ℕ, List, [], ◌∷◌, codes, map, Bool, true, false, not, ◌&&◌, ◌==◌, is_some, if◌then◌else◌}
+use Rattle.std.specs.List.{list_any, fold}
+use Rattle.serde_json.specs.Data.{Data}
+use Rattle.fx_config.specs.Walk.{Found, Row, object_faults, then_check, member_of, fault_if}
+use Rattle.fx_config.specs.Lists.{entries, items_of}
+use Rattle.fx_config.specs.CacheFields.{cache_field_faults, cache_field_of}
+use Rattle.fx_config.specs.declared.cache_field.CacheField.{CacheField}
+use Rattle.fx_config.specs.declared.limits.TheConstants.{FIELDS}
+use Rattle.fx_elements.specs.Axes.{axis_width}
+use Rattle.fx_elements.specs.declared.element.Element.{Element}
+use Rattle.fx_elements.specs.declared.element.Element.TheVariants.{OnAxis, OctetDeltaCount, PacketDeltaCount, OctetTotalCount, PacketTotalCount, SourcePrefix, DestinationPrefix, SourcePrefixLength, DestinationPrefixLength, IpVersion, Other}
+use Rattle.fx_layout.specs.Keys.{Layout, part_at, with_part}
+
+abbrev pub is_octet_count : Element → Bool
+is_octet_count OctetDeltaCount = true
+is_octet_count (OnAxis axis) = false
+is_octet_count PacketDeltaCount = false
+is_octet_count OctetTotalCount = false
+is_octet_count PacketTotalCount = false
+is_octet_count SourcePrefix = false
+is_octet_count DestinationPrefix = false
+is_octet_count SourcePrefixLength = false
+is_octet_count DestinationPrefixLength = false
+is_octet_count IpVersion = false
+is_octet_count Other = false
+
+abbrev pub is_packet_count : Element → Bool
+is_packet_count PacketDeltaCount = true
+is_packet_count (OnAxis axis) = false
+is_packet_count OctetDeltaCount = false
+is_packet_count OctetTotalCount = false
+is_packet_count PacketTotalCount = false
+is_packet_count SourcePrefix = false
+is_packet_count DestinationPrefix = false
+is_packet_count SourcePrefixLength = false
+is_packet_count DestinationPrefixLength = false
+is_packet_count IpVersion = false
+is_packet_count Other = false
+
+abbrev pub counts_octets : List CacheField → Bool
+counts_octets fields = list_any (λ field. is_octet_count field.element) fields
+
+abbrev pub counts_packets : List CacheField → Bool
+counts_packets fields = list_any (λ field. is_packet_count field.element) fields
+
+-- both counters must be among the fields
+abbrev pub counter_faults : List CacheField → List ℕ → List Found
+counter_faults fields up = fault_if (not (counts_octets fields && counts_packets fields)) 114 up
+
+-- all bits of an axis, once
+abbrev pub add_axis : Layout → Element → Layout
+add_axis layout (OnAxis axis) =
+    if is_some (part_at layout axis) then layout else with_part layout (record { axis = axis; bits = axis_width axis })
+add_axis layout OctetDeltaCount = layout
+add_axis layout PacketDeltaCount = layout
+add_axis layout OctetTotalCount = layout
+add_axis layout PacketTotalCount = layout
+add_axis layout SourcePrefix = layout
+add_axis layout DestinationPrefix = layout
+add_axis layout SourcePrefixLength = layout
+add_axis layout DestinationPrefixLength = layout
+add_axis layout IpVersion = layout
+add_axis layout Other = layout
+
+abbrev pub add_key : Layout → CacheField → Layout
+add_key layout field = if field.is_flow_key then add_axis layout field.element else layout
+
+-- the axes that are flow keys
+abbrev pub layout_of : List CacheField → Layout
+layout_of fields = fold add_key [] fields
+
+abbrev pub fields_in : Data → List CacheField
+fields_in d = map cache_field_of (items_of (member_of (codes "cacheField") d))
+
+abbrev pub cache_layout_rows : List Row
+cache_layout_rows =
+    entries 1 FIELDS (codes "cacheField") cache_field_faults (λ d. (cache_field_of d).name)
+    ∷ then_check (λ up d. counter_faults (fields_in d) up)
+    ∷ []
+
+abbrev pub cache_layout_faults : List ℕ → Data → List Found
+cache_layout_faults = object_faults cache_layout_rows
+
+abbrev pub cache_layout_of : Data → Layout
+cache_layout_of d = layout_of (fields_in d)

@@ -1,0 +1,14 @@
+pub mod Pointer
+pub mod Walk
+pub mod Scalars
+pub mod Lists
+pub mod Choice
+pub mod Destinations
+pub mod ExportingProcesses
+pub mod CollectingProcesses
+pub mod ObservationPoints
+pub mod Selectors
+pub mod SelectionProcesses
+pub mod CacheFields
+pub mod CacheLayouts
+pub mod Caches

@@ -1,0 +1,37 @@
+-- Selectors (RFC 6728, section 4.2.1).
+use Rattle.std.specs.Prelude.{ℕ, List, [], ◌∷◌, codes, Bool, true, false, not}
+use Rattle.serde_json.specs.Data.{Data, null, boolean, number, string, array, object, Members, no_members, member}
+use Rattle.fx_config.specs.Walk.{Found, Row, object_faults, required, optional, member_of, fault_if}
+use Rattle.fx_config.specs.Choice.{one_of}
+use Rattle.fx_config.specs.Lists.{name_once}
+use Rattle.fx_config.specs.Scalars.{text_of, is_empty_type}
+use Rattle.fx_config.specs.declared.selector.Selector.{Selector}
+
+abbrev pub has_no_member : Members → Bool
+has_no_member no_members = true
+has_no_member (member k d ms) = false
+
+-- the container selectAll, which has no members, or an empty type
+abbrev pub is_all : Data → Bool
+is_all (object ms) = has_no_member ms
+is_all null = is_empty_type null
+is_all (boolean b) = is_empty_type (boolean b)
+is_all (number n) = is_empty_type (number n)
+is_all (string s) = is_empty_type (string s)
+is_all (array ds) = is_empty_type (array ds)
+
+abbrev pub all_faults : List ℕ → Data → List Found
+all_faults up d = fault_if (not (is_all d)) 104 up
+
+abbrev pub selector_rows : List (List ℕ) → List Row
+selector_rows earlier =
+    required (codes "name") (name_once earlier)
+    ∷ one_of (codes "selectAll" ∷ [])
+    ∷ optional (codes "selectAll") all_faults
+    ∷ []
+
+abbrev pub selector_faults : List (List ℕ) → List ℕ → Data → List Found
+selector_faults earlier = object_faults (selector_rows earlier)
+
+abbrev pub selector_of : Data → Selector
+selector_of d = record { name = text_of (member_of (codes "name") d) }

@@ -1,0 +1,53 @@
+//! Selection processes.
+ghost use Rattle.fx_config.specs.SelectionProcesses.{selection_process_faults, selection_process_of};
+
+use crate::limits::SELECTORS;
+use crate::selector::Selector;
+use crate::walk::{
+    Entry, Named, Path, Sequence, entries_member, name_member, object_of, optional_member,
+};
+use fx_base::{Fault, Name};
+use serde_json::Value;
+use std::alloc::Global;
+
+/// A process that selects packets and passes them on to a cache (RFC 6728, section 4.2).
+#[derive(Debug, Drop)]
+pub struct SelectionProcess {
+    /// Its name, which differs from those of the device's other selection processes.
+    pub name: Name,
+    /// The steps that a packet has to pass, in order: at least one.
+    pub selectors: Sequence<Selector>,
+    /// The cache that is given the selected packets, by name. Without one they go nowhere.
+    pub cache: Option<Name>,
+}
+
+impl Named for SelectionProcess {
+    ghost name = { λ process. process.name };
+
+    fn name(&self) -> &Name {
+        &self.name
+    }
+}
+
+impl Entry for SelectionProcess {
+    ghost faults = { selection_process_faults };
+
+    ghost meaning = { selection_process_of };
+
+    fn from_entry(
+        alloc: Global,
+        path: &Path<'_>,
+        value: &Value,
+        earlier: &[SelectionProcess],
+    ) -> Result<SelectionProcess, Fault> {
+        object_of(alloc, path, value, &["name", "selector", "cache"])?;
+        let name = name_member(alloc, path, value, earlier)?;
+        let selectors = entries_member(alloc, path, value, "selector", 1, SELECTORS)?;
+        let cache = optional_member(alloc, path, value, "cache")?;
+        Ok(SelectionProcess {
+            name,
+            selectors,
+            cache,
+        })
+    }
+}

@@ -1,0 +1,23 @@
+//! Reading a document by one walk.
+//!
+//! A document is walked depth first: at each value its kind, at a list its length, at an object the
+//! members that may not be there and then the others in the order of the table that defines it. All
+//! faults are listed in that order by definitions that a YANG module can be laid beside; a reader
+//! answers the first of them, at its JSON Pointer (RFC 6901), or the value that the document means.
+mod choice;
+mod entries;
+mod list;
+mod member;
+mod object;
+mod path;
+mod scalar;
+mod sequence;
+
+pub use choice::{Refused, none_of, one_of};
+pub use entries::{Entry, Named, entries_member, name_member, unique_name};
+pub use list::{items_in, items_member};
+pub use member::{FromValue, optional_member, required_member};
+pub use object::{document_of, object_of};
+pub use path::{Path, refusal};
+pub use scalar::{Empty, Whole, is_empty_type};
+pub use sequence::Sequence;
