@@ -12,3 +12,5 @@ pub mod SelectionProcesses
 pub mod CacheFields
 pub mod CacheLayouts
 pub mod Caches
+pub mod References
+pub mod Devices

@@ -1,6 +1,6 @@
 -- Lists in documents.
 use Rattle.std.specs.Prelude.{◌≡◌, ℕ, ◌+◌, List, [], ◌∷◌, ◌++◌, Bool, nat_lt, if◌then◌else◌, length, map, Option, Some, None, Result, Ok, Err}
-use Rattle.std.specs.List.{list_any}
+use Rattle.std.specs.List.{list_any, position}
 use Rattle.std.specs.Option.{unwrap_or}
 use Rattle.std.specs.Str.{bytes_eq}
 use Rattle.std.specs.Borrow.{Bor}
@@ -47,9 +47,9 @@ abbrev pub list_row : ℕ → ℕ → List ℕ → (List ℕ → List Data → L
 list_row least most name faults = record { names = name ∷ []; faults = λ up d. faults_of_list least most faults up name (get name d) }
 
 -- the faults of the items from the i-th on
-abbrev pub items_faults : (List ℕ → Data → List Found) → List ℕ → ℕ → List Data → List Found
+abbrev pub items_faults : {X : Type 0} → (List ℕ → X → List Found) → List ℕ → ℕ → List X → List Found
 items_faults faults up i [] = []
-items_faults faults up i (d ∷ ds) = faults (nth up i) d ++ items_faults faults up (i + 1) ds
+items_faults faults up i (x ∷ xs) = faults (nth up i) x ++ items_faults faults up (i + 1) xs
 
 abbrev pub items : ℕ → ℕ → List ℕ → (List ℕ → Data → List Found) → Row
 items least most name faults = list_row least most name (λ up ds. items_faults faults up 0 ds)
@@ -66,6 +66,10 @@ entries least most name faults name_in = list_row least most name (λ up ds. ent
 
 abbrev pub is_among : List (List ℕ) → List ℕ → Bool
 is_among names name = list_any (λ n. bytes_eq n name) names
+
+-- the place of a name among others, from 0
+abbrev pub place_in : List (List ℕ) → List ℕ → Option ℕ
+place_in names name = position (λ n. bytes_eq n name) names
 
 -- a name that differs from earlier ones
 abbrev pub name_once : List (List ℕ) → List ℕ → Data → List Found

@@ -10,14 +10,16 @@ mod list;
 mod member;
 mod object;
 mod path;
+mod reference;
 mod scalar;
 mod sequence;
 
 pub use choice::{Refused, none_of, one_of};
-pub use entries::{Entry, Named, entries_member, name_member, unique_name};
+pub use entries::{Entry, Named, entries_member, is_named, name_member, unique_name};
 pub use list::{items_in, items_member};
 pub use member::{FromValue, optional_member, required_member};
 pub use object::{document_of, object_of};
 pub use path::{Path, refusal};
+pub use reference::{known_name, known_names, place_of};
 pub use scalar::{Empty, Whole, is_empty_type};
 pub use sequence::Sequence;

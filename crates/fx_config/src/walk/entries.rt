@@ -44,7 +44,7 @@ pub trait Entry: Named {
 }
 
 /// Whether an entry has the name.
-fn is_named<T: Named>(entries: &[T], name: &Name) -> bool
+pub fn is_named<T: Named>(entries: &[T], name: &Name) -> bool
     ensures { result ≡ is_among (map T.name entries.now) name.now }
 {
     match entries {

@@ -1,0 +1,17 @@
+use Rattle.fx_config.proofs.Faults.{exit, refuses_more, pointer-Member}
+use Rattle.fx_config.proofs.ipfix.refers.Goals as goal
+
+pub returns-in_err-points_refer : goal.returns-in_err-points_refer
+returns-in_err-points_refer c =
+    exit _ _ _ _ c.from_residual.ensures (refuses_more _ _ _ (rw (pointer-Member, c.as_slice-points.ensures, c.as_slice-selecting.ensures) at c.in_err-points_refer.ensures))
+
+pub returns-in_err-processes_refer : goal.returns-in_err-processes_refer
+returns-in_err-processes_refer c =
+    let points = rw (pointer-Member, c.as_slice-points.ensures, c.as_slice-selecting.ensures) at c.in_ok-points_refer.ensures in
+    exit _ _ _ _ c.from_residual-in_err-processes_refer.ensures (rw points.0 (refuses_more _ _ _ (rw (pointer-Member, c.as_slice-selecting.ensures, c.as_slice-caches.ensures) at c.in_err-processes_refer.ensures)))
+
+pub returns : goal.returns
+returns c =
+    let points = rw (pointer-Member, c.as_slice-points.ensures, c.as_slice-selecting.ensures) at c.in_ok-points_refer.ensures in
+    let processes = rw (pointer-Member, c.as_slice-selecting.ensures, c.as_slice-caches.ensures) at c.in_ok-processes_refer.ensures in
+    rw (points.0, processes.0) (rw (pointer-Member, c.as_slice-caches.ensures, c.as_slice-exporting.ensures) at c.caches_refer.ensures)

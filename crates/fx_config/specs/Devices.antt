@@ -1,0 +1,54 @@
+-- A device's configuration document (RFC 6728, section 6, in the JSON of RFC 7951).
+use Rattle.std.specs.Prelude.{ℕ, List, [], ◌∷◌, codes, map}
+use Rattle.serde_json.specs.Data.{Data}
+use Rattle.fx_config.specs.Walk.{Found, Row, object_faults, open_object_faults, required, then_check, member_of}
+use Rattle.fx_config.specs.Lists.{entries, items_of}
+use Rattle.fx_config.specs.ObservationPoints.{observation_point_faults, observation_point_of}
+use Rattle.fx_config.specs.SelectionProcesses.{selection_process_faults, selection_process_of}
+use Rattle.fx_config.specs.Caches.{cache_faults, cache_of}
+use Rattle.fx_config.specs.ExportingProcesses.{exporting_process_faults, exporting_process_of}
+use Rattle.fx_config.specs.CollectingProcesses.{collecting_process_faults, collecting_process_of}
+use Rattle.fx_config.specs.References.{reference_faults}
+use Rattle.fx_config.specs.declared.limits.TheConstants.{ENTRIES}
+use Rattle.fx_config.specs.declared.ipfix.Device.{Device}
+use Rattle.fx_config.specs.declared.ipfix.Ipfix.{Ipfix}
+
+-- ---- the container ipfix
+
+abbrev pub lists_of : Data → Device
+lists_of d = record {
+  observation_points = map observation_point_of (items_of (member_of (codes "observationPoint") d));
+  selection_processes = map selection_process_of (items_of (member_of (codes "selectionProcess") d));
+  caches = map cache_of (items_of (member_of (codes "cache") d));
+  exporting_processes = map exporting_process_of (items_of (member_of (codes "exportingProcess") d));
+  collecting_processes = map collecting_process_of (items_of (member_of (codes "collectingProcess") d));
+}
+
+abbrev pub ipfix_rows : List Row
+ipfix_rows =
+    entries 0 ENTRIES (codes "observationPoint") observation_point_faults (λ d. (observation_point_of d).name)
+    ∷ entries 0 ENTRIES (codes "selectionProcess") selection_process_faults (λ d. (selection_process_of d).name)
+    ∷ entries 0 ENTRIES (codes "cache") cache_faults (λ d. (cache_of d).name)
+    ∷ entries 0 ENTRIES (codes "exportingProcess") exporting_process_faults (λ d. (exporting_process_of d).name)
+    ∷ entries 0 ENTRIES (codes "collectingProcess") collecting_process_faults (λ d. (collecting_process_of d).name)
+    ∷ then_check (λ up d. reference_faults up (lists_of d))
+    ∷ []
+
+abbrev pub ipfix_faults : List ℕ → Data → List Found
+ipfix_faults = object_faults ipfix_rows
+
+abbrev pub ipfix_of : Data → Ipfix
+ipfix_of d = record { device = lists_of d }
+
+-- ---- the document
+
+abbrev pub device_rows : List Row
+device_rows =
+    required (codes "ietf-ipfix-psamp:ipfix") ipfix_faults
+    ∷ []
+
+abbrev pub device_faults : List ℕ → Data → List Found
+device_faults = open_object_faults (codes "ietf-ipfix-psamp") device_rows
+
+abbrev pub device_of : Data → Device
+device_of d = lists_of (member_of (codes "ietf-ipfix-psamp:ipfix") d)

@@ -1,0 +1,36 @@
+-- References by name (the leafrefs of RFC 6728, section 6).
+use Rattle.std.specs.Prelude.{ℕ, List, [], ◌∷◌, ◌++◌, codes, map, not, Option, Some, None}
+use Rattle.fx_config.specs.Pointer.{below}
+use Rattle.fx_config.specs.Walk.{Found, fault_if}
+use Rattle.fx_config.specs.Lists.{is_among, items_faults}
+use Rattle.fx_config.specs.declared.observation_point.ObservationPoint.{ObservationPoint}
+use Rattle.fx_config.specs.declared.selection_process.SelectionProcess.{SelectionProcess}
+use Rattle.fx_config.specs.declared.cache.Cache.{Cache}
+use Rattle.fx_config.specs.declared.ipfix.Device.{Device}
+
+-- a name that is not among those that are known
+abbrev pub unknown : List (List ℕ) → List ℕ → List ℕ → List Found
+unknown known up name = fault_if (not (is_among known name)) 107 up
+
+abbrev pub unknown_if_there : List (List ℕ) → List ℕ → Option (List ℕ) → List Found
+unknown_if_there known up None = []
+unknown_if_there known up (Some name) = unknown known up name
+
+-- a point's selection processes
+abbrev pub point_references : List (List ℕ) → List ℕ → ObservationPoint → List Found
+point_references processes up point = items_faults (unknown processes) (below up (codes "selectionProcess")) 0 point.selection_processes
+
+-- a selection process's cache
+abbrev pub process_references : List (List ℕ) → List ℕ → SelectionProcess → List Found
+process_references caches up process = unknown_if_there caches (below up (codes "cache")) process.cache
+
+-- a cache's exporting processes
+abbrev pub cache_references : List (List ℕ) → List ℕ → Cache → List Found
+cache_references exporters up cache = items_faults (unknown exporters) (below up (codes "exportingProcess")) 0 cache.exporting_processes
+
+-- all of a device's, in the order of the walk
+abbrev pub reference_faults : List ℕ → Device → List Found
+reference_faults up device =
+    items_faults (point_references (map (λ x. x.name) device.selection_processes)) (below up (codes "observationPoint")) 0 device.observation_points
+    ++ (items_faults (process_references (map (λ x. x.name) device.caches)) (below up (codes "selectionProcess")) 0 device.selection_processes
+    ++ items_faults (cache_references (map (λ x. x.name) device.exporting_processes)) (below up (codes "cache")) 0 device.caches)

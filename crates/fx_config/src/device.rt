@@ -1,0 +1,44 @@
+//! A device's whole document.
+ghost use Rattle.std.specs.Prelude.{[]};
+ghost use Rattle.serde_json.specs.View.{view};
+ghost use Rattle.fx_config.specs.Walk.{Reads};
+ghost use Rattle.fx_config.specs.Devices.{device_faults, device_of};
+
+use crate::ipfix::{Device, Ipfix};
+use crate::walk::{FromValue, Path, document_of, required_member};
+use fx_base::Fault;
+use serde_json::Value;
+use std::alloc::Global;
+
+/// A device's configuration document: an object with the container `ipfix`, beside which members of other
+/// modules are left unread.
+impl FromValue for Device {
+    ghost faults = { device_faults };
+
+    ghost meaning = { device_of };
+
+    fn from_value(alloc: Global, path: &Path<'_>, value: &Value) -> Result<Device, Fault> {
+        document_of(
+            alloc,
+            path,
+            value,
+            "ietf-ipfix-psamp",
+            &["ietf-ipfix-psamp:ipfix"],
+        )?;
+        let ipfix = required_member::<Ipfix>(alloc, path, value, "ietf-ipfix-psamp:ipfix")?;
+        Ok(ipfix.device)
+    }
+}
+
+/// Reads the configuration document of one device: what it means, or its first fault in the order of the walk,
+/// at its JSON Pointer in the document.
+///
+/// 102 a member that may not be there, 103 one that is missing, 104 a value of another kind, 105 a value that
+/// isn't allowed, 106 a name twice, 107 a reference to nothing, 111 a total counter, 112 a flow key by which
+/// packets can't be told apart, 114 a layout without both counters, 115 too many entries; 900, at no place, for
+/// want of memory.
+pub fn read_device(alloc: Global, value: &Value) -> Result<Device, Fault>
+    ensures { Reads (device_faults [] (view value.now)) (device_of (view value.now)) result }
+{
+    Device::from_value(alloc, &Path::Root, value)
+}

@@ -1,0 +1,106 @@
+//! The references of a device's configuration.
+ghost use Rattle.std.specs.Prelude.{◌≡◌, ℕ, map};
+ghost use Rattle.fx_config.specs.Pointer.{pointer};
+ghost use Rattle.fx_config.specs.Walk.{Reads};
+ghost use Rattle.fx_config.specs.Lists.{items_faults};
+ghost use Rattle.fx_config.specs.References.{cache_references, point_references, process_references};
+
+use crate::cache::Cache;
+use crate::exporting_process::ExportingProcess;
+use crate::observation_point::ObservationPoint;
+use crate::selection_process::SelectionProcess;
+use crate::walk::{Path, known_name, known_names};
+use fx_base::Fault;
+use std::alloc::Global;
+
+/// Refuses the first selection process that the point at the path names and that isn't there (107).
+fn point_refers(
+    alloc: Global,
+    path: &Path<'_>,
+    point: &ObservationPoint,
+    processes: &[SelectionProcess],
+) -> Result<(), Fault>
+    ensures { Reads (point_references (map (λ x. x.name) processes.now) (pointer path.now) point.now) tt result }
+{
+    let names = point.selection_processes.as_slice();
+    known_names(alloc, &Path::Member(&*path, "selectionProcess"), names, processes)
+}
+
+/// The same for all points of the list at the path.
+pub fn points_refer(
+    alloc: Global,
+    path: &Path<'_>,
+    points: &[ObservationPoint],
+    processes: &[SelectionProcess],
+) -> Result<(), Fault>
+    ensures { Reads (items_faults (point_references (map (λ x. x.name) processes.now)) (pointer path.now) 0 points.now) tt result }
+{
+    let mut place = 0;
+    for point in points {
+        point_refers(alloc, &Path::Item(&*path, place), point, processes)?;
+        place += 1;
+    }
+    Ok(())
+}
+
+/// Refuses the cache that the selection process at the path names and that isn't there (107).
+fn process_refers(
+    alloc: Global,
+    path: &Path<'_>,
+    process: &SelectionProcess,
+    caches: &[Cache],
+) -> Result<(), Fault>
+    ensures { Reads (process_references (map (λ x. x.name) caches.now) (pointer path.now) process.now) tt result }
+{
+    match &process.cache {
+        Some(cache) => known_name(alloc, &Path::Member(&*path, "cache"), cache, caches),
+        None => Ok(()),
+    }
+}
+
+/// The same for all selection processes of the list at the path.
+pub fn processes_refer(
+    alloc: Global,
+    path: &Path<'_>,
+    processes: &[SelectionProcess],
+    caches: &[Cache],
+) -> Result<(), Fault>
+    ensures { Reads (items_faults (process_references (map (λ x. x.name) caches.now)) (pointer path.now) 0 processes.now) tt result }
+{
+    let mut place = 0;
+    for process in processes {
+        process_refers(alloc, &Path::Item(&*path, place), process, caches)?;
+        place += 1;
+    }
+    Ok(())
+}
+
+/// Refuses the first exporting process that the cache at the path names and that isn't there (107).
+fn cache_refers(
+    alloc: Global,
+    path: &Path<'_>,
+    cache: &Cache,
+    processes: &[ExportingProcess],
+) -> Result<(), Fault>
+    ensures { Reads (cache_references (map (λ x. x.name) processes.now) (pointer path.now) cache.now) tt result }
+{
+    let names = cache.exporting_processes.as_slice();
+    known_names(alloc, &Path::Member(&*path, "exportingProcess"), names, processes)
+}
+
+/// The same for all caches of the list at the path.
+pub fn caches_refer(
+    alloc: Global,
+    path: &Path<'_>,
+    caches: &[Cache],
+    processes: &[ExportingProcess],
+) -> Result<(), Fault>
+    ensures { Reads (items_faults (cache_references (map (λ x. x.name) processes.now)) (pointer path.now) 0 caches.now) tt result }
+{
+    let mut place = 0;
+    for cache in caches {
+        cache_refers(alloc, &Path::Item(&*path, place), cache, processes)?;
+        place += 1;
+    }
+    Ok(())
+}
