@@ -10,9 +10,12 @@ use Rattle.serde_json.specs.Data.{Data}
 use Rattle.fx_base.specs.declared.fault.Fault.{Fault}
 use Rattle.fx_base.specs.declared.fault.Place.{Place}
 use Rattle.fx_base.specs.declared.fault.Place.TheVariants as places
-use Rattle.fx_config.specs.declared.walk.path.Path.{Path, Member, Item, the_lemmas}
+use Rattle.fx_config.specs.declared.walk.path.Path.{Path, Root, Member, Item, the_lemmas}
 use Rattle.fx_config.specs.Pointer.{pointer, below, nth}
 use Rattle.fx_config.specs.Walk.{Found, first, refuses, Refuses, Reads, others, is_listed}
+
+pub pointer-Root : pointer Root ≡ []
+pointer-Root = search (rules, the_lemmas)
 
 pub pointer-Member : (up : Bor Path) (name : Bor (List ℕ)) → pointer (Member up name) ≡ below (pointer up.now) name.now
 pointer-Member up name = search (rules, the_lemmas)

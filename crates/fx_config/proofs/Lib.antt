@@ -2,3 +2,4 @@ pub mod Faults
 pub mod Choices
 pub mod Lists
 pub mod Places
+pub mod Resolved

@@ -40,15 +40,15 @@ ipfix_faults = object_faults ipfix_rows
 abbrev pub ipfix_of : Data → Ipfix
 ipfix_of d = record { device = lists_of d }
 
--- ---- the document
+-- ---- the document, of which crates above speak by these two words
 
 abbrev pub device_rows : List Row
 device_rows =
     required (codes "ietf-ipfix-psamp:ipfix") ipfix_faults
     ∷ []
 
-abbrev pub device_faults : List ℕ → Data → List Found
-device_faults = open_object_faults (codes "ietf-ipfix-psamp") device_rows
+unfoldable pub device_faults : List ℕ → Data → List Found
+device_faults up d = open_object_faults (codes "ietf-ipfix-psamp") device_rows up d
 
-abbrev pub device_of : Data → Device
+unfoldable pub device_of : Data → Device
 device_of d = lists_of (member_of (codes "ietf-ipfix-psamp:ipfix") d)

@@ -1,8 +1,8 @@
 -- References by name (the leafrefs of RFC 6728, section 6).
-use Rattle.std.specs.Prelude.{ℕ, List, [], ◌∷◌, ◌++◌, codes, map, not, Option, Some, None}
+use Rattle.std.specs.Prelude.{ℕ, List, [], ◌∷◌, ◌++◌, codes, map, not, Option, Some, None, All, IsSome, IfSome}
 use Rattle.fx_config.specs.Pointer.{below}
 use Rattle.fx_config.specs.Walk.{Found, fault_if}
-use Rattle.fx_config.specs.Lists.{is_among, items_faults}
+use Rattle.fx_config.specs.Lists.{is_among, items_faults, place_in}
 use Rattle.fx_config.specs.declared.observation_point.ObservationPoint.{ObservationPoint}
 use Rattle.fx_config.specs.declared.selection_process.SelectionProcess.{SelectionProcess}
 use Rattle.fx_config.specs.declared.cache.Cache.{Cache}
@@ -34,3 +34,13 @@ reference_faults up device =
     items_faults (point_references (map (λ x. x.name) device.selection_processes)) (below up (codes "observationPoint")) 0 device.observation_points
     ++ (items_faults (process_references (map (λ x. x.name) device.caches)) (below up (codes "selectionProcess")) 0 device.selection_processes
     ++ items_faults (cache_references (map (λ x. x.name) device.exporting_processes)) (below up (codes "cache")) 0 device.caches)
+
+-- a name stands for one of those that have these names
+abbrev pub IsKnown : List (List ℕ) → List ℕ → Type 0
+IsKnown known name = IsSome (place_in known name)
+
+-- each name that stands for a thing of the device is the name of one in its list
+pub record Resolves (device : Device) : Type 0 where
+  pub points : All (λ point. All (IsKnown (map (λ x. x.name) device.selection_processes)) point.selection_processes) device.observation_points
+  pub processes : All (λ process. IfSome process.cache (IsKnown (map (λ x. x.name) device.caches))) device.selection_processes
+  pub caches : All (λ cache. All (IsKnown (map (λ x. x.name) device.exporting_processes)) cache.exporting_processes) device.caches

@@ -92,12 +92,7 @@ impl Entry for CacheField {
         value: &Value,
         earlier: &[CacheField],
     ) -> Result<CacheField, Fault> {
-        object_of(
-            alloc,
-            path,
-            value,
-            &["name", "ieName", "ieId", "isFlowKey"],
-        )?;
+        object_of(alloc, path, value, &["name", "ieName", "ieId", "isFlowKey"])?;
         let name = name_member(alloc, path, value, earlier)?;
         one_of(alloc, path, value, &["ieName", "ieId"])?;
         let named = optional_member::<Element>(alloc, path, value, "ieName")?;

@@ -72,8 +72,14 @@ impl FromValue for Layout {
 
     fn from_value(alloc: Global, path: &Path<'_>, value: &Value) -> Result<Layout, Fault> {
         object_of(alloc, path, value, &["cacheField"])?;
-        let fields: Sequence<CacheField> =
-            entries_member(alloc, path, value, "cacheField", 1, FIELDS)?;
+        let fields: Sequence<CacheField> = entries_member(
+            alloc,
+            path,
+            value,
+            "cacheField",
+            1,
+            FIELDS,
+        )?;
         let fields = fields.as_slice();
         has_counters(alloc, path, fields)?;
         Ok(layout_of(fields))

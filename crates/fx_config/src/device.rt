@@ -1,7 +1,8 @@
 //! A device's whole document.
-ghost use Rattle.std.specs.Prelude.{[]};
+ghost use Rattle.std.specs.Prelude.{[], IfOk};
 ghost use Rattle.serde_json.specs.View.{view};
 ghost use Rattle.fx_config.specs.Walk.{Reads};
+ghost use Rattle.fx_config.specs.References.{Resolves};
 ghost use Rattle.fx_config.specs.Devices.{device_faults, device_of};
 
 use crate::ipfix::{Device, Ipfix};
@@ -38,7 +39,8 @@ impl FromValue for Device {
 /// packets can't be told apart, 114 a layout without both counters, 115 too many entries; 900, at no place, for
 /// want of memory.
 pub fn read_device(alloc: Global, value: &Value) -> Result<Device, Fault>
-    ensures { Reads (device_faults [] (view value.now)) (device_of (view value.now)) result }
+    ensures answer { Reads (device_faults [] (view value.now)) (device_of (view value.now)) result }
+    ensures resolved { IfOk result Resolves }
 {
     Device::from_value(alloc, &Path::Root, value)
 }

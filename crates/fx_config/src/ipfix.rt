@@ -39,8 +39,18 @@ fn refers(alloc: Global, path: &Path<'_>, device: &Device) -> Result<(), Fault>
     let selecting = device.selection_processes.as_slice();
     let caches = device.caches.as_slice();
     let exporting = device.exporting_processes.as_slice();
-    points_refer(alloc, &Path::Member(&*path, "observationPoint"), points, selecting)?;
-    processes_refer(alloc, &Path::Member(&*path, "selectionProcess"), selecting, caches)?;
+    points_refer(
+        alloc,
+        &Path::Member(&*path, "observationPoint"),
+        points,
+        selecting,
+    )?;
+    processes_refer(
+        alloc,
+        &Path::Member(&*path, "selectionProcess"),
+        selecting,
+        caches,
+    )?;
     caches_refer(alloc, &Path::Member(&*path, "cache"), caches, exporting)
 }
 

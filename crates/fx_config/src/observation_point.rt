@@ -45,16 +45,15 @@ impl Entry for ObservationPoint {
             alloc,
             path,
             value,
-            &[
-                "name",
-                "observationDomainId",
-                "ifName",
-                "selectionProcess",
-            ],
+            &["name", "observationDomainId", "ifName", "selectionProcess"],
         )?;
         let name = name_member(alloc, path, value, earlier)?;
-        let domain =
-            required_member::<Whole<0, 0xffff_ffff>>(alloc, path, value, "observationDomainId")?;
+        let domain = required_member::<Whole<0, 0xffff_ffff>>(
+            alloc,
+            path,
+            value,
+            "observationDomainId",
+        )?;
         let interfaces = entries_member(alloc, path, value, "ifName", 1, ENTRIES)?;
         let processes = entries_member(alloc, path, value, "selectionProcess", 0, ENTRIES)?;
         Ok(ObservationPoint {

@@ -23,7 +23,12 @@ fn point_refers(
     ensures { Reads (point_references (map (λ x. x.name) processes.now) (pointer path.now) point.now) tt result }
 {
     let names = point.selection_processes.as_slice();
-    known_names(alloc, &Path::Member(&*path, "selectionProcess"), names, processes)
+    known_names(
+        alloc,
+        &Path::Member(&*path, "selectionProcess"),
+        names,
+        processes,
+    )
 }
 
 /// The same for all points of the list at the path.
@@ -85,7 +90,12 @@ fn cache_refers(
     ensures { Reads (cache_references (map (λ x. x.name) processes.now) (pointer path.now) cache.now) tt result }
 {
     let names = cache.exporting_processes.as_slice();
-    known_names(alloc, &Path::Member(&*path, "exportingProcess"), names, processes)
+    known_names(
+        alloc,
+        &Path::Member(&*path, "exportingProcess"),
+        names,
+        processes,
+    )
 }
 
 /// The same for all caches of the list at the path.

@@ -21,5 +21,5 @@ pub use member::{FromValue, optional_member, required_member};
 pub use object::{document_of, object_of};
 pub use path::{Path, refusal};
 pub use reference::{known_name, known_names, place_of};
-pub use scalar::{Empty, Whole, is_empty_type};
+pub use scalar::{Empty, Text, Whole, is_empty_type};
 pub use sequence::Sequence;

@@ -67,9 +67,8 @@ fn first_refused<'v>(
 ) -> Option<&'v String>
     ensures { option_map (λ k. k.now) result ≡ find (λ k. not (is_listed (map (λ t. t.now) listed.now) (string_bytes k) || is_foreign home.now (string_bytes k))) (keys_of members.now.entries) }
 {
-    members
-        .keys()
-        .find(|name| !(is_listed(listed, name.as_str()) || is_foreign(home, name.as_str())))
+    members.keys().find(|name| !(is_listed(listed, name.as_str())
+        || is_foreign(home, name.as_str())))
 }
 
 /// The same as [`object_of`], but members with the prefix of another module than this one are left unread

@@ -1,6 +1,6 @@
 //! Values without parts: names, whole numbers, empty types.
 ghost use Rattle.std.specs.Prelude.{◌≡◌, ℕ, ◌≤◌, ◌==◌, ◌∷◌, []};
-ghost use Rattle.fx_config.specs.Scalars.{is_empty_type, is_one_null, name_faults, whole_faults, empty_faults, text_of, number_of};
+ghost use Rattle.fx_config.specs.Scalars.{is_empty_type, is_one_null, name_faults, whole_faults, empty_faults, text_faults, text_of, number_of};
 ghost use Rattle.fx_config.specs.Pointer.{pointer};
 ghost use Rattle.serde_json.specs.View.{view, items_view};
 ghost use Rattle.fx_config.specs.Walk.{Refuses};
@@ -29,6 +29,44 @@ impl FromValue for Name {
             Err(fault) if fault.number == 105 => Err(refusal(alloc, 105, path)),
             Err(fault) => Err(fault),
         }
+    }
+}
+
+/// A text of any form: 104 for another kind of value.
+#[derive(Debug, Drop)]
+pub struct Text {
+    text: String,
+}
+
+impl Model for Text {
+    ghost use Rattle.std.specs.Prelude.{List, ℕ, string_bytes};
+
+    ghost Value = { List ℕ };
+
+    ghost view = { λ s. string_bytes s.text };
+}
+
+impl Text {
+    /// The text.
+    pub fn as_str(&self) -> &str
+        ensures { result.now ≡ self.now }
+    {
+        self.text.as_str()
+    }
+}
+
+impl FromValue for Text {
+    ghost faults = { text_faults };
+
+    ghost meaning = { text_of };
+
+    fn from_value(alloc: Global, path: &Path<'_>, value: &Value) -> Result<Text, Fault> {
+        let Some(text) = value.as_str() else {
+            return Err(refusal(alloc, 104, path));
+        };
+        Ok(Text {
+            text: String::from_str(alloc, text)?,
+        })
     }
 }
 
