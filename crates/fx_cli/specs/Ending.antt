@@ -1,0 +1,40 @@
+-- How a command ends: the line of a refusal, and the program's exit status.
+use Rattle.std.specs.Prelude.{ℕ, ◌==◌, ◌||◌, List, [], ◌∷◌, ◌++◌, codes, if◌then◌else◌, Result, Ok, Err, Bool}
+use Rattle.std.specs.Fmt.{decimal}
+use Rattle.fx_base.specs.declared.fault.Fault.{Fault}
+use Rattle.fx_base.specs.declared.fault.Place.{Place}
+use Rattle.fx_base.specs.declared.fault.Place.TheVariants.{None, Line, Octet, Text}
+use Rattle.fx_base.specs.Fault.{place_text}
+use Rattle.fx_audit.specs.declared.answer.Answer.{Answer}
+use Rattle.fx_audit.specs.declared.answer.Answer.TheVariants.{Yes, No, Unknown}
+
+-- a place behind a number; nothing where there is none
+abbrev pub behind : Place → List ℕ
+behind None = []
+behind (Line n) = 32 ∷ place_text (Line n)
+behind (Octet n) = 32 ∷ place_text (Octet n)
+behind (Text text) = 32 ∷ place_text (Text text)
+
+abbrev pub is_device : ℕ → Bool
+is_device number = number == 901 || number == 902
+
+-- `memory 900`, `device 901` or `device 902`, and else `refused` with the number and its place
+abbrev pub refusal_line : Fault → List ℕ
+refusal_line fault =
+    if fault.number == 900 then codes "memory 900" ++ 10 ∷ []
+    else (if is_device fault.number then codes "device " ++ (decimal fault.number ++ 10 ∷ [])
+    else codes "refused " ++ (decimal fault.number ++ (behind fault.place ++ 10 ∷ [])))
+
+abbrev pub refusal_status : Fault → ℕ
+refusal_status fault = if fault.number == 900 then 4 else (if is_device fault.number then 5 else 2)
+
+abbrev pub status : Result Answer Fault → ℕ
+status (Ok Yes) = 0
+status (Ok No) = 1
+status (Ok Unknown) = 3
+status (Err fault) = refusal_status fault
+
+-- what is written at the end: an answer has written its text before
+abbrev pub last_words : Result Answer Fault → List ℕ
+last_words (Ok answer) = []
+last_words (Err fault) = refusal_line fault

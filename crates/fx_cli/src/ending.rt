@@ -1,0 +1,79 @@
+//! How a command ends.
+ghost use Rattle.std.specs.Prelude.{◌≡◌, ◌⊎◌, true, false, OnOk, IfErr, IfOk};
+ghost use Rattle.fx_base.specs.Device.{Writes};
+ghost use Rattle.fx_base.specs.Fault.{fault_at};
+ghost use Rattle.fx_base.specs.declared.fault.Place.TheVariants as places;
+ghost use Rattle.fx_cli.specs.Ending.{behind, refusal_line, refusal_status, status, last_words};
+
+use fx_audit::Answer;
+use fx_base::{Fault, Place, Sink, put_number, put_place, put_text};
+
+/// The exit status of a write that failed.
+const WRITE_FAILED: u8 = 5;
+
+/// Writes a place behind a number.
+fn put_behind<S: Sink>(sink: &mut S, place: &Place) -> Result<(), Fault>
+    ensures ok { OnOk result (Writes (S.taken sink.old) (S.taken sink.new) (behind place.now)) }
+    ensures err { IfErr result (λ e. (e ≡ fault_at 902 places.None) × (S.failed sink.new ≡ true)) }
+{
+    match place {
+        Place::None => put_text(sink, b""),
+        Place::Line(_) | Place::Octet(_) | Place::Text(_) => {
+            put_text(sink, b" ")?;
+            put_place(sink, place)
+        }
+    }
+}
+
+/// Writes the line of a refusal.
+fn put_refusal<S: Sink>(sink: &mut S, fault: &Fault) -> Result<(), Fault>
+    ensures ok { OnOk result (Writes (S.taken sink.old) (S.taken sink.new) (refusal_line fault.now)) }
+    ensures err { IfErr result (λ e. (e ≡ fault_at 902 places.None) × (S.failed sink.new ≡ true)) }
+{
+    match fault.number {
+        900 => put_text(sink, b"memory 900\n"),
+        901 | 902 => {
+            put_text(sink, b"device ")?;
+            put_number(sink, u64::from(fault.number))?;
+            put_text(sink, b"\n")
+        }
+        _ => {
+            put_text(sink, b"refused ")?;
+            put_number(sink, u64::from(fault.number))?;
+            put_behind(sink, &fault.place)?;
+            put_text(sink, b"\n")
+        }
+    }
+}
+
+/// The exit status of a refusal.
+fn status_of_refusal(fault: &Fault) -> u8
+    ensures { result ≡ refusal_status fault.now }
+{
+    let number = fault.number;
+    match number {
+        900 => 4,
+        901 | 902 => 5,
+        _ => 2,
+    }
+}
+
+/// Ends a command: writes the line of a refusal, and gives the program's exit status. An answer's text has been
+/// written before.
+///
+/// 0 an answer of yes, 1 of no, 3 of unknown; 2 a refusal (`refused N PLACE`), 4 want of memory (`memory 900`),
+/// 5 a device that failed (`device 901`, `device 902`), also where the line can't be written.
+pub fn finish<S: Sink>(outcome: &Result<Answer, Fault>, sink: &mut S) -> u8
+    ensures status { (result ≡ status outcome.now) ⊎ ((result ≡ 5) × (S.failed sink.new ≡ true)) }
+    ensures written { S.failed sink.new ≡ false → Writes (S.taken sink.old) (S.taken sink.new) (last_words outcome.now) }
+{
+    match outcome {
+        Ok(Answer::Yes) => 0,
+        Ok(Answer::No) => 1,
+        Ok(Answer::Unknown) => 3,
+        Err(fault) => match put_refusal(sink, fault) {
+            Ok(()) => status_of_refusal(fault),
+            Err(_) => WRITE_FAILED,
+        },
+    }
+}
