@@ -4,7 +4,7 @@ use Rattle.fx_base.specs.declared.counts.Counts.{Counts}
 use Rattle.fx_base.specs.Counts.{add_counts}
 use Rattle.fx_layout.specs.Keys.{Layout, Key, HasBits, refines, project}
 use Rattle.fx_machine.specs.declared.record.Record.{Record}
-use Rattle.fx_machine.specs.States.{add_at}
+use Rattle.fx_machine.specs.States.{State, add_at}
 
 pub record Totals : Type 0 where
   pub layout : Layout  -- of all keys
@@ -26,6 +26,10 @@ with_record t r =
 abbrev pub with_records : Totals → List Record → Totals
 with_records t [] = t
 with_records t (r ∷ rs) = with_records (with_record t r) rs
+
+-- what a network in this state has counted
+abbrev pub totals_of : Layout → State → Totals
+totals_of layout s = record (with_records (nothing layout) s.totals) { unassigned = s.unassigned }
 
 -- ---- what is kept: values and counts
 

@@ -5,12 +5,12 @@ ghost use Rattle.fx_base.specs.declared.fault.Place.TheVariants as places;
 ghost use Rattle.fx_layout.specs.Keys.{HasBits};
 ghost use Rattle.fx_machine.specs.States.{add_at};
 ghost use Rattle.fx_machine.specs.Sums.{total_at};
-ghost use Rattle.fx_collect.specs.Totals.{added, nothing, with_record};
+ghost use Rattle.fx_collect.specs.Totals.{added, nothing, with_record, with_records, totals_of};
 ghost use Rattle.fx_collect.specs.Report.{Ascends};
 
 use fx_base::{Counts, Fault};
 use fx_layout::{Key, Layout, Values};
-use fx_machine::Record;
+use fx_machine::{Record, State};
 use indexmap::IndexMap;
 use std::alloc::Global;
 use std::marker::Model;
@@ -84,6 +84,31 @@ impl Totals {
                 Ok(())
             }
         }
+    }
+
+    /// What a network has counted so far: its totals under the keys of its report, and the number of its
+    /// records that had none.
+    ///
+    /// Fails with 900, at no place, for want of memory.
+    pub fn of(alloc: Global, state: &State<'_>) -> Result<Totals, Fault>
+        ensures ok { IfOk result (λ totals. totals ≡ totals_of state.now.net.report_layout state.now.state) }
+        ensures err { IfErr result (λ e. e ≡ fault_at 900 places.None) }
+    {
+        let mut totals = Totals::new(alloc, state.net().report_layout().copy())?;
+        totals.tally_all(state.totals())?;
+        totals.unassigned = state.unassigned();
+        Ok(totals)
+    }
+
+    /// Adds one record after another.
+    fn tally_all(&mut self, entries: &[Record]) -> Result<(), Fault>
+        ensures ok { OnOk result (self.new ≡ with_records self.old entries.now) }
+        ensures err { IfErr result (λ e. e ≡ fault_at 900 places.None) }
+    {
+        for entry in entries {
+            self.tally(entry)?;
+        }
+        Ok(())
     }
 
     /// What was counted under the key, if anything was.

@@ -8,4 +8,10 @@ pub mod Moves
 pub mod Sums
 pub mod Claim
 pub mod Places
+pub mod Sends
 pub mod Views
+pub mod Holds
+pub mod Handling
+pub mod Comings
+pub mod Tallies
+pub mod Stores

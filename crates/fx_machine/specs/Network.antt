@@ -84,11 +84,14 @@ named_by (Some holder) = holder.exporters
 abbrev pub exporters_of : Net → Option Holder → List Exporter
 exporters_of net holder = at_places net.exporters (named_by holder)
 
+abbrev pub takes_with : List Holder → Key → Aggregation → Bool
+takes_with holders key aggregation =
+    refines key.layout (layout_of (slice_get holders aggregation.holder))
+    && list_all (λ e. reads key.layout e.axis e.bits && cut key e.axis e.bits == e.value) aggregation.matches
+
 -- an aggregation takes a key that its own key and its match can be read from, where the match holds
 abbrev pub takes : Net → Key → Aggregation → Bool
-takes net key aggregation =
-    refines key.layout (layout_of (slice_get net.holders aggregation.holder))
-    && list_all (λ e. reads key.layout e.axis e.bits && cut key e.axis e.bits == e.value) aggregation.matches
+takes net key aggregation = takes_with net.holders key aggregation
 
 -- ---- where a holder that is named by numbers stands in the table
 
@@ -116,7 +119,11 @@ abbrev pub held_at : Option Aggregation → Option ℕ
 held_at None = None
 held_at (Some aggregation) = Some aggregation.holder
 
+abbrev pub place_named : List Device → List Process → HolderName → Option ℕ
+place_named devices processes (Cache device cache) = numbered (caches_of (numbered devices device)) cache
+place_named devices processes (AggregationOf device process aggregation) =
+    held_at (numbered (aggregations_of (process_at processes (numbered (processes_of (numbered devices device)) process))) aggregation)
+
+-- the place of the holder that the name means, if there is one
 abbrev pub holder_place : Net → HolderName → Option ℕ
-holder_place net (Cache device cache) = numbered (caches_of (numbered net.devices device)) cache
-holder_place net (AggregationOf device process aggregation) =
-    held_at (numbered (aggregations_of (process_at net.processes (numbered (processes_of (numbered net.devices device)) process))) aggregation)
+holder_place net name = place_named net.devices net.processes name

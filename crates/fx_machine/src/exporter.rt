@@ -7,8 +7,8 @@ use std::marker::Model;
 /// its link in the network's table, from 0, or none where it leads outside the network.
 #[derive(Debug, Drop)]
 pub struct Exporter {
-    parallel: bool,
-    destinations: Vec<Option<usize>>,
+    pub(crate) parallel: bool,
+    pub(crate) destinations: Vec<Option<usize>>,
 }
 
 impl Model for Exporter {

@@ -21,9 +21,9 @@ pub struct MatchEntry {
 /// collecting processes in the table of processes, from 0.
 #[derive(Debug, Drop)]
 pub struct Device {
-    points: Vec<Point>,
-    caches: Vec<usize>,
-    processes: Vec<usize>,
+    pub(crate) points: Vec<Point>,
+    pub(crate) caches: Vec<usize>,
+    pub(crate) processes: Vec<usize>,
 }
 
 impl Model for Device {
@@ -45,14 +45,35 @@ impl Device {
             processes,
         }
     }
+
+    /// Its observation points.
+    pub fn points(&self) -> &[Point]
+        ensures { result.now ≡ self.now.points }
+    {
+        self.points.as_slice()
+    }
+
+    /// The places of its caches in the table of holders.
+    pub fn caches(&self) -> &[usize]
+        ensures { result.now ≡ self.now.caches }
+    {
+        self.caches.as_slice()
+    }
+
+    /// The places of its collecting processes in the table of processes.
+    pub fn processes(&self) -> &[usize]
+        ensures { result.now ≡ self.now.processes }
+    {
+        self.processes.as_slice()
+    }
 }
 
 /// A cache or an aggregation: the layout of the records that it holds, and the places of its exporting
 /// processes in the network's table, from 0.
 #[derive(Debug, Drop)]
 pub struct Holder {
-    layout: Layout,
-    exporters: Vec<usize>,
+    pub(crate) layout: Layout,
+    pub(crate) exporters: Vec<usize>,
 }
 
 impl Model for Holder {
@@ -70,13 +91,27 @@ impl Holder {
     {
         Holder { layout, exporters }
     }
+
+    /// The layout of the records that it holds.
+    pub fn layout(&self) -> &Layout
+        ensures { result.now ≡ self.now.layout }
+    {
+        &self.layout
+    }
+
+    /// The places of the exporting processes that it names.
+    pub fn exporters(&self) -> &[usize]
+        ensures { result.now ≡ self.now.exporters }
+    {
+        self.exporters.as_slice()
+    }
 }
 
 /// An aggregation (RFC 7015): the place of its holder, from 0, and its match.
 #[derive(Debug, Drop)]
 pub struct Aggregation {
-    holder: usize,
-    matches: Vec<MatchEntry>,
+    pub(crate) holder: usize,
+    pub(crate) matches: Vec<MatchEntry>,
 }
 
 impl Model for Aggregation {
@@ -94,14 +129,28 @@ impl Aggregation {
     {
         Aggregation { holder, matches }
     }
+
+    /// The place of its holder.
+    pub fn holder(&self) -> usize
+        ensures { result ≡ self.now.holder }
+    {
+        self.holder
+    }
+
+    /// The entries of its match.
+    pub fn matches(&self) -> &[MatchEntry]
+        ensures { result.now ≡ self.now.matches }
+    {
+        self.matches.as_slice()
+    }
 }
 
 /// A collecting process (RFC 6728, section 4.5): the places of its exporting processes, from 0, and its
 /// aggregations.
 #[derive(Debug, Drop)]
 pub struct Process {
-    exporters: Vec<usize>,
-    aggregations: Vec<Aggregation>,
+    pub(crate) exporters: Vec<usize>,
+    pub(crate) aggregations: Vec<Aggregation>,
 }
 
 impl Model for Process {
@@ -122,18 +171,32 @@ impl Process {
             aggregations,
         }
     }
+
+    /// The places of the exporting processes that it names.
+    pub fn exporters(&self) -> &[usize]
+        ensures { result.now ≡ self.now.exporters }
+    {
+        self.exporters.as_slice()
+    }
+
+    /// Its aggregations.
+    pub fn aggregations(&self) -> &[Aggregation]
+        ensures { result.now ≡ self.now.aggregations }
+    {
+        self.aggregations.as_slice()
+    }
 }
 
 /// A network: its devices, and the tables of what they name by place, from 0.
 #[derive(Debug, Drop)]
 pub struct Net {
-    devices: Vec<Device>,
-    exporters: Vec<Exporter>,
-    holders: Vec<Holder>,
-    processes: Vec<Process>,
-    links: Vec<usize>,
-    report: usize,
-    report_layout: Layout,
+    pub(crate) devices: Vec<Device>,
+    pub(crate) exporters: Vec<Exporter>,
+    pub(crate) holders: Vec<Holder>,
+    pub(crate) processes: Vec<Process>,
+    pub(crate) links: Vec<usize>,
+    pub(crate) report: usize,
+    pub(crate) report_layout: Layout,
 }
 
 impl Model for Net {
@@ -175,5 +238,54 @@ impl Net {
             report,
             report_layout,
         }
+    }
+
+    /// The devices.
+    pub fn devices(&self) -> &[Device]
+        ensures { result.now ≡ self.now.devices }
+    {
+        self.devices.as_slice()
+    }
+
+    /// The exporting processes.
+    pub fn exporters(&self) -> &[Exporter]
+        ensures { result.now ≡ self.now.exporters }
+    {
+        self.exporters.as_slice()
+    }
+
+    /// The caches and aggregations.
+    pub fn holders(&self) -> &[Holder]
+        ensures { result.now ≡ self.now.holders }
+    {
+        self.holders.as_slice()
+    }
+
+    /// The collecting processes.
+    pub fn processes(&self) -> &[Process]
+        ensures { result.now ≡ self.now.processes }
+    {
+        self.processes.as_slice()
+    }
+
+    /// The place of the collecting process to which each link leads.
+    pub fn links(&self) -> &[usize]
+        ensures { result.now ≡ self.now.links }
+    {
+        self.links.as_slice()
+    }
+
+    /// The place of the collecting process that tallies.
+    pub fn report(&self) -> usize
+        ensures { result ≡ self.now.report }
+    {
+        self.report
+    }
+
+    /// The layout under which it tallies.
+    pub fn report_layout(&self) -> &Layout
+        ensures { result.now ≡ self.now.report_layout }
+    {
+        &self.report_layout
     }
 }

@@ -17,10 +17,10 @@ pub struct Selection {
 /// An observation point (RFC 6728, section 4.1).
 #[derive(Debug, Drop)]
 pub struct Point {
-    interfaces: Vec<Name>,
-    ingress: bool,
-    egress: bool,
-    selections: Vec<Selection>,
+    pub(crate) interfaces: Vec<Name>,
+    pub(crate) ingress: bool,
+    pub(crate) egress: bool,
+    pub(crate) selections: Vec<Selection>,
 }
 
 impl Model for Point {

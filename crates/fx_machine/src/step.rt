@@ -8,7 +8,7 @@ use std::marker::Model;
 /// of a destination. Positions and numbers count from 1.
 #[derive(Debug, Drop)]
 pub struct Choices {
-    items: Vec<Option<u64>>,
+    pub(crate) items: Vec<Option<u64>>,
 }
 
 impl Model for Choices {

@@ -19,7 +19,7 @@ pub struct Crossing {
 /// The crossings that a packet makes.
 #[derive(Debug, Drop)]
 pub struct Path {
-    crossings: Vec<Crossing>,
+    pub(crate) crossings: Vec<Crossing>,
 }
 
 impl Model for Path {
@@ -50,8 +50,8 @@ impl Path {
 /// A class of packets: the fields that they may have, and the paths that they may take.
 #[derive(Debug, Drop)]
 pub struct Class {
-    region: Region,
-    paths: Vec<Path>,
+    pub(crate) region: Region,
+    pub(crate) paths: Vec<Path>,
 }
 
 impl Model for Class {
@@ -88,7 +88,7 @@ impl Class {
 /// The classes of the packets that cross a network.
 #[derive(Debug, Drop)]
 pub struct Classes {
-    items: Vec<Class>,
+    pub(crate) items: Vec<Class>,
 }
 
 impl Model for Classes {

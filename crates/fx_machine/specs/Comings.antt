@@ -1,0 +1,48 @@
+-- Crossings to come, by a mark for each.
+use Rattle.std.specs.Prelude.{ℕ, suc, replicate, map, length, Bool, true, false, List, [], ◌∷◌, ◌++◌, Option, Some, None, if◌then◌else◌}
+use Rattle.fx_machine.specs.Network.{numbered, entries}
+use Rattle.fx_machine.specs.declared.packet.Packet.{Packet}
+use Rattle.fx_machine.specs.Classes.{Class, path}
+use Rattle.fx_machine.specs.States.{Coming, replaced}
+
+-- the marked crossings of a packet, numbered from this one
+abbrev pub marked : ℕ → ℕ → List Bool → List Coming
+marked packet n [] = []
+marked packet n (b ∷ bs) = if b then record { packet = packet; crossing = n } ∷ marked packet (suc n) bs else marked packet (suc n) bs
+
+-- those of all packets, numbered from this one
+abbrev pub coming_of : ℕ → List (List Bool) → List Coming
+coming_of n [] = []
+coming_of n (f ∷ fs) = marked n 1 f ++ coming_of (suc n) fs
+
+abbrev pub is_marked : Option Bool → Bool
+is_marked None = false
+is_marked (Some b) = b
+
+abbrev pub has_mark : Option (List Bool) → ℕ → Bool
+has_mark None crossing = false
+has_mark (Some bs) crossing = is_marked (numbered bs crossing)
+
+-- whether a crossing of a packet is marked
+abbrev pub flagged : List (List Bool) → ℕ → ℕ → Bool
+flagged fs packet crossing = has_mark (numbered fs packet) crossing
+
+-- without its mark
+abbrev pub cleared : List (List Bool) → ℕ → ℕ → List (List Bool)
+cleared fs packet crossing = replaced fs packet (replaced (entries (numbered fs packet)) crossing false)
+
+abbrev pub none_marked : List Bool → Bool
+none_marked [] = true
+none_marked (b ∷ bs) = if b then false else none_marked bs
+
+abbrev pub all_crossed : List (List Bool) → Bool
+all_crossed [] = true
+all_crossed (f ∷ fs) = if none_marked f then all_crossed fs else false
+
+-- so many marks
+abbrev pub marks : ℕ → List Bool
+marks n = replicate n true
+
+-- a mark for each crossing of each packet
+abbrev pub marks_of : List Class → List Packet → List (List Bool)
+marks_of classes packets = map (λ p. marks (length (path classes p))) packets

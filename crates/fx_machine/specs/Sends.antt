@@ -1,0 +1,37 @@
+-- A record put on several links.
+use Rattle.std.specs.Prelude.{ℕ, List, [], ◌∷◌, ◌++◌, drop, option_and_then, Option, Some, None, if◌then◌else◌}
+use Rattle.fx_machine.specs.declared.record.Record.{Record}
+use Rattle.fx_machine.specs.Network.{Exporter, numbered}
+use Rattle.fx_machine.specs.States.{put_last}
+use Rattle.fx_machine.specs.Acts.{Choices}
+
+abbrev pub put_all : List ℕ → Record → List (List Record) → List (List Record)
+put_all [] r rss = rss
+put_all (l ∷ ls) r rss = put_all ls r (put_last rss l r)
+
+abbrev pub linked : Option ℕ → List ℕ
+linked None = []
+linked (Some link) = link ∷ []
+
+abbrev pub links_of : List (Option ℕ) → List ℕ
+links_of [] = []
+links_of (d ∷ ds) = linked d ++ links_of ds
+
+-- the links that are chosen, and the choices that are left
+pub record Chosen : Type 0 where
+  pub links : List ℕ
+  pub rest : Choices
+
+-- the destination that the next choice names
+abbrev pub next_destination : List (Option ℕ) → Choices → Option (Option ℕ)
+next_destination destinations [] = None
+next_destination destinations (None ∷ choices) = None
+next_destination destinations (Some n ∷ choices) = numbered destinations n
+
+-- the links of each exporting process in turn, after these
+abbrev pub chosen_from : List ℕ → List Exporter → Choices → Option Chosen
+chosen_from links [] choices = Some (record { links = links; rest = choices })
+chosen_from links (e ∷ es) choices =
+    if e.parallel
+    then chosen_from (links ++ links_of e.destinations) es choices
+    else option_and_then (λ d. chosen_from (links ++ linked d) es (drop 1 choices)) (next_destination e.destinations choices)

@@ -1,0 +1,191 @@
+//! Holders take in records.
+ghost use Rattle.std.specs.Prelude.{◌≡◌, ◌⊎◌, ◌++◌, List, [], ◌∷◌, Some, None, IfOk, IfErr, IfSome, IfNone, OnOk, OnErr};
+ghost use Rattle.fx_base.specs.Fault.{fault_at};
+ghost use Rattle.fx_base.specs.declared.fault.Place.TheVariants as faults;
+ghost use Rattle.fx_machine.specs.Acts as acts;
+ghost use Rattle.fx_machine.specs.Holds as holds;
+ghost use Rattle.fx_machine.specs.Network as network;
+ghost use Rattle.fx_machine.specs.declared.record.Record as of_record;
+
+use crate::record::{Record, Records};
+use fx_base::{Counts, Fault};
+use fx_layout::Key;
+use std::alloc::{AllocError, Global};
+
+/// A holder, by its place in the network's table, from 0, and the key of a record that it is to take in.
+#[derive(Debug, Drop)]
+pub struct Holding {
+    pub holder: usize,
+    pub key: Key,
+}
+
+/// The place of a held record, from 0, and what was counted under it before another joined it.
+#[derive(Clone, Copy, Debug, PartialEq, Eq)]
+pub struct Joined {
+    pub place: usize,
+    pub counts: Counts,
+}
+
+/// What a holder took in: a new record, which stands last, or one that joined another.
+#[derive(Clone, Copy, Debug, PartialEq, Eq)]
+pub struct Taking {
+    pub holder: usize,
+    pub joined: Option<Joined>,
+}
+
+/// The counts of a record are added to the held record of this number, from 1, if it is there and has the key.
+fn join(records: &mut Vec<Record>, number: u64, entry: &Record) -> Option<Joined>
+    ensures some { IfSome result (λ j. (acts.joined (network.numbered records.old.items number) records.old.items number entry.now ≡ Some records.new.items)
+        × (holds.with_counts records.new.items j.place j.counts ≡ records.old.items)) }
+    ensures none { IfNone result ((acts.joined (network.numbered records.old.items number) records.old.items number entry.now ≡ None)
+        × (records.new.items ≡ records.old.items)) }
+{
+    if number == 0 || number > records.len() as u64 {
+        return None;
+    }
+    let place = (number - 1) as usize;
+    let held = &mut records[place];
+    if !held.key.same(&entry.key) {
+        return None;
+    }
+    let counts = held.counts;
+    held.counts = counts.add(&entry.counts);
+    Some(Joined { place, counts })
+}
+
+/// The held record at this place has these counts.
+fn set_counts(records: &mut Vec<Record>, joined: Joined)
+    ensures { records.new.items ≡ holds.with_counts records.old.items joined.place joined.counts }
+{
+    if joined.place < records.len() {
+        let held = &mut records[joined.place];
+        held.counts = joined.counts;
+    }
+}
+
+impl Records {
+    /// Takes in a record: as a new one, which comes last, or added to the held record of this number.
+    fn take_in(&mut self, entry: Record, choice: Option<u64>) -> Result<Option<Joined>, Fault>
+        ensures ok { IfOk result (λ j. (acts.taken_in self.old choice entry ≡ Some self.new) × (holds.given_back j self.new ≡ self.old)) }
+        ensures same { OnErr result (self.new ≡ self.old) }
+        ensures err { IfErr result (λ e. (e ≡ fault_at 900 faults.None) ⊎ ((e ≡ fault_at 852 faults.None) × (acts.taken_in self.old choice entry ≡ None))) }
+    {
+        match choice {
+            None => {
+                self.items.push(entry)?;
+                Ok(None)
+            }
+            Some(number) => match join(&mut self.items, number, &entry) {
+                None => Err(Fault::bare(852)),
+                Some(joined) => Ok(Some(joined)),
+            },
+        }
+    }
+
+    /// What was taken in is taken back.
+    fn give_back(&mut self, joined: Option<Joined>)
+        ensures { self.new ≡ holds.given_back joined self.old }
+    {
+        match joined {
+            None => {
+                self.items.pop();
+            }
+            Some(joined) => set_counts(&mut self.items, joined),
+        }
+    }
+}
+
+/// A holder takes in a record.
+fn hold(
+    held: &mut Vec<Records>,
+    holding: &Holding,
+    counts: &Counts,
+    choice: Option<u64>,
+) -> Result<Taking, Fault>
+    ensures ok { IfOk result (λ t. (holds.held_with held.old.items counts.now holding.now choice ≡ Some held.new.items)
+        × (holds.back_at held.new.items t.holder t.joined ≡ held.old.items)) }
+    ensures same { OnErr result (held.new.items ≡ held.old.items) }
+    ensures err { IfErr result (λ e. (e ≡ fault_at 900 faults.None) ⊎ ((e ≡ fault_at 852 faults.None) × (holds.held_with held.old.items counts.now holding.now choice ≡ None))) }
+{
+    let holder = holding.holder;
+    if holder >= held.len() {
+        return Err(Fault::bare(852));
+    }
+    let entry = Record {
+        key: holding.key.copy(),
+        counts: *counts,
+    };
+    let records = &mut held[holder];
+    let joined = records.take_in(entry, choice)?;
+    Ok(Taking { holder, joined })
+}
+
+/// What a holder took in is taken back.
+fn give_back(held: &mut Vec<Records>, taking: Taking)
+    ensures { held.new.items ≡ holds.back_at held.old.items taking.holder taking.joined }
+{
+    if taking.holder < held.len() {
+        let records = &mut held[taking.holder];
+        records.give_back(taking.joined);
+    }
+}
+
+/// A holder takes in a record, and that is noted; or neither.
+fn hold_next(
+    held: &mut Vec<Records>,
+    log: &mut Vec<Taking>,
+    holding: &Holding,
+    counts: &Counts,
+    choice: Option<u64>,
+) -> Result<(), Fault>
+    ensures ok { OnOk result ((holds.held_with held.old.items counts.now holding.now choice ≡ Some held.new.items)
+        × (holds.undone log.new.items held.new.items ≡ holds.undone log.old.items held.old.items)) }
+    ensures same { OnErr result ((held.new.items ≡ held.old.items) × (log.new.items ≡ log.old.items)) }
+    ensures err { IfErr result (λ e. (e ≡ fault_at 900 faults.None) ⊎ ((e ≡ fault_at 852 faults.None) × (holds.held_with held.old.items counts.now holding.now choice ≡ None))) }
+{
+    let taking = hold(held, holding, counts, choice)?;
+    if log.push(taking).is_err() {
+        give_back(held, taking);
+        return Err(Fault::bare(900));
+    }
+    Ok(())
+}
+
+/// All that was taken in is taken back, the last first.
+pub fn give_all_back(held: &mut Vec<Records>, log: &[Taking])
+    ensures { held.new.items ≡ holds.undone log.now held.old.items }
+{
+    for back in 0..log.len() {
+        give_back(held, log[log.len() - 1 - back]);
+    }
+}
+
+/// Each of these holders in turn takes in a record of these counts, by the next choice, and what they took in
+/// is answered; or none does.
+///
+/// Fails with 852 where the choices aren't as many as the holders or one of them can't be made, and with 900
+/// for want of memory.
+pub fn hold_all(
+    alloc: Global,
+    held: &mut Vec<Records>,
+    holdings: &[Holding],
+    counts: &Counts,
+    choices: &[Option<u64>],
+) -> Result<Vec<Taking>, Fault>
+    ensures ok { IfOk result (λ log. (holds.hold_all counts.now holdings.now held.old.items choices.now ≡ Some held.new.items)
+        × (holds.undone log.items held.new.items ≡ held.old.items)) }
+    ensures same { OnErr result (held.new.items ≡ held.old.items) }
+    ensures err { IfErr result (λ e. (e ≡ fault_at 900 faults.None) ⊎ ((e ≡ fault_at 852 faults.None) × (holds.hold_all counts.now holdings.now held.old.items choices.now ≡ None))) }
+{
+    if holdings.len() != choices.len() {
+        return Err(Fault::bare(852));
+    }
+    let mut log: Vec<Taking> = Vec::new(alloc);
+    for place in 0..holdings.len() {
+        if let Err(fault) = hold_next(held, &mut log, &holdings[place], counts, choices[place]) {
+            give_all_back(held, log.as_slice());
+            return Err(fault);
+        }
+    }
+    Ok(log)
+}

@@ -1,0 +1,150 @@
+//! Packets are metered where they cross an interface.
+ghost use Rattle.std.specs.Prelude.{◌≡◌, ◌++◌, [], OnOk, IfOk, if◌then◌else◌, bytes_eq};
+ghost use Rattle.std.specs.List.{list_any};
+ghost use Rattle.fx_machine.specs.Holds as holds;
+ghost use Rattle.fx_machine.specs.Network as network;
+ghost use Rattle.fx_machine.specs.Occurrences as met;
+
+use crate::holding::Holding;
+use crate::lookup::{layout_at, points_of};
+use crate::net::{Holder, Net};
+use crate::observation::{Occurrence, Point, Selection};
+use crate::traffic::Crossing;
+use fx_base::Name;
+use fx_boxes::{Fields, Region};
+use std::alloc::{AllocError, Global};
+
+/// Whether the packets of this region include this one.
+fn selects(region: Option<Region>, fields: &Fields) -> bool
+    ensures { result ≡ met.selects region fields.now }
+{
+    match region {
+        None => false,
+        Some(region) => region.holds(fields),
+    }
+}
+
+/// Whether the name is among these.
+fn has_name(names: &[Name], name: &str) -> bool
+    ensures { result ≡ list_any (λ own. bytes_eq own name.now) names.now }
+{
+    names.iter().any(|own| own.as_str() == name)
+}
+
+/// Whether the point is at the interface of the crossing, and sees packets in its direction.
+fn watches(point: &Point, crossing: &Crossing) -> bool
+    ensures { result ≡ met.watches point.now crossing.now }
+{
+    has_name(point.interfaces.as_slice(), crossing.interface.as_str())
+        && if crossing.inwards {
+            point.ingress
+        } else {
+            point.egress
+        }
+}
+
+/// The occurrence at a selection process comes last, if it selects the packet and has a cache.
+fn push_met(
+    found: &mut Vec<Occurrence>,
+    point: usize,
+    process: usize,
+    selection: Selection,
+    fields: &Fields,
+) -> Result<(), AllocError>
+    ensures { OnOk result (found.new.items ≡ found.old.items ++ (if met.selects selection.region fields.now then met.occurrence point process selection.holder else [])) }
+{
+    if selects(selection.region, fields) {
+        if let Some(holder) = selection.holder {
+            found.push(Occurrence {
+                point,
+                process,
+                holder,
+            })?;
+        }
+    }
+    Ok(())
+}
+
+/// The occurrences at a point come last.
+fn push_met_by(
+    found: &mut Vec<Occurrence>,
+    point: usize,
+    selections: &[Selection],
+    fields: &Fields,
+) -> Result<(), AllocError>
+    ensures { OnOk result (found.new.items ≡ found.old.items ++ met.met_by point 1 selections.now fields.now) }
+{
+    for place in 0..selections.len() {
+        push_met(found, point, place + 1, selections[place], fields)?;
+    }
+    Ok(())
+}
+
+/// The occurrences at a point come last, if it watches the crossing.
+fn push_met_at(
+    found: &mut Vec<Occurrence>,
+    number: usize,
+    point: &Point,
+    crossing: &Crossing,
+    fields: &Fields,
+) -> Result<(), AllocError>
+    ensures { OnOk result (found.new.items ≡ found.old.items ++ (if met.watches point.now crossing.now then met.met_by number 1 point.now.selections fields.now else [])) }
+{
+    if watches(point, crossing) {
+        push_met_by(found, number, point.selections.as_slice(), fields)?;
+    }
+    Ok(())
+}
+
+/// The occurrences of a packet at the points of a device.
+fn met_at(
+    alloc: Global,
+    points: &[Point],
+    crossing: &Crossing,
+    fields: &Fields,
+) -> Result<Vec<Occurrence>, AllocError>
+    ensures { IfOk result (λ found. found.items ≡ met.met_at 1 points.now crossing.now fields.now) }
+{
+    let mut found: Vec<Occurrence> = Vec::new(alloc);
+    for place in 0..points.len() {
+        push_met_at(&mut found, place + 1, &points[place], crossing, fields)?;
+    }
+    Ok(found)
+}
+
+/// The caches of these occurrences, and the keys that the packet has there.
+pub fn met_holdings(
+    alloc: Global,
+    holders: &[Holder],
+    occurrences: &[Occurrence],
+    fields: &Fields,
+) -> Result<Vec<Holding>, AllocError>
+    ensures { IfOk result (λ holdings. holdings.items ≡ holds.met_holdings holders.now fields.now occurrences.now) }
+{
+    let mut holdings: Vec<Holding> = Vec::new(alloc);
+    for occurrence in occurrences {
+        let holder = occurrence.holder;
+        holdings.push(Holding {
+            holder,
+            key: layout_at(holders, holder).key_of(fields),
+        })?;
+    }
+    Ok(holdings)
+}
+
+impl Net {
+    /// Where a packet with these fields is metered at a crossing: at each observation point of the crossing's
+    /// device that is at its interface and sees its direction, by each selection process that selects the
+    /// packet and has a cache (RFC 6728, section 4). Fails for want of memory alone.
+    pub fn occurrences(
+        &self,
+        alloc: Global,
+        crossing: &Crossing,
+        fields: &Fields,
+    ) -> Result<Vec<Occurrence>, AllocError>
+        ensures { IfOk result (λ found. found.items ≡ met.occurrences self.now crossing.now fields.now) }
+    {
+        let points = points_of(self.devices(), crossing.device);
+        met_at(alloc, points, crossing, fields)
+    }
+}

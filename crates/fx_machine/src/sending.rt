@@ -1,0 +1,190 @@
+//! Records are sent on links.
+ghost use Rattle.std.specs.Prelude.{◌≡◌, ◌⊎◌, ◌≤◌, ◌++◌, List, [], ◌∷◌, length, drop, Some, None, IfOk, IfErr, OnOk, OnErr, slice_get};
+ghost use Rattle.fx_base.specs.Fault.{fault_at};
+ghost use Rattle.fx_base.specs.declared.fault.Place.TheVariants as faults;
+ghost use Rattle.fx_machine.specs.Network as network;
+ghost use Rattle.fx_machine.specs.Sends as sends;
+ghost use Rattle.fx_machine.specs.States as states;
+ghost use Rattle.fx_machine.specs.declared.record.Record as of_record;
+
+use crate::exporter::Exporter;
+use crate::record::{Record, Records};
+use fx_base::Fault;
+use std::alloc::{AllocError, Global};
+
+/// The link of a destination comes last, if it has one.
+fn push_link(links: &mut Vec<usize>, destination: Option<usize>) -> Result<(), AllocError>
+    ensures { OnOk result (links.new.items ≡ links.old.items ++ sends.linked destination) }
+{
+    if let Some(link) = destination {
+        links.push(link)?;
+    }
+    Ok(())
+}
+
+/// The links of these destinations come last.
+fn push_links(links: &mut Vec<usize>, destinations: &[Option<usize>]) -> Result<(), AllocError>
+    ensures { OnOk result (links.new.items ≡ links.old.items ++ sends.links_of destinations.now) }
+{
+    for destination in destinations {
+        push_link(links, *destination)?;
+    }
+    Ok(())
+}
+
+/// The destination of this number, from 1.
+fn destination_at(destinations: &[Option<usize>], number: u64) -> Option<Option<usize>>
+    ensures { result ≡ network.numbered destinations.now number }
+{
+    if number == 0 {
+        return None;
+    }
+    let place = (number - 1) as usize;
+    destinations.get(place).copied()
+}
+
+/// The destination that the next choice names.
+fn next_destination(
+    destinations: &[Option<usize>],
+    choices: &[Option<u64>],
+) -> Option<Option<usize>>
+    ensures { result ≡ sends.next_destination destinations.now choices.now }
+{
+    match choices {
+        [] => None,
+        [choice, ..] => match choice {
+            None => None,
+            Some(number) => destination_at(destinations, *number),
+        },
+    }
+}
+
+/// The links of one exporting process come last, and the number of choices that it takes is answered.
+fn choose(
+    links: &mut Vec<usize>,
+    exporter: &Exporter,
+    choices: &[Option<u64>],
+) -> Result<usize, Fault>
+    ensures ok { IfOk result (λ n. (n ≤ length choices.now) × ((rest : List network.Exporter) →
+        sends.chosen_from links.old.items (exporter.now ∷ rest) choices.now
+        ≡ sends.chosen_from links.new.items rest (drop n choices.now))) }
+    ensures err { IfErr result (λ e. (e ≡ fault_at 900 faults.None) ⊎ ((e ≡ fault_at 852 faults.None) × ((rest : List network.Exporter) →
+        sends.chosen_from links.old.items (exporter.now ∷ rest) choices.now ≡ None))) }
+{
+    if exporter.parallel() {
+        if push_links(links, exporter.destinations()).is_err() {
+            return Err(Fault::bare(900));
+        }
+        return Ok(0);
+    }
+    let Some(destination) = next_destination(exporter.destinations(), choices) else {
+        return Err(Fault::bare(852));
+    };
+    if push_link(links, destination).is_err() {
+        return Err(Fault::bare(900));
+    }
+    Ok(1)
+}
+
+/// The same for the exporting process at a place of the table.
+fn choose_at(
+    links: &mut Vec<usize>,
+    exporters: &[Exporter],
+    place: usize,
+    choices: &[Option<u64>],
+) -> Result<usize, Fault>
+    ensures ok { IfOk result (λ n. (n ≤ length choices.now) × ((rest : List network.Exporter) →
+        sends.chosen_from links.old.items (network.before (slice_get exporters.now place) rest) choices.now
+        ≡ sends.chosen_from links.new.items rest (drop n choices.now))) }
+    ensures err { IfErr result (λ e. (e ≡ fault_at 900 faults.None) ⊎ ((e ≡ fault_at 852 faults.None) × ((rest : List network.Exporter) →
+        sends.chosen_from links.old.items (network.before (slice_get exporters.now place) rest) choices.now ≡ None))) }
+{
+    match exporters.get(place) {
+        None => Ok(0),
+        Some(exporter) => choose(links, exporter, choices),
+    }
+}
+
+/// The links on which the exporting processes at these places send a record, each in turn, and the number of
+/// choices that they take.
+///
+/// Fails with 852 where a choice is missing or names no destination, and with 900 for want of memory.
+pub fn chosen_links(
+    alloc: Global,
+    exporters: &[Exporter],
+    places: &[usize],
+    choices: &[Option<u64>],
+) -> Result<(Vec<usize>, usize), Fault>
+    ensures ok { IfOk result (λ x. (x.1 ≤ length choices.now)
+        × (sends.chosen_from [] (network.at_places exporters.now places.now) choices.now ≡ Some (record { links = x.0.items; rest = drop x.1 choices.now }))) }
+    ensures err { IfErr result (λ e. (e ≡ fault_at 900 faults.None) ⊎ ((e ≡ fault_at 852 faults.None) × (sends.chosen_from [] (network.at_places exporters.now places.now) choices.now ≡ None))) }
+{
+    let mut links: Vec<usize> = Vec::new(alloc);
+    let mut used: usize = 0;
+    for place in places {
+        match choose_at(&mut links, exporters, *place, &choices[used..]) {
+            Ok(taken) => used += taken,
+            Err(fault) => return Err(fault),
+        }
+    }
+    Ok((links, used))
+}
+
+/// The choices behind the first so many.
+pub fn choices_from(choices: &[Option<u64>], used: usize) -> &[Option<u64>]
+    ensures { result.now ≡ drop used choices.now }
+{
+    if used > choices.len() {
+        return &[];
+    }
+    &choices[used..]
+}
+
+/// A record comes last on a link, if it is there.
+fn put_on(carried: &mut Vec<Records>, link: usize, entry: Record) -> Result<(), AllocError>
+    ensures ok { OnOk result (carried.new.items ≡ states.put_last carried.old.items link entry) }
+    ensures err { OnErr result (carried.new.items ≡ carried.old.items) }
+{
+    if link < carried.len() {
+        let records = &mut carried[link];
+        records.push(entry)?;
+    }
+    Ok(())
+}
+
+/// The last record of a link goes, if it is there.
+fn take_back(carried: &mut Vec<Records>, link: usize)
+    ensures { (rss : List (List of_record.Record)) (r : of_record.Record) → carried.old.items ≡ states.put_last rss link r → carried.new.items ≡ rss }
+{
+    if link < carried.len() {
+        let records = &mut carried[link];
+        records.drop_last();
+    }
+}
+
+/// A record comes last on each of these links, or on none.
+pub fn put_all(
+    carried: &mut Vec<Records>,
+    links: &[usize],
+    entry: &Record,
+) -> Result<(), AllocError>
+    ensures ok { OnOk result (carried.new.items ≡ sends.put_all links.now entry.now carried.old.items) }
+    ensures err { OnErr result (carried.new.items ≡ carried.old.items) }
+{
+    for done in 0..links.len() {
+        if let Err(error) = put_on(carried, links[done], entry.copy()) {
+            take_all_back(carried, &links[..done], entry);
+            return Err(error);
+        }
+    }
+    Ok(())
+}
+
+/// The last record of each of these links goes, the last link first.
+pub fn take_all_back(carried: &mut Vec<Records>, links: &[usize], entry: &Record)
+    ensures { (rss : List (List of_record.Record)) → carried.old.items ≡ sends.put_all links.now entry.now rss → carried.new.items ≡ rss }
+{
+    for back in 0..links.len() {
+        take_back(carried, links[links.len() - 1 - back]);
+    }
+}

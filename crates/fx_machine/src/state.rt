@@ -1,0 +1,176 @@
+//! The state of a run.
+ghost use Rattle.std.specs.Prelude.{◌≡◌, ◌⊎◌, ◌↔◌, [], All, Ok, Err, OnOk, OnErr, IfOk, IfErr, IsTrue};
+ghost use Rattle.fx_base.specs.Fault.{fault_at};
+ghost use Rattle.fx_base.specs.declared.fault.Place.TheVariants as faults;
+ghost use Rattle.fx_machine.specs.Classes as traffic;
+ghost use Rattle.fx_machine.specs.Network as network;
+ghost use Rattle.fx_machine.specs.States as states;
+ghost use Rattle.fx_machine.specs.Steps as steps;
+ghost use Rattle.fx_machine.specs.declared.packet.Packet as of_packet;
+
+use crate::lookup::numbered;
+use crate::net::Net;
+use crate::packet::Packet;
+use crate::record::Record;
+use crate::step::Step;
+use crate::store::Store;
+use crate::traffic::{Class, Classes};
+use fx_base::Fault;
+use std::alloc::Global;
+use std::marker::Model;
+
+/// A network in a run: what it holds, and what it runs on.
+#[derive(Debug, Drop)]
+pub struct State<'a> {
+    alloc: Global,
+    net: &'a Net,
+    classes: &'a Classes,
+    packets: Vec<Packet>,
+    store: Store,
+}
+
+impl<'a> Model for State<'a> {
+    ghost use Rattle.fx_machine.specs.Stores as stores;
+
+    ghost Value = { stores.Running };
+
+    ghost view = { λ s. record {
+      net = s.net.now;
+      classes = s.classes.now;
+      packets = s.packets.items;
+      state = s.store;
+    } };
+}
+
+/// Whether a packet is of its class and has one of its paths.
+fn is_of(classes: &[Class], packet: &Packet) -> bool
+    ensures { IsTrue result ↔ traffic.IsOf packet.now (network.numbered classes.now packet.now.class) }
+{
+    match numbered(classes, packet.class) {
+        None => false,
+        Some(class) => {
+            let region = class.region();
+            region.holds(&packet.fields) && numbered(class.paths(), packet.path).is_some()
+        }
+    }
+}
+
+/// Whether all packets are of their classes.
+fn all_of(classes: &[Class], packets: &[Packet]) -> bool
+    ensures { IsTrue result ↔ All (λ packet. traffic.IsOf packet (network.numbered classes.now packet.class)) packets.now }
+{
+    packets.iter().all(|packet| is_of(classes, packet))
+}
+
+impl<'a> State<'a> {
+    /// The opening of a run over these packets: all their crossings are to come, and nothing is held or on a
+    /// link.
+    ///
+    /// Fails with 856, at no place, where a packet isn't in its class: its class or path isn't there, or the
+    /// class's region doesn't hold its fields; and with 900 for want of memory.
+    pub fn open(
+        alloc: Global,
+        net: &'a Net,
+        classes: &'a Classes,
+        packets: Vec<Packet>,
+    ) -> Result<State<'a>, Fault>
+        ensures ok { IfOk result (λ run. (run ≡ record { net = net.now; classes = classes.now; packets = packets.items; state = states.opening net.now classes.now packets.items })
+            × All (λ packet. traffic.IsOf packet (network.numbered classes.now packet.class)) packets.items) }
+        ensures err { IfErr result (λ e. ((e ≡ fault_at 856 faults.None) × (All (λ packet. traffic.IsOf packet (network.numbered classes.now packet.class)) packets.items → ⊥))
+            ⊎ ((e ≡ fault_at 900 faults.None) × All (λ packet. traffic.IsOf packet (network.numbered classes.now packet.class)) packets.items)) }
+    {
+        if !all_of(classes.as_slice(), packets.as_slice()) {
+            return Err(Fault::bare(856));
+        }
+        let store = Store::open(alloc, net, classes.as_slice(), packets.as_slice())?;
+        Ok(State {
+            alloc,
+            net,
+            classes,
+            packets,
+            store,
+        })
+    }
+
+    /// The network that it runs over.
+    pub fn net(&self) -> &Net
+        ensures { result.now ≡ self.now.net }
+    {
+        self.net
+    }
+
+    /// Makes a step, with the choices that are written in it.
+    ///
+    /// Fails, at no place, with 851 where there is no such packet, crossing, holder or link, or the crossing
+    /// was made; else with 853 where no record is at that position; else with 852 where the choices aren't as
+    /// many as needed, or a chosen destination or held record isn't there or has another key; and with 900
+    /// for want of memory. After a fault the state is what it was.
+    pub fn step(&mut self, step: &Step) -> Result<(), Fault>
+        ensures ok { OnOk result ((s : states.State) → self.old.state ≡ states.told s → (next : states.State)
+            × (steps.after self.old.net self.old.classes self.old.packets step.now s ≡ Ok next)
+            × (self.new.state ≡ states.told next)) }
+        ensures tables { (self.new.net ≡ self.old.net) × (self.new.classes ≡ self.old.classes) × (self.new.packets ≡ self.old.packets) }
+        ensures same { OnErr result (self.new ≡ self.old) }
+        ensures err { IfErr result (λ e. (e.place ≡ faults.None) × ((e.number ≡ 900) ⊎ ((s : states.State) → self.old.state ≡ states.told s
+            → steps.after self.old.net self.old.classes self.old.packets step.now s ≡ Err e.number))) }
+    {
+        match step {
+            Step::Cross {
+                packet,
+                crossing,
+                choices,
+            } => self.store.cross(
+                self.alloc,
+                self.net,
+                self.classes.as_slice(),
+                self.packets.as_slice(),
+                *packet,
+                *crossing,
+                choices.as_slice(),
+            ),
+            Step::Expire {
+                holder,
+                position,
+                choices,
+            } => self.store.expire(
+                self.alloc,
+                self.net,
+                *holder,
+                *position,
+                choices.as_slice(),
+            ),
+            Step::Arrive {
+                link,
+                position,
+                choices,
+            } => self.store.arrive(
+                self.alloc,
+                self.net,
+                *link,
+                *position,
+                choices.as_slice(),
+            ),
+        }
+    }
+
+    /// Whether the run is complete: no crossing to come, nothing held, nothing on a link.
+    pub fn complete(&self) -> bool
+        ensures { IsTrue result ↔ states.Complete self.now.state }
+    {
+        self.store.complete()
+    }
+
+    /// The totals of the keys tallied so far under the report's layout, in the order of their first tallies.
+    pub fn totals(&self) -> &[Record]
+        ensures { result.now ≡ self.now.state.totals }
+    {
+        self.store.totals()
+    }
+
+    /// The number of records that couldn't be tallied, modulo 2 to the 64.
+    pub fn unassigned(&self) -> u64
+        ensures { result ≡ self.now.state.unassigned }
+    {
+        self.store.unassigned()
+    }
+}

@@ -1,0 +1,317 @@
+//! What a network holds.
+ghost use Rattle.std.specs.Prelude.{◌≡◌, ◌⊎◌, ◌&&◌, [], Ok, Err, OnOk, OnErr, IfOk, IfErr, map, replicate, IsTrue, ◌↔◌};
+ghost use Rattle.fx_base.specs.declared.fault.Place.TheVariants as faults;
+ghost use Rattle.fx_machine.specs.Comings as comings;
+ghost use Rattle.fx_machine.specs.Holds as holds;
+ghost use Rattle.fx_machine.specs.Classes as traffic;
+ghost use Rattle.fx_machine.specs.Network as network;
+ghost use Rattle.fx_machine.specs.States as states;
+ghost use Rattle.fx_machine.specs.Steps as steps;
+ghost use Rattle.fx_machine.specs.Stores as stores;
+
+use crate::coming::{Marks, all_crossed, clear, is_to_come};
+use crate::handling::handling_at;
+use crate::holding::{Holding, give_all_back, hold_all};
+use crate::lookup::{entry_at, link_place, named_by, numbered};
+use crate::metering::met_holdings;
+use crate::net::Net;
+use crate::packet::Packet;
+use crate::record::{Record, Records};
+use crate::sending::{choices_from, chosen_links, put_all};
+use crate::step::HolderName;
+use crate::tallying::send_and_tally;
+use crate::traffic::{Class, Crossing};
+use fx_base::{Counts, Fault};
+use std::alloc::{AllocError, Global};
+use std::marker::Model;
+
+/// What a network holds: the crossings to come, the records at each holder and on each link, the totals, and
+/// the number of unassigned records modulo 2 to the 64.
+#[derive(Debug, Drop)]
+pub struct Store {
+    to_come: Vec<Marks>,
+    held: Vec<Records>,
+    carried: Vec<Records>,
+    totals: Vec<Record>,
+    unassigned: u64,
+}
+
+impl Model for Store {
+    ghost use Rattle.fx_machine.specs.Comings as comings;
+    ghost use Rattle.fx_machine.specs.States as states;
+
+    ghost Value = { states.State };
+
+    ghost view = { λ s. record {
+      coming = comings.coming_of 1 s.to_come.items;
+      held = s.held.items;
+      carried = s.carried.items;
+      totals = s.totals.items;
+      unassigned = s.unassigned;
+    } };
+}
+
+/// So many empty lists.
+fn empty_lists(alloc: Global, count: usize) -> Result<Vec<Records>, AllocError>
+    ensures { IfOk result (λ lists. lists.items ≡ replicate count []) }
+{
+    let mut lists: Vec<Records> = Vec::new(alloc);
+    for _place in 0..count {
+        lists.push(Records::new(alloc))?;
+    }
+    Ok(lists)
+}
+
+/// Whether all these lists are empty.
+fn all_empty(lists: &[Records]) -> bool
+    ensures { result ≡ states.all_empty lists.now }
+{
+    for records in lists {
+        if !records.is_empty() {
+            return false;
+        }
+    }
+    true
+}
+
+/// Whether nothing is to come, held or carried.
+fn nothing_left(to_come: &[Marks], held: &[Records], carried: &[Records]) -> bool
+    ensures { result ≡ (comings.all_crossed to_come.now && states.all_empty held.now && states.all_empty carried.now) }
+{
+    all_crossed(to_come) && all_empty(held) && all_empty(carried)
+}
+
+/// All crossings of these packets.
+fn all_to_come(
+    alloc: Global,
+    classes: &[Class],
+    packets: &[Packet],
+) -> Result<Vec<Marks>, AllocError>
+    ensures { IfOk result (λ to_come. comings.coming_of 1 to_come.items ≡ states.coming_from classes.now 1 packets.now) }
+{
+    let mut to_come: Vec<Marks> = Vec::new(alloc);
+    for packet in packets {
+        to_come.push(Marks::new(alloc, path_of(classes, packet).len())?)?;
+    }
+    Ok(to_come)
+}
+
+/// The record of this number leaves the list at this place.
+fn take_out_at(lists: &mut Vec<Records>, place: usize, number: u64)
+    ensures { lists.new.items ≡ stores.taken_out lists.old.items place number }
+{
+    if place < lists.len() {
+        let records = &mut lists[place];
+        records.take_out(number);
+    }
+}
+
+/// The crossings that a packet makes.
+pub fn path_of<'a>(classes: &'a [Class], packet: &Packet) -> &'a [Crossing]
+    ensures { result.now ≡ traffic.path classes.now packet.now }
+{
+    match numbered(classes, packet.class) {
+        None => &[],
+        Some(class) => match numbered(class.paths(), packet.path) {
+            None => &[],
+            Some(path) => path.as_slice(),
+        },
+    }
+}
+
+/// The caches that meter a packet at a crossing of its path, and the keys that it has there.
+fn crossing_holdings(
+    alloc: Global,
+    net: &Net,
+    classes: &[Class],
+    packet: &Packet,
+    crossing: u64,
+) -> Result<Vec<Holding>, AllocError>
+    ensures { IfOk result (λ holdings. map holds.hold_act holdings.items ≡ steps.crossing_acts net.now packet.now.fields (network.numbered (traffic.path classes.now packet.now) crossing)) }
+{
+    let Some(found) = numbered(path_of(classes, packet), crossing) else {
+        return Ok(Vec::new(alloc));
+    };
+    let occurrences = net.occurrences(alloc, found, &packet.fields)?;
+    met_holdings(
+        alloc,
+        net.holders(),
+        occurrences.as_slice(),
+        &packet.fields,
+    )
+}
+
+impl Store {
+    /// All crossings to come, and nothing else.
+    pub fn open(
+        alloc: Global,
+        net: &Net,
+        classes: &[Class],
+        packets: &[Packet],
+    ) -> Result<Store, AllocError>
+        ensures { IfOk result (λ store. store ≡ states.opening net.now classes.now packets.now) }
+    {
+        Ok(Store {
+            to_come: all_to_come(alloc, classes, packets)?,
+            held: empty_lists(alloc, net.holders().len())?,
+            carried: empty_lists(alloc, net.links().len())?,
+            totals: Vec::new(alloc),
+            unassigned: 0,
+        })
+    }
+
+    /// Whether no crossing is to come, nothing is held and nothing is on a link.
+    pub fn complete(&self) -> bool
+        ensures { IsTrue result ↔ states.Complete self.now }
+    {
+        nothing_left(
+            self.to_come.as_slice(),
+            self.held.as_slice(),
+            self.carried.as_slice(),
+        )
+    }
+
+    /// The totals.
+    pub fn totals(&self) -> &[Record]
+        ensures { result.now ≡ self.now.totals }
+    {
+        self.totals.as_slice()
+    }
+
+    /// The number of unassigned records, modulo 2 to the 64.
+    pub fn unassigned(&self) -> u64
+        ensures { result ≡ self.now.unassigned }
+    {
+        self.unassigned
+    }
+
+    /// A packet makes a crossing, and the caches there meter it.
+    pub fn cross(
+        &mut self,
+        alloc: Global,
+        net: &Net,
+        classes: &[Class],
+        packets: &[Packet],
+        packet: u64,
+        crossing: u64,
+        choices: &[Option<u64>],
+    ) -> Result<(), Fault>
+        ensures ok { OnOk result ((s : states.State) → self.old ≡ states.told s → (next : states.State)
+            × (steps.after_cross net.now classes.now (network.numbered packets.now packet) (steps.place s.coming packet crossing) crossing s choices.now ≡ Ok next)
+            × (self.new ≡ states.told next)) }
+        ensures same { OnErr result (self.new ≡ self.old) }
+        ensures err { IfErr result (λ e. (e.place ≡ faults.None) × ((e.number ≡ 900) ⊎ ((s : states.State) → self.old ≡ states.told s
+            → steps.after_cross net.now classes.now (network.numbered packets.now packet) (steps.place s.coming packet crossing) crossing s choices.now ≡ Err e.number))) }
+    {
+        if !is_to_come(self.to_come.as_slice(), packet, crossing) {
+            return Err(Fault::bare(851));
+        }
+        let Some(found) = numbered(packets, packet) else {
+            return Err(Fault::bare(851));
+        };
+        let counts = Counts {
+            packets: 1,
+            octets: found.octets,
+        };
+        let holdings = crossing_holdings(alloc, net, classes, found, crossing)?;
+        hold_all(
+            alloc,
+            &mut self.held,
+            holdings.as_slice(),
+            &counts,
+            choices,
+        )?;
+        clear(&mut self.to_come, packet, crossing);
+        Ok(())
+    }
+
+    /// A record leaves a holder and is exported.
+    pub fn expire(
+        &mut self,
+        alloc: Global,
+        net: &Net,
+        holder: HolderName,
+        number: u64,
+        choices: &[Option<u64>],
+    ) -> Result<(), Fault>
+        ensures ok { OnOk result ((s : states.State) → self.old ≡ states.told s → (next : states.State)
+            × (steps.expire_at net.now (network.holder_place net.now holder) number s choices.now ≡ Ok next)
+            × (self.new ≡ states.told next)) }
+        ensures same { OnErr result (self.new ≡ self.old) }
+        ensures err { IfErr result (λ e. (e.place ≡ faults.None) × ((e.number ≡ 900) ⊎ ((s : states.State) → self.old ≡ states.told s
+            → steps.expire_at net.now (network.holder_place net.now holder) number s choices.now ≡ Err e.number))) }
+    {
+        let Some(place) = net.holder_place(holder) else {
+            return Err(Fault::bare(851));
+        };
+        let Some(records) = entry_at(self.held.as_slice(), place) else {
+            return Err(Fault::bare(851));
+        };
+        let Some(found) = records.numbered(number) else {
+            return Err(Fault::bare(853));
+        };
+        let entry = found.copy();
+        let exporters = named_by(net.holders(), place);
+        let (links, used) = chosen_links(alloc, net.exporters(), exporters, choices)?;
+        if used < choices.len() {
+            return Err(Fault::bare(852));
+        }
+        if let Err(_) = put_all(&mut self.carried, links.as_slice(), &entry) {
+            return Err(Fault::bare(900));
+        }
+        take_out_at(&mut self.held, place, number);
+        Ok(())
+    }
+
+    /// A record leaves a link and is handled by the collecting process to which the link leads.
+    pub fn arrive(
+        &mut self,
+        alloc: Global,
+        net: &Net,
+        link: u64,
+        number: u64,
+        choices: &[Option<u64>],
+    ) -> Result<(), Fault>
+        ensures ok { OnOk result ((s : states.State) → self.old ≡ states.told s → (next : states.State)
+            × (steps.arrive_at net.now (steps.link_place link) number s choices.now ≡ Ok next)
+            × (self.new ≡ states.told next)) }
+        ensures same { OnErr result (self.new ≡ self.old) }
+        ensures err { IfErr result (λ e. (e.place ≡ faults.None) × ((e.number ≡ 900) ⊎ ((s : states.State) → self.old ≡ states.told s
+            → steps.arrive_at net.now (steps.link_place link) number s choices.now ≡ Err e.number))) }
+    {
+        let Some(place) = link_place(link) else {
+            return Err(Fault::bare(851));
+        };
+        let Some(records) = entry_at(self.carried.as_slice(), place) else {
+            return Err(Fault::bare(851));
+        };
+        let Some(found) = records.numbered(number) else {
+            return Err(Fault::bare(853));
+        };
+        let entry = found.copy();
+        let handling = handling_at(alloc, net, place, &entry.key)?;
+        let (links, used) = chosen_links(alloc, net.exporters(), handling.exporters, choices)?;
+        let left = choices_from(choices, used);
+        let log = hold_all(
+            alloc,
+            &mut self.held,
+            handling.holdings.as_slice(),
+            &entry.counts,
+            left,
+        )?;
+        if let Err(_) = send_and_tally(
+            &mut self.carried,
+            &mut self.totals,
+            &mut self.unassigned,
+            links.as_slice(),
+            handling.tallies,
+            net.report_layout(),
+            &entry,
+        ) {
+            give_all_back(&mut self.held, log.as_slice());
+            return Err(Fault::bare(900));
+        }
+        take_out_at(&mut self.carried, place, number);
+        Ok(())
+    }
+}

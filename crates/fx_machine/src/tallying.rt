@@ -1,0 +1,101 @@
+//! Records are tallied.
+ghost use Rattle.std.specs.Prelude.{◌≡◌, ◌%◌, ◌^◌, ℕ, length, IfSome, IfNone, OnOk, OnErr};
+ghost use Rattle.fx_machine.specs.Places as places;
+ghost use Rattle.fx_machine.specs.Sends as sends;
+ghost use Rattle.fx_machine.specs.States as states;
+ghost use Rattle.fx_machine.specs.Tallies as sums;
+
+use crate::record::{Record, Records};
+use crate::sending::{put_all, take_all_back};
+use fx_base::Counts;
+use fx_layout::{Key, Layout};
+use std::alloc::AllocError;
+
+/// The first place of the key.
+fn place_of(totals: &[Record], key: &Key) -> Option<usize>
+    ensures some { IfSome result (λ n. places.FirstAt n totals.now key.now) }
+    ensures none { IfNone result (places.NoneBefore (length totals.now) totals.now key.now) }
+{
+    for place in 0..totals.len() {
+        if totals[place].key.same(key) {
+            return Some(place);
+        }
+    }
+    None
+}
+
+/// The counts are added at the key, or stand there for the first time.
+fn add_at(totals: &mut Vec<Record>, key: Key, counts: &Counts) -> Result<(), AllocError>
+    ensures ok { OnOk result (totals.new.items ≡ states.add_at totals.old.items key counts.now) }
+    ensures err { OnErr result (totals.new.items ≡ totals.old.items) }
+{
+    if let Some(place) = place_of(totals, &key) {
+        let total = &mut totals[place];
+        total.counts = total.counts.add(counts);
+        return Ok(());
+    }
+    totals.push(Record {
+        key,
+        counts: *counts,
+    })?;
+    Ok(())
+}
+
+/// A record is tallied under the projected key, or counted as unassigned where its layout doesn't refine this.
+pub fn tally(
+    totals: &mut Vec<Record>,
+    unassigned: &mut u64,
+    layout: &Layout,
+    entry: &Record,
+) -> Result<(), AllocError>
+    ensures ok { OnOk result ((totals.new.items ≡ sums.totals_with layout.now entry.now.key entry.now.counts totals.old.items)
+        × ((u : ℕ) → unassigned.old ≡ u % 2 ^ 64 → unassigned.new ≡ sums.unassigned_with layout.now entry.now.key u % 2 ^ 64)) }
+    ensures err { OnErr result ((totals.new.items ≡ totals.old.items) × (unassigned.new ≡ unassigned.old)) }
+{
+    match entry.key.project(layout) {
+        Some(key) => add_at(totals, key, &entry.counts)?,
+        None => *unassigned = unassigned.wrapping_add(1),
+    }
+    Ok(())
+}
+
+/// A record is tallied, if it is to be.
+pub fn tally_if(
+    tallies: bool,
+    totals: &mut Vec<Record>,
+    unassigned: &mut u64,
+    layout: &Layout,
+    entry: &Record,
+) -> Result<(), AllocError>
+    ensures ok { OnOk result ((totals.new.items ≡ sums.totals_when tallies layout.now entry.now.key entry.now.counts totals.old.items)
+        × ((u : ℕ) → unassigned.old ≡ u % 2 ^ 64 → unassigned.new ≡ sums.unassigned_when tallies layout.now entry.now.key u % 2 ^ 64)) }
+    ensures err { OnErr result ((totals.new.items ≡ totals.old.items) × (unassigned.new ≡ unassigned.old)) }
+{
+    if tallies {
+        tally(totals, unassigned, layout, entry)?;
+    }
+    Ok(())
+}
+
+/// A record comes last on each of these links and is tallied, if it is to be; or neither.
+pub fn send_and_tally(
+    carried: &mut Vec<Records>,
+    totals: &mut Vec<Record>,
+    unassigned: &mut u64,
+    links: &[usize],
+    tallies: bool,
+    layout: &Layout,
+    entry: &Record,
+) -> Result<(), AllocError>
+    ensures ok { OnOk result ((carried.new.items ≡ sends.put_all links.now entry.now carried.old.items)
+        × (totals.new.items ≡ sums.totals_when tallies layout.now entry.now.key entry.now.counts totals.old.items)
+        × ((u : ℕ) → unassigned.old ≡ u % 2 ^ 64 → unassigned.new ≡ sums.unassigned_when tallies layout.now entry.now.key u % 2 ^ 64)) }
+    ensures err { OnErr result ((carried.new.items ≡ carried.old.items) × (totals.new.items ≡ totals.old.items) × (unassigned.new ≡ unassigned.old)) }
+{
+    put_all(carried, links, entry)?;
+    if let Err(error) = tally_if(tallies, totals, unassigned, layout, entry) {
+        take_all_back(carried, links, entry);
+        return Err(error);
+    }
+    Ok(())
+}
