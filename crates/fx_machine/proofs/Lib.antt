@@ -5,3 +5,8 @@ pub mod Crossings
 pub mod Stepping
 pub mod Choosing
 pub mod Rows
+pub mod RunWords
+pub mod RunWordTexts
+pub mod RunLines
+pub mod RunStepTexts
+pub mod RunTexts

@@ -15,3 +15,6 @@ pub mod Handling
 pub mod Comings
 pub mod Tallies
 pub mod Stores
+pub mod RunText
+pub mod RunWords
+pub mod RunReading

@@ -12,6 +12,10 @@ mod net;
 mod observation;
 mod packet;
 mod record;
+mod run;
+mod run_line;
+mod run_reading;
+mod run_words;
 mod sending;
 mod state;
 mod step;
@@ -24,7 +28,13 @@ pub use laws::choices_are_free;
 pub use net::{Aggregation, Device, Holder, MatchEntry, Net, Process};
 pub use observation::{Occurrence, Point, Selection};
 pub use packet::Packet;
-pub use record::Record;
 pub use state::State;
+pub use record::Record;
+pub use run::Run;
+pub use run_line::{RunLine, read_run_line};
+pub use run_reading::{read_run, run_texts};
 pub use step::{Choices, HolderName, Step};
 pub use traffic::{Class, Classes, Crossing, Path};
+
+#[cfg(test)]
+mod run_tests;

@@ -1,0 +1,111 @@
+//! Reading the text of a run.
+ghost use Rattle.std.specs.Prelude.{◌≡◌, ◌⊎◌, ◌<◌, ℕ, List, Ok, Err, None, Some, IfOk, IfErr, OnOk, OnErr, IfSome};
+ghost use Rattle.fx_base.specs.Fault.{fault_at};
+ghost use Rattle.fx_base.specs.Lines.{text_lines, budget};
+ghost use Rattle.fx_base.specs.declared.fault.Place.TheVariants as places;
+ghost use Rattle.fx_machine.specs.Classes.{Class};
+ghost use Rattle.fx_machine.specs.RunText.{Run, run_text, run_lines, IsRun, AreShort};
+ghost use Rattle.fx_machine.specs.RunReading.{no_run, reading, run_reading, behind_reading, line_reading, Fails};
+
+use crate::run::Run;
+use crate::run_line::{RunLine, read_run_line};
+use crate::run_words::is_word;
+use crate::traffic::Classes;
+use fx_base::{Fault, LineReader, Source};
+use std::alloc::Global;
+
+/// Goes past the first line.
+fn read_first<R: Source>(lines: &mut LineReader<R>) -> Result<(), Fault>
+    ensures going { OnOk result (lines.new.stopped ≡ None) }
+    ensures ok { OnOk result ((classes : List Class) → run_reading classes lines.old ≡ behind_reading classes lines.new no_run) }
+    ensures err { IfErr result (λ e. Fails lines.old lines.new e ⊎ ((classes : List Class) → IfSome (run_reading classes lines.old) (λ r. r ≡ Err e))) }
+{
+    if !lines.advance()? {
+        return Err(Fault::at_line(855, lines.number().saturating_add(1)));
+    }
+    let line = lines.line();
+    if line.ended && is_word(line.bytes, b"once-run 1") {
+        Ok(())
+    } else {
+        Err(Fault::at_line(854, line.number))
+    }
+}
+
+/// Reads the next line.
+fn read_next<R: Source>(alloc: Global, lines: &mut LineReader<R>) -> Result<RunLine, Fault>
+    requires { lines.old.stopped ≡ None }
+    ensures going { OnOk result (lines.new.stopped ≡ None) }
+    ensures ok { IfOk result (λ x. (classes : List Class) (run : Run) → behind_reading classes lines.old run ≡ line_reading classes lines.new run (Ok x)) }
+    ensures smaller { OnOk result (budget lines.new < budget lines.old) }
+    ensures err { IfErr result (λ e. (e ≡ fault_at 900 places.None) ⊎ (Fails lines.old lines.new e ⊎ ((classes : List Class) (run : Run) → IfSome (behind_reading classes lines.old run) (λ r. r ≡ Err e)))) }
+{
+    if !lines.advance()? {
+        return Err(Fault::at_line(855, lines.number().saturating_add(1)));
+    }
+    let line = lines.line();
+    if !line.ended {
+        return Err(Fault::at_line(855, line.number));
+    }
+    match read_run_line(alloc, line.bytes)? {
+        Some(x) => Ok(x),
+        None => Err(Fault::at_line(855, line.number)),
+    }
+}
+
+/// Goes past the text's end, which comes behind the last line.
+fn read_end<R: Source>(lines: &mut LineReader<R>) -> Result<(), Fault>
+    requires { lines.old.stopped ≡ None }
+    ensures ok { OnOk result ((classes : List Class) (run : Run) → IfSome (line_reading classes lines.old run (Ok RunLine.End)) (λ r. r ≡ Ok run)) }
+    ensures err { IfErr result (λ e. Fails lines.old lines.new e ⊎ ((classes : List Class) (run : Run) → IfSome (line_reading classes lines.old run (Ok RunLine.End)) (λ r. r ≡ Err e))) }
+{
+    if lines.advance()? {
+        return Err(Fault::at_line(855, lines.number()));
+    }
+    Ok(())
+}
+
+/// Reads a run from its text, which begins with the next line and ends with the last.
+///
+/// The text is a line `once-run 1`; a line `packet CLASS PATH SOURCE DESTINATION PROTOCOL SOURCE-PORT
+/// DESTINATION-PORT CLASS-OF-SERVICE OCTETS` for each packet, with addresses as dotted quads; a line for each
+/// step, which is `cross PACKET CROSSING CHOICES`, `expire cache DEVICE CACHE POSITION CHOICES`,
+/// `expire aggregation DEVICE PROCESS AGGREGATION POSITION CHOICES` or `arrive LINK POSITION CHOICES`; and a
+/// line `end`. One space stands between two words, a line feed ends each line, and numbers are decimal without
+/// leading zeros, below 2 to the 64 or within their axis. A choice is `n`, a new record, or a number.
+///
+/// Fails, at the first line where something is wrong, with 854 where the first line isn't `once-run 1`, 855
+/// where a later line isn't well-formed, is a packet behind a step, comes behind `end`, or is missing, and 856
+/// where a packet's class or path doesn't exist or its fields aren't in the class's region. Fails as the reader
+/// of lines does where that stands, and with 900, at no place, for want of memory.
+pub fn read_run<R: Source>(
+    alloc: Global,
+    classes: &Classes,
+    lines: &mut LineReader<R>,
+) -> Result<Run, Fault>
+    ensures ok { IfOk result (λ run. IfSome (run_reading classes.now lines.old) (λ r. r ≡ Ok run)) }
+    ensures err { IfErr result (λ e. (e ≡ fault_at 900 places.None) ⊎ (Fails lines.old lines.new e ⊎ IfSome (run_reading classes.now lines.old) (λ r. r ≡ Err e))) }
+{
+    read_first(lines)?;
+    let mut run = Run::new(alloc);
+    'lines: loop {
+        match read_next(alloc, lines)? {
+            RunLine::Packet(packet) => {
+                if let Some(number) = run.fault_of_packet(classes, &packet) {
+                    return Err(Fault::at_line(number, lines.number()));
+                }
+                run.add_packet(packet)?;
+            }
+            RunLine::Step(step) => run.add_step(step)?,
+            RunLine::End => {
+                read_end(lines)?;
+                return Ok(run);
+            }
+        }
+    }
+}
+
+/// The text of a run whose lines have at most 4,096 bytes is read as that run, and no other text is.
+pub fn run_texts()
+    ensures read { (classes : List Class) (run : Run) (n : ℕ) → IsRun classes run → AreShort (run_lines run) → reading classes n (text_lines (run_text run)) ≡ Ok run }
+    ensures only { (classes : List Class) (text : List ℕ) (run : Run) (n : ℕ) → reading classes n (text_lines text) ≡ Ok run → (text ≡ run_text run) × IsRun classes run × AreShort (run_lines run) }
+{}

@@ -1,0 +1,85 @@
+//! The words of a line of a run's text.
+ghost use Rattle.std.specs.Prelude.{◌≡◌, ◌≤◌, slice_index, IfSome, option_map};
+ghost use Rattle.std.specs.Str.{bytes_eq};
+ghost use Rattle.fx_elements.specs.Axes.{axis_index, tops};
+ghost use Rattle.fx_elements.specs.Spelling.{number_of};
+ghost use Rattle.fx_machine.specs.RunText.{largest};
+ghost use Rattle.fx_machine.specs.RunReading.{words, none_left, first_word, number_first, value_first};
+
+use fx_elements::{Axis, cut, read_number, read_on};
+use std::marker::Model;
+
+/// The words of a line that are still to be read. One space stands between two of them.
+#[derive(Drop)]
+pub(crate) struct Words<'a> {
+    rest: Option<&'a [u8]>,
+}
+
+impl<'a> Model for Words<'a> {
+    ghost use Rattle.std.specs.Prelude.{List, ℕ};
+    ghost use Rattle.fx_machine.specs.RunWords.{words_left};
+
+    ghost Value = { List (List ℕ) };
+
+    ghost view = { λ w. words_left w.rest };
+}
+
+impl<'a> Words<'a> {
+    /// The words of a line.
+    pub(crate) fn new(line: &'a [u8]) -> Words<'a>
+        ensures { result ≡ words line.now }
+    {
+        Words { rest: Some(line) }
+    }
+
+    /// The first word, and the words behind it.
+    pub(crate) fn word(self) -> Option<(&'a [u8], Words<'a>)>
+        ensures { option_map (λ p. (p.0.now, p.1)) result ≡ first_word self.entry }
+    {
+        let text = self.rest?;
+        match cut(text, b' ') {
+            Some((word, rest)) => Some((word, Words { rest: Some(rest) })),
+            None => Some((text, Words { rest: None })),
+        }
+    }
+
+    /// The number in the first word, below 2 to the 64, and the words behind it.
+    pub(crate) fn number(self) -> Option<(u64, Words<'a>)>
+        ensures { result ≡ number_first self.entry }
+    {
+        let (word, rest) = self.word()?;
+        let number = read_whole(word)?;
+        Some((number, rest))
+    }
+
+    /// The value on the axis in the first word, and the words behind it.
+    pub(crate) fn value(self, axis: Axis) -> Option<(u128, Words<'a>)>
+        ensures value { result ≡ value_first axis self.entry }
+        ensures bound { IfSome result (λ p. p.0 ≤ slice_index tops (axis_index axis)) }
+    {
+        let (word, rest) = self.word()?;
+        let value = read_on(axis, word)?;
+        Some((value, rest))
+    }
+
+    /// Whether no word is left.
+    pub(crate) fn is_empty(self) -> bool
+        ensures { result ≡ none_left self.entry }
+    {
+        self.rest.is_none()
+    }
+}
+
+/// A number below 2 to the 64.
+pub(crate) fn read_whole(word: &[u8]) -> Option<u64>
+    ensures { result ≡ number_of largest word.now }
+{
+    Some(read_number(word, 0xffff_ffff_ffff_ffff)? as u64)
+}
+
+/// Whether two words are the same.
+pub(crate) fn is_word(word: &[u8], other: &[u8]) -> bool
+    ensures { result ≡ bytes_eq word.now other.now }
+{
+    word == other
+}
