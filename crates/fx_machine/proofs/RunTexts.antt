@@ -79,9 +79,13 @@ plain_stop = (λ e. absurd cc, λ e. absurd cc)
 
 quad_plain : (v : ℕ) → v ≤ 4294967295 → IsWord (quad v)
 quad_plain v le =
-    plain_append (decimal (v / 2 ^ 24)) _ (number_plain _ (omega arith)) (plain_stop,
-    plain_append (decimal (v / 2 ^ 16 % 256)) _ (number_plain _ (omega arith)) (plain_stop,
-    plain_append (decimal (v / 2 ^ 8 % 256)) _ (number_plain _ (omega arith)) (plain_stop, number_plain (v % 256) (omega arith))))
+    plain_append (decimal (v / 2 ^ 24)) _ (number_plain _ (omega arith)) (
+      plain_stop,
+      plain_append (decimal (v / 2 ^ 16 % 256)) _ (number_plain _ (omega arith)) (
+        plain_stop,
+        plain_append (decimal (v / 2 ^ 8 % 256)) _ (number_plain _ (omega arith)) (plain_stop, number_plain (v % 256) (omega arith)),
+      ),
+    )
 
 words_append : (a b : Words) → AreWords a → AreWords b → AreWords (a ++ b)
 words_append [] b h k = k
@@ -243,7 +247,7 @@ packets_read : (classes : List Class) (ps : List Packet) (ss : List Step) (n : �
 packets_read classes [] ss n qs of are short = steps_read classes ss n (record { packets = qs; steps = [] }) are short ∙ ap (λ (x : List Packet). Ok (record { packets = x; steps = ss })) (sym (append-nil qs))
 packets_read classes (p ∷ ps) ss n qs of are short =
     rw (says_packet p of.0.0 short.0, of_true p (numbered classes p.class) of.0.1)
-      (packets_read classes ps ss (next_number n) (qs ++ p ∷ []) of.1 are short.1 ∙ ap (λ (x : List Packet). Ok (record { packets = x; steps = ss })) (append_assoc qs (p ∷ []) ps))
+    (packets_read classes ps ss (next_number n) (qs ++ p ∷ []) of.1 are short.1 ∙ ap (λ (x : List Packet). Ok (record { packets = x; steps = ss })) (append_assoc qs (p ∷ []) ps))
 
 packets_lines : (classes : List Class) (ps : List Packet) (ss : List Step) → AllByRecursion (IsPacketOf classes) ps → AllByRecursion IsStep ss → AllByRecursion IsLine (packet_lines ps ss)
 packets_lines classes [] [] of are = (line_join last_words (written (codes "end") refl, tt), tt)

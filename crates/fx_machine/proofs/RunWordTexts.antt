@@ -97,7 +97,7 @@ fields_parts : (a b c d e f : ℕ) (ws w1 w2 w3 w4 w5 rest : Words) (r : Fields 
     → (a ∷ b ∷ c ∷ d ∷ e ∷ f ∷ [], rest) ≡ r → (ws ≡ field_words r.0 ++ r.1) × IsFields r.0 × (length r.0 ≡ axis_count)
 fields_parts a b c d e f ws w1 w2 w3 w4 w5 rest r ha hb hc hd he hf is =
     subst (λ (r : Fields × Words). (ws ≡ field_words r.0 ++ r.1) × IsFields r.0 × (length r.0 ≡ axis_count)) is
-      (rw (ha.0, hb.0, hc.0, hd.0, he.0, hf.0) refl, all_on_axes a b c d e f ha.1 hb.1 hc.1 hd.1 he.1 hf.1, refl)
+    (rw (ha.0, hb.0, hc.0, hd.0, he.0, hf.0) refl, all_on_axes a b c d e f ha.1 hb.1 hc.1 hd.1 he.1 hf.1, refl)
 
 fields_found : (ws : Words) (r : Fields × Words) → fields_first ws ≡ Some r → (ws ≡ field_words r.0 ++ r.1) × IsFields r.0 × (length r.0 ≡ axis_count)
 unfolding fields_first
@@ -114,7 +114,7 @@ packet_parts : (ws w1 w2 w3 w4 : Words) (class path octets : ℕ) (fields : Fiel
     → (codes "packet" ∷ ws ≡ packet_words p) × IsPacket p
 packet_parts ws w1 w2 w3 w4 class path octets fields p hc hp hf ho end is =
     subst (λ (p : Packet). (codes "packet" ∷ ws ≡ packet_words p) × IsPacket p) is
-      (rw (hc.0, hp.0, hf.0, ho.0, end) refl, (hf.2, hf.1, hc.1, hp.1, ho.1))
+    (rw (hc.0, hp.0, hf.0, ho.0, end) refl, (hf.2, hf.1, hc.1, hp.1, ho.1))
 
 pub packet_found : (ws : Words) (p : Packet) → packet_of ws ≡ Some p → (codes "packet" ∷ ws ≡ packet_words p) × IsPacket p
 unfolding packet_of

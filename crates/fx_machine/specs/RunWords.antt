@@ -1,7 +1,6 @@
 -- The words of a line that are still to be read.
-use Rattle.std.specs.Prelude.{ℕ, List, [], Option, Some, None}
+use Rattle.std.specs.Prelude.{ℕ, ◌==◌, List, [], Option, Some, None}
 use Rattle.std.specs.List.{slice_split}
-use Rattle.std.specs.Prelude.{◌==◌}
 use denote.Ref.{Bor}
 
 -- those of the rest of a line, where there is a rest

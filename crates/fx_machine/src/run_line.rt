@@ -229,11 +229,7 @@ fn read_step(alloc: Global, kind: &[u8], words: Words<'_>) -> Result<Option<Step
 
 /// What a line of this kind says.
 #[tactic(auto, unfolding(crate::specs::RunReading::line_of_kind))]
-fn read_kind(
-    alloc: Global,
-    kind: &[u8],
-    words: Words<'_>,
-) -> Result<Option<RunLine>, AllocError>
+fn read_kind(alloc: Global, kind: &[u8], words: Words<'_>) -> Result<Option<RunLine>, AllocError>
     ensures { IfOk result (λ x. x ≡ line_of_kind kind.now words.entry) }
 {
     if is_word(kind, b"packet") {

@@ -41,7 +41,10 @@ fn reads_packets_and_steps(rt: HostRuntime) -> Result<(), Fail> {
     assert_eq!(rt; run.packets().len(), 2);
     assert_eq!(rt; run.packets()[0].octets, 18446744073709551614);
     assert_eq!(rt; run.packets()[1].octets, 1);
-    assert_eq!(rt; run.packets()[0].fields.array(), [0x0a00_0001, 0xc000_0201, 6, 1000, 80, 0]);
+    assert_eq!(rt;
+        run.packets()[0].fields.array(),
+        [0x0a00_0001, 0xc000_0201, 6, 1000, 80, 0]
+    );
     assert_eq!(rt; run.packets()[0].class, 1);
     assert_eq!(rt; run.packets()[0].path, 1);
     assert_eq!(rt; run.steps().len(), 4);
@@ -56,29 +59,63 @@ fn reads_packets_and_steps(rt: HostRuntime) -> Result<(), Fail> {
 
 #[test]
 fn reads_each_form_of_step(rt: HostRuntime) -> Result<(), Fail> {
-    let text = b"once-run 1\ncross 0 2\nexpire cache 3 4 5 n 6\nexpire aggregation 7 8 9 10 n\narrive 11 12 13\nend\n";
+    let text =
+        b"once-run 1\ncross 0 2\nexpire cache 3 4 5 n 6\nexpire aggregation 7 8 9 10 n\narrive 11 12 13\nend\n";
     let run = read(rt.alloc(), &web(rt.alloc())?, text)?;
     assert_eq!(rt; run.steps().len(), 4);
-    assert!(rt; matches!(&run.steps()[0], Step::Cross { packet: 0, crossing: 2, .. }));
-    let cache = HolderName::Cache { device: 3, cache: 4 };
+    assert!(rt;
+        matches!(
+            &run.steps()[0],
+            Step::Cross {
+                packet: 0,
+                crossing: 2,
+                ..
+            }
+        )
+    );
+    let cache = HolderName::Cache {
+        device: 3,
+        cache: 4,
+    };
     match &run.steps()[1] {
-        Step::Expire { holder, position, choices } => {
+        Step::Expire {
+            holder,
+            position,
+            choices,
+        } => {
             assert_eq!(rt; *holder, cache);
             assert_eq!(rt; *position, 5);
             assert_eq!(rt; choices.as_slice(), [None, Some(6)].as_slice());
         }
         _ => assert!(rt; false),
     }
-    let aggregation = HolderName::Aggregation { device: 7, process: 8, aggregation: 9 };
+    let aggregation = HolderName::Aggregation {
+        device: 7,
+        process: 8,
+        aggregation: 9,
+    };
     match &run.steps()[2] {
-        Step::Expire { holder, position, choices } => {
+        Step::Expire {
+            holder,
+            position,
+            choices,
+        } => {
             assert_eq!(rt; *holder, aggregation);
             assert_eq!(rt; *position, 10);
             assert_eq!(rt; choices.as_slice(), [None].as_slice());
         }
         _ => assert!(rt; false),
     }
-    assert!(rt; matches!(&run.steps()[3], Step::Arrive { link: 11, position: 12, .. }));
+    assert!(rt;
+        matches!(
+            &run.steps()[3],
+            Step::Arrive {
+                link: 11,
+                position: 12,
+                ..
+            }
+        )
+    );
     assert_eq!(rt; choices(&run.steps()[3]), [Some(13)].as_slice());
     Ok(())
 }
@@ -101,13 +138,41 @@ fn refuses_at_the_line(rt: HostRuntime) -> Result<(), Fail> {
         (b"once-run 1\n", 855, 2),
         (b"once-run 1\nend", 855, 2),
         (b"once-run 1\nend\nend\n", 855, 3),
-        (b"once-run 1\ncross 1 1\npacket 1 1 10.0.0.1 192.0.2.1 6 1000 80 0 1\nend\n", 855, 3),
-        (b"once-run 1\npacket 0 1 10.0.0.1 192.0.2.1 6 1000 80 0 1\nend\n", 856, 2),
-        (b"once-run 1\npacket 2 1 10.0.0.1 192.0.2.1 6 1000 80 0 1\nend\n", 856, 2),
-        (b"once-run 1\npacket 1 2 10.0.0.1 192.0.2.1 6 1000 80 0 1\nend\n", 856, 2),
-        (b"once-run 1\npacket 1 1 11.0.0.1 192.0.2.1 6 1000 80 0 1\nend\n", 856, 2),
-        (b"once-run 1\npacket 1 1 10.0.0.1 192.0.2.1 256 1000 80 0 1\nend\n", 855, 2),
-        (b"once-run 1\npacket 1 1 10.0.0.1 192.0.2.1 6 1000 80 0 1 1\nend\n", 855, 2),
+        (
+            b"once-run 1\ncross 1 1\npacket 1 1 10.0.0.1 192.0.2.1 6 1000 80 0 1\nend\n",
+            855,
+            3,
+        ),
+        (
+            b"once-run 1\npacket 0 1 10.0.0.1 192.0.2.1 6 1000 80 0 1\nend\n",
+            856,
+            2,
+        ),
+        (
+            b"once-run 1\npacket 2 1 10.0.0.1 192.0.2.1 6 1000 80 0 1\nend\n",
+            856,
+            2,
+        ),
+        (
+            b"once-run 1\npacket 1 2 10.0.0.1 192.0.2.1 6 1000 80 0 1\nend\n",
+            856,
+            2,
+        ),
+        (
+            b"once-run 1\npacket 1 1 11.0.0.1 192.0.2.1 6 1000 80 0 1\nend\n",
+            856,
+            2,
+        ),
+        (
+            b"once-run 1\npacket 1 1 10.0.0.1 192.0.2.1 256 1000 80 0 1\nend\n",
+            855,
+            2,
+        ),
+        (
+            b"once-run 1\npacket 1 1 10.0.0.1 192.0.2.1 6 1000 80 0 1 1\nend\n",
+            855,
+            2,
+        ),
         (b"once-run 1\ncross 01 1\nend\n", 855, 2),
         (b"once-run 1\ncross 1 18446744073709551616\nend\n", 855, 2),
         (b"once-run 1\ncross 1 1 \nend\n", 855, 2),
