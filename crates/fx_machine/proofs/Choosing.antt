@@ -1,5 +1,5 @@
 -- A step with its choices written is one of the moves, and each move is such a step.
-use Rattle.std.proofs.Common.{◌≡◌, ◌⊎◌, inl, inr, ℕ, zero, suc, Bool, true, false, cond, List, [], ◌∷◌, ◌++◌, map, Option, Some, None, Result, Ok, Err, refl, sym, ap, ap₂, ◌∙◌, subst, slice_get, slice_set, remove, append_assoc}
+use Rattle.std.proofs.Common.{◌≡◌, inl, inr, ℕ, zero, suc, true, false, cond, List, [], ◌∷◌, ◌++◌, Option, Some, None, Ok, refl, sym, ap, ap₂, ◌∙◌, slice_get, slice_set, remove}
 use Rattle.fx_base.specs.declared.counts.Counts.{Counts}
 use Rattle.fx_base.specs.Counts.{add_counts}
 use Rattle.fx_layout.specs.Keys.{Key, same_key}
@@ -11,8 +11,8 @@ use Rattle.fx_machine.specs.declared.step.Step.TheVariants.{Cross, Expire, Arriv
 use Rattle.fx_machine.specs.Network.{Net, Exporter, numbered, holder_place}
 use Rattle.fx_machine.specs.Classes.{Class, path}
 use Rattle.fx_machine.specs.States.{State, tallied, sent_to, sent_to_all, replaced, without}
-use Rattle.fx_machine.specs.Acts.{Choices, Act, Tally, Send, Hold, Made, Outcome, sent_to_chosen, send_by_choice, joined, taken_in, with_held, hold_in, hold, act, act_all, all_used, all_acts}
-use Rattle.fx_machine.specs.Steps.{one_packet, crossing_acts, leaving, arriving, place, cross_now, after_cross, after_expire, after_arrive, expire_from, expire_at, arrive_from, arrive_at, link_place, after}
+use Rattle.fx_machine.specs.Acts.{Choices, Act, Tally, Send, Hold, Made, sent_to_chosen, send_by_choice, joined, taken_in, with_held, hold_in, act, act_all, all_used}
+use Rattle.fx_machine.specs.Steps.{one_packet, crossing_acts, leaving, arriving, place, after_cross, after_expire, after_arrive, expire_from, expire_at, arrive_from, arrive_at, link_place, after}
 use Rattle.fx_machine.specs.Moves.{MaySend, MayTakeIn, MayDo, MayDoAll, Moves, crosses, expires, arrives}
 
 -- from the choices to the move

@@ -1,5 +1,5 @@
 -- A mark cleared is a crossing that leaves those to come.
-use Rattle.std.proofs.Common.{◌≡◌, ◌≢◌, ℕ, zero, suc, ◌+◌, ◌-◌, ◌<◌, ◌≤◌, ◌==◌, Bool, true, false, cond, ◌&&◌, List, [], ◌∷◌, ◌++◌, length, replicate, Option, Some, None, refl, sym, ap, ap₂, ◌∙◌, subst, arith, slice_get, slice_set, remove}
+use Rattle.std.proofs.Common.{◌≡◌, ◌≢◌, ℕ, zero, suc, ◌+◌, ◌<◌, ◌==◌, Bool, true, false, cond, ◌&&◌, List, [], ◌∷◌, ◌++◌, length, replicate, Some, None, refl, sym, ap, ap₂, ◌∙◌, subst, arith, slice_get, slice_set, remove}
 use Rattle.fx_layout.proofs.Projections.{and_true, and_both}
 use Rattle.fx_machine.specs.Network.{numbered, entries}
 use Rattle.fx_machine.specs.States.{Coming, replaced, crossings_from, coming_from, nothing_at, all_empty, Complete}
@@ -177,11 +177,10 @@ empties [] = refl
 empties (x ∷ xs) = ap (λ (yss : List (List Record)). [] ∷ yss) (empties xs)
 
 pub complete_is : (fs : List (List Bool)) (held carried : List (List Record)) (totals : List Record) (u : ℕ) (b : Bool) → b ≡ (all_crossed fs && all_empty held && all_empty carried) → (b ≡ true → Complete (record { coming = coming_of 1 fs; held = held; carried = carried; totals = totals; unassigned = u })) × (Complete (record { coming = coming_of 1 fs; held = held; carried = carried; totals = totals; unassigned = u }) → b ≡ true)
-complete_is fs held carried totals u b e =
-    (
-      λ h.
-        let both = and_true (all_crossed fs && all_empty held) (all_empty carried) (sym e ∙ h) in
-        let first = and_true (all_crossed fs) (all_empty held) both.0 in
-        record { crossed = crossed_all 1 fs first.0; nothing_held = first.1; nothing_carried = both.1 },
-      λ h. e ∙ and_both (all_crossed fs && all_empty held) (all_empty carried) (and_both (all_crossed fs) (all_empty held) (all_crossed_is 1 fs h.crossed) h.nothing_held) h.nothing_carried
-    )
+complete_is fs held carried totals u b e = (
+  λ h.
+      let both = and_true (all_crossed fs && all_empty held) (all_empty carried) (sym e ∙ h) in
+      let first = and_true (all_crossed fs) (all_empty held) both.0 in
+      record { crossed = crossed_all 1 fs first.0; nothing_held = first.1; nothing_carried = both.1 },
+  λ h. e ∙ and_both (all_crossed fs && all_empty held) (all_empty carried) (and_both (all_crossed fs) (all_empty held) (all_crossed_is 1 fs h.crossed) h.nothing_held) h.nothing_carried,
+)

@@ -1,10 +1,9 @@
 -- The machine's lists, place by place.
-use Rattle.std.proofs.Common.{◌≡◌, ◌≢◌, ℕ, zero, suc, ◌+◌, ◌-◌, ◌<◌, ◌≤◌, Bool, true, false, cond, List, [], ◌∷◌, ◌++◌, length, take, drop, set, get_or, MatchOption, Option, Some, None, append_assoc, append-nil, length-append, refl, sym, ap, ap₂, ◌∙◌, subst, arith, slice_get, slice_set, add-one, le_of_suc-le-suc}
+use Rattle.std.proofs.Common.{◌≡◌, ℕ, zero, suc, ◌+◌, ◌-◌, ◌<◌, ◌≤◌, true, false, cond, List, [], ◌∷◌, ◌++◌, length, take, set, get_or, Option, append_assoc, append-nil, length-append, refl, sym, ap, ◌∙◌, subst, arith, add-one, le_of_suc-le-suc}
 use Rattle.fx_base.specs.declared.counts.Counts.{Counts}
 use Rattle.fx_base.specs.Counts.{add_counts}
 use Rattle.fx_layout.specs.Keys.{Key, same_key}
 use Rattle.fx_machine.specs.declared.record.Record.{Record}
-use Rattle.fx_machine.specs.Network.{numbered}
 use Rattle.fx_machine.specs.Sends.{put_all, linked, links_of}
 use Rattle.fx_machine.specs.Places.{NoneBefore, FirstAt}
 use Rattle.fx_machine.specs.States.{add_at, put_last}

@@ -1,12 +1,12 @@
 -- Lists of occurrences and of aggregations, one more at a time.
-use Rattle.std.proofs.Common.{◌≡◌, ◌≢◌, ℕ, zero, suc, ◌+◌, ◌-◌, ◌<◌, ◌≤◌, Bool, true, false, cond, List, [], ◌∷◌, ◌++◌, length, take, map, filter, Option, Some, None, refl, sym, ap, ap₂, ◌∙◌, subst, arith, slice_get, get_or, ◌==◌, add-one, le_of_suc-le-suc, append_assoc, append-nil}
+use Rattle.std.proofs.Common.{◌≡◌, ℕ, zero, suc, ◌+◌, ◌<◌, true, false, cond, List, [], ◌∷◌, ◌++◌, length, take, map, filter, Some, refl, sym, ap, ap₂, ◌∙◌, subst, arith, slice_get, get_or, ◌==◌, add-one, le_of_suc-le-suc, append_assoc, append-nil}
 use Rattle.fx_elements.specs.Axes.{Fields}
-use Rattle.fx_layout.specs.Keys.{Key, key_of, project}
+use Rattle.fx_layout.specs.Keys.{Key, project}
 use Rattle.fx_machine.specs.declared.holding.Holding.{Holding}
 use Rattle.fx_machine.specs.declared.observation.Selection.{Selection}
 use Rattle.fx_machine.specs.declared.observation.Occurrence.{Occurrence}
 use Rattle.fx_machine.specs.declared.traffic.Crossing.{Crossing}
-use Rattle.fx_machine.specs.Network.{Net, Holder, Aggregation, Process, Point, layout_of, takes, takes_with}
+use Rattle.fx_machine.specs.Network.{Net, Holder, Aggregation, Process, Point, layout_of, takes}
 use Rattle.fx_machine.specs.Acts.{Act, Tally}
 use Rattle.fx_machine.specs.Occurrences.{selects, occurrence, met_by, watches, met_at}
 use Rattle.fx_machine.specs.Steps.{meet, take_in, acts_of, arriving}

@@ -1,21 +1,16 @@
 -- Runs worked out by the definitions.
-use Rattle.std.proofs.Common.{◌≡◌, ℕ, true, false, List, [], ◌∷◌, Option, Some, None, Result, Ok, Err, refl}
+use Rattle.std.proofs.Common.{◌≡◌, ℕ, true, false, List, [], ◌∷◌, Some, None, Ok, Err, refl}
 use Rattle.std.specs.Prelude.{codes}
-use Rattle.fx_base.specs.declared.counts.Counts.{Counts}
-use Rattle.fx_elements.specs.Axes.{tops}
 use Rattle.fx_elements.specs.declared.axis.Axis.TheVariants.{Source}
 use Rattle.fx_boxes.specs.Boxes.{Bounds}
-use Rattle.fx_layout.specs.Keys.{Key, Layout}
-use Rattle.fx_layout.specs.declared.layout.Part.{Part}
-use Rattle.fx_machine.specs.declared.net.MatchEntry.{MatchEntry}
-use Rattle.fx_machine.specs.declared.observation.Selection.{Selection}
+use Rattle.fx_layout.specs.Keys.{Layout}
 use Rattle.fx_machine.specs.declared.packet.Packet.{Packet}
 use Rattle.fx_machine.specs.declared.record.Record.{Record}
 use Rattle.fx_machine.specs.declared.step.Step.{Step}
 use Rattle.fx_machine.specs.declared.step.Step.TheVariants.{Cross, Expire, Arrive}
 use Rattle.fx_machine.specs.declared.step.HolderName.TheVariants.{Cache, Aggregation as AggregationOf}
 use Rattle.fx_machine.specs.declared.traffic.Crossing.{Crossing}
-use Rattle.fx_machine.specs.Network.{Net, Device, Point, Exporter, Holder, Process, Aggregation}
+use Rattle.fx_machine.specs.Network.{Net, Device, Exporter}
 use Rattle.fx_machine.specs.Classes.{Class}
 use Rattle.fx_machine.specs.States.{State, opening}
 use Rattle.fx_machine.specs.Acts.{Outcome}

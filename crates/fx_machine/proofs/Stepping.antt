@@ -1,5 +1,5 @@
 -- What a step comes to: records sent, records taken in.
-use Rattle.std.proofs.Common.{◌≡◌, ◌≢◌, ◌⊎◌, inl, inr, ℕ, zero, suc, ◌+◌, ◌-◌, ◌%◌, ◌^◌, ◌<◌, ◌≤◌, Bool, true, false, cond, List, [], ◌∷◌, ◌++◌, length, map, drop, option_and_then, Option, Some, None, Result, Ok, Err, refl, sym, ap, ap₂, ◌∙◌, subst, arith, slice_get, slice_set, remove, le_of_suc-le-suc, append-nil}
+use Rattle.std.proofs.Common.{◌≡◌, ℕ, zero, suc, ◌+◌, ◌%◌, ◌^◌, ◌<◌, ◌≤◌, Bool, true, false, cond, List, [], ◌∷◌, ◌++◌, length, map, drop, option_and_then, Option, Some, None, Ok, Err, refl, sym, ap, ap₂, ◌∙◌, arith, slice_get, slice_set, remove, le_of_suc-le-suc, append-nil}
 use Rattle.fx_base.specs.declared.counts.Counts.{Counts}
 use Rattle.fx_layout.specs.Keys.{Key, refines, project}
 use Rattle.fx_machine.specs.declared.packet.Packet.{Packet}
@@ -9,13 +9,13 @@ use Rattle.fx_machine.specs.declared.step.HolderName.{HolderName}
 use Rattle.fx_machine.specs.Network.{Net, Exporter, numbered, entries, at_places, named_by, holder_place}
 use Rattle.fx_machine.specs.Classes.{Class, path}
 use Rattle.fx_machine.specs.States.{State, Coming, tallied, sent_to, sent_to_all, put_last, without, told, add_at}
-use Rattle.fx_machine.specs.Acts.{Choices, Act, Tally, Send, Hold, Made, Outcome, act, act_all, all_used, sent_to_chosen, send_by_choice, taken_in, with_held, hold_in}
-use Rattle.fx_machine.specs.Steps.{one_packet, crossing_acts, place, cross_now, after_cross, after_expire, expire_from, expire_at, arriving, after_arrive, arrive_from, arrive_at, link_place}
+use Rattle.fx_machine.specs.Acts.{Choices, Act, Tally, Send, Made, Outcome, act_all, all_used, sent_to_chosen, send_by_choice, taken_in, with_held, hold_in}
+use Rattle.fx_machine.specs.Steps.{one_packet, crossing_acts, place, after_cross, after_expire, expire_from, expire_at, arriving, after_arrive, arrive_from, arrive_at, link_place}
 use Rattle.fx_machine.specs.Sends.{put_all, linked, links_of, Chosen, next_destination, chosen_from}
-use Rattle.fx_machine.specs.Holds.{hold_act, held_with, take_in_at, put_in, hold_all}
+use Rattle.fx_machine.specs.Holds.{hold_act, take_in_at, put_in, hold_all}
 use Rattle.fx_machine.specs.Handling.{sends, handling_acts}
 use Rattle.fx_machine.specs.Comings.{coming_of, flagged, cleared}
-use Rattle.fx_machine.specs.Tallies.{totals_with, unassigned_with, totals_when, unassigned_when}
+use Rattle.fx_machine.specs.Tallies.{totals_when, unassigned_when}
 use Rattle.fx_machine.specs.Stores.{taken_out}
 use Rattle.fx_machine.proofs.Crossings.{crossing_goes, crossing_none}
 

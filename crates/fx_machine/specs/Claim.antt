@@ -1,5 +1,5 @@
 -- Each packet is counted once.
-use Rattle.std.specs.Prelude.{◌≡◌, ℕ, List, All, Ok}
+use Rattle.std.specs.Prelude.{◌≡◌, List, All, Ok}
 use Rattle.fx_layout.specs.Keys.{Key}
 use Rattle.fx_machine.specs.declared.packet.Packet.{Packet}
 use Rattle.fx_machine.specs.declared.step.Step.{Step}

@@ -1,5 +1,5 @@
 -- Classes of packets and their paths.
-use Rattle.std.specs.Prelude.{◌≡◌, ◌≢◌, ℕ, Bool, true, List, [], Option, Some, None}
+use Rattle.std.specs.Prelude.{◌≡◌, ◌≢◌, true, List, [], Option, Some, None}
 use Rattle.fx_boxes.specs.Boxes.{Bounds, holds}
 use Rattle.fx_machine.specs.declared.packet.Packet.{Packet}
 use Rattle.fx_machine.specs.declared.traffic.Crossing.{Crossing}

@@ -1,8 +1,8 @@
 -- The tables of a network.
-use Rattle.std.specs.Prelude.{ℕ, zero, suc, Bool, false, ◌&&◌, ◌==◌, List, [], ◌∷◌, ◌++◌, Option, Some, None, slice_get}
+use Rattle.std.specs.Prelude.{ℕ, zero, suc, Bool, ◌&&◌, ◌==◌, List, [], ◌∷◌, Option, Some, None, slice_get}
 use Rattle.std.specs.List.{list_all}
 use Rattle.fx_layout.specs.Keys.{Layout, Key, reads, refines, cut}
-use Rattle.fx_machine.specs.declared.net.MatchEntry.{MatchEntry}
+use Rattle.fx_machine.specs.declared.aggregation.MatchEntry.{MatchEntry}
 use Rattle.fx_machine.specs.declared.observation.Selection.{Selection}
 use Rattle.fx_machine.specs.declared.step.HolderName.{HolderName}
 use Rattle.fx_machine.specs.declared.step.HolderName.TheVariants.{Cache, Aggregation as AggregationOf}

@@ -1,5 +1,5 @@
 -- Where a key first stands.
-use Rattle.std.specs.Prelude.{◌≡◌, ℕ, zero, suc, ◌<◌, Bool, true, false, List, [], ◌∷◌, length, get_or}
+use Rattle.std.specs.Prelude.{◌≡◌, ℕ, zero, suc, ◌<◌, true, false, List, [], ◌∷◌, length, get_or}
 use Rattle.fx_layout.specs.Keys.{Key, same_key}
 use Rattle.fx_machine.specs.declared.record.Record.{Record}
 

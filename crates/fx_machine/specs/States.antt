@@ -5,7 +5,7 @@ use Rattle.fx_base.specs.Counts.{add_counts}
 use Rattle.fx_layout.specs.Keys.{Key, project, refines, same_key}
 use Rattle.fx_machine.specs.declared.packet.Packet.{Packet}
 use Rattle.fx_machine.specs.declared.record.Record.{Record}
-use Rattle.fx_machine.specs.Network.{Net, numbered}
+use Rattle.fx_machine.specs.Network.{Net}
 use Rattle.fx_machine.specs.Classes.{Class, path}
 use Rattle.fx_machine.specs.declared.traffic.Crossing.{Crossing}
 

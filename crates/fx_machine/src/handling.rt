@@ -6,9 +6,11 @@ ghost use Rattle.fx_machine.specs.Handling as handling;
 ghost use Rattle.fx_machine.specs.Network as network;
 ghost use Rattle.fx_machine.specs.Steps as steps;
 
+use crate::aggregation::{Aggregation, MatchEntry};
+use crate::holder::Holder;
 use crate::holding::Holding;
 use crate::lookup::{entry_at, layout_at};
-use crate::net::{Aggregation, Holder, MatchEntry, Net};
+use crate::net::Net;
 use fx_layout::Key;
 use std::alloc::{AllocError, Global};
 
@@ -89,12 +91,7 @@ pub fn handling_at<'a>(
             holdings: Vec::new(alloc),
         });
     };
-    let holdings = taken(
-        alloc,
-        net.holders(),
-        key,
-        process.aggregations(),
-    )?;
+    let holdings = taken(alloc, net.holders(), key, process.aggregations())?;
     Ok(Handling {
         tallies,
         exporters: process.exporters(),

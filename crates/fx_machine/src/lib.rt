@@ -1,9 +1,12 @@
 //! The abstract network: what it is made of, what it holds, its steps and its runs.
 #![tactic(auto)]
 
+mod aggregation;
 mod coming;
+mod device;
 mod exporter;
 mod handling;
+mod holder;
 mod holding;
 mod laws;
 mod lookup;
@@ -11,6 +14,7 @@ mod metering;
 mod net;
 mod observation;
 mod packet;
+mod process;
 mod record;
 mod run;
 mod run_line;
@@ -23,18 +27,24 @@ mod store;
 mod tallying;
 mod traffic;
 
+pub use aggregation::{Aggregation, MatchEntry};
+pub use device::Device;
 pub use exporter::Exporter;
+pub use holder::Holder;
 pub use laws::choices_are_free;
-pub use net::{Aggregation, Device, Holder, MatchEntry, Net, Process};
+pub use net::Net;
 pub use observation::{Occurrence, Point, Selection};
 pub use packet::Packet;
-pub use state::State;
+pub use process::Process;
 pub use record::Record;
 pub use run::Run;
 pub use run_line::{RunLine, read_run_line};
 pub use run_reading::{read_run, run_texts};
+pub use state::State;
 pub use step::{Choices, HolderName, Step};
 pub use traffic::{Class, Classes, Crossing, Path};
 
 #[cfg(test)]
 mod run_tests;
+#[cfg(test)]
+mod tests;

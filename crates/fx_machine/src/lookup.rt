@@ -4,8 +4,12 @@ ghost use Rattle.fx_machine.specs.Network as network;
 ghost use Rattle.fx_machine.specs.Steps as steps;
 ghost use Rattle.fx_machine.specs.Views as views;
 
-use crate::net::{Aggregation, Device, Holder, Net, Process};
+use crate::aggregation::Aggregation;
+use crate::device::Device;
+use crate::holder::Holder;
+use crate::net::Net;
 use crate::observation::Point;
+use crate::process::Process;
 use crate::step::HolderName;
 use fx_layout::Layout;
 

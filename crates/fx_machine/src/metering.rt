@@ -5,9 +5,10 @@ ghost use Rattle.fx_machine.specs.Holds as holds;
 ghost use Rattle.fx_machine.specs.Network as network;
 ghost use Rattle.fx_machine.specs.Occurrences as met;
 
+use crate::holder::Holder;
 use crate::holding::Holding;
 use crate::lookup::{layout_at, points_of};
-use crate::net::{Holder, Net};
+use crate::net::Net;
 use crate::observation::{Occurrence, Point, Selection};
 use crate::traffic::Crossing;
 use fx_base::Name;

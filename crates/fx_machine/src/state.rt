@@ -132,24 +132,14 @@ impl<'a> State<'a> {
                 holder,
                 position,
                 choices,
-            } => self.store.expire(
-                self.alloc,
-                self.net,
-                *holder,
-                *position,
-                choices.as_slice(),
-            ),
+            } => self.store.expire(self.alloc, self.net, *holder, *position, choices.as_slice()),
             Step::Arrive {
                 link,
                 position,
                 choices,
-            } => self.store.arrive(
-                self.alloc,
-                self.net,
-                *link,
-                *position,
-                choices.as_slice(),
-            ),
+            } => self
+                .store
+                .arrive(self.alloc, self.net, *link, *position, choices.as_slice()),
         }
     }
 

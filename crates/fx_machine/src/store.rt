@@ -133,12 +133,7 @@ fn crossing_holdings(
         return Ok(Vec::new(alloc));
     };
     let occurrences = net.occurrences(alloc, found, &packet.fields)?;
-    met_holdings(
-        alloc,
-        net.holders(),
-        occurrences.as_slice(),
-        &packet.fields,
-    )
+    met_holdings(alloc, net.holders(), occurrences.as_slice(), &packet.fields)
 }
 
 impl Store {
@@ -214,13 +209,7 @@ impl Store {
             octets: found.octets,
         };
         let holdings = crossing_holdings(alloc, net, classes, found, crossing)?;
-        hold_all(
-            alloc,
-            &mut self.held,
-            holdings.as_slice(),
-            &counts,
-            choices,
-        )?;
+        hold_all(alloc, &mut self.held, holdings.as_slice(), &counts, choices)?;
         clear(&mut self.to_come, packet, crossing);
         Ok(())
     }

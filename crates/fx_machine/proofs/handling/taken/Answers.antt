@@ -1,4 +1,4 @@
-use Rattle.std.proofs.Common.{◌≡◌, ◌∙◌, ap, sym, ◌++◌, List, take}
+use Rattle.std.proofs.Common.{◌∙◌, ap, sym, ◌++◌, List}
 use Rattle.fx_machine.specs.declared.holding.Holding.{Holding}
 use Rattle.fx_machine.specs.Handling.{aggregating}
 use Rattle.fx_machine.proofs.Meterings.{aggregated_more}

@@ -1,4 +1,4 @@
-use Rattle.std.proofs.Common.{◌≡◌, ◌+◌, ◌-◌, ◌<◌, ℕ, ◌∙◌, sym, ap, List, Option, None, length, take, get_or, subst, arith}
+use Rattle.std.proofs.Common.{◌≡◌, ◌+◌, ◌-◌, ◌<◌, ℕ, ◌∙◌, sym, ap, List, None, length, take, get_or, subst, arith}
 use Rattle.std.proofs.lemmas.List.{get_or_default}
 use Rattle.fx_machine.specs.declared.record.Record.{Record}
 use Rattle.fx_machine.specs.declared.holding.Taking.{Taking}

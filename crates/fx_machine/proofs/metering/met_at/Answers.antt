@@ -1,4 +1,4 @@
-use Rattle.std.proofs.Common.{◌≡◌, ◌+◌, ◌∙◌, ap, sym, ◌++◌, cond, [], List, take}
+use Rattle.std.proofs.Common.{◌+◌, ◌∙◌, ap, sym, ◌++◌, cond, [], List}
 use Rattle.fx_machine.specs.declared.observation.Occurrence.{Occurrence}
 use Rattle.fx_machine.specs.Occurrences.{watches, met_by}
 use Rattle.fx_machine.proofs.Meterings.{met_at_first}

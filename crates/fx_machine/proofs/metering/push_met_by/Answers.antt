@@ -1,4 +1,4 @@
-use Rattle.std.proofs.Common.{◌≡◌, ◌+◌, ◌∙◌, ap, sym, ◌++◌, cond, [], List, take, append_assoc}
+use Rattle.std.proofs.Common.{◌+◌, ◌∙◌, ap, sym, ◌++◌, cond, [], List, take, append_assoc}
 use Rattle.fx_machine.specs.declared.observation.Occurrence.{Occurrence}
 use Rattle.fx_machine.specs.Occurrences.{selects, occurrence, met_by}
 use Rattle.fx_machine.proofs.Meterings.{met_by_first}

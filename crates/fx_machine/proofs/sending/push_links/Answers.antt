@@ -1,4 +1,4 @@
-use Rattle.std.proofs.Common.{◌≡◌, ◌++◌, ◌∙◌, sym, ap, append_assoc, List, ℕ, take, get_or, Option, None}
+use Rattle.std.proofs.Common.{◌++◌, ◌∙◌, sym, ap, append_assoc, List, ℕ, take, get_or, Option, None}
 use Rattle.fx_machine.specs.Sends.{linked, links_of}
 use Rattle.fx_machine.proofs.Lists.{links_more}
 use Rattle.fx_machine.proofs.sending.push_links.Goals as goal

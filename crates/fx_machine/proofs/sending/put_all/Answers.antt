@@ -1,4 +1,4 @@
-use Rattle.std.proofs.Common.{◌≡◌, ◌∙◌, ap, List, take, get_or}
+use Rattle.std.proofs.Common.{◌∙◌, ap, List, get_or}
 use Rattle.fx_machine.specs.declared.record.Record.{Record}
 use Rattle.fx_machine.specs.States.{put_last}
 use Rattle.fx_machine.proofs.Lists.{put_all_more}

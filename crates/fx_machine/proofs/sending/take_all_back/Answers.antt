@@ -1,5 +1,4 @@
-use Rattle.std.proofs.Common.{◌≡◌, ◌+◌, ◌-◌, ◌<◌, ℕ, ◌∙◌, sym, ap, subst, List, length, take, get_or, arith}
-use Rattle.fx_machine.specs.declared.record.Record.{Record}
+use Rattle.std.proofs.Common.{◌≡◌, ◌+◌, ◌-◌, ◌<◌, ◌∙◌, sym, ap, length, take, get_or, arith}
 use Rattle.fx_machine.specs.States.{put_last}
 use Rattle.fx_machine.specs.Sends.{put_all}
 use Rattle.fx_machine.proofs.Lists.{put_all_more}

@@ -1,4 +1,4 @@
-use Rattle.std.proofs.Common.{◌≡◌, ◌≤◌, ◌∙◌, ap, take, length}
+use Rattle.std.proofs.Common.{◌≤◌, ◌∙◌, ap, length}
 use Rattle.std.proofs.lemmas.List.{take_all}
 use Rattle.fx_machine.specs.Comings.{coming_of, marks_of}
 use Rattle.fx_machine.proofs.Crossings.{all_coming}

@@ -1,12 +1,11 @@
-use Rattle.std.proofs.Common.{◌≡◌, ◌∙◌, sym, ap, ap₂, List, map, Option, Some, slice_get, Vec, Global}
+use Rattle.std.proofs.Common.{◌≡◌, ◌∙◌, ap, ap₂, List, map, Some}
 use Rattle.std.proofs.lemmas.Result.{IfOk-weaker}
-use Rattle.fx_machine.specs.declared.holding.Holding.{Holding}
 use Rattle.fx_machine.specs.declared.observation.Occurrence.{Occurrence}
 use Rattle.fx_machine.specs.declared.traffic.Crossing.{Crossing}
 use Rattle.fx_machine.specs.Network.{Holder, numbered}
 use Rattle.fx_machine.specs.Occurrences.{occurrences}
 use Rattle.fx_machine.specs.Holds.{hold_act, met_holdings}
-use Rattle.fx_machine.specs.Steps.{meet, crossing_acts}
+use Rattle.fx_machine.specs.Steps.{crossing_acts}
 use Rattle.fx_machine.specs.Classes.{path}
 use Rattle.fx_machine.proofs.Meterings.{met_acts}
 use Rattle.fx_machine.proofs.store.crossing_holdings.Goals as goal

@@ -1,4 +1,4 @@
-use Rattle.std.proofs.Common.{◌≡◌, subst, sym, ap, ◌∙◌, length, le_refl, refl, List, [], ◌∷◌, ◌++◌}
+use Rattle.std.proofs.Common.{subst, ap, ◌∙◌, length, le_refl, List}
 use Rattle.fx_base.specs.declared.counts.Counts.{Counts}
 use Rattle.fx_machine.specs.declared.record.Record.{Record}
 use Rattle.fx_machine.specs.Places.{FirstAt, NoneBefore}

@@ -1,6 +1,4 @@
-use Rattle.std.proofs.Common.{◌≡◌, sym, ap, ◌∙◌, false, length, rules, Bool}
-use Rattle.fx_layout.specs.Keys.{same_key}
-use Rattle.fx_machine.specs.declared.record.Record.{Record}
+use Rattle.std.proofs.Common.{sym, ◌∙◌}
 use Rattle.fx_machine.proofs.Lists.{none_more}
 use Rattle.fx_machine.proofs.tallying.place_of.Goals as goal
 

@@ -1,16 +1,16 @@
-use Rattle.std.proofs.Common.{◌≡◌, ◌∙◌, ◌%◌, ◌^◌, inl, inr, sym, ap, ap₂, ℕ, List, [], slice_get, Option, Some, None, Result, Ok, Err, drop}
+use Rattle.std.proofs.Common.{◌≡◌, ◌∙◌, ◌%◌, ◌^◌, inl, inr, sym, ap, ap₂, ℕ, List, [], slice_get, Option, Some, None, Err, drop}
 use Rattle.std.proofs.lemmas.Result.{err_from_is_err_and}
 use Rattle.fx_base.specs.declared.fault.Fault.{Fault}
 use Rattle.fx_layout.specs.Keys.{Layout}
 use Rattle.fx_machine.specs.declared.record.Record.{Record}
 use Rattle.fx_machine.specs.declared.holding.Holding.{Holding}
 use Rattle.fx_machine.specs.Network.{Exporter, numbered, at_places}
-use Rattle.fx_machine.specs.Sends.{put_all, Chosen, chosen_from}
+use Rattle.fx_machine.specs.Sends.{put_all, chosen_from}
 use Rattle.fx_machine.specs.Holds.{hold_all}
 use Rattle.fx_machine.specs.Stores.{taken_out}
 use Rattle.fx_machine.specs.Tallies.{totals_when, unassigned_when}
 use Rattle.fx_machine.specs.Comings.{coming_of}
-use Rattle.fx_machine.proofs.Stepping.{arrive_is, arrived, held_out, refused_holds}
+use Rattle.fx_machine.proofs.Stepping.{arrive_is, arrived, refused_holds}
 use Rattle.fx_machine.proofs.store.Store.arrive.Goals as goal
 
 pub returns-in_err-links-clause-err : goal.returns-in_err-links-clause-err
@@ -29,8 +29,8 @@ returns-in_err-links-clause-err c =
       | inl a ↦ (ap (λ (f : Fault). f.place) a, inl (ap (λ (f : Fault). f.number) a))
       | inr b ↦ (
         ap (λ (f : Fault). f.place) b.0,
-        inr (λ s e. arrive_is net c.args.link c.args.number cs (coming_of 1 in'.to_come.items) in'.held.items in'.carried.items in'.totals.items in'.unassigned s (c.self.view_is ∙ e) place rs r h'.tallies h'.exporters.now h'.holdings.items None c.in-Some.ensures k n c.in_ok-handling.ensures (ap (λ (xs : List Exporter). chosen_from [] (at_places xs h'.exporters.now) cs) (sym c.exporters.ensures) ∙ b.1) ∙ ap (λ (f : Fault). Err f.number) (sym b.0))
-        )
+        inr (λ s e. arrive_is net c.args.link c.args.number cs (coming_of 1 in'.to_come.items) in'.held.items in'.carried.items in'.totals.items in'.unassigned s (c.self.view_is ∙ e) place rs r h'.tallies h'.exporters.now h'.holdings.items None c.in-Some.ensures k n c.in_ok-handling.ensures (ap (λ (xs : List Exporter). chosen_from [] (at_places xs h'.exporters.now) cs) (sym c.exporters.ensures) ∙ b.1) ∙ ap (λ (f : Fault). Err f.number) (sym b.0)),
+      )
     ])
 
 pub returns-in_err-log-clause-err : goal.returns-in_err-log-clause-err
@@ -47,14 +47,14 @@ returns-in_err-log-clause-err c =
     let k : Some rs ≡ slice_get in'.carried.items place = c.in-Some-entry_at.ensures ∙ ap (λ (x : List (List Record)). slice_get x place) c.as_slice.ensures.value in
     let n : Some r ≡ numbered rs c.args.number = ap Some c.copy-entry.ensures ∙ c.in-Some-numbered.ensures in
     let picked : chosen_from [] (at_places net.exporters h'.exporters.now) cs ≡ Some (record { links = links; rest = rest }) =
-          ap (λ (xs : List Exporter). chosen_from [] (at_places xs h'.exporters.now) cs) (sym c.exporters.ensures) ∙ c.in_ok-links.ensures.ok.1 in
+    ap (λ (xs : List Exporter). chosen_from [] (at_places xs h'.exporters.now) cs) (sym c.exporters.ensures) ∙ c.in_ok-links.ensures.ok.1 in
     let p = err_from_is_err_and c.from_residual-in_err-log.result c.from_residual-in_err-log.ensures.1 in
     rw (p.1, p.2) (elim c.in_err-log.ensures.err [
       | inl a ↦ (ap (λ (f : Fault). f.place) a, inl (ap (λ (f : Fault). f.number) a))
       | inr b ↦ (
         ap (λ (f : Fault). f.place) b.0,
-        inr (λ s e. refused_holds net c.args.link c.args.number cs (coming_of 1 in'.to_come.items) in'.held.items in'.carried.items in'.totals.items in'.unassigned s (c.self.view_is ∙ e) place rs r h'.tallies h'.exporters.now h'.holdings.items links rest c.in-Some.ensures k n c.in_ok-handling.ensures picked (ap₂ (λ (xs : List Holding) (ys : List (Option ℕ)). hold_all r.counts xs in'.held.items ys) (sym c.as_slice-2.ensures.value) (sym c.choices_from-left.ensures) ∙ b.1) ∙ ap (λ (f : Fault). Err f.number) (sym b.0))
-        )
+        inr (λ s e. refused_holds net c.args.link c.args.number cs (coming_of 1 in'.to_come.items) in'.held.items in'.carried.items in'.totals.items in'.unassigned s (c.self.view_is ∙ e) place rs r h'.tallies h'.exporters.now h'.holdings.items links rest c.in-Some.ensures k n c.in_ok-handling.ensures picked (ap₂ (λ (xs : List Holding) (ys : List (Option ℕ)). hold_all r.counts xs in'.held.items ys) (sym c.as_slice-2.ensures.value) (sym c.choices_from-left.ensures) ∙ b.1) ∙ ap (λ (f : Fault). Err f.number) (sym b.0)),
+      )
     ])
 
 pub returns-clause-ok : goal.returns-clause-ok
@@ -72,12 +72,12 @@ returns-clause-ok c s e =
     let k : Some rs ≡ slice_get in'.carried.items place = c.in-Some-entry_at.ensures ∙ ap (λ (x : List (List Record)). slice_get x place) c.as_slice.ensures.value in
     let n : Some r ≡ numbered rs c.args.number = ap Some c.copy-entry.ensures ∙ c.in-Some-numbered.ensures in
     let picked : chosen_from [] (at_places net.exporters h'.exporters.now) cs ≡ Some (record { links = links; rest = rest }) =
-          ap (λ (xs : List Exporter). chosen_from [] (at_places xs h'.exporters.now) cs) (sym c.exporters.ensures) ∙ c.in_ok-links.ensures.ok.1 in
+    ap (λ (xs : List Exporter). chosen_from [] (at_places xs h'.exporters.now) cs) (sym c.exporters.ensures) ∙ c.in_ok-links.ensures.ok.1 in
     let taken : hold_all r.counts h'.holdings.items in'.held.items rest ≡ Some c.hold_all.new.held.items =
-          ap₂ (λ (xs : List Holding) (ys : List (Option ℕ)). hold_all r.counts xs in'.held.items ys) (sym c.as_slice-2.ensures.value) (sym c.choices_from-left.ensures) ∙ c.in_ok-log.ensures.ok.0 in
+    ap₂ (λ (xs : List Holding) (ys : List (Option ℕ)). hold_all r.counts xs in'.held.items ys) (sym c.as_slice-2.ensures.value) (sym c.choices_from-left.ensures) ∙ c.in_ok-log.ensures.ok.0 in
     let done = c.in_default-send_and_tally.ensures.ok in
     let out : c.take_out_at.new.lists.items ≡ taken_out (put_all links r in'.carried.items) place c.args.number =
-          c.take_out_at.ensures ∙ ap (λ (x : List (List Record)). taken_out x place c.args.number) (done.0 ∙ ap (λ (ls : List ℕ). put_all ls r in'.carried.items) c.as_slice-3.ensures.value) in
+    c.take_out_at.ensures ∙ ap (λ (x : List (List Record)). taken_out x place c.args.number) (done.0 ∙ ap (λ (ls : List ℕ). put_all ls r in'.carried.items) c.as_slice-3.ensures.value) in
     let totals : c.send_and_tally.new.totals.items ≡ totals_when t net.report_layout r.key r.counts in'.totals.items =
-          done.1 ∙ ap (λ (l : Layout). totals_when t l r.key r.counts in'.totals.items) c.report_layout.ensures in
+    done.1 ∙ ap (λ (l : Layout). totals_when t l r.key r.counts in'.totals.items) c.report_layout.ensures in
     arrived net c.args.link c.args.number cs (coming_of 1 in'.to_come.items) in'.held.items in'.carried.items in'.totals.items in'.unassigned s (c.self.view_is ∙ e) place rs r t h'.exporters.now h'.holdings.items links rest c.hold_all.new.held.items c.take_out_at.new.lists.items c.send_and_tally.new.totals.items c.send_and_tally.new.unassigned c.in-Some.ensures k n c.in_ok-handling.ensures picked taken out totals (λ v h. done.2 v h ∙ ap (λ (l : Layout). unassigned_when t l r.key v % 2 ^ 64) c.report_layout.ensures)

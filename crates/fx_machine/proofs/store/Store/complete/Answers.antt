@@ -1,4 +1,4 @@
-use Rattle.std.proofs.Common.{◌≡◌, ◌∙◌, ◌&&◌, Bool, ap, ap₂, List}
+use Rattle.std.proofs.Common.{◌∙◌, ◌&&◌, Bool, ap, ap₂, List}
 use Rattle.fx_machine.specs.declared.record.Record.{Record}
 use Rattle.fx_machine.specs.States.{all_empty}
 use Rattle.fx_machine.specs.Comings.{all_crossed}

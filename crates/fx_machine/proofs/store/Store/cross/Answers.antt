@@ -1,8 +1,6 @@
-use Rattle.std.proofs.Common.{◌≡◌, ◌∙◌, inl, inr, true, false, sym, ap, ap₂, ℕ, List, Bool, length, map, Option, Some, None, Result, Ok, Err}
+use Rattle.std.proofs.Common.{◌≡◌, ◌∙◌, inl, inr, true, false, sym, ap, List, Bool, Some, Err}
 use Rattle.std.proofs.lemmas.Result.{err_from_is_err_and}
-use Rattle.fx_base.specs.declared.counts.Counts.{Counts}
 use Rattle.fx_base.specs.declared.fault.Fault.{Fault}
-use Rattle.fx_machine.specs.declared.record.Record.{Record}
 use Rattle.fx_machine.specs.declared.holding.Holding.{Holding}
 use Rattle.fx_machine.specs.Holds.{hold_all}
 use Rattle.fx_machine.specs.Comings.{coming_of, flagged, cleared}
@@ -15,10 +13,9 @@ returns-then-not-is_to_come-clause-err c =
     let in' = c.self.inside in
     let i = c.args.packet in
     let j = c.args.crossing in
-    let gone : flagged in'.to_come.items i j ≡ false = ap (λ (fs : List (List Bool)). flagged fs i j) (sym c.as_slice.ensures.value) ∙ sym c.is_to_come.ensures ∙ c.if-not-is_to_come.true in
-    (
+    let gone : flagged in'.to_come.items i j ≡ false = ap (λ (fs : List (List Bool)). flagged fs i j) (sym c.as_slice.ensures.value) ∙ sym c.is_to_come.ensures ∙ c.if-not-is_to_come.true in (
       ap (λ (f : Fault). f.place) c.bare.ensures,
-      inr (λ s e. cross_made c.args.net.now c.args.classes.now c.args.packets.now i j c.args.choices.now in'.to_come.items in'.held.items in'.carried.items in'.totals.items in'.unassigned s (c.self.view_is ∙ e) gone ∙ ap (λ (f : Fault). Err f.number) (sym c.bare.ensures))
+      inr (λ s e. cross_made c.args.net.now c.args.classes.now c.args.packets.now i j c.args.choices.now in'.to_come.items in'.held.items in'.carried.items in'.totals.items in'.unassigned s (c.self.view_is ∙ e) gone ∙ ap (λ (f : Fault). Err f.number) (sym c.bare.ensures)),
     )
 
 pub returns-in_err-hold_all-clause-err : goal.returns-in_err-hold_all-clause-err
@@ -34,8 +31,8 @@ returns-in_err-hold_all-clause-err c =
       | inl a ↦ (ap (λ (f : Fault). f.place) a, inl (ap (λ (f : Fault). f.number) a))
       | inr b ↦ (
         ap (λ (f : Fault). f.place) b.0,
-        inr (λ s e. cross_is c.args.net.now c.args.classes.now c.args.packets.now i j c.args.choices.now in'.to_come.items in'.held.items in'.carried.items in'.totals.items in'.unassigned s (c.self.view_is ∙ e) packet hs there c.in-Some.ensures c.in_ok-holdings.ensures ∙ ap (held_out (record s { coming = coming_of 1 (cleared in'.to_come.items i j) })) (ap (λ (xs : List Holding). hold_all (one_packet packet) xs in'.held.items c.args.choices.now) (sym c.as_slice-2.ensures.value) ∙ b.1) ∙ ap (λ (f : Fault). Err f.number) (sym b.0))
-        )
+        inr (λ s e. cross_is c.args.net.now c.args.classes.now c.args.packets.now i j c.args.choices.now in'.to_come.items in'.held.items in'.carried.items in'.totals.items in'.unassigned s (c.self.view_is ∙ e) packet hs there c.in-Some.ensures c.in_ok-holdings.ensures ∙ ap (held_out (record s { coming = coming_of 1 (cleared in'.to_come.items i j) })) (ap (λ (xs : List Holding). hold_all (one_packet packet) xs in'.held.items c.args.choices.now) (sym c.as_slice-2.ensures.value) ∙ b.1) ∙ ap (λ (f : Fault). Err f.number) (sym b.0)),
+      )
     ])
 
 pub returns-clause-ok : goal.returns-clause-ok
@@ -47,5 +44,5 @@ returns-clause-ok c s e =
     let hs = c.in_ok-holdings.holdings.items in
     let there : flagged in'.to_come.items i j ≡ true = ap (λ (fs : List (List Bool)). flagged fs i j) (sym c.as_slice.ensures.value) ∙ sym c.is_to_come.ensures ∙ c.if-not-is_to_come.false in
     let taken : hold_all (one_packet p) hs in'.held.items c.args.choices.now ≡ Some c.hold_all.new.held.items =
-          ap (λ (xs : List Holding). hold_all (one_packet p) xs in'.held.items c.args.choices.now) (sym c.as_slice-2.ensures.value) ∙ c.in_ok-hold_all.ensures.ok.0 in
+    ap (λ (xs : List Holding). hold_all (one_packet p) xs in'.held.items c.args.choices.now) (sym c.as_slice-2.ensures.value) ∙ c.in_ok-hold_all.ensures.ok.0 in
     crossed c.args.net.now c.args.classes.now c.args.packets.now i j c.args.choices.now in'.to_come.items in'.held.items in'.carried.items in'.totals.items in'.unassigned s (c.self.view_is ∙ e) p hs c.clear.new.to_come.items c.hold_all.new.held.items there c.in-Some.ensures c.in_ok-holdings.ensures taken c.clear.ensures

@@ -1,9 +1,8 @@
-use Rattle.std.proofs.Common.{◌≡◌, ◌<◌, ◌≤◌, ◌∙◌, inl, inr, sym, ap, ap₂, ℕ, List, [], length, slice_get, Option, Some, None, Result, Ok, Err, drop, arith}
+use Rattle.std.proofs.Common.{◌≡◌, ◌<◌, ◌≤◌, ◌∙◌, inl, inr, sym, ap, ap₂, ℕ, List, [], length, slice_get, Option, Some, None, Err, drop}
 use Rattle.std.proofs.lemmas.Result.{err_from_is_err_and}
 use Rattle.fx_base.specs.declared.fault.Fault.{Fault}
 use Rattle.fx_machine.specs.declared.record.Record.{Record}
-use Rattle.fx_machine.specs.Network.{Net, Exporter, Holder, numbered, at_places, named_by, holder_place}
-use Rattle.fx_machine.specs.States.{State, told}
+use Rattle.fx_machine.specs.Network.{Net, Exporter, Holder, at_places, named_by}
 use Rattle.fx_machine.specs.Sends.{put_all, Chosen, chosen_from}
 use Rattle.fx_machine.specs.Stores.{taken_out}
 use Rattle.fx_machine.specs.Comings.{coming_of}
@@ -29,8 +28,8 @@ returns-in_err-links-clause-err c =
       | inl a ↦ (ap (λ (f : Fault). f.place) a, inl (ap (λ (f : Fault). f.number) a))
       | inr b ↦ (
         ap (λ (f : Fault). f.place) b.0,
-        inr (λ s e. expire_is net c.args.holder c.args.number cs (coming_of 1 in'.to_come.items) in'.held.items in'.carried.items in'.totals.items in'.unassigned s (c.self.view_is ∙ e) place rs r None c.in-Some.ensures k c.in-Some-numbered.ensures (chosen net place c.exporters.result.now c.named_by-exporters.result.now c.holders.result.now cs None c.exporters.ensures c.named_by-exporters.ensures c.holders.ensures b.1) ∙ ap (λ (f : Fault). Err f.number) (sym b.0))
-        )
+        inr (λ s e. expire_is net c.args.holder c.args.number cs (coming_of 1 in'.to_come.items) in'.held.items in'.carried.items in'.totals.items in'.unassigned s (c.self.view_is ∙ e) place rs r None c.in-Some.ensures k c.in-Some-numbered.ensures (chosen net place c.exporters.result.now c.named_by-exporters.result.now c.holders.result.now cs None c.exporters.ensures c.named_by-exporters.ensures c.holders.ensures b.1) ∙ ap (λ (f : Fault). Err f.number) (sym b.0)),
+      )
     ])
 
 pub returns-then-used-choices-clause-err : goal.returns-then-used-choices-clause-err
@@ -45,10 +44,9 @@ returns-then-used-choices-clause-err c =
     let k : Some rs ≡ slice_get in'.held.items place = c.in-Some-entry_at.ensures ∙ ap (λ (x : List (List Record)). slice_get x place) c.as_slice.ensures.value in
     let o : Option Chosen = Some (record { links = c.in_ok-links.links.items; rest = drop used cs }) in
     let lt : used < length cs = c.if-used-choices.true in
-    let picked = chosen net place c.exporters.result.now c.named_by-exporters.result.now c.holders.result.now cs o c.exporters.ensures c.named_by-exporters.ensures c.holders.ensures c.in_ok-links.ensures.ok.1 in
-    (
+    let picked = chosen net place c.exporters.result.now c.named_by-exporters.result.now c.holders.result.now cs o c.exporters.ensures c.named_by-exporters.ensures c.holders.ensures c.in_ok-links.ensures.ok.1 in (
       ap (λ (f : Fault). f.place) c.bare-then-used-choices.ensures,
-      inr (λ s e. expire_is net c.args.holder c.args.number cs (coming_of 1 in'.to_come.items) in'.held.items in'.carried.items in'.totals.items in'.unassigned s (c.self.view_is ∙ e) place rs r o c.in-Some.ensures k c.in-Some-numbered.ensures picked ∙ choices_left cs used (record s { held = taken_out s.held place c.args.number; carried = put_all c.in_ok-links.links.items r s.carried }) lt ∙ ap (λ (f : Fault). Err f.number) (sym c.bare-then-used-choices.ensures))
+      inr (λ s e. expire_is net c.args.holder c.args.number cs (coming_of 1 in'.to_come.items) in'.held.items in'.carried.items in'.totals.items in'.unassigned s (c.self.view_is ∙ e) place rs r o c.in-Some.ensures k c.in-Some-numbered.ensures picked ∙ choices_left cs used (record s { held = taken_out s.held place c.args.number; carried = put_all c.in_ok-links.links.items r s.carried }) lt ∙ ap (λ (f : Fault). Err f.number) (sym c.bare-then-used-choices.ensures)),
     )
 
 pub returns-clause-ok : goal.returns-clause-ok
