@@ -1,6 +1,6 @@
 -- A name's place among the names of a list.
-use Rattle.std.proofs.Common.{◌≡◌, ℕ, suc, Bool, List, [], ◌∷◌, map, length, cond, Some, None, Option, not, ◌+◌, nat_lt, refl, ap}
-use Rattle.std.specs.List.{position, position_or_len, prefix_len}
+use Rattle.std.proofs.Common.{◌≡◌, ℕ, suc, Bool, List, [], ◌∷◌, map, length, cond, not, ◌+◌, refl, ap}
+use Rattle.std.specs.List.{position, position_or_len}
 
 position_or_len-map : {X : Type 0} (p : List ℕ → Bool) (f : X → List ℕ) (xs : List X) → position_or_len p (map f xs) ≡ position_or_len (λ x. p (f x)) xs
 position_or_len-map p f [] = refl

@@ -1,8 +1,8 @@
 -- A device without a fault names nothing that isn't there.
-use Rattle.std.proofs.Common.{◌≡◌, ℕ, zero, suc, ◌+◌, ◌<◌, List, [], ◌∷◌, ◌++◌, length, map, Bool, true, false, not, ◌||◌, cond, nat_lt, Option, Some, None, refl, sym, ap, ◌∙◌, arith, drop, Result, Ok, Err, codes}
+use Rattle.std.proofs.Common.{◌≡◌, ℕ, zero, suc, ◌+◌, ◌<◌, List, [], ◌∷◌, ◌++◌, length, map, Bool, true, false, not, ◌||◌, cond, Option, Some, None, refl, arith, drop, Result, Ok, Err, codes}
 use Rattle.std.proofs.lemmas.Bool.{lt-ltb}
-use Rattle.std.specs.List.{All, list_any, position, position_or_len}
-use Rattle.std.specs.Option.{IsSome, IfSome, unwrap_or}
+use Rattle.std.specs.List.{All, list_any, position_or_len}
+use Rattle.std.specs.Option.{IfSome, unwrap_or}
 use Rattle.std.specs.Result.{IfOk}
 use Rattle.std.specs.Str.{bytes_eq}
 use Rattle.serde_json.specs.Data.{Data, null, Members}
@@ -11,7 +11,7 @@ use Rattle.fx_base.specs.declared.fault.Fault.{Fault}
 use Rattle.fx_config.specs.Pointer.{below, nth}
 use Rattle.fx_config.specs.Walk.{Found, Row, Reads, fault_if, row_faults, of_kind, others, faults_or_missing}
 use Rattle.fx_config.specs.Devices.{ipfix_rows, ipfix_faults, lists_of, device_rows, device_faults, device_of}
-use Rattle.fx_config.specs.Lists.{items_faults, is_among, place_in}
+use Rattle.fx_config.specs.Lists.{items_faults, is_among}
 use Rattle.fx_config.specs.References.{unknown, unknown_if_there, reference_faults, point_references, process_references, cache_references, IsKnown, Resolves}
 use Rattle.fx_config.specs.declared.ipfix.Device.{Device}
 

@@ -1,5 +1,5 @@
 -- Layouts of caches' records (RFC 6728, section 4.3.3).
-use Rattle.std.specs.Prelude.{ℕ, List, [], ◌∷◌, codes, map, Bool, true, false, not, ◌&&◌, ◌==◌, is_some, if◌then◌else◌}
+use Rattle.std.specs.Prelude.{ℕ, List, [], ◌∷◌, codes, map, Bool, true, false, not, ◌&&◌, is_some, if◌then◌else◌}
 use Rattle.std.specs.List.{list_any, fold}
 use Rattle.serde_json.specs.Data.{Data}
 use Rattle.fx_config.specs.Walk.{Found, Row, object_faults, then_check, member_of, fault_if}

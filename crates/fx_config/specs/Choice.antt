@@ -1,5 +1,5 @@
 -- Members of which exactly one must be there, and members that are refused with a number of their own.
-use Rattle.std.specs.Prelude.{ℕ, zero, suc, List, [], ◌∷◌, ◌++◌, is_some, map, count_by, Bool, cond}
+use Rattle.std.specs.Prelude.{ℕ, zero, suc, List, [], ◌∷◌, is_some, map, count_by, cond}
 use Rattle.serde_json.specs.Data.{Data}
 use Rattle.serde_json.specs.Find.{get}
 use Rattle.fx_config.specs.Pointer.{below}

@@ -1,5 +1,5 @@
 -- References by name (the leafrefs of RFC 6728, section 6).
-use Rattle.std.specs.Prelude.{ℕ, List, [], ◌∷◌, ◌++◌, codes, map, not, Option, Some, None, All, IsSome, IfSome}
+use Rattle.std.specs.Prelude.{ℕ, List, [], ◌++◌, codes, map, not, Option, Some, None, All, IsSome, IfSome}
 use Rattle.fx_config.specs.Pointer.{below}
 use Rattle.fx_config.specs.Walk.{Found, fault_if}
 use Rattle.fx_config.specs.Lists.{is_among, items_faults, place_in}

@@ -1,5 +1,5 @@
 -- Values without parts: their faults, and what they mean.
-use Rattle.std.specs.Prelude.{◌≡◌, ℕ, List, [], ◌∷◌, ◌||◌, nat_lt, Bool, true, false, not, Option, Some, None, is_some}
+use Rattle.std.specs.Prelude.{ℕ, List, [], ◌∷◌, ◌||◌, nat_lt, Bool, false, not, Option, Some, None, is_some}
 use Rattle.std.specs.Option.{unwrap_or}
 use Rattle.serde_json.specs.Data.{Data, null, boolean, number, string, array, object, Items, no_items, item, Num}
 use Rattle.serde_json.specs.Find.{as_null, as_str, as_number, as_u64}

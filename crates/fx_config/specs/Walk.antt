@@ -1,11 +1,11 @@
 -- A walk through a document: all its faults, in the order of the walk, and what it means where it has none.
-use Rattle.std.specs.Prelude.{◌≡◌, ℕ, List, [], ◌∷◌, ◌++◌, Option, Some, None, Result, Ok, Err, string_bytes, Bool, true, false, not, ◌&&◌, ◌||◌, ◌==◌, map, codes}
+use Rattle.std.specs.Prelude.{◌≡◌, ℕ, List, [], ◌∷◌, ◌++◌, Option, Some, None, Result, Ok, Err, string_bytes, Bool, true, false, not, ◌&&◌, ◌||◌, ◌==◌, map}
 use Rattle.std.specs.List.{list_any, filter, flat_map, before_first}
 use Rattle.std.specs.Option.{unwrap_or}
 use Rattle.std.specs.Str.{bytes_eq}
-use Rattle.serde_json.specs.Data.{Data, null, boolean, number, string, array, object, Members, no_members, member, Items, no_items, item}
+use Rattle.serde_json.specs.Data.{Data, null, Members, no_members, member}
 use Rattle.serde_json.specs.Find.{get, as_object}
-use Rattle.fx_config.specs.Pointer.{below, nth}
+use Rattle.fx_config.specs.Pointer.{below}
 use Rattle.fx_base.specs.declared.fault.Fault.{Fault}
 use Rattle.fx_base.specs.declared.fault.Place.{Place}
 use Rattle.fx_base.specs.declared.fault.Place.TheVariants as places

@@ -1,4 +1,3 @@
-use Rattle.std.proofs.Common.{refl}
 use Rattle.fx_config.proofs.Faults.{pointer-Member}
 use Rattle.fx_config.proofs.references.process_refers.Goals as goal
 

@@ -1,4 +1,4 @@
-use Rattle.std.proofs.Common.{◌≡◌, List, [], drop, ◌∙◌, refl, sym, arith}
+use Rattle.std.proofs.Common.{◌≡◌, [], drop, ◌∙◌, refl, arith}
 use Rattle.std.proofs.lemmas.List.{drop_all, append-nil}
 use Rattle.fx_config.proofs.walk.list.values_of.Goals as goal
 
