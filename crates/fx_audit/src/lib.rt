@@ -3,6 +3,7 @@
 
 mod answer;
 mod bundle;
+mod replay;
 
 pub use answer::Answer;
 pub use bundle::{Bundle, Command, read_bundle};

@@ -1,0 +1,21 @@
+-- What a replayed run prints: the collector's totals in its last state, and whether the run is complete.
+use Rattle.std.specs.Prelude.{◌≡◌, ℕ, ◌↔◌, Bool, true, false, List, [], ◌∷◌, ◌++◌, codes, IsTrue, IsPermutation}
+use Rattle.fx_layout.specs.Keys.{Layout}
+use Rattle.fx_machine.specs.States.{State, Complete}
+use Rattle.fx_collect.specs.Totals.{Totals, totals_of}
+use Rattle.fx_collect.specs.Report.{Ascends, totals_text}
+
+abbrev pub complete_line : Bool → List ℕ
+complete_line true = codes "complete yes" ++ 10 ∷ []
+complete_line false = codes "complete no" ++ 10 ∷ []
+
+-- the text of a state: its totals with their keys in ascending order, and a line that says whether it is complete
+pub record IsTextOf (layout : Layout) (s : State) (text : List ℕ) : Type 0 where
+  pub totals : Totals
+  pub entries : IsPermutation (totals_of layout s).entries totals.entries
+  pub ascending : Ascends totals.entries
+  pub layout_is : totals.layout ≡ layout
+  pub unassigned : totals.unassigned ≡ s.unassigned
+  pub complete : Bool
+  pub is_complete : IsTrue complete ↔ Complete s
+  pub text_is : text ≡ totals_text totals ++ complete_line complete
