@@ -1,5 +1,5 @@
 -- Where a reader of lines stops, reading a run stops with the same fault.
-use Rattle.std.proofs.Common.{◌≡◌, ℕ, suc, ◌+◌, ◌<◌, ◌≤◌, ◌⊎◌, Bool, true, false, cond, not, List, [], ◌∷◌, length, take, Option, Some, None, Result, Ok, Err, IfSome, refl, ap, sym, ◌∙◌, subst, arith, inl, inr, lt-ltb}
+use Rattle.std.proofs.Common.{◌≡◌, ℕ, ◌<◌, ◌≤◌, ◌⊎◌, true, not, List, ◌∷◌, length, Option, Some, None, Result, Ok, Err, IfSome, refl, ap, sym, ◌∙◌, arith, inl, inr, lt-ltb}
 use Rattle.std.specs.Prelude.{nat_lt, ◌==◌}
 use Rattle.std.specs.Option.{option_map}
 use Rattle.std.proofs.lemmas.List.Sums.{prefix_len-le-length}
@@ -9,11 +9,10 @@ use Rattle.fx_base.specs.declared.fault.Place.TheVariants as places
 use Rattle.fx_base.specs.Fault.{fault_at}
 use Rattle.fx_base.specs.Lines.{Lines, text_lines, next_number, line_len, first_line, line_ends, after_line, Refuses, Stops}
 use Rattle.fx_base.proofs.TextLines.{lines_first}
-use Rattle.fx_machine.specs.declared.run_line.RunLine.{RunLine}
 use Rattle.fx_machine.specs.declared.run_line.RunLine.TheVariants as line
 use Rattle.fx_machine.specs.Classes.{Class}
 use Rattle.fx_machine.specs.RunText.{Run}
-use Rattle.fx_machine.specs.RunReading.{Line, at_line, reading, behind, from_line, ended, said, run_reading, behind_reading, line_reading, Fails}
+use Rattle.fx_machine.specs.RunReading.{Line, at_line, reading, behind, ended, run_reading, behind_reading, line_reading, Fails}
 
 line_len_le : (text : List ℕ) → line_len text ≤ length text
 line_len_le text = prefix_len-le-length (λ b. not (b == 10)) text

@@ -1,6 +1,6 @@
 -- The text of a run is read as that run, and no other text is.
-use Rattle.std.proofs.Common.{◌≡◌, ◌≢◌, ℕ, suc, Bool, true, false, cond, eqb, not, ◌&&◌, List, [], ◌∷◌, ◌++◌, map, length, Option, Some, None, Result, Ok, Err, refl, ap, sym, ◌∙◌, subst, ◌≤◌, ◌<◌, ◌^◌, ◌+◌, ◌/◌, ◌%◌, arith, ne_eqb, eqb-true, le-ltb, inl, inr, append_assoc, length-append}
-use Rattle.std.specs.Prelude.{codes, flat_map, nat_lt, ◌==◌, is_some}
+use Rattle.std.proofs.Common.{◌≡◌, ◌≢◌, ℕ, Bool, true, false, cond, eqb, not, ◌&&◌, List, [], ◌∷◌, ◌++◌, map, length, Option, Some, None, Result, Ok, Err, refl, ap, sym, ◌∙◌, subst, ◌≤◌, ◌<◌, ◌^◌, ◌/◌, ◌%◌, arith, ne_eqb, eqb-true, le-ltb, inl, inr, append_assoc, length-append}
+use Rattle.std.specs.Prelude.{codes, flat_map, nat_lt, is_some}
 use Rattle.std.specs.Fmt.{decimal}
 use Rattle.std.specs.Option.{option_map}
 use Rattle.std.specs.List.{AllByRecursion, join_with_byte}
@@ -10,11 +10,8 @@ use Rattle.std.proofs.lemmas.List.Splits.{join_with_byte-slice_split}
 use Rattle.std.proofs.lemmas.Bool.{cases_lt, lt-ltb, eqb-false}
 use Rattle.fx_base.specs.declared.fault.Fault.{Fault}
 use Rattle.fx_base.specs.Lines.{text_lines, begin_line, next_number}
-use Rattle.fx_elements.specs.declared.axis.Axis.{Axis}
-use Rattle.fx_elements.specs.declared.axis.Axis.TheVariants as axis
-use Rattle.fx_elements.specs.Axes.{Fields, field, axes, axis_index, axis_count, tops}
+use Rattle.fx_elements.specs.Axes.{Fields}
 use Rattle.fx_elements.specs.Spelling.{quad}
-use Rattle.fx_elements.specs.Values.{value_text}
 use Rattle.fx_elements.proofs.Cuts.{chosen}
 use Rattle.fx_elements.proofs.Numbers.{both}
 use Rattle.fx_elements.proofs.Addresses.{by_some, some_is, decimal_avoids}
@@ -28,20 +25,20 @@ use Rattle.fx_machine.specs.declared.run_line.RunLine.{RunLine}
 use Rattle.fx_machine.specs.declared.run_line.RunLine.TheVariants as line
 use Rattle.fx_machine.specs.Network.{numbered}
 use Rattle.fx_machine.specs.Classes.{Class, IsOf}
-use Rattle.fx_machine.specs.RunText.{Run, choice_word, field_words, packet_words, holder_words, step_words, first_words, last_words, run_lines, lines_text, run_text, largest, IsNumber, AreChoices, IsHolderName, IsStep, IsPacket, IsPacketOf, IsRun, AreShort}
+use Rattle.fx_machine.specs.RunText.{Run, choice_word, field_words, packet_words, holder_words, step_words, first_words, last_words, run_lines, lines_text, run_text, largest, AreChoices, IsHolderName, IsStep, IsPacket, IsPacketOf, IsRun, AreShort}
 use Rattle.fx_machine.specs.RunReading.{Words, words, first_word, at_end, packet_of, step_of, line_of_kind, line_of, Line, at_line, well_formed, said, is_of, no_run, with_packet, with_step, packet_fault, unless, from_line, ended, behind, reading}
 use Rattle.fx_machine.proofs.RunWordTexts.{word_found, same_word, end_found, packet_text, packet_found}
 use Rattle.fx_machine.proofs.RunStepTexts.{step_text, step_found}
 
 -- ---- words have no space and no line feed
 
-abbrev IsPlain : ℕ → Type 0
+abbrev pub IsPlain : ℕ → Type 0
 IsPlain b = (b ≢ 32) × (b ≢ 10)
 
-abbrev IsWord : List ℕ → Type 0
+abbrev pub IsWord : List ℕ → Type 0
 IsWord w = AllByRecursion IsPlain w
 
-abbrev AreWords : Words → Type 0
+abbrev pub AreWords : Words → Type 0
 AreWords ws = AllByRecursion IsWord ws
 
 abbrev is_plain : ℕ → Bool
@@ -100,14 +97,14 @@ choices_plain [] h = tt
 choices_plain (None ∷ cs) h = (written (codes "n") refl, choices_plain cs h.1)
 choices_plain (Some n ∷ cs) h = (number_plain n h.0, choices_plain cs h.1)
 
-packet_plain : (p : Packet) → IsPacket p → AreWords (packet_words p)
+pub packet_plain : (p : Packet) → IsPacket p → AreWords (packet_words p)
 packet_plain p h = (written (codes "packet") refl, (number_plain p.class h.2, (number_plain p.path h.3, words_append (field_words p.fields) (decimal p.octets ∷ []) (fields_plain p.fields h.1) (number_plain p.octets h.4, tt))))
 
 holder_plain : (h : HolderName) → IsHolderName h → AreWords (holder_words h)
 holder_plain (Cache device cache) h = (written (codes "cache") refl, (number_plain device h.0, (number_plain cache h.1, tt)))
 holder_plain (Aggregation device process aggregation) h = (written (codes "aggregation") refl, (number_plain device h.0, (number_plain process h.1, (number_plain aggregation h.2, tt))))
 
-step_plain : (s : Step) → IsStep s → AreWords (step_words s)
+pub step_plain : (s : Step) → IsStep s → AreWords (step_words s)
 step_plain (step.Cross packet crossing choices) h = (written (codes "cross") refl, (number_plain packet h.0, (number_plain crossing h.1, choices_plain choices h.2)))
 step_plain (step.Expire holder position choices) h = (written (codes "expire") refl, words_append (holder_words holder) (decimal position ∷ map choice_word choices) (holder_plain holder h.0) (number_plain position h.1, choices_plain choices h.2))
 step_plain (step.Arrive link position choices) h = (written (codes "arrive") refl, (number_plain link h.0, (number_plain position h.1, choices_plain choices h.2)))
@@ -122,13 +119,13 @@ words_before : (w rest : List ℕ) → IsWord w → words (w ++ 32 ∷ rest) ≡
 words_before [] rest h = refl
 words_before (b ∷ bs) rest h = rw (ne_eqb b 32 h.0.0, words_before bs rest h.1) refl
 
-words_join : (w : List ℕ) (ws : Words) → IsWord w → AreWords ws → words (join_with_byte 32 (w ∷ ws)) ≡ w ∷ ws
+pub words_join : (w : List ℕ) (ws : Words) → IsWord w → AreWords ws → words (join_with_byte 32 (w ∷ ws)) ≡ w ∷ ws
 words_join w [] h hs = words_one w h
 words_join w (y ∷ ys) h hs = words_before w (join_with_byte 32 (y ∷ ys)) h ∙ ap (λ (x : Words). w ∷ x) (words_join y ys hs.0 hs.1)
 
 -- ---- lines before line feeds
 
-abbrev IsLine : List ℕ → Type 0
+abbrev pub IsLine : List ℕ → Type 0
 IsLine l = AllByRecursion (λ b. b ≢ 10) l
 
 line_word : (w : List ℕ) → IsWord w → IsLine w
@@ -139,7 +136,7 @@ line_before : (w rest : List ℕ) → IsWord w → IsLine rest → IsLine (w ++ 
 line_before [] rest h k = (λ e. absurd cc, k)
 line_before (b ∷ bs) rest h k = (h.0.1, line_before bs rest h.1 k)
 
-line_join : (ws : Words) → AreWords ws → IsLine (join_with_byte 32 ws)
+pub line_join : (ws : Words) → AreWords ws → IsLine (join_with_byte 32 ws)
 line_join [] h = tt
 line_join (w ∷ []) h = line_word w h.0
 line_join (w ∷ y ∷ ys) h = line_before w (join_with_byte 32 (y ∷ ys)) h.0 (line_join (y ∷ ys) h.1)
@@ -148,10 +145,10 @@ text_line : (l rest : List ℕ) → IsLine l → text_lines (l ++ 10 ∷ rest) �
 text_line [] rest h = refl
 text_line (b ∷ bs) rest h = rw (ne_eqb b 10 h.0, text_line bs rest h.1) refl
 
-abbrev ended_line : List ℕ → Line
+abbrev pub ended_line : List ℕ → Line
 ended_line l = (l, true)
 
-text_of_lines : (ls : List (List ℕ)) → AllByRecursion IsLine ls → text_lines (lines_text ls) ≡ map ended_line ls
+pub text_of_lines : (ls : List (List ℕ)) → AllByRecursion IsLine ls → text_lines (lines_text ls) ≡ map ended_line ls
 text_of_lines [] h = refl
 text_of_lines (l ∷ ls) h = rw (append_assoc l (10 ∷ []) (lines_text ls)) (text_line l (lines_text ls) h.0 ∙ ap (λ (x : List Line). (l, true) ∷ x) (text_of_lines ls h.1))
 
@@ -174,7 +171,7 @@ ended_text : (ls : List (List ℕ)) → flat_map line_text (map ended_line ls) �
 ended_text [] = refl
 ended_text (l ∷ ls) = ap (λ (x : List ℕ). (l ++ 10 ∷ []) ++ x) (ended_text ls)
 
-text_is : (text : List ℕ) (ls : List (List ℕ)) → text_lines text ≡ map ended_line ls → text ≡ lines_text ls
+pub text_is : (text : List ℕ) (ls : List (List ℕ)) → text_lines text ≡ map ended_line ls → text ≡ lines_text ls
 text_is text ls e = sym (text_back text) ∙ ap (λ (x : List Line). flat_map line_text x) e ∙ ended_text ls
 
 -- ---- packets and their classes
@@ -187,11 +184,11 @@ some_back : {A : Type 0} (o : Option A) → is_some o ≡ true → o ≢ None
 some_back None h = absurd cc
 some_back (Some x) h = λ e. absurd cc
 
-of_true : (p : Packet) (c : Option Class) → IsOf p c → is_of p c ≡ true
+pub of_true : (p : Packet) (c : Option Class) → IsOf p c → is_of p c ≡ true
 of_true p None h = absurd h
 of_true p (Some c) h = rw (h.0, some_true (numbered c.paths p.path) h.1) refl
 
-of_back : (p : Packet) (c : Option Class) → is_of p c ≡ true → IsOf p c
+pub of_back : (p : Packet) (c : Option Class) → is_of p c ≡ true → IsOf p c
 of_back p None h = absurd cc
 of_back p (Some c) h = let k = both _ (is_some (numbered c.paths p.path)) h in (k.0, some_back (numbered c.paths p.path) k.1)
 
@@ -211,16 +208,16 @@ end_line : line_of last_words ≡ Some line.End
 unfolding line_of_kind
 end_line = refl
 
-abbrev text_of_words : Words → List ℕ
+abbrev pub text_of_words : Words → List ℕ
 text_of_words ws = join_with_byte 32 ws
 
 says : (w : List ℕ) (ws : Words) (x : RunLine) → IsWord w → AreWords ws → length (text_of_words (w ∷ ws)) ≤ 4096 → line_of (w ∷ ws) ≡ Some x → said (text_of_words (w ∷ ws), true) ≡ Ok x
 says w ws x h hs short e = rw (le-ltb 4096 (length (text_of_words (w ∷ ws))) short, words_join w ws h hs, e) refl
 
-says_packet : (p : Packet) → IsPacket p → length (text_of_words (packet_words p)) ≤ 4096 → said (text_of_words (packet_words p), true) ≡ Ok (line.Packet p)
+pub says_packet : (p : Packet) → IsPacket p → length (text_of_words (packet_words p)) ≤ 4096 → said (text_of_words (packet_words p), true) ≡ Ok (line.Packet p)
 says_packet p h short = let k = packet_plain p h in says _ _ (line.Packet p) k.0 k.1 short (packet_line p h)
 
-says_step : (s : Step) → IsStep s → length (text_of_words (step_words s)) ≤ 4096 → said (text_of_words (step_words s), true) ≡ Ok (line.Step s)
+pub says_step : (s : Step) → IsStep s → length (text_of_words (step_words s)) ≤ 4096 → said (text_of_words (step_words s), true) ≡ Ok (line.Step s)
 says_step (step.Cross packet crossing choices) h short = let k = step_plain (step.Cross packet crossing choices) h in says _ _ _ k.0 k.1 short (step_line (step.Cross packet crossing choices) h)
 says_step (step.Expire holder position choices) h short = let k = step_plain (step.Expire holder position choices) h in says _ _ _ k.0 k.1 short (step_line (step.Expire holder position choices) h)
 says_step (step.Arrive link position choices) h short = let k = step_plain (step.Arrive link position choices) h in says _ _ _ k.0 k.1 short (step_line (step.Arrive link position choices) h)
@@ -263,7 +260,7 @@ text_read classes run n is short =
 -- ---- what is read is a run's text
 
 -- what was read in a line
-abbrev LineIs : RunLine → Words → Type 0
+abbrev pub LineIs : RunLine → Words → Type 0
 LineIs (line.Packet p) ws = (ws ≡ packet_words p) × IsPacket p
 LineIs (line.Step s) ws = (ws ≡ step_words s) × IsStep s
 LineIs line.End ws = ws ≡ last_words
@@ -298,7 +295,7 @@ kind_found kind ws x is =
       ]
     ]
 
-line_found : (ws : Words) (x : RunLine) → line_of ws ≡ Some x → LineIs x ws
+pub line_found : (ws : Words) (x : RunLine) → line_of ws ≡ Some x → LineIs x ws
 line_found ws x is =
     by_some (first_word ws) _ x is (λ k pk ek. subst (λ (w : Words). LineIs x w) (sym (word_found ws k pk)) (kind_found k.0 k.1 x ek))
 
@@ -307,10 +304,10 @@ formed None x e = absurd cc
 formed (Some y) x e = let k : y ≡ x = cc in ap (λ (z : RunLine). Some z) k
 
 -- a line that says something: it is short, ended and well-formed
-record Says (l : Line) (x : RunLine) : Type 0 where
-  short : length l.0 ≤ 4096
-  ended : l.1 ≡ true
-  words_are : LineIs x (words l.0)
+pub record Says (l : Line) (x : RunLine) : Type 0 where
+  pub short : length l.0 ≤ 4096
+  pub ended : l.1 ≡ true
+  pub words_are : LineIs x (words l.0)
 
 not_long : (n : ℕ) → nat_lt 4096 n ≡ false → n ≤ 4096
 not_long n e =
@@ -319,7 +316,7 @@ not_long n e =
       | inr le ↦ le
     ]
 
-says_found : (l : Line) (x : RunLine) → said l ≡ Ok x → Says l x
+pub says_found : (l : Line) (x : RunLine) → said l ≡ Ok x → Says l x
 says_found l x e =
     elim (chosen (nat_lt 4096 (length l.0)) (Err 903) _ (Ok x) e) [
       | inl h ↦ absurd cc
@@ -330,12 +327,12 @@ says_found l x e =
     ]
 
 -- such a line is the text of its words
-line_is : (l : Line) (ws : Words) → l.1 ≡ true → words l.0 ≡ ws → l ≡ (text_of_words ws, true)
+pub line_is : (l : Line) (ws : Words) → l.1 ≡ true → words l.0 ≡ ws → l ≡ (text_of_words ws, true)
 line_is l ws ended e =
     let k : l.0 ≡ text_of_words ws = sym (join_with_byte-slice_split 32 l.0) ∙ ap (λ (x : Words). text_of_words x) e in
     rw (← ended, ← k) refl
 
-short_is : (l : Line) (ws : Words) → length l.0 ≤ 4096 → words l.0 ≡ ws → length (text_of_words ws) ≤ 4096
+pub short_is : (l : Line) (ws : Words) → length l.0 ≤ 4096 → words l.0 ≡ ws → length (text_of_words ws) ≤ 4096
 short_is l ws short e =
     let k : l.0 ≡ text_of_words ws = sym (join_with_byte-slice_split 32 l.0) ∙ ap (λ (x : Words). text_of_words x) e in
     subst (λ (x : List ℕ). length x ≤ 4096) k short

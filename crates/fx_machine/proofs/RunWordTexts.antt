@@ -1,28 +1,21 @@
 -- The words of a packet and of a step are read as it, and no others are.
-use Rattle.std.proofs.Common.{◌≡◌, ◌≢◌, ℕ, Bool, true, false, cond, eqb, List, [], ◌∷◌, ◌++◌, map, length, get_or, Option, Some, None, refl, ap, sym, ◌∙◌, subst, ◌≤◌, ◌<◌, ◌^◌, zero, suc, arith, inl, inr, append_assoc}
+use Rattle.std.proofs.Common.{◌≡◌, ℕ, Bool, true, false, List, [], ◌∷◌, ◌++◌, map, length, Option, Some, None, refl, ap, sym, ◌∙◌, subst, ◌≤◌, arith, inl, inr, append_assoc}
 use Rattle.std.specs.Prelude.{slice_index, codes, IfSome}
 use Rattle.std.specs.Fmt.{decimal}
 use Rattle.std.specs.Option.{option_map}
-use Rattle.std.specs.List.{AllByRecursion}
 use Rattle.std.specs.Str.{bytes_eq}
 use Rattle.std.proofs.lemmas.Slice.Eq.{bytes_eq-Decides}
 use Rattle.fx_elements.specs.declared.axis.Axis.{Axis}
 use Rattle.fx_elements.specs.declared.axis.Axis.TheVariants as axis
-use Rattle.fx_elements.specs.Axes.{Fields, field, axes, axis_index, axis_count, tops}
-use Rattle.fx_elements.specs.Spelling.{◌>>=◌, number_of, quad_of, quad}
+use Rattle.fx_elements.specs.Axes.{Fields, axis_index, axis_count, tops}
+use Rattle.fx_elements.specs.Spelling.{◌>>=◌, number_of, quad}
 use Rattle.fx_elements.specs.Values.{value_on, value_text}
 use Rattle.fx_elements.proofs.Cuts.{chosen}
 use Rattle.fx_elements.proofs.Decimals.{number_text, number_found}
 use Rattle.fx_elements.proofs.Addresses.{quad_text, quad_found, by_some, some_is}
 use Rattle.fx_boxes.specs.Boxes.{IsFields}
 use Rattle.fx_machine.specs.declared.packet.Packet.{Packet}
-use Rattle.fx_machine.specs.declared.step.HolderName.{HolderName}
-use Rattle.fx_machine.specs.declared.step.HolderName.TheVariants.{Cache, Aggregation}
-use Rattle.fx_machine.specs.declared.step.Step.{Step}
-use Rattle.fx_machine.specs.declared.step.Step.TheVariants as step
-use Rattle.fx_machine.specs.declared.run_line.Action.{Action}
-use Rattle.fx_machine.specs.declared.run_line.Action.TheVariants.{Cross, Expire, Arrive}
-use Rattle.fx_machine.specs.RunText.{choice_word, field_words, packet_words, holder_words, step_words, largest, IsNumber, AreChoices, IsHolderName, IsStep, IsPacket}
+use Rattle.fx_machine.specs.RunText.{choice_word, field_words, packet_words, largest, IsNumber, AreChoices, IsPacket}
 use Rattle.fx_machine.specs.RunReading.{Words, in_first, first_word, number_first, value_first, at_end, fields_first, packet_of, choice_of, choices_behind}
 use Rattle.fx_machine.proofs.RunWords.{value_bound, all_on_axes}
 

@@ -1,11 +1,11 @@
 -- The words of a line, one after another.
-use Rattle.std.proofs.Common.{◌≡◌, ◌≢◌, ℕ, Bool, true, false, cond, eqb, List, [], ◌∷◌, ◌++◌, Option, Some, None, refl, ap, sym, ◌∙◌, subst, ◌≤◌, ◌<◌, ◌^◌, zero, suc, arith, ne_eqb, eq-eqb, inl, inr}
+use Rattle.std.proofs.Common.{◌≡◌, ℕ, Bool, true, false, cond, eqb, List, [], ◌∷◌, Option, Some, None, refl, ap, sym, ◌∙◌, ◌≤◌, zero, suc, arith, inl, inr}
 use Rattle.std.specs.Prelude.{slice_index, is_some, not}
-use Rattle.std.specs.List.{AllByRecursion, join_with_byte, onto_first}
+use Rattle.std.specs.List.{onto_first}
 use Rattle.fx_elements.specs.declared.axis.Axis.{Axis}
 use Rattle.fx_elements.specs.declared.axis.Axis.TheVariants as axis
-use Rattle.fx_elements.specs.Axes.{axis_index, axis_count, tops}
-use Rattle.fx_elements.specs.Spelling.{cut_at, put_before, number_of, quad_of}
+use Rattle.fx_elements.specs.Axes.{axis_index, tops}
+use Rattle.fx_elements.specs.Spelling.{cut_at, put_before}
 use Rattle.fx_elements.specs.Values.{value_on}
 use Rattle.fx_elements.proofs.Cuts.{chosen}
 use Rattle.fx_elements.proofs.Decimals.{number_found}

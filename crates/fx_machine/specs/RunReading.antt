@@ -31,6 +31,7 @@ use Rattle.fx_machine.specs.RunText.{Run, largest}
 abbrev pub Words : Type 0
 Words = List (List ℕ)
 
+-- the words of a line, between its spaces
 abbrev pub words : List ℕ → Words
 words line = slice_split (λ b. b == 32) line
 
@@ -42,9 +43,11 @@ in_first read (w ∷ ws) = option_map (λ x. (x, ws)) (read w)
 abbrev pub first_word : Words → Option (List ℕ × Words)
 first_word ws = in_first (λ w. Some w) ws
 
+-- a number below 2 to the 64
 abbrev pub number_first : Words → Option (ℕ × Words)
 number_first ws = in_first (number_of largest) ws
 
+-- a value on the axis
 abbrev pub value_first : Axis → Words → Option (ℕ × Words)
 value_first axis ws = in_first (value_on axis) ws
 
@@ -58,6 +61,7 @@ at_end x ws = if none_left ws then Some x else None
 
 -- ---- a packet
 
+-- the values on all axes, and the words behind them
 unfoldable pub fields_first : Words → Option (Fields × Words)
 fields_first ws = do
   source ← value_first Source ws
@@ -68,6 +72,7 @@ fields_first ws = do
   service ← value_first ClassOfService destination_port.1
   Some (source.0 ∷ destination.0 ∷ protocol.0 ∷ source_port.0 ∷ destination_port.0 ∷ service.0 ∷ [], service.1)
 
+-- the packet that all of these words are, behind the word `packet`
 unfoldable pub packet_of : Words → Option Packet
 packet_of ws = do
   class ← number_first ws
@@ -91,6 +96,7 @@ aggregation_first ws = do
   aggregation ← number_first process.1
   Some (Aggregation device.0 process.0 aggregation.0, aggregation.1)
 
+-- a cache or an aggregation, and the words behind it
 unfoldable pub holder_first : Words → Option (HolderName × Words)
 holder_first ws = do
   kind ← first_word ws
@@ -136,6 +142,7 @@ step_with (Cross packet crossing) choices = step.Cross packet crossing choices
 step_with (Expire holder position) choices = step.Expire holder position choices
 step_with (Arrive link position) choices = step.Arrive link position choices
 
+-- the step of this kind that all of these words are
 unfoldable pub step_of : List ℕ → Words → Option Step
 step_of kind ws = do
   action ← action_of kind ws
@@ -156,6 +163,7 @@ line_of ws = first_word ws >>= λ kind. line_of_kind kind.0 kind.1
 
 -- ---- a text
 
+-- a line, and whether a line feed ended it
 abbrev pub Line : Type 0
 Line = List ℕ × Bool
 
@@ -193,6 +201,7 @@ abbrev pub ended : ℕ → Run → List Line → Result Run Fault
 ended n run [] = Ok run
 ended n run (l ∷ ls) = Err (at_line (if nat_lt 4096 (length l.0) then 903 else 855) (next_number n))
 
+-- the fault of this number at the line n, if there is one
 abbrev pub unless : Option ℕ → ℕ → Result Run Fault → Result Run Fault
 unless None n result = result
 unless (Some number) n result = Err (at_line number n)

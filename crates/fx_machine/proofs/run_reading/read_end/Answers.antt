@@ -1,4 +1,3 @@
-use Rattle.std.proofs.Common.{inr}
 use Rattle.std.proofs.lemmas.Result.{err_from_is_err_and}
 use Rattle.fx_machine.proofs.RunLines.{end_refused}
 use Rattle.fx_machine.proofs.run_reading.read_end.Goals as goal
