@@ -1,7 +1,14 @@
 -- What a replayed run prints: the collector's totals in its last state, and whether the run is complete.
-use Rattle.std.specs.Prelude.{◌≡◌, ℕ, ◌↔◌, Bool, true, false, List, [], ◌∷◌, ◌++◌, codes, IsTrue, IsPermutation}
+use Rattle.std.specs.Prelude.{◌≡◌, ℕ, ◌↔◌, ◌⊎◌, All, Err, Bool, true, false, List, [], ◌∷◌, ◌++◌, codes, IsTrue, IsPermutation}
 use Rattle.fx_layout.specs.Keys.{Layout}
-use Rattle.fx_machine.specs.States.{State, Complete}
+use Rattle.fx_base.specs.declared.fault.Fault.{Fault}
+use Rattle.fx_base.specs.declared.fault.Place.TheVariants as places
+use Rattle.fx_base.specs.Fault.{fault_at}
+use Rattle.fx_machine.specs.Network.{Net, numbered}
+use Rattle.fx_machine.specs.Classes.{Class, IsOf}
+use Rattle.fx_machine.specs.States.{State, Complete, opening}
+use Rattle.fx_machine.specs.Steps.{run}
+use Rattle.fx_machine.specs.RunText.{Run}
 use Rattle.fx_collect.specs.Totals.{Totals, totals_of}
 use Rattle.fx_collect.specs.Report.{Ascends, totals_text}
 
@@ -19,3 +26,9 @@ pub record IsTextOf (layout : Layout) (s : State) (text : List ℕ) : Type 0 whe
   pub complete : Bool
   pub is_complete : IsTrue complete ↔ Complete s
   pub text_is : text ≡ totals_text totals ++ complete_line complete
+
+-- why a run can't be replayed: a packet isn't in its class, or a step is refused, the first with this number
+abbrev pub IsRefused : Net → List Class → Run → Fault → Type 0
+IsRefused net classes r e =
+    ((e ≡ fault_at 856 places.None) × (All (λ packet. IsOf packet (numbered classes packet.class)) r.packets → ⊥))
+    ⊎ ((e.place ≡ places.None) × (run net classes r.packets r.steps (opening net classes r.packets) ≡ Err e.number))

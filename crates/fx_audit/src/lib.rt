@@ -3,10 +3,11 @@
 
 mod answer;
 mod bundle;
-mod replay;
+mod replaying;
 
 pub use answer::Answer;
 pub use bundle::{Bundle, Command, read_bundle};
+pub use replaying::replay;
 
 #[cfg(test)]
 mod tests;

@@ -7,11 +7,13 @@ ghost use Rattle.fx_machine.specs.States as states;
 ghost use Rattle.fx_machine.specs.Steps as stepping;
 ghost use Rattle.fx_collect.specs.Totals.{totals_of};
 ghost use Rattle.fx_collect.specs.Report.{totals_text, Ascends};
-ghost use Rattle.fx_audit.specs.Replay.{complete_line, IsTextOf};
+ghost use Rattle.fx_audit.specs.Replay.{complete_line, IsRefused, IsTextOf};
+ghost use Rattle.fx_audit.specs.declared.answer.Answer.TheVariants.{Yes};
 
+use crate::answer::Answer;
 use fx_base::{Fault, Sink, put_text};
 use fx_collect::Totals;
-use fx_machine::{State, Step};
+use fx_machine::{Classes, Net, Run, State, Step};
 use std::alloc::Global;
 
 /// Makes one step after another, up to the first that is refused.

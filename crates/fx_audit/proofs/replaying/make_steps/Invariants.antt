@@ -2,7 +2,7 @@
 use Rattle.std.proofs.Common.{◌≡◌, drop}
 use Rattle.fx_machine.specs.States.{State, told}
 use Rattle.fx_machine.specs.Steps.{run}
-use Rattle.fx_audit.proofs.replay.make_steps.Given as goal
+use Rattle.fx_audit.proofs.replaying.make_steps.Given as goal
 
 abbrev pub invariant-loop-step : goal.invariant-loop-step
 invariant-loop-step l = record {

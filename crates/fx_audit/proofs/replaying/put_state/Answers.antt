@@ -1,13 +1,14 @@
 -- The text is that of the sorted totals and the line behind it.
 use Rattle.std.proofs.Common.{◌≡◌, ℕ, List, ◌++◌, ◌∙◌, refl, sym, ap, subst, IsPermutation}
 use Rattle.indexmap.proofs.MapLemmas.{OnOk-map}
+use Rattle.fx_base.specs.Device.{Writes}
 use Rattle.fx_base.proofs.Writing.{writes_both}
 use Rattle.fx_machine.specs.declared.record.Record.{Record}
 use Rattle.fx_collect.specs.Totals.{Totals, nothing, totals_of}
 use Rattle.fx_collect.specs.Report.{Ascends, totals_text}
 use Rattle.fx_audit.specs.Replay.{complete_line, IsTextOf}
 use Rattle.fx_audit.proofs.Layouts.{all_keep}
-use Rattle.fx_audit.proofs.replay.put_state.Goals as goal
+use Rattle.fx_audit.proofs.replaying.put_state.Goals as goal
 
 pub returns-clause-ok : goal.returns-clause-ok
 returns-clause-ok g c =
@@ -23,4 +24,4 @@ returns-clause-ok g c =
       is_complete = c.complete.ensures;
       text_is = refl;
     } in
-    OnOk-map _ _ _ (λ h. (text, is, writes_both _ _ _ _ _ _ c.in_ok-put_report.ensures.ok h refl)) c.put_complete.ensures.ok
+    OnOk-map _ _ _ (λ h. let all : (x : List ℕ) × IsTextOf c.args.state.now.net.report_layout c.args.state.now.state x × Writes (g.S.Sink.taken c.args.sink.now) (g.S.Sink.taken c.put_complete.new.sink) x = (text, is, writes_both _ _ _ _ _ _ c.in_ok-put_report.ensures.ok h refl) in all) c.put_complete.ensures.ok

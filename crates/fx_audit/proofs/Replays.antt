@@ -1,0 +1,34 @@
+-- A run that was replayed step by step.
+use Rattle.std.proofs.Common.{◌≡◌, ℕ, List, Result, Ok, refl, sym, ap, ◌∙◌, subst}
+use Rattle.fx_machine.specs.Network.{Net}
+use Rattle.fx_machine.specs.Classes.{Class}
+use Rattle.fx_machine.specs.declared.packet.Packet.{Packet}
+use Rattle.fx_machine.specs.declared.step.Step.{Step}
+use Rattle.fx_machine.specs.States.{State, opening, told}
+use Rattle.fx_machine.specs.Steps.{run}
+use Rattle.fx_machine.specs.Stores.{Running}
+use Rattle.fx_machine.specs.RunText.{Run}
+use Rattle.fx_audit.specs.Replay.{IsTextOf}
+
+abbrev pub Along : Running → Running → List Step → Type 0
+Along old new steps = (s : State) → old.state ≡ told s → (last : State) × (run old.net old.classes old.packets steps s ≡ Ok last) × (new.state ≡ told last)
+
+abbrev pub Replayed : Net → List Class → List Packet → List Step → (List ℕ → Type 0) → Type 0
+Replayed net classes packets steps W =
+    (last : State) × (text : List ℕ) × (run net classes packets steps (opening net classes packets) ≡ Ok last) × IsTextOf net.report_layout (told last) text × W text
+
+abbrev begun : Net → List Class → List Packet → Running
+begun net classes packets = record { net = net; classes = classes; packets = packets; state = opening net classes packets }
+
+from_opening : (net : Net) (classes : List Class) (packets : List Packet) (steps : List Step) (new : Running) (text : List ℕ) (W : List ℕ → Type 0) → Along (begun net classes packets) new steps → new.net ≡ net → IsTextOf new.net.report_layout new.state text → W text → Replayed net classes packets steps W
+from_opening net classes packets steps new text W along same is w =
+    let end = along (opening net classes packets) refl in
+    let here : IsTextOf net.report_layout new.state text = subst (λ (n : Net). IsTextOf n.report_layout new.state text) same is in
+    (end.0, text, end.1, subst (λ (s : State). IsTextOf net.report_layout s text) end.2 here, w)
+
+pub replayed : (net : Net) (classes : List Class) (packets packets' : List Packet) (steps steps' : List Step) (old new : Running) (text : List ℕ) (W : List ℕ → Type 0) → packets ≡ packets' → steps ≡ steps' → old ≡ begun net classes packets → Along old new steps → new.net ≡ old.net → IsTextOf new.net.report_layout new.state text → W text → Replayed net classes packets' steps' W
+replayed net classes packets packets' steps steps' old new text W ep es eo along same is w =
+    let own : Along (begun net classes packets) new steps = subst (λ (r : Running). Along r new steps) eo along in
+    let mine : new.net ≡ net = same ∙ ap (λ (r : Running). r.net) eo in
+    let all : Replayed net classes packets steps W = from_opening net classes packets steps new text W own mine is w in
+    subst (λ (ps : List Packet). Replayed net classes ps steps' W) ep (subst (λ (ss : List Step). Replayed net classes packets ss W) es all)
