@@ -1,0 +1,30 @@
+use Rattle.std.proofs.Common.{◌≡◌, ◌+◌, List, [], ◌∷◌, drop, map, ◌∙◌, ap, refl, sym, arith}
+use Rattle.std.proofs.lemmas.List.{drop_all, append-nil}
+use Rattle.serde_json.specs.View.{view}
+use Rattle.serde_json.specs.declared.value.Value.{Value}
+use Rattle.fx_config.specs.Pointer.{pointer}
+use Rattle.fx_config.proofs.Faults.{pointer-Item}
+use Rattle.fx_plan.proofs.Linking.{drop_item, next_faults, next_values}
+use Rattle.fx_plan.proofs.links.links_of.Goals as goal
+
+pub loop-item-preserved : goal.loop-item-preserved
+loop-item-preserved c =
+    let i = c.loop-item.invariant in
+    let item = c.item-item.result in
+    let xs = c.args.items.now in
+    let n = c.loop-item.place in
+    let link = c.in_ok-value.value in
+    let before = c.loop-item.values.items in
+    let left = ap (λ (vs : List Value). map view vs) (drop_item xs n c.loop-item.item-index item i.place c.loop-item-test.true c.item-item.is) in
+    let read = rw (c.as_slice.ensures.value, pointer-Item) at c.in_ok-value.ensures in
+    record {
+      place = omega (arith, i.place);
+      faults = i.faults ∙ next_faults c.args.devices.now before c.push.new.self.items (pointer c.args.path.now) n (view item) _ _ link left c.in_ok-push.ensures.items read.0 read.1;
+      values = next_values before c.push.new.self.items (view item) _ _ link left c.in_ok-push.ensures.items read.1 ∙ i.values;
+    }
+
+pub returns : goal.returns
+returns c =
+    let i = c.loop-item.invariant in
+    let none : drop c.loop-item.place c.args.items.now ≡ [] = drop_all c.loop-item.place c.args.items.now (omega (arith, i.place)) in
+    (i.faults ∙ rw none refl, c.from_vec.ensures ∙ rw (none, append-nil) at i.values)

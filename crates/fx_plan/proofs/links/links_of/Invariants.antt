@@ -1,0 +1,13 @@
+use Rattle.std.proofs.Common.{◌≡◌, [], ◌++◌, drop, map}
+use Rattle.serde_json.specs.View.{view}
+use Rattle.fx_config.specs.Pointer.{pointer}
+use Rattle.fx_plan.specs.Links.{link_of, links_faults}
+use Rattle.fx_plan.proofs.links.links_of.Given as goal
+
+abbrev pub invariant-loop-item : goal.invariant-loop-item
+invariant-loop-item l =
+    record {
+      place : l.place ≡ l.item-index;
+      faults : links_faults l.devices [] (pointer l.path) 0 (map view l.items) ≡ links_faults l.devices l.values.items (pointer l.path) l.place (map view (drop l.place l.items));
+      values : l.values.items ++ map link_of (map view (drop l.place l.items)) ≡ map link_of (map view l.items);
+    }

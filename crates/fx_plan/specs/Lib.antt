@@ -1,0 +1,5 @@
+pub mod RequiredLists
+pub mod NetworkDevices
+pub mod Links
+pub mod Reports
+pub mod Networks

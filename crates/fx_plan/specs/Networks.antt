@@ -1,0 +1,33 @@
+-- Network documents: devices, the links between them, and the report that is asked for.
+use Rattle.std.specs.Prelude.{ℕ, List, [], ◌∷◌, codes, map}
+use Rattle.serde_json.specs.Data.{Data}
+use Rattle.fx_config.specs.Walk.{Found, Row, object_faults, required, member_of}
+use Rattle.fx_config.specs.Lists.{items_of}
+use Rattle.fx_plan.specs.declared.limits.TheConstants.{DEVICES}
+use Rattle.fx_plan.specs.declared.network.Network.{Network}
+use Rattle.fx_plan.specs.declared.network_device.NetworkDevice.{NetworkDevice}
+use Rattle.fx_plan.specs.RequiredLists.{required_entries}
+use Rattle.fx_plan.specs.NetworkDevices.{network_device_faults, network_device_of}
+use Rattle.fx_plan.specs.Links.{link_of, links_row}
+use Rattle.fx_plan.specs.Reports.{report_faults, report_of}
+
+abbrev pub devices_of : Data → List NetworkDevice
+devices_of d = map network_device_of (items_of (member_of (codes "devices") d))
+
+-- links and the report name things of the devices
+abbrev pub network_rows : List NetworkDevice → List Row
+network_rows devices =
+    required_entries DEVICES (codes "devices") network_device_faults (λ d. (network_device_of d).name)
+    ∷ links_row devices
+    ∷ required (codes "report") (report_faults devices)
+    ∷ []
+
+abbrev pub network_faults : List ℕ → Data → List Found
+network_faults up d = object_faults (network_rows (devices_of d)) up d
+
+abbrev pub network_of : Data → Network
+network_of d = record {
+  devices = devices_of d;
+  links = map link_of (items_of (member_of (codes "links") d));
+  report = report_of (member_of (codes "report") d);
+}

@@ -1,0 +1,22 @@
+//! Network documents: devices, each with its configuration, the links between them, and the report.
+#![tactic(auto)]
+
+mod ends;
+mod key_field;
+mod limits;
+mod link;
+mod links;
+mod network;
+mod network_device;
+mod refuse;
+mod report;
+mod required_list;
+
+pub use key_field::KeyField;
+pub use link::Link;
+pub use network::{Network, read_network};
+pub use network_device::NetworkDevice;
+pub use report::Report;
+
+#[cfg(test)]
+mod tests;

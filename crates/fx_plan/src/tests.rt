@@ -1,0 +1,149 @@
+use super::*;
+use fx_base::{Fault, Place};
+use fx_elements::{Axis, Element};
+use serde_json::Value;
+use std::alloc::Global;
+use std::test::Fail;
+
+const DEVICES: &str = r#""devices":[{"name":"m1","config":{"ietf-ipfix-psamp:ipfix":{
+"observationPoint":[{"name":"op","observationDomainId":0,"ifName":["eth0"],"selectionProcess":["sp"]}],
+"selectionProcess":[{"name":"sp","selector":[{"name":"a","selectAll":[null]}],"cache":"ca"}],
+"cache":[{"name":"ca","timeoutCache":{"cacheLayout":{"cacheField":[
+{"name":"s","ieName":"sourceIPv4Address","isFlowKey":[null]},
+{"name":"o","ieId":1},{"name":"p","ieId":2}]}},"exportingProcess":["ex"]}],
+"exportingProcess":[{"name":"ex","destination":[{"name":"d","tcpExporter":{}}]}]}}},
+{"name":"c1","config":{"ietf-ipfix-psamp:ipfix":{"collectingProcess":[{"name":"cp"}]}}}]"#;
+
+const LINK: &str = r#"{"device":"m1","exportingProcess":"ex","destination":"d","toDevice":"c1","toProcess":"cp"}"#;
+
+const REPORT: &str = r#""report":{"device":"c1","collectingProcess":"cp","key":[{"ieName":"sourceIPv4Address"}]}"#;
+
+/// What reading the text of a document comes to: `ok`, or the fault's number and pointer.
+fn outcome(alloc: Global, text: &str) -> Result<String, Fail> {
+    let value = Value::from_str(alloc, text)?;
+    let Err(fault) = read_network(alloc, &value) else {
+        return Ok(String::from_str(alloc, "ok")?);
+    };
+    let Fault { number, place } = fault;
+    Ok(format!(in alloc; "{number} {place}")?)
+}
+
+/// The same for a document with these devices, links and report.
+fn outcome_of(alloc: Global, devices: &str, links: &str, report: &str) -> Result<String, Fail> {
+    let text = format!(in alloc; "{{{devices},\"links\":{links},{report}}}")?;
+    outcome(alloc, text.as_str())
+}
+
+#[test]
+fn reads_a_network(rt: HostRuntime) -> Result<(), Fail> {
+    let text = format!(in rt.alloc(); "{{{DEVICES},\"links\":[{LINK}],{REPORT}}}")?;
+    let value = Value::from_str(rt.alloc(), text.as_str())?;
+    let network = read_network(rt.alloc(), &value)?;
+    let [meter, collector] = network.devices.as_slice() else {
+        return Err(Fail::from("two devices"));
+    };
+    assert_eq!(rt; meter.name.as_str(), "m1");
+    assert_eq!(rt; meter.config.caches.as_slice().len(), 1);
+    assert_eq!(rt; collector.name.as_str(), "c1");
+    assert_eq!(rt; collector.config.collecting_processes.as_slice().len(), 1);
+    let [link] = network.links.as_slice() else {
+        return Err(Fail::from("one link"));
+    };
+    assert_eq!(rt; link.device.as_str(), "m1");
+    assert_eq!(rt; link.exporting_process.as_str(), "ex");
+    assert_eq!(rt; link.destination.as_str(), "d");
+    assert_eq!(rt; link.to_device.as_str(), "c1");
+    assert_eq!(rt; link.to_process.as_str(), "cp");
+    assert_eq!(rt; network.report.device.as_str(), "c1");
+    assert_eq!(rt; network.report.collecting_process.as_str(), "cp");
+    let [field] = network.report.key.as_slice() else {
+        return Err(Fail::from("one key field"));
+    };
+    assert_eq!(rt; field.element, Element::OnAxis(Axis::Source));
+    Ok(())
+}
+
+#[test]
+fn refuses_wrong_networks(rt: HostRuntime) -> Result<(), Fail> {
+    let rows = [
+        ("{}", "103 "),
+        ("[]", "104 "),
+        (r#"{"a/b":1}"#, "102 /a~1b"),
+        (r#"{"devices":[]}"#, "103 "),
+        (r#"{"devices":{},"links":[]}"#, "104 /devices"),
+        (r#"{"devices":[{},{},{}]}"#, "115 /devices"),
+        (r#"{"devices":[{"name":"a","config":{}}]}"#, "103 /devices/0/config"),
+        (r#"{"devices":[],"links":[{},{}]}"#, "115 /links"),
+        (r#"{"devices":[],"links":[{}]}"#, "103 /links/0"),
+        (r#"{"devices":[],"links":[]}"#, "103 "),
+    ];
+    for (text, wanted) in rows {
+        assert_eq!(rt; outcome(rt.alloc(), text)?.as_str(), wanted);
+    }
+    Ok(())
+}
+
+#[test]
+fn refuses_names_twice(rt: HostRuntime) -> Result<(), Fail> {
+    let text = r#"{"devices":[
+        {"name":"a","config":{"ietf-ipfix-psamp:ipfix":{}}},
+        {"name":"a","config":{"ietf-ipfix-psamp:ipfix":{}}}]}"#;
+    assert_eq!(rt; outcome(rt.alloc(), text)?.as_str(), "106 /devices/1/name");
+    Ok(())
+}
+
+#[test]
+fn refuses_links_without_ends(rt: HostRuntime) -> Result<(), Fail> {
+    let rows = [
+        r#"{"device":"x","exportingProcess":"ex","destination":"d","toDevice":"c1","toProcess":"cp"}"#,
+        r#"{"device":"m1","exportingProcess":"x","destination":"d","toDevice":"c1","toProcess":"cp"}"#,
+        r#"{"device":"m1","exportingProcess":"ex","destination":"x","toDevice":"c1","toProcess":"cp"}"#,
+        r#"{"device":"m1","exportingProcess":"ex","destination":"d","toDevice":"x","toProcess":"cp"}"#,
+        r#"{"device":"m1","exportingProcess":"ex","destination":"d","toDevice":"m1","toProcess":"cp"}"#,
+    ];
+    for link in rows {
+        let links = format!(in rt.alloc(); "[{link}]")?;
+        let outcome = outcome_of(rt.alloc(), DEVICES, links.as_str(), REPORT)?;
+        assert_eq!(rt; outcome.as_str(), "201 /links/0");
+    }
+    Ok(())
+}
+
+#[test]
+fn refuses_wrong_reports(rt: HostRuntime) -> Result<(), Fail> {
+    let rows = [
+        (
+            r#""report":{"device":"m1","collectingProcess":"cp","key":[]}"#,
+            "205 /report",
+        ),
+        (
+            r#""report":{"device":"x","collectingProcess":"cp","key":[{"ieName":4}]}"#,
+            "104 /report/key/0/ieName",
+        ),
+        (
+            r#""report":{"device":"c1","collectingProcess":"cp","key":[{"ieName":"octetDeltaCount"}]}"#,
+            "206 /report",
+        ),
+        (
+            r#""report":{"device":"c1","collectingProcess":"cp","key":[{"ieName":"sourceIPv4Address"},{"ieName":"sourceIPv4Address"}]}"#,
+            "206 /report",
+        ),
+        (
+            r#""report":{"device":"c1","collectingProcess":" cp","key":[]}"#,
+            "105 /report/collectingProcess",
+        ),
+        (
+            r#""report":{"device":"c1","collectingProcess":"cp"}"#,
+            "103 /report",
+        ),
+        (
+            r#""report":{"device":"c1","collectingProcess":"cp","key":[]}"#,
+            "ok",
+        ),
+    ];
+    for (report, wanted) in rows {
+        let outcome = outcome_of(rt.alloc(), DEVICES, "[]", report)?;
+        assert_eq!(rt; outcome.as_str(), wanted);
+    }
+    Ok(())
+}
