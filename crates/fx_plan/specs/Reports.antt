@@ -1,6 +1,5 @@
 -- The report: the collecting process whose totals are asked for, and their key.
 use Rattle.std.specs.Prelude.{ℕ, List, [], ◌∷◌, Bool, not, codes, map, Option, Some, None, is_some, option_and_then, if◌then◌else◌}
-use Rattle.std.specs.Option.{unwrap_or}
 use Rattle.serde_json.specs.Data.{Data}
 use Rattle.fx_elements.specs.Elements.{element_named}
 use Rattle.fx_elements.specs.Values.{axis_of}

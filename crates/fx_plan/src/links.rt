@@ -29,12 +29,7 @@ fn ends_are_there(
 }
 
 /// Refuses a link at the path that leads from the same destination as an earlier one (202).
-fn starts_alone(
-    alloc: Global,
-    path: &Path<'_>,
-    earlier: &[Link],
-    link: &Link,
-) -> Result<(), Fault>
+fn starts_alone(alloc: Global, path: &Path<'_>, earlier: &[Link], link: &Link) -> Result<(), Fault>
     ensures { Reads (fault_if (starts_there earlier.now link.now) 202 (pointer path.now)) tt result }
 {
     refuse_if(alloc, path, 202, starts_there(earlier, link))
@@ -55,7 +50,13 @@ fn link_behind(
         alloc,
         path,
         value,
-        &["device", "exportingProcess", "destination", "toDevice", "toProcess"],
+        &[
+            "device",
+            "exportingProcess",
+            "destination",
+            "toDevice",
+            "toProcess",
+        ],
     )?;
     let device = required_member::<Name>(alloc, path, value, "device")?;
     let exporting = required_member::<Name>(alloc, path, value, "exportingProcess")?;

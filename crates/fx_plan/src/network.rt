@@ -35,11 +35,7 @@ impl FromValue for Network {
     fn from_value(alloc: Global, path: &Path<'_>, value: &Value) -> Result<Network, Fault> {
         object_of(alloc, path, value, &["devices", "links", "report"])?;
         let devices: Sequence<NetworkDevice> = required_entries(
-            alloc,
-            path,
-            value,
-            "devices",
-            DEVICES,
+            alloc, path, value, "devices", DEVICES,
         )?;
         let known = devices.as_slice();
         let links = links_member(alloc, path, value, known)?;

@@ -14,9 +14,11 @@ const DEVICES: &str = r#""devices":[{"name":"m1","config":{"ietf-ipfix-psamp:ipf
 "exportingProcess":[{"name":"ex","destination":[{"name":"d","tcpExporter":{}}]}]}}},
 {"name":"c1","config":{"ietf-ipfix-psamp:ipfix":{"collectingProcess":[{"name":"cp"}]}}}]"#;
 
-const LINK: &str = r#"{"device":"m1","exportingProcess":"ex","destination":"d","toDevice":"c1","toProcess":"cp"}"#;
+const LINK: &str =
+    r#"{"device":"m1","exportingProcess":"ex","destination":"d","toDevice":"c1","toProcess":"cp"}"#;
 
-const REPORT: &str = r#""report":{"device":"c1","collectingProcess":"cp","key":[{"ieName":"sourceIPv4Address"}]}"#;
+const REPORT: &str =
+    r#""report":{"device":"c1","collectingProcess":"cp","key":[{"ieName":"sourceIPv4Address"}]}"#;
 
 /// What reading the text of a document comes to: `ok`, or the fault's number and pointer.
 fn outcome(alloc: Global, text: &str) -> Result<String, Fail> {
@@ -72,7 +74,10 @@ fn refuses_wrong_networks(rt: HostRuntime) -> Result<(), Fail> {
         (r#"{"devices":[]}"#, "103 "),
         (r#"{"devices":{},"links":[]}"#, "104 /devices"),
         (r#"{"devices":[{},{},{}]}"#, "115 /devices"),
-        (r#"{"devices":[{"name":"a","config":{}}]}"#, "103 /devices/0/config"),
+        (
+            r#"{"devices":[{"name":"a","config":{}}]}"#,
+            "103 /devices/0/config",
+        ),
         (r#"{"devices":[],"links":[{},{}]}"#, "115 /links"),
         (r#"{"devices":[],"links":[{}]}"#, "103 /links/0"),
         (r#"{"devices":[],"links":[]}"#, "103 "),
