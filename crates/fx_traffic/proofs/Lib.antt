@@ -1,0 +1,2 @@
+mod Regions
+mod Walks

@@ -1,0 +1,40 @@
+-- Bounds of regions.
+use Rattle.std.proofs.Common.{◌≡◌, ◌<◌, ◌≤◌, ℕ, zero, suc, ◌+◌, ◌-◌, ◌*◌, ◌/◌, ◌^◌, List, [], ◌∷◌, Option, Some, None, IfSome, option_map, refl, sym, subst, arith}
+use Rattle.std.proofs.Math.Nat.{div-lt_iff_lt-mul, mul-le-mul_right}
+use Rattle.std.proofs.Math.Pow.{pow_pos}
+use Rattle.std.proofs.lemmas.Nat.{pow-add}
+use Rattle.fx_elements.specs.Values.{with_prefix}
+use Rattle.fx_elements.specs.declared.axis.Axis.TheVariants.{Source, Destination, Protocol, SourcePort, DestinationPort, ClassOfService}
+use Rattle.fx_elements.specs.declared.values.Range.{Range}
+use Rattle.fx_boxes.specs.Boxes.{IsRegion}
+use Rattle.fx_traffic.specs.Regions.{IsOn, bounds_of}
+
+-- blocks of a size that divides the whole end within it
+in_blocks : (v s m whole : ℕ) → 0 < s → m * s ≡ whole → v < whole → v / s * s + (s - 1) < whole
+in_blocks v s m whole pos is h =
+    let few : v / s < m = (div-lt_iff_lt-mul pos).1 (rw is h) in
+    let most : suc (v / s) * s ≤ m * s = mul-le-mul_right s few in
+    omega (arith, pos, is, most)
+
+prefix_ends : (v n : ℕ) → v < 2 ^ 32 → n ≤ 32 → v / 2 ^ (32 - n) * 2 ^ (32 - n) + (2 ^ (32 - n) - 1) < 2 ^ 32
+prefix_ends v n h few =
+    let same : n + (32 - n) ≡ 32 = omega (arith, few) in
+    in_blocks v (2 ^ (32 - n)) (2 ^ n) (2 ^ 32) (pow_pos (32 - n)) (rw (← pow-add 2 n (32 - n), same) refl) h
+
+-- the addresses of a prefix are addresses
+pub prefix_is_on : (o : Option (ℕ × ℕ)) → ((p : ℕ × ℕ) → o ≡ Some p → (p.0 < 2 ^ 32) × (p.1 ≤ 32)) → IfSome (option_map with_prefix o) (IsOn Source)
+prefix_is_on None h = tt
+prefix_is_on (Some p) h =
+    let facts = h p refl in
+    let end : p.0 / 2 ^ (32 - p.1) * 2 ^ (32 - p.1) + (2 ^ (32 - p.1) - 1) < 2 ^ 32 = prefix_ends p.0 p.1 facts.0 facts.1 in
+    (omega arith, omega (arith, end))
+
+-- values on each axis make a region
+pub on_all_axes : (a b c d e f : Range) → IsOn Source a → IsOn Destination b → IsOn Protocol c → IsOn SourcePort d → IsOn DestinationPort e → IsOn ClassOfService f → IsRegion (bounds_of (a ∷ b ∷ c ∷ d ∷ e ∷ f ∷ []))
+on_all_axes a b c d e f ha hb hc hd he hf zero h = ha
+on_all_axes a b c d e f ha hb hc hd he hf (suc zero) h = hb
+on_all_axes a b c d e f ha hb hc hd he hf (suc (suc zero)) h = hc
+on_all_axes a b c d e f ha hb hc hd he hf (suc (suc (suc zero))) h = hd
+on_all_axes a b c d e f ha hb hc hd he hf (suc (suc (suc (suc zero)))) h = he
+on_all_axes a b c d e f ha hb hc hd he hf (suc (suc (suc (suc (suc zero))))) h = hf
+on_all_axes a b c d e f ha hb hc hd he hf (suc (suc (suc (suc (suc (suc k)))))) h = absurd (omega (arith, h))

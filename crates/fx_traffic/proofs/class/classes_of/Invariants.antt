@@ -1,0 +1,16 @@
+use Rattle.std.proofs.Common.{◌≡◌, [], ◌++◌, drop, map}
+use Rattle.serde_json.specs.View.{view}
+use Rattle.fx_config.specs.Pointer.{pointer}
+use Rattle.fx_config.specs.Lists.{entries_faults}
+use Rattle.fx_traffic.specs.Classes.{class_faults, class_name, class_of}
+use Rattle.fx_traffic.proofs.class.classes_of.Given as goal
+
+abbrev pub invariant-loop-item : goal.invariant-loop-item
+invariant-loop-item g l =
+    let faults = class_faults (map g.T.Named.name l.devices) in
+    let meaning = class_of (map g.T.Named.name l.devices) in
+    record {
+      place : l.place ≡ l.item-index;
+      faults : entries_faults faults class_name [] (pointer l.path) 0 (map view l.items) ≡ entries_faults faults class_name l.names.items (pointer l.path) l.place (map view (drop l.place l.items));
+      classes : l.classes.items ++ map meaning (map view (drop l.place l.items)) ≡ map meaning (map view l.items);
+    }

@@ -1,0 +1,5 @@
+use Rattle.fx_config.proofs.Faults.{pointer-Member}
+use Rattle.fx_traffic.proofs.crossing.device_member.Goals as goal
+
+pub returns-in-Some : goal.returns-in-Some
+returns-in-Some g c = rw (← c.in-Some.ensures) (rw pointer-Member at c.device_at.ensures)

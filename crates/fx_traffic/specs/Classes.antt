@@ -1,0 +1,53 @@
+-- A declaration of traffic: the classes of the packets that cross a network.
+use Rattle.std.specs.Prelude.{ℕ, List, [], ◌∷◌, codes, map}
+use Rattle.serde_json.specs.Data.{Data}
+use Rattle.serde_json.specs.Find.{get}
+use Rattle.fx_config.specs.Walk.{Found, Row, object_faults, required, optional, member_of}
+use Rattle.fx_config.specs.Lists.{entries_faults, items_faults, items_of}
+use Rattle.fx_config.specs.Scalars.{text_of}
+use Rattle.fx_machine.specs.Classes.{Class}
+use Rattle.fx_traffic.specs.Texts.{name_once}
+use Rattle.fx_traffic.specs.Lists.{list_faults}
+use Rattle.fx_traffic.specs.Regions.{region_faults, region_given}
+use Rattle.fx_traffic.specs.Crossings.{path_faults, path_of}
+use Rattle.fx_traffic.specs.declared.limits.TheConstants.{CLASSES, PATHS}
+
+-- ---- a class, in a network whose devices have these names
+
+abbrev pub paths_faults : List (List ℕ) → List ℕ → Data → List Found
+paths_faults devices = list_faults 1 PATHS (λ up ds. items_faults (path_faults devices) up 0 ds)
+
+abbrev pub class_rows : List (List ℕ) → List (List ℕ) → List Row
+class_rows devices earlier =
+    required (codes "name") (name_once earlier)
+    ∷ optional (codes "region") region_faults
+    ∷ required (codes "paths") (paths_faults devices)
+    ∷ []
+
+abbrev pub class_faults : List (List ℕ) → List (List ℕ) → List ℕ → Data → List Found
+class_faults devices earlier = object_faults (class_rows devices earlier)
+
+abbrev pub class_name : Data → List ℕ
+class_name d = text_of (member_of (codes "name") d)
+
+abbrev pub class_of : List (List ℕ) → Data → Class
+class_of devices d = record {
+  region = region_given (get (codes "region") d);
+  paths = map (path_of devices) (items_of (member_of (codes "paths") d));
+}
+
+-- ---- the document, of which crates above speak by these two words
+
+abbrev pub list_of_classes_faults : List (List ℕ) → List ℕ → Data → List Found
+list_of_classes_faults devices = list_faults 0 CLASSES (λ up ds. entries_faults (class_faults devices) class_name [] up 0 ds)
+
+abbrev pub traffic_rows : List (List ℕ) → List Row
+traffic_rows devices =
+    required (codes "classes") (list_of_classes_faults devices)
+    ∷ []
+
+unfoldable pub traffic_faults : List (List ℕ) → List ℕ → Data → List Found
+traffic_faults devices up d = object_faults (traffic_rows devices) up d
+
+unfoldable pub traffic_of : List (List ℕ) → Data → List Class
+traffic_of devices d = map (class_of devices) (items_of (member_of (codes "classes") d))

@@ -1,0 +1,5 @@
+pub mod Texts
+pub mod Lists
+pub mod Crossings
+pub mod Regions
+pub mod Classes

@@ -1,0 +1,75 @@
+-- Regions: the values that the fields of a class's packets may have.
+use Rattle.std.specs.Prelude.{◌≤◌, ℕ, List, [], ◌∷◌, codes, map, Option, Some, None, is_some, slice_index}
+use Rattle.std.specs.Option.{unwrap_or}
+use Rattle.serde_json.specs.Data.{Data}
+use Rattle.serde_json.specs.Find.{get}
+use Rattle.fx_elements.specs.Axes.{axes, axis_index, tops}
+use Rattle.fx_elements.specs.Values.{values_of}
+use Rattle.fx_elements.specs.declared.axis.Axis.{Axis}
+use Rattle.fx_elements.specs.declared.axis.Axis.TheVariants.{Source, Destination, Protocol, SourcePort, DestinationPort, ClassOfService}
+use Rattle.fx_elements.specs.declared.element.Element.TheVariants.{SourcePrefix, DestinationPrefix}
+use Rattle.fx_elements.specs.declared.values.Range.{Range}
+use Rattle.fx_boxes.specs.Boxes.{Bounds}
+use Rattle.fx_config.specs.Walk.{Found, Row, object_faults, optional}
+use Rattle.fx_config.specs.Scalars.{text_of}
+use Rattle.fx_traffic.specs.Texts.{text_that}
+
+-- ---- an axis
+
+abbrev pub axis_name : Axis → List ℕ
+axis_name Source = codes "sourceIPv4Address"
+axis_name Destination = codes "destinationIPv4Address"
+axis_name Protocol = codes "protocolIdentifier"
+axis_name SourcePort = codes "sourceTransportPort"
+axis_name DestinationPort = codes "destinationTransportPort"
+axis_name ClassOfService = codes "ipClassOfService"
+
+-- the addresses that a prefix spells; no text spells values on another axis
+abbrev pub values_on : Axis → List ℕ → Option Range
+values_on Source text = values_of SourcePrefix text
+values_on Destination text = values_of DestinationPrefix text
+values_on Protocol text = None
+values_on SourcePort text = None
+values_on DestinationPort text = None
+values_on ClassOfService text = None
+
+abbrev pub values_faults : Axis → List ℕ → Data → List Found
+values_faults axis = text_that (λ text. is_some (values_on axis text))
+
+-- all values on the axis
+abbrev pub all_on : Axis → Range
+all_on axis = record { low = 0; high = slice_index tops (axis_index axis); bits = 0 }
+
+abbrev pub values_in : Axis → Data → Range
+values_in axis d = unwrap_or (values_on axis (text_of d)) (all_on axis)
+
+-- an axis that isn't named has all its values
+abbrev pub values_given : Axis → Option Data → Range
+values_given axis None = all_on axis
+values_given axis (Some d) = values_in axis d
+
+-- a low that is at most its high, and no value past the greatest
+abbrev pub IsOn : Axis → Range → Type 0
+IsOn axis values = (values.low ≤ values.high) × (values.high ≤ slice_index tops (axis_index axis))
+
+-- ---- regions
+
+abbrev pub region_rows : List Row
+region_rows = map (λ axis. optional (axis_name axis) (values_faults axis)) axes
+
+abbrev pub region_faults : List ℕ → Data → List Found
+region_faults = object_faults region_rows
+
+abbrev pub bounds_of : List Range → Bounds
+bounds_of ranges = record { low = map (λ values. values.low) ranges; high = map (λ values. values.high) ranges }
+
+abbrev pub region_of : Data → Bounds
+region_of d = bounds_of (map (λ axis. values_given axis (get (axis_name axis) d)) axes)
+
+-- all fields
+abbrev pub whole : Bounds
+whole = bounds_of (map all_on axes)
+
+abbrev pub region_given : Option Data → Bounds
+region_given None = whole
+region_given (Some d) = region_of d

@@ -1,0 +1,115 @@
+//! The classes of the packets that cross a network.
+ghost use Rattle.std.specs.Prelude.{◌≡◌, ℕ, List, [], map, codes};
+ghost use Rattle.serde_json.specs.View.{view};
+ghost use Rattle.serde_json.specs.Find.{get};
+ghost use Rattle.fx_config.specs.Pointer.{pointer};
+ghost use Rattle.fx_config.specs.Walk.{Reads, required, optional, member_of};
+ghost use Rattle.fx_config.specs.Lists.{entries_faults, items_of};
+ghost use Rattle.fx_traffic.specs.Crossings.{path_of};
+ghost use Rattle.fx_traffic.specs.Regions.{region_faults, region_given};
+ghost use Rattle.fx_traffic.specs.Classes.{class_faults, class_name, class_of, list_of_classes_faults, paths_faults};
+
+use crate::limits::CLASSES;
+use crate::list::items_in;
+use crate::path::read_paths;
+use crate::region::{read_region, whole};
+use crate::text::name_member;
+use fx_base::{Fault, Name};
+use fx_boxes::Region;
+use fx_config::walk::{Named, Path, Sequence, object_of, refusal};
+use fx_machine::{Class, Path as Route};
+use serde_json::Value;
+use std::alloc::Global;
+
+/// The member `region`, which is whole where it isn't there.
+fn region_member(alloc: Global, path: &Path<'_>, object: &Value) -> Result<Region, Fault>
+    ensures { Reads ((optional (codes "region") region_faults).faults (pointer path.now) (view object.now)) (region_given (get (codes "region") (view object.now))) result }
+{
+    match object.get("region") {
+        Some(value) => read_region(alloc, &Path::Member(path, "region"), value),
+        None => Ok(whole()),
+    }
+}
+
+fn paths_member<T: Named>(
+    alloc: Global,
+    path: &Path<'_>,
+    object: &Value,
+    devices: &[T],
+) -> Result<Sequence<Route>, Fault>
+    ensures { Reads ((required (codes "paths") (paths_faults (map T.name devices.now))).faults (pointer path.now) (view object.now)) (map (path_of (map T.name devices.now)) (items_of (member_of (codes "paths") (view object.now)))) result }
+{
+    match object.get("paths") {
+        Some(value) => read_paths(alloc, &Path::Member(path, "paths"), value, devices),
+        None => Err(refusal(alloc, 103, path)),
+    }
+}
+
+/// A class as the document has it.
+#[derive(Debug, Drop)]
+struct NamedClass {
+    /// Its name, which differs from those of the other classes.
+    name: Name,
+    /// Its packets.
+    class: Class,
+}
+
+/// A class behind classes with these names.
+fn read_class<T: Named>(
+    alloc: Global,
+    path: &Path<'_>,
+    value: &Value,
+    devices: &[T],
+    earlier: &[Name],
+) -> Result<NamedClass, Fault>
+    ensures { Reads (class_faults (map T.name devices.now) earlier.now (pointer path.now) (view value.now)) (record { name = class_name (view value.now); class = class_of (map T.name devices.now) (view value.now) }) result }
+{
+    object_of(alloc, path, value, &["name", "region", "paths"])?;
+    let name = name_member(alloc, path, value, earlier)?;
+    let region = region_member(alloc, path, value)?;
+    let paths = paths_member(alloc, path, value, devices)?;
+    Ok(NamedClass {
+        name,
+        class: Class::new(region, paths.into_vec()),
+    })
+}
+
+/// The classes of the list at the path, in order.
+fn classes_of<T: Named>(
+    alloc: Global,
+    path: &Path<'_>,
+    items: &[Value],
+    devices: &[T],
+) -> Result<Sequence<Class>, Fault>
+    ensures { Reads (entries_faults (class_faults (map T.name devices.now)) class_name [] (pointer path.now) 0 (map view items.now)) (map (class_of (map T.name devices.now)) (map view items.now)) result }
+{
+    let mut names = Vec::new(alloc);
+    let mut classes = Vec::new(alloc);
+    let mut place = 0;
+    for item in items {
+        let named = read_class(
+            alloc,
+            &Path::Item(&*path, place),
+            item,
+            devices,
+            names.as_slice(),
+        )?;
+        names.push(named.name)?;
+        classes.push(named.class)?;
+        place += 1;
+    }
+    Ok(Sequence::from_vec(classes))
+}
+
+/// The list of classes.
+pub fn read_list<T: Named>(
+    alloc: Global,
+    path: &Path<'_>,
+    value: &Value,
+    devices: &[T],
+) -> Result<Sequence<Class>, Fault>
+    ensures { Reads (list_of_classes_faults (map T.name devices.now) (pointer path.now) (view value.now)) (map (class_of (map T.name devices.now)) (items_of (view value.now))) result }
+{
+    let items = items_in(alloc, path, value, 0, CLASSES)?;
+    classes_of(alloc, path, items, devices)
+}

@@ -1,0 +1,115 @@
+//! Crossings: a packet goes through an interface of a device.
+ghost use Rattle.std.specs.Prelude.{◌≡◌, ℕ, List, map, codes};
+ghost use Rattle.serde_json.specs.View.{view};
+ghost use Rattle.fx_config.specs.Pointer.{pointer};
+ghost use Rattle.fx_config.specs.Walk.{Reads, required, member_of};
+ghost use Rattle.fx_config.specs.Scalars.{text_of};
+ghost use Rattle.fx_traffic.specs.Texts.{name_faults};
+ghost use Rattle.fx_traffic.specs.Crossings.{number_in, number_of, device_faults, inwards_in, inwards_of, direction_faults, crossing_faults, crossing_of};
+
+use crate::text::read_name;
+use fx_base::{Fault, Name};
+use fx_config::walk::{Named, Path, object_of, place_of, refusal};
+use fx_machine::Crossing;
+use serde_json::Value;
+use std::alloc::Global;
+
+/// The number, from 1, of the first of these devices that has the name.
+fn number_in<T: Named>(devices: &[T], name: &Name) -> Option<u64>
+    ensures { result ≡ number_in (map T.name devices.now) name.now }
+{
+    let place = place_of(devices, name)?;
+    Some(place as u64 + 1)
+}
+
+/// The number of the device that the value names: 303 where none has its name.
+fn device_at<T: Named>(
+    alloc: Global,
+    path: &Path<'_>,
+    value: &Value,
+    devices: &[T],
+) -> Result<u64, Fault>
+    ensures { Reads (device_faults (map T.name devices.now) (pointer path.now) (view value.now)) (number_of (map T.name devices.now) (view value.now)) result }
+{
+    let name = read_name(alloc, path, value)?;
+    match number_in(devices, &name) {
+        Some(number) => Ok(number),
+        None => Err(refusal(alloc, 303, path)),
+    }
+}
+
+fn device_member<T: Named>(
+    alloc: Global,
+    path: &Path<'_>,
+    object: &Value,
+    devices: &[T],
+) -> Result<u64, Fault>
+    ensures { Reads ((required (codes "device") (device_faults (map T.name devices.now))).faults (pointer path.now) (view object.now)) (number_of (map T.name devices.now) (member_of (codes "device") (view object.now))) result }
+{
+    match object.get("device") {
+        Some(value) => device_at(alloc, &Path::Member(path, "device"), value, devices),
+        None => Err(refusal(alloc, 103, path)),
+    }
+}
+
+fn interface_member(alloc: Global, path: &Path<'_>, object: &Value) -> Result<Name, Fault>
+    ensures { Reads ((required (codes "interface") name_faults).faults (pointer path.now) (view object.now)) (text_of (member_of (codes "interface") (view object.now))) result }
+{
+    match object.get("interface") {
+        Some(value) => read_name(alloc, &Path::Member(path, "interface"), value),
+        None => Err(refusal(alloc, 103, path)),
+    }
+}
+
+/// Whether a packet comes into the device.
+fn inwards_in(text: &str) -> Option<bool>
+    ensures { result ≡ inwards_in text.now }
+{
+    match text {
+        "ingress" => Some(true),
+        "egress" => Some(false),
+        _ => None,
+    }
+}
+
+/// A direction: 104 for no text, 302 for another text than `ingress` and `egress`.
+fn inwards_at(alloc: Global, path: &Path<'_>, value: &Value) -> Result<bool, Fault>
+    ensures { Reads (direction_faults (pointer path.now) (view value.now)) (inwards_of (view value.now)) result }
+{
+    let Some(text) = value.as_str() else {
+        return Err(refusal(alloc, 104, path));
+    };
+    match inwards_in(text) {
+        Some(inwards) => Ok(inwards),
+        None => Err(refusal(alloc, 302, path)),
+    }
+}
+
+fn inwards_member(alloc: Global, path: &Path<'_>, object: &Value) -> Result<bool, Fault>
+    ensures { Reads ((required (codes "direction") direction_faults).faults (pointer path.now) (view object.now)) (inwards_of (member_of (codes "direction") (view object.now))) result }
+{
+    match object.get("direction") {
+        Some(value) => inwards_at(alloc, &Path::Member(path, "direction"), value),
+        None => Err(refusal(alloc, 103, path)),
+    }
+}
+
+/// A crossing of one of these devices.
+pub fn read_crossing<T: Named>(
+    alloc: Global,
+    path: &Path<'_>,
+    value: &Value,
+    devices: &[T],
+) -> Result<Crossing, Fault>
+    ensures { Reads (crossing_faults (map T.name devices.now) (pointer path.now) (view value.now)) (crossing_of (map T.name devices.now) (view value.now)) result }
+{
+    object_of(alloc, path, value, &["device", "interface", "direction"])?;
+    let device = device_member(alloc, path, value, devices)?;
+    let interface = interface_member(alloc, path, value)?;
+    let inwards = inwards_member(alloc, path, value)?;
+    Ok(Crossing {
+        device,
+        interface,
+        inwards,
+    })
+}

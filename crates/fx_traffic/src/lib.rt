@@ -1,0 +1,16 @@
+//! Declarations of traffic: the classes of the packets that cross a network, and the paths that they take.
+#![tactic(auto)]
+
+mod class;
+mod crossing;
+mod limits;
+mod list;
+mod path;
+mod region;
+mod text;
+mod traffic;
+
+pub use traffic::{Traffic, read_classes};
+
+#[cfg(test)]
+mod tests;

@@ -1,0 +1,31 @@
+//! Lists in a declaration of traffic.
+ghost use Rattle.serde_json.specs.View.{view};
+ghost use Rattle.fx_config.specs.Pointer.{pointer};
+ghost use Rattle.fx_traffic.specs.Lists.{IsListOf};
+
+use fx_base::Fault;
+use fx_config::walk::{Path, refusal};
+use serde_json::Value;
+use std::alloc::Global;
+
+/// The items of a list: 104 for another kind of value, 305 for more than `most`, 304 for fewer than `least`.
+pub fn items_in<'v>(
+    alloc: Global,
+    path: &Path<'_>,
+    value: &'v Value,
+    least: usize,
+    most: usize,
+) -> Result<&'v [Value], Fault>
+    ensures { IsListOf least most (pointer path.now) (view value.now) result }
+{
+    let Value::Array(items) = value else {
+        return Err(refusal(alloc, 104, path));
+    };
+    if items.len() > most {
+        return Err(refusal(alloc, 305, path));
+    }
+    if items.len() < least {
+        return Err(refusal(alloc, 304, path));
+    }
+    Ok(items.as_slice())
+}

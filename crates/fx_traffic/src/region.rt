@@ -1,0 +1,160 @@
+//! Regions: the values that the fields of a class's packets may have.
+ghost use Rattle.std.specs.Prelude.{◌≡◌, ◌≤◌, ◌∷◌, [], IfOk, IfSome};
+ghost use Rattle.serde_json.specs.View.{view};
+ghost use Rattle.serde_json.specs.Find.{get};
+ghost use Rattle.fx_elements.specs.Values.{values_of};
+ghost use Rattle.fx_elements.specs.declared.axis.Axis.TheVariants as axis;
+ghost use Rattle.fx_elements.specs.declared.element.Element.TheVariants as element;
+ghost use Rattle.fx_boxes.specs.Boxes.{IsRegion};
+ghost use Rattle.fx_config.specs.Pointer.{pointer};
+ghost use Rattle.fx_config.specs.Walk.{Reads, optional};
+ghost use Rattle.fx_traffic.specs.Regions.{IsOn, all_on, axis_name, region_faults, region_of, values_faults, values_given, values_in, values_on, whole};
+
+use fx_base::Fault;
+use fx_boxes::{Fields, Region};
+use fx_config::walk::{Path, object_of, refusal};
+use fx_elements::{AXES, Axis, Element, Range, TOPS, one_spelling, read_value, top};
+use serde_json::Value;
+use std::alloc::Global;
+
+/// The addresses that begin as a prefix does.
+fn addresses(text: &str) -> Option<Range>
+    ensures value { result ≡ values_of element.SourcePrefix text.now }
+    ensures bound { IfSome result (IsOn axis.Source) }
+{
+    one_spelling();
+    read_value(Element::SourcePrefix, text)
+}
+
+/// The values on the axis that the text spells: addresses alone are spelled, by a prefix.
+fn values_on(axis: Axis, text: &str) -> Option<Range>
+    ensures value { result ≡ values_on axis text.now }
+    ensures bound { IfSome result (IsOn axis) }
+{
+    match axis {
+        Axis::Source | Axis::Destination => addresses(text),
+        Axis::Protocol | Axis::SourcePort | Axis::DestinationPort | Axis::ClassOfService => None,
+    }
+}
+
+/// All values on the axis.
+fn all_on(axis: Axis) -> Range
+    ensures value { result ≡ all_on axis }
+    ensures bound { IsOn axis result }
+{
+    Range {
+        low: 0,
+        high: top(axis),
+        bits: 0,
+    }
+}
+
+/// Values on the axis: 104 for no text, 302 for a text that spells none.
+fn values_at(alloc: Global, path: &Path<'_>, value: &Value, axis: Axis) -> Result<Range, Fault>
+    ensures answer { Reads (values_faults axis (pointer path.now) (view value.now)) (values_in axis (view value.now)) result }
+    ensures bound { IfOk result (IsOn axis) }
+{
+    let Some(text) = value.as_str() else {
+        return Err(refusal(alloc, 104, path));
+    };
+    match values_on(axis, text) {
+        Some(values) => Ok(values),
+        None => Err(refusal(alloc, 302, path)),
+    }
+}
+
+/// The values on the axis that an object's member gives; all where it isn't there.
+fn axis_member(
+    alloc: Global,
+    path: &Path<'_>,
+    object: &Value,
+    name: &str,
+    axis: Axis,
+) -> Result<Range, Fault>
+    ensures answer { Reads ((optional name.now (values_faults axis)).faults (pointer path.now) (view object.now)) (values_given axis (get name.now (view object.now))) result }
+    ensures bound { IfOk result (IsOn axis) }
+{
+    match object.get(name) {
+        Some(value) => values_at(alloc, &Path::Member(path, name), value, axis),
+        None => Ok(all_on(axis)),
+    }
+}
+
+/// The region with these bounds.
+fn region_between(low: [u128; AXES], high: [u128; AXES]) -> Region
+    requires { IsRegion (record { low = low; high = high }) }
+    ensures { result ≡ record { low = low; high = high } }
+{
+    match Region::between(&Fields::of(low), &Fields::of(high)) {
+        Some(region) => region,
+        None => Region::whole(),
+    }
+}
+
+/// All fields.
+pub fn whole() -> Region
+    ensures { result ≡ whole }
+{
+    region_between([0; AXES], TOPS)
+}
+
+/// A region: an object that names axes, each with the values that packets may have on it.
+pub fn read_region(alloc: Global, path: &Path<'_>, value: &Value) -> Result<Region, Fault>
+    ensures { Reads (region_faults (pointer path.now) (view value.now)) (region_of (view value.now)) result }
+{
+    object_of(
+        alloc,
+        path,
+        value,
+        &[
+            "sourceIPv4Address",
+            "destinationIPv4Address",
+            "protocolIdentifier",
+            "sourceTransportPort",
+            "destinationTransportPort",
+            "ipClassOfService",
+        ],
+    )?;
+    let source = axis_member(alloc, path, value, "sourceIPv4Address", Axis::Source)?;
+    let destination = axis_member(
+        alloc,
+        path,
+        value,
+        "destinationIPv4Address",
+        Axis::Destination,
+    )?;
+    let protocol = axis_member(alloc, path, value, "protocolIdentifier", Axis::Protocol)?;
+    let source_port = axis_member(alloc, path, value, "sourceTransportPort", Axis::SourcePort)?;
+    let destination_port = axis_member(
+        alloc,
+        path,
+        value,
+        "destinationTransportPort",
+        Axis::DestinationPort,
+    )?;
+    let class_of_service = axis_member(
+        alloc,
+        path,
+        value,
+        "ipClassOfService",
+        Axis::ClassOfService,
+    )?;
+    Ok(region_between(
+        [
+            source.low,
+            destination.low,
+            protocol.low,
+            source_port.low,
+            destination_port.low,
+            class_of_service.low,
+        ],
+        [
+            source.high,
+            destination.high,
+            protocol.high,
+            source_port.high,
+            destination_port.high,
+            class_of_service.high,
+        ],
+    ))
+}

@@ -1,0 +1,57 @@
+//! Names in a declaration of traffic.
+ghost use Rattle.std.specs.Prelude.{◌≡◌, ℕ, List, map, codes};
+ghost use Rattle.serde_json.specs.View.{view};
+ghost use Rattle.fx_config.specs.Pointer.{pointer};
+ghost use Rattle.fx_config.specs.Walk.{Reads, required, member_of};
+ghost use Rattle.fx_config.specs.Scalars.{text_of};
+ghost use Rattle.fx_traffic.specs.Texts.{name_faults, name_once};
+
+use fx_base::{Fault, Name};
+use fx_config::walk::{Path, is_named, refusal};
+use serde_json::Value;
+use std::alloc::Global;
+
+/// A name: 104 for no text, 302 for a text that is no name.
+pub fn read_name(alloc: Global, path: &Path<'_>, value: &Value) -> Result<Name, Fault>
+    ensures { Reads (name_faults (pointer path.now) (view value.now)) (text_of (view value.now)) result }
+{
+    let Some(text) = value.as_str() else {
+        return Err(refusal(alloc, 104, path));
+    };
+    match Name::read(alloc, text) {
+        Ok(name) => Ok(name),
+        Err(fault) if fault.number == 105 => Err(refusal(alloc, 302, path)),
+        Err(fault) => Err(fault),
+    }
+}
+
+/// A name that none of these is: 104 and 302 as for any name, 301 for one of them.
+fn unique_name(
+    alloc: Global,
+    path: &Path<'_>,
+    value: &Value,
+    earlier: &[Name],
+) -> Result<Name, Fault>
+    ensures { Reads (name_once earlier.now (pointer path.now) (view value.now)) (text_of (view value.now)) result }
+{
+    let name = read_name(alloc, path, value)?;
+    if is_named(earlier, &name) {
+        return Err(refusal(alloc, 301, path));
+    }
+    Ok(name)
+}
+
+/// An object's member `name`, which differs from these.
+pub fn name_member(
+    alloc: Global,
+    path: &Path<'_>,
+    object: &Value,
+    earlier: &[Name],
+) -> Result<Name, Fault>
+    ensures { Reads ((required (codes "name") (name_once earlier.now)).faults (pointer path.now) (view object.now)) (text_of (member_of (codes "name") (view object.now))) result }
+{
+    match object.get("name") {
+        Some(value) => unique_name(alloc, &Path::Member(path, "name"), value, earlier),
+        None => Err(refusal(alloc, 103, path)),
+    }
+}
