@@ -1,12 +1,17 @@
 -- A list's faults and values, one item on.
-use Rattle.std.proofs.Common.{◌≡◌, ℕ, ◌+◌, List, [], ◌∷◌, ◌++◌, drop, map, refl}
-use Rattle.std.proofs.lemmas.List.{append_assoc}
+use Rattle.std.proofs.Common.{◌≡◌, ◌<◌, ℕ, ◌+◌, List, [], ◌∷◌, ◌++◌, length, get_or, drop, map, refl, sym, ap, ◌∙◌}
+use Rattle.std.proofs.lemmas.List.{append_assoc, drop_more}
 use Rattle.serde_json.specs.Data.{Data}
 use Rattle.serde_json.specs.View.{view}
 use Rattle.serde_json.specs.declared.value.Value.{Value}
 use Rattle.fx_config.specs.Pointer.{nth}
 use Rattle.fx_config.specs.Walk.{Found}
 use Rattle.fx_config.specs.Lists.{items_faults, entries_faults}
+
+-- what is left at a place begins with the item that stands there
+pub item_here : (vs : List Value) (place index : ℕ) (v : Value) → place ≡ index → index < length vs → v ≡ get_or vs index v → drop place vs ≡ v ∷ drop (place + 1) vs
+item_here vs place index v same in_range is =
+    rw same (drop_more vs index v in_range ∙ ap (λ y. y ∷ drop (index + 1) vs) (sym is))
 
 pub next_item : (faults : List ℕ → Data → List Found) (up : List ℕ) (i : ℕ) (vs : List Value) (v : Value) → drop i vs ≡ v ∷ drop (i + 1) vs → items_faults faults up i (map view (drop i vs)) ≡ faults (nth up i) (view v) ++ items_faults faults up (i + 1) (map view (drop (i + 1) vs))
 next_item faults up i vs v h = rw h refl

@@ -1,5 +1,5 @@
 -- Regions: the values that the fields of a class's packets may have.
-use Rattle.std.specs.Prelude.{◌≤◌, ℕ, List, [], ◌∷◌, codes, map, Option, Some, None, is_some, slice_index}
+use Rattle.std.specs.Prelude.{◌≤◌, ℕ, List, codes, map, Option, Some, None, is_some, slice_index}
 use Rattle.std.specs.Option.{unwrap_or}
 use Rattle.serde_json.specs.Data.{Data}
 use Rattle.serde_json.specs.Find.{get}

@@ -63,17 +63,26 @@ fn values_at(alloc: Global, path: &Path<'_>, value: &Value, axis: Axis) -> Resul
     }
 }
 
+/// The name of the member that gives the values on an axis: that of the information element (RFC 7012).
+fn axis_name(axis: Axis) -> &'static str
+    ensures { result.now ≡ axis_name axis }
+{
+    match axis {
+        Axis::Source => "sourceIPv4Address",
+        Axis::Destination => "destinationIPv4Address",
+        Axis::Protocol => "protocolIdentifier",
+        Axis::SourcePort => "sourceTransportPort",
+        Axis::DestinationPort => "destinationTransportPort",
+        Axis::ClassOfService => "ipClassOfService",
+    }
+}
+
 /// The values on the axis that an object's member gives; all where it isn't there.
-fn axis_member(
-    alloc: Global,
-    path: &Path<'_>,
-    object: &Value,
-    name: &str,
-    axis: Axis,
-) -> Result<Range, Fault>
-    ensures answer { Reads ((optional name.now (values_faults axis)).faults (pointer path.now) (view object.now)) (values_given axis (get name.now (view object.now))) result }
+fn axis_member(alloc: Global, path: &Path<'_>, object: &Value, axis: Axis) -> Result<Range, Fault>
+    ensures answer { Reads ((optional (axis_name axis) (values_faults axis)).faults (pointer path.now) (view object.now)) (values_given axis (get (axis_name axis) (view object.now))) result }
     ensures bound { IfOk result (IsOn axis) }
 {
+    let name = axis_name(axis);
     match object.get(name) {
         Some(value) => values_at(alloc, &Path::Member(path, name), value, axis),
         None => Ok(all_on(axis)),
@@ -115,30 +124,12 @@ pub fn read_region(alloc: Global, path: &Path<'_>, value: &Value) -> Result<Regi
             "ipClassOfService",
         ],
     )?;
-    let source = axis_member(alloc, path, value, "sourceIPv4Address", Axis::Source)?;
-    let destination = axis_member(
-        alloc,
-        path,
-        value,
-        "destinationIPv4Address",
-        Axis::Destination,
-    )?;
-    let protocol = axis_member(alloc, path, value, "protocolIdentifier", Axis::Protocol)?;
-    let source_port = axis_member(alloc, path, value, "sourceTransportPort", Axis::SourcePort)?;
-    let destination_port = axis_member(
-        alloc,
-        path,
-        value,
-        "destinationTransportPort",
-        Axis::DestinationPort,
-    )?;
-    let class_of_service = axis_member(
-        alloc,
-        path,
-        value,
-        "ipClassOfService",
-        Axis::ClassOfService,
-    )?;
+    let source = axis_member(alloc, path, value, Axis::Source)?;
+    let destination = axis_member(alloc, path, value, Axis::Destination)?;
+    let protocol = axis_member(alloc, path, value, Axis::Protocol)?;
+    let source_port = axis_member(alloc, path, value, Axis::SourcePort)?;
+    let destination_port = axis_member(alloc, path, value, Axis::DestinationPort)?;
+    let class_of_service = axis_member(alloc, path, value, Axis::ClassOfService)?;
     Ok(region_between(
         [
             source.low,

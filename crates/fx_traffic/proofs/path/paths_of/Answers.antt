@@ -1,26 +1,23 @@
-use Rattle.std.proofs.Common.{◌≡◌, ℕ, ◌+◌, List, [], ◌∷◌, ◌++◌, map, drop, ◌∙◌, refl, ap, sym, arith}
-use Rattle.std.proofs.lemmas.List.{drop_all, drop_more, append-nil}
-use Rattle.serde_json.specs.View.{view}
+use Rattle.std.proofs.Common.{◌≡◌, ◌+◌, [], map, drop, ◌∙◌, refl, ap, sym, arith}
+use Rattle.std.proofs.lemmas.List.{drop_all, append-nil}
 use Rattle.fx_config.specs.Pointer.{pointer}
 use Rattle.fx_traffic.specs.Crossings.{path_faults, path_of}
 use Rattle.fx_config.proofs.Faults.{exit, refuses_more, pointer-Item}
-use Rattle.fx_traffic.proofs.Walks.{next_item, next_value}
+use Rattle.fx_traffic.proofs.Walks.{item_here, next_item, next_value}
 use Rattle.fx_traffic.proofs.path.paths_of.Goals as goal
 
 pub returns-in_err-read_path : goal.returns-in_err-read_path
 returns-in_err-read_path g c =
     let i = c.loop-item.invariant in
     let v = c.item-item.result in
-    let at : drop c.loop-item.item-index c.args.items.now ≡ v ∷ drop (c.loop-item.item-index + 1) c.args.items.now = drop_more c.args.items.now c.loop-item.item-index v (omega arith) ∙ ap (λ y. y ∷ drop (c.loop-item.item-index + 1) c.args.items.now) (sym c.item-item.is) in
-    let here : drop c.loop-item.place c.args.items.now ≡ v ∷ drop (c.loop-item.place + 1) c.args.items.now = rw i.place at in
+    let here = item_here c.args.items.now c.loop-item.place c.loop-item.item-index v i.place (omega arith) c.item-item.is in
     exit _ _ _ _ c.from_residual.ensures (rw (i.faults, next_item (path_faults (map g.T.Named.name c.args.devices.now)) (pointer c.args.path.now) c.loop-item.place c.args.items.now v here) (refuses_more _ _ _ (rw pointer-Item at c.in_err-read_path.ensures)))
 
 pub loop-item-preserved : goal.loop-item-preserved
 loop-item-preserved g c =
     let i = c.loop-item.invariant in
     let v = c.item-item.result in
-    let at : drop c.loop-item.item-index c.args.items.now ≡ v ∷ drop (c.loop-item.item-index + 1) c.args.items.now = drop_more c.args.items.now c.loop-item.item-index v (omega arith) ∙ ap (λ y. y ∷ drop (c.loop-item.item-index + 1) c.args.items.now) (sym c.item-item.is) in
-    let here : drop c.loop-item.place c.args.items.now ≡ v ∷ drop (c.loop-item.place + 1) c.args.items.now = rw i.place at in
+    let here = item_here c.args.items.now c.loop-item.place c.loop-item.item-index v i.place (omega arith) c.item-item.is in
     let ok = rw pointer-Item at c.in_ok-read_path.ensures in
     record {
       place = ap (λ n. n + 1) i.place;

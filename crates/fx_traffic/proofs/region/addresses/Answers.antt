@@ -1,4 +1,3 @@
-use Rattle.std.proofs.Common.{IfSome, ◌∙◌, sym}
 use Rattle.fx_elements.specs.Spelling.{prefix_of}
 use Rattle.fx_traffic.proofs.Regions.{prefix_is_on}
 use Rattle.fx_traffic.proofs.region.addresses.Goals as goal
