@@ -3,3 +3,5 @@ pub mod NetworkDevices
 pub mod Links
 pub mod Reports
 pub mod Networks
+pub mod Labels
+pub mod Tables

@@ -3,6 +3,7 @@
 
 mod ends;
 mod key_field;
+mod labels;
 mod limits;
 mod link;
 mod links;

@@ -1,0 +1,6 @@
+use Rattle.std.proofs.Common.{◌≡◌, take}
+use Rattle.fx_plan.specs.Labels.{exporting_labels}
+use Rattle.fx_plan.proofs.labels.exporting_labels.Given as goal
+
+abbrev pub invariant-loop-device : goal.invariant-loop-device
+invariant-loop-device l = l.labels.items ≡ exporting_labels (take l.device-index l.devices)

@@ -1,0 +1,29 @@
+-- How the things of a network's devices are named: by the device and by their own name.
+use Rattle.std.specs.Prelude.{ℕ, List, Bool, ◌&&◌, map}
+use Rattle.std.specs.List.{flat_map, position_or_len}
+use Rattle.std.specs.Str.{bytes_eq}
+use Rattle.fx_plan.specs.declared.network_device.NetworkDevice.{NetworkDevice}
+
+pub record Label : Type 0 where
+  pub device : List ℕ
+  pub name : List ℕ
+
+-- those of a device's things, and of all devices' in document order
+abbrev pub device_labels : {X : Type 0} → (X → List ℕ) → List ℕ → List X → List Label
+device_labels name device things = map (λ thing. record { device = device; name = name thing }) things
+
+abbrev pub exporting_labels : List NetworkDevice → List Label
+exporting_labels devices = flat_map (λ x. device_labels (λ e. e.name) x.name x.config.exporting_processes) devices
+
+abbrev pub cache_labels : List NetworkDevice → List Label
+cache_labels devices = flat_map (λ x. device_labels (λ c. c.name) x.name x.config.caches) devices
+
+abbrev pub collecting_labels : List NetworkDevice → List Label
+collecting_labels devices = flat_map (λ x. device_labels (λ p. p.name) x.name x.config.collecting_processes) devices
+
+abbrev pub is_label : List ℕ → List ℕ → Label → Bool
+is_label device name label = bytes_eq label.device device && bytes_eq label.name name
+
+-- the place in a table whose entries have these labels; behind the table where there is none
+abbrev pub place : List Label → List ℕ → List ℕ → ℕ
+place labels device name = position_or_len (is_label device name) labels
