@@ -2,6 +2,9 @@
 #![tactic(auto)]
 
 mod ends;
+mod everything;
+mod exporters;
+mod holders;
 mod key_field;
 mod labels;
 mod limits;
@@ -9,6 +12,8 @@ mod link;
 mod links;
 mod network;
 mod network_device;
+mod points;
+mod processes;
 mod refuse;
 mod report;
 mod required_list;

@@ -1,0 +1,96 @@
+//! The table of exporting processes.
+ghost use Rattle.std.specs.Prelude.{◌≡◌, ◌++◌, OnOk, IfOk, map};
+ghost use Rattle.std.specs.List.{position};
+ghost use Rattle.fx_plan.specs.Tables as tables;
+
+use crate::link::Link;
+use crate::network_device::NetworkDevice;
+use fx_base::Name;
+use fx_config::{Destination, ExportingProcess};
+use fx_machine::Exporter;
+use std::alloc::{AllocError, Global};
+
+fn leads_from(link: &Link, device: &Name, process: &Name, destination: &Name) -> bool
+    ensures { result ≡ tables.leads_from device.now process.now destination.now link.now }
+{
+    link.device == *device
+        && link.exporting_process == *process
+        && link.destination == *destination
+}
+
+/// The place of the link that leads from a destination, if there is one.
+fn link_place(
+    links: &[Link],
+    device: &Name,
+    process: &Name,
+    destination: &Name,
+) -> Option<usize>
+    ensures { result ≡ position (tables.leads_from device.now process.now destination.now) links.now }
+{
+    links
+        .iter()
+        .position(|link| leads_from(link, device, process, destination))
+}
+
+/// The links of an exporting process's destinations.
+fn link_places(
+    alloc: Global,
+    links: &[Link],
+    device: &Name,
+    process: &Name,
+    destinations: &[Destination],
+) -> Result<Vec<Option<usize>>, AllocError>
+    ensures { IfOk result (λ v. v.items ≡ map (λ d. position (tables.leads_from device.now process.now d.name) links.now) destinations.now) }
+{
+    let mut places = Vec::new(alloc);
+    for destination in destinations {
+        places.push(link_place(links, device, process, &destination.name))?;
+    }
+    Ok(places)
+}
+
+fn exporter_of(
+    alloc: Global,
+    links: &[Link],
+    device: &Name,
+    process: &ExportingProcess,
+) -> Result<Exporter, AllocError>
+    ensures { IfOk result (λ e. e ≡ tables.exporter_of links.now device.now process.now) }
+{
+    let destinations = process.destinations.as_slice();
+    let places = link_places(alloc, links, device, &process.name, destinations)?;
+    Ok(Exporter::new(true, places))
+}
+
+/// The exporting processes of a device come last.
+fn push_exporters(
+    alloc: Global,
+    exporters: &mut Vec<Exporter>,
+    links: &[Link],
+    device: &Name,
+    processes: &[ExportingProcess],
+) -> Result<(), AllocError>
+    ensures { OnOk result (exporters.new.items ≡ exporters.old.items ++ map (tables.exporter_of links.now device.now) processes.now) }
+{
+    for process in processes {
+        let exporter = exporter_of(alloc, links, device, process)?;
+        exporters.push(exporter)?;
+    }
+    Ok(())
+}
+
+/// The exporting processes of all devices, in document order.
+pub fn exporters_of(
+    alloc: Global,
+    links: &[Link],
+    devices: &[NetworkDevice],
+) -> Result<Vec<Exporter>, AllocError>
+    ensures { IfOk result (λ v. v.items ≡ tables.exporters_of links.now devices.now) }
+{
+    let mut exporters = Vec::new(alloc);
+    for device in devices {
+        let processes = device.config.exporting_processes.as_slice();
+        push_exporters(alloc, &mut exporters, links, &device.name, processes)?;
+    }
+    Ok(exporters)
+}
