@@ -12,6 +12,7 @@ mod link;
 mod links;
 mod network;
 mod network_device;
+mod plan;
 mod points;
 mod processes;
 mod refuse;
@@ -22,6 +23,7 @@ pub use key_field::KeyField;
 pub use link::Link;
 pub use network::{Network, read_network};
 pub use network_device::NetworkDevice;
+pub use plan::{Plan, read_plan};
 pub use report::Report;
 
 #[cfg(test)]

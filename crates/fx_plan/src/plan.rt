@@ -1,0 +1,94 @@
+//! Network documents and the networks that they mean.
+ghost use Rattle.std.specs.Prelude.{◌≡◌, [], IfOk};
+ghost use Rattle.serde_json.specs.View.{view};
+ghost use Rattle.fx_config.specs.Walk.{Reads};
+ghost use Rattle.fx_plan.specs.Networks.{network_faults, network_of};
+ghost use Rattle.fx_plan.specs.Tables as tables;
+
+use crate::exporters::exporters_of;
+use crate::holders::holders_of;
+use crate::key_field::key_layout;
+use crate::labels::{cache_labels, collecting_labels, place};
+use crate::network::{Network, read_network};
+use crate::points::tables_of;
+use crate::processes::{link_ends, processes_of};
+use fx_base::Fault;
+use fx_layout::Layout;
+use fx_machine::Net;
+use serde_json::Value;
+use std::alloc::{AllocError, Global};
+use std::marker::Model;
+
+fn report_layout_of(network: &Network) -> Layout
+    ensures { result ≡ tables.report_layout_of network.now }
+{
+    match key_layout(network.report.key.as_slice()) {
+        Some(layout) => layout,
+        None => Layout::new(),
+    }
+}
+
+/// The network that a document means.
+fn net_of(alloc: Global, network: &Network) -> Result<Net, AllocError>
+    ensures { IfOk result (λ net. net ≡ tables.net_of network.now) }
+{
+    let devices = network.devices.as_slice();
+    let links = network.links.as_slice();
+    let caches = cache_labels(alloc, devices)?;
+    let collecting = collecting_labels(alloc, devices)?;
+    let collecting = collecting.as_slice();
+    let tables = tables_of(alloc, caches.as_slice(), collecting, devices)?;
+    let exporters = exporters_of(alloc, links, devices)?;
+    let holders = holders_of(alloc, devices)?;
+    let processes = processes_of(alloc, devices)?;
+    let ends = link_ends(alloc, collecting, links)?;
+    let report = &network.report;
+    let report_place = place(collecting, &report.device, &report.collecting_process);
+    let layout = report_layout_of(network);
+    Ok(Net::new(tables, exporters, holders, processes, ends, report_place, layout))
+}
+
+/// A network document and the network that it means. Contracts see it as what the document says.
+#[derive(Debug, Drop)]
+pub struct Plan {
+    network: Network,
+    net: Net,
+}
+
+impl Model for Plan {
+    ghost use Rattle.std.specs.Prelude.{◌≡◌};
+    ghost use Rattle.fx_plan.specs.Tables.{net_of};
+    ghost use Rattle.fx_plan.specs.declared.network.Network as of_network;
+
+    ghost Value = { of_network.Network };
+
+    ghost view = { λ p. p.network };
+
+    ghost invariant = { λ p. p.net ≡ net_of p.network };
+}
+
+impl Plan {
+    /// The network that the document means.
+    pub fn net(&self) -> &Net
+        ensures { result.now ≡ tables.net_of self.now }
+    {
+        &self.net
+    }
+
+    /// What the document says.
+    pub fn network(&self) -> &Network
+        ensures { result.now ≡ self.now }
+    {
+        &self.network
+    }
+}
+
+/// Reads a network document: what it says, with the network that it means, or its first fault, as
+/// [`read_network`] does.
+pub fn read_plan(alloc: Global, value: &Value) -> Result<Plan, Fault>
+    ensures { Reads (network_faults [] (view value.now)) (network_of (view value.now)) result }
+{
+    let network = read_network(alloc, value)?;
+    let net = net_of(alloc, &network)?;
+    Ok(Plan { network, net })
+}
