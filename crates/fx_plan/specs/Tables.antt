@@ -1,5 +1,5 @@
 -- The tables of the network that a document means.
-use Rattle.std.specs.Prelude.{ℕ, List, [], ◌∷◌, Bool, true, false, ◌&&◌, map, Option, Some, None, option_map, option_and_then, if◌then◌else◌}
+use Rattle.std.specs.Prelude.{ℕ, List, [], ◌∷◌, Bool, true, ◌&&◌, map, Option, Some, None, option_map, option_and_then, if◌then◌else◌}
 use Rattle.std.specs.List.{flat_map, position}
 use Rattle.std.specs.Option.{unwrap_or}
 use Rattle.std.specs.Str.{bytes_eq}
@@ -11,7 +11,6 @@ use Rattle.fx_machine.specs.declared.observation.Selection.{Selection}
 use Rattle.fx_config.specs.declared.observation_point.ObservationPoint.{ObservationPoint}
 use Rattle.fx_config.specs.declared.selection_process.SelectionProcess.{SelectionProcess}
 use Rattle.fx_config.specs.declared.cache.Cache.{Cache}
-use Rattle.fx_config.specs.declared.destination.Destination.{Destination}
 use Rattle.fx_config.specs.declared.exporting_process.ExportingProcess.{ExportingProcess}
 use Rattle.fx_config.specs.declared.collecting_process.CollectingProcess.{CollectingProcess}
 use Rattle.fx_plan.specs.declared.link.Link.{Link}

@@ -13,18 +13,11 @@ use std::alloc::{AllocError, Global};
 fn leads_from(link: &Link, device: &Name, process: &Name, destination: &Name) -> bool
     ensures { result ≡ tables.leads_from device.now process.now destination.now link.now }
 {
-    link.device == *device
-        && link.exporting_process == *process
-        && link.destination == *destination
+    link.device == *device && link.exporting_process == *process && link.destination == *destination
 }
 
 /// The place of the link that leads from a destination, if there is one.
-fn link_place(
-    links: &[Link],
-    device: &Name,
-    process: &Name,
-    destination: &Name,
-) -> Option<usize>
+fn link_place(links: &[Link], device: &Name, process: &Name, destination: &Name) -> Option<usize>
     ensures { result ≡ position (tables.leads_from device.now process.now destination.now) links.now }
 {
     links

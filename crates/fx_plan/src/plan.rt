@@ -45,7 +45,15 @@ fn net_of(alloc: Global, network: &Network) -> Result<Net, AllocError>
     let report = &network.report;
     let report_place = place(collecting, &report.device, &report.collecting_process);
     let layout = report_layout_of(network);
-    Ok(Net::new(tables, exporters, holders, processes, ends, report_place, layout))
+    Ok(Net::new(
+        tables,
+        exporters,
+        holders,
+        processes,
+        ends,
+        report_place,
+        layout,
+    ))
 }
 
 /// A network document and the network that it means. Contracts see it as what the document says.

@@ -115,7 +115,12 @@ fn table_of(
 ) -> Result<Device, AllocError>
     ensures { IfOk result (λ t. t ≡ tables.table_of caches.now collecting.now device.now) }
 {
-    let points = points_of(alloc, caches, device, device.config.observation_points.as_slice())?;
+    let points = points_of(
+        alloc,
+        caches,
+        device,
+        device.config.observation_points.as_slice(),
+    )?;
     let held = places(alloc, caches, &device.name, device.config.caches.as_slice())?;
     let received = places(
         alloc,

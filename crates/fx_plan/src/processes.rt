@@ -25,10 +25,7 @@ fn push_processes(
 }
 
 /// The collecting processes of all devices, in document order.
-pub fn processes_of(
-    alloc: Global,
-    devices: &[NetworkDevice],
-) -> Result<Vec<Process>, AllocError>
+pub fn processes_of(alloc: Global, devices: &[NetworkDevice]) -> Result<Vec<Process>, AllocError>
     ensures { IfOk result (λ v. v.items ≡ tables.processes_of devices.now) }
 {
     let mut processes = Vec::new(alloc);
