@@ -7,6 +7,7 @@ pub mod Steps
 pub mod Moves
 pub mod Sums
 pub mod Claim
+pub mod Ranks
 pub mod Places
 pub mod Sends
 pub mod Views
