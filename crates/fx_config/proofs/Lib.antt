@@ -3,3 +3,4 @@ pub mod Choices
 pub mod Lists
 pub mod Places
 pub mod Resolved
+pub mod Walks

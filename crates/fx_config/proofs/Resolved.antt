@@ -12,7 +12,7 @@ use Rattle.fx_config.specs.Pointer.{below, nth}
 use Rattle.fx_config.specs.Walk.{Found, Row, Reads, fault_if, row_faults, of_kind, others, faults_or_missing}
 use Rattle.fx_config.specs.Devices.{ipfix_rows, ipfix_faults, lists_of, device_rows, device_faults, device_of}
 use Rattle.fx_config.specs.Lists.{items_faults, is_among}
-use Rattle.fx_config.specs.References.{unknown, unknown_if_there, reference_faults, point_references, process_references, cache_references, IsKnown, Resolves}
+use Rattle.fx_config.specs.References.{unknown, unknown_if_there, reference_faults, point_references, process_references, cache_references, collecting_references, aggregation_references, IsKnown, Resolves}
 use Rattle.fx_config.specs.declared.ipfix.Device.{Device}
 
 pub none_before : (a b : List Found) → a ++ b ≡ [] → a ≡ []
@@ -55,13 +55,16 @@ pub resolves : (up : List ℕ) (device : Device) → reference_faults up device 
 resolves up device h =
     let points = none_before _ _ h in
     let rest = none_behind _ _ h in
+    let last = none_behind _ _ rest in
     let selecting = map (λ x. x.name) device.selection_processes in
     let caches = map (λ x. x.name) device.caches in
     let exporting = map (λ x. x.name) device.exporting_processes in
     record {
       points = items_all (point_references selecting) _ (λ up point none. items_all (unknown selecting) _ (known_where_none selecting) _ 0 point.selection_processes none) _ 0 device.observation_points points;
       processes = items_all (process_references caches) _ (λ up process none. known_if_there caches _ process.cache none) _ 0 device.selection_processes (none_before _ _ rest);
-      caches = items_all (cache_references exporting) _ (λ up cache none. items_all (unknown exporting) _ (known_where_none exporting) _ 0 cache.exporting_processes none) _ 0 device.caches (none_behind _ _ rest);
+      caches = items_all (cache_references exporting) _ (λ up cache none. items_all (unknown exporting) _ (known_where_none exporting) _ 0 cache.exporting_processes none) _ 0 device.caches (none_before _ _ last);
+      collecting = items_all (collecting_references exporting) _ (λ up process none. items_all (unknown exporting) _ (known_where_none exporting) _ 0 process.exporting_processes (none_before _ _ none)) _ 0 device.collecting_processes (none_behind _ _ last);
+      aggregations = items_all (collecting_references exporting) _ (λ up process none. items_all (aggregation_references exporting) _ (λ up aggregation known. items_all (unknown exporting) _ (known_where_none exporting) _ 0 aggregation.exporting_processes known) _ 0 process.aggregations (none_behind _ _ none)) _ 0 device.collecting_processes (none_behind _ _ last);
     }
 
 rows_none : (may : List ℕ → Bool) (rows : List Row) (up : List ℕ) (d : Data) (o : Option Members) → of_kind o (λ ms. others may up ms ++ row_faults rows up d) up ≡ [] → row_faults rows up d ≡ []

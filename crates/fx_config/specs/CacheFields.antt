@@ -1,27 +1,18 @@
 -- Fields of caches' records (RFC 6728, section 4.3.3).
-use Rattle.std.specs.Prelude.{ℕ, List, [], ◌∷◌, ◌++◌, codes, Bool, true, false, not, ◌&&◌, Option, Some, None, option_map, is_some}
+use Rattle.std.specs.Prelude.{ℕ, ◌==◌, ◌/◌, if◌then◌else◌, List, [], ◌∷◌, ◌++◌, codes, Bool, true, false, not, ◌&&◌, Option, Some, None, option_map, is_some}
 use Rattle.serde_json.specs.Data.{Data}
 use Rattle.serde_json.specs.Find.{get}
+use Rattle.fx_config.specs.Pointer.{below}
 use Rattle.fx_config.specs.Walk.{Found, Row, object_faults, required, optional, then_check, member_of, fault_if}
 use Rattle.fx_config.specs.Choice.{one_of}
-use Rattle.fx_config.specs.Lists.{name_once}
+use Rattle.fx_config.specs.Lists.{entries, name_once}
 use Rattle.fx_config.specs.Scalars.{text_of, number_of, text_faults, whole_faults, empty_faults}
 use Rattle.fx_elements.specs.declared.element.Element.{Element}
 use Rattle.fx_elements.specs.declared.element.Element.TheVariants.{OnAxis, OctetDeltaCount, PacketDeltaCount, OctetTotalCount, PacketTotalCount, SourcePrefix, DestinationPrefix, SourcePrefixLength, DestinationPrefixLength, IpVersion, Other}
-use Rattle.fx_elements.specs.Elements.{element_named, element_numbered}
+use Rattle.fx_config.specs.GivenElements.{element_in}
+use Rattle.fx_elements.specs.Axes.{axis_width}
+use Rattle.fx_config.specs.declared.limits.TheConstants.{FIELDS}
 use Rattle.fx_config.specs.declared.cache_field.CacheField.{CacheField}
-
--- the element of a name, or else of a number in the IANA registry
-abbrev pub element_given : Option Element → Option ℕ → Element
-element_given (Some element) number = element
-element_given None (Some number) = element_numbered number 0
-element_given None None = Other
-
-abbrev pub element_in : Data → Element
-element_in d = element_given (option_map (λ name. element_named (text_of name)) (get (codes "ieName") d)) (option_map number_of (get (codes "ieId") d))
-
-abbrev pub is_key_in : Data → Bool
-is_key_in d = is_some (get (codes "isFlowKey") d)
 
 -- it counts since the observation began, and not since the last report
 abbrev pub is_total_count : Element → Bool
@@ -50,26 +41,82 @@ is_on_axis DestinationPrefixLength = false
 is_on_axis IpVersion = false
 is_on_axis Other = false
 
+-- it counts since the last report
+abbrev pub is_delta_count : Element → Bool
+is_delta_count OctetDeltaCount = true
+is_delta_count PacketDeltaCount = true
+is_delta_count (OnAxis axis) = false
+is_delta_count OctetTotalCount = false
+is_delta_count PacketTotalCount = false
+is_delta_count SourcePrefix = false
+is_delta_count DestinationPrefix = false
+is_delta_count SourcePrefixLength = false
+is_delta_count DestinationPrefixLength = false
+is_delta_count IpVersion = false
+is_delta_count Other = false
+
+-- values on its axis have another number of octets
+abbrev pub has_other_octets : Element → ℕ → Bool
+has_other_octets (OnAxis axis) octets = not (octets == axis_width axis / 8)
+has_other_octets OctetTotalCount octets = false
+has_other_octets PacketTotalCount octets = false
+has_other_octets OctetDeltaCount octets = false
+has_other_octets PacketDeltaCount octets = false
+has_other_octets SourcePrefix octets = false
+has_other_octets DestinationPrefix octets = false
+has_other_octets SourcePrefixLength octets = false
+has_other_octets DestinationPrefixLength octets = false
+has_other_octets IpVersion octets = false
+has_other_octets Other octets = false
+
+-- records are told apart by the fields that are marked as flow keys, those of an immediate cache by all on an axis
+abbrev pub is_key : Bool → Element → Bool → Bool
+is_key immediate element marked = if immediate then is_on_axis element else marked
+
 -- a total counter, and a key that is no axis
 abbrev pub element_faults : Element → Bool → List ℕ → List Found
-element_faults element is_key up = fault_if (is_total_count element) 111 up ++ fault_if (is_key && not (is_on_axis element)) 112 up
+element_faults element key up = fault_if (is_total_count element) 111 up ++ fault_if (key && not (is_on_axis element)) 112 up
 
-abbrev pub cache_field_rows : List (List ℕ) → List Row
-cache_field_rows earlier =
+-- a counter that isn't 8 octets long, and a key that hasn't its octets
+abbrev pub length_faults : Element → Bool → Option ℕ → List ℕ → List Found
+length_faults element key None up = []
+length_faults element key (Some octets) up =
+    fault_if (is_delta_count element && not (octets == 8)) 110 (below up (codes "ieLength"))
+    ++ fault_if (key && has_other_octets element octets) 105 (below up (codes "ieLength"))
+
+abbrev pub field_check : Element → Bool → Option ℕ → List ℕ → List Found
+field_check element key octets up = element_faults element key up ++ length_faults element key octets up
+
+-- ---- the field
+
+abbrev pub length_in : Data → Option ℕ
+length_in d = option_map number_of (get (codes "ieLength") d)
+
+abbrev pub is_key_in : Bool → Data → Bool
+is_key_in immediate d = is_key immediate (element_in d) (is_some (get (codes "isFlowKey") d))
+
+abbrev pub cache_field_rows : Bool → List (List ℕ) → List Row
+cache_field_rows immediate earlier =
     required (codes "name") (name_once earlier)
     ∷ one_of (codes "ieName" ∷ codes "ieId" ∷ [])
     ∷ optional (codes "ieName") text_faults
     ∷ optional (codes "ieId") (whole_faults 1 32767)
+    ∷ optional (codes "ieLength") (whole_faults 1 65535)
+    ∷ optional (codes "ieEnterpriseNumber") (whole_faults 0 0xffff_ffff)
     ∷ optional (codes "isFlowKey") empty_faults
-    ∷ then_check (λ up d. element_faults (element_in d) (is_key_in d) up)
+    ∷ then_check (λ up d. field_check (element_in d) (is_key_in immediate d) (length_in d) up)
     ∷ []
 
-abbrev pub cache_field_faults : List (List ℕ) → List ℕ → Data → List Found
-cache_field_faults earlier = object_faults (cache_field_rows earlier)
+abbrev pub cache_field_faults : Bool → List (List ℕ) → List ℕ → Data → List Found
+cache_field_faults immediate earlier = object_faults (cache_field_rows immediate earlier)
 
-abbrev pub cache_field_of : Data → CacheField
-cache_field_of d = record {
+abbrev pub cache_field_of : Bool → Data → CacheField
+cache_field_of immediate d = record {
   name = text_of (member_of (codes "name") d);
   element = element_in d;
-  is_flow_key = is_key_in d;
+  is_flow_key = is_key_in immediate d;
 }
+
+-- a layout's fields
+abbrev pub fields_row : Bool → Row
+fields_row immediate = entries 1 FIELDS (codes "cacheField") (cache_field_faults immediate) (λ d. (cache_field_of immediate d).name)

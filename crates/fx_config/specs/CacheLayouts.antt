@@ -3,10 +3,9 @@ use Rattle.std.specs.Prelude.{ℕ, List, [], ◌∷◌, codes, map, Bool, true, 
 use Rattle.std.specs.List.{list_any, fold}
 use Rattle.serde_json.specs.Data.{Data}
 use Rattle.fx_config.specs.Walk.{Found, Row, object_faults, then_check, member_of, fault_if}
-use Rattle.fx_config.specs.Lists.{entries, items_of}
-use Rattle.fx_config.specs.CacheFields.{cache_field_faults, cache_field_of}
+use Rattle.fx_config.specs.Lists.{items_of}
+use Rattle.fx_config.specs.CacheFields.{cache_field_of, fields_row}
 use Rattle.fx_config.specs.declared.cache_field.CacheField.{CacheField}
-use Rattle.fx_config.specs.declared.limits.TheConstants.{FIELDS}
 use Rattle.fx_elements.specs.Axes.{axis_width}
 use Rattle.fx_elements.specs.declared.element.Element.{Element}
 use Rattle.fx_elements.specs.declared.element.Element.TheVariants.{OnAxis, OctetDeltaCount, PacketDeltaCount, OctetTotalCount, PacketTotalCount, SourcePrefix, DestinationPrefix, SourcePrefixLength, DestinationPrefixLength, IpVersion, Other}
@@ -70,17 +69,17 @@ add_key layout field = if field.is_flow_key then add_axis layout field.element e
 abbrev pub layout_of : List CacheField → Layout
 layout_of fields = fold add_key [] fields
 
-abbrev pub fields_in : Data → List CacheField
-fields_in d = map cache_field_of (items_of (member_of (codes "cacheField") d))
+abbrev pub fields_in : Bool → Data → List CacheField
+fields_in immediate d = map (cache_field_of immediate) (items_of (member_of (codes "cacheField") d))
 
-abbrev pub cache_layout_rows : List Row
-cache_layout_rows =
-    entries 1 FIELDS (codes "cacheField") cache_field_faults (λ d. (cache_field_of d).name)
-    ∷ then_check (λ up d. counter_faults (fields_in d) up)
+abbrev pub cache_layout_rows : Bool → List Row
+cache_layout_rows immediate =
+    fields_row immediate
+    ∷ then_check (λ up d. counter_faults (fields_in immediate d) up)
     ∷ []
 
-abbrev pub cache_layout_faults : List ℕ → Data → List Found
-cache_layout_faults = object_faults cache_layout_rows
+abbrev pub cache_layout_faults : Bool → List ℕ → Data → List Found
+cache_layout_faults immediate = object_faults (cache_layout_rows immediate)
 
-abbrev pub cache_layout_of : Data → Layout
-cache_layout_of d = layout_of (fields_in d)
+abbrev pub cache_layout_of : Bool → Data → Layout
+cache_layout_of immediate d = layout_of (fields_in immediate d)

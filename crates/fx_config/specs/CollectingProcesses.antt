@@ -1,18 +1,30 @@
 -- Collecting processes (RFC 6728, section 4.5).
-use Rattle.std.specs.Prelude.{ℕ, List, [], ◌∷◌, codes}
+use Rattle.std.specs.Prelude.{ℕ, List, [], ◌∷◌, codes, map}
 use Rattle.serde_json.specs.Data.{Data}
-use Rattle.fx_config.specs.Walk.{Found, Row, object_faults, required, member_of}
-use Rattle.fx_config.specs.Lists.{name_once}
+use Rattle.fx_config.specs.Walk.{Found, Row, object_faults, required, unread, member_of}
+use Rattle.fx_config.specs.Choice.{none_of}
+use Rattle.fx_config.specs.Lists.{entries, items_of, name_once}
 use Rattle.fx_config.specs.Scalars.{text_of}
+use Rattle.fx_config.specs.Aggregations.{aggregation_faults, aggregation_of}
+use Rattle.fx_config.specs.declared.limits.TheConstants.{ENTRIES}
 use Rattle.fx_config.specs.declared.collecting_process.CollectingProcess.{CollectingProcess}
 
+-- files are refused, and the collectors left unread
 abbrev pub collecting_process_rows : List (List ℕ) → List Row
 collecting_process_rows earlier =
     required (codes "name") (name_once earlier)
+    ∷ none_of ((codes "fileReader", 113) ∷ [])
+    ∷ unread (codes "tcpCollector" ∷ codes "sctpCollector" ∷ codes "udpCollector" ∷ [])
+    ∷ entries 0 ENTRIES (codes "exportingProcess") name_once text_of
+    ∷ entries 0 ENTRIES (codes "once-audit:aggregation") aggregation_faults (λ d. (aggregation_of d).name)
     ∷ []
 
 abbrev pub collecting_process_faults : List (List ℕ) → List ℕ → Data → List Found
 collecting_process_faults earlier = object_faults (collecting_process_rows earlier)
 
 abbrev pub collecting_process_of : Data → CollectingProcess
-collecting_process_of d = record { name = text_of (member_of (codes "name") d) }
+collecting_process_of d = record {
+  name = text_of (member_of (codes "name") d);
+  exporting_processes = map text_of (items_of (member_of (codes "exportingProcess") d));
+  aggregations = map aggregation_of (items_of (member_of (codes "once-audit:aggregation") d));
+}

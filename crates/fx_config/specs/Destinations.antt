@@ -1,22 +1,35 @@
 -- Destinations of exporting processes (RFC 6728, section 4.4).
-use Rattle.std.specs.Prelude.{ℕ, List, [], ◌∷◌, codes}
+use Rattle.std.specs.Prelude.{ℕ, List, [], ◌∷◌, codes, is_some, if◌then◌else◌}
 use Rattle.serde_json.specs.Data.{Data}
+use Rattle.serde_json.specs.Find.{get}
 use Rattle.fx_config.specs.Walk.{Found, Row, object_faults, required, unread, member_of}
-use Rattle.fx_config.specs.Choice.{one_of}
+use Rattle.fx_config.specs.Choice.{none_of, one_of}
 use Rattle.fx_config.specs.Lists.{name_once}
 use Rattle.fx_config.specs.Scalars.{text_of}
 use Rattle.fx_config.specs.declared.destination.Destination.{Destination}
+use Rattle.fx_config.specs.declared.destination.Transport.{Transport}
+use Rattle.fx_config.specs.declared.destination.Transport.TheVariants.{Tcp, Sctp, Udp}
 
--- the exporter is left unread
+abbrev pub exporters : List (List ℕ)
+exporters = codes "tcpExporter" ∷ codes "sctpExporter" ∷ codes "udpExporter" ∷ []
+
+-- one exporter, which is left unread; files are none
 abbrev pub destination_rows : List (List ℕ) → List Row
 destination_rows earlier =
     required (codes "name") (name_once earlier)
-    ∷ one_of (codes "tcpExporter" ∷ [])
-    ∷ unread (codes "tcpExporter" ∷ [])
+    ∷ none_of ((codes "fileWriter", 113) ∷ [])
+    ∷ one_of exporters
+    ∷ unread exporters
     ∷ []
 
 abbrev pub destination_faults : List (List ℕ) → List ℕ → Data → List Found
 destination_faults earlier = object_faults (destination_rows earlier)
 
+abbrev pub transport_of : Data → Transport
+transport_of d = if is_some (get (codes "tcpExporter") d) then Tcp else (if is_some (get (codes "sctpExporter") d) then Sctp else Udp)
+
 abbrev pub destination_of : Data → Destination
-destination_of d = record { name = text_of (member_of (codes "name") d) }
+destination_of d = record {
+  name = text_of (member_of (codes "name") d);
+  transport = transport_of d;
+}

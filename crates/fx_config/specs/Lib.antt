@@ -5,9 +5,14 @@ pub mod Lists
 pub mod Choice
 pub mod Destinations
 pub mod ExportingProcesses
-pub mod CollectingProcesses
 pub mod ObservationPoints
+pub mod GivenElements
+pub mod PropertyMatches
 pub mod Selectors
+pub mod KeyFields
+pub mod Keys
+pub mod Aggregations
+pub mod CollectingProcesses
 pub mod SelectionProcesses
 pub mod CacheFields
 pub mod CacheLayouts

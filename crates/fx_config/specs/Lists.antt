@@ -11,7 +11,8 @@ use Rattle.serde_json.specs.declared.value.Value.{Value}
 use Rattle.fx_base.specs.declared.fault.Fault.{Fault}
 use Rattle.fx_config.specs.Pointer.{below, nth}
 use Rattle.fx_config.specs.Walk.{Found, Row, Refuses, of_kind, fault_if}
-use Rattle.fx_config.specs.Scalars.{name_faults, text_of}
+use Rattle.fx_config.specs.Scalars.{text_of, text_that}
+use Rattle.fx_base.specs.Name.{is_name}
 
 abbrev pub list_of : Items → List Data
 list_of no_items = []
@@ -31,12 +32,15 @@ items_of d = unwrap_or (items_in d) []
 
 -- ---- faults
 
--- too many items, too few, or those of the items
-abbrev pub by_length : ℕ → ℕ → List ℕ → ℕ → List Found → List Found
-by_length least most up n rest = if nat_lt most n then (115, up) ∷ [] else (if nat_lt n least then (103, up) ∷ [] else rest)
+-- too many items, too few, or those of the items; the first two have these numbers
+abbrev pub by_length : ℕ → ℕ → ℕ → ℕ → List ℕ → ℕ → List Found → List Found
+by_length few many least most up n rest = if nat_lt most n then (many, up) ∷ [] else (if nat_lt n least then (few, up) ∷ [] else rest)
+
+abbrev pub list_faults_by : ℕ → ℕ → ℕ → ℕ → (List ℕ → List Data → List Found) → List ℕ → Data → List Found
+list_faults_by few many least most faults up d = of_kind (items_in d) (λ ds. by_length few many least most up (length ds) (faults up ds)) up
 
 abbrev pub list_faults : ℕ → ℕ → (List ℕ → List Data → List Found) → List ℕ → Data → List Found
-list_faults least most faults up d = of_kind (items_in d) (λ ds. by_length least most up (length ds) (faults up ds)) up
+list_faults = list_faults_by 103 115
 
 abbrev pub faults_of_list : ℕ → ℕ → (List ℕ → List Data → List Found) → List ℕ → List ℕ → Option Data → List Found
 faults_of_list least most faults up name None = fault_if (nat_lt 0 least) 103 up
@@ -71,12 +75,18 @@ is_among names name = list_any (λ n. bytes_eq n name) names
 abbrev pub place_in : List (List ℕ) → List ℕ → Option ℕ
 place_in names name = position (λ n. bytes_eq n name) names
 
--- a name that differs from earlier ones
+-- a name that differs from earlier ones; these numbers stand for a text that is no name, and for one of those
+abbrev pub name_once_by : ℕ → ℕ → List (List ℕ) → List ℕ → Data → List Found
+name_once_by wrong twice earlier up d = text_that wrong is_name up d ++ fault_if (is_among earlier (text_of d)) twice up
+
 abbrev pub name_once : List (List ℕ) → List ℕ → Data → List Found
-name_once earlier up d = name_faults up d ++ fault_if (is_among earlier (text_of d)) 106 up
+name_once = name_once_by 105 106
 
 -- What a look at a list's kind and length comes to.
+abbrev pub IsListBy : ℕ → ℕ → ℕ → ℕ → List ℕ → Data → Result (Bor (List Value)) Fault → Type 0
+IsListBy few many least most up d (Ok values) =
+    ((faults : List ℕ → List Data → List Found) → list_faults_by few many least most faults up d ≡ faults up (map view values.now)) × (items_of d ≡ map view values.now)
+IsListBy few many least most up d (Err e) = (faults : List ℕ → List Data → List Found) → Refuses e (list_faults_by few many least most faults up d)
+
 abbrev pub IsListOf : ℕ → ℕ → List ℕ → Data → Result (Bor (List Value)) Fault → Type 0
-IsListOf least most up d (Ok values) =
-    ((faults : List ℕ → List Data → List Found) → list_faults least most faults up d ≡ faults up (map view values.now)) × (items_of d ≡ map view values.now)
-IsListOf least most up d (Err e) = (faults : List ℕ → List Data → List Found) → Refuses e (list_faults least most faults up d)
+IsListOf = IsListBy 103 115

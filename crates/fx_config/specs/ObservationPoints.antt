@@ -1,17 +1,42 @@
 -- Observation points (RFC 6728, section 4.1).
-use Rattle.std.specs.Prelude.{ℕ, List, [], ◌∷◌, codes, map}
+use Rattle.std.specs.Prelude.{ℕ, List, [], ◌∷◌, codes, map, Option, Some, None, option_map, if◌then◌else◌}
+use Rattle.std.specs.Option.{unwrap_or}
+use Rattle.std.specs.Str.{bytes_eq}
 use Rattle.serde_json.specs.Data.{Data}
-use Rattle.fx_config.specs.Walk.{Found, Row, object_faults, required, member_of}
+use Rattle.serde_json.specs.Find.{get}
+use Rattle.fx_config.specs.Walk.{Found, Row, object_faults, required, optional, member_of}
 use Rattle.fx_config.specs.Lists.{entries, items_of, name_once}
-use Rattle.fx_config.specs.Scalars.{text_of, number_of, whole_faults}
+use Rattle.fx_config.specs.Scalars.{text_of, number_of, whole_faults, word_faults}
 use Rattle.fx_config.specs.declared.limits.TheConstants.{ENTRIES}
 use Rattle.fx_config.specs.declared.observation_point.ObservationPoint.{ObservationPoint}
+use Rattle.fx_config.specs.declared.observation_point.Direction.{Direction}
+use Rattle.fx_config.specs.declared.observation_point.Direction.TheVariants.{Ingress, Egress, Both}
+
+-- ---- directions
+
+abbrev pub direction_named : List ℕ → Option Direction
+direction_named name =
+    if bytes_eq name (codes "ingress") then Some Ingress else
+    (if bytes_eq name (codes "egress") then Some Egress else
+    (if bytes_eq name (codes "both") then Some Both else None))
+
+abbrev pub direction_faults : List ℕ → Data → List Found
+direction_faults = word_faults direction_named
+
+abbrev pub direction_given : Option Direction → Direction
+direction_given direction = unwrap_or direction Both
+
+abbrev pub direction_of : Data → Direction
+direction_of d = direction_given (direction_named (text_of d))
+
+-- ---- observation points
 
 abbrev pub observation_point_rows : List (List ℕ) → List Row
 observation_point_rows earlier =
     required (codes "name") (name_once earlier)
     ∷ required (codes "observationDomainId") (whole_faults 0 0xffff_ffff)
     ∷ entries 1 ENTRIES (codes "ifName") name_once text_of
+    ∷ optional (codes "direction") direction_faults
     ∷ entries 0 ENTRIES (codes "selectionProcess") name_once text_of
     ∷ []
 
@@ -23,5 +48,6 @@ observation_point_of d = record {
   name = text_of (member_of (codes "name") d);
   observation_domain_id = number_of (member_of (codes "observationDomainId") d);
   interfaces = map text_of (items_of (member_of (codes "ifName") d));
+  direction = direction_given (option_map direction_of (get (codes "direction") d));
   selection_processes = map text_of (items_of (member_of (codes "selectionProcess") d));
 }

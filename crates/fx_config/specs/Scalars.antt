@@ -6,10 +6,14 @@ use Rattle.serde_json.specs.Find.{as_null, as_str, as_number, as_u64}
 use Rattle.fx_base.specs.Name.{is_name}
 use Rattle.fx_config.specs.Walk.{Found, of_kind, fault_if}
 
--- ---- names: texts of 1 to 255 bytes with no white space at either end
+-- ---- texts that pass a test; this number stands for one that doesn't
 
+abbrev pub text_that : ℕ → (List ℕ → Bool) → List ℕ → Data → List Found
+text_that wrong test up d = of_kind (as_str d) (λ text. fault_if (not (test text)) wrong up) up
+
+-- names: texts of 1 to 255 bytes with no white space at either end
 abbrev pub name_faults : List ℕ → Data → List Found
-name_faults up d = of_kind (as_str d) (λ text. fault_if (not (is_name text)) 105 up) up
+name_faults = text_that 105 is_name
 
 -- the text of a value that has one
 abbrev pub text_of : Data → List ℕ
@@ -19,6 +23,11 @@ text_of d = unwrap_or (as_str d) []
 
 abbrev pub text_faults : List ℕ → Data → List Found
 text_faults up d = of_kind (as_str d) (λ text. []) up
+
+-- ---- texts of which few are allowed
+
+abbrev pub word_faults : {X : Type 0} → (List ℕ → Option X) → List ℕ → Data → List Found
+word_faults named = text_that 105 (λ text. is_some (named text))
 
 -- ---- whole numbers, spelled without fraction and exponent
 

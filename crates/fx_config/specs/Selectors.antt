@@ -1,11 +1,16 @@
 -- Selectors (RFC 6728, section 4.2.1).
-use Rattle.std.specs.Prelude.{ℕ, List, [], ◌∷◌, codes, Bool, true, false, not}
+use Rattle.std.specs.Prelude.{ℕ, List, [], ◌∷◌, codes, Bool, true, false, not, Option, Some, None, option_map}
 use Rattle.serde_json.specs.Data.{Data, null, boolean, number, string, array, object, Members, no_members, member}
+use Rattle.serde_json.specs.Find.{get}
 use Rattle.fx_config.specs.Walk.{Found, Row, object_faults, required, optional, member_of, fault_if}
-use Rattle.fx_config.specs.Choice.{one_of}
+use Rattle.fx_config.specs.Choice.{none_of, one_of}
 use Rattle.fx_config.specs.Lists.{name_once}
 use Rattle.fx_config.specs.Scalars.{text_of, is_empty_type}
+use Rattle.fx_config.specs.PropertyMatches.{property_match_faults, property_match_of}
+use Rattle.fx_config.specs.declared.property_match.PropertyMatch.{PropertyMatch}
 use Rattle.fx_config.specs.declared.selector.Selector.{Selector}
+use Rattle.fx_config.specs.declared.selector.Method.{Method}
+use Rattle.fx_config.specs.declared.selector.Method.TheVariants.{SelectAll, FilterMatch}
 
 abbrev pub has_no_member : Members → Bool
 has_no_member no_members = true
@@ -23,15 +28,34 @@ is_all (array ds) = is_empty_type (array ds)
 abbrev pub all_faults : List ℕ → Data → List Found
 all_faults up d = fault_if (not (is_all d)) 104 up
 
+-- methods by which a count can't be exact: sampling, and filtering by a hash
+abbrev pub inexact : List (List ℕ × ℕ)
+inexact =
+    (codes "sampCountBased", 108)
+    ∷ (codes "sampTimeBased", 108)
+    ∷ (codes "sampRandOutOfN", 108)
+    ∷ (codes "sampUniProb", 108)
+    ∷ (codes "filterHash", 109)
+    ∷ []
+
 abbrev pub selector_rows : List (List ℕ) → List Row
 selector_rows earlier =
     required (codes "name") (name_once earlier)
-    ∷ one_of (codes "selectAll" ∷ [])
+    ∷ none_of inexact
+    ∷ one_of (codes "selectAll" ∷ codes "filterMatch" ∷ [])
     ∷ optional (codes "selectAll") all_faults
+    ∷ optional (codes "filterMatch") property_match_faults
     ∷ []
 
 abbrev pub selector_faults : List (List ℕ) → List ℕ → Data → List Found
 selector_faults earlier = object_faults (selector_rows earlier)
 
+abbrev pub method_given : Option PropertyMatch → Method
+method_given (Some filter) = FilterMatch filter
+method_given None = SelectAll
+
 abbrev pub selector_of : Data → Selector
-selector_of d = record { name = text_of (member_of (codes "name") d) }
+selector_of d = record {
+  name = text_of (member_of (codes "name") d);
+  method = method_given (option_map property_match_of (get (codes "filterMatch") d));
+}

@@ -1,43 +1,152 @@
 //! Caches.
-ghost use Rattle.std.specs.Prelude.{◌≡◌};
-ghost use Rattle.fx_config.specs.Caches.{cache_faults, cache_of, layout_given, timeout_cache_faults, timeout_cache_of};
+ghost use Rattle.std.specs.Prelude.{◌≡◌, ℕ, option_map};
+ghost use Rattle.serde_json.specs.View.{view};
+ghost use Rattle.serde_json.specs.Find.{get};
+ghost use Rattle.fx_config.specs.Pointer.{pointer};
+ghost use Rattle.fx_config.specs.Walk.{Reads, optional};
+ghost use Rattle.fx_config.specs.Caches.{cache_faults, cache_of, kind_given, max_flows_given, of_kind, settings_faults, settings_of};
 
+use crate::cache_layout::layout_member;
 use crate::limits::ENTRIES;
 use crate::walk::{
-    Entry, FromValue, Named, Path, Sequence, entries_member, name_member, object_of, one_of,
-    optional_member, required_member,
+    Entry, Named, Path, Sequence, Whole, entries_member, name_member, object_of, one_of,
+    optional_member,
 };
 use fx_base::{Fault, Name};
 use fx_layout::Layout;
 use serde_json::Value;
 use std::alloc::Global;
 
-/// The member `timeoutCache`: the cache's records leave it at times that nothing here depends on (RFC 6728,
-/// section 4.3.2).
+/// When records leave a cache (RFC 6728, section 4.3).
+#[derive(Clone, Copy, Debug, PartialEq, Eq)]
+pub enum CacheKind {
+    /// At once, each with one packet.
+    Immediate,
+    /// After some time.
+    Timeout,
+    /// At the natural end of their flow, or after some time.
+    Natural,
+    /// Never: what they count is sent from time to time.
+    Permanent,
+}
+
+/// A number of flows, or of units of time.
+type Number = Whole<0, 0xffff_ffff>;
+
+/// The settings of a kind of cache. Timeouts and intervals are read, and nothing here depends on them.
 #[derive(Debug, Drop)]
-struct TimeoutCache {
+struct Settings {
+    max_flows: u32,
     layout: Layout,
 }
 
-impl FromValue for TimeoutCache {
-    ghost faults = { timeout_cache_faults };
-
-    ghost meaning = { timeout_cache_of };
-
-    fn from_value(alloc: Global, path: &Path<'_>, value: &Value) -> Result<TimeoutCache, Fault> {
-        object_of(alloc, path, value, &["cacheLayout"])?;
-        let layout = required_member(alloc, path, value, "cacheLayout")?;
-        Ok(TimeoutCache { layout })
+/// The greatest number of flows that is given, or 0.
+fn max_flows_given(number: Option<Number>) -> u32
+    ensures { result ≡ max_flows_given number }
+{
+    match number {
+        Some(number) => number.number(),
+        None => 0,
     }
 }
 
-/// The layout of the kind of cache that is given.
-fn layout_given(timeout: Option<TimeoutCache>) -> Layout
-    ensures { result ≡ layout_given timeout }
+/// The settings of a kind of cache that is immediate, or isn't.
+fn read_settings(
+    alloc: Global,
+    path: &Path<'_>,
+    value: &Value,
+    immediate: bool,
+) -> Result<Settings, Fault>
+    ensures { Reads (settings_faults immediate (pointer path.now) (view value.now)) (settings_of immediate (view value.now)) result }
 {
-    match timeout {
-        Some(timeout) => timeout.layout,
-        None => Layout::new(),
+    object_of(
+        alloc,
+        path,
+        value,
+        &[
+            "maxFlows",
+            "activeTimeout",
+            "idleTimeout",
+            "exportInterval",
+            "cacheLayout",
+        ],
+    )?;
+    let max_flows = optional_member::<Number>(alloc, path, value, "maxFlows")?;
+    let _active = optional_member::<Number>(alloc, path, value, "activeTimeout")?;
+    let _idle = optional_member::<Number>(alloc, path, value, "idleTimeout")?;
+    let _interval = optional_member::<Number>(alloc, path, value, "exportInterval")?;
+    let layout = layout_member(alloc, path, value, immediate)?;
+    Ok(Settings {
+        max_flows: max_flows_given(max_flows),
+        layout,
+    })
+}
+
+/// The member of this name, which may be there: a kind of cache that is immediate, or isn't.
+fn settings_member(
+    alloc: Global,
+    path: &Path<'_>,
+    object: &Value,
+    name: &str,
+    immediate: bool,
+) -> Result<Option<Settings>, Fault>
+    ensures { Reads ((optional name.now (settings_faults immediate)).faults (pointer path.now) (view object.now)) (option_map (settings_of immediate) (get name.now (view object.now))) result }
+{
+    match object.get(name) {
+        Some(value) => {
+            let settings = read_settings(alloc, &Path::Member(path, name), value, immediate)?;
+            Ok(Some(settings))
+        }
+        None => Ok(None),
+    }
+}
+
+/// A kind of cache with its settings.
+#[derive(Debug, Drop)]
+struct Kind {
+    kind: CacheKind,
+    max_flows: u32,
+    layout: Layout,
+}
+
+impl Settings {
+    /// A cache of the kind with these settings.
+    fn of_kind(self, kind: CacheKind) -> Kind
+        ensures { result ≡ of_kind kind self }
+    {
+        Kind {
+            kind,
+            max_flows: self.max_flows,
+            layout: self.layout,
+        }
+    }
+}
+
+/// The kind that is given, with its settings.
+fn kind_given(
+    immediate: Option<Settings>,
+    timeout: Option<Settings>,
+    natural: Option<Settings>,
+    permanent: Option<Settings>,
+) -> Kind
+    ensures { result ≡ kind_given immediate timeout natural permanent }
+{
+    if let Some(settings) = immediate {
+        return settings.of_kind(CacheKind::Immediate);
+    }
+    if let Some(settings) = timeout {
+        return settings.of_kind(CacheKind::Timeout);
+    }
+    if let Some(settings) = natural {
+        return settings.of_kind(CacheKind::Natural);
+    }
+    match permanent {
+        Some(settings) => settings.of_kind(CacheKind::Permanent),
+        None => Kind {
+            kind: CacheKind::Permanent,
+            max_flows: 0,
+            layout: Layout::new(),
+        },
     }
 }
 
@@ -46,6 +155,10 @@ fn layout_given(timeout: Option<TimeoutCache>) -> Layout
 pub struct Cache {
     /// Its name, which differs from those of the device's other caches.
     pub name: Name,
+    /// When records leave it.
+    pub kind: CacheKind,
+    /// The greatest number of records that it holds, where 0 is no bound.
+    pub max_flows: u32,
     /// The flow keys of its records.
     pub layout: Layout,
     /// The exporting processes that are given its records, by name: none twice.
@@ -75,15 +188,38 @@ impl Entry for Cache {
             alloc,
             path,
             value,
-            &["name", "timeoutCache", "exportingProcess"],
+            &[
+                "name",
+                "immediateCache",
+                "timeoutCache",
+                "naturalCache",
+                "permanentCache",
+                "exportingProcess",
+            ],
         )?;
         let name = name_member(alloc, path, value, earlier)?;
-        one_of(alloc, path, value, &["timeoutCache"])?;
-        let timeout = optional_member(alloc, path, value, "timeoutCache")?;
+        one_of(
+            alloc,
+            path,
+            value,
+            &[
+                "immediateCache",
+                "timeoutCache",
+                "naturalCache",
+                "permanentCache",
+            ],
+        )?;
+        let immediate = settings_member(alloc, path, value, "immediateCache", true)?;
+        let timeout = settings_member(alloc, path, value, "timeoutCache", false)?;
+        let natural = settings_member(alloc, path, value, "naturalCache", false)?;
+        let permanent = settings_member(alloc, path, value, "permanentCache", false)?;
         let processes = entries_member(alloc, path, value, "exportingProcess", 0, ENTRIES)?;
+        let given = kind_given(immediate, timeout, natural, permanent);
         Ok(Cache {
             name,
-            layout: layout_given(timeout),
+            kind: given.kind,
+            max_flows: given.max_flows,
+            layout: given.layout,
             exporting_processes: processes,
         })
     }

@@ -1,65 +1,106 @@
 //! Fields of caches' records.
-ghost use Rattle.std.specs.Prelude.{◌≡◌, ℕ};
+ghost use Rattle.std.specs.Prelude.{◌≡◌, ℕ, List, [], ◌∷◌, map, codes};
+ghost use Rattle.serde_json.specs.View.{view};
 ghost use Rattle.fx_config.specs.Pointer.{pointer};
-ghost use Rattle.fx_config.specs.Walk.{Reads};
-ghost use Rattle.fx_config.specs.Scalars.{text_faults, text_of};
-ghost use Rattle.fx_config.specs.CacheFields.{cache_field_faults, cache_field_of, element_faults, element_given};
-ghost use Rattle.fx_elements.specs.Elements.{element_named};
+ghost use Rattle.fx_config.specs.Walk.{Reads, member_of};
+ghost use Rattle.fx_config.specs.Lists.{entries_faults, items_of};
+ghost use Rattle.fx_config.specs.CacheFields.{cache_field_faults, cache_field_of, element_faults, field_check, fields_row, has_other_octets, is_delta_count, is_key, length_faults};
 
+use crate::element::{ElementNumber, Enterprise, element_given};
+use crate::limits::FIELDS;
 use crate::walk::{
-    Empty, Entry, FromValue, Named, Path, Whole, name_member, object_of, one_of, optional_member,
+    Empty, Named, Path, Sequence, Whole, items_in, name_member, object_of, one_of, optional_member,
     refusal,
 };
 use fx_base::{Fault, Name};
-use fx_elements::{Element, by_id, by_name};
+use fx_elements::{Element, width};
 use serde_json::Value;
 use std::alloc::Global;
 
-/// An element by its name, which may be any text: 104 for no text.
-impl FromValue for Element {
-    ghost faults = { text_faults };
+/// A length in octets.
+type Octets = Whole<1, 65535>;
 
-    ghost meaning = { λ d. element_named (text_of d) };
-
-    fn from_value(alloc: Global, path: &Path<'_>, value: &Value) -> Result<Element, Fault> {
-        match value.as_str() {
-            Some(name) => Ok(by_name(name)),
-            None => Err(refusal(alloc, 104, path)),
-        }
-    }
-}
-
-/// The number of an element without an enterprise number.
-type ElementNumber = Whole<1, 32767>;
-
-/// The element that is given by its name or by its number.
-fn element_given(named: Option<Element>, numbered: Option<ElementNumber>) -> Element
-    ensures { result ≡ element_given named numbered }
+/// Whether a field tells records apart: one that is marked as a flow key, and in an immediate cache any field
+/// on an axis.
+fn is_key(immediate: bool, element: Element, marked: bool) -> bool
+    ensures { result ≡ is_key immediate element marked }
 {
-    match named {
-        Some(element) => element,
-        None => match numbered {
-            Some(number) => by_id(number.number() as u16, 0),
-            None => Element::Other,
-        },
+    if immediate {
+        matches!(element, Element::OnAxis(_))
+    } else {
+        marked
     }
 }
 
 /// Refuses a total counter (111) and a flow key by which packets can't be told apart (112).
-fn known_use(
-    alloc: Global,
-    path: &Path<'_>,
-    element: Element,
-    is_flow_key: bool,
-) -> Result<(), Fault>
-    ensures { Reads (element_faults element is_flow_key (pointer path.now)) tt result }
+fn known_use(alloc: Global, path: &Path<'_>, element: Element, key: bool) -> Result<(), Fault>
+    ensures { Reads (element_faults element key (pointer path.now)) tt result }
 {
     match element {
         Element::OctetTotalCount | Element::PacketTotalCount => Err(refusal(alloc, 111, path)),
         Element::OnAxis(_) => Ok(()),
-        _ if is_flow_key => Err(refusal(alloc, 112, path)),
+        _ if key => Err(refusal(alloc, 112, path)),
         _ => Ok(()),
     }
+}
+
+/// Whether the element counts since the last report.
+fn is_delta_count(element: Element) -> bool
+    ensures { result ≡ is_delta_count element }
+{
+    matches!(
+        element,
+        Element::OctetDeltaCount | Element::PacketDeltaCount
+    )
+}
+
+/// Whether values on the element's axis have another number of octets.
+fn has_other_octets(element: Element, octets: u32) -> bool
+    ensures { result ≡ has_other_octets element octets }
+{
+    match element {
+        Element::OnAxis(axis) => octets != width(axis) / 8,
+        _ => false,
+    }
+}
+
+/// Refuses a counter that isn't 8 octets long (110), and a flow key that hasn't its octets (105), at the
+/// member `ieLength` of the field at the path.
+fn known_length(
+    alloc: Global,
+    path: &Path<'_>,
+    element: Element,
+    key: bool,
+    length: Option<Octets>,
+) -> Result<(), Fault>
+    ensures { Reads (length_faults element key length (pointer path.now)) tt result }
+{
+    let Some(length) = length else {
+        return Ok(());
+    };
+    let octets = length.number();
+    let place = Path::Member(path, "ieLength");
+    if is_delta_count(element) && octets != 8 {
+        return Err(refusal(alloc, 110, &place));
+    }
+    if key && has_other_octets(element, octets) {
+        return Err(refusal(alloc, 105, &place));
+    }
+    Ok(())
+}
+
+/// What a field's members must come to together.
+fn known_field(
+    alloc: Global,
+    path: &Path<'_>,
+    element: Element,
+    key: bool,
+    length: Option<Octets>,
+) -> Result<(), Fault>
+    ensures { Reads (field_check element key length (pointer path.now)) tt result }
+{
+    known_use(alloc, path, element, key)?;
+    known_length(alloc, path, element, key, length)
 }
 
 /// A field of the records that a cache makes (RFC 6728, section 4.3.3).
@@ -81,30 +122,87 @@ impl Named for CacheField {
     }
 }
 
-impl Entry for CacheField {
-    ghost faults = { cache_field_faults };
+/// The field that stands at the path behind these. In an immediate cache, which sends each packet's record at
+/// once, all fields on an axis tell records apart.
+fn read_field(
+    alloc: Global,
+    path: &Path<'_>,
+    value: &Value,
+    earlier: &[CacheField],
+    immediate: bool,
+) -> Result<CacheField, Fault>
+    ensures { Reads (cache_field_faults immediate (map (λ e. e.name) earlier.now) (pointer path.now) (view value.now)) (cache_field_of immediate (view value.now)) result }
+{
+    object_of(
+        alloc,
+        path,
+        value,
+        &[
+            "name",
+            "ieName",
+            "ieId",
+            "ieLength",
+            "ieEnterpriseNumber",
+            "isFlowKey",
+        ],
+    )?;
+    let name = name_member(alloc, path, value, earlier)?;
+    one_of(alloc, path, value, &["ieName", "ieId"])?;
+    let named = optional_member::<Element>(alloc, path, value, "ieName")?;
+    let numbered = optional_member::<ElementNumber>(alloc, path, value, "ieId")?;
+    let length = optional_member::<Octets>(alloc, path, value, "ieLength")?;
+    let enterprise = optional_member::<Enterprise>(alloc, path, value, "ieEnterpriseNumber")?;
+    let marked = optional_member::<Empty>(alloc, path, value, "isFlowKey")?;
+    let element = element_given(named, numbered, enterprise);
+    let is_flow_key = is_key(immediate, element, marked.is_some());
+    known_field(alloc, path, element, is_flow_key, length)?;
+    Ok(CacheField {
+        name,
+        element,
+        is_flow_key,
+    })
+}
 
-    ghost meaning = { cache_field_of };
+/// The fields of the list at the path, in order.
+fn fields_of(
+    alloc: Global,
+    path: &Path<'_>,
+    items: &[Value],
+    immediate: bool,
+) -> Result<Sequence<CacheField>, Fault>
+    ensures { Reads (entries_faults (cache_field_faults immediate) (λ d. (cache_field_of immediate d).name) [] (pointer path.now) 0 (map view items.now)) (map (cache_field_of immediate) (map view items.now)) result }
+{
+    let mut fields = Vec::new(alloc);
+    let mut place = 0;
+    for item in items {
+        let field = read_field(
+            alloc,
+            &Path::Item(&*path, place),
+            item,
+            fields.as_slice(),
+            immediate,
+        )?;
+        fields.push(field)?;
+        place += 1;
+    }
+    Ok(Sequence::from_vec(fields))
+}
 
-    fn from_entry(
-        alloc: Global,
-        path: &Path<'_>,
-        value: &Value,
-        earlier: &[CacheField],
-    ) -> Result<CacheField, Fault> {
-        object_of(alloc, path, value, &["name", "ieName", "ieId", "isFlowKey"])?;
-        let name = name_member(alloc, path, value, earlier)?;
-        one_of(alloc, path, value, &["ieName", "ieId"])?;
-        let named = optional_member::<Element>(alloc, path, value, "ieName")?;
-        let numbered = optional_member::<ElementNumber>(alloc, path, value, "ieId")?;
-        let flow_key = optional_member::<Empty>(alloc, path, value, "isFlowKey")?;
-        let element = element_given(named, numbered);
-        let is_flow_key = flow_key.is_some();
-        known_use(alloc, path, element, is_flow_key)?;
-        Ok(CacheField {
-            name,
-            element,
-            is_flow_key,
-        })
+/// The member `cacheField` of a layout: at least one field.
+pub fn fields_member(
+    alloc: Global,
+    path: &Path<'_>,
+    object: &Value,
+    immediate: bool,
+) -> Result<Sequence<CacheField>, Fault>
+    ensures { Reads ((fields_row immediate).faults (pointer path.now) (view object.now)) (map (cache_field_of immediate) (items_of (member_of (codes "cacheField") (view object.now)))) result }
+{
+    match object.get("cacheField") {
+        Some(value) => {
+            let path = Path::Member(path, "cacheField");
+            let items = items_in(alloc, &path, value, 1, FIELDS)?;
+            fields_of(alloc, &path, items, immediate)
+        }
+        None => Err(refusal(alloc, 103, path)),
     }
 }

@@ -1,12 +1,12 @@
 //! Layouts of caches' records.
-ghost use Rattle.std.specs.Prelude.{◌≡◌, ℕ};
+ghost use Rattle.std.specs.Prelude.{◌≡◌, ℕ, codes};
+ghost use Rattle.serde_json.specs.View.{view};
 ghost use Rattle.fx_config.specs.Pointer.{pointer};
-ghost use Rattle.fx_config.specs.Walk.{Reads};
+ghost use Rattle.fx_config.specs.Walk.{Reads, member_of, required};
 ghost use Rattle.fx_config.specs.CacheLayouts.{add_axis, add_key, cache_layout_faults, cache_layout_of, counter_faults, counts_octets, counts_packets, layout_of};
 
-use crate::cache_field::CacheField;
-use crate::limits::FIELDS;
-use crate::walk::{FromValue, Path, Sequence, entries_member, object_of, refusal};
+use crate::cache_field::{CacheField, fields_member};
+use crate::walk::{Path, object_of, refusal};
 use fx_base::Fault;
 use fx_elements::{Element, width};
 use fx_layout::Layout;
@@ -64,24 +64,33 @@ fn layout_of(fields: &[CacheField]) -> Layout
     layout
 }
 
-/// The flow keys of a cache's records, from the container `cacheLayout` (RFC 6728, section 4.3.3).
-impl FromValue for Layout {
-    ghost faults = { cache_layout_faults };
+/// The flow keys of a cache's records, from the container `cacheLayout` at the path (RFC 6728, section 4.3.3).
+fn read_layout(
+    alloc: Global,
+    path: &Path<'_>,
+    value: &Value,
+    immediate: bool,
+) -> Result<Layout, Fault>
+    ensures { Reads (cache_layout_faults immediate (pointer path.now) (view value.now)) (cache_layout_of immediate (view value.now)) result }
+{
+    object_of(alloc, path, value, &["cacheField"])?;
+    let fields = fields_member(alloc, path, value, immediate)?;
+    let fields = fields.as_slice();
+    has_counters(alloc, path, fields)?;
+    Ok(layout_of(fields))
+}
 
-    ghost meaning = { cache_layout_of };
-
-    fn from_value(alloc: Global, path: &Path<'_>, value: &Value) -> Result<Layout, Fault> {
-        object_of(alloc, path, value, &["cacheField"])?;
-        let fields: Sequence<CacheField> = entries_member(
-            alloc,
-            path,
-            value,
-            "cacheField",
-            1,
-            FIELDS,
-        )?;
-        let fields = fields.as_slice();
-        has_counters(alloc, path, fields)?;
-        Ok(layout_of(fields))
+/// The member `cacheLayout`, which must be there.
+pub fn layout_member(
+    alloc: Global,
+    path: &Path<'_>,
+    object: &Value,
+    immediate: bool,
+) -> Result<Layout, Fault>
+    ensures { Reads ((required (codes "cacheLayout") (cache_layout_faults immediate)).faults (pointer path.now) (view object.now)) (cache_layout_of immediate (member_of (codes "cacheLayout") (view object.now))) result }
+{
+    match object.get("cacheLayout") {
+        Some(value) => read_layout(alloc, &Path::Member(path, "cacheLayout"), value, immediate),
+        None => Err(refusal(alloc, 103, path)),
     }
 }

@@ -1,7 +1,11 @@
 //! Collecting processes.
 ghost use Rattle.fx_config.specs.CollectingProcesses.{collecting_process_faults, collecting_process_of};
 
-use crate::walk::{Entry, Named, Path, name_member, object_of};
+use crate::aggregation::Aggregation;
+use crate::limits::ENTRIES;
+use crate::walk::{
+    Entry, Named, Path, Refused, Sequence, entries_member, name_member, none_of, object_of,
+};
 use fx_base::{Fault, Name};
 use serde_json::Value;
 use std::alloc::Global;
@@ -11,6 +15,10 @@ use std::alloc::Global;
 pub struct CollectingProcess {
     /// Its name, which differs from those of the device's other collecting processes.
     pub name: Name,
+    /// The exporting processes that are given all records, by name: none twice.
+    pub exporting_processes: Sequence<Name>,
+    /// Its aggregations, in document order.
+    pub aggregations: Sequence<Aggregation>,
 }
 
 impl Named for CollectingProcess {
@@ -32,8 +40,39 @@ impl Entry for CollectingProcess {
         value: &Value,
         earlier: &[CollectingProcess],
     ) -> Result<CollectingProcess, Fault> {
-        object_of(alloc, path, value, &["name"])?;
+        object_of(
+            alloc,
+            path,
+            value,
+            &[
+                "name",
+                "fileReader",
+                "tcpCollector",
+                "sctpCollector",
+                "udpCollector",
+                "exportingProcess",
+                "once-audit:aggregation",
+            ],
+        )?;
         let name = name_member(alloc, path, value, earlier)?;
-        Ok(CollectingProcess { name })
+        let files = Refused {
+            name: "fileReader",
+            number: 113,
+        };
+        none_of(alloc, path, value, &[files])?;
+        let processes = entries_member(alloc, path, value, "exportingProcess", 0, ENTRIES)?;
+        let aggregations = entries_member(
+            alloc,
+            path,
+            value,
+            "once-audit:aggregation",
+            0,
+            ENTRIES,
+        )?;
+        Ok(CollectingProcess {
+            name,
+            exporting_processes: processes,
+            aggregations,
+        })
     }
 }

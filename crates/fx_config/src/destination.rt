@@ -1,16 +1,44 @@
 //! Destinations of exporting processes.
-ghost use Rattle.fx_config.specs.Destinations.{destination_faults, destination_of};
+ghost use Rattle.std.specs.Prelude.{◌≡◌};
+ghost use Rattle.serde_json.specs.View.{view};
+ghost use Rattle.fx_config.specs.Destinations.{destination_faults, destination_of, transport_of};
 
-use crate::walk::{Entry, Named, Path, name_member, object_of, one_of};
+use crate::walk::{Entry, Named, Path, Refused, name_member, none_of, object_of, one_of};
 use fx_base::{Fault, Name};
 use serde_json::Value;
 use std::alloc::Global;
+
+/// The transport of the messages that are sent to a destination (RFC 7011, section 10).
+#[derive(Clone, Copy, Debug, PartialEq, Eq)]
+pub enum Transport {
+    /// The Transmission Control Protocol.
+    Tcp,
+    /// The Stream Control Transmission Protocol.
+    Sctp,
+    /// The User Datagram Protocol.
+    Udp,
+}
+
+/// The transport of a destination: that of the exporter that is there.
+fn transport_of(object: &Value) -> Transport
+    ensures { result ≡ transport_of (view object.now) }
+{
+    if object.get("tcpExporter").is_some() {
+        Transport::Tcp
+    } else if object.get("sctpExporter").is_some() {
+        Transport::Sctp
+    } else {
+        Transport::Udp
+    }
+}
 
 /// A destination to which an exporting process sends records (RFC 6728, section 4.4).
 #[derive(Debug, Drop)]
 pub struct Destination {
     /// Its name, which differs from those of the process's other destinations.
     pub name: Name,
+    /// How records are brought there.
+    pub transport: Transport,
 }
 
 impl Named for Destination {
@@ -32,9 +60,33 @@ impl Entry for Destination {
         value: &Value,
         earlier: &[Destination],
     ) -> Result<Destination, Fault> {
-        object_of(alloc, path, value, &["name", "tcpExporter"])?;
+        object_of(
+            alloc,
+            path,
+            value,
+            &[
+                "name",
+                "fileWriter",
+                "tcpExporter",
+                "sctpExporter",
+                "udpExporter",
+            ],
+        )?;
         let name = name_member(alloc, path, value, earlier)?;
-        one_of(alloc, path, value, &["tcpExporter"])?;
-        Ok(Destination { name })
+        let files = Refused {
+            name: "fileWriter",
+            number: 113,
+        };
+        none_of(alloc, path, value, &[files])?;
+        one_of(
+            alloc,
+            path,
+            value,
+            &["tcpExporter", "sctpExporter", "udpExporter"],
+        )?;
+        Ok(Destination {
+            name,
+            transport: transport_of(value),
+        })
     }
 }

@@ -35,9 +35,10 @@ impl FromValue for Device {
 /// at its JSON Pointer in the document.
 ///
 /// 102 a member that may not be there, 103 one that is missing, 104 a value of another kind, 105 a value that
-/// isn't allowed, 106 a name twice, 107 a reference to nothing, 111 a total counter, 112 a flow key by which
-/// packets can't be told apart, 114 a layout without both counters, 115 too many entries; 900, at no place, for
-/// want of memory.
+/// isn't allowed, 106 a name twice, 107 a reference to nothing, 108 a method that samples, 109 a filter by a
+/// hash, 110 a counter that isn't 8 octets long, 111 a total counter, 112 a flow key by which packets can't be
+/// told apart, 113 a file in place of a transport, 114 a layout without both counters, 115 too many entries; 900,
+/// at no place, for want of memory.
 pub fn read_device(alloc: Global, value: &Value) -> Result<Device, Fault>
     ensures answer { Reads (device_faults [] (view value.now)) (device_of (view value.now)) result }
     ensures resolved { IfOk result Resolves }

@@ -9,7 +9,7 @@ use crate::collecting_process::CollectingProcess;
 use crate::exporting_process::ExportingProcess;
 use crate::limits::ENTRIES;
 use crate::observation_point::ObservationPoint;
-use crate::references::{caches_refer, points_refer, processes_refer};
+use crate::references::{all_collecting_refer, caches_refer, points_refer, processes_refer};
 use crate::selection_process::SelectionProcess;
 use crate::walk::{FromValue, Path, Sequence, entries_member, object_of};
 use fx_base::Fault;
@@ -39,6 +39,7 @@ fn refers(alloc: Global, path: &Path<'_>, device: &Device) -> Result<(), Fault>
     let selecting = device.selection_processes.as_slice();
     let caches = device.caches.as_slice();
     let exporting = device.exporting_processes.as_slice();
+    let collecting = device.collecting_processes.as_slice();
     points_refer(
         alloc,
         &Path::Member(&*path, "observationPoint"),
@@ -51,7 +52,13 @@ fn refers(alloc: Global, path: &Path<'_>, device: &Device) -> Result<(), Fault>
         selecting,
         caches,
     )?;
-    caches_refer(alloc, &Path::Member(&*path, "cache"), caches, exporting)
+    caches_refer(alloc, &Path::Member(&*path, "cache"), caches, exporting)?;
+    all_collecting_refer(
+        alloc,
+        &Path::Member(&*path, "collectingProcess"),
+        collecting,
+        exporting,
+    )
 }
 
 /// The container `ipfix` (RFC 6728, section 6).

@@ -3,9 +3,11 @@ ghost use Rattle.std.specs.Prelude.{◌≡◌, ℕ, map};
 ghost use Rattle.fx_config.specs.Pointer.{pointer};
 ghost use Rattle.fx_config.specs.Walk.{Reads};
 ghost use Rattle.fx_config.specs.Lists.{items_faults};
-ghost use Rattle.fx_config.specs.References.{cache_references, point_references, process_references};
+ghost use Rattle.fx_config.specs.References.{aggregation_references, cache_references, collecting_references, point_references, process_references};
 
+use crate::aggregation::Aggregation;
 use crate::cache::Cache;
+use crate::collecting_process::CollectingProcess;
 use crate::exporting_process::ExportingProcess;
 use crate::observation_point::ObservationPoint;
 use crate::selection_process::SelectionProcess;
@@ -110,6 +112,84 @@ pub fn caches_refer(
     let mut place = 0;
     for cache in caches {
         cache_refers(alloc, &Path::Item(&*path, place), cache, processes)?;
+        place += 1;
+    }
+    Ok(())
+}
+
+/// Refuses the first exporting process that the aggregation at the path names and that isn't there (107).
+fn aggregation_refers(
+    alloc: Global,
+    path: &Path<'_>,
+    aggregation: &Aggregation,
+    processes: &[ExportingProcess],
+) -> Result<(), Fault>
+    ensures { Reads (aggregation_references (map (λ x. x.name) processes.now) (pointer path.now) aggregation.now) tt result }
+{
+    let names = aggregation.exporting_processes.as_slice();
+    known_names(
+        alloc,
+        &Path::Member(&*path, "exportingProcess"),
+        names,
+        processes,
+    )
+}
+
+/// The same for all aggregations of the list at the path.
+fn aggregations_refer(
+    alloc: Global,
+    path: &Path<'_>,
+    aggregations: &[Aggregation],
+    processes: &[ExportingProcess],
+) -> Result<(), Fault>
+    ensures { Reads (items_faults (aggregation_references (map (λ x. x.name) processes.now)) (pointer path.now) 0 aggregations.now) tt result }
+{
+    let mut place = 0;
+    for aggregation in aggregations {
+        aggregation_refers(alloc, &Path::Item(&*path, place), aggregation, processes)?;
+        place += 1;
+    }
+    Ok(())
+}
+
+/// Refuses the first exporting process that the collecting process at the path names, or then one of its
+/// aggregations, and that isn't there (107).
+fn collecting_refers(
+    alloc: Global,
+    path: &Path<'_>,
+    collecting: &CollectingProcess,
+    processes: &[ExportingProcess],
+) -> Result<(), Fault>
+    ensures { Reads (collecting_references (map (λ x. x.name) processes.now) (pointer path.now) collecting.now) tt result }
+{
+    let names = collecting.exporting_processes.as_slice();
+    let aggregations = collecting.aggregations.as_slice();
+    known_names(
+        alloc,
+        &Path::Member(&*path, "exportingProcess"),
+        names,
+        processes,
+    )?;
+    aggregations_refer(
+        alloc,
+        &Path::Member(&*path, "once-audit:aggregation"),
+        aggregations,
+        processes,
+    )
+}
+
+/// The same for all collecting processes of the list at the path.
+pub fn all_collecting_refer(
+    alloc: Global,
+    path: &Path<'_>,
+    all: &[CollectingProcess],
+    processes: &[ExportingProcess],
+) -> Result<(), Fault>
+    ensures { Reads (items_faults (collecting_references (map (λ x. x.name) processes.now)) (pointer path.now) 0 all.now) tt result }
+{
+    let mut place = 0;
+    for collecting in all {
+        collecting_refers(alloc, &Path::Item(&*path, place), collecting, processes)?;
         place += 1;
     }
     Ok(())

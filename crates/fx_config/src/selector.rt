@@ -1,11 +1,12 @@
 //! Selectors of selection processes.
 ghost use Rattle.std.specs.Prelude.{◌≡◌};
 ghost use Rattle.serde_json.specs.View.{view};
-ghost use Rattle.fx_config.specs.Selectors.{all_faults, is_all, selector_faults, selector_of};
+ghost use Rattle.fx_config.specs.Selectors.{all_faults, is_all, method_given, selector_faults, selector_of};
 
+use crate::property_match::PropertyMatch;
 use crate::walk::{
-    Entry, FromValue, Named, Path, is_empty_type, name_member, object_of, one_of, optional_member,
-    refusal,
+    Entry, FromValue, Named, Path, Refused, is_empty_type, name_member, none_of, object_of, one_of,
+    optional_member, refusal,
 };
 use fx_base::{Fault, Name};
 use serde_json::Value;
@@ -38,11 +39,56 @@ impl FromValue for SelectAll {
     }
 }
 
-/// A step in selecting packets (RFC 6728, section 4.2.1). So far there is one method, which selects all.
+/// How a selector selects packets.
+#[derive(Clone, Copy, Debug, PartialEq, Eq)]
+pub enum Method {
+    /// It selects all.
+    SelectAll,
+    /// It selects those that match.
+    FilterMatch(PropertyMatch),
+}
+
+/// The method: the filter that is given, or that which selects all.
+fn method_given(filter: Option<PropertyMatch>) -> Method
+    ensures { result ≡ method_given filter }
+{
+    match filter {
+        Some(filter) => Method::FilterMatch(filter),
+        None => Method::SelectAll,
+    }
+}
+
+/// Methods by which a count can't be exact: sampling, and filtering by a hash.
+const INEXACT: [Refused<'static>; 5] = [
+    Refused {
+        name: "sampCountBased",
+        number: 108,
+    },
+    Refused {
+        name: "sampTimeBased",
+        number: 108,
+    },
+    Refused {
+        name: "sampRandOutOfN",
+        number: 108,
+    },
+    Refused {
+        name: "sampUniProb",
+        number: 108,
+    },
+    Refused {
+        name: "filterHash",
+        number: 109,
+    },
+];
+
+/// A step in selecting packets (RFC 6728, section 4.2.1).
 #[derive(Debug, Drop)]
 pub struct Selector {
     /// Its name, which differs from those of the process's other selectors.
     pub name: Name,
+    /// Which packets pass it.
+    pub method: Method,
 }
 
 impl Named for Selector {
@@ -64,10 +110,29 @@ impl Entry for Selector {
         value: &Value,
         earlier: &[Selector],
     ) -> Result<Selector, Fault> {
-        object_of(alloc, path, value, &["name", "selectAll"])?;
+        object_of(
+            alloc,
+            path,
+            value,
+            &[
+                "name",
+                "sampCountBased",
+                "sampTimeBased",
+                "sampRandOutOfN",
+                "sampUniProb",
+                "filterHash",
+                "selectAll",
+                "filterMatch",
+            ],
+        )?;
         let name = name_member(alloc, path, value, earlier)?;
-        one_of(alloc, path, value, &["selectAll"])?;
+        none_of(alloc, path, value, &INEXACT)?;
+        one_of(alloc, path, value, &["selectAll", "filterMatch"])?;
         let _all = optional_member::<SelectAll>(alloc, path, value, "selectAll")?;
-        Ok(Selector { name })
+        let filter = optional_member(alloc, path, value, "filterMatch")?;
+        Ok(Selector {
+            name,
+            method: method_given(filter),
+        })
     }
 }

@@ -4,12 +4,12 @@ ghost use Rattle.serde_json.specs.Data.{Data};
 ghost use Rattle.serde_json.specs.View.{view};
 ghost use Rattle.fx_config.specs.Pointer.{pointer};
 ghost use Rattle.fx_config.specs.Walk.{Found, Reads, member_of, required};
-ghost use Rattle.fx_config.specs.Lists.{entries, entries_faults, is_among, items_of, name_once};
+ghost use Rattle.fx_config.specs.Lists.{entries, entries_faults, is_among, items_of, name_once, name_once_by};
 ghost use Rattle.fx_config.specs.Scalars.{text_of};
 
 use crate::walk::list::items_in;
-use crate::walk::member::FromValue;
 use crate::walk::path::{Path, refusal};
+use crate::walk::scalar::read_name;
 use crate::walk::sequence::Sequence;
 use fx_base::{Fault, Name};
 use serde_json::Value;
@@ -53,6 +53,25 @@ pub fn is_named<T: Named>(entries: &[T], name: &Name) -> bool
     }
 }
 
+/// A name that differs from those of earlier entries: 104 for no text, `wrong` for a text that is no name,
+/// `twice` for one of those.
+pub fn unique_name_by<T: Named>(
+    alloc: Global,
+    path: &Path<'_>,
+    value: &Value,
+    earlier: &[T],
+    wrong: u16,
+    twice: u16,
+) -> Result<Name, Fault>
+    ensures { Reads (name_once_by wrong twice (map T.name earlier.now) (pointer path.now) (view value.now)) (text_of (view value.now)) result }
+{
+    let name = read_name(alloc, path, value, wrong)?;
+    if is_named(earlier, &name) {
+        return Err(refusal(alloc, twice, path));
+    }
+    Ok(name)
+}
+
 /// A name that differs from those of earlier entries: 104 and 105 as for any name, 106 for one of those.
 pub fn unique_name<T: Named>(
     alloc: Global,
@@ -62,11 +81,7 @@ pub fn unique_name<T: Named>(
 ) -> Result<Name, Fault>
     ensures { Reads (name_once (map T.name earlier.now) (pointer path.now) (view value.now)) (text_of (view value.now)) result }
 {
-    let name = Name::from_value(alloc, path, value)?;
-    if is_named(earlier, &name) {
-        return Err(refusal(alloc, 106, path));
-    }
-    Ok(name)
+    unique_name_by(alloc, path, value, earlier, 105, 106)
 }
 
 /// An entry's member `name`, which differs from those of earlier entries.

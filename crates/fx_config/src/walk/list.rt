@@ -3,7 +3,7 @@ ghost use Rattle.std.specs.Prelude.{◌≡◌, ℕ, List, [], ◌∷◌, ◌++�
 ghost use Rattle.serde_json.specs.View.{view};
 ghost use Rattle.fx_config.specs.Pointer.{pointer};
 ghost use Rattle.fx_config.specs.Walk.{Reads, member_of};
-ghost use Rattle.fx_config.specs.Lists.{IsListOf, items, items_faults, items_of};
+ghost use Rattle.fx_config.specs.Lists.{IsListBy, IsListOf, items, items_faults, items_of};
 
 use crate::walk::member::FromValue;
 use crate::walk::path::{Path, refusal};
@@ -11,6 +11,30 @@ use crate::walk::sequence::Sequence;
 use fx_base::Fault;
 use serde_json::Value;
 use std::alloc::Global;
+
+/// The items of a list: 104 for another kind of value, `many` for more than `most`, `few` for fewer than `least`.
+pub fn items_by<'v>(
+    alloc: Global,
+    path: &Path<'_>,
+    value: &'v Value,
+    least: usize,
+    most: usize,
+    few: u16,
+    many: u16,
+) -> Result<&'v [Value], Fault>
+    ensures { IsListBy few many least most (pointer path.now) (view value.now) result }
+{
+    let Value::Array(items) = value else {
+        return Err(refusal(alloc, 104, path));
+    };
+    if items.len() > most {
+        return Err(refusal(alloc, many, path));
+    }
+    if items.len() < least {
+        return Err(refusal(alloc, few, path));
+    }
+    Ok(items.as_slice())
+}
 
 /// The items of a list: 104 for another kind of value, 115 for more than `most`, 103 for fewer than `least`.
 pub fn items_in<'v>(
@@ -22,16 +46,7 @@ pub fn items_in<'v>(
 ) -> Result<&'v [Value], Fault>
     ensures { IsListOf least most (pointer path.now) (view value.now) result }
 {
-    let Value::Array(items) = value else {
-        return Err(refusal(alloc, 104, path));
-    };
-    if items.len() > most {
-        return Err(refusal(alloc, 115, path));
-    }
-    if items.len() < least {
-        return Err(refusal(alloc, 103, path));
-    }
-    Ok(items.as_slice())
+    items_by(alloc, path, value, least, most, 103, 115)
 }
 
 /// What the items of the list at the path mean, in order.

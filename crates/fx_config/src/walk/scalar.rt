@@ -1,9 +1,10 @@
 //! Values without parts: names, whole numbers, empty types.
 ghost use Rattle.std.specs.Prelude.{◌≡◌, ℕ, ◌≤◌, ◌==◌, ◌∷◌, []};
-ghost use Rattle.fx_config.specs.Scalars.{is_empty_type, is_one_null, name_faults, whole_faults, empty_faults, text_faults, text_of, number_of};
+ghost use Rattle.fx_config.specs.Scalars.{is_empty_type, is_one_null, name_faults, whole_faults, empty_faults, text_faults, text_of, text_that, number_of};
 ghost use Rattle.fx_config.specs.Pointer.{pointer};
 ghost use Rattle.serde_json.specs.View.{view, items_view};
-ghost use Rattle.fx_config.specs.Walk.{Refuses};
+ghost use Rattle.fx_config.specs.Walk.{Reads, Refuses};
+ghost use Rattle.fx_base.specs.Name.{is_name};
 ghost use Rattle.fx_base.specs.Fault.{fault_at};
 ghost use Rattle.fx_base.specs.declared.fault.Place.TheVariants as places;
 
@@ -14,6 +15,20 @@ use serde_json::Value;
 use std::alloc::Global;
 use std::marker::Model;
 
+/// A name: 104 for no text, and this number for a text that is no name.
+pub fn read_name(alloc: Global, path: &Path<'_>, value: &Value, wrong: u16) -> Result<Name, Fault>
+    ensures { Reads (text_that wrong is_name (pointer path.now) (view value.now)) (text_of (view value.now)) result }
+{
+    let Some(text) = value.as_str() else {
+        return Err(refusal(alloc, 104, path));
+    };
+    match Name::read(alloc, text) {
+        Ok(name) => Ok(name),
+        Err(fault) if fault.number == 105 => Err(refusal(alloc, wrong, path)),
+        Err(fault) => Err(fault),
+    }
+}
+
 /// A name (`name-type` of the module): 104 for no text, 105 for a text that is no name.
 impl FromValue for Name {
     ghost faults = { name_faults };
@@ -21,14 +36,7 @@ impl FromValue for Name {
     ghost meaning = { text_of };
 
     fn from_value(alloc: Global, path: &Path<'_>, value: &Value) -> Result<Name, Fault> {
-        let Some(text) = value.as_str() else {
-            return Err(refusal(alloc, 104, path));
-        };
-        match Name::read(alloc, text) {
-            Ok(name) => Ok(name),
-            Err(fault) if fault.number == 105 => Err(refusal(alloc, 105, path)),
-            Err(fault) => Err(fault),
-        }
+        read_name(alloc, path, value, 105)
     }
 }
 

@@ -15,14 +15,26 @@ pub returns-in_err-one_of : goal.returns-in_err-one_of
 returns-in_err-one_of c =
     exit _ _ _ _ c.from_residual-in_err-one_of.ensures (rw (c.in_ok-object_of.ensures (cache_rows (map (λ e. e.name) c.args.earlier.now)) refl, c.in_ok-name.ensures.0) (refuses_more _ _ _ c.in_err-one_of.ensures))
 
+pub returns-in_err-immediate : goal.returns-in_err-immediate
+returns-in_err-immediate c =
+    exit _ _ _ _ c.from_residual-in_err-immediate.ensures (rw (c.in_ok-object_of.ensures (cache_rows (map (λ e. e.name) c.args.earlier.now)) refl, c.in_ok-name.ensures.0, c.in_ok-one_of.ensures.0) (refuses_more _ _ _ c.in_err-immediate.ensures))
+
 pub returns-in_err-timeout : goal.returns-in_err-timeout
 returns-in_err-timeout c =
-    exit _ _ _ _ c.from_residual-in_err-timeout.ensures (rw (c.in_ok-object_of.ensures (cache_rows (map (λ e. e.name) c.args.earlier.now)) refl, c.in_ok-name.ensures.0, c.in_ok-one_of.ensures.0) (refuses_more _ _ _ c.in_err-timeout.ensures))
+    exit _ _ _ _ c.from_residual-in_err-timeout.ensures (rw (c.in_ok-object_of.ensures (cache_rows (map (λ e. e.name) c.args.earlier.now)) refl, c.in_ok-name.ensures.0, c.in_ok-one_of.ensures.0, c.in_ok-immediate.ensures.0) (refuses_more _ _ _ c.in_err-timeout.ensures))
+
+pub returns-in_err-natural : goal.returns-in_err-natural
+returns-in_err-natural c =
+    exit _ _ _ _ c.from_residual-in_err-natural.ensures (rw (c.in_ok-object_of.ensures (cache_rows (map (λ e. e.name) c.args.earlier.now)) refl, c.in_ok-name.ensures.0, c.in_ok-one_of.ensures.0, c.in_ok-immediate.ensures.0, c.in_ok-timeout.ensures.0) (refuses_more _ _ _ c.in_err-natural.ensures))
+
+pub returns-in_err-permanent : goal.returns-in_err-permanent
+returns-in_err-permanent c =
+    exit _ _ _ _ c.from_residual-in_err-permanent.ensures (rw (c.in_ok-object_of.ensures (cache_rows (map (λ e. e.name) c.args.earlier.now)) refl, c.in_ok-name.ensures.0, c.in_ok-one_of.ensures.0, c.in_ok-immediate.ensures.0, c.in_ok-timeout.ensures.0, c.in_ok-natural.ensures.0) (refuses_more _ _ _ c.in_err-permanent.ensures))
 
 pub returns-in_err-processes : goal.returns-in_err-processes
 returns-in_err-processes c =
-    exit _ _ _ _ c.from_residual-in_err-processes.ensures (rw (c.in_ok-object_of.ensures (cache_rows (map (λ e. e.name) c.args.earlier.now)) refl, c.in_ok-name.ensures.0, c.in_ok-one_of.ensures.0, c.in_ok-timeout.ensures.0) (refuses_more _ _ _ c.in_err-processes.ensures))
+    exit _ _ _ _ c.from_residual-in_err-processes.ensures (rw (c.in_ok-object_of.ensures (cache_rows (map (λ e. e.name) c.args.earlier.now)) refl, c.in_ok-name.ensures.0, c.in_ok-one_of.ensures.0, c.in_ok-immediate.ensures.0, c.in_ok-timeout.ensures.0, c.in_ok-natural.ensures.0, c.in_ok-permanent.ensures.0) (refuses_more _ _ _ c.in_err-processes.ensures))
 
 pub returns : goal.returns
 returns c =
-    (rw (c.in_ok-object_of.ensures (cache_rows (map (λ e. e.name) c.args.earlier.now)) refl, c.in_ok-name.ensures.0, c.in_ok-one_of.ensures.0, c.in_ok-timeout.ensures.0, c.in_ok-processes.ensures.0) refl, rw (c.in_ok-name.ensures.1, c.layout_given.ensures, c.in_ok-timeout.ensures.1, c.in_ok-processes.ensures.1) refl)
+    (rw (c.in_ok-object_of.ensures (cache_rows (map (λ e. e.name) c.args.earlier.now)) refl, c.in_ok-name.ensures.0, c.in_ok-one_of.ensures.0, c.in_ok-immediate.ensures.0, c.in_ok-timeout.ensures.0, c.in_ok-natural.ensures.0, c.in_ok-permanent.ensures.0, c.in_ok-processes.ensures.0) refl, rw (c.in_ok-name.ensures.1, c.kind_given-given.ensures, c.in_ok-immediate.ensures.1, c.in_ok-timeout.ensures.1, c.in_ok-natural.ensures.1, c.in_ok-permanent.ensures.1, c.in_ok-processes.ensures.1) refl)

@@ -11,10 +11,14 @@ pub returns-in_err-name : goal.returns-in_err-name
 returns-in_err-name c =
     exit _ _ _ _ c.from_residual-in_err-name.ensures (rw (c.in_ok-object_of.ensures (destination_rows (map (λ e. e.name) c.args.earlier.now)) refl) (refuses_more _ _ _ c.in_err-name.ensures))
 
+pub returns-in_err-none_of : goal.returns-in_err-none_of
+returns-in_err-none_of c =
+    exit _ _ _ _ c.from_residual-in_err-none_of.ensures (rw (c.in_ok-object_of.ensures (destination_rows (map (λ e. e.name) c.args.earlier.now)) refl, c.in_ok-name.ensures.0) (refuses_more _ _ _ c.in_err-none_of.ensures))
+
 pub returns-in_err-one_of : goal.returns-in_err-one_of
 returns-in_err-one_of c =
-    exit _ _ _ _ c.from_residual-in_err-one_of.ensures (rw (c.in_ok-object_of.ensures (destination_rows (map (λ e. e.name) c.args.earlier.now)) refl, c.in_ok-name.ensures.0) (refuses_more _ _ _ c.in_err-one_of.ensures))
+    exit _ _ _ _ c.from_residual-in_err-one_of.ensures (rw (c.in_ok-object_of.ensures (destination_rows (map (λ e. e.name) c.args.earlier.now)) refl, c.in_ok-name.ensures.0, c.in_ok-none_of.ensures.0) (refuses_more _ _ _ c.in_err-one_of.ensures))
 
 pub returns : goal.returns
 returns c =
-    (rw (c.in_ok-object_of.ensures (destination_rows (map (λ e. e.name) c.args.earlier.now)) refl, c.in_ok-name.ensures.0, c.in_ok-one_of.ensures.0) refl, rw (c.in_ok-name.ensures.1) refl)
+    (rw (c.in_ok-object_of.ensures (destination_rows (map (λ e. e.name) c.args.earlier.now)) refl, c.in_ok-name.ensures.0, c.in_ok-none_of.ensures.0, c.in_ok-one_of.ensures.0) refl, rw (c.in_ok-name.ensures.1, c.transport_of.ensures) refl)

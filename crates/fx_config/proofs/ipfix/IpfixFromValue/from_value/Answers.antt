@@ -29,9 +29,9 @@ returns-in_err-collecting c =
 
 pub returns-in_err-refers : goal.returns-in_err-refers
 returns-in_err-refers c =
-    exit _ _ _ _ c.from_residual-in_err-refers.ensures (rw (c.in_ok-object_of.ensures (ipfix_rows) refl, c.in_ok-points.ensures.0, c.in_ok-selecting.ensures.0, c.in_ok-caches.ensures.0, c.in_ok-exporting.ensures.0, c.in_ok-collecting.ensures.0) (refuses_more _ _ _ (rw (c.in_ok-points.ensures.1, c.in_ok-selecting.ensures.1, c.in_ok-caches.ensures.1, c.in_ok-exporting.ensures.1) at c.in_err-refers.ensures)))
+    exit _ _ _ _ c.from_residual-in_err-refers.ensures (rw (c.in_ok-object_of.ensures (ipfix_rows) refl, c.in_ok-points.ensures.0, c.in_ok-selecting.ensures.0, c.in_ok-caches.ensures.0, c.in_ok-exporting.ensures.0, c.in_ok-collecting.ensures.0) (refuses_more _ _ _ (rw (c.in_ok-points.ensures.1, c.in_ok-selecting.ensures.1, c.in_ok-caches.ensures.1, c.in_ok-exporting.ensures.1, c.in_ok-collecting.ensures.1) at c.in_err-refers.ensures)))
 
 pub returns : goal.returns
 returns c =
-    let refers = rw (c.in_ok-points.ensures.1, c.in_ok-selecting.ensures.1, c.in_ok-caches.ensures.1, c.in_ok-exporting.ensures.1) at c.in_ok-refers.ensures in
+    let refers = rw (c.in_ok-points.ensures.1, c.in_ok-selecting.ensures.1, c.in_ok-caches.ensures.1, c.in_ok-exporting.ensures.1, c.in_ok-collecting.ensures.1) at c.in_ok-refers.ensures in
     (rw (c.in_ok-object_of.ensures (ipfix_rows) refl, c.in_ok-points.ensures.0, c.in_ok-selecting.ensures.0, c.in_ok-caches.ensures.0, c.in_ok-exporting.ensures.0, c.in_ok-collecting.ensures.0, refers.0) refl, rw (c.in_ok-points.ensures.1, c.in_ok-selecting.ensures.1, c.in_ok-caches.ensures.1, c.in_ok-exporting.ensures.1, c.in_ok-collecting.ensures.1) refl)

@@ -1,7 +1,7 @@
 use Rattle.std.proofs.Common.{arith, length, refl}
 use Rattle.std.proofs.lemmas.Bool.{lt-ltb, le-ltb}
 use Rattle.fx_config.proofs.Lists.{items_in-Array, length-views}
-use Rattle.fx_config.proofs.walk.list.items_in.Goals as goal
+use Rattle.fx_config.proofs.walk.list.items_by.Goals as goal
 
 pub returns-then-len-most : goal.returns-then-len-most
 returns-then-len-most c faults =

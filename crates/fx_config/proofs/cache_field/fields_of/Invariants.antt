@@ -1,0 +1,16 @@
+use Rattle.std.proofs.Common.{◌≡◌, [], ◌++◌, drop, map}
+use Rattle.serde_json.specs.View.{view}
+use Rattle.fx_config.specs.Pointer.{pointer}
+use Rattle.fx_config.specs.Lists.{entries_faults}
+use Rattle.fx_config.specs.CacheFields.{cache_field_faults, cache_field_of}
+use Rattle.fx_config.proofs.cache_field.fields_of.Given as goal
+
+abbrev pub invariant-loop-item : goal.invariant-loop-item
+invariant-loop-item l =
+    let faults = cache_field_faults l.immediate in
+    let meaning = cache_field_of l.immediate in
+    record {
+      place : l.place ≡ l.item-index;
+      faults : entries_faults faults (λ d. (meaning d).name) [] (pointer l.path) 0 (map view l.items) ≡ entries_faults faults (λ d. (meaning d).name) (map (λ e. e.name) l.fields.items) (pointer l.path) l.place (map view (drop l.place l.items));
+      fields : l.fields.items ++ map meaning (map view (drop l.place l.items)) ≡ map meaning (map view l.items);
+    }

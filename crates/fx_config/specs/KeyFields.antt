@@ -1,0 +1,85 @@
+-- Fields of the keys to which records are aggregated (RFC 7015), or totals asked for.
+use Rattle.std.specs.Prelude.{ℕ, List, [], ◌∷◌, codes, Bool, true, false, not, ◌&&◌, Option, Some, None, is_some, option_map}
+use Rattle.serde_json.specs.Data.{Data}
+use Rattle.serde_json.specs.Find.{get}
+use Rattle.fx_config.specs.Walk.{Found, Row, object_faults, optional, then_check, fault_if}
+use Rattle.fx_config.specs.Choice.{one_of}
+use Rattle.fx_config.specs.Scalars.{number_of, text_faults, whole_faults}
+use Rattle.fx_config.specs.GivenElements.{element_given, name_in, number_in}
+use Rattle.fx_elements.specs.Axes.{axis_width}
+use Rattle.fx_elements.specs.declared.axis.Axis.{Axis}
+use Rattle.fx_elements.specs.declared.axis.Axis.TheVariants.{Source, Destination}
+use Rattle.fx_elements.specs.declared.element.Element.{Element}
+use Rattle.fx_elements.specs.declared.element.Element.TheVariants.{OnAxis, OctetDeltaCount, PacketDeltaCount, OctetTotalCount, PacketTotalCount, SourcePrefix, DestinationPrefix, SourcePrefixLength, DestinationPrefixLength, IpVersion, Other}
+use Rattle.fx_layout.specs.declared.layout.Part.{Part}
+use Rattle.fx_config.specs.declared.key_field.KeyField.{KeyField}
+
+-- its values are the leading bits of addresses
+abbrev pub is_prefix : Element → Bool
+is_prefix SourcePrefix = true
+is_prefix DestinationPrefix = true
+is_prefix (OnAxis axis) = false
+is_prefix OctetDeltaCount = false
+is_prefix PacketDeltaCount = false
+is_prefix OctetTotalCount = false
+is_prefix PacketTotalCount = false
+is_prefix SourcePrefixLength = false
+is_prefix DestinationPrefixLength = false
+is_prefix IpVersion = false
+is_prefix Other = false
+
+-- a prefix without its length
+abbrev pub prefix_check : Element → Option ℕ → List ℕ → List Found
+prefix_check element prefix_length up = fault_if (is_prefix element && not (is_some prefix_length)) 103 up
+
+abbrev pub key_element_in : Data → Element
+key_element_in d = element_given (name_in d) (number_in d) 0
+
+abbrev pub prefix_length_in : Data → Option ℕ
+prefix_length_in d = option_map number_of (get (codes "prefixLength") d)
+
+abbrev pub key_field_rows : List Row
+key_field_rows =
+    one_of (codes "ieName" ∷ codes "ieId" ∷ [])
+    ∷ optional (codes "ieName") text_faults
+    ∷ optional (codes "ieId") (whole_faults 1 32767)
+    ∷ optional (codes "prefixLength") (whole_faults 1 32)
+    ∷ then_check (λ up d. prefix_check (key_element_in d) (prefix_length_in d) up)
+    ∷ []
+
+abbrev pub key_field_faults : List ℕ → Data → List Found
+key_field_faults = object_faults key_field_rows
+
+abbrev pub key_field_of : Data → KeyField
+key_field_of d = record {
+  element = key_element_in d;
+  prefix_length = prefix_length_in d;
+}
+
+-- ---- what a field stands for
+
+-- all bits of an axis, where no other number is given
+abbrev pub whole_part : Axis → Option ℕ → Option Part
+whole_part axis None = Some (record { axis = axis; bits = axis_width axis })
+whole_part axis (Some bits) = None
+
+-- so many leading bits of an address
+abbrev pub prefix_part : Axis → Option ℕ → Option Part
+prefix_part axis (Some bits) = Some (record { axis = axis; bits = bits })
+prefix_part axis None = None
+
+abbrev pub part_given : Element → Option ℕ → Option Part
+part_given (OnAxis axis) prefix_length = whole_part axis prefix_length
+part_given SourcePrefix prefix_length = prefix_part Source prefix_length
+part_given DestinationPrefix prefix_length = prefix_part Destination prefix_length
+part_given OctetDeltaCount prefix_length = None
+part_given PacketDeltaCount prefix_length = None
+part_given OctetTotalCount prefix_length = None
+part_given PacketTotalCount prefix_length = None
+part_given SourcePrefixLength prefix_length = None
+part_given DestinationPrefixLength prefix_length = None
+part_given IpVersion prefix_length = None
+part_given Other prefix_length = None
+
+abbrev pub part_of : KeyField → Option Part
+part_of field = part_given field.element field.prefix_length

@@ -1,0 +1,56 @@
+-- Values that packets must have (RFC 5475, section 6.1), or records.
+use Rattle.std.specs.Prelude.{ℕ, List, [], ◌∷◌, codes, not, Option, Some, None, is_some, option_map, option_and_then}
+use Rattle.std.specs.Option.{unwrap_or}
+use Rattle.serde_json.specs.Data.{Data}
+use Rattle.fx_config.specs.Walk.{Found, Row, object_faults, required, optional, then_check, member_of, fault_if}
+use Rattle.fx_config.specs.Choice.{one_of}
+use Rattle.fx_config.specs.Scalars.{text_of, text_faults, whole_faults}
+use Rattle.fx_config.specs.GivenElements.{element_in}
+use Rattle.fx_elements.specs.declared.axis.Axis.{Axis}
+use Rattle.fx_elements.specs.declared.axis.Axis.TheVariants.{Source, Destination}
+use Rattle.fx_elements.specs.declared.element.Element.{Element}
+use Rattle.fx_elements.specs.declared.element.Element.TheVariants.{OnAxis, OctetDeltaCount, PacketDeltaCount, OctetTotalCount, PacketTotalCount, SourcePrefix, DestinationPrefix, SourcePrefixLength, DestinationPrefixLength, IpVersion, Other}
+use Rattle.fx_elements.specs.Values.{values_of}
+use Rattle.fx_config.specs.declared.property_match.PropertyMatch.{PropertyMatch}
+
+-- the axis of the values of an element: its own, or that of the addresses whose prefix it is
+abbrev pub axis_matched : Element → Option Axis
+axis_matched (OnAxis axis) = Some axis
+axis_matched SourcePrefix = Some Source
+axis_matched DestinationPrefix = Some Destination
+axis_matched OctetDeltaCount = None
+axis_matched PacketDeltaCount = None
+axis_matched OctetTotalCount = None
+axis_matched PacketTotalCount = None
+axis_matched SourcePrefixLength = None
+axis_matched DestinationPrefixLength = None
+axis_matched IpVersion = None
+axis_matched Other = None
+
+-- what an element and the text of its value stand for
+abbrev pub property_given : Element → List ℕ → Option PropertyMatch
+property_given element text =
+    option_and_then (λ axis. option_map (λ range. record { axis = axis; range = range }) (values_of element text)) (axis_matched element)
+
+-- an element that nothing can be matched on, or a text that spells no value of it
+abbrev pub property_check : Element → List ℕ → List ℕ → List Found
+property_check element text up = fault_if (not (is_some (property_given element text))) 105 up
+
+abbrev pub property_meant : Element → List ℕ → PropertyMatch
+property_meant element text = unwrap_or (property_given element text) (record { axis = Source; range = record { low = 0; high = 0; bits = 0 } })
+
+abbrev pub property_match_rows : List Row
+property_match_rows =
+    one_of (codes "ieName" ∷ codes "ieId" ∷ [])
+    ∷ optional (codes "ieName") text_faults
+    ∷ optional (codes "ieId") (whole_faults 1 32767)
+    ∷ optional (codes "ieEnterpriseNumber") (whole_faults 0 0xffff_ffff)
+    ∷ required (codes "value") text_faults
+    ∷ then_check (λ up d. property_check (element_in d) (text_of (member_of (codes "value") d)) up)
+    ∷ []
+
+abbrev pub property_match_faults : List ℕ → Data → List Found
+property_match_faults = object_faults property_match_rows
+
+abbrev pub property_match_of : Data → PropertyMatch
+property_match_of d = property_meant (element_in d) (text_of (member_of (codes "value") d))

@@ -1,0 +1,64 @@
+//! Aggregations of collecting processes.
+ghost use Rattle.fx_config.specs.Aggregations.{aggregation_faults, aggregation_of};
+
+use crate::key::key_member;
+use crate::limits::ENTRIES;
+use crate::property_match::PropertyMatch;
+use crate::walk::{
+    Entry, Named, Path, Sequence, entries_member, items_member, name_member, object_of,
+};
+use fx_base::{Fault, Name};
+use fx_layout::Layout;
+use serde_json::Value;
+use std::alloc::Global;
+
+/// An aggregation of received records to a coarser key (RFC 7015), which adds up their counters.
+#[derive(Debug, Drop)]
+pub struct Aggregation {
+    /// Its name, which differs from those of the process's other aggregations.
+    pub name: Name,
+    /// The key of its records.
+    pub key: Layout,
+    /// The values that a record must have to be taken in: all of them.
+    pub matches: Sequence<PropertyMatch>,
+    /// The exporting processes that are given its records, by name: none twice.
+    pub exporting_processes: Sequence<Name>,
+}
+
+impl Named for Aggregation {
+    ghost name = { λ aggregation. aggregation.name };
+
+    fn name(&self) -> &Name {
+        &self.name
+    }
+}
+
+impl Entry for Aggregation {
+    ghost faults = { aggregation_faults };
+
+    ghost meaning = { aggregation_of };
+
+    fn from_entry(
+        alloc: Global,
+        path: &Path<'_>,
+        value: &Value,
+        earlier: &[Aggregation],
+    ) -> Result<Aggregation, Fault> {
+        object_of(
+            alloc,
+            path,
+            value,
+            &["name", "key", "match", "exportingProcess"],
+        )?;
+        let name = name_member(alloc, path, value, earlier)?;
+        let key = key_member(alloc, path, value)?;
+        let matches = items_member(alloc, path, value, "match", 0, ENTRIES)?;
+        let processes = entries_member(alloc, path, value, "exportingProcess", 0, ENTRIES)?;
+        Ok(Aggregation {
+            name,
+            key,
+            matches,
+            exporting_processes: processes,
+        })
+    }
+}

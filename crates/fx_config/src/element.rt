@@ -1,0 +1,60 @@
+//! Information elements as documents give them: by name, or by number.
+ghost use Rattle.std.specs.Prelude.{◌≡◌, ℕ};
+ghost use Rattle.fx_config.specs.Scalars.{text_faults, text_of};
+ghost use Rattle.fx_config.specs.GivenElements.{element_given, enterprise_given};
+ghost use Rattle.fx_elements.specs.Elements.{element_named};
+
+use crate::walk::{FromValue, Path, Whole, refusal};
+use fx_base::Fault;
+use fx_elements::{Element, by_id, by_name};
+use serde_json::Value;
+use std::alloc::Global;
+
+/// An element by its name, which may be any text: 104 for no text.
+impl FromValue for Element {
+    ghost faults = { text_faults };
+
+    ghost meaning = { λ d. element_named (text_of d) };
+
+    fn from_value(alloc: Global, path: &Path<'_>, value: &Value) -> Result<Element, Fault> {
+        match value.as_str() {
+            Some(name) => Ok(by_name(name)),
+            None => Err(refusal(alloc, 104, path)),
+        }
+    }
+}
+
+/// The number of an element.
+pub type ElementNumber = Whole<1, 32767>;
+
+/// The number of an enterprise, of which 0 stands for the IANA registry.
+pub type Enterprise = Whole<0, 0xffff_ffff>;
+
+/// The enterprise that is given, or the registry.
+fn enterprise_given(enterprise: Option<Enterprise>) -> u32
+    ensures { result ≡ enterprise_given enterprise }
+{
+    match enterprise {
+        Some(enterprise) => enterprise.number(),
+        None => 0,
+    }
+}
+
+/// The element that is given by its name or by its number, of an enterprise or of the registry.
+pub fn element_given(
+    named: Option<Element>,
+    numbered: Option<ElementNumber>,
+    enterprise: Option<Enterprise>,
+) -> Element
+    ensures { result ≡ element_given named numbered (enterprise_given enterprise) }
+{
+    let enterprise = enterprise_given(enterprise);
+    match named {
+        Some(element) if enterprise == 0 => element,
+        Some(_) => Element::Other,
+        None => match numbered {
+            Some(number) => by_id(number.number() as u16, enterprise),
+            None => Element::Other,
+        },
+    }
+}

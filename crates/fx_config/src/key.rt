@@ -1,0 +1,68 @@
+//! Keys to which records are aggregated.
+ghost use Rattle.std.specs.Prelude.{◌≡◌, ℕ, List, [], ◌∷◌, map, codes};
+ghost use Rattle.serde_json.specs.View.{view};
+ghost use Rattle.fx_config.specs.Pointer.{pointer};
+ghost use Rattle.fx_config.specs.Walk.{Reads, member_of};
+ghost use Rattle.fx_config.specs.Lists.{items_of};
+ghost use Rattle.fx_config.specs.KeyFields.{key_field_of};
+ghost use Rattle.fx_config.specs.Keys.{add_field, field_check, fields_faults, key_row, with_field, with_fields};
+
+use crate::key_field::{KeyField, part_of};
+use crate::limits::FIELDS;
+use crate::walk::{FromValue, Path, items_in, refusal};
+use fx_base::Fault;
+use fx_layout::Layout;
+use serde_json::Value;
+use std::alloc::Global;
+
+/// The layout with what the field stands for: none where it stands for nothing, or its axis is there.
+fn with_field(layout: &Layout, field: &KeyField) -> Option<Layout>
+    ensures { result ≡ with_field layout.now field.now }
+{
+    let part = part_of(field)?;
+    layout.with(part.axis, part.bits)
+}
+
+/// The layout with what the field at the path stands for: 105 where that can't be.
+fn add_field(
+    alloc: Global,
+    path: &Path<'_>,
+    layout: &Layout,
+    field: &KeyField,
+) -> Result<Layout, Fault>
+    ensures { Reads (field_check layout.now field.now (pointer path.now)) (add_field layout.now field.now) result }
+{
+    match with_field(layout, field) {
+        Some(layout) => Ok(layout),
+        None => Err(refusal(alloc, 105, path)),
+    }
+}
+
+/// The layout of the fields of the list at the path.
+fn fields_of(alloc: Global, path: &Path<'_>, items: &[Value]) -> Result<Layout, Fault>
+    ensures { Reads (fields_faults [] (pointer path.now) 0 (map view items.now)) (with_fields [] (map view items.now)) result }
+{
+    let mut layout = Layout::new();
+    let mut place = 0;
+    for item in items {
+        let path = Path::Item(&*path, place);
+        let field = KeyField::from_value(alloc, &path, item)?;
+        layout = add_field(alloc, &path, &layout, &field)?;
+        place += 1;
+    }
+    Ok(layout)
+}
+
+/// The member `key`, a list of fields; without it the key has none.
+pub fn key_member(alloc: Global, path: &Path<'_>, object: &Value) -> Result<Layout, Fault>
+    ensures { Reads (key_row.faults (pointer path.now) (view object.now)) (with_fields [] (items_of (member_of (codes "key") (view object.now)))) result }
+{
+    match object.get("key") {
+        Some(value) => {
+            let path = Path::Member(path, "key");
+            let items = items_in(alloc, &path, value, 0, FIELDS)?;
+            fields_of(alloc, &path, items)
+        }
+        None => Ok(Layout::new()),
+    }
+}

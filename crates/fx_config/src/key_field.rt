@@ -1,0 +1,111 @@
+//! Fields of keys to which records are aggregated.
+ghost use Rattle.std.specs.Prelude.{◌≡◌, ℕ};
+ghost use Rattle.fx_config.specs.Pointer.{pointer};
+ghost use Rattle.fx_config.specs.Walk.{Reads};
+ghost use Rattle.fx_config.specs.KeyFields.{is_prefix, key_field_faults, key_field_of, part_of, prefix_check, prefix_part};
+
+use crate::element::{ElementNumber, element_given};
+use crate::walk::{FromValue, Path, Whole, object_of, one_of, optional_member, refusal};
+use fx_base::Fault;
+use fx_elements::{Axis, Element, width};
+use fx_layout::Part;
+use serde_json::Value;
+use std::alloc::Global;
+
+/// A number of leading bits.
+type PrefixLength = Whole<1, 32>;
+
+/// A field of a key to which records are aggregated, or totals asked for: an element, or the leading bits of an
+/// address.
+#[derive(Clone, Copy, Debug, PartialEq, Eq)]
+pub struct KeyField {
+    /// What it holds.
+    pub element: Element,
+    /// How many leading bits, where that is given.
+    pub prefix_length: Option<u32>,
+}
+
+/// Whether values of the element are the leading bits of addresses.
+fn is_prefix(element: Element) -> bool
+    ensures { result ≡ is_prefix element }
+{
+    matches!(element, Element::SourcePrefix | Element::DestinationPrefix)
+}
+
+/// Refuses a prefix without its length (103).
+fn known_prefix(
+    alloc: Global,
+    path: &Path<'_>,
+    element: Element,
+    prefix_length: Option<u32>,
+) -> Result<(), Fault>
+    ensures { Reads (prefix_check element prefix_length (pointer path.now)) tt result }
+{
+    match prefix_length {
+        None if is_prefix(element) => Err(refusal(alloc, 103, path)),
+        _ => Ok(()),
+    }
+}
+
+/// The number of bits that is given.
+fn bits_given(bits: Option<PrefixLength>) -> Option<u32>
+    ensures { result ≡ bits }
+{
+    match bits {
+        Some(bits) => Some(bits.number()),
+        None => None,
+    }
+}
+
+/// A field with the faults of its members alone: 102 to 105, and 103 too for a prefix without its length. What
+/// it stands for tells [`part_of`].
+impl FromValue for KeyField {
+    ghost faults = { key_field_faults };
+
+    ghost meaning = { key_field_of };
+
+    fn from_value(alloc: Global, path: &Path<'_>, value: &Value) -> Result<KeyField, Fault> {
+        object_of(alloc, path, value, &["ieName", "ieId", "prefixLength"])?;
+        one_of(alloc, path, value, &["ieName", "ieId"])?;
+        let named = optional_member::<Element>(alloc, path, value, "ieName")?;
+        let numbered = optional_member::<ElementNumber>(alloc, path, value, "ieId")?;
+        let length = optional_member::<PrefixLength>(alloc, path, value, "prefixLength")?;
+        let element = element_given(named, numbered, None);
+        let prefix_length = bits_given(length);
+        known_prefix(alloc, path, element, prefix_length)?;
+        Ok(KeyField {
+            element,
+            prefix_length,
+        })
+    }
+}
+
+/// The leading bits of the addresses on the axis.
+fn prefix_part(axis: Axis, prefix_length: Option<u32>) -> Option<Part>
+    ensures { result ≡ prefix_part axis prefix_length }
+{
+    match prefix_length {
+        Some(bits) => Some(Part { axis, bits }),
+        None => None,
+    }
+}
+
+/// The axis and the number of its leading bits that a field of a key stands for: all bits of an element that is
+/// an axis, and of a prefix as many as are given. None for another element, for one that is an axis beside a
+/// number of bits, and for a prefix without one.
+pub fn part_of(field: &KeyField) -> Option<Part>
+    ensures { result ≡ part_of field.now }
+{
+    match field.element {
+        Element::OnAxis(axis) => match field.prefix_length {
+            Some(_) => None,
+            None => Some(Part {
+                axis,
+                bits: width(axis),
+            }),
+        },
+        Element::SourcePrefix => prefix_part(Axis::Source, field.prefix_length),
+        Element::DestinationPrefix => prefix_part(Axis::Destination, field.prefix_length),
+        _ => None,
+    }
+}

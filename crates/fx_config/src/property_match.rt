@@ -1,0 +1,83 @@
+//! Values that packets or records must have.
+ghost use Rattle.std.specs.Prelude.{◌≡◌, ℕ};
+ghost use Rattle.fx_config.specs.Pointer.{pointer};
+ghost use Rattle.fx_config.specs.Walk.{Reads};
+ghost use Rattle.fx_config.specs.PropertyMatches.{axis_matched, property_check, property_given, property_match_faults, property_match_of, property_meant};
+
+use crate::element::{ElementNumber, Enterprise, element_given};
+use crate::walk::{
+    FromValue, Path, Text, object_of, one_of, optional_member, refusal, required_member,
+};
+use fx_base::Fault;
+use fx_elements::{Axis, Element, Range, read_value};
+use serde_json::Value;
+use std::alloc::Global;
+
+/// A match of a property (RFC 5475, section 6.1): packets, or records, must have one of these values on the axis.
+#[derive(Clone, Copy, Debug, PartialEq, Eq)]
+pub struct PropertyMatch {
+    /// Where the value stands.
+    pub axis: Axis,
+    /// The values: all that begin with the leading bits that are fixed.
+    pub range: Range,
+}
+
+/// The axis of the values of an element.
+fn axis_matched(element: Element) -> Option<Axis>
+    ensures { result ≡ axis_matched element }
+{
+    match element {
+        Element::OnAxis(axis) => Some(axis),
+        Element::SourcePrefix => Some(Axis::Source),
+        Element::DestinationPrefix => Some(Axis::Destination),
+        _ => None,
+    }
+}
+
+/// The match that an element and the text of its value stand for, if they do for any.
+fn property_given(element: Element, text: &str) -> Option<PropertyMatch>
+    ensures { result ≡ property_given element text.now }
+{
+    let axis = axis_matched(element)?;
+    let range = read_value(element, text)?;
+    Some(PropertyMatch { axis, range })
+}
+
+/// The match that an element and the text of its value stand for: 105 where they stand for none.
+fn known_property(
+    alloc: Global,
+    path: &Path<'_>,
+    element: Element,
+    text: &str,
+) -> Result<PropertyMatch, Fault>
+    ensures { Reads (property_check element text.now (pointer path.now)) (property_meant element text.now) result }
+{
+    match property_given(element, text) {
+        Some(property) => Ok(property),
+        None => Err(refusal(alloc, 105, path)),
+    }
+}
+
+/// The element and the value of a filter, or of a match of an aggregation.
+impl FromValue for PropertyMatch {
+    ghost faults = { property_match_faults };
+
+    ghost meaning = { property_match_of };
+
+    fn from_value(alloc: Global, path: &Path<'_>, value: &Value) -> Result<PropertyMatch, Fault> {
+        object_of(
+            alloc,
+            path,
+            value,
+            &["ieName", "ieId", "ieEnterpriseNumber", "value"],
+        )?;
+        one_of(alloc, path, value, &["ieName", "ieId"])?;
+        let named = optional_member::<Element>(alloc, path, value, "ieName")?;
+        let numbered = optional_member::<ElementNumber>(alloc, path, value, "ieId")?;
+        let enterprise = optional_member::<Enterprise>(alloc, path, value, "ieEnterpriseNumber")?;
+        let text = required_member::<Text>(alloc, path, value, "value")?;
+        let element = element_given(named, numbered, enterprise);
+        let property = known_property(alloc, path, element, text.as_str())?;
+        Ok(property)
+    }
+}
