@@ -1,6 +1,9 @@
 -- Network documents: devices, the links between them, and the report that is asked for.
-use Rattle.std.specs.Prelude.{ℕ, List, [], ◌∷◌, codes, map}
+use Rattle.std.specs.Prelude.{ℕ, List, [], ◌∷◌, codes, map, Option}
+use Rattle.std.specs.Option.{option_map}
 use Rattle.serde_json.specs.Data.{Data}
+use Rattle.fx_machine.specs.Network.{numbered}
+use Rattle.fx_config.specs.declared.ipfix.Device.{Device}
 use Rattle.fx_config.specs.Walk.{Found, Row, object_faults, required, member_of}
 use Rattle.fx_config.specs.Lists.{items_of}
 use Rattle.fx_plan.specs.declared.limits.TheConstants.{DEVICES}
@@ -22,6 +25,10 @@ network_rows devices =
     ∷ required (codes "report") (report_faults devices)
     ∷ []
 
+-- the names of its devices
+abbrev pub device_names : Network → List (List ℕ)
+device_names network = map (λ device. device.name) network.devices
+
 abbrev pub network_faults : List ℕ → Data → List Found
 network_faults up d = object_faults (network_rows (devices_of d)) up d
 
@@ -31,3 +38,7 @@ network_of d = record {
   links = map link_of (items_of (member_of (codes "links") d));
   report = report_of (member_of (codes "report") d);
 }
+
+-- the configuration of the device of this number, from 1
+abbrev pub device_numbered : Network → ℕ → Option Device
+device_numbered network number = option_map (λ device. device.config) (numbered network.devices number)

@@ -1,18 +1,25 @@
 -- The tables of the network that a document means.
-use Rattle.std.specs.Prelude.{ℕ, List, [], ◌∷◌, Bool, true, ◌&&◌, map, Option, Some, None, option_map, option_and_then, if◌then◌else◌}
+use Rattle.std.specs.Prelude.{ℕ, ◌+◌, List, [], ◌∷◌, ◌++◌, length, Bool, true, false, ◌&&◌, map, Option, Some, None, option_map, option_and_then, if◌then◌else◌}
 use Rattle.std.specs.List.{flat_map, position}
 use Rattle.std.specs.Option.{unwrap_or}
 use Rattle.std.specs.Str.{bytes_eq}
-use Rattle.fx_elements.specs.Axes.{tops}
-use Rattle.fx_boxes.specs.Boxes.{Bounds}
-use Rattle.fx_layout.specs.Keys.{Layout}
+use Rattle.fx_elements.specs.Axes.{axis_width}
+use Rattle.fx_layout.specs.Keys.{Layout, leading}
 use Rattle.fx_machine.specs.Network as machine
+use Rattle.fx_machine.specs.declared.aggregation.MatchEntry.{MatchEntry}
 use Rattle.fx_machine.specs.declared.observation.Selection.{Selection}
 use Rattle.fx_config.specs.declared.observation_point.ObservationPoint.{ObservationPoint}
 use Rattle.fx_config.specs.declared.selection_process.SelectionProcess.{SelectionProcess}
 use Rattle.fx_config.specs.declared.cache.Cache.{Cache}
 use Rattle.fx_config.specs.declared.exporting_process.ExportingProcess.{ExportingProcess}
+use Rattle.fx_config.specs.declared.exporting_process.ExportMode.{ExportMode}
+use Rattle.fx_config.specs.declared.exporting_process.ExportMode.TheVariants.{Parallel, LoadBalancing, Fallback}
+use Rattle.fx_config.specs.declared.observation_point.Direction.{Direction}
+use Rattle.fx_config.specs.declared.observation_point.Direction.TheVariants.{Ingress, Egress, Both}
 use Rattle.fx_config.specs.declared.collecting_process.CollectingProcess.{CollectingProcess}
+use Rattle.fx_config.specs.declared.aggregation.Aggregation.{Aggregation}
+use Rattle.fx_config.specs.declared.property_match.PropertyMatch.{PropertyMatch}
+use Rattle.fx_selectors.specs.Selection.{region_of}
 use Rattle.fx_plan.specs.declared.link.Link.{Link}
 use Rattle.fx_plan.specs.declared.network.Network.{Network}
 use Rattle.fx_plan.specs.declared.network_device.NetworkDevice.{NetworkDevice}
@@ -24,36 +31,74 @@ use Rattle.fx_plan.specs.Reports.{key_layout}
 abbrev pub leads_from : List ℕ → List ℕ → List ℕ → Link → Bool
 leads_from device process destination link = bytes_eq link.device device && (bytes_eq link.exporting_process process && bytes_eq link.destination destination)
 
+-- whether each record goes to all destinations; in the other modes it goes to any one
+abbrev pub is_parallel : ExportMode → Bool
+is_parallel Parallel = true
+is_parallel LoadBalancing = false
+is_parallel Fallback = false
+
 abbrev pub exporter_of : List Link → List ℕ → ExportingProcess → machine.Exporter
 exporter_of links device process = record {
-  parallel = true;
+  parallel = is_parallel process.mode;
   destinations = map (λ d. position (leads_from device process.name d.name) links) process.destinations;
 }
 
 abbrev pub exporters_of : List Link → List NetworkDevice → List machine.Exporter
 exporters_of links devices = flat_map (λ x. map (exporter_of links x.name) x.config.exporting_processes) devices
 
--- ---- caches, with the places of the exporting processes that they name
+-- ---- what holds records: all caches, then all aggregations, with the places of the exporting processes that they name
 
-abbrev pub holder_of : List Label → List ℕ → Cache → machine.Holder
-holder_of exporting device cache = record { layout = cache.layout; exporters = map (place exporting device) cache.exporting_processes }
+abbrev pub cache_holder : List Label → List ℕ → Cache → machine.Holder
+cache_holder exporting device cache = record { layout = cache.layout; exporters = map (place exporting device) cache.exporting_processes }
+
+abbrev pub aggregation_holder : List Label → List ℕ → Aggregation → machine.Holder
+aggregation_holder exporting device aggregation = record { layout = aggregation.key; exporters = map (place exporting device) aggregation.exporting_processes }
+
+-- what holds the records of these processes' aggregations
+abbrev pub held_by : List Label → List ℕ → List CollectingProcess → List machine.Holder
+held_by exporting device processes = flat_map (λ p. map (aggregation_holder exporting device) p.aggregations) processes
+
+abbrev pub cache_holders : List Label → List NetworkDevice → List machine.Holder
+cache_holders exporting devices = flat_map (λ x. map (cache_holder exporting x.name) x.config.caches) devices
+
+abbrev pub aggregation_holders : List Label → List NetworkDevice → List machine.Holder
+aggregation_holders exporting devices = flat_map (λ x. held_by exporting x.name x.config.collecting_processes) devices
 
 abbrev pub holders_of : List NetworkDevice → List machine.Holder
-holders_of devices = flat_map (λ x. map (holder_of (exporting_labels devices) x.name) x.config.caches) devices
+holders_of devices = cache_holders (exporting_labels devices) devices ++ aggregation_holders (exporting_labels devices) devices
 
--- ---- collecting processes, which neither forward nor aggregate
+-- ---- collecting processes, with the exporting processes that they name and their aggregations
 
-abbrev pub process_of : CollectingProcess → machine.Process
-process_of process = record { exporters = []; aggregations = [] }
+-- the leading bits that a match fixes
+abbrev pub match_entry : PropertyMatch → MatchEntry
+match_entry m = record { axis = m.axis; bits = m.range.bits; value = leading (axis_width m.axis) m.range.bits m.range.low }
 
+-- aggregations whose records are held from this place on
+abbrev pub aggregations_from : ℕ → List Aggregation → List machine.Aggregation
+aggregations_from holder [] = []
+aggregations_from holder (a ∷ rest) = record { holder = holder; matches = map match_entry a.matches } ∷ aggregations_from (holder + 1) rest
+
+abbrev pub process_from : List Label → List ℕ → ℕ → CollectingProcess → machine.Process
+process_from exporting device holder process = record {
+  exporters = map (place exporting device) process.exporting_processes;
+  aggregations = aggregations_from holder process.aggregations;
+}
+
+abbrev pub processes_from : List Label → List ℕ → ℕ → List CollectingProcess → List machine.Process
+processes_from exporting device holder [] = []
+processes_from exporting device holder (p ∷ ps) = process_from exporting device holder p ∷ processes_from exporting device (holder + length p.aggregations) ps
+
+abbrev pub processes_in : List Label → ℕ → List NetworkDevice → List machine.Process
+processes_in exporting holder [] = []
+processes_in exporting holder (x ∷ xs) =
+    processes_from exporting x.name holder x.config.collecting_processes
+    ++ processes_in exporting (holder + length (held_by exporting x.name x.config.collecting_processes)) xs
+
+-- their records are held behind those of all caches
 abbrev pub processes_of : List NetworkDevice → List machine.Process
-processes_of devices = flat_map (λ x. map process_of x.config.collecting_processes) devices
+processes_of devices = processes_in (exporting_labels devices) (length (cache_holders (exporting_labels devices) devices)) devices
 
 -- ---- devices
-
--- all packets: each selector of this profile selects them
-abbrev pub everything : Bounds
-everything = record { low = 0 ∷ 0 ∷ 0 ∷ 0 ∷ 0 ∷ 0 ∷ []; high = tops }
 
 abbrev pub process_named : List SelectionProcess → List ℕ → Option SelectionProcess
 process_named [] name = None
@@ -62,16 +107,26 @@ process_named (p ∷ ps) name = if bytes_eq p.name name then Some p else process
 -- a selection process of this name, with the place of its cache, if it has one
 abbrev pub selection_of : List Label → NetworkDevice → List ℕ → Selection
 selection_of caches x name = record {
-  region = Some everything;
+  region = option_and_then region_of (process_named x.config.selection_processes name);
   holder = option_map (place caches x.name) (option_and_then (λ p. p.cache) (process_named x.config.selection_processes name));
 }
 
--- a point sees the packets that come in and those that go out
+-- which way the packets go that a point sees
+abbrev pub sees_in : Direction → Bool
+sees_in Ingress = true
+sees_in Egress = false
+sees_in Both = true
+
+abbrev pub sees_out : Direction → Bool
+sees_out Ingress = false
+sees_out Egress = true
+sees_out Both = true
+
 abbrev pub point_of : List Label → NetworkDevice → ObservationPoint → machine.Point
 point_of caches x point = record {
   interfaces = point.interfaces;
-  ingress = true;
-  egress = true;
+  ingress = sees_in point.direction;
+  egress = sees_out point.direction;
   selections = map (selection_of caches x) point.selection_processes;
 }
 

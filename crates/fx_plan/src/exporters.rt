@@ -6,7 +6,7 @@ ghost use Rattle.fx_plan.specs.Tables as tables;
 use crate::link::Link;
 use crate::network_device::NetworkDevice;
 use fx_base::Name;
-use fx_config::{Destination, ExportingProcess};
+use fx_config::{Destination, ExportMode, ExportingProcess};
 use fx_machine::Exporter;
 use std::alloc::{AllocError, Global};
 
@@ -42,6 +42,16 @@ fn link_places(
     Ok(places)
 }
 
+/// Whether each record goes to all destinations.
+fn is_parallel(mode: ExportMode) -> bool
+    ensures { result ≡ tables.is_parallel mode }
+{
+    match mode {
+        ExportMode::Parallel => true,
+        ExportMode::LoadBalancing | ExportMode::Fallback => false,
+    }
+}
+
 fn exporter_of(
     alloc: Global,
     links: &[Link],
@@ -52,7 +62,7 @@ fn exporter_of(
 {
     let destinations = process.destinations.as_slice();
     let places = link_places(alloc, links, device, &process.name, destinations)?;
-    Ok(Exporter::new(true, places))
+    Ok(Exporter::new(is_parallel(process.mode), places))
 }
 
 /// The exporting processes of a device come last.

@@ -2,7 +2,6 @@
 #![tactic(auto)]
 
 mod ends;
-mod everything;
 mod exporters;
 mod holders;
 mod key_field;

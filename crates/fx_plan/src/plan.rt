@@ -2,17 +2,19 @@
 ghost use Rattle.std.specs.Prelude.{◌≡◌, [], IfOk};
 ghost use Rattle.serde_json.specs.View.{view};
 ghost use Rattle.fx_config.specs.Walk.{Reads};
-ghost use Rattle.fx_plan.specs.Networks.{network_faults, network_of};
+ghost use Rattle.fx_machine.specs.Views.{now_of};
+ghost use Rattle.fx_plan.specs.Networks.{device_numbered, network_faults, network_of};
 ghost use Rattle.fx_plan.specs.Tables as tables;
 
 use crate::exporters::exporters_of;
-use crate::holders::holders_of;
+use crate::holders::cache_holders;
 use crate::key_field::key_layout;
-use crate::labels::{cache_labels, collecting_labels, place};
+use crate::labels::{cache_labels, collecting_labels, exporting_labels, place};
 use crate::network::{Network, read_network};
 use crate::points::tables_of;
-use crate::processes::{link_ends, processes_of};
+use crate::processes::{link_ends, processes_in};
 use fx_base::Fault;
+use fx_config::Device;
 use fx_layout::Layout;
 use fx_machine::Net;
 use serde_json::Value;
@@ -39,8 +41,10 @@ fn net_of(alloc: Global, network: &Network) -> Result<Net, AllocError>
     let collecting = collecting.as_slice();
     let tables = tables_of(alloc, caches.as_slice(), collecting, devices)?;
     let exporters = exporters_of(alloc, links, devices)?;
-    let holders = holders_of(alloc, devices)?;
-    let processes = processes_of(alloc, devices)?;
+    let exporting = exporting_labels(alloc, devices)?;
+    let exporting = exporting.as_slice();
+    let mut holders = cache_holders(alloc, exporting, devices)?;
+    let processes = processes_in(alloc, &mut holders, exporting, devices)?;
     let ends = link_ends(alloc, collecting, links)?;
     let report = &network.report;
     let report_place = place(collecting, &report.device, &report.collecting_process);
@@ -88,6 +92,19 @@ impl Plan {
         ensures { result.now ≡ self.now }
     {
         &self.network
+    }
+
+    /// The configuration of the device of this number, from 1 in document order, or None where there is no
+    /// such device.
+    pub fn device(&self, number: u64) -> Option<&Device>
+        ensures { now_of result ≡ device_numbered self.now number }
+    {
+        if number == 0 {
+            return None;
+        }
+        let place = (number - 1) as usize;
+        let device = self.network.devices.as_slice().get(place)?;
+        Some(&device.config)
     }
 }
 

@@ -2,13 +2,15 @@
 ghost use Rattle.std.specs.Prelude.{◌≡◌, ◌++◌, IfOk, map, option_map, option_and_then};
 ghost use Rattle.fx_plan.specs.Labels as naming;
 ghost use Rattle.fx_plan.specs.Tables as tables;
+ghost use Rattle.fx_selectors.specs.Selection.{region_of};
 
-use crate::everything::everything;
 use crate::labels::{Label, place, places};
 use crate::network_device::NetworkDevice;
 use fx_base::Name;
-use fx_config::{ObservationPoint, SelectionProcess};
+use fx_boxes::Region;
+use fx_config::{Direction, ObservationPoint, SelectionProcess};
 use fx_machine::{Device, Point, Selection};
+use fx_selectors::region_of;
 use std::alloc::{AllocError, Global};
 
 fn copy_of(alloc: Global, name: &Name) -> Result<Name, AllocError>
@@ -59,6 +61,14 @@ fn cache_place(caches: &[Label<'_>], device: &NetworkDevice, name: &Name) -> Opt
     }
 }
 
+/// The region of the packets that a device's selection process of this name selects, if it selects any.
+fn region_named(device: &NetworkDevice, name: &Name) -> Option<Region>
+    ensures { result ≡ option_and_then region_of (tables.process_named device.now.config.selection_processes name.now) }
+{
+    let process = process_named(device.config.selection_processes.as_slice(), name)?;
+    region_of(process)
+}
+
 fn selections_of(
     alloc: Global,
     caches: &[Label<'_>],
@@ -69,11 +79,23 @@ fn selections_of(
 {
     let mut selections = Vec::new(alloc);
     for name in names {
-        let region = Some(everything());
+        let region = region_named(device, name);
         let holder = cache_place(caches, device, name);
         selections.push(Selection { region, holder })?;
     }
     Ok(selections)
+}
+
+/// Whether packets that come in are seen, and whether those that go out are.
+fn sees(direction: Direction) -> (bool, bool)
+    ensures incoming { result.0 ≡ tables.sees_in direction }
+    ensures outgoing { result.1 ≡ tables.sees_out direction }
+{
+    match direction {
+        Direction::Ingress => (true, false),
+        Direction::Egress => (false, true),
+        Direction::Both => (true, true),
+    }
 }
 
 fn point_of(
@@ -87,7 +109,8 @@ fn point_of(
     let interfaces = copies_of(alloc, point.interfaces.as_slice())?;
     let named = point.selection_processes.as_slice();
     let selections = selections_of(alloc, caches, device, named)?;
-    Ok(Point::new(interfaces, true, true, selections))
+    let (ingress, egress) = sees(point.direction);
+    Ok(Point::new(interfaces, ingress, egress, selections))
 }
 
 fn points_of(

@@ -1,37 +1,120 @@
 //! The table of collecting processes, and where links lead.
-ghost use Rattle.std.specs.Prelude.{◌≡◌, ◌++◌, OnOk, IfOk, map};
+ghost use Rattle.std.specs.Prelude.{◌≡◌, ◌++◌, OnOk, IfOk, length, map};
 ghost use Rattle.fx_plan.specs.Labels as naming;
 ghost use Rattle.fx_plan.specs.Tables as tables;
 
-use crate::labels::{Label, place};
+use crate::holders::aggregation_holder;
+use crate::labels::{Label, place, places};
 use crate::link::Link;
 use crate::network_device::NetworkDevice;
-use fx_config::CollectingProcess;
-use fx_machine::Process;
+use fx_base::Name;
+use fx_config::{Aggregation, CollectingProcess, PropertyMatch};
+use fx_elements::width;
+use fx_machine as machine;
+use fx_machine::{Holder, MatchEntry, Process};
 use std::alloc::{AllocError, Global};
 
-/// The collecting processes of a device come last.
+/// The leading bits that a match fixes.
+fn match_entry(fixed: &PropertyMatch) -> MatchEntry
+    ensures { result ≡ tables.match_entry fixed.now }
+{
+    let axis = fixed.axis;
+    let bits = fixed.range.bits;
+    MatchEntry {
+        axis,
+        bits,
+        value: fixed.range.low >> width(axis).saturating_sub(bits),
+    }
+}
+
+fn match_entries(alloc: Global, matches: &[PropertyMatch]) -> Result<Vec<MatchEntry>, AllocError>
+    ensures { IfOk result (λ v. v.items ≡ map tables.match_entry matches.now) }
+{
+    let mut entries = Vec::new(alloc);
+    for fixed in matches {
+        entries.push(match_entry(fixed))?;
+    }
+    Ok(entries)
+}
+
+/// The aggregations of a collecting process. What holds their records comes last among the holders.
+fn push_aggregations(
+    alloc: Global,
+    holders: &mut Vec<Holder>,
+    exporting: &[Label<'_>],
+    device: &Name,
+    aggregations: &[Aggregation],
+) -> Result<Vec<machine::Aggregation>, AllocError>
+    ensures held { OnOk result (holders.new.items ≡ holders.old.items ++ map (tables.aggregation_holder exporting.now device.now) aggregations.now) }
+    ensures tables { IfOk result (λ v. v.items ≡ tables.aggregations_from (length holders.old.items) aggregations.now) }
+{
+    let mut taken = Vec::new(alloc);
+    for aggregation in aggregations {
+        let matches = match_entries(alloc, aggregation.matches.as_slice())?;
+        taken.push(machine::Aggregation::new(holders.len(), matches))?;
+        holders.push(aggregation_holder(alloc, exporting, device, aggregation)?)?;
+    }
+    Ok(taken)
+}
+
+fn process_from(
+    alloc: Global,
+    holders: &mut Vec<Holder>,
+    exporting: &[Label<'_>],
+    device: &Name,
+    process: &CollectingProcess,
+) -> Result<Process, AllocError>
+    ensures held { OnOk result (holders.new.items ≡ holders.old.items ++ map (tables.aggregation_holder exporting.now device.now) process.now.aggregations) }
+    ensures table { IfOk result (λ p. p ≡ tables.process_from exporting.now device.now (length holders.old.items) process.now) }
+{
+    let named = process.exporting_processes.as_slice();
+    let exporters = places(alloc, exporting, device, named)?;
+    let aggregations = process.aggregations.as_slice();
+    let aggregations = push_aggregations(alloc, holders, exporting, device, aggregations)?;
+    Ok(Process::new(exporters, aggregations))
+}
+
+/// The collecting processes of a device come last, and what holds the records of their aggregations.
 fn push_processes(
     alloc: Global,
     processes: &mut Vec<Process>,
+    holders: &mut Vec<Holder>,
+    exporting: &[Label<'_>],
+    device: &Name,
     collecting: &[CollectingProcess],
 ) -> Result<(), AllocError>
-    ensures { OnOk result (processes.new.items ≡ processes.old.items ++ map tables.process_of collecting.now) }
+    ensures held { OnOk result (holders.new.items ≡ holders.old.items ++ tables.held_by exporting.now device.now collecting.now) }
+    ensures tables { OnOk result (processes.new.items ≡ processes.old.items ++ tables.processes_from exporting.now device.now (length holders.old.items) collecting.now) }
 {
-    for _process in collecting {
-        processes.push(Process::new(Vec::new(alloc), Vec::new(alloc)))?;
+    for process in collecting {
+        let process = process_from(alloc, holders, exporting, device, process)?;
+        processes.push(process)?;
     }
     Ok(())
 }
 
-/// The collecting processes of all devices, in document order.
-pub fn processes_of(alloc: Global, devices: &[NetworkDevice]) -> Result<Vec<Process>, AllocError>
-    ensures { IfOk result (λ v. v.items ≡ tables.processes_of devices.now) }
+/// The collecting processes of all devices, in document order. What holds the records of their aggregations comes
+/// last among the holders.
+pub fn processes_in(
+    alloc: Global,
+    holders: &mut Vec<Holder>,
+    exporting: &[Label<'_>],
+    devices: &[NetworkDevice],
+) -> Result<Vec<Process>, AllocError>
+    ensures held { OnOk result (holders.new.items ≡ holders.old.items ++ tables.aggregation_holders exporting.now devices.now) }
+    ensures tables { IfOk result (λ v. v.items ≡ tables.processes_in exporting.now (length holders.old.items) devices.now) }
 {
     let mut processes = Vec::new(alloc);
     for device in devices {
         let collecting = device.config.collecting_processes.as_slice();
-        push_processes(alloc, &mut processes, collecting)?;
+        push_processes(
+            alloc,
+            &mut processes,
+            holders,
+            exporting,
+            &device.name,
+            collecting,
+        )?;
     }
     Ok(processes)
 }

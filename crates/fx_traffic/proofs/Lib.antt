@@ -1,2 +1,1 @@
 mod Regions
-mod Walks

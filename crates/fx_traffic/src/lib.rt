@@ -10,7 +10,9 @@ mod region;
 mod text;
 mod traffic;
 
-pub use traffic::{Traffic, read_classes};
+#[cfg(test)]
+use traffic::read_classes;
+pub use traffic::{Traffic, read_traffic};
 
 #[cfg(test)]
 mod tests;

@@ -4,7 +4,7 @@ ghost use Rattle.fx_config.specs.Pointer.{pointer};
 ghost use Rattle.fx_traffic.specs.Lists.{IsListOf};
 
 use fx_base::Fault;
-use fx_config::walk::{Path, refusal};
+use fx_config::walk::{Path, items_by};
 use serde_json::Value;
 use std::alloc::Global;
 
@@ -18,14 +18,5 @@ pub fn items_in<'v>(
 ) -> Result<&'v [Value], Fault>
     ensures { IsListOf least most (pointer path.now) (view value.now) result }
 {
-    let Value::Array(items) = value else {
-        return Err(refusal(alloc, 104, path));
-    };
-    if items.len() > most {
-        return Err(refusal(alloc, 305, path));
-    }
-    if items.len() < least {
-        return Err(refusal(alloc, 304, path));
-    }
-    Ok(items.as_slice())
+    items_by(alloc, path, value, least, most, 304, 305)
 }

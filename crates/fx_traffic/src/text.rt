@@ -7,7 +7,7 @@ ghost use Rattle.fx_config.specs.Scalars.{text_of};
 ghost use Rattle.fx_traffic.specs.Texts.{name_faults, name_once};
 
 use fx_base::{Fault, Name};
-use fx_config::walk::{Path, is_named, refusal};
+use fx_config::walk::{self, Path, refusal, unique_name_by};
 use serde_json::Value;
 use std::alloc::Global;
 
@@ -15,14 +15,7 @@ use std::alloc::Global;
 pub fn read_name(alloc: Global, path: &Path<'_>, value: &Value) -> Result<Name, Fault>
     ensures { Reads (name_faults (pointer path.now) (view value.now)) (text_of (view value.now)) result }
 {
-    let Some(text) = value.as_str() else {
-        return Err(refusal(alloc, 104, path));
-    };
-    match Name::read(alloc, text) {
-        Ok(name) => Ok(name),
-        Err(fault) if fault.number == 105 => Err(refusal(alloc, 302, path)),
-        Err(fault) => Err(fault),
-    }
+    walk::read_name(alloc, path, value, 302)
 }
 
 /// A name that none of these is: 104 and 302 as for any name, 301 for one of them.
@@ -34,11 +27,7 @@ fn unique_name(
 ) -> Result<Name, Fault>
     ensures { Reads (name_once earlier.now (pointer path.now) (view value.now)) (text_of (view value.now)) result }
 {
-    let name = read_name(alloc, path, value)?;
-    if is_named(earlier, &name) {
-        return Err(refusal(alloc, 301, path));
-    }
-    Ok(name)
+    unique_name_by(alloc, path, value, earlier, 302, 301)
 }
 
 /// An object's member `name`, which differs from these.

@@ -4,12 +4,14 @@ ghost use Rattle.serde_json.specs.View.{view};
 ghost use Rattle.fx_config.specs.Pointer.{pointer};
 ghost use Rattle.fx_config.specs.Walk.{Reads, required, member_of};
 ghost use Rattle.fx_config.specs.Lists.{items_of};
+ghost use Rattle.fx_plan.specs.Networks.{device_names};
 ghost use Rattle.fx_traffic.specs.Classes.{class_of, list_of_classes_faults, traffic_faults, traffic_of};
 
 use crate::class::read_list;
 use fx_base::Fault;
 use fx_config::walk::{Named, Path, Sequence, object_of, refusal};
 use fx_machine::{Class, Classes};
+use fx_plan::Plan;
 use serde_json::Value;
 use std::alloc::Global;
 use std::marker::Model;
@@ -53,7 +55,7 @@ fn classes_member<T: Named>(
 }
 
 /// The declaration that stands at the path.
-fn read_traffic<T: Named>(
+fn traffic_at<T: Named>(
     alloc: Global,
     path: &Path<'_>,
     value: &Value,
@@ -68,16 +70,27 @@ fn read_traffic<T: Named>(
     })
 }
 
-/// Reads the declaration of the traffic that crosses these devices: what it means, or its first fault in the
-/// order of the walk, at its JSON Pointer in the document (RFC 6901).
+/// The declaration of the traffic that crosses these devices.
+pub(crate) fn read_classes<T: Named>(
+    alloc: Global,
+    value: &Value,
+    devices: &[T],
+) -> Result<Traffic, Fault>
+    ensures { Reads (traffic_faults (map T.name devices.now) [] (view value.now)) (traffic_of (map T.name devices.now) (view value.now)) result }
+{
+    traffic_at(alloc, &Path::Root, value, devices)
+}
+
+/// Reads the declaration of the traffic that crosses a network: what it means, or its first fault in the order
+/// of the walk, at its JSON Pointer in the document (RFC 6901).
 ///
-/// Devices are numbered from 1 in their order. An axis that a region doesn't name has all its values.
+/// Devices are numbered from 1 in the network's order. An axis that a region doesn't name has all its values.
 ///
 /// 102 a member that may not be there, 103 one that is missing, 104 a value of another kind, 301 the name of an
 /// earlier class, 302 a text that isn't allowed, 303 the name of no device, 304 a class without a path, 305 too
 /// many entries; 900, at no place, for want of memory.
-pub fn read_classes<T: Named>(alloc: Global, value: &Value, devices: &[T]) -> Result<Traffic, Fault>
-    ensures { Reads (traffic_faults (map T.name devices.now) [] (view value.now)) (traffic_of (map T.name devices.now) (view value.now)) result }
+pub fn read_traffic(alloc: Global, value: &Value, plan: &Plan) -> Result<Traffic, Fault>
+    ensures { Reads (traffic_faults (device_names plan.now) [] (view value.now)) (traffic_of (device_names plan.now) (view value.now)) result }
 {
-    read_traffic(alloc, &Path::Root, value, devices)
+    read_classes(alloc, value, plan.network().devices.as_slice())
 }

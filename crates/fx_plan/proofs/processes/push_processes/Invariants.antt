@@ -1,6 +1,9 @@
-use Rattle.std.proofs.Common.{◌≡◌, ◌++◌, take, map}
-use Rattle.fx_plan.specs.Tables.{process_of}
+use Rattle.std.proofs.Common.{◌≡◌, ◌++◌, take, drop, length}
+use Rattle.fx_plan.specs.Tables.{held_by, processes_from}
 use Rattle.fx_plan.proofs.processes.push_processes.Given as goal
 
 abbrev pub invariant-loop-process : goal.invariant-loop-process
-invariant-loop-process l = l.processes.items ≡ l.initial.processes.items ++ map process_of (take l._process-index l.collecting)
+invariant-loop-process l =
+    (l.holders.items ≡ l.initial.holders.items ++ held_by l.exporting l.device (take l.process-index l.collecting))
+    × (l.processes.items ++ processes_from l.exporting l.device (length l.holders.items) (drop l.process-index l.collecting)
+    ≡ l.initial.processes.items ++ processes_from l.exporting l.device (length l.initial.holders.items) l.collecting)

@@ -4,7 +4,7 @@ use Rattle.fx_config.specs.Pointer.{pointer}
 use Rattle.fx_config.proofs.Faults.{exit, refuses_more, pointer-Item}
 use Rattle.fx_traffic.specs.Classes.{class_faults, class_name, class_of}
 use Rattle.fx_traffic.specs.declared.class.NamedClass.{NamedClass}
-use Rattle.fx_traffic.proofs.Walks.{item_here, next_entry, next_value}
+use Rattle.fx_config.proofs.Walks.{item_here, next_entry, next_value}
 use Rattle.fx_traffic.proofs.class.classes_of.Goals as goal
 
 pub returns-in_err-named : goal.returns-in_err-named

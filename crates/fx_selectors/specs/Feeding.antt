@@ -1,0 +1,49 @@
+-- Which selection processes the packets of a crossing come to (RFC 6728, sections 4.1 and 4.2).
+use Rattle.std.specs.Prelude.{ℕ, ◌+◌, Bool, true, not, ◌&&◌, List, [], ◌∷◌, ◌++◌, map, is_some, if◌then◌else◌, bytes_eq, drop}
+use Rattle.std.specs.List.{list_any}
+use Rattle.fx_config.specs.declared.observation_point.Direction.{Direction}
+use Rattle.fx_config.specs.declared.observation_point.Direction.TheVariants.{Ingress, Egress, Both}
+use Rattle.fx_config.specs.declared.observation_point.ObservationPoint.{ObservationPoint}
+use Rattle.fx_config.specs.declared.selection_process.SelectionProcess.{SelectionProcess}
+use Rattle.fx_config.specs.declared.ipfix.Device.{Device}
+
+abbrev pub agrees : Direction → Bool → Bool
+agrees Ingress inwards = inwards
+agrees Egress inwards = not inwards
+agrees Both inwards = true
+
+-- the point observes packets that cross the interface in the direction
+abbrev pub watches : ObservationPoint → List ℕ → Bool → Bool
+watches point interface inwards = list_any (λ name. bytes_eq name interface) point.interfaces && agrees point.direction inwards
+
+-- the process of this name has a cache
+abbrev pub has_cache : List SelectionProcess → List ℕ → Bool
+has_cache processes name = list_any (λ process. bytes_eq process.name name && is_some process.cache) processes
+
+-- the numbers of the names, from this one on, whose process has a cache
+abbrev pub fed : List SelectionProcess → ℕ → List (List ℕ) → List ℕ
+fed processes number [] = []
+fed processes number (name ∷ names) = (if has_cache processes name then number ∷ [] else []) ++ fed processes (number + 1) names
+
+-- those of a point's processes, each beside the point's number
+abbrev pub fed_by : List SelectionProcess → ℕ → ObservationPoint → List (ℕ × ℕ)
+fed_by processes number point = map (λ process. (number, process)) (fed processes 1 point.selection_processes)
+
+-- those of the points that observe the crossing, numbered from this one on
+abbrev pub fed_from : List SelectionProcess → List ℕ → Bool → ℕ → List ObservationPoint → List (ℕ × ℕ)
+fed_from processes interface inwards number [] = []
+fed_from processes interface inwards number (point ∷ points) =
+    (if watches point interface inwards then fed_by processes number point else []) ++ fed_from processes interface inwards (number + 1) points
+
+-- point and process, counted in the point's list, of all that the packets of the crossing come to
+abbrev pub feeds : Device → List ℕ → Bool → List (ℕ × ℕ)
+feeds device interface inwards = fed_from device.selection_processes interface inwards 1 device.observation_points
+
+-- ---- what is left of them
+
+-- behind so many names of the first of these points
+abbrev pub left : List SelectionProcess → List ℕ → Bool → ℕ → ℕ → List ObservationPoint → List (ℕ × ℕ)
+left processes interface inwards number behind [] = []
+left processes interface inwards number behind (point ∷ points) =
+    (if watches point interface inwards then map (λ process. (number, process)) (fed processes (behind + 1) (drop behind point.selection_processes)) else [])
+    ++ left processes interface inwards (number + 1) 0 points

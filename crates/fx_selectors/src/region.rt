@@ -1,0 +1,69 @@
+//! The region of the packets that a selection process selects.
+ghost use Rattle.std.specs.Prelude.{◌≡◌, length};
+ghost use Rattle.fx_boxes.specs.Boxes as boxes;
+ghost use Rattle.fx_selectors.specs.Selection as selection;
+
+use fx_boxes::{Fields, Region};
+use fx_config::{Method, PropertyMatch, SelectionProcess, Selector};
+use fx_elements::{AXES, TOPS};
+use std::marker::Model;
+
+/// The least and the greatest value on each axis.
+#[derive(Debug, Drop)]
+struct Bounds {
+    low: [u128; AXES],
+    high: [u128; AXES],
+}
+
+impl Model for Bounds {
+    ghost use Rattle.fx_boxes.specs.Boxes as boxes;
+
+    ghost Value = { boxes.Bounds };
+
+    ghost view = { λ b. record { low = b.low; high = b.high } };
+}
+
+/// What a match leaves within these bounds.
+fn narrowed(within: Bounds, fixed: &PropertyMatch) -> Bounds
+    ensures { result ≡ selection.narrowed within fixed.now }
+{
+    let Bounds { mut low, mut high } = within;
+    let k = fixed.axis.index();
+    low[k] = low[k].max(fixed.range.low);
+    high[k] = high[k].min(fixed.range.high);
+    Bounds { low, high }
+}
+
+/// What all selectors leave.
+fn bounds_of(selectors: &[Selector]) -> Bounds
+    ensures { result ≡ selection.bounds_of selectors.now }
+{
+    let mut bounds = Bounds {
+        low: [0; AXES],
+        high: TOPS,
+    };
+    for selector in selectors {
+        match &selector.method {
+            Method::SelectAll => {}
+            Method::FilterMatch(fixed) => bounds = narrowed(bounds, fixed),
+        }
+    }
+    bounds
+}
+
+/// The region within these bounds, if any fields are.
+fn region_within(low: [u128; AXES], high: [u128; AXES]) -> Option<Region>
+    ensures { result ≡ selection.region_within (record { low = low; high = high }) }
+{
+    let low = Fields::new(low)?;
+    let high = Fields::new(high)?;
+    Region::between(&low, &high)
+}
+
+/// The region of the packets that a selection process selects, or None where no packet can pass it.
+pub fn region_of(process: &SelectionProcess) -> Option<Region>
+    ensures { result ≡ selection.region_of process.now }
+{
+    let Bounds { low, high } = bounds_of(process.selectors.as_slice());
+    region_within(low, high)
+}
