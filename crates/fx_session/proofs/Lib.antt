@@ -1,0 +1,7 @@
+pub mod TemplateSteps
+pub mod Layouts
+pub mod Notes
+pub mod DataSteps
+pub mod MessageSteps
+pub mod StreamSteps
+pub mod Examples

@@ -1,0 +1,56 @@
+-- Data sets (RFC 7011, sections 3.4.3 and 3.3.1).
+use Rattle.std.specs.Prelude.{◌≡◌, ℕ, zero, suc, ◌+◌, ◌%◌, ◌^◌, nat_lt, if◌then◌else◌, List, [], ◌∷◌, ◌++◌, length, Option, Some, None, Result, Ok, Err}
+use Rattle.fx_machine.specs.declared.record.Record.{Record}
+use Rattle.fx_wire.specs.Values.{Value, record_at, after_record, shortest_record}
+use Rattle.fx_wire.specs.declared.field.FieldSpecifier.{FieldSpecifier}
+use Rattle.fx_session.specs.Flows.{flow_in}
+
+-- what was taken so far: the records that wait, how many were skipped, and how many data records the message had
+pub record Taken : Type 0 where
+  pub waiting : List Record
+  pub skipped : ℕ
+  pub count : ℕ
+
+abbrev pub with_flow : Taken → Option Record → Taken
+with_flow t (Some r) = record { waiting = t.waiting ++ r ∷ []; skipped = t.skipped; count = (t.count + 1) % 2 ^ 32 }
+with_flow t None = record { waiting = t.waiting; skipped = (t.skipped + 1) % 2 ^ 64; count = (t.count + 1) % 2 ^ 32 }
+
+abbrev pub after_flow : Taken → List ℕ → Result (Option Record) ℕ → Result (Taken × List ℕ) ℕ
+after_flow t rest (Ok o) = Ok (with_flow t o, rest)
+after_flow t rest (Err n) = Err n
+
+abbrev pub after_values : Taken → Option (List Value × List ℕ) → Result (Taken × List ℕ) ℕ
+after_values t (Some p) = after_flow t p.1 (flow_in p.0)
+after_values t None = Err 619
+
+-- the data record at the front, and what follows it: 619 goes before 620
+abbrev pub flow_record : List FieldSpecifier → Taken → List ℕ → Result (Taken × List ℕ) ℕ
+flow_record fields t octets = after_values t (record_at fields octets)
+
+-- Record after record; fewer octets than a record can have are padding. Each has octets, so as many turns do as there are octets.
+unfoldable pub flow_records : ℕ → List FieldSpecifier → Taken → List ℕ → Result Taken ℕ
+flow_records zero fields t octets = Ok t
+flow_records (suc turns) fields t octets =
+    if nat_lt (length octets) (shortest_record fields) then Ok t
+    else elim (flow_record fields t octets) [ Ok p ↦ flow_records turns fields p.0 p.1 | Err n ↦ Err n ]
+
+unfoldable pub flow_set : List FieldSpecifier → Taken → List ℕ → Result Taken ℕ
+flow_set fields t octets = flow_records (length octets) fields t octets
+
+-- records under an options template are counted and not read
+unfoldable pub option_records : ℕ → List FieldSpecifier → Taken → List ℕ → Result Taken ℕ
+option_records zero fields t octets = Ok t
+option_records (suc turns) fields t octets =
+    if nat_lt (length octets) (shortest_record fields) then Ok t
+    else elim (after_record fields octets) [
+      | Some rest ↦ option_records turns fields (record { waiting = t.waiting; skipped = t.skipped; count = (t.count + 1) % 2 ^ 32 }) rest
+      | None ↦ Err 619
+    ]
+
+unfoldable pub option_set : List FieldSpecifier → Taken → List ℕ → Result Taken ℕ
+option_set fields t octets = option_records (length octets) fields t octets
+
+-- the first record that waits leaves, if there is one
+abbrev pub FirstLeaves : Taken → Taken → Option Record → Type 0
+FirstLeaves old new None = (old.waiting ≡ []) × (new ≡ old)
+FirstLeaves old new (Some r) = old ≡ record { waiting = r ∷ new.waiting; skipped = new.skipped; count = new.count }

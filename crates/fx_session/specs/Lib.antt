@@ -1,0 +1,11 @@
+pub mod Templates
+pub mod TemplateSets
+pub mod TemplateReading
+pub mod Calls
+pub mod Flows
+pub mod DataSets
+pub mod DataReading
+pub mod Values
+pub mod Parts
+pub mod Messages
+pub mod Streams

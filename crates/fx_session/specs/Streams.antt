@@ -1,0 +1,93 @@
+-- A stream is messages, one after another, however it is cut.
+use Rattle.std.specs.Prelude.{◌≡◌, ◌∷◌, ℕ, zero, suc, ◌+◌, ◌==◌, if◌then◌else◌, min, List, [], ◌++◌, length, take, drop, Option, Some, None, Result, Ok, Err}
+use Rattle.fx_base.specs.Fault.{fault_at}
+use Rattle.fx_base.specs.declared.fault.Fault.{Fault}
+use Rattle.fx_base.specs.declared.fault.Place.TheVariants as places
+use Rattle.fx_machine.specs.declared.record.Record.{Record}
+use Rattle.fx_wire.specs.Messages.{front, needs_more, complete, refusal}
+use Rattle.fx_session.specs.Messages.{Known, message_read, forgotten}
+
+-- What a session is seen as: what it knows, the place of the first octet of the unfinished message, that message's octets, and
+-- the number of the fault that it answers from now on.
+pub record Standing : Type 0 where
+  pub known : Known
+  pub place : ℕ
+  pub rest : List ℕ
+  pub fault : Option ℕ
+
+abbrev pub start : Standing
+start = record { known = record { domains = []; waiting = []; gaps = 0; skipped = 0 }; place = 0; rest = []; fault = None }
+
+-- places stay at the last that there is
+abbrev pub moved : ℕ → ℕ → ℕ
+moved place n = min (place + n) 18446744073709551615
+
+abbrev pub waits : Known → ℕ → List ℕ → Standing
+waits k place octets = record { known = k; place = place; rest = octets; fault = None }
+
+-- Nothing of a message that is refused is kept, nor of what follows it, nor any template.
+abbrev pub fails : Known → ℕ → ℕ → Standing
+fails k place number = record { known = forgotten k; place = place; rest = []; fault = Some number }
+
+-- Reading message after message. Each has octets, so as many turns do as there are octets.
+unfoldable pub read_in : ℕ → Known → ℕ → List ℕ → Standing
+read_in zero k place octets = waits k place octets
+read_in (suc turns) k place octets = elim (front octets) [
+  | needs_more ↦ waits k place octets
+  | refusal number ↦ fails k place number
+  | complete m ↦ elim (message_read k m) [ Ok next ↦ read_in turns next (moved place m.octets) (drop m.octets octets) | Err number ↦ fails k place number ]
+]
+
+-- all whole messages of the octets
+unfoldable pub read_all : Known → ℕ → List ℕ → Standing
+read_all k place octets = read_in (length octets) k place octets
+
+-- A piece: the unfinished octets are read on with it. A session that has answered a fault stays as it is.
+abbrev pub fed : Standing → List ℕ → Standing
+fed st piece = elim st.fault [ Some number ↦ st | None ↦ read_all st.known st.place (st.rest ++ piece) ]
+
+-- a fault stands at the first octet of the message that is refused, want of memory nowhere
+abbrev pub fault_of : ℕ → ℕ → Fault
+fault_of place number = if number == 900 then fault_at 900 places.None else fault_at number (places.Octet place)
+
+abbrev pub answer_of : ℕ → Option ℕ → Result (Unit {0}) Fault
+answer_of place None = Ok tt
+answer_of place (Some number) = Err (fault_of place number)
+
+-- the messages in these octets are read, and no octet is left
+abbrev pub ReadsAll : Known → ℕ → List ℕ → Known → ℕ → Type 0
+ReadsAll old place octets new later = read_all old place octets ≡ waits new later []
+
+-- Want of memory: some first messages of the unfinished octets and the piece are read, and then the session stops, as at a
+-- refused message.
+abbrev pub Starves : Standing → List ℕ → Standing → Type 0
+Starves old piece new = (count : ℕ) × (read : Known) × (ReadsAll old.known old.place (take count (old.rest ++ piece)) read new.place) × (new ≡ fails read new.place 900)
+
+-- ---- what the code keeps
+
+abbrev pub rest_of : List ℕ → ℕ → Option ℕ → List ℕ
+rest_of octets count None = drop count octets
+rest_of octets count (Some number) = []
+
+-- so many octets were read, and this fault came
+abbrev pub left_by : Known → ℕ → List ℕ → ℕ × Option ℕ → Standing
+left_by k place octets answer = record { known = k; place = place; rest = rest_of octets answer.0 answer.1; fault = answer.1 }
+
+-- where a fault came, the messages before it were read, and then all domains were forgotten
+abbrev pub Stops : Known → ℕ → List ℕ → Option ℕ → Known → ℕ → Type 0
+Stops old place octets None new later = Unit {0}
+Stops old place octets (Some number) new later = (read : Known) × (ReadsAll old place octets read later) × (new ≡ forgotten read)
+
+-- the first record that waits leaves, if there is one
+abbrev pub FirstLeaves : Known → Known → Option Record → Type 0
+FirstLeaves old new None = (old.waiting ≡ []) × (new ≡ old)
+FirstLeaves old new (Some r) = old ≡ record { domains = new.domains; waiting = r ∷ new.waiting; gaps = new.gaps; skipped = new.skipped }
+
+abbrev pub IsNextRecord : Standing → Standing → Option Record → Type 0
+IsNextRecord old new None = (old.known.waiting ≡ []) × (new ≡ old)
+IsNextRecord old new (Some r) = old ≡ record {
+  known = record { domains = new.known.domains; waiting = r ∷ new.known.waiting; gaps = new.known.gaps; skipped = new.known.skipped };
+  place = new.place;
+  rest = new.rest;
+  fault = new.fault;
+}

@@ -1,0 +1,27 @@
+-- What the readers of template records answer.
+use Rattle.std.specs.Prelude.{◌≡◌, ◌≢◌, ℕ, ◌≤◌, ◌<◌, List, length, Result, Ok, Err}
+use Rattle.std.specs.Borrow.{Bor}
+use Rattle.fx_wire.specs.Fields.{fields_in}
+use Rattle.fx_wire.specs.Values.{shortest_record}
+use Rattle.fx_wire.specs.declared.field.FieldSpecifier.{FieldSpecifier}
+use Rattle.fx_session.specs.Templates.{Templates}
+
+-- all fields and the octets after them; a field has an octet at least
+pub record ReadsFields (count : ℕ) (octets : List ℕ) (fields : List FieldSpecifier) (rest : List ℕ) : Type 0 where
+  pub all : fields_in count octets ≡ Ok (fields, rest)
+  pub count_is : length fields ≡ count
+  pub some : count ≤ shortest_record fields
+  pub shorter : length rest ≤ length octets
+
+-- what is defined is done, and these octets follow; want of memory may come in its place
+abbrev pub Follows : Result (Templates × List ℕ) ℕ → Templates → Result (Bor (List ℕ)) ℕ → Type 0
+Follows defined new (Ok rest) = defined ≡ Ok (new, rest.now)
+Follows defined new (Err n) = n ≢ 900 → defined ≡ Err n
+
+abbrev pub IsNoLonger : List ℕ → Result (Bor (List ℕ)) ℕ → Type 0
+IsNoLonger octets (Ok rest) = length rest.now ≤ length octets
+IsNoLonger octets (Err n) = Unit {0}
+
+abbrev pub IsShorter : List ℕ → Result (Bor (List ℕ)) ℕ → Type 0
+IsShorter octets (Ok rest) = length rest.now < length octets
+IsShorter octets (Err n) = Unit {0}

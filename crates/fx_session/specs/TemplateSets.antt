@@ -1,0 +1,60 @@
+-- Template sets and options template sets (RFC 7011, sections 3.4.1, 3.4.2 and 8.1).
+use Rattle.std.specs.Prelude.{ℕ, zero, suc, Bool, true, false, ◌&&◌, not, ◌==◌, nat_lt, if◌then◌else◌, List, [], ◌∷◌, length, Result, Ok, Err}
+use Rattle.fx_elements.specs.declared.element.Element.{Element}
+use Rattle.fx_elements.specs.declared.element.Element.TheVariants.{OctetDeltaCount, PacketDeltaCount}
+use Rattle.fx_wire.specs.Fields.{element_of, fields_in}
+use Rattle.fx_wire.specs.Templates.{heading_at}
+use Rattle.fx_wire.specs.declared.field.FieldSpecifier.{FieldSpecifier}
+use Rattle.fx_wire.specs.declared.template.TemplateKind.{TemplateKind}
+use Rattle.fx_wire.specs.declared.template.TemplateKind.TheVariants as kinds
+use Rattle.fx_wire.specs.declared.template.TemplateHeading.{TemplateHeading}
+use Rattle.fx_wire.specs.declared.template.TemplateHeading.TheVariants.{Withdrawal, WithdrawalOfAll, Declaration}
+use Rattle.fx_session.specs.Templates.{Templates, declared, withdrawn, all_withdrawn}
+
+abbrev pub is_counter : Element → Bool
+is_counter OctetDeltaCount = true
+is_counter PacketDeltaCount = true
+is_counter _ = false
+
+-- counters of less than 8 octets wrap, and no other length is read
+abbrev pub is_narrow : FieldSpecifier → Bool
+is_narrow f = is_counter (element_of f) && not (f.field_length == 8)
+
+unfoldable pub has_narrow : List FieldSpecifier → Bool
+has_narrow [] = false
+has_narrow (f ∷ fs) = if is_narrow f then true else has_narrow fs
+
+-- only the counters of flows are read
+abbrev pub narrow_in : TemplateKind → List FieldSpecifier → Bool
+narrow_in kinds.Plain fields = has_narrow fields
+narrow_in kinds.Options fields = false
+
+abbrev pub followed_by : List ℕ → Result Templates ℕ → Result (Templates × List ℕ) ℕ
+followed_by octets (Ok ts) = Ok (ts, octets)
+followed_by octets (Err n) = Err n
+
+abbrev pub with_fields : Templates → TemplateKind → ℕ → ℕ → Result (List FieldSpecifier × List ℕ) ℕ → Result (Templates × List ℕ) ℕ
+with_fields ts kind id scope (Ok p) = if narrow_in kind p.0 then Err 618 else followed_by p.1 (declared ts kind id (record { scope = scope; fields = p.0 }))
+with_fields ts kind id scope (Err n) = Err n
+
+abbrev pub with_heading : Templates → TemplateKind → Result (TemplateHeading × List ℕ) ℕ → Result (Templates × List ℕ) ℕ
+with_heading ts kind (Ok p) = elim p.0 [
+  | Withdrawal id ↦ Ok (withdrawn ts id, p.1)
+  | WithdrawalOfAll ↦ Ok (all_withdrawn ts kind, p.1)
+  | Declaration new ↦ with_fields ts kind new.id new.scope (fields_in new.count p.1)
+]
+with_heading ts kind (Err n) = Err n
+
+-- what the template record at the front leaves, and the octets after it: 614 goes before 618, and 618 before 616
+unfoldable pub template_record : Templates → TemplateKind → List ℕ → Result (Templates × List ℕ) ℕ
+template_record ts kind octets = with_heading ts kind (heading_at kind octets)
+
+-- Record after record; fewer than four octets are padding (section 3.3.1). Each has octets, so as many turns do as there are octets.
+unfoldable pub template_records : ℕ → Templates → TemplateKind → List ℕ → Result Templates ℕ
+template_records zero ts kind octets = Ok ts
+template_records (suc turns) ts kind octets =
+    if nat_lt (length octets) 4 then Ok ts
+    else elim (template_record ts kind octets) [ Ok p ↦ template_records turns p.0 kind p.1 | Err n ↦ Err n ]
+
+unfoldable pub template_set : Templates → TemplateKind → List ℕ → Result Templates ℕ
+template_set ts kind octets = template_records (length octets) ts kind octets

@@ -1,0 +1,153 @@
+//! What a session knows.
+ghost use Rattle.std.specs.Prelude.{◌≡◌, ◌≢◌, ◌+◌, ◌%◌, ◌^◌, [], ◌∷◌, Ok, Err, OnErr, Some, None};
+ghost use Rattle.fx_session.specs.Calls.{Does, Grows};
+ghost use Rattle.fx_session.specs.Messages as messages;
+ghost use Rattle.fx_session.specs.Streams as streams;
+
+use crate::domain::{Domain, put_domain, take_domain};
+use crate::sets::take_sets;
+use crate::taken::Taken;
+use fx_machine::Record;
+use fx_wire::Message;
+use std::alloc::Global;
+use std::collections::BTreeMap;
+use std::marker::Model;
+
+/// What a session knows: its domains, the records that wait, and the numbers of gaps and of skipped records, modulo
+/// 2 to the 64.
+#[derive(Drop)]
+pub(crate) struct Known {
+    domains: BTreeMap<u32, Domain>,
+    taken: Taken,
+    gaps: u64,
+}
+
+impl Model for Known {
+    ghost use Rattle.fx_session.specs.Messages as messages;
+
+    ghost Value = { messages.Known };
+
+    ghost view = { λ k. record { domains = k.domains.entries; waiting = k.taken.waiting; gaps = k.gaps; skipped = k.taken.skipped } };
+}
+
+/// The number of gaps after a message with this sequence number, where the other one comes next.
+fn gaps_after(gaps: u64, next: Option<u32>, sequence: u32) -> u64
+    ensures { result ≡ messages.gaps_after gaps next sequence }
+{
+    match next {
+        None => gaps,
+        Some(next) => {
+            if next == sequence {
+                gaps
+            } else {
+                gaps.wrapping_add(1)
+            }
+        }
+    }
+}
+
+/// A message is read: its domain, what is taken and the number of gaps change.
+///
+/// Fails as the first set that does, and with 900 for want of memory.
+#[tactic(auto, unfolding(crate::specs::Messages::message_read))]
+fn read_message(
+    alloc: Global,
+    domains: &mut BTreeMap<u32, Domain>,
+    taken: &mut Taken,
+    gaps: &mut u64,
+    message: &Message<'_>,
+) -> Result<(), u16>
+    ensures done { Does result
+        (messages.message_read (record { domains = domains.old.entries; waiting = taken.old.waiting; gaps = gaps.old; skipped = taken.old.skipped }) message.now)
+        (record { domains = domains.new.entries; waiting = taken.new.waiting; gaps = gaps.new; skipped = taken.new.skipped }) }
+    ensures grows { Grows taken.old.waiting taken.new.waiting }
+    ensures gaps_stay { OnErr result (gaps.new ≡ gaps.old) }
+{
+    let header = message.header();
+    let number = header.observation_domain;
+    let sequence = header.sequence_number;
+    let domain = take_domain(alloc, domains, number);
+    let next = domain.next;
+    let mut templates = domain.templates;
+    taken.start();
+    match take_sets(alloc, &mut templates, taken, message.sets()) {
+        Ok(()) => {}
+        Err(fault) => return Err(fault),
+    }
+    let read = Domain {
+        templates,
+        next: Some(sequence.wrapping_add(taken.count())),
+    };
+    match put_domain(domains, number, read) {
+        Ok(()) => {}
+        Err(fault) => return Err(fault),
+    }
+    *gaps = gaps_after(*gaps, next, sequence);
+    Ok(())
+}
+
+impl Known {
+    /// Nothing is known.
+    pub fn new(alloc: Global) -> Known
+        ensures { result ≡ record { domains = []; waiting = []; gaps = 0; skipped = 0 } }
+    {
+        Known {
+            domains: BTreeMap::new(alloc),
+            taken: Taken::new(alloc),
+            gaps: 0,
+        }
+    }
+
+    /// All domains are forgotten.
+    pub fn forget(&mut self)
+        ensures { self.new ≡ messages.forgotten self.old }
+    {
+        self.domains.clear();
+    }
+
+    /// A message is read. Where it is refused nothing of it stays, and all domains are forgotten.
+    ///
+    /// Fails as its first set that does, and with 900 for want of memory.
+    pub fn take_message(&mut self, alloc: Global, message: &Message<'_>) -> Result<(), u16>
+        ensures done { Does result (messages.message_read self.old message.now) self.new }
+        ensures forgets { OnErr result (self.new ≡ messages.forgotten self.old) }
+    {
+        let waiting = self.taken.waiting();
+        let skipped = self.taken.skipped();
+        match read_message(
+            alloc,
+            &mut self.domains,
+            &mut self.taken,
+            &mut self.gaps,
+            message,
+        ) {
+            Ok(()) => Ok(()),
+            Err(fault) => {
+                self.taken.cut_back(waiting, skipped);
+                self.domains.clear();
+                Err(fault)
+            }
+        }
+    }
+
+    /// The first record that waits leaves.
+    pub fn next_record(&mut self) -> Option<Record>
+        ensures { streams.FirstLeaves self.old self.new result }
+    {
+        self.taken.next()
+    }
+
+    /// The number of gaps, modulo 2 to the 64.
+    pub fn gaps(&self) -> u64
+        ensures { result ≡ self.now.gaps }
+    {
+        self.gaps
+    }
+
+    /// The number of skipped records, modulo 2 to the 64.
+    pub fn skipped(&self) -> u64
+        ensures { result ≡ self.now.skipped }
+    {
+        self.taken.skipped()
+    }
+}

@@ -1,0 +1,23 @@
+//! IPFIX streams read into flow records (RFC 7011), in whatever pieces they come.
+#![tactic(auto)]
+
+mod data_set;
+mod domain;
+mod flow;
+mod key;
+mod known;
+mod number;
+mod seen;
+mod session;
+mod sets;
+mod taken;
+mod template;
+mod template_set;
+mod templates;
+
+pub use session::{Session, pieces};
+
+#[cfg(test)]
+mod hostile_tests;
+#[cfg(test)]
+mod tests;

@@ -1,0 +1,181 @@
+//! Sessions: a stream in pieces.
+ghost use Rattle.std.specs.Prelude.{◌≡◌, ◌≢◌, ◌≤◌, ◌++◌, ℕ, List, length, take, drop, Ok, Err, Some, None, IsSome};
+ghost use Rattle.fx_session.specs.Streams as streams;
+
+use crate::known::Known;
+use fx_base::Fault;
+use fx_machine::Record;
+use fx_wire::{Parsed, parse};
+use std::alloc::Global;
+use std::marker::Model;
+
+/// Reads the whole messages at the front, and says how many octets they have and which fault came.
+fn take_messages(
+    alloc: Global,
+    known: &mut Known,
+    place: &mut u64,
+    octets: &[u8],
+) -> (usize, Option<u16>)
+    ensures read { result.1 ≢ Some 900 → streams.read_all known.old place.old octets.now ≡ streams.left_by known.new place.new octets.now result }
+    ensures bound { result.0 ≤ length octets.now }
+    ensures stops { streams.Stops known.old place.old (take result.0 octets.now) result.1 known.new place.new }
+{
+    let mut at: usize = 0;
+    'each: loop {
+        let rest = octets.split_at(at).1;
+        match parse(rest) {
+            Parsed::NeedsMore => return (at, None),
+            Parsed::Refused(number) => {
+                known.forget();
+                return (at, Some(number));
+            }
+            Parsed::Message(message) => {
+                let count = message.octets();
+                match known.take_message(alloc, &message) {
+                    Ok(()) => {
+                        at += count;
+                        *place = place.saturating_add(count as u64);
+                    }
+                    Err(number) => return (at, Some(number)),
+                }
+            }
+        }
+    }
+}
+
+/// Drops this many octets at the front.
+fn remove_front(octets: &mut Vec<u8>, count: usize)
+    requires { count ≤ length octets.old.items }
+    ensures { octets.new.items ≡ drop count octets.old.items }
+{
+    if count == 0 {
+        return;
+    }
+    let rest = octets.len() - count;
+    octets.copy_within(count.., 0);
+    octets.truncate(rest);
+}
+
+/// A stream of messages that comes in pieces, read into flow records.
+///
+/// A session is seen as what it knows (each domain's templates and next sequence number, the records that wait, the
+/// numbers of gaps and of skipped records), the place of the first octet of the unfinished message, that message's
+/// octets, and the number of the fault that it answers from then on.
+#[derive(Drop)]
+pub struct Session {
+    alloc: Global,
+    known: Known,
+    place: u64,
+    octets: Vec<u8>,
+    fault: Option<u16>,
+}
+
+impl Model for Session {
+    ghost use Rattle.fx_session.specs.Streams as streams;
+
+    ghost Value = { streams.Standing };
+
+    ghost view = { λ s. record { known = s.known; place = s.place; rest = s.octets.items; fault = s.fault } };
+}
+
+/// The fault of this number where the first octet of the refused message is at this place.
+fn fault_of(place: u64, number: u16) -> Fault
+    ensures { result ≡ streams.fault_of place number }
+{
+    if number == 900 {
+        Fault::bare(900)
+    } else {
+        Fault::at_octet(number, place)
+    }
+}
+
+impl Session {
+    /// A session that has read nothing. It takes no memory yet, so it doesn't fail.
+    pub fn new(alloc: Global) -> Result<Session, Fault>
+        ensures { result ≡ Ok streams.start }
+    {
+        Ok(Session {
+            alloc,
+            known: Known::new(alloc),
+            place: 0,
+            octets: Vec::new(alloc),
+            fault: None,
+        })
+    }
+
+    /// Reads on with a piece of the stream: each message that it completes is read, and its records wait.
+    ///
+    /// Fails at the first octet of the first message that is refused: 611 a version other than 10, 612 a message
+    /// length below 16, 613 a set's length, 615 a reserved set id; then along the sets 614 a template's form, 618 a
+    /// counter of flows of another length than 8 octets, 616 another template under a live id, 617 a data set
+    /// without template, 619 a record that passes its set's end, 620 a prefix length above 32. Fails with 900, at no
+    /// place, for want of memory, after some first messages were read. A fault is answered again by each later call;
+    /// the records of the messages before it wait on, and there are none of the refused message.
+    pub fn feed(&mut self, piece: &[u8]) -> Result<(), Fault>
+        ensures answer { result ≡ streams.answer_of self.new.place self.new.fault }
+        ensures fed { self.new.fault ≢ Some 900 → self.new ≡ streams.fed self.old piece.now }
+        ensures again { IsSome self.old.fault → self.new ≡ self.old }
+        ensures starves { self.old.fault ≡ None → self.new.fault ≡ Some 900 → streams.Starves self.old piece.now self.new }
+    {
+        if let Some(number) = self.fault {
+            return Err(fault_of(self.place, number));
+        }
+        if let Err(_) = self.octets.extend_from_slice(piece) {
+            self.fault = Some(900);
+            self.octets.clear();
+            self.known.forget();
+            return Err(fault_of(self.place, 900));
+        }
+        let (at, fault) = take_messages(
+            self.alloc,
+            &mut self.known,
+            &mut self.place,
+            self.octets.as_slice(),
+        );
+        self.fault = fault;
+        match fault {
+            None => {
+                remove_front(&mut self.octets, at);
+                Ok(())
+            }
+            Some(number) => {
+                self.octets.clear();
+                Err(fault_of(self.place, number))
+            }
+        }
+    }
+
+    /// The first record that waits leaves; None where none does.
+    pub fn next_record(&mut self) -> Option<Record>
+        ensures { streams.IsNextRecord self.old self.new result }
+    {
+        self.known.next_record()
+    }
+
+    /// How many messages had another sequence number than the one that came next in their domain, modulo 2 to the 64.
+    pub fn gaps(&self) -> u64
+        ensures { result ≡ self.now.known.gaps }
+    {
+        self.known.gaps()
+    }
+
+    /// How many data records had no flow record since their template lacks a counter, modulo 2 to the 64. Records
+    /// under options templates aren't among them.
+    pub fn skipped(&self) -> u64
+        ensures { result ≡ self.now.known.skipped }
+    {
+        self.known.skipped()
+    }
+
+    /// How many octets of an unfinished message there are.
+    pub fn left(&self) -> usize
+        ensures { result ≡ length self.now.rest }
+    {
+        self.octets.len()
+    }
+}
+
+/// One piece and then another are both as one, for every session: it doesn't matter how a stream is cut.
+pub fn pieces()
+    ensures { (st : streams.Standing) (a : List ℕ) (b : List ℕ) → streams.fed (streams.fed st a) b ≡ streams.fed st (a ++ b) }
+{}

@@ -1,0 +1,145 @@
+//! Template sets and options template sets.
+ghost use Rattle.std.specs.Prelude.{◌≡◌, ◌≢◌, ◌+◌, ◌≤◌, ◌<◌, ◌&&◌, not, ◌==◌, Ok, Err, [], ◌∷◌, ◌++◌, length, OnOk, IfOk, IfErr};
+ghost use Rattle.fx_wire.specs.Fields as fields;
+ghost use Rattle.fx_session.specs.Calls.{Does};
+ghost use Rattle.fx_session.specs.TemplateSets as sets;
+ghost use Rattle.fx_session.specs.TemplateReading as reading;
+
+use crate::template::Template;
+use crate::templates::Templates;
+use fx_elements::Element;
+use fx_wire::{
+    FieldSpecifier, FieldSpecifiers, NewTemplate, TemplateHeading, TemplateKind, read_heading,
+    shortest_record,
+};
+use std::alloc::Global;
+
+/// Whether a counter of flows has another length than 8 octets.
+fn is_narrow(field: &FieldSpecifier) -> bool
+    ensures { result ≡ sets.is_narrow field.now }
+{
+    let is_counter = matches!(
+        field.element(),
+        Element::OctetDeltaCount | Element::PacketDeltaCount
+    );
+    is_counter && field.field_length != 8
+}
+
+/// Whether some counter of flows has another length than 8 octets.
+fn has_narrow(fields: &[FieldSpecifier]) -> bool
+    ensures { result ≡ sets.has_narrow fields.now }
+{
+    for field in fields {
+        if is_narrow(field) {
+            return true;
+        }
+    }
+    false
+}
+
+/// A field comes behind the others. Fails with 900 for want of memory.
+fn push_field(fields: &mut Vec<FieldSpecifier>, field: FieldSpecifier) -> Result<(), u16>
+    ensures ok { OnOk result (fields.new.items ≡ fields.old.items ++ field ∷ []) }
+    ensures err { IfErr result (λ n. n ≡ 900) }
+{
+    match fields.push(field) {
+        Ok(()) => Ok(()),
+        Err(_) => Err(900),
+    }
+}
+
+/// The fields of a template, and the octets behind them.
+///
+/// Fails with 614 where a field is cut or can't have its length, and with 900 for want of memory.
+fn read_fields(
+    alloc: Global,
+    count: u16,
+    octets: &[u8],
+) -> Result<(Vec<FieldSpecifier>, &[u8]), u16>
+    requires { 1 ≤ count }
+    ensures ok { IfOk result (λ p. reading.ReadsFields count octets.now p.0.items p.1.now) }
+    ensures err { IfErr result (λ n. n ≢ 900 → fields.fields_in count octets.now ≡ Err n) }
+{
+    let mut found: Vec<FieldSpecifier> = Vec::new(alloc);
+    let mut left = FieldSpecifiers::new(count, octets);
+    while let Some(next) = left.next() {
+        match next {
+            Ok(field) => {
+                push_field(&mut found, field)?;
+            }
+            Err(number) => return Err(number),
+        }
+    }
+    Ok((found, left.rest()))
+}
+
+/// A template is declared whose fields are at the front of the octets; answers the octets behind it.
+fn declare<'a>(
+    alloc: Global,
+    templates: &mut Templates,
+    kind: TemplateKind,
+    new: NewTemplate,
+    octets: &'a [u8],
+) -> Result<&'a [u8], u16>
+    requires { 1 ≤ new.count }
+    ensures done { reading.Follows (sets.with_fields templates.old kind new.id new.scope (fields.fields_in new.count octets.now)) templates.new result }
+    ensures shorter { reading.IsNoLonger octets.now result }
+{
+    let (fields, rest) = read_fields(alloc, new.count, octets)?;
+    if kind == TemplateKind::Plain && has_narrow(fields.as_slice()) {
+        return Err(618);
+    }
+    let shortest = shortest_record(fields.as_slice());
+    let template = Template::new(new.scope, fields, shortest);
+    templates.declare(kind, new.id, template)?;
+    Ok(rest)
+}
+
+/// What the template record at the front says is done; answers the octets behind it.
+///
+/// Fails with 614, 618 and 616, in this order, and with 900 for want of memory.
+#[tactic(auto, unfolding(crate::specs::TemplateSets::template_record))]
+fn take_record<'a>(
+    alloc: Global,
+    templates: &mut Templates,
+    kind: TemplateKind,
+    octets: &'a [u8],
+) -> Result<&'a [u8], u16>
+    requires { 4 ≤ length octets.now }
+    ensures done { reading.Follows (sets.template_record templates.old kind octets.now) templates.new result }
+    ensures shorter { reading.IsShorter octets.now result }
+{
+    let (heading, rest) = read_heading(kind, octets)?;
+    match heading {
+        TemplateHeading::Withdrawal(id) => {
+            templates.withdraw(id);
+            Ok(rest)
+        }
+        TemplateHeading::WithdrawalOfAll => {
+            templates.withdraw_all(kind);
+            Ok(rest)
+        }
+        TemplateHeading::Declaration(new) => declare(alloc, templates, kind, new, rest),
+    }
+}
+
+/// What the template records of a set say is done.
+///
+/// Fails as the first record that does, and leaves the templates open then.
+pub(crate) fn take_templates(
+    alloc: Global,
+    templates: &mut Templates,
+    kind: TemplateKind,
+    octets: &[u8],
+) -> Result<(), u16>
+    ensures { Does result (sets.template_set templates.old kind octets.now) templates.new }
+{
+    let mut rest = octets;
+    while rest.len() >= 4 {
+        match take_record(alloc, templates, kind, rest) {
+            Ok(behind) => rest = behind,
+            Err(number) => return Err(number),
+        }
+    }
+    Ok(())
+}

@@ -1,0 +1,110 @@
+//! The templates of an observation domain.
+ghost use Rattle.std.specs.Prelude.{◌≡◌, ◌≢◌, [], Ok, Err, Option, is_some, option_copied};
+ghost use Rattle.fx_session.specs.Calls.{Does};
+ghost use Rattle.fx_session.specs.Templates as templates;
+
+use crate::template::Template;
+use fx_wire::TemplateKind;
+use std::alloc::Global;
+use std::collections::BTreeMap;
+use std::marker::Model;
+
+/// The templates and the options templates of a domain, by id.
+#[derive(Drop)]
+pub(crate) struct Templates {
+    plain: BTreeMap<u16, Template>,
+    options: BTreeMap<u16, Template>,
+}
+
+impl Model for Templates {
+    ghost use Rattle.fx_session.specs.Templates as templates;
+
+    ghost Value = { templates.Templates };
+
+    ghost view = { λ t. record { plain = t.plain.entries; options = t.options.entries } };
+}
+
+/// A template comes into its table, where the id stands for no other one.
+///
+/// Fails with 616 where it does, and with 900 for want of memory.
+fn declare_in(
+    table: &mut BTreeMap<u16, Template>,
+    other: bool,
+    id: u16,
+    new: Template,
+) -> Result<(), u16>
+    ensures { Does result (templates.in_table (templates.at_number table.old.entries id) other table.old.entries id new) table.new.entries }
+{
+    if let Some(old) = table.get(&id) {
+        return if old.same(&new) { Ok(()) } else { Err(616) };
+    }
+    if other {
+        return Err(616);
+    }
+    match table.insert(id, new) {
+        Ok(_) => Ok(()),
+        Err(_) => Err(900),
+    }
+}
+
+impl Templates {
+    /// No templates.
+    pub fn new(alloc: Global) -> Templates
+        ensures { result ≡ templates.no_templates }
+    {
+        Templates {
+            plain: BTreeMap::new(alloc),
+            options: BTreeMap::new(alloc),
+        }
+    }
+
+    /// The template of this id.
+    pub fn plain(&self, id: u16) -> Option<&Template>
+        ensures { option_copied result ≡ templates.at_number self.now.plain id }
+    {
+        self.plain.get(&id)
+    }
+
+    /// The options template of this id.
+    pub fn options(&self, id: u16) -> Option<&Template>
+        ensures { option_copied result ≡ templates.at_number self.now.options id }
+    {
+        self.options.get(&id)
+    }
+
+    /// A template is declared.
+    ///
+    /// Fails with 616 where the id stands for another one, and with 900 for want of memory.
+    pub fn declare(&mut self, kind: TemplateKind, id: u16, new: Template) -> Result<(), u16>
+        ensures { Does result (templates.declared self.old kind id new) self.new }
+    {
+        match kind {
+            TemplateKind::Plain => {
+                let other = self.options.contains_key(&id);
+                declare_in(&mut self.plain, other, id, new)
+            }
+            TemplateKind::Options => {
+                let other = self.plain.contains_key(&id);
+                declare_in(&mut self.options, other, id, new)
+            }
+        }
+    }
+
+    /// The template of this id is withdrawn, of either kind, if there is one.
+    pub fn withdraw(&mut self, id: u16)
+        ensures { self.new ≡ templates.withdrawn self.old id }
+    {
+        self.plain.remove(&id);
+        self.options.remove(&id);
+    }
+
+    /// All templates of the kind are withdrawn.
+    pub fn withdraw_all(&mut self, kind: TemplateKind)
+        ensures { self.new ≡ templates.all_withdrawn self.old kind }
+    {
+        match kind {
+            TemplateKind::Plain => self.plain.clear(),
+            TemplateKind::Options => self.options.clear(),
+        }
+    }
+}

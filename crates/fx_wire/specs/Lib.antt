@@ -1,0 +1,13 @@
+pub mod Numbers
+pub mod Headers
+pub mod Sets
+pub mod Parsing
+pub mod Messages
+pub mod MessageReading
+pub mod Fields
+pub mod FieldReading
+pub mod Templates
+pub mod TemplateReading
+pub mod Values
+pub mod ValueReading
+pub mod Writing

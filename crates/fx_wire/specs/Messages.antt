@@ -1,0 +1,30 @@
+-- Messages: a header and sets (RFC 7011, section 3).
+use Rattle.std.specs.Prelude.{ℕ, List, take, drop, Result, Ok, Err}
+use Rattle.fx_wire.specs.Headers.{Framed, framed, header_of, more, whole, refused}
+use Rattle.fx_wire.specs.Sets.{SetParts, sets_of}
+use Rattle.fx_wire.specs.declared.header.Header.{Header}
+
+-- a message: how many octets it has, its header and its sets
+pub record Message : Type 0 where
+  pub octets : ℕ
+  pub header : Header
+  pub sets : List SetParts
+
+-- what stands at the front of a stream
+pub data Front : Type 0 where
+  needs_more : Front
+  complete : Message → Front
+  refusal : ℕ → Front
+
+abbrev pub with_sets : ℕ → Header → Result (List SetParts) ℕ → Front
+with_sets n header (Ok sets) = complete (record { octets = n; header = header; sets = sets })
+with_sets n header (Err number) = refusal number
+
+abbrev pub front_by : List ℕ → Framed → Front
+front_by octets more = needs_more
+front_by octets (refused number) = refusal number
+front_by octets (whole n) = with_sets n (header_of octets) (sets_of (drop 16 (take n octets)))
+
+-- The faults of the header go before those of the sets, and these come along the octets.
+abbrev pub front : List ℕ → Front
+front octets = front_by octets (framed octets)

@@ -1,0 +1,44 @@
+-- The sets of a message (RFC 7011, section 3.3): an id, the set's length with these four octets, and the records.
+use Rattle.std.specs.Prelude.{ℕ, zero, suc, ◌-◌, ◌&&◌, ◌||◌, Bool, not, ◌==◌, nat_lt, if◌then◌else◌, List, [], ◌∷◌, length, take, drop, Result, Ok, Err}
+use Rattle.std.specs.Int.{w16}
+use Rattle.fx_wire.specs.Numbers.{number_at}
+use Rattle.fx_wire.specs.declared.set.Set.{Set}
+
+-- a set is its id and the octets after its header
+pub record SetParts : Type 0 where
+  pub id : ℕ
+  pub content : List ℕ
+
+-- what a lent set shows
+abbrev pub set_parts : Set → SetParts
+set_parts s = record { id = s.id; content = s.content.now }
+
+-- template sets are 2, options template sets 3, data sets have the id of their template (section 3.3.2); the rest is reserved
+abbrev pub is_reserved : ℕ → Bool
+is_reserved id = nat_lt id 256 && (not (id == 2) && not (id == 3))
+
+-- the set at the front and the octets after it, or the number of the refusal
+abbrev pub set_at : List ℕ → Result (SetParts × List ℕ) ℕ
+set_at octets =
+    if nat_lt (length octets) 4 then Err 613
+    else if nat_lt (number_at w16 2 octets) 4 || nat_lt (length octets) (number_at w16 2 octets) then Err 613
+    else if is_reserved (number_at w16 0 octets) then Err 615
+    else Ok (record { id = number_at w16 0 octets; content = take (number_at w16 2 octets - 4) (drop 4 octets) }, drop (number_at w16 2 octets) octets)
+
+abbrev pub before_sets : SetParts → Result (List SetParts) ℕ → Result (List SetParts) ℕ
+before_sets first (Ok others) = Ok (first ∷ others)
+before_sets first (Err n) = Err n
+
+-- The sets, one after another, or the first refusal. Each has an octet at least, so as many turns do as there are octets.
+unfoldable pub sets_in : ℕ → List ℕ → Result (List SetParts) ℕ
+sets_in turns [] = Ok []
+sets_in zero (b ∷ bs) = Err 613
+sets_in (suc turns) (b ∷ bs) = elim (set_at (b ∷ bs)) [ Ok first ↦ before_sets first.0 (sets_in turns first.1) | Err n ↦ Err n ]
+
+unfoldable pub sets_of : List ℕ → Result (List SetParts) ℕ
+sets_of octets = sets_in (length octets) octets
+
+-- the sets where there is no refusal
+abbrev pub told : Result (List SetParts) ℕ → List SetParts
+told (Ok sets) = sets
+told (Err n) = []

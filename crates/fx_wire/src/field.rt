@@ -1,0 +1,160 @@
+//! Field specifiers.
+ghost use Rattle.std.specs.Prelude.{◌≡◌, ◌-◌, ◌&&◌, ◌==◌, nat_le, Some, None};
+ghost use Rattle.std.specs.Iterator.{at_most};
+ghost use Rattle.fx_wire.specs.Fields as fields;
+ghost use Rattle.fx_wire.specs.FieldReading as reading;
+
+use crate::number::{u16_at, u32_at};
+use fx_elements::{Element, by_id, width};
+use std::marker::Model;
+
+/// A field of a template (RFC 7011, section 3.2).
+#[derive(Clone, Copy, Debug, PartialEq, Eq)]
+pub struct FieldSpecifier {
+    /// The element's number, below 32768.
+    pub element: u16,
+    /// How many octets a value has; 65535 where each value tells it.
+    pub field_length: u16,
+    /// The element's enterprise where the first bit says that it has one. The IANA registry is 0.
+    pub enterprise: Option<u32>,
+}
+
+/// Whether the values of an element may have this length, where 65535 stands for one that each value tells.
+///
+/// No value is empty. Addresses and prefixes have four octets, prefix lengths one; protocols, ports and classes
+/// of service may have fewer octets than they are wide.
+#[tactic(auto, unfolding(crate::specs::Fields::element_of))]
+pub fn can_have(element: Element, field_length: u16) -> bool
+    ensures { result ≡ fields.can_have element field_length }
+{
+    match element {
+        Element::OnAxis(axis) => {
+            if axis.is_address() {
+                field_length == 4
+            } else {
+                field_length >= 1 && u32::from(field_length) <= width(axis) / 8
+            }
+        }
+        Element::SourcePrefix | Element::DestinationPrefix => field_length == 4,
+        Element::SourcePrefixLength | Element::DestinationPrefixLength => field_length == 1,
+        _ => field_length >= 1,
+    }
+}
+
+impl FieldSpecifier {
+    /// The element.
+    #[tactic(auto, unfolding(crate::specs::Fields::element_of))]
+    pub fn element(&self) -> Element
+        ensures { result ≡ fields.element_of self.now }
+    {
+        match self.enterprise {
+            None => by_id(self.element, 0),
+            Some(enterprise) => by_id(self.element, enterprise),
+        }
+    }
+}
+
+/// The specifier at the front and the octets behind it; None where it is cut.
+fn read_specifier(octets: &[u8]) -> Option<(FieldSpecifier, &[u8])>
+    ensures { reading.with_rest result ≡ fields.specifier_at octets.now }
+{
+    if octets.len() < 4 {
+        return None;
+    }
+    let element = u16_at(octets, 0);
+    let field_length = u16_at(octets, 2);
+    if element < 0x8000 {
+        let field = FieldSpecifier {
+            element,
+            field_length,
+            enterprise: None,
+        };
+        return Some((field, octets.split_at(4).1));
+    }
+    if octets.len() < 8 {
+        return None;
+    }
+    let field = FieldSpecifier {
+        element: element - 0x8000,
+        field_length,
+        enterprise: Some(u32_at(octets, 4)),
+    };
+    Some((field, octets.split_at(8).1))
+}
+
+/// The field at the front and the octets behind it.
+///
+/// Fails with 614 where it is cut or its element can't have its length.
+fn read_field(octets: &[u8]) -> Result<(FieldSpecifier, &[u8]), u16>
+    ensures { reading.field_with_rest result ≡ fields.field_at octets.now }
+{
+    match read_specifier(octets) {
+        None => Err(614),
+        Some((field, rest)) => {
+            if can_have(field.element(), field.field_length) {
+                Ok((field, rest))
+            } else {
+                Err(614)
+            }
+        }
+    }
+}
+
+/// The fields of a template, in order. It ends after the first that is refused.
+#[derive(Drop)]
+pub struct FieldSpecifiers<'a> {
+    left: u16,
+    rest: &'a [u8],
+}
+
+impl<'a> Model for FieldSpecifiers<'a> {
+    ghost use Rattle.fx_wire.specs.FieldReading as reading;
+
+    ghost Value = { reading.FieldsLeft };
+
+    ghost view = { λ f. record { count = f.left; octets = f.rest.now } };
+}
+
+impl<'a> FieldSpecifiers<'a> {
+    /// So many fields from the front of the octets.
+    pub fn new(count: u16, octets: &'a [u8]) -> FieldSpecifiers<'a>
+        ensures { result ≡ record { count = count; octets = octets.now } }
+    {
+        FieldSpecifiers {
+            left: count,
+            rest: octets,
+        }
+    }
+
+    /// The octets behind the fields that were given.
+    pub fn rest(&self) -> &'a [u8]
+        ensures { result.now ≡ self.now.octets }
+    {
+        self.rest
+    }
+}
+
+impl Iterator for FieldSpecifiers<'_> {
+    type Item = Result<FieldSpecifier, u16>;
+
+    ghost next_gives = { reading.IsNextField };
+
+    ghost remaining = { λ f. at_most f.count };
+
+    /// The next field; 614 where it is cut or its element can't have its length, and then none follows.
+    fn next(&mut self) -> Option<Result<FieldSpecifier, u16>> {
+        if self.left == 0 {
+            return None;
+        }
+        match read_field(self.rest) {
+            Ok((field, behind)) => {
+                *self = FieldSpecifiers::new(self.left - 1, behind);
+                Some(Ok(field))
+            }
+            Err(number) => {
+                self.left = 0;
+                Some(Err(number))
+            }
+        }
+    }
+}

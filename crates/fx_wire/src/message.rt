@@ -1,0 +1,95 @@
+//! Messages, lent from their octets.
+ghost use Rattle.std.specs.Prelude.{◌≡◌, ◌+◌, ◌≤◌, length, true, is_ok};
+ghost use Rattle.fx_wire.specs.Sets.{sets_of, told};
+ghost use Rattle.fx_wire.specs.Messages as messages;
+ghost use Rattle.fx_wire.specs.MessageReading as reading;
+
+use crate::header::Header;
+use crate::number::u16_at;
+use crate::set::{Sets, check_sets};
+use std::marker::Model;
+
+/// A message, lent from its octets (RFC 7011, section 3). Its sets are well formed.
+#[derive(Drop)]
+pub struct Message<'a> {
+    header: Header,
+    body: &'a [u8],
+}
+
+impl<'a> Model for Message<'a> {
+    ghost use Rattle.std.specs.Prelude.{◌≡◌, ◌+◌, length, true, is_ok};
+    ghost use Rattle.fx_wire.specs.Sets.{sets_of, told};
+    ghost use Rattle.fx_wire.specs.Messages as messages;
+
+    ghost Value = { messages.Message };
+
+    ghost view = { λ m. record { octets = 16 + length m.body.now; header = m.header; sets = told (sets_of m.body.now) } };
+
+    ghost invariant = { λ m. is_ok (sets_of m.body.now) ≡ true };
+}
+
+/// What stands at the front of a stream.
+#[derive(Drop)]
+pub enum Parsed<'a> {
+    /// The octets are no whole message yet.
+    NeedsMore,
+    /// A whole message.
+    Message(Message<'a>),
+    /// Why there is no message: 611 a version other than 10, 612 a message length below 16, 613 a set's length,
+    /// 615 a reserved set id.
+    Refused(u16),
+}
+
+impl<'a> Message<'a> {
+    /// What the header tells.
+    pub fn header(&self) -> Header
+        ensures { result ≡ self.now.header }
+    {
+        self.header
+    }
+
+    /// How many octets the message has, at least 16.
+    pub fn octets(&self) -> usize
+        ensures { result ≡ self.now.octets }
+    {
+        16 + self.body.len()
+    }
+
+    /// The sets, in order.
+    pub fn sets(&self) -> Sets<'a>
+        ensures { result ≡ self.now.sets }
+    {
+        Sets::new(self.body)
+    }
+}
+
+/// The message at the front of the octets.
+///
+/// Needs more octets where they are fewer than 16, or fewer than the length that a right header tells.
+/// Refuses, in this order: 611 a version other than 10, 612 a length below 16; then along the sets 613 a set's
+/// length below four or past the message, or fewer than four octets left, and 615 a reserved set id.
+pub fn parse(octets: &[u8]) -> Parsed<'_>
+    ensures { reading.front_of result ≡ messages.front octets.now }
+{
+    if octets.len() < 16 {
+        return Parsed::NeedsMore;
+    }
+    if u16_at(octets, 0) != 10 {
+        return Parsed::Refused(611);
+    }
+    let length = u16_at(octets, 2) as usize;
+    if length < 16 {
+        return Parsed::Refused(612);
+    }
+    if octets.len() < length {
+        return Parsed::NeedsMore;
+    }
+    let body = octets.split_at(length).0.split_at(16).1;
+    if let Err(number) = check_sets(body) {
+        return Parsed::Refused(number);
+    }
+    Parsed::Message(Message {
+        header: Header::read(octets),
+        body,
+    })
+}

@@ -1,0 +1,97 @@
+//! Messages written into a sink.
+ghost use Rattle.std.specs.Prelude.{◌≡◌, ◌≤◌, true, false, List, map, OnOk, IfErr};
+ghost use Rattle.fx_base.specs.Device.{Writes};
+ghost use Rattle.fx_base.specs.Fault.{fault_at};
+ghost use Rattle.fx_base.specs.declared.fault.Place.TheVariants as places;
+ghost use Rattle.fx_wire.specs.Messages.{front, complete};
+ghost use Rattle.fx_wire.specs.Sets.{set_parts};
+ghost use Rattle.fx_wire.specs.Writing as writing;
+ghost use Rattle.fx_wire.specs.declared.header.Header.{Header};
+ghost use Rattle.fx_wire.specs.declared.set.Set.{Set};
+
+use crate::header::Header;
+use crate::set::Set;
+use fx_base::{Fault, Sink, put_text};
+
+/// How many octets a message with these sets has.
+pub fn message_length(sets: &[Set<'_>]) -> usize
+    requires { writing.message_length sets.now ≤ 65535 }
+    ensures { result ≡ writing.message_length sets.now }
+{
+    let mut sum: usize = 16;
+    for set in sets {
+        sum += 4 + set.content.len();
+    }
+    sum
+}
+
+/// Writes a version and the length of the whole message.
+#[tactic(auto, unfolding(crate::specs::Writing::version_octets))]
+fn put_version<S: Sink>(sink: &mut S, length: u16) -> Result<(), Fault>
+    ensures ok { OnOk result (Writes (S.taken sink.old) (S.taken sink.new) (writing.version_octets length)) }
+    ensures going { OnOk result (S.failed sink.old ≡ false → S.failed sink.new ≡ false) }
+    ensures err { IfErr result (λ e. (e ≡ fault_at 902 places.None) × (S.failed sink.new ≡ true)) }
+{
+    put_text(sink, &10u16.to_be_bytes())?;
+    put_text(sink, &length.to_be_bytes())
+}
+
+/// Writes what a header tells.
+#[tactic(auto, unfolding(crate::specs::Writing::origin_octets))]
+fn put_origin<S: Sink>(sink: &mut S, header: &Header) -> Result<(), Fault>
+    ensures ok { OnOk result (Writes (S.taken sink.old) (S.taken sink.new) (writing.origin_octets header.now)) }
+    ensures going { OnOk result (S.failed sink.old ≡ false → S.failed sink.new ≡ false) }
+    ensures err { IfErr result (λ e. (e ≡ fault_at 902 places.None) × (S.failed sink.new ≡ true)) }
+{
+    put_text(sink, &header.export_time.to_be_bytes())?;
+    put_text(sink, &header.sequence_number.to_be_bytes())?;
+    put_text(sink, &header.observation_domain.to_be_bytes())
+}
+
+/// Writes a set: its id, its length and its content.
+#[tactic(auto, unfolding(crate::specs::Writing::set_octets))]
+fn put_set<S: Sink>(sink: &mut S, set: &Set<'_>) -> Result<(), Fault>
+    requires { writing.set_length set.now ≤ 65535 }
+    ensures ok { OnOk result (Writes (S.taken sink.old) (S.taken sink.new) (writing.set_octets set.now)) }
+    ensures going { OnOk result (S.failed sink.old ≡ false → S.failed sink.new ≡ false) }
+    ensures err { IfErr result (λ e. (e ≡ fault_at 902 places.None) × (S.failed sink.new ≡ true)) }
+{
+    let length = (4 + set.content.len()) as u16;
+    put_text(sink, &set.id.to_be_bytes())?;
+    put_text(sink, &length.to_be_bytes())?;
+    put_text(sink, set.content)
+}
+
+/// Writes sets, one after another.
+fn put_sets<S: Sink>(sink: &mut S, sets: &[Set<'_>]) -> Result<(), Fault>
+    requires { writing.message_length sets.now ≤ 65535 }
+    ensures ok { OnOk result (Writes (S.taken sink.old) (S.taken sink.new) (writing.sets_octets sets.now)) }
+    ensures going { OnOk result (S.failed sink.old ≡ false → S.failed sink.new ≡ false) }
+    ensures err { IfErr result (λ e. (e ≡ fault_at 902 places.None) × (S.failed sink.new ≡ true)) }
+{
+    for set in sets {
+        put_set(sink, set)?;
+    }
+    Ok(())
+}
+
+/// Writes a message with this header and these sets. That it has no more octets than a message's length can tell is
+/// the caller's condition.
+///
+/// Fails with 902, at no place, where a write fails. How much the sink has taken then is open.
+pub fn put_message<S: Sink>(sink: &mut S, header: &Header, sets: &[Set<'_>]) -> Result<(), Fault>
+    requires { writing.message_length sets.now ≤ 65535 }
+    ensures ok { OnOk result (Writes (S.taken sink.old) (S.taken sink.new) (writing.message_octets header.now sets.now)) }
+    ensures going { OnOk result (S.failed sink.old ≡ false → S.failed sink.new ≡ false) }
+    ensures err { IfErr result (λ e. (e ≡ fault_at 902 places.None) × (S.failed sink.new ≡ true)) }
+{
+    put_version(sink, message_length(sets) as u16)?;
+    put_origin(sink, header)?;
+    put_sets(sink, sets)
+}
+
+/// What is written is that message: it is read back with its header and its sets.
+pub fn messages_are_read()
+    ensures { (header : Header) (sets : List Set) → writing.IsMessage header sets
+        → front (writing.message_octets header sets) ≡ complete (record { octets = writing.message_length sets; header = header; sets = map set_parts sets }) }
+{}

@@ -1,0 +1,109 @@
+//! Sets of a message.
+ghost use Rattle.std.specs.Prelude.{◌≡◌, ◌-◌, ◌&&◌, not, ◌==◌, nat_lt, length, Ok, Err, true, is_ok};
+ghost use Rattle.std.specs.Iterator.{YieldsFirstBy, item_count};
+ghost use Rattle.fx_wire.specs.Parsing.{IsSetAt, SetsStand};
+ghost use Rattle.fx_wire.specs.Sets.{set_parts, sets_of, told, is_reserved};
+
+use crate::number::u16_at;
+use std::marker::Model;
+
+/// A set, lent from its message (RFC 7011, section 3.3).
+#[derive(Clone, Copy, Debug, Drop)]
+pub struct Set<'a> {
+    /// 2 for template sets, 3 for options template sets, from 256 on the id of a template.
+    pub id: u16,
+    /// The records, and octets of padding behind them.
+    pub content: &'a [u8],
+}
+
+/// Whether no set may have this id.
+fn is_reserved_id(id: u16) -> bool
+    ensures { result ≡ is_reserved id }
+{
+    id < 256 && id != 2 && id != 3
+}
+
+/// The set at the front and the octets behind it.
+///
+/// Fails with 613 where the octets are fewer than four, or the set's length is below four or past them, and
+/// otherwise with 615 where its id is reserved.
+pub(crate) fn read_set(octets: &[u8]) -> Result<(Set<'_>, &[u8]), u16>
+    ensures { IsSetAt octets.now result }
+{
+    if octets.len() < 4 {
+        return Err(613);
+    }
+    let length = u16_at(octets, 2) as usize;
+    if length < 4 || octets.len() < length {
+        return Err(613);
+    }
+    let id = u16_at(octets, 0);
+    if is_reserved_id(id) {
+        return Err(615);
+    }
+    let (set, rest) = octets.split_at(length);
+    let content = set.split_at(4).1;
+    Ok((Set { id, content }, rest))
+}
+
+/// Whether the octets are sets, or the refusal of the first that isn't.
+pub(crate) fn check_sets(octets: &[u8]) -> Result<(), u16>
+    ensures { SetsStand octets.now result }
+{
+    let mut rest = octets;
+    while !rest.is_empty() {
+        match read_set(rest) {
+            Ok((_set, behind)) => rest = behind,
+            Err(number) => return Err(number),
+        }
+    }
+    Ok(())
+}
+
+/// The sets of a message, in order.
+#[derive(Drop)]
+pub struct Sets<'a> {
+    rest: &'a [u8],
+}
+
+impl<'a> Model for Sets<'a> {
+    ghost use Rattle.std.specs.Prelude.{◌≡◌, List, true, is_ok};
+    ghost use Rattle.fx_wire.specs.Sets.{SetParts, sets_of, told};
+
+    ghost Value = { List SetParts };
+
+    ghost view = { λ s. told (sets_of s.rest.now) };
+
+    ghost invariant = { λ s. is_ok (sets_of s.rest.now) ≡ true };
+}
+
+impl<'a> Sets<'a> {
+    /// The sets in these octets, which are sets.
+    pub(crate) fn new(octets: &'a [u8]) -> Sets<'a>
+        requires { is_ok (sets_of octets.now) ≡ true }
+        ensures { result ≡ told (sets_of octets.now) }
+    {
+        Sets { rest: octets }
+    }
+}
+
+impl<'a> Iterator for Sets<'a> {
+    type Item = Set<'a>;
+
+    ghost next_gives = { YieldsFirstBy set_parts (λ s. s) };
+
+    ghost remaining = { item_count (λ s. s) };
+
+    fn next(&mut self) -> Option<Set<'a>> {
+        if self.rest.is_empty() {
+            return None;
+        }
+        match read_set(self.rest) {
+            Ok((set, behind)) => {
+                self.rest = behind;
+                Some(set)
+            }
+            Err(_) => unreachable!(),
+        }
+    }
+}
