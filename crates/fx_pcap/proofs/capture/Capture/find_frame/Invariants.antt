@@ -1,0 +1,14 @@
+use Rattle.std.proofs.Common.{◌≡◌, ◌≤◌, None}
+use Rattle.fx_pcap.specs.Captures.{ahead, budget}
+use Rattle.fx_pcap.proofs.capture.Capture.find_frame.Given as goal
+
+abbrev pub invariant-records : goal.invariant-records
+invariant-records g l = record {
+  going : l.self.stopped ≡ None;
+  ahead : ahead l.self ≡ ahead l.fn.self;
+  format : l.self.format ≡ l.fn.self.format;
+  budget : budget l.self ≤ budget l.fn.self;
+}
+
+abbrev pub decreases-records : goal.decreases-records
+decreases-records g l = budget l.self

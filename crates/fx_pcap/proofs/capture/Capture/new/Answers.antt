@@ -1,0 +1,26 @@
+use Rattle.std.proofs.Common.{◌≡◌, refl, sym, ap, ◌∙◌, inr}
+use Rattle.std.proofs.lemmas.Result.{err_from_is_err_and}
+use Rattle.std.specs.Io.KnownBytes.{prepend_known}
+use Rattle.fx_base.proofs.Held.{prepend_nil}
+use Rattle.fx_pcap.specs.Window.{octets_of}
+use Rattle.fx_pcap.specs.Records.{format_of}
+use Rattle.fx_pcap.proofs.Whole.{refused, opened}
+use Rattle.fx_pcap.proofs.capture.Capture.new.Goals as goal
+
+pub returns-in_err-format-clause-err : goal.returns-in_err-format-clause-err
+returns-in_err-format-clause-err g c =
+    let w = c.fill.new.self in
+    let source = g.R.Source.left c.args.source in
+    let all : prepend_known w.held w.left ≡ source = c.in-Ok.ensures.octets ∙ ap octets_of c.in_ok-window.ensures.ok ∙ prepend_nil source in
+    let error = sym (ap format_of c.octets.ensures.value) ∙ sym c.in_err-format.ensures in
+    let p = err_from_is_err_and c.from_residual-in_err-format.result c.from_residual-in_err-format.ensures.1 in
+    rw (p.1, p.2) (inr (inr (refused w.held w.left source c.in_err-format.field-0.0 all c.in-Ok.ensures.enough error)))
+
+pub returns-clause-ok : goal.returns-clause-ok
+returns-clause-ok g c =
+    let w = c.fill.new.self in
+    let source = g.R.Source.left c.args.source in
+    let all : prepend_known w.held w.left ≡ source = c.in-Ok.ensures.octets ∙ ap octets_of c.in_ok-window.ensures.ok ∙ prepend_nil source in
+    let read = sym (ap format_of c.octets.ensures.value) ∙ sym c.in_ok-format.ensures in
+    let is = opened w.held w.left source c.in_ok-format.format all read in
+    record { format = is.0; untold = is.1; place = refl; skipped = refl; going = refl }

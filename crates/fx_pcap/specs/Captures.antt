@@ -1,0 +1,137 @@
+-- The frames of a capture, and what a reader of them does.
+use Rattle.std.specs.Prelude.{◌≡◌, ℕ, ◌+◌, ◌-◌, ◌*◌, ◌%◌, ◌^◌, ◌<◌, Bool, true, false, List, [], ◌∷◌, drop, Option, Some, None, IfSome, IsSome, Result, Ok, Err, ◌⊎◌}
+use Rattle.std.specs.Option.{option_map}
+use Rattle.fx_base.specs.declared.fault.Fault.{Fault}
+use Rattle.fx_base.specs.declared.fault.Place.TheVariants as places
+use Rattle.fx_base.specs.Fault.{fault_at}
+use Rattle.fx_pcap.specs.declared.content.Content.{Content}
+use Rattle.fx_pcap.specs.declared.content.Content.TheVariants.{Packet, Other, Malformed}
+use Rattle.fx_pcap.specs.declared.header.Format.{Format}
+use Rattle.fx_pcap.specs.declared.skipped.Skipped.{Skipped}
+use Rattle.fx_pcap.specs.declared.frame.Frame.{Frame}
+use Rattle.fx_pcap.specs.Records.{Item, Records, records_of, format_of}
+
+-- what a frame says of its packet
+pub record Seen : Type 0 where
+  -- the value on each axis
+  pub fields : List ℕ
+  -- how many octets the packet has
+  pub octets : ℕ
+  pub second : ℕ
+
+-- the numbers of skipped frames, with one more where this is skipped
+abbrev pub counted : Skipped → Content → Skipped
+counted s (Packet fields octets) = s
+counted s Other = record s { other = (s.other + 1) % 2 ^ 64 }
+counted s Malformed = record s { malformed = (s.malformed + 1) % 2 ^ 64 }
+
+abbrev pub with_frame : Content → ℕ → Skipped → List (Seen × Skipped) → List (Seen × Skipped)
+with_frame (Packet fields octets) second s rest = (record { fields = fields; octets = octets; second = second }, s) ∷ rest
+with_frame Other second s rest = rest
+with_frame Malformed second s rest = rest
+
+-- the frames among some records, each with the numbers of frames skipped before it
+abbrev pub frames_in : Skipped → List Item → List (Seen × Skipped)
+frames_in s [] = []
+frames_in s (item ∷ items) = with_frame item.content item.second s (frames_in (counted s item.content) items)
+
+-- the numbers of skipped frames in the end
+abbrev pub skipped_in : Skipped → List Item → Skipped
+skipped_in s [] = s
+skipped_in s (item ∷ items) = skipped_in (counted s item.content) items
+
+-- What is ahead: frames, the numbers of skipped ones behind the last, and the fault at which they end.
+pub record Ahead : Type 0 where
+  pub frames : List (Seen × Skipped)
+  pub skipped : Skipped
+  pub fault : Option Fault
+
+abbrev pub ahead_in : Skipped → Records → Ahead
+ahead_in s r = record { frames = frames_in s r.items; skipped = skipped_in s r.items; fault = r.fault }
+
+-- What a reader of a capture is seen as.
+pub record Reading : Type 0 where
+  -- the octets behind the frame that it is at, where they are told
+  pub left : Option (List ℕ)
+  pub format : Format
+  -- the number of the first of them
+  pub place : ℕ
+  pub skipped : Skipped
+  -- the frame that it is at, and its captured octets
+  pub seen : Seen
+  pub captured : List ℕ
+  -- the fault that it answers from now on
+  pub stopped : Option Fault
+  -- whether its source's last call failed
+  pub failed : Bool
+  -- how many calls of its source it has made
+  pub calls : ℕ
+  -- how many octets it holds
+  pub held : ℕ
+
+abbrev pub ahead : Reading → Option Ahead
+ahead r = option_map (λ octets. ahead_in r.skipped (records_of r.format r.place octets)) r.left
+
+abbrev pub nothing_more : Skipped → Option Fault → Ahead
+nothing_more s fault = record { frames = []; skipped = s; fault = fault }
+
+abbrev pub with_first : Seen → Skipped → Ahead → Ahead
+with_first seen s a = record a { frames = (seen, s) ∷ a.frames }
+
+-- falls with each frame
+abbrev pub budget : Reading → ℕ
+budget r = (2 ^ 32 - r.calls) * 524289 + r.held
+
+-- it goes on to a frame
+pub record AtFrame (old new : Reading) : Type 0 where
+  pub going : (old.stopped ≡ None) × (new.stopped ≡ None)
+  pub frames : ahead old ≡ option_map (with_first new.seen new.skipped) (ahead new)
+  pub format : new.format ≡ old.format
+  pub smaller : budget new < budget old
+
+-- it stays at the end of the capture
+pub record AtEnd (old new : Reading) : Type 0 where
+  pub going : (old.stopped ≡ None) × (new.stopped ≡ None)
+  pub frames : IfSome (ahead old) (λ a. (a ≡ nothing_more new.skipped None) × (new.left ≡ Some []))
+  pub untold : ahead old ≡ None → ahead new ≡ None
+  pub format : new.format ≡ old.format
+
+-- why a reader that hadn't stopped stops
+abbrev pub Stops : Reading → Reading → Fault → Type 0
+Stops old new e =
+    ((e ≡ fault_at 901 places.None) × ((new.failed ≡ true) ⊎ (new.calls ≡ 2 ^ 32)))
+    ⊎ (((e ≡ fault_at 703 (places.Octet new.place)) ⊎ (e ≡ fault_at 704 (places.Octet new.place))) × IfSome (ahead old) (λ a. a ≡ nothing_more new.skipped (Some e)))
+
+-- it answers a fault, the same one from then on
+pub record Refuses (old new : Reading) (e : Fault) : Type 0 where
+  pub from_now_on : new.stopped ≡ Some e
+  pub same : IsSome old.stopped → new ≡ old
+  pub again : IfSome old.stopped (λ f. e ≡ f)
+  pub first : old.stopped ≡ None → Stops old new e
+
+-- what going on to the next frame does
+abbrev pub Advances : Reading → Reading → Result Bool Fault → Type 0
+Advances old new (Ok true) = AtFrame old new
+Advances old new (Ok false) = AtEnd old new
+Advances old new (Err e) = Refuses old new e
+
+-- what a reader in this state may answer: it lends the first frame ahead, and none where none is
+abbrev pub NextFrameIs : Reading → Result (Option Frame) Fault → Type 0
+NextFrameIs old (Ok (Some frame)) = IfSome (ahead old) (λ a. (s : Skipped) × (rest : List (Seen × Skipped)) × (a.frames ≡ (record { fields = frame.fields; octets = frame.octets; second = frame.second }, s) ∷ rest))
+NextFrameIs old (Ok None) = IfSome (ahead old) (λ a. (a.frames ≡ []) × (a.fault ≡ None))
+NextFrameIs old (Err e) = IfSome old.stopped (λ f. e ≡ f)
+
+-- a reader of a source that has these octets left, behind the file header
+pub record IsOpened (left : Option (List ℕ)) (new : Reading) : Type 0 where
+  pub format : IfSome left (λ octets. (format_of octets ≡ Ok new.format) × (new.left ≡ Some (drop 24 octets)))
+  pub untold : left ≡ None → new.left ≡ None
+  pub place : new.place ≡ 24
+  pub skipped : new.skipped ≡ record { other = 0; malformed = 0 }
+  pub going : new.stopped ≡ None
+
+-- why a capture isn't opened
+abbrev pub IsRefused : Option (List ℕ) → Fault → Type 0
+IsRefused left e =
+    (e ≡ fault_at 900 places.None)
+    ⊎ ((e ≡ fault_at 901 places.None)
+    ⊎ (((e ≡ fault_at 701 (places.Octet 0)) ⊎ (e ≡ fault_at 702 places.None)) × IfSome left (λ octets. format_of octets ≡ Err e)))

@@ -1,0 +1,68 @@
+-- A reader of a capture by what it keeps.
+use Rattle.std.specs.Prelude.{◌≡◌, ℕ, ◌-◌, ◌<◌, Bool, true, false, length, drop, min, Option, None, slice_range, Result, Ok, Err}
+use Rattle.std.specs.Option.{option_map}
+use Rattle.std.specs.Io.KnownBytes.{prepend_known}
+use Rattle.fx_base.specs.declared.fault.Fault.{Fault}
+use Rattle.fx_base.specs.declared.fault.Place.TheVariants as places
+use Rattle.fx_base.specs.Fault.{fault_at}
+use Rattle.fx_pcap.specs.declared.header.Format.{Format}
+use Rattle.fx_pcap.specs.declared.skipped.Skipped.{Skipped}
+use Rattle.fx_pcap.specs.declared.stop.Stop.{Stop}
+use Rattle.fx_pcap.specs.declared.stop.Stop.TheVariants.{Device, Cut, TooLong}
+use Rattle.fx_pcap.specs.declared.capture.Taken.{Taken}
+use Rattle.fx_pcap.specs.declared.capture.Taken.TheVariants as taken
+use Rattle.fx_pcap.specs.Captures.{Seen, Reading, ahead, budget, Stops, AtFrame, AtEnd}
+use Rattle.fx_pcap.specs.Window.{Held}
+
+pub record Kept : Type 0 where
+  pub format : Format
+  pub place : ℕ
+  pub taken : ℕ
+  pub skipped : Skipped
+  pub seen : Seen
+  pub stopped : Option Stop
+
+abbrev pub fault_of : ℕ → Stop → Fault
+fault_of place Device = fault_at 901 places.None
+fault_of place Cut = fault_at 703 (places.Octet place)
+fault_of place TooLong = fault_at 704 (places.Octet place)
+
+abbrev pub reading_of : Held → Kept → Reading
+reading_of w k =
+    record {
+      left = prepend_known (drop k.taken w.held) w.left;
+      format = k.format;
+      place = k.place;
+      skipped = k.skipped;
+      seen = k.seen;
+      captured = slice_range w.held (min 16 k.taken) k.taken;
+      stopped = option_map (fault_of k.place) k.stopped;
+      failed = w.failed;
+      calls = w.calls;
+      held = length w.held - k.taken;
+    }
+
+-- a record was taken, and its frame passed over
+pub record Passes (old new : Reading) : Type 0 where
+  pub going : new.stopped ≡ None
+  pub frames : ahead old ≡ ahead new
+  pub format : new.format ≡ old.format
+  pub smaller : budget new < budget old
+
+-- it can't go on
+pub record Halts (old new : Reading) (e : Fault) : Type 0 where
+  pub going : new.stopped ≡ None
+  pub why : Stops old new e
+
+-- what taking the next record does
+abbrev pub Takes : Reading → Reading → Result Taken Stop → Type 0
+Takes old new (Ok taken.Frame) = AtFrame old new
+Takes old new (Ok taken.Skipped) = Passes old new
+Takes old new (Ok taken.End) = AtEnd old new
+Takes old new (Err stop) = Halts old new (fault_of new.place stop)
+
+-- what going on to the next frame does, but for the fault that is kept
+abbrev pub GoesOn : Reading → Reading → Result Bool Stop → Type 0
+GoesOn old new (Ok true) = AtFrame old new
+GoesOn old new (Ok false) = AtEnd old new
+GoesOn old new (Err stop) = Halts old new (fault_of new.place stop)

@@ -1,0 +1,93 @@
+-- The file header and the records of a capture (the classic pcap format, version 2.4).
+use Rattle.std.specs.Prelude.{ℕ, zero, suc, ◌+◌, ◌-◌, ◌^◌, Bool, ◌==◌, ◌||◌, ◌&&◌, nat_lt, min, if◌then◌else◌, List, [], ◌∷◌, length, take, drop, Option, Some, None, Result, Ok, Err}
+use Rattle.fx_base.specs.declared.fault.Fault.{Fault}
+use Rattle.fx_base.specs.declared.fault.Place.TheVariants as places
+use Rattle.fx_base.specs.Fault.{fault_at}
+use Rattle.fx_pcap.specs.declared.order.Order.{Order}
+use Rattle.fx_pcap.specs.declared.order.Order.TheVariants.{Big, Little}
+use Rattle.fx_pcap.specs.declared.content.Content.{Content}
+use Rattle.fx_pcap.specs.declared.content.Link.{Link}
+use Rattle.fx_pcap.specs.declared.content.Link.TheVariants.{Ethernet, Ip}
+use Rattle.fx_pcap.specs.declared.header.Format.{Format}
+use Rattle.fx_pcap.specs.Numbers.{number_in}
+use Rattle.fx_pcap.specs.Frames.{content_of}
+
+-- ---- the file header: 24 octets
+
+-- of captures with microseconds and with nanoseconds
+abbrev pub is_magic : ℕ → Bool
+is_magic n = n == 0xa1b2c3d4 || n == 0xa1b23c4d
+
+abbrev pub order_of : List ℕ → Option Order
+order_of octets = if is_magic (number_in Big 4 0 octets) then Some Big else (if is_magic (number_in Little 4 0 octets) then Some Little else None)
+
+abbrev pub link_of : ℕ → Option Link
+link_of n = if n == 1 then Some Ethernet else (if n == 101 then Some Ip else None)
+
+abbrev pub no_capture : Result Format Fault
+no_capture = Err (fault_at 701 (places.Octet 0))
+
+abbrev pub of_link : Order → Option Link → Result Format Fault
+of_link order None = Err (fault_at 702 places.None)
+of_link order (Some link) = Ok (record { order = order; link = link })
+
+abbrev pub of_order : Option Order → List ℕ → Result Format Fault
+of_order None octets = no_capture
+of_order (Some order) octets =
+    if number_in order 2 4 octets == 2 && number_in order 2 6 octets == 4
+    then of_link order (link_of (number_in order 4 20 octets))
+    else no_capture
+
+-- magic, version, and behind zone, accuracy and snap length the link type
+abbrev pub format_of : List ℕ → Result Format Fault
+format_of octets = if nat_lt (length octets) 24 then no_capture else of_order (order_of octets) octets
+
+-- ---- records: a header of 16 octets, and the captured octets
+
+-- seconds, fraction, captured length, original length
+abbrev pub second_of : Order → List ℕ → ℕ
+second_of order octets = number_in order 4 0 octets
+
+abbrev pub captured_length : Order → List ℕ → ℕ
+captured_length order octets = number_in order 4 8 octets
+
+-- what is wrong with the first record of some octets
+abbrev pub record_fault : Order → List ℕ → Option ℕ
+record_fault order octets =
+    if nat_lt (length octets) 16 then Some 703
+    else (if nat_lt 262144 (captured_length order octets) then Some 704
+    else (if nat_lt (length octets) (16 + captured_length order octets) then Some 703 else None))
+
+-- what a record holds, and when it was captured
+pub record Item : Type 0 where
+  pub content : Content
+  pub second : ℕ
+
+abbrev pub item_of : Format → List ℕ → Item
+item_of format octets = record {
+  content = content_of format.link (take (captured_length format.order octets) (drop 16 octets));
+  second = second_of format.order octets;
+}
+
+-- records, and the fault at which they end
+pub record Records : Type 0 where
+  pub items : List Item
+  pub fault : Option Fault
+
+-- an octet's number stops at 2 to the 64 less 1
+abbrev pub place_after : ℕ → ℕ → ℕ
+place_after place n = min (place + n) (2 ^ 64 - 1)
+
+abbrev pub with_item : Option ℕ → ℕ → Item → Records → Records
+with_item (Some number) place item rest = record { items = []; fault = Some (fault_at number (places.Octet place)) }
+with_item None place item rest = record { items = item ∷ rest.items; fault = rest.fault }
+
+-- the records of octets from this place on, of which the first few belong to a record that was read already
+abbrev pub records_behind : Format → ℕ → ℕ → List ℕ → Records
+records_behind format place n [] = record { items = []; fault = None }
+records_behind format place (suc n) (o ∷ octets) = records_behind format (place_after place 1) n octets
+records_behind format place zero (o ∷ octets) =
+    with_item (record_fault format.order (o ∷ octets)) place (item_of format (o ∷ octets)) (records_behind format (place_after place 1) (15 + captured_length format.order (o ∷ octets)) octets)
+
+abbrev pub records_of : Format → ℕ → List ℕ → Records
+records_of format place octets = records_behind format place 0 octets

@@ -1,0 +1,196 @@
+//! The frames of a capture, one at a time.
+ghost use Rattle.std.specs.Prelude.{◌≡◌, None, IfOk, IfErr};
+ghost use Rattle.fx_pcap.specs.Kept.{fault_of};
+
+use crate::content::{Content, read_content};
+use crate::frame::Frame;
+use crate::header::{FILE_HEADER, Format, read_format};
+use crate::record::{RECORD_HEADER, find_record};
+use crate::skipped::Skipped;
+use crate::stop::Stop;
+use crate::window::Window;
+use fx_base::{Fault, Source};
+use fx_boxes::Fields;
+use fx_elements::AXES;
+use std::alloc::Global;
+use std::marker::Model;
+
+/// What a record was.
+#[derive(Clone, Copy, Debug, PartialEq, Eq)]
+pub(crate) enum Taken {
+    Frame,
+    Skipped,
+    End,
+}
+
+/// What a reader at that place answers once it has stopped.
+fn fault_of_stop(place: u64, stop: Stop) -> Fault
+    ensures { result ≡ fault_of place stop }
+{
+    match stop {
+        Stop::Device => Fault::bare(901),
+        Stop::Cut => Fault::at_octet(703, place),
+        Stop::TooLong => Fault::at_octet(704, place),
+    }
+}
+
+/// Lends the frames of a capture one at a time.
+///
+/// A capture is of version 2.4, with microseconds or nanoseconds, its header numbers in either order.
+/// Its link type is Ethernet (1), with any number of tags, or raw IP (101). Frames that aren't IPv4,
+/// and those that are malformed, are passed over and counted. After a fault the reader answers that
+/// fault from then on. It takes memory only when it is made.
+#[derive(Drop)]
+pub struct Capture<R: Source> {
+    window: Window<R>,
+    format: Format,
+    place: u64,
+    taken: usize,
+    skipped: Skipped,
+    fields: Fields,
+    octets: u32,
+    second: u32,
+    stopped: Option<Stop>,
+}
+
+impl<R: Source> Model for Capture<R> {
+    ghost use Rattle.std.specs.Prelude.{◌≤◌, length};
+    ghost use Rattle.fx_pcap.specs.Captures.{Reading};
+    ghost use Rattle.fx_pcap.specs.Kept.{reading_of};
+
+    ghost Value = { Reading };
+
+    ghost view = { λ c. reading_of c.window (record { format = c.format; place = c.place; taken = c.taken; skipped = c.skipped; seen = record { fields = c.fields; octets = c.octets; second = c.second }; stopped = c.stopped }) };
+
+    ghost invariant = { λ c. c.taken ≤ length c.window.held };
+}
+
+impl<R: Source> Capture<R> {
+    ghost use Rattle.fx_pcap.specs.Captures.{Advances, NextFrameIs, IsOpened, IsRefused};
+    ghost use Rattle.fx_pcap.specs.Kept.{Takes, GoesOn};
+
+    /// A reader of the capture that a source has.
+    ///
+    /// Fails with 900 for want of memory, with 901 where a read fails, with 701 at octet 0 where the
+    /// file header is cut or has another magic or version, and with 702 for another link type; 900,
+    /// 901 and 702 at no place.
+    pub fn new(alloc: Global, source: R) -> Result<Capture<R>, Fault>
+        ensures ok { IfOk result (IsOpened (R.left source)) }
+        ensures err { IfErr result (IsRefused (R.left source)) }
+    {
+        let mut window = Window::new(alloc, source)?;
+        let Ok(()) = window.fill(FILE_HEADER) else {
+            return Err(Fault::bare(901));
+        };
+        let format = read_format(window.octets())?;
+        Ok(Capture {
+            window,
+            format,
+            place: FILE_HEADER as u64,
+            taken: FILE_HEADER,
+            skipped: Skipped {
+                other: 0,
+                malformed: 0,
+            },
+            fields: Fields::of([0; AXES]),
+            octets: 0,
+            second: 0,
+            stopped: None,
+        })
+    }
+
+    /// Takes the next record.
+    fn take_record(&mut self) -> Result<Taken, Stop>
+        requires { self.old.stopped ≡ None }
+        ensures { Takes self.old self.new result }
+    {
+        self.window.pass(self.taken);
+        self.taken = 0;
+        let Some(size) = find_record(&mut self.window, self.format.order)? else {
+            return Ok(Taken::End);
+        };
+        let octets = self.window.octets();
+        let content = read_content(self.format.link, &octets[RECORD_HEADER..size]);
+        self.second = self.format.order.read32(octets, 0);
+        self.taken = size;
+        self.place = self.place.saturating_add(size as u64);
+        match content {
+            Content::Packet(fields, octets) => {
+                self.fields = fields;
+                self.octets = octets;
+                return Ok(Taken::Frame);
+            }
+            Content::Other => self.skipped.other = self.skipped.other.wrapping_add(1),
+            Content::Malformed => self.skipped.malformed = self.skipped.malformed.wrapping_add(1),
+        }
+        Ok(Taken::Skipped)
+    }
+
+    /// Takes records up to the next frame, and answers whether there is one.
+    fn find_frame(&mut self) -> Result<bool, Stop>
+        requires { self.old.stopped ≡ None }
+        ensures { GoesOn self.old self.new result }
+    {
+        'records: loop {
+            match self.take_record()? {
+                Taken::Frame => return Ok(true),
+                Taken::End => return Ok(false),
+                Taken::Skipped => {}
+            }
+        }
+    }
+
+    /// Goes on to the next frame, and answers whether there is one.
+    ///
+    /// Fails with 901, at no place, where a read fails or the source hasn't ended after 4,294,967,296
+    /// calls, with 703 where the capture ends inside a record and with 704 where a record has more
+    /// than 262,144 captured octets, both at the record's first octet.
+    pub fn advance(&mut self) -> Result<bool, Fault>
+        ensures { Advances self.old self.new result }
+    {
+        if let Some(stop) = self.stopped {
+            return Err(fault_of_stop(self.place, stop));
+        }
+        match self.find_frame() {
+            Ok(there) => Ok(there),
+            Err(stop) => {
+                self.stopped = Some(stop);
+                Err(fault_of_stop(self.place, stop))
+            }
+        }
+    }
+
+    /// The frame that it is at, after [`advance`](Capture::advance) answered that there is one.
+    pub fn frame(&self) -> Frame<'_>
+        ensures captured { result.captured.now ≡ self.now.captured }
+        ensures fields { result.fields ≡ self.now.seen.fields }
+        ensures octets { result.octets ≡ self.now.seen.octets }
+        ensures second { result.second ≡ self.now.seen.second }
+    {
+        Frame {
+            captured: &self.window.octets()[RECORD_HEADER.min(self.taken)..self.taken],
+            fields: self.fields,
+            octets: self.octets,
+            second: self.second,
+        }
+    }
+
+    /// How many frames were passed over so far.
+    pub fn skipped(&self) -> Skipped
+        ensures { result ≡ self.now.skipped }
+    {
+        self.skipped
+    }
+
+    /// The next frame, or none at the capture's end.
+    ///
+    /// Fails as [`advance`](Capture::advance), whose contract also says what it leaves.
+    pub fn next_packet(&mut self) -> Result<Option<Frame<'_>>, Fault>
+        ensures { NextFrameIs self.old result }
+    {
+        if !self.advance()? {
+            return Ok(None);
+        }
+        Ok(Some(self.frame()))
+    }
+}

@@ -1,0 +1,43 @@
+//! What the captured octets of a frame hold.
+ghost use Rattle.std.specs.Prelude.{◌≡◌};
+ghost use Rattle.fx_pcap.specs.Frames.{content_of};
+
+use crate::ethernet::read_ethernet;
+use crate::ipv4::read_ipv4;
+use fx_boxes::Fields;
+
+/// What a capture's octets begin with, by its link type.
+#[derive(Clone, Copy, Debug, PartialEq, Eq)]
+pub(crate) enum Link {
+    Ethernet,
+    Ip,
+}
+
+/// What a frame holds.
+#[derive(Clone, Copy, Debug, PartialEq, Eq)]
+pub(crate) enum Content {
+    /// A packet: its value on each axis, and how many octets it has.
+    Packet(Fields, u32),
+    Other,
+    Malformed,
+}
+
+/// What the captured octets of a frame hold. Version 6 is other for now: its packets would be read
+/// here and behind its EtherType.
+pub(crate) fn read_content(link: Link, octets: &[u8]) -> Content
+    ensures { result ≡ content_of link octets.now }
+{
+    match link {
+        Link::Ethernet => read_ethernet(octets),
+        Link::Ip => match octets {
+            [] => Content::Malformed,
+            [first, ..] => {
+                if *first / 16 == 4 {
+                    read_ipv4(octets)
+                } else {
+                    Content::Other
+                }
+            }
+        },
+    }
+}

@@ -1,0 +1,71 @@
+//! The file header of a capture.
+ghost use Rattle.std.specs.Prelude.{◌≡◌, ◌+◌, ◌≤◌, length};
+ghost use Rattle.fx_pcap.specs.Records as records;
+
+use crate::content::Link;
+use crate::order::Order;
+use fx_base::Fault;
+
+/// The number of octets of the file header.
+pub(crate) const FILE_HEADER: usize = 24;
+
+/// How a capture is written.
+#[derive(Clone, Copy, Debug, PartialEq, Eq)]
+pub(crate) struct Format {
+    pub(crate) order: Order,
+    pub(crate) link: Link,
+}
+
+/// Whether the number begins a capture, with microseconds or with nanoseconds.
+fn is_magic(number: u32) -> bool
+    ensures { result ≡ records.is_magic number }
+{
+    number == 0xa1b2_c3d4 || number == 0xa1b2_3c4d
+}
+
+/// The order of the numbers of a capture.
+fn order_of(octets: &[u8]) -> Option<Order>
+    requires { 24 ≤ length octets.now }
+    ensures { result ≡ records.order_of octets.now }
+{
+    if is_magic(Order::Big.read32(octets, 0)) {
+        return Some(Order::Big);
+    }
+    if is_magic(Order::Little.read32(octets, 0)) {
+        return Some(Order::Little);
+    }
+    None
+}
+
+/// The link type of that number, if it is one that is read.
+fn link_of(number: u32) -> Option<Link>
+    ensures { result ≡ records.link_of number }
+{
+    match number {
+        1 => Some(Link::Ethernet),
+        101 => Some(Link::Ip),
+        _ => None,
+    }
+}
+
+/// How the capture is written whose octets begin so.
+///
+/// Fails with 701 at octet 0 where the header is cut, or has another magic or version, and with 702,
+/// at no place, for another link type.
+pub(crate) fn read_format(octets: &[u8]) -> Result<Format, Fault>
+    ensures { result ≡ records.format_of octets.now }
+{
+    if octets.len() < FILE_HEADER {
+        return Err(Fault::at_octet(701, 0));
+    }
+    let Some(order) = order_of(octets) else {
+        return Err(Fault::at_octet(701, 0));
+    };
+    if order.read16(octets, 4) != 2 || order.read16(octets, 6) != 4 {
+        return Err(Fault::at_octet(701, 0));
+    }
+    match link_of(order.read32(octets, 20)) {
+        Some(link) => Ok(Format { order, link }),
+        None => Err(Fault::bare(702)),
+    }
+}

@@ -1,0 +1,21 @@
+//! Captures: the classic pcap format, read into frames that lend the reader's buffer.
+#![tactic(auto)]
+
+mod capture;
+mod content;
+mod ethernet;
+mod frame;
+mod header;
+mod ipv4;
+mod order;
+mod record;
+mod skipped;
+mod stop;
+mod window;
+
+pub use capture::Capture;
+pub use frame::Frame;
+pub use skipped::Skipped;
+
+#[cfg(test)]
+mod tests;

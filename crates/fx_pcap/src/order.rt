@@ -1,0 +1,52 @@
+//! Numbers in octets, in either order.
+ghost use Rattle.std.specs.Prelude.{◌≡◌, ◌+◌, ◌≤◌, length};
+ghost use Rattle.fx_pcap.specs.Numbers.{number_in, network};
+
+use byteorder::{BigEndian, ByteOrder, LittleEndian};
+
+/// Which octet of a number comes first: the most significant or the least.
+#[derive(Clone, Copy, Debug, PartialEq, Eq)]
+pub(crate) enum Order {
+    Big,
+    Little,
+}
+
+impl Order {
+    /// The number in two octets from a place on.
+    pub(crate) fn read16(self, octets: &[u8], at: usize) -> u16
+        requires { at + 2 ≤ length octets.now }
+        ensures { result ≡ number_in self 2 at octets.now }
+    {
+        match self {
+            Order::Big => BigEndian::read_u16(&octets[at..]),
+            Order::Little => LittleEndian::read_u16(&octets[at..]),
+        }
+    }
+
+    /// The number in four octets from a place on.
+    pub(crate) fn read32(self, octets: &[u8], at: usize) -> u32
+        requires { at + 4 ≤ length octets.now }
+        ensures { result ≡ number_in self 4 at octets.now }
+    {
+        match self {
+            Order::Big => BigEndian::read_u32(&octets[at..]),
+            Order::Little => LittleEndian::read_u32(&octets[at..]),
+        }
+    }
+}
+
+/// The number in two octets from a place on, in network order.
+pub(crate) fn network16(octets: &[u8], at: usize) -> u16
+    requires { at + 2 ≤ length octets.now }
+    ensures { result ≡ network 2 at octets.now }
+{
+    Order::Big.read16(octets, at)
+}
+
+/// The number in four octets from a place on, in network order.
+pub(crate) fn network32(octets: &[u8], at: usize) -> u32
+    requires { at + 4 ≤ length octets.now }
+    ensures { result ≡ network 4 at octets.now }
+{
+    Order::Big.read32(octets, at)
+}

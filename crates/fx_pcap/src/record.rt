@@ -1,0 +1,44 @@
+//! Records of a capture: a header of 16 octets, and the captured octets.
+ghost use Rattle.std.specs.Prelude.{◌≡◌, ◌+◌, ◌-◌, ◌*◌, ◌^◌, ◌≤◌, ◌<◌, length, MatchOption, None, OnOk, IfOk, IfErr, IfSome};
+ghost use Rattle.fx_pcap.specs.Window.{octets_of, HasEnded, HasRecord, IsStop};
+
+use crate::order::Order;
+use crate::stop::Stop;
+use crate::window::Window;
+use fx_base::Source;
+
+/// The number of octets of a record's header.
+pub(crate) const RECORD_HEADER: usize = 16;
+
+/// The greatest number of captured octets of a record.
+const LONGEST: u32 = 262_144;
+
+/// Has the next record held, whole, and answers its number of octets; none at the end.
+pub(crate) fn find_record<R: Source>(
+    window: &mut Window<R>,
+    order: Order,
+) -> Result<Option<usize>, Stop>
+    ensures octets { OnOk result (octets_of window.new ≡ octets_of window.old) }
+    ensures found { IfOk result (λ size. MatchOption size (HasEnded window.new) (λ n. HasRecord order n window.new.held)) }
+    ensures smaller { IfOk result (λ size. IfSome size (λ n. (2 ^ 32 - window.new.calls) * 524289 + (length window.new.held - n) < (2 ^ 32 - window.old.calls) * 524289 + length window.old.held)) }
+    ensures stop { IfErr result (λ stop. IsStop order stop window.new (octets_of window.old)) }
+{
+    window.fill(RECORD_HEADER)?;
+    let octets = window.octets();
+    if octets.is_empty() {
+        return Ok(None);
+    }
+    if octets.len() < RECORD_HEADER {
+        return Err(Stop::Cut);
+    }
+    let captured = order.read32(octets, 8);
+    if captured > LONGEST {
+        return Err(Stop::TooLong);
+    }
+    let size = RECORD_HEADER + captured as usize;
+    window.fill(size)?;
+    if window.octets().len() < size {
+        return Err(Stop::Cut);
+    }
+    Ok(Some(size))
+}

@@ -1,0 +1,7 @@
+/// Why a reader stops.
+#[derive(Clone, Copy, Debug, PartialEq, Eq)]
+pub(crate) enum Stop {
+    Device,
+    Cut,
+    TooLong,
+}

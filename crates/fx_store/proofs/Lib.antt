@@ -1,0 +1,3 @@
+pub mod FlowMaps
+pub mod Recency
+pub mod Orders

@@ -1,0 +1,74 @@
+-- The order of keys is total and tells all keys apart.
+use Rattle.std.proofs.Common.{◌≡◌, ℕ, true, List, [], ◌∷◌, refl, ap, ap₂, subst, eq-eqb, ◌==◌}
+use Rattle.std.specs.Bool.{Decides, one_answer}
+use Rattle.std.specs.Ordering.{nat_cmp, is_eq, eq_by_cmp}
+use Rattle.std.specs.Cmp.{IsTotalOrder, IsEquivalence, nat_cmp_total, on_total, then_total, decided, Equal-is, tied_itself}
+use Rattle.std.specs.Cmp.Lexicographic.{slice_cmp, nat_list_cmp_total, lists_total}
+use Rattle.std.specs.FinMap.{IsAntisymmetric, slice_cmp-IsAntisymmetric}
+use Rattle.std.specs.Hash.{HashWrites, slice, u128}
+use Rattle.std.proofs.lemmas.Slice.Eq.{bytes_eq-Decides}
+use Rattle.std.proofs.lemmas.Map.Lookups.{exact_pairs, exact_unsigned, exact_bytes}
+use Rattle.fx_elements.specs.declared.axis.Axis.{Axis}
+use Rattle.fx_elements.specs.Axes.{axis_index}
+use Rattle.fx_layout.specs.declared.layout.Part.{Part}
+use Rattle.fx_layout.specs.Keys.{Layout, Key, same_layout, same_key}
+use Rattle.fx_layout.proofs.Projections.{and_both, axis_is, same_key_is}
+use Rattle.fx_store.specs.Order.{part_cmp, layout_cmp, key_cmp}
+
+-- ---- total
+
+part_cmp_total : IsTotalOrder part_cmp
+part_cmp_total = then_total (on_total (λ (p : Part). axis_index p.axis) nat_cmp_total) (on_total (λ (p : Part). p.bits) nat_cmp_total)
+
+pub key_cmp_total : IsTotalOrder key_cmp
+key_cmp_total = then_total (on_total (λ (k : Key). k.values) nat_list_cmp_total) (on_total (λ (k : Key). k.layout) (lists_total part_cmp_total))
+
+-- ---- only equal keys tie
+
+part_apart : IsAntisymmetric part_cmp
+part_apart p q e =
+    let two : ◌≡◌ {A = ℕ × ℕ} (axis_index p.axis, p.bits) (axis_index q.axis, q.bits) = exact_pairs nat_cmp nat_cmp exact_unsigned exact_unsigned (axis_index p.axis, p.bits) (axis_index q.axis, q.bits) e in
+    let axis : p.axis ≡ q.axis = axis_is p.axis q.axis (eq-eqb _ _ (ap (λ (u : ℕ × ℕ). u.0) two)) in
+    ap₂ (λ (x : Axis) (y : ℕ). record { axis = x; bits = y }) axis (ap (λ (u : ℕ × ℕ). u.1) two)
+
+pub key_cmp_apart : IsAntisymmetric key_cmp
+key_cmp_apart a b e =
+    let two : ◌≡◌ {A = List ℕ × Layout} (a.values, a.layout) (b.values, b.layout) = exact_pairs (slice_cmp nat_cmp) layout_cmp exact_bytes (slice_cmp-IsAntisymmetric part_apart) (a.values, a.layout) (b.values, b.layout) e in
+    ap₂ (λ (x : Layout) (y : List ℕ). record { layout = x; values = y }) (ap (λ (u : List ℕ × Layout). u.1) two) (ap (λ (u : List ℕ × Layout). u.0) two)
+
+-- ---- the test for the same key
+
+same_number : (n : ℕ) → (n == n) ≡ true
+same_number n = eq-eqb n n refl
+
+layout_same : (layout : Layout) → same_layout layout layout ≡ true
+layout_same [] = refl
+layout_same (part ∷ parts) = and_both _ _ (and_both _ _ (same_number (axis_index part.axis)) (same_number part.bits)) (layout_same parts)
+
+pub key_same : (k : Key) → same_key k k ≡ true
+key_same k = and_both _ _ (layout_same k.layout) ((bytes_eq-Decides k.values k.values).1 refl)
+
+pub same_key_decides : (a b : Key) → Decides (same_key a b) (a ≡ b)
+same_key_decides a b = (same_key_is a b, λ e. subst (λ (k : Key). same_key a k ≡ true) e (key_same a))
+
+pub same_key_equiv : IsEquivalence same_key
+same_key_equiv = decided same_key same_key_decides
+
+key_cmp_decides : (a b : Key) → Decides (eq_by_cmp key_cmp a b) (a ≡ b)
+key_cmp_decides a b =
+    (λ e. key_cmp_apart a b ((Equal-is (key_cmp a b)).0 e), λ e. subst (λ (k : Key). eq_by_cmp key_cmp a k ≡ true) e (ap is_eq (tied_itself key_cmp_total a)))
+
+-- keys are the same just where they tie
+pub same_key_ties : (a b : Key) → same_key a b ≡ eq_by_cmp key_cmp a b
+same_key_ties a b =
+    let d = key_cmp_decides a b in
+    let s = same_key_decides a b in
+    one_answer (same_key a b) (eq_by_cmp key_cmp a b) s d
+
+-- what a key feeds a hasher
+abbrev pub hashed : Key → HashWrites
+hashed k = slice u128 k.values
+
+-- what is the same is hashed alike
+pub hashes_alike : (a b : Key) → same_key a b ≡ true → hashed a ≡ hashed b
+hashes_alike a b h = ap hashed (same_key_is a b h)

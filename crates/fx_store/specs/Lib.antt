@@ -1,0 +1,4 @@
+pub mod Order
+pub mod KeyOrder
+pub mod Flows
+pub mod Recent

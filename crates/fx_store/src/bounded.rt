@@ -1,0 +1,134 @@
+//! A store with a bound, which the least recently added-to entry leaves.
+ghost use Rattle.std.specs.Prelude.{◌≡◌, ◌≤◌, ◌<◌, [], None, Some, length, option_map, OnOk, OnErr, IfOk, IfErr, IfSome, IfNone, IsOk, IsSome};
+ghost use Rattle.std.specs.FinMap as map;
+ghost use Rattle.fx_base.specs.Fault.{fault_at};
+ghost use Rattle.fx_base.specs.declared.fault.Place.TheVariants as places;
+ghost use Rattle.fx_store.specs.Flows.{Adds, flows_of, least, without};
+ghost use Rattle.fx_store.specs.Recent.{after_add, counts_at, pushed_out, without_key};
+
+use crate::ordered::Ordered;
+use crate::store::FlowStore;
+use fx_base::{Counts, Fault};
+use fx_layout::Key;
+use lru::LruCache;
+use std::alloc::Global;
+use std::collections::BTreeSet;
+use std::marker::Model;
+use std::num::NonZeroUsize;
+
+/// A store of at most so many entries, seen as the list of its entries, the latest added-to first.
+///
+/// Where it is full and a new key comes, the least recently added-to entry leaves. Keys are found by
+/// a hash with a fixed seed.
+#[derive(Drop)]
+pub struct BoundedStore {
+    recent: LruCache<Ordered, Counts>,
+    order: BTreeSet<Ordered>,
+}
+
+impl Model for BoundedStore {
+    ghost use Rattle.fx_store.specs.Recent.{Recent, IsKept};
+    ghost use Rattle.fx_store.specs.Flows.{flows_of};
+
+    ghost Value = { Recent };
+
+    ghost view = { λ s. record { entries = s.recent.entries; capacity = s.recent.cap } };
+
+    ghost invariant = { λ s. IsKept (flows_of s.recent.entries) s.order.keys };
+}
+
+impl BoundedStore {
+    /// A store of nothing, with room for so many entries.
+    ///
+    /// Fails with 900, at no place, for want of memory.
+    pub fn new(alloc: Global, capacity: usize) -> Result<BoundedStore, Fault>
+        requires { 1 ≤ capacity }
+        ensures ok { IfOk result (λ s. s ≡ record { entries = []; capacity = capacity }) }
+        ensures err { IfErr result (λ e. e ≡ fault_at 900 places.None) }
+    {
+        let capacity = NonZeroUsize::new(capacity).unwrap();
+        Ok(BoundedStore {
+            recent: LruCache::sparse(alloc, capacity)?,
+            order: BTreeSet::new(alloc),
+        })
+    }
+
+    /// Adds the counts at a key that isn't there.
+    fn add_new(&mut self, key: Ordered, counts: Counts) -> Result<Option<(Key, Counts)>, Fault>
+        requires { counts_at self.old.entries key ≡ None }
+        ensures recent { OnOk result (self.new ≡ after_add self.old key counts) }
+        ensures leaves { IfOk result (λ left. left ≡ pushed_out self.old key counts) }
+        ensures err { IfErr result (λ e. (e ≡ fault_at 900 places.None) × (self.new ≡ self.old)) }
+    {
+        // Here and below: what `len` ensures, that keys are distinct and fit, the other calls don't.
+        let _held = self.recent.len();
+        self.order.insert(key.copy())?;
+        match self.recent.push(key, counts) {
+            Ok(None) => Ok(None),
+            Ok(Some((oldest, counts))) => {
+                self.order.remove(&oldest);
+                Ok(Some((oldest.into_key(), counts)))
+            }
+            Err(refused) => {
+                self.order.remove(&refused.value.0);
+                Err(Fault::from(refused))
+            }
+        }
+    }
+}
+
+impl FlowStore for BoundedStore {
+    ghost flows = { λ s. flows_of s.entries };
+
+    /// Adds the counts at the key. Where the store is full and the key is new, the least recently
+    /// added-to entry leaves.
+    fn add(&mut self, key: Key, counts: Counts) -> Result<Option<(Key, Counts)>, Fault>
+        ensures ok { IfOk result (λ left. Adds (flows_of self.old.entries) (flows_of self.new.entries) key counts left) }
+        ensures err { IfErr result (λ e. (e ≡ fault_at 900 places.None) × (flows_of self.new.entries ≡ flows_of self.old.entries)) }
+        ensures held { IsSome (map.get (flows_of self.old.entries) key) → IsOk result }
+        ensures recent { OnOk result (self.new ≡ after_add self.old key counts) }
+        ensures leaves { IfOk result (λ left. left ≡ pushed_out self.old key counts) }
+        ensures unchanged { OnErr result (self.new ≡ self.old) }
+    {
+        let key = Ordered::new(key);
+        let _held = self.recent.len();
+        match self.recent.peek(&key).copied() {
+            Some(before) => {
+                self.recent.put(key, before.add(&counts))?;
+                Ok(None)
+            }
+            None => self.add_new(key, counts),
+        }
+    }
+
+    fn take(&mut self, key: &Key) -> Option<Counts>
+        ensures value { result ≡ map.get (flows_of self.old.entries) key.now }
+        ensures rest { flows_of self.new.entries ≡ map.remove (flows_of self.old.entries) key.now }
+        ensures recent { self.new ≡ record self.old { entries = without_key self.old.entries key.now } }
+    {
+        let key = Ordered::new(key.copy());
+        let _held = self.recent.len();
+        self.order.remove(&key);
+        self.recent.pop(&key)
+    }
+
+    fn take_least(&mut self) -> Option<(Key, Counts)>
+        ensures value { result ≡ least (flows_of self.old.entries) }
+        ensures rest { flows_of self.new.entries ≡ without (flows_of self.old.entries) result }
+        ensures recent { IfSome result (λ e. self.new ≡ record self.old { entries = without_key self.old.entries e.0 }) }
+        ensures none { IfNone result (self.new ≡ self.old) }
+    {
+        let _held = self.recent.len();
+        let key = self.order.pop_first()?;
+        let (key, counts) = self.recent.pop_entry(&key)?;
+        Some((key.into_key(), counts))
+    }
+
+    fn len(&self) -> usize
+        ensures len { result ≡ map.len (flows_of self.now.entries) }
+        ensures listed { result ≡ length self.now.entries }
+        ensures room { result ≤ self.now.capacity }
+    {
+        self.recent.len()
+    }
+}

@@ -1,0 +1,43 @@
+//! What a store of flows does.
+ghost use Rattle.std.specs.Prelude.{◌≡◌, IfOk, IfErr, IsOk, IsSome};
+ghost use Rattle.std.specs.FinMap as map;
+ghost use Rattle.fx_base.specs.Fault.{fault_at};
+ghost use Rattle.fx_base.specs.declared.fault.Place.TheVariants as places;
+ghost use Rattle.fx_store.specs.Flows.{Flows, Adds, least, without};
+
+use fx_base::{Counts, Fault};
+use fx_layout::Key;
+
+/// A finite map from flow keys to counts.
+///
+/// Keys are the same where their layouts and their values are. They ascend by the first value that
+/// differs, in axis order; keys of equal values by their layouts, so among keys of one layout the
+/// values decide.
+pub trait FlowStore: Drop {
+    /// What it holds.
+    ghost flows: { Self → Flows };
+
+    /// Adds the counts at the key, each modulo 2 to the 64, and answers the entry that left to make
+    /// room for a new key, if one did.
+    ///
+    /// Fails with 900, at no place, for want of memory, only where the key is new; what it holds is
+    /// as before then.
+    fn add(&mut self, key: Key, counts: Counts) -> Result<Option<(Key, Counts)>, Fault>
+        ensures ok { IfOk result (λ left. Adds (flows self.old) (flows self.new) key counts left) }
+        ensures err { IfErr result (λ e. (e ≡ fault_at 900 places.None) × (flows self.new ≡ flows self.old)) }
+        ensures held { IsSome (map.get (flows self.old) key) → IsOk result };
+
+    /// Takes the key's entry out, and answers its counts, if it is there.
+    fn take(&mut self, key: &Key) -> Option<Counts>
+        ensures value { result ≡ map.get (flows self.old) key.now }
+        ensures rest { flows self.new ≡ map.remove (flows self.old) key.now };
+
+    /// Takes the entry of the least key out, if there is one.
+    fn take_least(&mut self) -> Option<(Key, Counts)>
+        ensures value { result ≡ least (flows self.old) }
+        ensures rest { flows self.new ≡ without (flows self.old) result };
+
+    /// How many keys it holds.
+    fn len(&self) -> usize
+        ensures { result ≡ map.len (flows self.now) };
+}
