@@ -1,0 +1,45 @@
+-- The text of a line of a certificate, without its line feed.
+use Rattle.std.specs.Prelude.{◌≡◌, ℕ, ◌≤◌, List, [], ◌∷◌, codes, decimal, slice_index}
+use Rattle.std.specs.List.{join_with_byte}
+use Rattle.fx_elements.specs.declared.axis.Axis.{Axis}
+use Rattle.fx_elements.specs.declared.axis.Axis.TheVariants.{Source, Destination, Protocol, SourcePort, DestinationPort, ClassOfService}
+use Rattle.fx_elements.specs.Axes.{axis_index, tops}
+use Rattle.fx_cert.specs.declared.item.Item.{Item}
+use Rattle.fx_cert.specs.declared.item.Item.TheVariants.{Header, Class, Split, Leaf, End}
+
+-- the word of an axis
+abbrev pub axis_word : Axis → List ℕ
+axis_word Source = codes "source"
+axis_word Destination = codes "destination"
+axis_word Protocol = codes "protocol"
+axis_word SourcePort = codes "sport"
+axis_word DestinationPort = codes "dport"
+axis_word ClassOfService = codes "tos"
+
+-- the words of an item; numbers are decimal, without leading zeros
+abbrev pub item_words : Item → List (List ℕ)
+item_words Header = codes "once-certificate" ∷ codes "1" ∷ []
+item_words (Class class path) = codes "class" ∷ decimal class ∷ codes "path" ∷ decimal path ∷ []
+item_words (Split axis at) = codes "S" ∷ axis_word axis ∷ decimal at ∷ []
+item_words (Leaf crossing point process) = codes "L" ∷ decimal crossing ∷ decimal point ∷ decimal process ∷ []
+item_words End = codes "end" ∷ []
+
+-- one space stands between two words
+abbrev pub item_text : Item → List ℕ
+item_text item = join_with_byte 32 (item_words item)
+
+-- below 2 to the 64
+abbrev pub largest : ℕ
+largest = 18446744073709551615
+
+-- numbers are below 2 to the 64, a split's value is on its axis
+abbrev pub IsItem : Item → Type 0
+IsItem Header = Unit {0}
+IsItem (Class class path) = (class ≤ largest) × (path ≤ largest)
+IsItem (Split axis at) = at ≤ slice_index tops (axis_index axis)
+IsItem (Leaf crossing point process) = (crossing ≤ largest) × (point ≤ largest) × (process ≤ largest)
+IsItem End = Unit {0}
+
+-- the text of this item, whose numbers are within their bounds
+abbrev pub IsText : List ℕ → Item → Type 0
+IsText text item = IsItem item × (text ≡ item_text item)

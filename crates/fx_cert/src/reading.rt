@@ -1,0 +1,130 @@
+//! Reading a line of a certificate.
+ghost use Rattle.std.specs.Prelude.{◌≡◌, IfOk, IfErr};
+ghost use Rattle.std.specs.Str.{bytes_eq};
+ghost use Rattle.fx_base.specs.Fault.{fault_at};
+ghost use Rattle.fx_base.specs.declared.fault.Place.TheVariants as places;
+ghost use Rattle.fx_elements.specs.Spelling.{number_of};
+ghost use Rattle.fx_cert.specs.declared.item.Item as of_item;
+ghost use Rattle.fx_cert.specs.ItemText.{IsText, largest};
+ghost use Rattle.fx_cert.specs.ItemReading.{axis_of, class_of, split_of, leaf_of, item_of};
+
+use crate::item::Item;
+use fx_base::{Fault, Line};
+use fx_elements::{Axis, cut, read_number, top};
+
+/// Whether two words are the same.
+fn is_word(word: &[u8], other: &[u8]) -> bool
+    ensures { result ≡ bytes_eq word.now other.now }
+{
+    word == other
+}
+
+/// A number below 2 to the 64.
+fn read_whole(word: &[u8]) -> Option<u64>
+    ensures { result ≡ number_of largest word.now }
+{
+    Some(read_number(word, 0xffff_ffff_ffff_ffff)? as u64)
+}
+
+/// The axis with this word.
+fn read_axis(word: &[u8]) -> Option<Axis>
+    ensures { result ≡ axis_of word.now }
+{
+    if is_word(word, b"source") {
+        Some(Axis::Source)
+    } else if is_word(word, b"destination") {
+        Some(Axis::Destination)
+    } else if is_word(word, b"protocol") {
+        Some(Axis::Protocol)
+    } else if is_word(word, b"sport") {
+        Some(Axis::SourcePort)
+    } else if is_word(word, b"dport") {
+        Some(Axis::DestinationPort)
+    } else if is_word(word, b"tos") {
+        Some(Axis::ClassOfService)
+    } else {
+        None
+    }
+}
+
+/// What stands behind the word of a class.
+#[tactic(auto, unfolding(crate::specs::ItemReading::class_of))]
+fn read_class(text: &[u8]) -> Option<Item>
+    ensures { result ≡ class_of text.now }
+{
+    let (class, rest) = cut(text, b' ')?;
+    let (word, path) = cut(rest, b' ')?;
+    if !is_word(word, b"path") {
+        return None;
+    }
+    let class = read_whole(class)?;
+    let path = read_whole(path)?;
+    Some(Item::Class { class, path })
+}
+
+/// What stands behind the word of a split.
+#[tactic(auto, unfolding(crate::specs::ItemReading::split_of))]
+fn read_split(text: &[u8]) -> Option<Item>
+    ensures { result ≡ split_of text.now }
+{
+    let (word, at) = cut(text, b' ')?;
+    let axis = read_axis(word)?;
+    let at = read_number(at, top(axis))?;
+    Some(Item::Split { axis, at })
+}
+
+/// What stands behind the word of a leaf.
+#[tactic(auto, unfolding(crate::specs::ItemReading::leaf_of))]
+fn read_leaf(text: &[u8]) -> Option<Item>
+    ensures { result ≡ leaf_of text.now }
+{
+    let (crossing, rest) = cut(text, b' ')?;
+    let (point, process) = cut(rest, b' ')?;
+    let crossing = read_whole(crossing)?;
+    let point = read_whole(point)?;
+    let process = read_whole(process)?;
+    Some(Item::Leaf {
+        crossing,
+        point,
+        process,
+    })
+}
+
+/// The item that has this text, if one has.
+#[tactic(auto, unfolding(crate::specs::ItemReading::item_of))]
+fn read_text(text: &[u8]) -> Option<Item>
+    ensures { result ≡ item_of text.now }
+{
+    if is_word(text, b"once-certificate 1") {
+        return Some(Item::Header);
+    }
+    if is_word(text, b"end") {
+        return Some(Item::End);
+    }
+    let (word, rest) = cut(text, b' ')?;
+    if is_word(word, b"class") {
+        read_class(rest)
+    } else if is_word(word, b"S") {
+        read_split(rest)
+    } else if is_word(word, b"L") {
+        read_leaf(rest)
+    } else {
+        None
+    }
+}
+
+/// The item whose text the line's bytes are. Whether a line feed ended the line is left to the caller.
+///
+/// One space stands between two words; numbers are decimal without leading zeros, below 2 to the 64 or, of a
+/// split, within the axis.
+///
+/// Fails with 402, at the line, where the bytes are no item's text.
+pub fn read_item(line: &Line<'_>) -> Result<Item, Fault>
+    ensures ok { IfOk result (λ item. IsText line.now.bytes.now item) }
+    ensures err { IfErr result (λ e. (e ≡ fault_at 402 (places.Line line.now.number)) × ((item : of_item.Item) → IsText line.now.bytes.now item → ⊥)) }
+{
+    match read_text(line.bytes) {
+        Some(item) => Ok(item),
+        None => Err(Fault::at_line(402, line.number)),
+    }
+}

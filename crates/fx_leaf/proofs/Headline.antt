@@ -1,0 +1,101 @@
+-- Each packet is counted once.
+use Rattle.std.proofs.Common.{◌≡◌, ◌≢◌, ℕ, zero, suc, true, List, [], ◌∷◌, All, Option, Some, None, Ok, refl, sym, ap, ap₂, ◌∙◌, subst, arith}
+use Rattle.fx_base.specs.declared.counts.Counts.{Counts}
+use Rattle.fx_boxes.specs.Boxes.{holds}
+use Rattle.fx_layout.specs.Keys.{Key}
+use Rattle.fx_machine.specs.declared.traffic.Crossing.{Crossing}
+use Rattle.fx_machine.specs.declared.packet.Packet.{Packet}
+use Rattle.fx_machine.specs.declared.step.Step.{Step}
+use Rattle.fx_machine.specs.Network.{numbered, entries, Net}
+use Rattle.fx_machine.specs.Classes.{paths_of, path, IsOf, Class}
+use Rattle.fx_machine.specs.States.{State, opening, Complete}
+use Rattle.fx_machine.specs.Steps.{run}
+use Rattle.fx_machine.specs.Sums.{plain_sum, total_at, SumsFit}
+use Rattle.fx_machine.specs.Claim.{CountsEachOnce}
+use Rattle.fx_machine.specs.Ranks.{IsNetwork}
+use Rattle.fx_leaf.specs.declared.verdict.Fate.TheVariants.{Once}
+use Rattle.fx_leaf.specs.Fates.{fate, packet_fate}
+use Rattle.fx_leaf.specs.Certificates.{AllOnce}
+use Rattle.fx_leaf.specs.Quantity.{Weight, Wrong, Nothing, plus, weigh_all, total_weight, unassigned_weight, held_weight, carried_weight, coming_weight, quantity}
+use Rattle.fx_leaf.specs.Laws.{Opens, Kept, Ends, Theorem}
+use Rattle.fx_leaf.proofs.Weights.{plus_nothing}
+use Rattle.fx_leaf.proofs.FateLaws.{Every}
+use Rattle.fx_leaf.proofs.Acts.{IsSized}
+use Rattle.fx_leaf.proofs.Steps.{run_keeps, step_keeps}
+use Rattle.fx_leaf.proofs.Ranks.{is_fate}
+use Rattle.fx_leaf.proofs.Trees.{sound_once}
+use Rattle.fx_leaf.proofs.Opening.{opens, empty_weighs, length_nothing, plain_weighs}
+
+all_once : (net : Net) (classes : List Class) (packets : List Packet) → AllOnce net classes → All (λ p. IsOf p (numbered classes p.class)) packets → Every (λ p. packet_fate net p.fields (path classes p) ≡ Once) packets
+all_once net classes [] sound h = tt
+all_once net classes (p ∷ ps) sound h =
+    (by_class (numbered classes p.class) refl (h 0 p (omega arith)), all_once net classes ps sound (λ k. λ d. λ lt. h (suc k) d (omega arith)))
+  where
+    by_path : (class : Class) (o : Option (List Crossing)) → numbered classes p.class ≡ Some class → numbered class.paths p.path ≡ o → holds class.region p.fields ≡ true → o ≢ None → packet_fate net p.fields (entries o) ≡ Once
+    by_path class None c m r some = absurd (some refl)
+    by_path class (Some crossings) c m r some = sound p.class p.path class crossings p.fields c m r
+
+    by_class : (o : Option Class) → numbered classes p.class ≡ o → IsOf p o → packet_fate net p.fields (entries (numbered (paths_of o) p.path)) ≡ Once
+    by_class None c of = absurd of
+    by_class (Some class) c of = by_path class (numbered class.paths p.path) c refl of.0 of.1
+
+total_not_wrong : (o : Option Counts) → total_weight o ≢ Wrong
+total_not_wrong None e = absurd (cc)
+total_not_wrong (Some c) e = absurd (cc)
+
+same_total : (a b : Option Counts) → total_weight a ≡ total_weight b → a ≡ b
+same_total None None h = refl
+same_total None (Some b) h = absurd (cc)
+same_total (Some a) None h = absurd (cc)
+same_total (Some a) (Some b) h = cc
+
+none_unassigned : (n : ℕ) (w : Weight) → plus (unassigned_weight n) w ≢ Wrong → n ≡ 0
+none_unassigned zero w h = refl
+none_unassigned (suc n) w h = absurd (h refl)
+
+pub opens_law : (net : Net) (classes : List Class) → IsNetwork net → AllOnce net classes → Opens net classes
+opens_law net classes is_net sound packets of fit total =
+    opens net is_net classes packets total (all_once net classes packets sound of) ∙ plain_weighs net.report_layout total packets (fit total)
+
+pub kept_law : (net : Net) (classes : List Class) (step : Step) → IsNetwork net → Kept net classes step
+kept_law net classes step is_net packets total s new sized good h =
+    let keeps = step_keeps (fate net) net (is_fate net is_net.ranked) classes packets total step s new good sized h in
+    (keeps.kept, keeps.sized)
+
+pub sized_law : (net : Net) (classes : List Class) (packets : List Packet) → IsSized net (opening net classes packets)
+sized_law net classes packets = record { held = length_nothing net.holders; carried = length_nothing net.links }
+
+pub ends_law : (net : Net) (classes : List Class) → Ends net classes
+ends_law net classes packets total s complete =
+    let at = fate net in
+    let h = empty_weighs (held_weight at net total) s.held (λ n. refl) complete.nothing_held in
+    let c = empty_weighs (carried_weight at net total) s.carried (λ n. refl) complete.nothing_carried in
+    let k : weigh_all (coming_weight at net classes packets total) s.coming ≡ Nothing = ap (weigh_all (coming_weight at net classes packets total)) complete.crossed in
+    let t = total_weight (total_at s.totals total) in
+    ap (plus (unassigned_weight s.unassigned)) (ap (plus t) (ap₂ plus h (ap₂ plus c k)) ∙ plus_nothing t)
+
+module _ (net : Net) (is_net : IsNetwork net) (classes : List Class) (sound : AllOnce net classes) (packets : List Packet) (of : All (λ p. IsOf p (numbered classes p.class)) packets) (fit : SumsFit net.report_layout packets) (steps : List Step) (final : State) (ran : run net classes packets steps (opening net classes packets) ≡ Ok final) (complete : Complete final) where
+  opening_is : (total : Key) → quantity net classes packets total (opening net classes packets) ≡ total_weight (plain_sum net.report_layout total packets)
+  opening_is = opens_law net classes is_net sound packets of fit
+
+  kept : (total : Key) → plus (unassigned_weight final.unassigned) (total_weight (total_at final.totals total)) ≡ total_weight (plain_sum net.report_layout total packets)
+  kept total =
+      let good : quantity net classes packets total (opening net classes packets) ≢ Wrong = subst (λ q. q ≢ Wrong) (sym (opening_is total)) (total_not_wrong (plain_sum net.report_layout total packets)) in
+      let sized = sized_law net classes packets in
+      sym (ends_law net classes packets total final complete) ∙ (run_keeps (fate net) net (is_fate net is_net.ranked) classes packets total steps (opening net classes packets) final good sized ran).kept ∙ opening_is total
+
+  assigned : final.unassigned ≡ 0
+  assigned =
+      let total : Key = record { layout = []; values = [] } in
+      none_unassigned final.unassigned (total_weight (total_at final.totals total)) (subst (λ q. q ≢ Wrong) (sym (kept total)) (total_not_wrong (plain_sum net.report_layout total packets)))
+
+  pub counts_each_once : CountsEachOnce net packets final
+  counts_each_once = record {
+    totals = λ key. same_total (total_at final.totals key) (plain_sum net.report_layout key packets) (sym (ap (λ n. plus (unassigned_weight n) (total_weight (total_at final.totals key))) assigned) ∙ kept key);
+    assigned = assigned;
+  }
+
+-- the headline
+pub exactly_once : Theorem
+exactly_once net classes trees is_net certified packets of fit steps final ran complete =
+    counts_each_once net is_net classes (sound_once net classes trees certified) packets of fit steps final ran complete

@@ -1,0 +1,16 @@
+pub mod Weights
+pub mod FateLaws
+pub mod Totals
+pub mod Acts
+pub mod Steps
+pub mod Ranks
+pub mod Opening
+pub mod Trees
+pub mod Headline
+pub mod Examples
+pub mod Standings
+pub mod Verdicts
+pub mod Paths
+pub mod Uncut
+pub mod Answers
+pub mod Tables

@@ -1,0 +1,120 @@
+-- The quantity at the opening is the plain sums.
+use Rattle.std.proofs.Common.{◌≡◌, ℕ, suc, true, false, cond, if◌then◌else◌, List, [], ◌∷◌, length, Option, Some, None, refl, sym, ap, ap₂, ◌∙◌, subst, arith, slice_get, mod-eq_of_lt, IfSome}
+use Rattle.fx_base.specs.declared.counts.Counts.{Counts}
+use Rattle.fx_layout.specs.Keys.{Key, Layout, key_of, same_key}
+use Rattle.fx_layout.proofs.Projections.{project_key}
+use Rattle.fx_machine.specs.declared.record.Record.{Record}
+use Rattle.fx_machine.specs.declared.traffic.Crossing.{Crossing}
+use Rattle.fx_machine.specs.declared.observation.Occurrence.{Occurrence}
+use Rattle.fx_machine.specs.declared.packet.Packet.{Packet}
+use Rattle.fx_machine.specs.Network.{numbered, Net, layout_of}
+use Rattle.fx_machine.specs.Classes.{path, Class}
+use Rattle.fx_machine.specs.Occurrences.{occurrences}
+use Rattle.fx_machine.specs.States.{crossings_from, coming_from, nothing_at, opening, all_empty, Coming}
+use Rattle.fx_machine.specs.Acts.{Act}
+use Rattle.fx_machine.specs.Steps.{crossing_acts, one_packet, meet}
+use Rattle.fx_machine.specs.Sums.{plain_sum, one_more, IsBelow}
+use Rattle.fx_machine.specs.Ranks.{IsNetwork}
+use Rattle.fx_leaf.specs.declared.verdict.Fate.TheVariants.{Once}
+use Rattle.fx_leaf.specs.Fates.{FateAt, act_fate, fate, acts_along, packet_fate}
+use Rattle.fx_leaf.specs.Quantity.{Weight, Nothing, Counted, plus, weigh_all, weigh_each, part_of, by_fate, key_of_act, act_weight, held_weight, carried_weight, coming_weight, packet_weight, total_weight, quantity}
+use Rattle.fx_leaf.proofs.Weights.{weigh_append}
+use Rattle.fx_leaf.proofs.FateLaws.{Every, every_append, all_weighed, IsGood}
+use Rattle.fx_leaf.proofs.Steps.{IsFate, every_map, held_once}
+use Rattle.fx_leaf.proofs.Ranks.{is_fate}
+
+pub empty_weighs : (f : ℕ → List Record → Weight) (rss : List (List Record)) → ((n : ℕ) → f n [] ≡ Nothing) → all_empty rss ≡ true → weigh_each f rss ≡ Nothing
+empty_weighs f [] h e = refl
+empty_weighs f ([] ∷ rss) h e = ap (λ w. plus w (weigh_each (λ n. f (suc n)) rss)) (h 0) ∙ empty_weighs (λ n. f (suc n)) rss (λ n. h (suc n)) e
+empty_weighs f ((r ∷ rs) ∷ rss) h e = absurd (cc)
+
+nothing_empty : {A : Type 0} (xs : List A) → all_empty (nothing_at xs) ≡ true
+nothing_empty [] = refl
+nothing_empty (x ∷ xs) = nothing_empty xs
+
+pub length_nothing : {A : Type 0} (xs : List A) → length (nothing_at xs) ≡ length xs
+length_nothing [] = refl
+length_nothing (x ∷ xs) = ap suc (length_nothing xs)
+
+-- the rest stands in the list from this place on
+abbrev StandsAt : {A : Type 0} → List A → ℕ → List A → Type 0
+StandsAt xs n [] = Unit {0}
+StandsAt xs n (y ∷ ys) = (slice_get xs n ≡ Some y) × StandsAt xs (suc n) ys
+
+stands_behind : {A : Type 0} (x : A) (xs : List A) (n : ℕ) (ys : List A) → StandsAt xs n ys → StandsAt (x ∷ xs) (suc n) ys
+stands_behind x xs n [] h = tt
+stands_behind x xs n (y ∷ ys) h = (h.0, stands_behind x xs (suc n) ys h.1)
+
+stands : {A : Type 0} (xs : List A) → StandsAt xs 0 xs
+stands [] = tt
+stands (x ∷ xs) = (refl, stands_behind x xs 0 xs (stands xs))
+
+module _ (net : Net) (is_net : IsNetwork net) (classes : List Class) (packets : List Packet) (total : Key) where
+  abbrev at : FateAt
+  at = fate net
+
+  known : IsFate at net
+  known = is_fate net is_net.ranked
+
+  -- a packet's part of the plain sum
+  abbrev part : Packet → Weight
+  part p = if same_key (key_of net.report_layout p.fields) total then Counted (one_packet p) else Nothing
+
+  abbrev SamePart : Packet → Act → Type 0
+  SamePart p a = act_fate at net a ≡ Once → part_of net total (key_of_act a) (one_packet p) ≡ part p
+
+  met_part : (p : Packet) (o : Occurrence) → SamePart p (meet net p.fields o)
+  met_part p o once =
+      let layout = layout_of (slice_get net.holders o.holder) in
+      let on = held_once at net known.refined (key_of layout p.fields) (slice_get net.holders o.holder) once in
+      ap (λ k. if same_key k total then Counted (one_packet p) else Nothing) (project_key layout net.report_layout p.fields (is_net.fits o.holder) on)
+
+  along_part : (p : Packet) (cs : List Crossing) → Every (SamePart p) (acts_along net p.fields cs)
+  along_part p [] = tt
+  along_part p (c ∷ cs) =
+      every_append (SamePart p) (crossing_acts net p.fields (Some c)) (acts_along net p.fields cs) (every_map (SamePart p) (meet net p.fields) (occurrences net c p.fields) (met_part p)) (along_part p cs)
+
+  -- a packet of fate once weighs its part
+  path_weighs : (p : Packet) (cs : List Crossing) → packet_fate net p.fields cs ≡ Once → weigh_all (act_weight at net total (one_packet p)) (acts_along net p.fields cs) ≡ part p
+  path_weighs p cs once =
+      all_weighed (act_fate at net) (λ a. part_of net total (key_of_act a) (one_packet p)) (part p) (acts_along net p.fields cs) (along_part p cs) (subst IsGood (sym once) tt) ∙ ap (λ f. by_fate f (part p)) once
+
+  abbrev weight : Coming → Weight
+  weight = coming_weight at net classes packets total
+
+  crossings_weigh : (p : Packet) (i n : ℕ) (cs : List Crossing) → numbered packets i ≡ Some p → StandsAt (path classes p) n cs → weigh_all weight (crossings_from i (suc n) cs) ≡ weigh_all (act_weight at net total (one_packet p)) (acts_along net p.fields cs)
+  crossings_weigh p i n [] is h = refl
+  crossings_weigh p i n (c ∷ cs) is h =
+      let here : weight (record { packet = i; crossing = suc n }) ≡ weigh_all (act_weight at net total (one_packet p)) (crossing_acts net p.fields (Some c)) = ap (λ q. packet_weight at net classes total q (suc n)) is ∙ ap (λ o. weigh_all (act_weight at net total (one_packet p)) (crossing_acts net p.fields o)) h.0 in
+      ap₂ plus here (crossings_weigh p i (suc n) cs is h.1) ∙ sym (weigh_append (act_weight at net total (one_packet p)) (crossing_acts net p.fields (Some c)) (acts_along net p.fields cs))
+
+  packets_weigh : (n : ℕ) (ps : List Packet) → StandsAt packets n ps → Every (λ p. packet_fate net p.fields (path classes p) ≡ Once) ps → weigh_all weight (coming_from classes (suc n) ps) ≡ weigh_all part ps
+  packets_weigh n [] h once = refl
+  packets_weigh n (p ∷ ps) h once =
+      weigh_append weight (crossings_from (suc n) 1 (path classes p)) (coming_from classes (suc (suc n)) ps) ∙ ap₂ plus (crossings_weigh p (suc n) 0 (path classes p) h.0 (stands (path classes p)) ∙ path_weighs p (path classes p) once.0) (packets_weigh (suc n) ps h.1 once.1)
+
+  pub opens : Every (λ p. packet_fate net p.fields (path classes p) ≡ Once) packets → quantity net classes packets total (opening net classes packets) ≡ weigh_all part packets
+  opens once =
+      let h = empty_weighs (held_weight at net total) (nothing_at net.holders) (λ n. refl) (nothing_empty net.holders) in
+      let c = empty_weighs (carried_weight at net total) (nothing_at net.links) (λ n. refl) (nothing_empty net.links) in
+      let k = packets_weigh 0 packets (stands packets) once in
+      ap₂ plus h (ap₂ plus c k)
+
+-- the plain sum of the rest fits too
+rest_below : (octets : ℕ) (o : Option Counts) → IsBelow (one_more octets o) → IfSome o IsBelow
+rest_below octets None h = tt
+rest_below octets (Some c) h = (omega (arith, h.0), omega (arith, h.1))
+
+add_one : (octets : ℕ) (o : Option Counts) → IsBelow (one_more octets o) → plus (Counted (record { packets = 1; octets = octets })) (total_weight o) ≡ Counted (one_more octets o)
+add_one octets None h = refl
+add_one octets (Some c) h =
+    ap Counted (ap₂ (λ (p q : ℕ). record { packets = p; octets = q }) (mod-eq_of_lt h.0) (mod-eq_of_lt h.1))
+
+pub plain_weighs : (layout : Layout) (total : Key) (packets : List Packet) → IfSome (plain_sum layout total packets) IsBelow → weigh_all (λ p. if same_key (key_of layout p.fields) total then Counted (one_packet p) else Nothing) packets ≡ total_weight (plain_sum layout total packets)
+plain_weighs layout total [] fits = refl
+plain_weighs layout total (p ∷ ps) fits =
+    let rest = plain_sum layout total ps in
+    elim (same_key (key_of layout p.fields) total) as (λ b. IfSome (cond b (Some (one_more p.octets rest)) rest) IsBelow → plus (cond b (Counted (one_packet p)) Nothing) (weigh_all (λ q. if same_key (key_of layout q.fields) total then Counted (one_packet q) else Nothing) ps) ≡ total_weight (cond b (Some (one_more p.octets rest)) rest)) [
+      | true ↦ λ f. ap (plus (Counted (one_packet p))) (plain_weighs layout total ps (rest_below p.octets rest f)) ∙ add_one p.octets rest f
+      | false ↦ λ f. plain_weighs layout total ps f
+    ] fits

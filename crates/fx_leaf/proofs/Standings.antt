@@ -1,0 +1,543 @@
+-- How a region stands to another is told right.
+use Rattle.std.proofs.Common.{◌≡◌, ◌⊎◌, inl, inr, ℕ, ◌+◌, ◌-◌, ◌*◌, ◌/◌, ◌^◌, ◌<◌, ◌≤◌, Bool, true, false, cond, ◌&&◌, ◌||◌, nat_le, nat_lt, max, min, List, [], ◌∷◌, map, Option, Some, None, refl, sym, ap, ◌∙◌, subst, true≢false, arith, slice_index, le-leb, leb-true, ltb-true, eqb-true, eq-eqb, if◌then◌else◌, pow-add, ◌%◌, mod-eq_of_lt, IfSome, IfNone, ◌↔◌, take, drop, length, get_or}
+use Rattle.std.proofs.lemmas.List.{take_all}
+use Rattle.std.proofs.Math.Nat.{mul-le-mul_right, pow-le-pow_right, le-div_iff_mul-le, lt-div-mul-add, div-eq_of_lt-le}
+use Rattle.std.proofs.lemmas.Nat.{pow_pos}
+use Rattle.std.specs.List.{list_all, list_any}
+use Rattle.fx_elements.specs.declared.axis.Axis.{Axis}
+use Rattle.fx_elements.specs.declared.axis.Axis.TheVariants.{Source, Destination, Protocol, SourcePort, DestinationPort, ClassOfService}
+use Rattle.fx_elements.specs.Axes.{Fields, field, axes, tops, axis_index, axis_count, axis_width, same_axis}
+use Rattle.fx_boxes.specs.Boxes.{Bounds, IsRegion, Holds, IsInside, IsDisjoint, holds, is_between}
+use Rattle.fx_boxes.proofs.Holding.{holds_is, holds_if}
+use Rattle.fx_layout.proofs.Projections.{and_true, and_both, axis_is}
+use Rattle.fx_machine.specs.declared.aggregation.MatchEntry.{MatchEntry}
+use Rattle.fx_machine.specs.Occurrences.{selects}
+use Rattle.fx_leaf.specs.SoundLeaves.{Uncut, matches_packet}
+use Rattle.fx_leaf.specs.Standings.{low_at, high_at, common, is_empty, is_within, standing, standing_to, all_fields, entry_low, entry_high, begins_with, IsEntry, entry_fields, match_fields, Tells}
+
+-- ---- tests on each axis
+
+pub at_axis : (p : Axis → Bool) → list_all p axes ≡ true → (axis : Axis) → p axis ≡ true
+at_axis p h axis =
+    let t0 = and_true (p Source) _ h in
+    let t1 = and_true (p Destination) _ t0.1 in
+    let t2 = and_true (p Protocol) _ t1.1 in
+    let t3 = and_true (p SourcePort) _ t2.1 in
+    let t4 = and_true (p DestinationPort) _ t3.1 in
+    let t5 = and_true (p ClassOfService) _ t4.1 in
+    by axis t0.0 t1.0 t2.0 t3.0 t4.0 t5.0
+  where
+    by : (axis : Axis) → p Source ≡ true → p Destination ≡ true → p Protocol ≡ true → p SourcePort ≡ true → p DestinationPort ≡ true → p ClassOfService ≡ true → p axis ≡ true
+    by Source a b c d e f = a
+    by Destination a b c d e f = b
+    by Protocol a b c d e f = c
+    by SourcePort a b c d e f = d
+    by DestinationPort a b c d e f = e
+    by ClassOfService a b c d e f = f
+
+pub on_axes : (p : Axis → Bool) → ((axis : Axis) → p axis ≡ true) → list_all p axes ≡ true
+on_axes p h = every axes where
+  every : (xs : List Axis) → list_all p xs ≡ true
+  every [] = refl
+  every (x ∷ xs) = and_both (p x) (list_all p xs) (h x) (every xs)
+
+pub none_of : (p : Axis → Bool) → list_any p axes ≡ false → (axis : Axis) → p axis ≡ false
+none_of p h axis =
+    let t0 = or_false (p Source) _ h in
+    let t1 = or_false (p Destination) _ t0.1 in
+    let t2 = or_false (p Protocol) _ t1.1 in
+    let t3 = or_false (p SourcePort) _ t2.1 in
+    let t4 = or_false (p DestinationPort) _ t3.1 in
+    let t5 = or_false (p ClassOfService) _ t4.1 in
+    by axis t0.0 t1.0 t2.0 t3.0 t4.0 t5.0
+  where
+    or_false : (a b : Bool) → (a || b) ≡ false → (a ≡ false) × (b ≡ false)
+    or_false true b k = absurd (cc)
+    or_false false b k = (refl, k)
+
+    by : (axis : Axis) → p Source ≡ false → p Destination ≡ false → p Protocol ≡ false → p SourcePort ≡ false → p DestinationPort ≡ false → p ClassOfService ≡ false → p axis ≡ false
+    by Source a b c d e f = a
+    by Destination a b c d e f = b
+    by Protocol a b c d e f = c
+    by SourcePort a b c d e f = d
+    by DestinationPort a b c d e f = e
+    by ClassOfService a b c d e f = f
+
+pub some_of : (p : Axis → Bool) (xs : List Axis) → list_any p xs ≡ true → (axis : Axis) × (p axis ≡ true)
+some_of p [] h = absurd (cc)
+some_of p (x ∷ xs) h =
+    elim (p x) as (λ t. p x ≡ t → (t || list_any p xs) ≡ true → (axis : Axis) × (p axis ≡ true)) [
+      | true ↦ λ e k. (x, e)
+      | false ↦ λ e k. some_of p xs k
+    ] refl h
+
+pub not_all_of : (p : Axis → Bool) (xs : List Axis) → list_all p xs ≡ false → (axis : Axis) × (p axis ≡ false)
+not_all_of p [] h = absurd (cc)
+not_all_of p (x ∷ xs) h =
+    elim (p x) as (λ t. p x ≡ t → (t && list_all p xs) ≡ false → (axis : Axis) × (p axis ≡ false)) [
+      | true ↦ λ e k. not_all_of p xs k
+      | false ↦ λ e k. (x, e)
+    ] refl h
+
+pub value_of : (g : Axis → ℕ) (axis : Axis) → slice_index (map g axes) (axis_index axis) ≡ g axis
+value_of g Source = refl
+value_of g Destination = refl
+value_of g Protocol = refl
+value_of g SourcePort = refl
+value_of g DestinationPort = refl
+value_of g ClassOfService = refl
+
+pub index_small : (axis : Axis) → axis_index axis < axis_count
+index_small Source = omega arith
+index_small Destination = omega arith
+index_small Protocol = omega arith
+index_small SourcePort = omega arith
+index_small DestinationPort = omega arith
+index_small ClassOfService = omega arith
+
+-- ---- fields that are in a region
+
+pub record In (b : Bounds) (fields : Fields) : Type 0 where
+  pub low : (axis : Axis) → low_at b axis ≤ field fields axis
+  pub high : (axis : Axis) → field fields axis ≤ high_at b axis
+
+pub is_in : (b : Bounds) (fields : Fields) → holds b fields ≡ true → In b fields
+is_in b fields h =
+    let at = at_axis (λ axis. is_between b fields (axis_index axis)) h in
+    record {
+      low = λ axis. leb-true _ _ (and_true (nat_le (low_at b axis) (field fields axis)) _ (at axis)).0;
+      high = λ axis. leb-true _ _ (and_true (nat_le (low_at b axis) (field fields axis)) _ (at axis)).1;
+    }
+
+pub in_holds : (b : Bounds) (fields : Fields) → In b fields → holds b fields ≡ true
+in_holds b fields h =
+    on_axes (λ axis. is_between b fields (axis_index axis)) (λ axis. and_both _ _ (le-leb _ _ (h.low axis)) (le-leb _ _ (h.high axis)))
+
+common_low : (a b : Bounds) (axis : Axis) → low_at (common a b) axis ≡ max (low_at a axis) (low_at b axis)
+common_low a b axis = value_of (λ axis. max (low_at a axis) (low_at b axis)) axis
+
+common_high : (a b : Bounds) (axis : Axis) → high_at (common a b) axis ≡ min (high_at a axis) (high_at b axis)
+common_high a b axis = value_of (λ axis. min (high_at a axis) (high_at b axis)) axis
+
+max_left : (a b : ℕ) → a ≤ max a b
+max_left a b = omega arith
+
+pub in_common : (a b : Bounds) (fields : Fields) → In a fields → In b fields → In (common a b) fields
+in_common a b fields h k = record {
+  low = λ axis. let e = common_low a b axis in let x = h.low axis in let y = k.low axis in omega (arith, e, x, y);
+  high = λ axis. let e = common_high a b axis in let x = h.high axis in let y = k.high axis in omega (arith, e, x, y);
+}
+
+pub common_left : (a b : Bounds) (fields : Fields) → In (common a b) fields → In a fields
+common_left a b fields h = record {
+  low = λ axis. let e = common_low a b axis in let x = h.low axis in omega (arith, e, x);
+  high = λ axis. let e = common_high a b axis in let x = h.high axis in omega (arith, e, x);
+}
+
+pub common_right : (a b : Bounds) (fields : Fields) → In (common a b) fields → In b fields
+common_right a b fields h = record {
+  low = λ axis. let e = common_low a b axis in let x = h.low axis in omega (arith, e, x);
+  high = λ axis. let e = common_high a b axis in let x = h.high axis in omega (arith, e, x);
+}
+
+-- ---- how a region stands to another
+
+-- no low is above its high
+abbrev pub Ordered : Bounds → Type 0
+Ordered b = (axis : Axis) → low_at b axis ≤ high_at b axis
+
+pub ordered : (region : Bounds) → IsRegion region → Ordered region
+ordered region r axis = (r (axis_index axis) (index_small axis)).0
+
+pub is_low : (region : Bounds) → Ordered region → In region region.low
+is_low region r = record {
+  low = λ axis. omega arith;
+  high = λ axis. r axis;
+}
+
+is_high : (region : Bounds) → Ordered region → In region region.high
+is_high region r = record {
+  low = λ axis. r axis;
+  high = λ axis. omega arith;
+}
+
+not_below : (a b : ℕ) → nat_lt a b ≡ false → b ≤ a
+not_below a b e = grind (arith, e)
+
+-- fields in both, where no axis keeps them apart
+meeting : (a b : Bounds) → is_empty (common a b) ≡ false → In (common a b) (common a b).low
+meeting a b e = record {
+  low = λ axis. omega arith;
+  high = λ axis.
+      let p : nat_lt (high_at (common a b) axis) (low_at (common a b) axis) ≡ false = none_of (λ axis. nat_lt (high_at (common a b) axis) (low_at (common a b) axis)) e axis in
+      not_below _ _ p;
+}
+
+apart : (a b : Bounds) (fields : Fields) → is_empty (common a b) ≡ true → In a fields → In b fields → ⊥
+apart a b fields e h k =
+    let both = in_common a b fields h k in
+    let where' = some_of (λ axis. nat_lt (high_at (common a b) axis) (low_at (common a b) axis)) axes e in
+    let axis = where'.0 in
+    let lt : high_at (common a b) axis < low_at (common a b) axis = ltb-true _ _ where'.1 in
+    let low = both.low axis in
+    let high = both.high axis in
+    absurd (omega (arith, lt, low, high))
+
+within : (a b : Bounds) (fields : Fields) → is_within a b ≡ true → In a fields → In b fields
+within a b fields e h = record {
+  low = λ axis. let le = leb-true _ _ (both axis).0 in let x = h.low axis in omega (arith, le, x);
+  high = λ axis. let le = leb-true _ _ (both axis).1 in let x = h.high axis in omega (arith, le, x);
+}
+  where
+    both : (axis : Axis) → (nat_le (low_at b axis) (low_at a axis) ≡ true) × (nat_le (high_at a axis) (high_at b axis) ≡ true)
+    both axis = and_true (nat_le (low_at b axis) (low_at a axis)) (nat_le (high_at a axis) (high_at b axis)) (at_axis (λ axis. nat_le (low_at b axis) (low_at a axis) && nat_le (high_at a axis) (high_at b axis)) e axis)
+
+one_of : (a b : Bool) → (a && b) ≡ false → (a ≡ false) ⊎ (b ≡ false)
+one_of true b h = inr h
+one_of false b h = inl refl
+
+-- fields of the first that aren't in the second
+outside : (a b : Bounds) → Ordered a → is_within a b ≡ false → (fields : Fields) × In a fields × (In b fields → ⊥)
+outside a b r e =
+    let found = not_all_of (λ axis. nat_le (low_at b axis) (low_at a axis) && nat_le (high_at a axis) (high_at b axis)) axes e in
+    let axis = found.0 in
+    elim (one_of (nat_le (low_at b axis) (low_at a axis)) (nat_le (high_at a axis) (high_at b axis)) found.1) [
+      | inl f ↦ (a.low, is_low a r, λ h. let le = le-leb _ _ (h.low axis) in true≢false (sym le ∙ f))
+      | inr f ↦ (a.high, is_high a r, λ h. let le = le-leb _ _ (h.high axis) in true≢false (sym le ∙ f))
+    ]
+
+pub standing_tells : (region other : Bounds) → IsRegion region → Tells region (holds other) (standing region other)
+standing_tells region other r =
+    elim (is_empty (common region other)) as (λ t. is_empty (common region other) ≡ t → Tells region (holds other) (cond t (Some false) (cond (is_within region other) (Some true) None))) [
+      | true ↦ λ e. record {
+        passes = λ b. λ is. λ fields. λ h. let k : false ≡ b = cc in subst (λ x. holds other fields ≡ x) k (no_more (holds other fields) (λ yes. apart region other fields e (is_in region fields h) (is_in other fields yes)));
+        cuts = λ is. absurd (cc);
+      }
+      | false ↦ λ e.
+          elim (is_within region other) as (λ t. is_within region other ≡ t → Tells region (holds other) (cond t (Some true) None)) [
+            | true ↦ λ w. record {
+              passes = λ b. λ is. λ fields. λ h. let k : true ≡ b = cc in subst (λ x. holds other fields ≡ x) k (in_holds other fields (within region other fields w (is_in region fields h)));
+              cuts = λ is. absurd (cc);
+            }
+            | false ↦ λ w. record {
+              passes = λ b. λ is. absurd (cc);
+              cuts = λ is. λ uncut. both_ways e w uncut;
+            }
+          ] refl
+    ] refl
+  where
+    no_more : (t : Bool) → (t ≡ true → ⊥) → t ≡ false
+    no_more true h = absurd (h refl)
+    no_more false h = refl
+
+    both_ways : is_empty (common region other) ≡ false → is_within region other ≡ false → Uncut region (holds other) → ⊥
+    both_ways e w (inl all) =
+        let out = outside region other (ordered region r) w in
+        out.2 (is_in other out.0 (all out.0 (in_holds region out.0 out.1)))
+    both_ways e w (inr none) =
+        let m = meeting region other e in
+        let p = (common region other).low in
+        let yes : holds other p ≡ true = in_holds other p (common_right region other p m) in
+        let no : holds other p ≡ false = none p (in_holds region p (common_left region other p m)) in
+        true≢false (sym yes ∙ no)
+
+pub no_tells : (region : Bounds) → Tells region (λ fields. false) (Some false)
+no_tells region = record { passes = λ b. λ is. λ fields. λ h. cc; cuts = λ is. absurd (cc) }
+
+-- ---- matches
+
+all_in : (region : Bounds) (fields : Fields) → IsRegion region → In region fields → In all_fields fields
+all_in region fields r h = record {
+  low = λ axis. let e = value_of (λ axis. 0) axis in omega (arith, e);
+  high = λ axis. let x = h.high axis in let y = (r (axis_index axis) (index_small axis)).1 in omega (arith, x, y);
+}
+
+-- the values that begin with some bits are those from a least to a greatest
+begins : (s v x : ℕ) → 0 < s → v / s ≡ x → (x * s ≤ v) × (v ≤ x * s + (s - 1))
+begins s v x pos e =
+    let low : x * s ≤ v = (le-div_iff_mul-le {k = s} {x = x} {y = v} pos).0 (let le : x ≤ v / s = omega (arith, e) in le) in
+    let high : v < x * s + s = subst (λ y. v < y * s + s) e (lt-div-mul-add {a = v} {b = s} pos) in
+    (low, at_most v (x * s) s pos high)
+  where
+    at_most : (v p s : ℕ) → 0 < s → v < p + s → v ≤ p + (s - 1)
+    at_most v p s pos lt = omega arith
+
+begun : (s v x : ℕ) → 0 < s → x * s ≤ v → v ≤ x * s + (s - 1) → v / s ≡ x
+begun s v x pos low high = div-eq_of_lt-le {k = x} s {m = v} low (subst (λ y. v < y) (sym (mul_more x s)) (below v (x * s) s pos high))
+  where
+    below : (v p s : ℕ) → 0 < s → v ≤ p + (s - 1) → v < p + s
+    below v p s pos le = omega arith
+
+    mul_more : (x s : ℕ) → (x + 1) * s ≡ x * s + s
+    mul_more x s = grind arith
+
+same_axis_refl : (axis : Axis) → same_axis axis axis ≡ true
+same_axis_refl Source = refl
+same_axis_refl Destination = refl
+same_axis_refl Protocol = refl
+same_axis_refl SourcePort = refl
+same_axis_refl DestinationPort = refl
+same_axis_refl ClassOfService = refl
+
+entry_in : (e : MatchEntry) (fields : Fields) → In all_fields fields → begins_with e fields ≡ true → In (entry_fields e) fields
+entry_in e fields all h =
+    let s = 2 ^ (axis_width e.axis - e.bits) in
+    let range = begins s (field fields e.axis) e.value (pow_pos (axis_width e.axis - e.bits)) (eqb-true _ _ h) in
+    record {
+      low = λ axis. subst (λ n. n ≤ field fields axis) (sym (value_of (λ axis. if same_axis axis e.axis then entry_low e else 0) axis)) (elim (same_axis axis e.axis) as (λ t. same_axis axis e.axis ≡ t → cond t (entry_low e) 0 ≤ field fields axis) [
+        | true ↦ λ same. subst (λ a. entry_low e ≤ field fields a) (sym (axis_is axis e.axis same)) range.0
+        | false ↦ λ same. omega arith
+      ] refl);
+      high = λ axis. subst (λ n. field fields axis ≤ n) (sym (value_of (λ axis. if same_axis axis e.axis then entry_high e else slice_index tops (axis_index axis)) axis)) (elim (same_axis axis e.axis) as (λ t. same_axis axis e.axis ≡ t → field fields axis ≤ cond t (entry_high e) (slice_index tops (axis_index axis))) [
+        | true ↦ λ same. subst (λ a. field fields a ≤ entry_high e) (sym (axis_is axis e.axis same)) range.1
+        | false ↦ λ same. all.high axis
+      ] refl);
+    }
+
+entry_out : (e : MatchEntry) (fields : Fields) → In (entry_fields e) fields → begins_with e fields ≡ true
+entry_out e fields h =
+    let s = 2 ^ (axis_width e.axis - e.bits) in
+    let same = same_axis_refl e.axis in
+    let low : entry_low e ≤ field fields e.axis = subst (λ n. n ≤ field fields e.axis) (value_of (λ axis. if same_axis axis e.axis then entry_low e else 0) e.axis ∙ ap (λ t. cond t (entry_low e) 0) same) (h.low e.axis) in
+    let high : field fields e.axis ≤ entry_high e = subst (λ n. field fields e.axis ≤ n) (value_of (λ axis. if same_axis axis e.axis then entry_high e else slice_index tops (axis_index axis)) e.axis ∙ ap (λ t. cond t (entry_high e) (slice_index tops (axis_index e.axis))) same) (h.high e.axis) in
+    eq-eqb _ _ (begun s (field fields e.axis) e.value (pow_pos (axis_width e.axis - e.bits)) low high)
+
+match_in : (es : List MatchEntry) (fields : Fields) → In all_fields fields → matches_packet es fields ≡ true → In (match_fields es) fields
+match_in [] fields all h = all
+match_in (e ∷ es) fields all h =
+    let two = and_true (begins_with e fields) (matches_packet es fields) h in
+    in_common (entry_fields e) (match_fields es) fields (entry_in e fields all two.0) (match_in es fields all two.1)
+
+match_out : (es : List MatchEntry) (fields : Fields) → In (match_fields es) fields → matches_packet es fields ≡ true
+match_out [] fields h = refl
+match_out (e ∷ es) fields h =
+    and_both _ _ (entry_out e fields (common_left (entry_fields e) (match_fields es) fields h)) (match_out es fields (common_right (entry_fields e) (match_fields es) fields h))
+
+same_test : (a b : Bool) → (a ≡ true → b ≡ true) → (b ≡ true → a ≡ true) → a ≡ b
+same_test true true h k = refl
+same_test true false h k = sym (h refl)
+same_test false true h k = k refl
+same_test false false h k = refl
+
+match_same : (es : List MatchEntry) (fields : Fields) → In all_fields fields → holds (match_fields es) fields ≡ matches_packet es fields
+match_same es fields all =
+    same_test _ _ (λ h. match_out es fields (is_in (match_fields es) fields h)) (λ h. in_holds (match_fields es) fields (match_in es fields all h))
+
+tells_same : (region : Bounds) (test other : Fields → Bool) (answer : Option Bool) → ((fields : Fields) → holds region fields ≡ true → test fields ≡ other fields) → Tells region test answer → Tells region other answer
+tells_same region test other answer same t = record {
+  passes = λ b. λ is. λ fields. λ h. sym (same fields h) ∙ t.passes b is fields h;
+  cuts = λ is. λ uncut. t.cuts is (back uncut);
+}
+  where
+    back : Uncut region other → Uncut region test
+    back (inl h) = inl (λ fields. λ k. same fields k ∙ h fields k)
+    back (inr h) = inr (λ fields. λ k. same fields k ∙ h fields k)
+
+-- how a region stands to a match
+pub match_tells : (region : Bounds) (es : List MatchEntry) → IsRegion region → Tells region (matches_packet es) (standing region (match_fields es))
+match_tells region es r =
+    tells_same region (holds (match_fields es)) (matches_packet es) (standing region (match_fields es)) (λ fields. λ h. match_same es fields (all_in region fields r (is_in region fields h))) (standing_tells region (match_fields es) r)
+
+-- how it stands to a selection process
+pub selection_tells : (region : Bounds) (selected : Option Bounds) → IsRegion region → Tells region (selects selected) (standing_to region selected)
+selection_tells region None r = no_tells region
+selection_tells region (Some other) r = standing_tells region other r
+
+-- ---- the same in a program's terms
+
+to_in : (b : Bounds) (fields : Fields) → Holds b fields → In b fields
+to_in b fields h = is_in b fields (holds_if b fields h)
+
+from_in : (b : Bounds) (fields : Fields) → In b fields → Holds b fields
+from_in b fields h = holds_is b fields (in_holds b fields h)
+
+pub disjoint_told : (region other : Bounds) → IsDisjoint region other → standing region other ≡ Some false
+disjoint_told region other none =
+    elim (is_empty (common region other)) as (λ t. is_empty (common region other) ≡ t → cond t (Some false) (cond (is_within region other) (Some true) None) ≡ Some false) [
+      | true ↦ λ e. refl
+      | false ↦ λ e.
+          let m = meeting region other e in
+          let p = (common region other).low in
+          absurd (none p (from_in region p (common_left region other p m)) (from_in other p (common_right region other p m)))
+    ] refl
+
+not_empty : (region other : Bounds) → (IsDisjoint region other → ⊥) → is_empty (common region other) ≡ false
+not_empty region other some = by (is_empty (common region other)) refl where
+  by : (t : Bool) → is_empty (common region other) ≡ t → is_empty (common region other) ≡ false
+  by true e = absurd (some (λ f. λ h. λ k. apart region other f e (to_in region f h) (to_in other f k)))
+  by false e = e
+
+pub inside_told : (region other : Bounds) → (IsDisjoint region other → ⊥) → IsInside region other → standing region other ≡ Some true
+inside_told region other some all =
+    ap (λ t. cond t (Some false) (cond (is_within region other) (Some true) None)) (not_empty region other some) ∙ elim (is_within region other) as (λ t. is_within region other ≡ t → cond t (Some true) None ≡ Some true) [
+      | true ↦ λ e. refl
+      | false ↦ λ e. let out = outside region other (met (not_empty region other some)) e in absurd (out.2 (to_in other out.0 (all out.0 (from_in region out.0 out.1))))
+    ] refl
+  where
+    met : is_empty (common region other) ≡ false → Ordered region
+    met e axis =
+        let m = common_left region other (common region other).low (meeting region other e) in
+        let low = m.low axis in
+        let high = m.high axis in
+        omega (arith, low, high)
+
+pub cut_told : (region other : Bounds) → (IsDisjoint region other → ⊥) → (IsInside region other → ⊥) → standing region other ≡ None
+cut_told region other some less =
+    ap (λ t. cond t (Some false) (cond (is_within region other) (Some true) None)) (not_empty region other some) ∙ elim (is_within region other) as (λ t. is_within region other ≡ t → cond t (Some true) None ≡ None) [
+      | true ↦ λ e. absurd (less (λ f. λ h. from_in other f (within region other f e (to_in region f h))))
+      | false ↦ λ e. refl
+    ] refl
+
+-- ---- entries in a program's terms
+
+-- an entry's values end below the end of its axis
+pub entry_ends : (e : MatchEntry) → IsEntry e → entry_high e < 2 ^ axis_width e.axis
+entry_ends e h =
+    let free = axis_width e.axis - e.bits in
+    let whole : 2 ^ axis_width e.axis ≡ 2 ^ e.bits * 2 ^ free = ap (λ n. 2 ^ n) (let le = h.0 in let k : axis_width e.axis ≡ e.bits + free = omega (arith, le) in k) ∙ pow-add 2 e.bits free in
+    let more : (e.value + 1) * 2 ^ free ≤ 2 ^ e.bits * 2 ^ free = mul-le-mul_right (2 ^ free) (let lt = h.1 in let k : e.value + 1 ≤ 2 ^ e.bits = omega (arith, lt) in k) in
+    let split : (e.value + 1) * 2 ^ free ≡ e.value * 2 ^ free + 2 ^ free = grind arith in
+    last (e.value * 2 ^ free) (2 ^ free) (2 ^ axis_width e.axis) (pow_pos free) (subst (λ n. n ≤ 2 ^ axis_width e.axis) split (subst (λ n. (e.value + 1) * 2 ^ free ≤ n) (sym whole) more))
+  where
+    last : (p s w : ℕ) → 0 < s → p + s ≤ w → p + (s - 1) < w
+    last p s w pos le = omega arith
+
+pub entry_begins : (e : MatchEntry) (fields : Fields) → begins_with e fields ≡ true → (entry_low e ≤ field fields e.axis) × (field fields e.axis ≤ entry_high e)
+entry_begins e fields h = begins (2 ^ (axis_width e.axis - e.bits)) (field fields e.axis) e.value (pow_pos (axis_width e.axis - e.bits)) (eqb-true _ _ h)
+
+pub entry_begun : (e : MatchEntry) (fields : Fields) → entry_low e ≤ field fields e.axis → field fields e.axis ≤ entry_high e → begins_with e fields ≡ true
+entry_begun e fields low high = eq-eqb _ _ (begun (2 ^ (axis_width e.axis - e.bits)) (field fields e.axis) e.value (pow_pos (axis_width e.axis - e.bits)) low high)
+
+width_small : (axis : Axis) → axis_width axis ≤ 32
+width_small Source = omega arith
+width_small Destination = omega arith
+width_small Protocol = omega arith
+width_small SourcePort = omega arith
+width_small DestinationPort = omega arith
+width_small ClassOfService = omega arith
+
+pub small_ends : (e : MatchEntry) → IsEntry e → entry_high e < 2 ^ 32
+small_ends e h =
+    let ends = entry_ends e h in
+    let grows : 2 ^ axis_width e.axis ≤ 2 ^ 32 = pow-le-pow_right {n = 2} (omega arith) (width_small e.axis) in
+    omega (arith, ends, grows)
+
+pub span_is : (e : MatchEntry) (w : ℕ) → w ≡ axis_width e.axis → 1 * 2 ^ (w - e.bits) % 2 ^ 128 ≡ 2 ^ (axis_width e.axis - e.bits)
+span_is e w is =
+    let free = axis_width e.axis - e.bits in
+    let grows : 2 ^ free ≤ 2 ^ 32 = pow-le-pow_right {n = 2} (omega arith) (let k = width_small e.axis in let le : axis_width e.axis - e.bits ≤ 32 = omega (arith, k) in le) in
+    let small : 2 ^ free < 2 ^ 128 = omega (arith, grows) in
+    ap (λ n. 1 * 2 ^ (n - e.bits) % 2 ^ 128) is ∙ ap (λ n. n % 2 ^ 128) (one_of_it (2 ^ free)) ∙ mod-eq_of_lt small
+  where
+    one_of_it : (x : ℕ) → 1 * x ≡ x
+    one_of_it x = grind arith
+
+not_true : (b : Bool) → (b ≡ true → ⊥) → b ≡ false
+not_true true h = absurd (h refl)
+not_true false h = refl
+
+-- what is left of a region where an entry holds
+pub none_above : (e : MatchEntry) (fields : Fields) → field fields e.axis < entry_low e → begins_with e fields ≡ false
+none_above e fields lt = not_true (begins_with e fields) (λ h. let low = (entry_begins e fields h).0 in absurd (omega (arith, lt, low)))
+
+pub none_below : (e : MatchEntry) (fields : Fields) → entry_high e < field fields e.axis → begins_with e fields ≡ false
+none_below e fields lt = not_true (begins_with e fields) (λ h. let high = (entry_begins e fields h).1 in absurd (omega (arith, lt, high)))
+
+abbrev Cut : Bounds → Bounds → (Fields → Type 0) → Type 0
+Cut cut whole by = (f : Fields) → Holds cut f ↔ (Holds whole f × by f)
+
+pub narrowed_some : (e : MatchEntry) (region above : Bounds) (o : Option Bounds) (least most : ℕ) → least ≡ entry_low e → most ≡ entry_high e → Cut above region (λ f. least ≤ field f e.axis) → IfSome o (λ r. Cut r above (λ f. field f e.axis ≤ most)) → IfSome o (λ r. Cut r region (λ f. begins_with e f ≡ true))
+narrowed_some e region above None least most low high first second = tt
+narrowed_some e region above (Some r) least most low high first second = λ f. (forth f, back f) where
+  forth : (f : Fields) → Holds r f → Holds region f × (begins_with e f ≡ true)
+  forth f h =
+      let s = (second f).0 h in
+      let t = (first f).0 s.0 in
+      let a = t.1 in
+      let b = s.1 in
+      (t.0, entry_begun e f (omega (arith, a, low)) (omega (arith, b, high)))
+
+  back : (f : Fields) → Holds region f × (begins_with e f ≡ true) → Holds r f
+  back f h =
+      let range = entry_begins e f h.1 in
+      let a = range.0 in
+      let b = range.1 in
+      (second f).1 ((first f).1 (h.0, omega (arith, a, low)), omega (arith, b, high))
+
+pub narrowed_none : (e : MatchEntry) (region above : Bounds) (o : Option Bounds) (least most : ℕ) → least ≡ entry_low e → most ≡ entry_high e → Cut above region (λ f. least ≤ field f e.axis) → IfNone o ((f : Fields) → Holds above f → most < field f e.axis) → IfNone o ((f : Fields) → Holds region f → begins_with e f ≡ false)
+narrowed_none e region above (Some r) least most low high first second = tt
+narrowed_none e region above None least most low high first second = λ f. λ here. not_true (begins_with e f) (λ h.
+    let range = entry_begins e f h in
+    let a = range.0 in
+    let b = range.1 in
+    let far = second f ((first f).1 (here, omega (arith, a, low))) in
+    absurd (omega (arith, b, far, high)))
+
+-- ---- matches in a program's terms
+
+pub matched_some : (e : MatchEntry) (es : List MatchEntry) (region left : Bounds) (o : Option Bounds) → Cut left region (λ f. begins_with e f ≡ true) → IfSome o (λ r. Cut r left (λ f. matches_packet es f ≡ true)) → IfSome o (λ r. Cut r region (λ f. matches_packet (e ∷ es) f ≡ true))
+matched_some e es region left None first second = tt
+matched_some e es region left (Some r) first second = λ f. (forth f, back f) where
+  forth : (f : Fields) → Holds r f → Holds region f × (matches_packet (e ∷ es) f ≡ true)
+  forth f h =
+      let s = (second f).0 h in
+      let t = (first f).0 s.0 in
+      (t.0, and_both _ _ t.1 s.1)
+
+  back : (f : Fields) → Holds region f × (matches_packet (e ∷ es) f ≡ true) → Holds r f
+  back f h =
+      let two = and_true (begins_with e f) (matches_packet es f) h.1 in
+      (second f).1 ((first f).1 (h.0, two.0), two.1)
+
+pub matched_none : (e : MatchEntry) (es : List MatchEntry) (region left : Bounds) (o : Option Bounds) → Cut left region (λ f. begins_with e f ≡ true) → IfNone o ((f : Fields) → Holds left f → matches_packet es f ≡ false) → IfNone o ((f : Fields) → Holds region f → matches_packet (e ∷ es) f ≡ false)
+matched_none e es region left (Some r) first second = tt
+matched_none e es region left None first second = λ f. λ here. not_true (matches_packet (e ∷ es) f) (λ h.
+    let two = and_true (begins_with e f) (matches_packet es f) h in
+    true≢false (sym two.1 ∙ second f ((first f).1 (here, two.0))))
+
+-- an entry that holds of none
+pub unmatched : (e : MatchEntry) (es : List MatchEntry) (region : Bounds) → ((f : Fields) → Holds region f → begins_with e f ≡ false) → (f : Fields) → Holds region f → matches_packet (e ∷ es) f ≡ false
+unmatched e es region none f here = ap (λ b. b && matches_packet es f) (none f here)
+
+-- the first entry and the others, as a slice gives them
+rest_is : (e : MatchEntry) (es : List MatchEntry) → take (length (e ∷ es) - 1) (drop 1 (e ∷ es)) ≡ es
+rest_is e es = take_all (length (e ∷ es) - 1) es (omega arith)
+
+pub first_some : (d : MatchEntry) (es : List MatchEntry) (region left : Bounds) (o : Option Bounds) → 1 ≤ length es → Cut left region (λ f. begins_with (get_or es 0 d) f ≡ true) → IfSome o (λ r. Cut r left (λ f. matches_packet (take (length es - 1) (drop 1 es)) f ≡ true)) → IfSome o (λ r. Cut r region (λ f. matches_packet es f ≡ true))
+first_some d [] region left o some first second = absurd (omega arith)
+first_some d (e ∷ es) region left o some first second =
+    matched_some e es region left o first (subst (λ xs. IfSome o (λ r. Cut r left (λ f. matches_packet xs f ≡ true))) (rest_is e es) second)
+
+pub first_none : (d : MatchEntry) (es : List MatchEntry) (region left : Bounds) (o : Option Bounds) → 1 ≤ length es → Cut left region (λ f. begins_with (get_or es 0 d) f ≡ true) → IfNone o ((f : Fields) → Holds left f → matches_packet (take (length es - 1) (drop 1 es)) f ≡ false) → IfNone o ((f : Fields) → Holds region f → matches_packet es f ≡ false)
+first_none d [] region left o some first second = absurd (omega arith)
+first_none d (e ∷ es) region left o some first second =
+    matched_none e es region left o first (subst (λ xs. IfNone o ((f : Fields) → Holds left f → matches_packet xs f ≡ false)) (rest_is e es) second)
+
+-- ---- two right answers are the same
+
+same_answer : (region : Bounds) (test : Fields → Bool) (a b : Option Bool) → Ordered region → Tells region test a → Tells region test b → a ≡ b
+same_answer region test None None r h k = refl
+same_answer region test None (Some y) r h k = absurd (h.cuts refl (told region test (Some y) y k refl))
+  where
+    told : (region : Bounds) (test : Fields → Bool) (o : Option Bool) (b : Bool) → Tells region test o → o ≡ Some b → Uncut region test
+    told region test o true t e = inl (λ fields. λ h. t.passes true e fields h)
+    told region test o false t e = inr (λ fields. λ h. t.passes false e fields h)
+same_answer region test (Some x) None r h k = absurd (k.cuts refl (told region test (Some x) x h refl))
+  where
+    told : (region : Bounds) (test : Fields → Bool) (o : Option Bool) (b : Bool) → Tells region test o → o ≡ Some b → Uncut region test
+    told region test o true t e = inl (λ fields. λ h. t.passes true e fields h)
+    told region test o false t e = inr (λ fields. λ h. t.passes false e fields h)
+same_answer region test (Some x) (Some y) r h k =
+    let low = in_holds region region.low (is_low region r) in
+    ap Some (sym (h.passes x refl region.low low) ∙ k.passes y refl region.low low)
+
+pub match_none : (region : Bounds) (es : List MatchEntry) → IsRegion region → ((f : Fields) → Holds region f → matches_packet es f ≡ false) → Some false ≡ standing region (match_fields es)
+match_none region es r none =
+    same_answer region (matches_packet es) (Some false) (standing region (match_fields es)) (ordered region r) (record {
+      passes = λ b. λ is. λ f. λ h. let k : false ≡ b = cc in none f (holds_is region f h) ∙ k;
+      cuts = λ is. absurd (cc);
+    }) (match_tells region es r)
+
+pub match_some : (region left : Bounds) (es : List MatchEntry) → IsRegion region → Cut left region (λ f. matches_packet es f ≡ true) → standing region left ≡ standing region (match_fields es)
+match_some region left es r cut =
+    same_answer region (matches_packet es) (standing region left) (standing region (match_fields es)) (ordered region r) (tells_same region (holds left) (matches_packet es) (standing region left) (λ f. λ here. same_test (holds left f) (matches_packet es f) (λ h. ((cut f).0 (holds_is left f h)).1) (λ h. holds_if left f ((cut f).1 (holds_is region f here, h)))) (standing_tells region left r)) (match_tells region es r)

@@ -1,0 +1,18 @@
+use Rattle.fx_leaf.proofs.Answers.{none_is_cut, some_is_fate, once_is_sound, no_other_is_sound}
+use Rattle.fx_leaf.proofs.Tables.{table_is_verdicts}
+use Rattle.fx_leaf.proofs.laws.verdicts_judge_regions.Goals as goal
+
+pub returns-clause-none : goal.returns-clause-none
+returns-clause-none c = none_is_cut
+
+pub returns-clause-some : goal.returns-clause-some
+returns-clause-some c = some_is_fate
+
+pub returns-clause-once : goal.returns-clause-once
+returns-clause-once c = once_is_sound
+
+pub returns-clause-no_other : goal.returns-clause-no_other
+returns-clause-no_other c = no_other_is_sound
+
+pub returns-clause-table : goal.returns-clause-table
+returns-clause-table c = table_is_verdicts

@@ -1,0 +1,9 @@
+use Rattle.std.proofs.Common.{◌∙◌}
+use Rattle.fx_leaf.proofs.Standings.{match_none, match_some}
+use Rattle.fx_leaf.proofs.regions.standing_to_match.Goals as goal
+
+pub returns-in-None : goal.returns-in-None
+returns-in-None c r = match_none c.args.region.now c.args.entries.now r c.in-None.ensures.none
+
+pub returns-in-Some : goal.returns-in-Some
+returns-in-Some c r = c.standing.ensures ∙ match_some c.args.region.now c.in-Some.left c.args.entries.now r c.in-Some.ensures.some

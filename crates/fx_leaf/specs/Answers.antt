@@ -1,0 +1,51 @@
+-- What is to be said of a region's packets on a path, beside the leaf that is sound.
+use Rattle.std.specs.Prelude.{◌≡◌, ℕ, ◌<◌, true, List, [], length, Contains, Some, None}
+use Rattle.fx_boxes.specs.Boxes.{Bounds, IsRegion, holds}
+use Rattle.fx_elements.specs.Axes.{Fields}
+use Rattle.fx_machine.specs.declared.traffic.Crossing.{Crossing}
+use Rattle.fx_machine.specs.Network.{Net}
+use Rattle.fx_machine.specs.Ranks.{IsRanked, IsNetwork}
+use Rattle.fx_leaf.specs.declared.verdict.Fate.{Fate}
+use Rattle.fx_leaf.specs.declared.verdict.Fate.TheVariants.{Once}
+use Rattle.fx_leaf.specs.Fates.{packet_fate}
+use Rattle.fx_leaf.specs.SoundLeaves.{SelectionsUncut, MatchesUncut, SoundLeaf}
+use Rattle.fx_leaf.specs.Verdicts.{Seen, path_verdict, counted}
+use Rattle.fx_leaf.specs.Tables.{Numbering, Numbers, Table, fill, Descends, HasVerdicts}
+
+-- nothing cuts the region
+abbrev pub NothingCuts : Net → List Crossing → Bounds → Type 0
+NothingCuts net path region = SelectionsUncut net path region × MatchesUncut net path region
+
+-- all its packets have this fate
+abbrev pub AllHave : Net → List Crossing → Bounds → Fate → Type 0
+AllHave net path region f = (fields : Fields) → holds region fields ≡ true → packet_fate net fields path ≡ f
+
+-- ---- what verdicts say
+
+-- where there is none, something cuts the region
+abbrev pub NoneIsCut : Net → List Crossing → Bounds → Type 0
+NoneIsCut net path region = path_verdict net region path ≡ None → NothingCuts net path region → ⊥
+
+-- where there is one, nothing does, and it is the fate of all packets of the region
+abbrev pub SomeIsFate : Net → List Crossing → Bounds → Type 0
+SomeIsFate net path region = (f : Fate) → path_verdict net region path ≡ Some f → NothingCuts net path region × AllHave net path region f
+
+-- where it is once, the selection process told makes a sound leaf
+abbrev pub OnceIsSound : Net → List Crossing → Bounds → Type 0
+OnceIsSound net path region =
+    path_verdict net region path ≡ Some Once → (s : Seen) × (counted net region path ≡ Some s) × SoundLeaf net path region s.crossing s.point s.process
+
+-- and there is no other
+abbrev pub NoOtherIsSound : Net → List Crossing → Bounds → Type 0
+NoOtherIsSound net path region =
+    (crossing point process : ℕ) → SoundLeaf net path region crossing point process → (path_verdict net region path ≡ Some Once) × ((s : Seen) → counted net region path ≡ Some s → (s.crossing ≡ crossing) × (s.point ≡ point) × (s.process ≡ process))
+
+abbrev pub Judges : (Net → List Crossing → Bounds → Type 0) → Type 0
+Judges says = (net : Net) (path : List Crossing) (region : Bounds) → IsNetwork net → IsRegion region → says net path region
+
+-- ---- tables
+
+-- a table that is filled from the processes of highest rank on has the verdicts of all processes that were filled in
+abbrev pub TableIsVerdicts : Type 0
+TableIsVerdicts =
+    (net : Net) (n : Numbering) (region : Bounds) (ranked : IsRanked net) (order : List ℕ) (table : Table) → Numbers net n → net.report < length net.processes → length table ≡ length net.processes → Descends net ranked.rank [] order → (process : ℕ) → Contains order process → HasVerdicts net n region (fill net n region order table) process

@@ -1,0 +1,38 @@
+-- The laws of the quantity, and the theorem.
+use Rattle.std.specs.Prelude.{◌≡◌, ◌≢◌, List, All, Ok, length}
+use Rattle.fx_layout.specs.Keys.{Key}
+use Rattle.fx_machine.specs.declared.packet.Packet.{Packet}
+use Rattle.fx_machine.specs.declared.step.Step.{Step}
+use Rattle.fx_machine.specs.Network.{numbered, Net}
+use Rattle.fx_machine.specs.Classes.{IsOf, Class}
+use Rattle.fx_machine.specs.States.{State, opening, Complete}
+use Rattle.fx_machine.specs.Steps.{after}
+use Rattle.fx_machine.specs.Sums.{plain_sum, total_at, SumsFit}
+use Rattle.fx_machine.specs.Claim.{ExactlyOnce}
+use Rattle.fx_machine.specs.Ranks.{IsNetwork}
+use Rattle.fx_leaf.specs.Certificates.{Tree, Sound}
+use Rattle.fx_leaf.specs.Quantity.{Wrong, quantity, total_weight, unassigned_weight, plus}
+
+-- a place for each holder and each link
+pub record IsSized (net : Net) (s : State) : Type 0 where
+  pub held : length s.held ≡ length net.holders
+  pub carried : length s.carried ≡ length net.links
+
+-- in the opening state it is the plain sums
+abbrev pub Opens : Net → List Class → Type 0
+Opens net classes =
+    (packets : List Packet) → All (λ p. IsOf p (numbered classes p.class)) packets → SumsFit net.report_layout packets → (total : Key) → quantity net classes packets total (opening net classes packets) ≡ total_weight (plain_sum net.report_layout total packets)
+
+-- a step keeps it, where nothing has gone wrong before
+abbrev pub Kept : Net → List Class → Step → Type 0
+Kept net classes step =
+    (packets : List Packet) (total : Key) (s new : State) → IsSized net s → quantity net classes packets total s ≢ Wrong → after net classes packets step s ≡ Ok new → (quantity net classes packets total new ≡ quantity net classes packets total s) × IsSized net new
+
+-- in a complete state it is the totals
+abbrev pub Ends : Net → List Class → Type 0
+Ends net classes =
+    (packets : List Packet) (total : Key) (s : State) → Complete s → quantity net classes packets total s ≡ plus (unassigned_weight s.unassigned) (total_weight (total_at s.totals total))
+
+-- where a certificate is sound, each packet is counted once
+abbrev pub Theorem : Type 0
+Theorem = (net : Net) (classes : List Class) (trees : List (List Tree)) → IsNetwork net → Sound net classes trees → ExactlyOnce net classes

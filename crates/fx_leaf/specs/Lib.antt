@@ -1,0 +1,9 @@
+pub mod Fates
+pub mod SoundLeaves
+pub mod Certificates
+pub mod Quantity
+pub mod Laws
+pub mod Standings
+pub mod Verdicts
+pub mod Tables
+pub mod Answers

@@ -1,0 +1,86 @@
+-- Verdicts by table: an entry for each collecting process and each layout, which is told by its number.
+use Rattle.std.specs.Prelude.{◌≡◌, ℕ, suc, ◌<◌, List, [], ◌∷◌, map, length, Contains, Option, Some, None, slice_get, slice_set, if◌then◌else◌}
+use Rattle.fx_boxes.specs.Boxes.{Bounds}
+use Rattle.fx_layout.specs.Keys.{Layout}
+use Rattle.fx_machine.specs.Network.{Net, Holder, Aggregation, Process, at_places, exporters_of}
+use Rattle.fx_leaf.specs.declared.verdict.Fate.TheVariants.{Never}
+use Rattle.fx_leaf.specs.Standings.{standing, match_fields}
+use Rattle.fx_leaf.specs.Verdicts.{Verdict, both_judged, all_judged, where_passed, sent_verdict, layout_reads, tally_verdict, verdict}
+
+-- ---- layouts by number
+
+-- layouts, and for each holder the number of its own, from 0
+pub record Numbering : Type 0 where
+  pub layouts : List Layout
+  pub numbers : List ℕ
+
+abbrev pub or_first : Option ℕ → ℕ
+or_first None = 0
+or_first (Some n) = n
+
+abbrev pub number_of_layout : Numbering → ℕ → ℕ
+number_of_layout n holder = or_first (slice_get n.numbers holder)
+
+-- each holder has the number of its layout
+abbrev pub Numbers : Net → Numbering → Type 0
+Numbers net n =
+    (holder : ℕ) (h : Holder) → slice_get net.holders holder ≡ Some h → slice_get n.layouts (number_of_layout n holder) ≡ Some h.layout
+
+-- ---- the table
+
+-- for each collecting process a row, with an entry for each layout
+abbrev pub Table : Type 0
+Table = List (List Verdict)
+
+abbrev pub or_never : Option Verdict → Verdict
+or_never None = Some Never
+or_never (Some v) = v
+
+abbrev pub entry_in : Option (List Verdict) → ℕ → Verdict
+entry_in None layout = Some Never
+entry_in (Some row) layout = or_never (slice_get row layout)
+
+abbrev pub entry : Table → ℕ → ℕ → Verdict
+entry table process layout = entry_in (slice_get table process) layout
+
+-- ---- what an entry is worked out from: the entries of the processes that this one feeds
+
+abbrev pub taken_entry : Table → Net → Numbering → Bounds → Layout → Aggregation → Verdict
+taken_entry table net n region layout a =
+    if layout_reads net layout a
+    then where_passed (standing region (match_fields a.matches)) (sent_verdict (entry table) net (number_of_layout n a.holder) (exporters_of net (slice_get net.holders a.holder)))
+    else Some Never
+
+abbrev pub handled_entry : Table → Net → Numbering → Bounds → ℕ → Layout → Option Process → Verdict
+handled_entry table net n region number layout None = Some Never
+handled_entry table net n region number layout (Some process) =
+    both_judged (sent_verdict (entry table) net number (at_places net.exporters process.exporters)) (all_judged (map (taken_entry table net n region layout) process.aggregations))
+
+abbrev pub entry_from : Table → Net → Numbering → Bounds → ℕ → ℕ → Layout → Verdict
+entry_from table net n region process number layout =
+    both_judged (tally_verdict net layout process) (handled_entry table net n region number layout (slice_get net.processes process))
+
+-- a row, from the layout of this number on
+abbrev pub row_from : Table → Net → Numbering → Bounds → ℕ → ℕ → List Layout → List Verdict
+row_from table net n region process number [] = []
+row_from table net n region process number (layout ∷ layouts) =
+    entry_from table net n region process number layout ∷ row_from table net n region process (suc number) layouts
+
+-- the rows of these processes, one after another
+abbrev pub fill : Net → Numbering → Bounds → List ℕ → Table → Table
+fill net n region [] table = table
+fill net n region (process ∷ processes) table =
+    fill net n region processes (slice_set table process (row_from table net n region process 0 n.layouts))
+
+-- ---- the order in which rows are filled
+
+-- each process comes behind all of higher rank
+abbrev pub Descends : Net → (ℕ → ℕ) → List ℕ → List ℕ → Type 0
+Descends net rank done [] = Unit {0}
+Descends net rank done (process ∷ processes) =
+    (process < length net.processes) × ((q : ℕ) → q < length net.processes → rank process < rank q → Contains done q) × Descends net rank (process ∷ done) processes
+
+-- the entries for a process are its verdicts
+abbrev pub HasVerdicts : Net → Numbering → Bounds → Table → ℕ → Type 0
+HasVerdicts net n region table process =
+    (number : ℕ) (layout : Layout) → slice_get n.layouts number ≡ Some layout → entry table process number ≡ verdict net region process layout

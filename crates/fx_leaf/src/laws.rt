@@ -1,0 +1,55 @@
+//! The laws: no code, but contracts over the definitions.
+ghost use Rattle.std.specs.Prelude.{◌≡◌, ℕ, List};
+ghost use Rattle.fx_layout.specs.Keys as keys;
+ghost use Rattle.fx_machine.specs.Acts as acts;
+ghost use Rattle.fx_machine.specs.Classes as traffic;
+ghost use Rattle.fx_machine.specs.Network as network;
+ghost use Rattle.fx_machine.specs.Ranks as ranks;
+ghost use Rattle.fx_machine.specs.States as states;
+ghost use Rattle.fx_machine.specs.declared.packet.Packet as of_packet;
+ghost use Rattle.fx_machine.specs.declared.step.HolderName as of_holder;
+ghost use Rattle.fx_machine.specs.declared.step.Step.TheVariants as of_step;
+ghost use Rattle.fx_leaf.specs.Answers as answers;
+ghost use Rattle.fx_leaf.specs.Certificates as certificates;
+ghost use Rattle.fx_leaf.specs.Fates as fates;
+ghost use Rattle.fx_leaf.specs.Laws as the_laws;
+
+/// Where each link leads to a process of higher rank, the fates of keys at processes agree with one another along
+/// the links, and no other fates do.
+pub fn fates_along_ranks()
+    ensures agree { (net : network.Net) → ranks.IsRanked net → fates.AreFates net (fates.fate net) }
+    ensures no_other { (net : network.Net) (at : fates.FateAt) → ranks.IsRanked net → fates.AreFates net at
+        → (process : ℕ) (key : keys.Key) → at process key ≡ fates.fate net process key }
+{}
+
+/// What every step keeps: the totals, with each record on its way and each crossing to come weighed by its fate.
+pub fn conservation()
+    // At the opening it is the plain sums.
+    ensures opens { (net : network.Net) (classes : List traffic.Class) → ranks.IsNetwork net → certificates.AllOnce net classes → the_laws.Opens net classes }
+    // There the machine's tables have their sizes, which each step keeps too.
+    ensures sized { (net : network.Net) (classes : List traffic.Class) (packets : List of_packet.Packet) → the_laws.IsSized net (states.opening net classes packets) }
+    ensures cross { (net : network.Net) (classes : List traffic.Class) (packet : ℕ) (crossing : ℕ) (choices : acts.Choices) → ranks.IsNetwork net → the_laws.Kept net classes (of_step.Cross packet crossing choices) }
+    ensures expire { (net : network.Net) (classes : List traffic.Class) (holder : of_holder.HolderName) (number : ℕ) (choices : acts.Choices) → ranks.IsNetwork net → the_laws.Kept net classes (of_step.Expire holder number choices) }
+    ensures arrive { (net : network.Net) (classes : List traffic.Class) (link : ℕ) (number : ℕ) (choices : acts.Choices) → ranks.IsNetwork net → the_laws.Kept net classes (of_step.Arrive link number choices) }
+    // In a complete state it is the totals.
+    ensures ends { (net : network.Net) (classes : List traffic.Class) → the_laws.Ends net classes }
+{}
+
+/// Where a certificate is sound, each packet is counted exactly once by every complete run.
+pub fn exactly_once()
+    ensures { the_laws.Theorem }
+{}
+
+/// The verdict on a region, which is worked out by layouts alone, tells whether something cuts the region, which
+/// fate its packets have, and which leaf is sound.
+pub fn verdicts_judge_regions()
+    // Where there is no verdict, something cuts the region.
+    ensures none { answers.Judges answers.NoneIsCut }
+    // Where there is one, nothing does, and it is the fate of each packet.
+    ensures some { answers.Judges answers.SomeIsFate }
+    // Where it is once, the selection process told makes a sound leaf, and no other does.
+    ensures once { answers.Judges answers.OnceIsSound }
+    ensures no_other { answers.Judges answers.NoOtherIsSound }
+    // Verdicts at collecting processes may be worked out by table, from the processes of highest rank on.
+    ensures table { answers.TableIsVerdicts }
+{}

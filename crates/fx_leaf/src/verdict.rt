@@ -1,0 +1,64 @@
+//! Fates of packets, and verdicts on regions of packets.
+ghost use Rattle.std.specs.Prelude.{◌≡◌};
+ghost use Rattle.fx_leaf.specs.Fates as fates;
+ghost use Rattle.fx_leaf.specs.Verdicts as verdicts;
+
+/// How often a packet, or a record with some key, comes to be counted.
+#[derive(Clone, Copy, Debug, PartialEq, Eq)]
+pub enum Fate {
+    /// It isn't counted.
+    Never,
+    /// It is counted once.
+    Once,
+    /// It is counted more than once.
+    Many,
+    /// How often depends on the destinations that are chosen.
+    Differing,
+    /// It can come to the report with a layout that doesn't refine the report's.
+    Unassigned,
+}
+
+impl Fate {
+    /// Both happen.
+    pub fn both(self, other: Fate) -> Fate
+        ensures { result ≡ fates.both self other }
+    {
+        match (self, other) {
+            (Fate::Unassigned, _) | (_, Fate::Unassigned) => Fate::Unassigned,
+            (Fate::Differing, _) | (_, Fate::Differing) => Fate::Differing,
+            (Fate::Many, _) | (_, Fate::Many) | (Fate::Once, Fate::Once) => Fate::Many,
+            (Fate::Never, fate) | (fate, Fate::Never) => fate,
+        }
+    }
+
+    /// One of both happens.
+    pub fn either(self, other: Fate) -> Fate
+        ensures { result ≡ fates.either self other }
+    {
+        match (self, other) {
+            (Fate::Unassigned, _) | (_, Fate::Unassigned) => Fate::Unassigned,
+            (Fate::Never, Fate::Never) => Fate::Never,
+            (Fate::Once, Fate::Once) => Fate::Once,
+            (Fate::Many, Fate::Many) => Fate::Many,
+            (_, _) => Fate::Differing,
+        }
+    }
+}
+
+/// The verdict where both happen: none where either is cut.
+pub fn both_judged(one: Option<Fate>, other: Option<Fate>) -> Option<Fate>
+    ensures { result ≡ verdicts.both_judged one other }
+{
+    let one = one?;
+    let other = other?;
+    Some(one.both(other))
+}
+
+/// The verdict where one of both happens: none where either is cut.
+pub fn either_judged(one: Option<Fate>, other: Option<Fate>) -> Option<Fate>
+    ensures { result ≡ verdicts.either_judged one other }
+{
+    let one = one?;
+    let other = other?;
+    Some(one.either(other))
+}
