@@ -1,14 +1,35 @@
-# The gate and the program. All of it needs the Rattle kit's command `rt` on the PATH, and python3 for the rows.
+# The gate and the program. All of it needs the Rattle kit's command `rt` on the PATH; the rows and examples need python3.
 
 .DEFAULT_GOAL := test
-.PHONY: test rows clean kit
+.PHONY: test replay rows examples clean kit once
 
 kit:
 	@command -v rt >/dev/null || { echo "rt not found: install the Rattle kit (rattle-kit-13b) and put its bin/ folder on the PATH"; exit 2; }
 
-# Proves every crate from nothing, tries the wrong bodies, runs the tests and the programs.
+# Proves every crate from nothing, tries the wrong bodies, runs the tests and the programs; then the rows and the
+# examples over the built program.
 test: kit
 	rt ci
+	$(MAKE) rows examples
+
+# The program, proved and built: ./once.
+once: kit
+	cd crates/once && rt run < stdin > /dev/null
+	ln -sf crates/once/out/once once
+
+# Builds the program and runs the stored bundle: a run of two packets through one meter and one collector.
+replay: once
+	./once < crates/once/stdin
+
+# Runs the program over the worked rows.
+rows: once
+	python3 tests/rows.py ./once
+
+# Replays the examples and compares with what they should print.
+examples: once
+	for example in examples/*/; do \
+	  ./once replay $$example/network.json $$example/traffic.json $$example/run.txt | diff - $$example/totals.txt || exit 1; \
+	done
 
 clean:
 	rm -rf out crates/*/out once

@@ -1,3 +1,5 @@
+pub mod Commands
+pub mod Documents
 pub mod Marks
 pub mod Layouts
 pub mod Replays

@@ -1,2 +1,4 @@
 pub mod Bundle
+pub mod Commands
+pub mod Documents
 pub mod Replay

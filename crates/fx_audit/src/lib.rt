@@ -3,11 +3,14 @@
 
 mod answer;
 mod bundle;
+mod bundle_command;
+mod document;
+mod replay_command;
 mod replaying;
 
 pub use answer::Answer;
-pub use bundle::{Bundle, Command, read_bundle};
-pub use replaying::replay;
+pub use bundle_command::bundle_bytes;
+pub use replay_command::replay_bytes;
 
 #[cfg(test)]
 mod tests;

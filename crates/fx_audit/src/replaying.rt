@@ -50,6 +50,7 @@ fn put_complete<S: Sink>(sink: &mut S, complete: bool) -> Result<(), Fault>
 fn put_state<S: Sink>(alloc: Global, state: &State<'_>, sink: &mut S) -> Result<(), Fault>
     ensures ok { OnOk result ((text : List ℕ) × IsTextOf state.now.net.report_layout state.now.state text × Writes (S.taken sink.old) (S.taken sink.new) text) }
     ensures err { IfErr result (λ e. (e ≡ fault_at 900 places.None) ⊎ ((e ≡ fault_at 902 places.None) × (S.failed sink.new ≡ true))) }
+    ensures quiet { IfErr result (λ e. (e ≡ fault_at 902 places.None) ⊎ (S.taken sink.new ≡ S.taken sink.old)) }
 {
     let mut totals = Totals::of(alloc, state)?;
     totals.sort()?;
@@ -74,6 +75,7 @@ pub fn replay<S: Sink>(
         × (stepping.run net.now classes.now run.packets run.steps (states.opening net.now classes.now run.packets) ≡ Ok last)
         × IsTextOf net.now.report_layout (states.told last) text × Writes (S.taken sink.old) (S.taken sink.new) text)) }
     ensures err { IfErr result (λ e. IsRefused net.now classes.now run e ⊎ ((e ≡ fault_at 900 places.None) ⊎ ((e ≡ fault_at 902 places.None) × (S.failed sink.new ≡ true)))) }
+    ensures quiet { IfErr result (λ e. (e ≡ fault_at 902 places.None) ⊎ (S.taken sink.new ≡ S.taken sink.old)) }
 {
     let (packets, steps) = run.into_parts();
     let mut state = State::open(alloc, net, classes, packets)?;

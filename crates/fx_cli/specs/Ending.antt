@@ -1,5 +1,5 @@
 -- How a command ends: the line of a refusal, and the program's exit status.
-use Rattle.std.specs.Prelude.{ℕ, ◌==◌, ◌||◌, List, [], ◌∷◌, ◌++◌, codes, if◌then◌else◌, Result, Ok, Err, Bool}
+use Rattle.std.specs.Prelude.{ℕ, ◌≤◌, ◌==◌, ◌||◌, List, [], ◌∷◌, ◌++◌, codes, if◌then◌else◌, Result, Ok, Err, Bool}
 use Rattle.std.specs.Fmt.{decimal}
 use Rattle.fx_base.specs.declared.fault.Fault.{Fault}
 use Rattle.fx_base.specs.declared.fault.Place.{Place}
@@ -38,3 +38,7 @@ status (Err fault) = refusal_status fault
 abbrev pub last_words : Result Answer Fault → List ℕ
 last_words (Ok answer) = []
 last_words (Err fault) = refusal_line fault
+
+-- the statuses with which the program ends
+abbrev pub IsExitStatus : ℕ → Type 0
+IsExitStatus code = code ≤ 6

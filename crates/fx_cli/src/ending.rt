@@ -3,7 +3,7 @@ ghost use Rattle.std.specs.Prelude.{◌≡◌, ◌⊎◌, true, false, OnOk, IfE
 ghost use Rattle.fx_base.specs.Device.{Writes};
 ghost use Rattle.fx_base.specs.Fault.{fault_at};
 ghost use Rattle.fx_base.specs.declared.fault.Place.TheVariants as places;
-ghost use Rattle.fx_cli.specs.Ending.{behind, refusal_line, refusal_status, status, last_words};
+ghost use Rattle.fx_cli.specs.Ending.{IsExitStatus, behind, refusal_line, refusal_status, status, last_words};
 
 use fx_audit::Answer;
 use fx_base::{Fault, Place, Sink, put_number, put_place, put_text};
@@ -48,7 +48,8 @@ fn put_refusal<S: Sink>(sink: &mut S, fault: &Fault) -> Result<(), Fault>
 
 /// The exit status of a refusal.
 fn status_of_refusal(fault: &Fault) -> u8
-    ensures { result ≡ refusal_status fault.now }
+    ensures status { result ≡ refusal_status fault.now }
+    ensures exit { IsExitStatus result }
 {
     let number = fault.number;
     match number {
@@ -66,6 +67,7 @@ fn status_of_refusal(fault: &Fault) -> u8
 pub fn finish<S: Sink>(outcome: &Result<Answer, Fault>, sink: &mut S) -> u8
     ensures status { (result ≡ status outcome.now) ⊎ ((result ≡ 5) × (S.failed sink.new ≡ true)) }
     ensures written { S.failed sink.new ≡ false → Writes (S.taken sink.old) (S.taken sink.new) (last_words outcome.now) }
+    ensures exit { IsExitStatus result }
 {
     match outcome {
         Ok(Answer::Yes) => 0,

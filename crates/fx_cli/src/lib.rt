@@ -2,8 +2,17 @@
 #![tactic(auto)]
 
 mod ending;
+mod files;
+mod running;
+mod words;
+mod words_ending;
 
 pub use ending::finish;
+pub use running::run;
+pub use words::{Call, read_words};
+pub use words_ending::{finish_unread, finish_words};
 
 #[cfg(test)]
 mod tests;
+#[cfg(test)]
+mod words_tests;

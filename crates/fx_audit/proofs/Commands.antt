@@ -1,0 +1,115 @@
+-- What commands over octets come to.
+use Rattle.std.proofs.Common.{◌≡◌, ◌⊎◌, ℕ, List, [], Option, Some, None, Result, Ok, Err, IfSome, IfOk, IfErr, Bool, true, false, refl, sym, ap, ◌∙◌, subst, inl, inr, ◌≤◌, ◌^◌, length}
+use Rattle.fx_base.specs.declared.fault.Fault.{Fault}
+use Rattle.fx_base.specs.declared.fault.Place.TheVariants as places
+use Rattle.fx_base.specs.Fault.{fault_at}
+use Rattle.fx_base.specs.Lines.{Lines, new_lines}
+use Rattle.fx_machine.specs.Network.{Net}
+use Rattle.fx_machine.specs.Classes.{Class}
+use Rattle.fx_machine.specs.RunText.{Run}
+use Rattle.fx_machine.specs.RunReading.{Fails, run_reading}
+use Rattle.fx_plan.specs.declared.network.Network.{Network}
+use Rattle.fx_plan.specs.Tables.{net_of}
+use Rattle.fx_audit.specs.declared.answer.Answer.{Answer}
+use Rattle.fx_audit.specs.declared.answer.Answer.TheVariants.{Yes}
+use Rattle.fx_audit.specs.declared.bundle.Command.{Command}
+use Rattle.fx_audit.specs.declared.bundle.Command.TheVariants.{Replay}
+use Rattle.fx_audit.specs.Bundle.{IsBundle}
+use Rattle.fx_audit.specs.Documents.{IsNetwork, IsTraffic, ReadFails}
+use Rattle.fx_audit.specs.Commands.{IsEndless, IsRefusedBundle, IsRefusedReplay, IsRefusedRun, IsRefusedThere, IsReplayed, IsReplayedIn}
+use Rattle.fx_audit.specs.Replay.{IsRefused}
+use Rattle.fx_audit.proofs.Documents.{told}
+
+-- ---- a run in a network and traffic
+
+pub lines_refused : (network : Network) (classes known : List Class) (lines : Lines) (r : Run) (net : Net) (F W : Fault → Type 0) (result : Result Answer Fault) → net ≡ net_of network → known ≡ classes → IfSome (run_reading known lines) (λ x. x ≡ Ok r) → IfErr result (λ e. IsRefused net known r e ⊎ ((e ≡ fault_at 900 places.None) ⊎ W e)) → IfErr result (λ e. (e ≡ fault_at 900 places.None) ⊎ (F e ⊎ (W e ⊎ IsRefusedRun network classes lines e)))
+lines_refused network classes known lines r net F W (Ok a) same of read h = cc
+lines_refused network classes known lines r net F W (Err e) same of read h =
+    let mine : IfSome (run_reading classes lines) (λ x. x ≡ Ok r) = subst (λ (cs : List Class). IfSome (run_reading cs lines) (λ x. x ≡ Ok r)) of read in
+    elim h [
+      | inl refused ↦ inr (inr (inr (inr (r, mine, subst (λ (cs : List Class). IsRefused (net_of network) cs r e) of (subst (λ (n : Net). IsRefused n known r e) same refused)))))
+      | inr (inl m) ↦ inl m
+      | inr (inr w) ↦ inr (inr (inl w))
+    ]
+
+-- ---- two documents and a run
+
+two_told : (left_n left_t : Option (List ℕ)) (P Q : List ℕ → Type 0) (R : List ℕ → List ℕ → Type 0) → IfSome left_n P → IfSome left_t Q → ((n t : List ℕ) → P n → Q t → R n t) → IfSome left_n (λ n. IfSome left_t (λ t. R n t))
+two_told None left_t P Q R p q h = cc
+two_told (Some n) None P Q R p q h = cc
+two_told (Some n) (Some t) P Q R p q h = h n t p q
+
+pub replay_done : (left_n left_t : Option (List ℕ)) (network : Network) (classes : List Class) (lines : Lines) (W : List ℕ → Type 0) (result : Result Answer Fault) → IfSome left_n (λ n. IsNetwork n network) → IfSome left_t (λ t. IsTraffic network t classes) → IfOk result (λ a. (a ≡ Yes) × ((text : List ℕ) × IsReplayedIn network classes lines text × W text)) → IfOk result (λ a. (a ≡ Yes) × IfSome left_n (λ n. IfSome left_t (λ t. (text : List ℕ) × IsReplayed n t lines text × W text)))
+replay_done left_n left_t network classes lines W (Err e) n t h = cc
+replay_done left_n left_t network classes lines W (Ok a) n t h =
+    let text = h.1.0 in
+    let replayed : IsReplayedIn network classes lines text = h.1.1 in
+    let written : W text = h.1.2 in
+    (h.0, two_told left_n left_t (λ o. IsNetwork o network) (λ o. IsTraffic network o classes) (λ x y. (text' : List ℕ) × IsReplayed x y lines text' × W text') n t (λ x y p q. (text, record { network = network; classes = classes; network_is = p; traffic_is = q; replayed = replayed }, written)))
+
+run_refused : (left_n left_t : Option (List ℕ)) (network : Network) (classes : List Class) (lines : Lines) (e : Fault) → IfSome left_n (λ n. IsNetwork n network) → IfSome left_t (λ t. IsTraffic network t classes) → IsRefusedRun network classes lines e → IfSome left_n (λ n. IfSome left_t (λ t. IsRefusedReplay n t lines e))
+run_refused left_n left_t network classes lines e n t h =
+    two_told left_n left_t (λ o. IsNetwork o network) (λ o. IsTraffic network o classes) (λ x y. IsRefusedReplay x y lines e) n t (λ x y p q. inr (network, classes, p, q, h))
+
+pub replay_refused : (left_n left_t : Option (List ℕ)) (network : Network) (classes : List Class) (lines : Lines) (N T F W : Fault → Type 0) (result : Result Answer Fault) → IfSome left_n (λ n. IsNetwork n network) → IfSome left_t (λ t. IsTraffic network t classes) → IfErr result (λ e. (e ≡ fault_at 900 places.None) ⊎ (F e ⊎ (W e ⊎ IsRefusedRun network classes lines e))) → IfErr result (λ e. (e ≡ fault_at 900 places.None) ⊎ (N e ⊎ (T e ⊎ (F e ⊎ (W e ⊎ IfSome left_n (λ n. IfSome left_t (λ t. IsRefusedReplay n t lines e)))))))
+replay_refused left_n left_t network classes lines N T F W (Ok a) n t h = cc
+replay_refused left_n left_t network classes lines N T F W (Err e) n t h =
+    elim h [
+      | inl m ↦ inl m
+      | inr (inl f) ↦ inr (inr (inr (inl f)))
+      | inr (inr (inl w)) ↦ inr (inr (inr (inr (inl w))))
+      | inr (inr (inr r)) ↦ inr (inr (inr (inr (inr (run_refused left_n left_t network classes lines e n t r)))))
+    ]
+
+-- ---- a bundle
+
+of_told : (left_n left_t : Option (List ℕ)) (n t : List ℕ) (R : List ℕ → List ℕ → Type 0) → left_n ≡ Some n → left_t ≡ Some t → IfSome left_n (λ x. IfSome left_t (λ y. R x y)) → R n t
+of_told left_n left_t n t R en et h =
+    let first : IfSome (Some n) (λ x. IfSome left_t (λ y. R x y)) = subst (λ (o : Option (List ℕ)). IfSome o (λ x. IfSome left_t (λ y. R x y))) en h in
+    let second : IfSome (Some t) (λ y. R n y) = subst (λ (o : Option (List ℕ)). IfSome o (λ y. R n y)) et first in
+    second
+
+fails_there : (left : Option (List ℕ)) (octets : List ℕ) (failed : Bool) (e : Fault) → left ≡ Some octets → failed ≡ false → ReadFails left failed e → ReadFails (Some octets) false e
+fails_there left octets failed e same none h = subst (λ (b : Bool). ReadFails (Some octets) b e) none (subst (λ (o : Option (List ℕ)). ReadFails o failed e) same h)
+
+pub there_refused : (left_n left_t : Option (List ℕ)) (n t third : List ℕ) (failed_n failed_t : Bool) (old new : Lines) (W : Fault → Type 0) (result : Result Answer Fault) → left_n ≡ Some n → left_t ≡ Some t → failed_n ≡ false → failed_t ≡ false → old ≡ new_lines (Some third) false → IfErr result (λ e. (e ≡ fault_at 900 places.None) ⊎ (ReadFails left_n failed_n e ⊎ (ReadFails left_t failed_t e ⊎ (Fails old new e ⊎ (W e ⊎ IfSome left_n (λ x. IfSome left_t (λ y. IsRefusedReplay x y old e))))))) → IfErr result (λ e. (e ≡ fault_at 900 places.None) ⊎ (W e ⊎ IsRefusedThere n t third e))
+there_refused left_n left_t n t third failed_n failed_t old new W (Ok a) en et fn ft is h = cc
+there_refused left_n left_t n t third failed_n failed_t old new W (Err e) en et fn ft is h =
+    elim h [
+      | inl m ↦ inl m
+      | inr (inl f) ↦ inr (inr (inr (inl (fails_there left_n n failed_n e en fn f))))
+      | inr (inr (inl f)) ↦ inr (inr (inr (inr (inl (fails_there left_t t failed_t e et ft f)))))
+      | inr (inr (inr (inl f))) ↦ inr (inr (inr (inr (inr (new, subst (λ (l : Lines). Fails l new e) is f)))))
+      | inr (inr (inr (inr (inl w)))) ↦ inr (inl w)
+      | inr (inr (inr (inr (inr r)))) ↦ inr (inr (inl (subst (λ (l : Lines). IsRefusedReplay n t l e) is (of_told left_n left_t n t (λ x y. IsRefusedReplay x y old e) en et r))))
+    ]
+
+only_replay : (octets : List ℕ) (command : Command) (n t third : List ℕ) → IsBundle octets command n t third → IsBundle octets Replay n t third
+only_replay octets Replay n t third h = h
+
+pub bundle_done : (left : Option (List ℕ)) (octets text : List ℕ) (command : Command) (n t third : List ℕ) (W : List ℕ → Type 0) (result : Result Answer Fault) → IfSome left (λ l. octets ≡ l) → text ≡ octets → IsBundle text command n t third → IfOk result (λ a. (a ≡ Yes) × ((out : List ℕ) × IsReplayed n t (new_lines (Some third) false) out × W out)) → IfOk result (λ a. (a ≡ Yes) × IfSome left (λ o. (network : List ℕ) × (traffic : List ℕ) × (last : List ℕ) × (out : List ℕ) × IsBundle o Replay network traffic last × IsReplayed network traffic (new_lines (Some last) false) out × W out))
+bundle_done left octets text command n t third W (Err e) same is b h = cc
+bundle_done left octets text command n t third W (Ok a) same is b h =
+    let out = h.1.0 in
+    let replayed : IsReplayed n t (new_lines (Some third) false) out = h.1.1 in
+    let written : W out = h.1.2 in
+    let there : IsBundle octets Replay n t third = only_replay octets command n t third (subst (λ (o : List ℕ). IsBundle o command n t third) is b) in
+    (h.0, told left octets (λ o. (network : List ℕ) × (traffic : List ℕ) × (last : List ℕ) × (out' : List ℕ) × IsBundle o Replay network traffic last × IsReplayed network traffic (new_lines (Some last) false) out' × W out') same (n, t, third, out, there, replayed, written))
+
+there_in : (left : Option (List ℕ)) (octets text : List ℕ) (command : Command) (n t third : List ℕ) (e : Fault) → IfSome left (λ l. octets ≡ l) → text ≡ octets → IsBundle text command n t third → IsRefusedThere n t third e → IfSome left (λ o. IsRefusedBundle o e)
+there_in left octets text command n t third e same is b h =
+    let there : IsBundle octets Replay n t third = only_replay octets command n t third (subst (λ (o : List ℕ). IsBundle o command n t third) is b) in
+    told left octets (λ o. IsRefusedBundle o e) same (inr (n, t, third, there, h))
+
+pub bundle_refused : (left : Option (List ℕ)) (octets text : List ℕ) (command : Command) (n t third : List ℕ) (R W : Fault → Type 0) (result : Result Answer Fault) → IfSome left (λ l. octets ≡ l) → text ≡ octets → IsBundle text command n t third → IfErr result (λ e. (e ≡ fault_at 900 places.None) ⊎ (W e ⊎ IsRefusedThere n t third e)) → IfErr result (λ e. (e ≡ fault_at 900 places.None) ⊎ (R e ⊎ (W e ⊎ IfSome left (λ o. IsRefusedBundle o e))))
+bundle_refused left octets text command n t third R W (Ok a) same is b h = cc
+bundle_refused left octets text command n t third R W (Err e) same is b h =
+    elim h [
+      | inl m ↦ inl m
+      | inr (inl w) ↦ inr (inr (inl w))
+      | inr (inr r) ↦ inr (inr (inr (there_in left octets text command n t third e same is b r)))
+    ]
+
+pub no_bundle : (left : Option (List ℕ)) (octets text : List ℕ) (e : Fault) → IfSome left (λ l. octets ≡ l) → text ≡ octets → e ≡ fault_at 801 places.None → ((command : Command) (network : List ℕ) (traffic : List ℕ) (third : List ℕ) → IsBundle text command network traffic third → ⊥) → IfSome left (λ o. IsRefusedBundle o e)
+no_bundle left octets text e same is number none =
+    told left octets (λ o. IsRefusedBundle o e) same (inl (number, λ command network traffic third b. none command network traffic third (subst (λ (o : List ℕ). IsBundle o command network traffic third) (sym is) b)))

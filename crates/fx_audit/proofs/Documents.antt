@@ -1,0 +1,63 @@
+-- What reading a document comes to.
+use Rattle.std.proofs.Common.{◌≡◌, ◌⊎◌, ℕ, List, [], Option, Some, None, Result, Ok, Err, IfSome, refl, sym, ap, ◌∙◌, subst, inl, inr, IfOk, IfErr, IsUtf8}
+use Rattle.std.specs.Result.{IsErr, IsErrAnd}
+use Rattle.serde_json.specs.Data.{Data}
+use Rattle.fx_base.specs.declared.fault.Fault.{Fault}
+use Rattle.fx_base.specs.declared.fault.Place.{Place}
+use Rattle.fx_base.specs.declared.fault.Place.TheVariants as places
+use Rattle.fx_base.specs.Fault.{fault_at}
+use Rattle.fx_config.specs.Walk.{Found, Reads, Refuses, refuses, first}
+use Rattle.fx_plan.specs.declared.network.Network.{Network}
+use Rattle.fx_plan.specs.Networks.{device_names}
+use Rattle.fx_traffic.specs.Classes.{traffic_faults}
+use Rattle.fx_audit.specs.Documents.{IsDocument, IsFirstFault, IsJson, IsNetwork, IsRefusedByDocuments, is_found}
+
+-- what holds of the octets that were read holds of those that were left
+pub told : (left : Option (List ℕ)) (octets : List ℕ) (P : List ℕ → Type 0) → IfSome left (λ l. octets ≡ l) → P octets → IfSome left P
+told None octets P h p = cc
+told (Some l) octets P h p = subst P h p
+
+found_or_memory : (n : ℕ) (p : Place) (fs : List Found) → refuses n p fs → (fault_at n p ≡ fault_at 900 places.None) ⊎ is_found n p fs
+found_or_memory n places.None fs h = inl (ap (λ (k : ℕ). fault_at k places.None) h)
+found_or_memory n (places.Text s) fs h = inr h
+found_or_memory n (places.Line l) fs h = absurd h
+found_or_memory n (places.Octet o) fs h = absurd h
+
+-- a source whose octets are a document that is read, and one whose octets are refused, for the first fault or for
+-- want of memory
+pub source_read : {X : Type 0} (faults : Data → List Found) (meaning : Data → X) (left : Option (List ℕ)) (octets text : List ℕ) (d : Data) → IfSome left (λ l. octets ≡ l) → text ≡ octets → IsJson text d → (r : Result X Fault) → Reads (faults d) (meaning d) r → IfOk r (λ x. IfSome left (λ l. IsDocument faults meaning l x))
+source_read faults meaning left octets text d same is json (Ok x) h = told left octets (λ l. IsDocument faults meaning l x) same (record { value = d; json = subst (λ (o : List ℕ). IsJson o d) is json; faultless = h.0; means = h.1 })
+source_read faults meaning left octets text d same is json (Err e) h = cc
+
+refused_first : (faults : Data → List Found) (left : Option (List ℕ)) (octets : List ℕ) (e : Fault) → IfSome left (λ l. octets ≡ l) → IsFirstFault faults octets e → IfSome left (λ l. IsFirstFault faults l e)
+refused_first faults left octets e same f = told left octets (λ l. IsFirstFault faults l e) same f
+
+pub source_refused : {X : Type 0} (faults : Data → List Found) (meaning : Data → X) (left : Option (List ℕ)) (octets text : List ℕ) (d : Data) (Q : Fault → Type 0) → IfSome left (λ l. octets ≡ l) → text ≡ octets → IsJson text d → (r : Result X Fault) → Reads (faults d) (meaning d) r → IfErr r (λ e. (e ≡ fault_at 900 places.None) ⊎ (Q e ⊎ IfSome left (λ l. IsFirstFault faults l e)))
+source_refused faults meaning left octets text d Q same is json (Ok x) h = cc
+source_refused faults meaning left octets text d Q same is json (Err e) h =
+    elim (found_or_memory e.number e.place (faults d) h) [ inl m ↦ inl m | inr f ↦ inr (inr (refused_first faults left octets e same (inr (d, subst (λ (o : List ℕ). IsJson o d) is json, f)))) ]
+
+-- octets that are no JSON text
+pub no_json : (faults : Data → List Found) (left : Option (List ℕ)) (octets text : List ℕ) (e : Fault) (Q : Type 0) → IfSome left (λ l. octets ≡ l) → text ≡ octets → (e ≡ fault_at 900 places.None) ⊎ ((e ≡ fault_at 101 places.None) × ((d : Data) → IsJson text d → ⊥)) → (e ≡ fault_at 900 places.None) ⊎ (Q ⊎ IfSome left (λ l. IsFirstFault faults l e))
+no_json faults left octets text e Q same is h =
+    elim h [ inl m ↦ inl m | inr n ↦ inr (inr (refused_first faults left octets e same (inl (n.0, λ d j. n.1 d (subst (λ (o : List ℕ). IsJson o d) (sym is) j))))) ]
+
+-- ---- two documents
+
+-- the exit of a `?`
+pub exit_with : {X : Type 0} (r : Result X Fault) (e : Fault) (Q : Fault → Type 0) → IsErr r × IsErrAnd r (λ d. d ≡ e) → Q e → IfErr r Q
+exit_with (Ok x) e Q h q = absurd h.1
+exit_with (Err d) e Q h q = subst Q (sym h.1) q
+
+both_told : (left_n left_t : Option (List ℕ)) (P Q : List ℕ → Type 0) (R : List ℕ → List ℕ → Type 0) → IfSome left_n P → IfSome left_t Q → ((n t : List ℕ) → P n → Q t → R n t) → IfSome left_n (λ n. IfSome left_t (λ t. R n t))
+both_told None left_t P Q R p q h = cc
+both_told (Some n) None P Q R p q h = cc
+both_told (Some n) (Some t) P Q R p q h = h n t p q
+
+pub traffic_refused : (left_n left_t : Option (List ℕ)) (network : Network) (e : Fault) (M N T : Type 0) → IfSome left_n (λ n. IsNetwork n network) → M ⊎ (T ⊎ IfSome left_t (λ t. IsFirstFault (traffic_faults (device_names network) []) t e)) → M ⊎ (N ⊎ (T ⊎ IfSome left_n (λ n. IfSome left_t (λ t. IsRefusedByDocuments n t e))))
+traffic_refused left_n left_t network e M N T is h =
+    elim h [
+      | inl m ↦ inl m
+      | inr (inl t) ↦ inr (inr (inl t))
+      | inr (inr f) ↦ inr (inr (inr (both_told left_n left_t (λ n. IsNetwork n network) (λ t. IsFirstFault (traffic_faults (device_names network) []) t e) (λ n t. IsRefusedByDocuments n t e) is f (λ n t p q. inr (network, p, q)))))
+    ]

@@ -1,0 +1,15 @@
+use Rattle.std.proofs.Common.{inr}
+use Rattle.fx_audit.proofs.Commands.{bundle_done, bundle_refused, no_bundle}
+use Rattle.fx_audit.proofs.bundle_command.bundle_bytes.Goals as goal
+
+pub returns-in_default-clause-err : goal.returns-in_default-clause-err
+returns-in_default-clause-err g c =
+    inr (inr (inr (no_bundle (g.B.Source.left c.args.bundle.now) c.in_ok-octets.octets.items c.as_slice.result.now c.bare.result c.in_ok-octets.ensures.all c.as_slice.ensures.value c.bare.ensures c.in_default.ensures.none)))
+
+pub returns-clause-ok : goal.returns-clause-ok
+returns-clause-ok g c =
+    bundle_done (g.B.Source.left c.args.bundle.now) c.in_ok-octets.octets.items c.as_slice.result.now c.in-Some.bundle.command _ _ _ _ c.replay_bundle.result c.in_ok-octets.ensures.all c.as_slice.ensures.value c.in-Some.ensures.some c.replay_bundle.ensures.ok
+
+pub returns-clause-err : goal.returns-clause-err
+returns-clause-err g c =
+    bundle_refused (g.B.Source.left c.args.bundle.now) c.in_ok-octets.octets.items c.as_slice.result.now c.in-Some.bundle.command _ _ _ _ _ c.replay_bundle.result c.in_ok-octets.ensures.all c.as_slice.ensures.value c.in-Some.ensures.some c.replay_bundle.ensures.err

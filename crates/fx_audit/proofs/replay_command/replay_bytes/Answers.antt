@@ -1,0 +1,10 @@
+use Rattle.fx_audit.proofs.Commands.{replay_done, replay_refused}
+use Rattle.fx_audit.proofs.replay_command.replay_bytes.Goals as goal
+
+pub returns-clause-ok : goal.returns-clause-ok
+returns-clause-ok g c =
+    replay_done (g.N.Source.left c.args.network.now) (g.T.Source.left c.args.traffic.now) c.in_ok-documents.documents.plan c.in_ok-documents.documents.traffic c.args.run.now _ c.replay_lines.result c.in_ok-documents.ensures.network c.in_ok-documents.ensures.traffic c.replay_lines.ensures.ok
+
+pub returns-clause-err : goal.returns-clause-err
+returns-clause-err g c =
+    replay_refused (g.N.Source.left c.args.network.now) (g.T.Source.left c.args.traffic.now) c.in_ok-documents.documents.plan c.in_ok-documents.documents.traffic c.args.run.now _ _ _ _ c.replay_lines.result c.in_ok-documents.ensures.network c.in_ok-documents.ensures.traffic c.replay_lines.ensures.err

@@ -1,0 +1,66 @@
+-- What commands make of octets.
+use Rattle.std.specs.Prelude.{◌≡◌, ◌⊎◌, ℕ, List, [], Ok, Err, Some, IfSome, false}
+use Rattle.fx_base.specs.declared.fault.Fault.{Fault}
+use Rattle.fx_base.specs.declared.fault.Place.TheVariants as places
+use Rattle.fx_base.specs.Fault.{fault_at}
+use Rattle.fx_base.specs.Lines.{Lines, new_lines}
+use Rattle.fx_machine.specs.Classes.{Class}
+use Rattle.fx_machine.specs.RunText.{Run}
+use Rattle.fx_machine.specs.RunReading.{Fails, run_reading}
+use Rattle.fx_machine.specs.States.{State, opening, told}
+use Rattle.fx_machine.specs.Steps.{run}
+use Rattle.fx_plan.specs.declared.network.Network.{Network}
+use Rattle.fx_plan.specs.Tables.{net_of}
+use Rattle.fx_audit.specs.Bundle.{IsBundle}
+use Rattle.fx_audit.specs.declared.bundle.Command.{Command}
+use Rattle.fx_audit.specs.declared.bundle.Command.TheVariants.{Replay}
+use Rattle.fx_audit.specs.Documents.{IsNetwork, IsRefusedByDocuments, IsTraffic, ReadFails}
+use Rattle.fx_audit.specs.Replay.{IsRefused, IsTextOf}
+
+-- ---- a run that is replayed
+
+-- the text that a replay in this network and traffic prints: that of the run's last state
+pub record IsReplayedIn (network : Network) (classes : List Class) (lines : Lines) (text : List ℕ) : Type 0 where
+  pub run_read : Run
+  pub last : State
+  pub run_is : IfSome (run_reading classes lines) (λ x. x ≡ Ok run_read)
+  pub steps : run (net_of network) classes run_read.packets run_read.steps (opening (net_of network) classes run_read.packets) ≡ Ok last
+  pub text_is : IsTextOf (net_of network).report_layout (told last) text
+
+-- the same in the network and traffic that two documents say
+pub record IsReplayed (network_octets traffic_octets : List ℕ) (lines : Lines) (text : List ℕ) : Type 0 where
+  pub network : Network
+  pub classes : List Class
+  pub network_is : IsNetwork network_octets network
+  pub traffic_is : IsTraffic network traffic_octets classes
+  pub replayed : IsReplayedIn network classes lines text
+
+-- the run's text is refused, in this network and traffic, or the run
+abbrev pub IsRefusedRun : Network → List Class → Lines → Fault → Type 0
+IsRefusedRun network classes lines e =
+    IfSome (run_reading classes lines) (λ x. x ≡ Err e)
+    ⊎ ((r : Run) × IfSome (run_reading classes lines) (λ x. x ≡ Ok r) × IsRefused (net_of network) classes r e)
+
+-- the first refusal of a replay: that of the documents, then the run's
+abbrev pub IsRefusedReplay : List ℕ → List ℕ → Lines → Fault → Type 0
+IsRefusedReplay network_octets traffic_octets lines e =
+    IsRefusedByDocuments network_octets traffic_octets e
+    ⊎ ((network : Network) × (classes : List Class) × IsNetwork network_octets network × IsTraffic network traffic_octets classes
+    × IsRefusedRun network classes lines e)
+
+-- ---- a bundle
+
+-- a text in memory that takes more than 2 to the 32 calls to read
+abbrev pub IsEndless : List ℕ → List ℕ → List ℕ → Fault → Type 0
+IsEndless network traffic third e =
+    ReadFails (Some network) false e ⊎ (ReadFails (Some traffic) false e ⊎ ((lines : Lines) × Fails (new_lines (Some third) false) lines e))
+
+-- what a bundle's command makes of its texts is refused
+abbrev pub IsRefusedThere : List ℕ → List ℕ → List ℕ → Fault → Type 0
+IsRefusedThere network traffic third e = IsRefusedReplay network traffic (new_lines (Some third) false) e ⊎ IsEndless network traffic third e
+
+-- the octets are no bundle, or what its command makes of its texts is refused
+abbrev pub IsRefusedBundle : List ℕ → Fault → Type 0
+IsRefusedBundle octets e =
+    ((e ≡ fault_at 801 places.None) × ((command : Command) (network : List ℕ) (traffic : List ℕ) (third : List ℕ) → IsBundle octets command network traffic third → ⊥))
+    ⊎ ((network : List ℕ) × (traffic : List ℕ) × (third : List ℕ) × IsBundle octets Replay network traffic third × IsRefusedThere network traffic third e)

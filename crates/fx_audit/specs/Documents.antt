@@ -1,0 +1,53 @@
+-- Documents as octets: JSON texts in UTF-8 (RFC 8259), and what a command's two documents say.
+use Rattle.std.specs.Prelude.{◌≡◌, ◌⊎◌, ℕ, ◌≤◌, ◌^◌, Bool, true, List, [], length, IsUtf8, Option, Some, IfSome, string_bytes}
+use Rattle.serde_json.specs.Data.{Data}
+use Rattle.serde_json.specs.Read.{read}
+use Rattle.fx_base.specs.declared.fault.Fault.{Fault}
+use Rattle.fx_base.specs.declared.fault.Place.{Place}
+use Rattle.fx_base.specs.declared.fault.Place.TheVariants as places
+use Rattle.fx_base.specs.Fault.{fault_at}
+use Rattle.fx_config.specs.Walk.{Found, first}
+use Rattle.fx_machine.specs.Classes.{Class}
+use Rattle.fx_plan.specs.declared.network.Network.{Network}
+use Rattle.fx_plan.specs.Networks.{device_names, network_faults, network_of}
+use Rattle.fx_traffic.specs.Classes.{traffic_faults, traffic_of}
+
+-- a source that is read to its end fails, or hasn't ended after 2 to the 32 calls
+abbrev pub ReadFails : Option (List ℕ) → Bool → Fault → Type 0
+ReadFails left failed e = (e ≡ fault_at 901 places.None) × ((failed ≡ true) ⊎ IfSome left (λ octets. 2 ^ 32 ≤ length octets))
+
+-- the octets are the text of this value
+abbrev pub IsJson : List ℕ → Data → Type 0
+IsJson octets d = IsUtf8 octets × (read octets ≡ Some d)
+
+-- the octets are a document with this meaning, and without a fault
+pub record IsDocument {X : Type 0} (faults : Data → List Found) (meaning : Data → X) (octets : List ℕ) (x : X) : Type 0 where
+  pub value : Data
+  pub json : IsJson octets value
+  pub faultless : faults value ≡ []
+  pub means : x ≡ meaning value
+
+abbrev pub is_found : ℕ → Place → List Found → Type 0
+is_found n (places.Text s) fs = first fs ≡ Some (n, string_bytes s)
+is_found n places.None fs = ⊥
+is_found n (places.Line l) fs = ⊥
+is_found n (places.Octet o) fs = ⊥
+
+-- the first fault of a document: 101 where the octets are no JSON text
+abbrev pub IsFirstFault : (Data → List Found) → List ℕ → Fault → Type 0
+IsFirstFault faults octets e =
+    ((e ≡ fault_at 101 places.None) × ((d : Data) → IsJson octets d → ⊥))
+    ⊎ ((d : Data) × IsJson octets d × is_found e.number e.place (faults d))
+
+abbrev pub IsNetwork : List ℕ → Network → Type 0
+IsNetwork octets network = IsDocument (network_faults []) network_of octets network
+
+-- a declaration of the traffic that crosses this network
+abbrev pub IsTraffic : Network → List ℕ → List Class → Type 0
+IsTraffic network octets classes = IsDocument (traffic_faults (device_names network) []) (traffic_of (device_names network)) octets classes
+
+-- the first fault of a command's two documents, of which the network's is read first
+abbrev pub IsRefusedByDocuments : List ℕ → List ℕ → Fault → Type 0
+IsRefusedByDocuments network_octets traffic_octets e =
+    IsFirstFault (network_faults []) network_octets e
+    ⊎ ((network : Network) × IsNetwork network_octets network × IsFirstFault (traffic_faults (device_names network) []) traffic_octets e)

@@ -1,0 +1,90 @@
+//! The two documents that every command begins with.
+ghost use Rattle.std.specs.Prelude.{◌≡◌, ◌⊎◌, [], IfOk, IfErr, IfSome};
+ghost use Rattle.serde_json.specs.View.{view};
+ghost use Rattle.serde_json.specs.Data.{Data};
+ghost use Rattle.fx_base.specs.Fault.{fault_at};
+ghost use Rattle.fx_base.specs.declared.fault.Place.TheVariants as places;
+ghost use Rattle.fx_plan.specs.Networks.{device_names, network_faults};
+ghost use Rattle.fx_traffic.specs.Classes.{traffic_faults};
+ghost use Rattle.fx_audit.specs.Documents.{IsFirstFault, IsJson, IsNetwork, IsRefusedByDocuments, IsTraffic, ReadFails};
+
+use fx_base::{Fault, Source, read_whole};
+use fx_plan::{Plan, read_plan};
+use fx_traffic::{Traffic, read_traffic};
+use serde_json::Value;
+use std::alloc::Global;
+
+/// The JSON value that these octets are the text of.
+///
+/// Fails, at no place, with 101 where they are no text of a value in UTF-8, and with 900 for want of memory.
+fn value_of(alloc: Global, octets: &[u8]) -> Result<Value, Fault>
+    ensures ok { IfOk result (λ value. IsJson octets.now (view value)) }
+    ensures err { IfErr result (λ e. (e ≡ fault_at 900 places.None) ⊎ ((e ≡ fault_at 101 places.None) × ((d : Data) → IsJson octets.now d → ⊥))) }
+{
+    match Value::from_slice(alloc, octets) {
+        Ok(value) => Ok(value),
+        Err(error) => {
+            if error.is_memory() {
+                return Err(Fault::bare(900));
+            }
+            Err(Fault::bare(101))
+        }
+    }
+}
+
+/// What the two documents say.
+#[derive(Debug, Drop)]
+pub struct Documents {
+    /// The network.
+    pub plan: Plan,
+    /// The traffic that crosses it.
+    pub traffic: Traffic,
+}
+
+/// The network that a source's octets are the document of.
+///
+/// Fails with 101, at no place, where they are no JSON text; as [`read_plan`] does; with 901, at no place, where
+/// a read fails or the source hasn't ended after 4,294,967,296 calls; and with 900 for want of memory.
+fn network_from<R: Source>(alloc: Global, source: &mut R) -> Result<Plan, Fault>
+    ensures ok { IfOk result (λ plan. IfSome (R.left source.old) (λ octets. IsNetwork octets plan)) }
+    ensures err { IfErr result (λ e. (e ≡ fault_at 900 places.None) ⊎ (ReadFails (R.left source.old) (R.failed source.new) e
+        ⊎ IfSome (R.left source.old) (λ octets. IsFirstFault (network_faults []) octets e))) }
+{
+    let octets = read_whole(alloc, source)?;
+    let value = value_of(alloc, octets.as_slice())?;
+    read_plan(alloc, &value)
+}
+
+/// The traffic that a source's octets are the declaration of, in a network.
+///
+/// Fails as [`network_from`] does, but as [`read_traffic`] in place of [`read_plan`].
+fn traffic_from<R: Source>(alloc: Global, source: &mut R, plan: &Plan) -> Result<Traffic, Fault>
+    ensures ok { IfOk result (λ traffic. IfSome (R.left source.old) (λ octets. IsTraffic plan.now octets traffic)) }
+    ensures err { IfErr result (λ e. (e ≡ fault_at 900 places.None) ⊎ (ReadFails (R.left source.old) (R.failed source.new) e
+        ⊎ IfSome (R.left source.old) (λ octets. IsFirstFault (traffic_faults (device_names plan.now) []) octets e))) }
+{
+    let octets = read_whole(alloc, source)?;
+    let value = value_of(alloc, octets.as_slice())?;
+    read_traffic(alloc, &value, plan)
+}
+
+/// Reads the network's document and then the declaration of its traffic.
+///
+/// Fails, at the first fault, with 101 at no place, or as [`read_plan`] and [`read_traffic`] do; with 901, at no
+/// place, where a read fails or a source hasn't ended after 4,294,967,296 calls; and with 900 for want of memory.
+pub fn read_documents<N: Source, T: Source>(
+    alloc: Global,
+    network: &mut N,
+    traffic: &mut T,
+) -> Result<Documents, Fault>
+    ensures network { IfOk result (λ documents. IfSome (N.left network.old) (λ octets. IsNetwork octets documents.plan)) }
+    ensures traffic { IfOk result (λ documents. IfSome (T.left traffic.old) (λ octets. IsTraffic documents.plan octets documents.traffic)) }
+    ensures err { IfErr result (λ e. (e ≡ fault_at 900 places.None)
+        ⊎ (ReadFails (N.left network.old) (N.failed network.new) e
+        ⊎ (ReadFails (T.left traffic.old) (T.failed traffic.new) e
+        ⊎ IfSome (N.left network.old) (λ n. IfSome (T.left traffic.old) (λ t. IsRefusedByDocuments n t e))))) }
+{
+    let plan = network_from(alloc, network)?;
+    let traffic = traffic_from(alloc, traffic, &plan)?;
+    Ok(Documents { plan, traffic })
+}

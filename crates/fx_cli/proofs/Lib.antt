@@ -1,0 +1,4 @@
+pub mod FileWords
+pub mod Naming
+pub mod SingleWords
+mod WordExamples

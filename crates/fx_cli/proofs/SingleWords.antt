@@ -1,0 +1,202 @@
+-- What one word of a command line is: a flag, which is answered with an error, `--`, or a value.
+use Rattle.std.proofs.Common.{◌||◌, ◌==◌, ◌≡◌, ◌∙◌, ◌⊎◌, ℕ, Bool, cond, true, false, refl, sym, ap, subst, List, [], ◌∷◌, length, Option, Some, None, inl, inr, true≢false, codes}
+use Rattle.std.specs.Str.{bytes_eq, chars}
+use Rattle.std.specs.Prelude.{drop, encode_utf8, slice_get, is_some}
+use Rattle.clap.specs.Walk.{Held, Names, Row, Rule, Text, idle, value, word_met, subcommand_met, subcommand_or_other, plain, arg_by_long, arg_by_short, reacted, settled}
+use Rattle.clap.specs.Simple.{Shape, built, filled, help_rule}
+use Rattle.clap.specs.Kinds.{Kinds, or_else}
+use Rattle.clap.specs.Faults.{other_fault, long_fault, short_fault, flags_fault, bundle_step_fault, react_fault, settle_fault, use_fault, word_fault}
+use Rattle.clap.proofs.WalkLemmas.{bundle_ends}
+use Rattle.clap.proofs.FaultLemmas.{fault_ends}
+use Rattle.std.proofs.lemmas.Bool.{eqb-true}
+use Rattle.clap.specs.Lexer.{name_and_value, long_of, short_of}
+use Rattle.fx_cli.specs.Words.{is_double_hyphen, is_flag}
+use Rattle.fx_cli.specs.CommandLine.{once_app}
+
+-- ---- lists of kinds
+
+abbrev pub Fails : Kinds → Type 0
+Fails [] = ⊥
+Fails (k ∷ ks) = Unit {0}
+
+pub fails_second : (a b : Kinds) → Fails b → Fails (or_else a b)
+fails_second [] b h = h
+fails_second (k ∷ ks) b h = tt
+
+pub fails_first : (a b : Kinds) → Fails a → Fails (or_else a b)
+fails_first [] b h = elim h [ ]
+fails_first (k ∷ ks) b h = h
+
+pub or_none : (a : Kinds) → or_else a [] ≡ a
+or_none [] = refl
+or_none (k ∷ ks) = refl
+
+-- ---- the two commands, as they are built
+
+abbrev pub top : Shape
+top = (built once_app).top
+
+abbrev pub leaf : Shape
+leaf = elim (built once_app).subs [ [] ↦ top | s ∷ rest ↦ s ]
+
+-- ---- flags: help is answered with an error too, and no other is known
+
+abbrev pub help : Rule
+help = filled help_rule
+
+pub asks_help : (c : List Rule) (h : Held) → Fails (react_fault c false help [] h)
+asks_help c h = fails_second (settle_fault c false h) (use_fault false help [] (settled c h).rows) tt
+
+pub long_fails : (c : List Rule) (b : Bool) (v : Option Text) (h : Held) → Fails (long_fault c false (cond b (Some help) None) v h)
+long_fails c false v h = tt
+long_fails c true (Some v) h = tt
+long_fails c true None h = asks_help c h
+
+pub short_fails : (c : List Rule) (b : Bool) (rest : Text) (h : Held) (next : Held → Kinds) → Fails (short_fault c false (cond b (Some help) None) rest h next)
+short_fails c false rest h next = tt
+short_fails c true rest h next = fails_first (react_fault c false help [] h) (next (reacted c help [] h)) (asks_help c h)
+
+-- the command knows no flag but help
+pub record KnowsHelp (s : Shape) : Type 0 where
+  pub again : s.args_override_self ≡ false
+  pub long : (name : Text) (v : Option Text) (h : Held) → Fails (long_fault s.rules s.args_override_self (arg_by_long s.rules name) v h)
+  pub short : (x : ℕ) (rest : Text) (h : Held) (next : Held → Kinds) → Fails (short_fault s.rules s.args_override_self (arg_by_short s.rules x) rest h next)
+
+pub leaf_knows : KnowsHelp leaf
+leaf_knows = record {
+  again = refl;
+  long = λ name v h. long_fails leaf.rules (bytes_eq (codes "help") name || false) v h;
+  short = λ x rest h next. short_fails leaf.rules (104 == x || false) rest h next;
+}
+
+pub top_knows : KnowsHelp top
+top_knows = record {
+  again = refl;
+  long = λ name v h. long_fails top.rules (bytes_eq (codes "help") name || false) v h;
+  short = λ x rest h next. short_fails top.rules (104 == x || false) rest h next;
+}
+
+-- ---- what a word is, where no value is awaited
+
+abbrev pub held : List Row → Option (Text × List Text) → Held
+held rows pending = record { rows = rows; pending = pending; skip = 0 }
+
+-- a word that goes to a positional argument
+pub record IsValueWord (s : Shape) (names : Names) (trails : Bool) (word : Text) : Type 0 where
+  pub met : (position : ℕ) (rows : List Row) (pending : Option (Text × List Text))
+      → word_met s.rules names trails idle position word (held rows pending) ≡ (held rows pending, value)
+  pub fine : (rows : List Row) (pending : Option (Text × List Text)) → word_fault s names trails idle word (held rows pending) ≡ []
+
+pub trailing_word : (s : Shape) (names : Names) (word : Text) → IsValueWord s names true word
+trailing_word s names word = record { met = λ position rows pending. refl; fine = λ rows pending. refl }
+
+-- what a word that names no command is goes by itself
+pub as_word : (s : Shape) (names : Names) (word : Text) → subcommand_met names idle word ≡ None
+    → ((position : ℕ) (rows : List Row) (pending : Option (Text × List Text))
+    → subcommand_or_other s.rules None idle position word (held rows pending) ≡ (held rows pending, value))
+    → ((rows : List Row) (pending : Option (Text × List Text)) → other_fault s None word (held rows pending) ≡ [])
+    → IsValueWord s names false word
+as_word s names word none met fine = record {
+  met = λ position rows pending. ap (λ o. subcommand_or_other s.rules o idle position word (held rows pending)) none ∙ met position rows pending;
+  fine = λ rows pending. ap (λ o. other_fault s o word (held rows pending)) none ∙ fine rows pending;
+}
+
+pub no_hyphen : (s : Shape) (names : Names) (word : Text) → subcommand_met names idle word ≡ None → is_double_hyphen word ≡ false
+    → long_of word ≡ None → short_of word ≡ None → IsValueWord s names false word
+no_hyphen s names word none double long short =
+    as_word s names word none (λ position rows pending. rw (double, long, short) refl) (λ rows pending. rw (double, long, short) refl)
+
+-- a hyphen and then no character, which is no text
+pub no_text : (s : Shape) (names : Names) (word : Text) (flags : Text) → subcommand_met names idle word ≡ None → is_double_hyphen word ≡ false
+    → long_of word ≡ None → short_of word ≡ Some flags → slice_get (chars flags) 0 ≡ None → IsValueWord s names false word
+no_text s names word flags none double long short empty =
+    as_word s names word none
+    (λ position rows pending. let ends = bundle_ends s.rules (length flags) flags 0 plain (held rows pending) (sym empty) in rw (double, long, short, ← ends) refl)
+    (λ rows pending. let ends = fault_ends s.rules s.args_override_self (length flags) flags 0 (held rows pending) (sym empty) in rw (double, long, short, ← ends) refl)
+
+pub bool_cases : (b : Bool) → (b ≡ true) ⊎ (b ≡ false)
+bool_cases true = inl refl
+bool_cases false = inr refl
+
+pub first_char : (rest : Text) → is_some (slice_get (chars (45 ∷ rest)) 0) ≡ true
+unfolding chars
+first_char [] = refl
+first_char (x ∷ xs) = refl
+
+pub option_cases : (o : Option ℕ) → is_some o ≡ false → o ≡ None
+option_cases None e = refl
+option_cases (Some x) e = absurd (true≢false e)
+
+pub plain_word : (s : Shape) (names : Names) (word : Text) → subcommand_met names idle word ≡ None → is_double_hyphen word ≡ false → is_flag word ≡ false
+    → IsValueWord s names false word
+plain_word s names [] none double flag = no_hyphen s names [] none double refl refl
+plain_word s names (x ∷ []) none double flag = elim (bool_cases (x == 45)) [
+  | inl hyphen ↦ no_hyphen s names (x ∷ []) none double (rw hyphen refl) (rw hyphen refl)
+  | inr other ↦ no_hyphen s names (x ∷ []) none double (rw other refl) (rw other refl)
+]
+plain_word s names (x ∷ y ∷ ys) none double flag = elim (bool_cases (x == 45)) [
+  | inl hyphen ↦ elim (bool_cases (y == 45)) [
+    | inl second ↦
+        let is : y ≡ 45 = eqb-true y 45 second in
+        let some : is_some (slice_get (chars (y ∷ ys)) 0) ≡ true = subst (λ z. is_some (slice_get (chars (z ∷ ys)) 0) ≡ true) (sym is) (first_char ys) in
+        let none_there : is_some (slice_get (chars (y ∷ ys)) 0) ≡ false = rw hyphen at flag in
+        absurd (true≢false (sym some ∙ none_there))
+    | inr single ↦
+        let none_there : is_some (slice_get (chars (y ∷ ys)) 0) ≡ false = rw hyphen at flag in
+        no_text s names (x ∷ y ∷ ys) (y ∷ ys) none double (rw (hyphen, single) refl) (rw (hyphen, single) refl) (option_cases _ none_there)
+  ]
+  | inr other ↦ no_hyphen s names (x ∷ y ∷ ys) none double (rw other refl) (rw other refl)
+]
+
+-- a flag is answered with an error
+pub record IsRefusedWord (s : Shape) (names : Names) (word : Text) : Type 0 where
+  pub fails : (rows : List Row) (pending : Option (Text × List Text)) → Fails (word_fault s names false idle word (held rows pending))
+
+pub long_flag : (s : Shape) (names : Names) (word : Text) (p : Text × Option Text) → KnowsHelp s → subcommand_met names idle word ≡ None → is_double_hyphen word ≡ false
+    → long_of word ≡ Some p → IsRefusedWord s names word
+long_flag s names word p known none double long = record {
+  fails = λ rows pending.
+      let there : Fails (other_fault s None word (held rows pending)) = rw (double, long) (known.long p.0 p.1 (held rows pending)) in
+      subst (λ o. Fails (other_fault s o word (held rows pending))) (sym none) there;
+}
+
+pub some_of : (o : Option ℕ) → is_some o ≡ true → (x : ℕ) × (o ≡ Some x)
+some_of None e = absurd (true≢false (sym e))
+some_of (Some x) e = (x, refl)
+
+pub bundle_fails : (s : Shape) (known : KnowsHelp s) (y : ℕ) (ys : Text) (h : Held) → is_some (slice_get (chars (y ∷ ys)) 0) ≡ true
+    → Fails (flags_fault s.rules s.args_override_self (length (y ∷ ys)) (y ∷ ys) 0 h)
+unfolding flags_fault
+bundle_fails s known y ys h some =
+    let first = some_of (slice_get (chars (y ∷ ys)) 0) some in
+    subst (λ o. Fails (bundle_step_fault s.rules s.args_override_self o (y ∷ ys) 0 h (flags_fault s.rules s.args_override_self (length ys)))) (sym first.1)
+    (known.short first.0 (drop (length (encode_utf8 first.0)) (y ∷ ys)) h (flags_fault s.rules s.args_override_self (length ys) (drop (length (encode_utf8 first.0)) (y ∷ ys)) 0))
+
+pub short_flag : (s : Shape) (names : Names) (word : Text) (y : ℕ) (ys : Text) → KnowsHelp s → subcommand_met names idle word ≡ None → is_double_hyphen word ≡ false
+    → long_of word ≡ None → short_of word ≡ Some (y ∷ ys) → is_some (slice_get (chars (y ∷ ys)) 0) ≡ true → IsRefusedWord s names word
+short_flag s names word y ys known none double long short some = record {
+  fails = λ rows pending.
+      let there : Fails (other_fault s None word (held rows pending)) = rw (double, long, short) (bundle_fails s known y ys (held rows pending) some) in
+      subst (λ o. Fails (other_fault s o word (held rows pending))) (sym none) there;
+}
+
+pub hyphen_word : (s : Shape) (names : Names) (x : ℕ) (xs : Text) → KnowsHelp s → subcommand_met names idle (x ∷ xs) ≡ None → is_double_hyphen (x ∷ xs) ≡ false
+    → (x == 45) ≡ true → is_some (slice_get (chars xs) 0) ≡ true → IsRefusedWord s names (x ∷ xs)
+unfolding chars
+hyphen_word s names x [] known none double hyphen some = absurd (true≢false (sym some))
+hyphen_word s names x (y ∷ []) known none double hyphen some = elim (bool_cases (y == 45)) [
+  | inl second ↦ let not_double : true ≡ false = rw (hyphen, second) at double in absurd (true≢false not_double)
+  | inr single ↦ short_flag s names (x ∷ y ∷ []) y [] known none double (rw (hyphen, single) refl) (rw (hyphen, single) refl) some
+]
+hyphen_word s names x (y ∷ z ∷ zs) known none double hyphen some = elim (bool_cases (y == 45)) [
+  | inl second ↦ long_flag s names (x ∷ y ∷ z ∷ zs) (name_and_value (z ∷ zs)) known none double (rw (hyphen, second) refl)
+  | inr single ↦ short_flag s names (x ∷ y ∷ z ∷ zs) y (z ∷ zs) known none double (rw (hyphen, single) refl) (rw (hyphen, single) refl) some
+]
+
+pub flag_word : (s : Shape) (names : Names) (word : Text) → KnowsHelp s → subcommand_met names idle word ≡ None → is_double_hyphen word ≡ false → is_flag word ≡ true
+    → IsRefusedWord s names word
+flag_word s names [] known none double flag = absurd (true≢false (sym flag))
+flag_word s names (x ∷ xs) known none double flag = elim (bool_cases (x == 45)) [
+  | inr other ↦ let not_one : false ≡ true = rw other at flag in absurd (true≢false (sym not_one))
+  | inl hyphen ↦ let some : is_some (slice_get (chars xs) 0) ≡ true = rw hyphen at flag in hyphen_word s names x xs known none double hyphen some
+]

@@ -1,0 +1,17 @@
+-- The command line as the crate that parses it sees it.
+use Rattle.std.specs.Prelude.{true, codes}
+use Rattle.clap.specs.Words.{App, Rule, Shape, Text, new_app, new_rule, with_rule, with_subcommand}
+use Rattle.clap.specs.Simple.{on_top}
+
+abbrev pub file_rule : Text → Rule
+file_rule name = record (new_rule name) { required = true }
+
+-- a command over a network, traffic and a third file
+abbrev pub over_documents : Text → Rule → App
+over_documents command third = with_rule (with_rule (with_rule (new_app command) (file_rule (codes "NETWORK"))) (file_rule (codes "TRAFFIC"))) third
+
+abbrev pub wants_command : Shape → Shape
+wants_command s = record s { subcommand_required = true }
+
+abbrev pub once_app : App
+once_app = with_subcommand (on_top wants_command (new_app (codes "once"))) (over_documents (codes "replay") (file_rule (codes "RUN"))).top

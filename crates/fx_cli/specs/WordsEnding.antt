@@ -1,0 +1,37 @@
+-- How a command ends whose words name no call, or can't be read.
+use Rattle.std.specs.Prelude.{◌≡◌, ◌⊎◌, Bool, true, ℕ, List, [], ◌∷◌, ◌++◌, codes}
+use Rattle.std.specs.declared.io.ErrorKind.{ErrorKind as Failure}
+use Rattle.std.specs.declared.io.ErrorKind.TheVariants as failure
+use Rattle.clap.specs.declared.error.kind.ErrorKind.{ErrorKind}
+use Rattle.clap.specs.declared.error.kind.ErrorKind.TheVariants.{OutOfMemory, DisplayHelp, DisplayVersion}
+use Rattle.fx_base.specs.Fault.{fault_at}
+use Rattle.fx_base.specs.declared.fault.Place.TheVariants as places
+use Rattle.clap.specs.Words.{IsAmong, Text, fault_of}
+use Rattle.fx_cli.specs.CommandLine.{once_app}
+use Rattle.fx_cli.specs.Ending.{refusal_line}
+
+-- 0 where help was asked for, 4 where memory ran out
+abbrev pub words_status : ErrorKind → ℕ
+words_status OutOfMemory = 4
+words_status DisplayHelp = 0
+words_status DisplayVersion = 0
+words_status _ = 6
+
+abbrev pub memory_line : List ℕ
+memory_line = refusal_line (fault_at 900 places.None)
+
+-- words that the system doesn't hand over: for want of memory, or since one is no text, else as a device that failed
+abbrev pub unread_status : Failure → ℕ
+unread_status failure.OutOfMemory = 4
+unread_status failure.InvalidData = 6
+unread_status _ = 5
+
+abbrev pub unread_text : Failure → List ℕ
+unread_text failure.OutOfMemory = memory_line
+unread_text failure.InvalidData = codes "error: a word is no UTF-8 text" ++ 10 ∷ []
+unread_text _ = refusal_line (fault_at 901 places.None)
+
+-- a status with which words end that name no call: want of memory, a write that failed, or what their fault says
+abbrev pub IsWordsStatus : List Text → Bool → ℕ → Type 0
+IsWordsStatus words failed code =
+    (code ≡ 4) ⊎ (((code ≡ 5) × (failed ≡ true)) ⊎ ((kind : ErrorKind) × IsAmong kind (fault_of once_app words) × (code ≡ words_status kind)))

@@ -1,0 +1,20 @@
+//! Files that are read.
+ghost use Rattle.std.specs.Prelude.{◌≡◌, IfErr};
+ghost use Rattle.fx_base.specs.Fault.{fault_at};
+ghost use Rattle.fx_base.specs.declared.fault.Place.TheVariants as places;
+
+use fx_base::{Fault, Outside};
+use std::fs;
+use std::rt::Files;
+
+/// A file, opened to be read from its beginning.
+///
+/// Fails with 901, at no place, where it can't be opened.
+pub fn open<R: Files>(rt: &R, path: &str) -> Result<Outside<R::File>, Fault>
+    ensures { IfErr result (λ e. e ≡ fault_at 901 places.None) }
+{
+    match fs::open(rt, path) {
+        Ok(file) => Ok(Outside::new(file)),
+        Err(_) => Err(Fault::bare(901)),
+    }
+}

@@ -1,0 +1,98 @@
+//! The words of the command line.
+ghost use Rattle.std.specs.Prelude.{◌≡◌, ◌⊎◌, IfErr, IfOk, IsSome, MatchResult, false, map, Some, string_bytes};
+ghost use Rattle.clap.specs.Words.{app_of, fault_of, first_value, found_of, HasKind, kind_of, rule_of};
+ghost use Rattle.clap.specs.declared.builder.command.Command.TheViews.{out-Command};
+ghost use Rattle.fx_cli.specs.CommandLine.{file_rule, once_app, over_documents};
+ghost use Rattle.fx_cli.specs.Words.{Names, NamesNoCall};
+
+use clap::error::ErrorKind;
+use clap::{Arg, ArgMatches, Command, Error};
+use std::alloc::{AllocError, Global};
+
+/// A command, with the names of its files.
+#[derive(Debug, Drop)]
+pub enum Call {
+    /// Replays a run of a network over declared traffic.
+    Replay {
+        /// The network document.
+        network: String,
+        /// The traffic declaration.
+        traffic: String,
+        /// The run's text.
+        run: String,
+    },
+}
+
+/// A file that a command wants, with a line of help.
+fn file<'a>(alloc: Global, name: &'a str, help: &'a str) -> Arg<'a>
+    ensures rule { rule_of result ≡ file_rule name.entry.now }
+    ensures local { result.global ≡ false }
+{
+    Arg::new(alloc, name).required(true).help(help)
+}
+
+/// A command over a network, traffic and a third file.
+fn over_documents<'a>(
+    alloc: Global,
+    name: &'a str,
+    about: &'a str,
+    third: Arg<'a>,
+) -> Result<Command<'a>, AllocError>
+    requires { third.global ≡ false }
+    ensures app { IfOk result (λ c. app_of c ≡ over_documents name.entry.now (rule_of third.entry)) }
+    ensures local { IfOk result (λ c. (out-Command c).has_globals ≡ false) }
+{
+    let network = file(alloc, "NETWORK", "The network document (JSON)");
+    let traffic = file(alloc, "TRAFFIC", "The traffic declaration (JSON)");
+    Command::new(alloc, name)
+        .about(about)
+        .arg(network)?
+        .arg(traffic)?
+        .arg(third)
+}
+
+/// The program's command line.
+fn command_line<'a>(alloc: Global) -> Result<Command<'a>, AllocError>
+    ensures { IfOk result (λ c. app_of c ≡ once_app) }
+{
+    let run = file(alloc, "RUN", "The text of a run");
+    let replay = over_documents(
+        alloc,
+        "replay",
+        "Replays a run, and prints the collector's totals in its last state",
+        run,
+    )?;
+    Command::new(alloc, "once")
+        .about("An auditor for IP flow metering")
+        .after_help(
+            "With no words, a bundle (a command and its files in one text) is read from standard input.",
+        )
+        .subcommand_required(true)
+        .subcommand(replay)
+}
+
+/// The name of a file that the words give.
+fn file_name(alloc: Global, matches: &ArgMatches<'_>, id: &str) -> Result<String, AllocError>
+    requires { IsSome (first_value (found_of matches.now) id.now) }
+    ensures { IfOk result (λ name. first_value (found_of matches.now) id.now ≡ Some (string_bytes name)) }
+{
+    String::from_str(alloc, matches.get_str(id).unwrap())
+}
+
+/// The call that the words name. The first word is the program's own name.
+///
+/// The error is clap's: its text is for the user, also where help is asked for. Where the words name a call, only want
+/// of memory is an error (`ErrorKind::OutOfMemory`).
+pub fn read_words(alloc: Global, words: &[String]) -> Result<Call, Error>
+    ensures call { MatchResult result (Names (map string_bytes words.now)) (λ e. (kind_of e ≡ ErrorKind.OutOfMemory)
+        ⊎ NamesNoCall (map string_bytes words.now)) }
+    ensures kinds { IfErr result (HasKind (fault_of once_app (map string_bytes words.now))) }
+{
+    let matches = command_line(alloc)?.try_get_matches_from(words)?;
+    let found = matches.subcommand_matches("replay").unwrap();
+    Ok(Call::Replay {
+        network: file_name(alloc, found, "NETWORK")?,
+        traffic: file_name(alloc, found, "TRAFFIC")?,
+        run: file_name(alloc, found, "RUN")?,
+    })
+}

@@ -1,0 +1,82 @@
+//! How a command ends whose words name no call, or can't be read.
+ghost use Rattle.std.specs.Prelude.{◌≡◌, ◌⊎◌, true, false};
+ghost use Rattle.clap.specs.Words.{kind_of};
+ghost use Rattle.fx_base.specs.Device.{Writes};
+ghost use Rattle.fx_cli.specs.Ending.{IsExitStatus};
+ghost use Rattle.fx_cli.specs.WordsEnding.{memory_line, unread_status, unread_text, words_status};
+
+use crate::ending::finish;
+use clap::Error;
+use clap::error::ErrorKind;
+use fx_base::{Fault, Sink, put_text};
+use std::alloc::Global;
+use std::io;
+
+/// The exit status of a write that failed.
+const WRITE_FAILED: u8 = 5;
+
+/// The exit status of words that don't parse.
+const NO_CALL: u8 = 6;
+
+/// Writes a text, and gives this status, or 5 where it can't be written.
+fn put_and_end<S: Sink>(text: &[u8], code: u8, sink: &mut S) -> u8
+    ensures status { (result ≡ code) ⊎ ((result ≡ 5) × (S.failed sink.new ≡ true)) }
+    ensures written { S.failed sink.new ≡ false → Writes (S.taken sink.old) (S.taken sink.new) text.now }
+{
+    match put_text(sink, text) {
+        Ok(()) => code,
+        Err(_) => WRITE_FAILED,
+    }
+}
+
+/// The exit status of words that name no call, by what is wrong with them.
+fn status_of_words(kind: ErrorKind) -> u8
+    ensures status { result ≡ words_status kind }
+    ensures exit { IsExitStatus result }
+{
+    match kind {
+        ErrorKind::OutOfMemory => 4,
+        ErrorKind::DisplayHelp | ErrorKind::DisplayVersion => 0,
+        _ => NO_CALL,
+    }
+}
+
+/// Ends a command whose words name no call: writes the error's text, and gives the program's exit status.
+///
+/// 0 where the words ask for help, 6 where they don't parse; 4 for want of memory, also where the text can't be made
+/// for it (`memory 900` is written then); 5 where nothing can be written.
+pub fn finish_words<S: Sink>(alloc: Global, error: &Error, sink: &mut S) -> u8
+    ensures status { (result ≡ words_status (kind_of error.now)) ⊎ ((result ≡ 4) ⊎ ((result ≡ 5) × (S.failed sink.new ≡ true))) }
+    ensures memory { kind_of error.now ≡ ErrorKind.OutOfMemory → S.failed sink.new ≡ false → result ≡ 4 }
+    ensures line { result ≡ 4 → S.failed sink.new ≡ false → Writes (S.taken sink.old) (S.taken sink.new) memory_line }
+    ensures exit { IsExitStatus result }
+{
+    let kind = error.kind();
+    if matches!(kind, ErrorKind::OutOfMemory) {
+        return finish(&Err(Fault::bare(900)), sink);
+    }
+    match error.to_string(alloc) {
+        Ok(text) => put_and_end(text.as_bytes(), status_of_words(kind), sink),
+        Err(_) => finish(&Err(Fault::bare(900)), sink),
+    }
+}
+
+/// Ends a command whose words the system doesn't hand over.
+///
+/// 4 for want of memory, 6 where a word is no UTF-8 text, else 5 (`device 901`); 5 also where nothing can be
+/// written.
+pub fn finish_unread<S: Sink>(kind: io::ErrorKind, sink: &mut S) -> u8
+    ensures status { (result ≡ unread_status kind) ⊎ ((result ≡ 5) × (S.failed sink.new ≡ true)) }
+    ensures written { S.failed sink.new ≡ false → Writes (S.taken sink.old) (S.taken sink.new) (unread_text kind) }
+    ensures exit { IsExitStatus result }
+{
+    match kind {
+        io::ErrorKind::OutOfMemory => finish(&Err(Fault::bare(900)), sink),
+        io::ErrorKind::InvalidData => put_and_end(
+            b"error: a word is no UTF-8 text\n",
+            NO_CALL,
+            sink,
+        ),
+        _ => finish(&Err(Fault::bare(901)), sink),
+    }
+}

@@ -1,0 +1,8 @@
+//! The program `once`.
+#![tactic(auto)]
+
+use std::process::ExitCode;
+
+fn main(rt: HostRuntime) -> ExitCode {
+    ExitCode::from(fx_cli::run(&rt))
+}

@@ -1,0 +1,53 @@
+#!/usr/bin/env python3
+"""rows.py PROGRAM [ROW..]: runs the program over the worked rows, each a folder of tests/rows.
+
+  words    the program's words, in one line; the files that they name stand beside it (no file: no words)
+  stdin    what it gets on standard input (no file: nothing)
+  stdout   what it must print, octet for octet (no file: not looked at)
+  status   its exit status
+
+Prints a line for each row that fails, and last `N passed, M failed`. The exit status is 1 where a row failed.
+"""
+import os
+import shlex
+import subprocess
+import sys
+
+ROWS = os.path.join(os.path.dirname(os.path.abspath(__file__)), "rows")
+
+
+def octets_of(row, name, default=b""):
+    path = os.path.join(row, name)
+    if not os.path.exists(path):
+        return default
+    with open(path, "rb") as file:
+        return file.read()
+
+
+def faults(program, row):
+    words = shlex.split(octets_of(row, "words").decode())
+    run = subprocess.run([program] + words, cwd=row, input=octets_of(row, "stdin"), capture_output=True, timeout=120)
+    wanted, status = octets_of(row, "stdout", None), int(octets_of(row, "status"))
+    if wanted is not None and run.stdout != wanted:
+        yield "printed %r in place of %r" % (run.stdout[:300], wanted[:300])
+    if run.returncode != status:
+        yield "status %d in place of %d" % (run.returncode, status)
+    if run.stderr:
+        yield "printed %r on standard error" % run.stderr[:300]
+
+
+def main(program, names):
+    passed = failed = 0
+    for name in names or sorted(os.listdir(ROWS)):
+        found = list(faults(os.path.abspath(program), os.path.join(ROWS, name)))
+        passed, failed = passed + (not found), failed + bool(found)
+        for fault in found:
+            print("%s: %s" % (name, fault))
+    print("%d passed, %d failed" % (passed, failed))
+    return 1 if failed else 0
+
+
+if __name__ == "__main__":
+    if len(sys.argv) < 2:
+        sys.exit(__doc__)
+    sys.exit(main(sys.argv[1], sys.argv[2:]))
