@@ -1,6 +1,6 @@
 ghost use Rattle.std.specs.Prelude.{◌≡◌, ◌≤◌, ◌<◌, ◌↔◌, ◌⊎◌, ℕ, List, slice_index, IfSome, IsSome, IsNone, IsTrue, MatchOption};
 ghost use Rattle.fx_elements.specs.Axes.{axis_count, axis_index};
-ghost use Rattle.fx_boxes.specs.Boxes.{IsFields, Holds, holds, IsInside, IsDisjoint, IsStrictlyInside, below_part, above_part};
+ghost use Rattle.fx_boxes.specs.Boxes.{IsFields, IsRegion, Holds, holds, IsInside, IsDisjoint, IsStrictlyInside, below_part, above_part};
 
 use crate::fields::Fields;
 use fx_elements::{AXES, Axis, TOPS};
@@ -133,5 +133,14 @@ impl Region {
         ensures held { Holds self.now result }
     {
         Fields::of(self.low)
+    }
+
+    /// The greatest fields of the region.
+    pub fn far_corner(&self) -> Fields
+        ensures greatest { result ≡ self.now.high }
+        ensures held { Holds self.now result }
+        ensures region { IsRegion self.now }
+    {
+        Fields::of(self.high)
     }
 }

@@ -15,6 +15,7 @@ fn splits_and_meets(rt: HostRuntime) -> Result<(), Fail> {
     let corner = above.corner();
     assert_eq!(rt; corner.get(Axis::Source), 0x8000_0000);
     assert!(rt; above.holds(&corner) && !below.holds(&corner));
+    assert_eq!(rt; below.far_corner().get(Axis::Source), 0x7fff_ffff);
     Ok(())
 }
 

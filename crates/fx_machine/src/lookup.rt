@@ -143,6 +143,29 @@ fn place_of_holder(devices: &[Device], processes: &[Process], name: HolderName) 
 }
 
 impl Net {
+    /// The layout of the records of the holder at this place of the network's table, from 0, and the empty one
+    /// where there is none.
+    pub fn layout_at(&self, place: usize) -> Layout
+        ensures { result ≡ network.layout_of (slice_get self.now.holders place) }
+    {
+        layout_at(self.holders.as_slice(), place)
+    }
+
+    /// The exporting processes, by their places in the network's table, of the holder at this place; none where
+    /// there is none.
+    pub fn named_by(&self, place: usize) -> &[usize]
+        ensures { result.now ≡ network.named_by (slice_get self.now.holders place) }
+    {
+        named_by(self.holders.as_slice(), place)
+    }
+
+    /// The observation points of the device of this number, from 1; none where there is none.
+    pub fn points_of(&self, device: u64) -> &[Point]
+        ensures { result.now ≡ network.points_of (network.numbered self.now.devices device) }
+    {
+        points_of(self.devices.as_slice(), device)
+    }
+
     /// The place of the holder of this name in the network's table, from 0, if it is there.
     pub fn holder_place(&self, name: HolderName) -> Option<usize>
         ensures { result ≡ network.holder_place self.now name }

@@ -32,16 +32,18 @@ fn has_name(names: &[Name], name: &str) -> bool
     names.iter().any(|own| own.as_str() == name)
 }
 
-/// Whether the point is at the interface of the crossing, and sees packets in its direction.
-fn watches(point: &Point, crossing: &Crossing) -> bool
-    ensures { result ≡ met.watches point.now crossing.now }
-{
-    has_name(point.interfaces.as_slice(), crossing.interface.as_str())
-        && if crossing.inwards {
-            point.ingress
-        } else {
-            point.egress
-        }
+impl Point {
+    /// Whether the point is at the interface of the crossing, and sees packets in its direction.
+    pub fn watches(&self, crossing: &Crossing) -> bool
+        ensures { result ≡ met.watches self.now crossing.now }
+    {
+        has_name(self.interfaces.as_slice(), crossing.interface.as_str())
+            && if crossing.inwards {
+                self.ingress
+            } else {
+                self.egress
+            }
+    }
 }
 
 /// The occurrence at a selection process comes last, if it selects the packet and has a cache.
@@ -91,7 +93,7 @@ fn push_met_at(
 ) -> Result<(), AllocError>
     ensures { OnOk result (found.new.items ≡ found.old.items ++ (if met.watches point.now crossing.now then met.met_by number 1 point.now.selections fields.now else [])) }
 {
-    if watches(point, crossing) {
+    if point.watches(crossing) {
         push_met_by(found, number, point.selections.as_slice(), fields)?;
     }
     Ok(())

@@ -53,6 +53,13 @@ impl Point {
             selections,
         }
     }
+
+    /// The selection processes that get the packets that it sees.
+    pub fn selections(&self) -> &[Selection]
+        ensures { result.now ≡ self.now.selections }
+    {
+        self.selections.as_slice()
+    }
 }
 
 /// Where a packet is metered at a crossing.

@@ -154,6 +154,10 @@ fn looks_up(rt: HostRuntime) -> Result<(), Fail> {
     );
     assert_eq!(rt; net.links(), [net.report()].as_slice());
     assert_eq!(rt; classes.as_slice().len(), 1);
+    assert_eq!(rt; net.points_of(1)[0].selections()[0].holder, Some(0));
+    let crossing = &classes.as_slice()[0].paths()[0].as_slice()[0];
+    assert!(rt; net.points_of(1)[0].watches(crossing) && net.points_of(2).is_empty());
+    assert_eq!(rt; net.layout_at(0).parts().len() + net.named_by(0).len(), 2);
     choices_are_free();
     Ok(())
 }
