@@ -1,6 +1,7 @@
 pub mod Faults
 pub mod Choices
 pub mod Lists
+pub mod Lookups
 pub mod Places
 pub mod Resolved
 pub mod Walks

@@ -5,6 +5,7 @@ pub mod Lists
 pub mod Choice
 pub mod Destinations
 pub mod ExportingProcesses
+pub mod NamedEntries
 pub mod ObservationPoints
 pub mod GivenElements
 pub mod PropertyMatches

@@ -40,13 +40,18 @@ collecting_references exporters up process =
     items_faults (unknown exporters) (below up (codes "exportingProcess")) 0 process.exporting_processes
     ++ items_faults (aggregation_references exporters) (below up (codes "once-audit:aggregation")) 0 process.aggregations
 
--- all of a device's, in the order of the walk
+-- all of a device's, in the order of the walk, where these are the names of its selection processes, caches and
+-- exporting processes
+abbrev pub references_among : List (List ℕ) → List (List ℕ) → List (List ℕ) → List ℕ → Device → List Found
+references_among processes caches exporters up device =
+    items_faults (point_references processes) (below up (codes "observationPoint")) 0 device.observation_points
+    ++ (items_faults (process_references caches) (below up (codes "selectionProcess")) 0 device.selection_processes
+    ++ (items_faults (cache_references exporters) (below up (codes "cache")) 0 device.caches
+    ++ items_faults (collecting_references exporters) (below up (codes "collectingProcess")) 0 device.collecting_processes))
+
 abbrev pub reference_faults : List ℕ → Device → List Found
 reference_faults up device =
-    items_faults (point_references (map (λ x. x.name) device.selection_processes)) (below up (codes "observationPoint")) 0 device.observation_points
-    ++ (items_faults (process_references (map (λ x. x.name) device.caches)) (below up (codes "selectionProcess")) 0 device.selection_processes
-    ++ (items_faults (cache_references (map (λ x. x.name) device.exporting_processes)) (below up (codes "cache")) 0 device.caches
-    ++ items_faults (collecting_references (map (λ x. x.name) device.exporting_processes)) (below up (codes "collectingProcess")) 0 device.collecting_processes))
+    references_among (map (λ x. x.name) device.selection_processes) (map (λ x. x.name) device.caches) (map (λ x. x.name) device.exporting_processes) up device
 
 -- a name stands for one of those that have these names
 abbrev pub IsKnown : List (List ℕ) → List ℕ → Type 0

@@ -5,7 +5,7 @@ use crate::key::key_member;
 use crate::limits::ENTRIES;
 use crate::property_match::PropertyMatch;
 use crate::walk::{
-    Entry, Named, Path, Sequence, entries_member, items_member, name_member, object_of,
+    Entry, Named, Names, Path, Sequence, entries_member, items_member, name_member, object_of,
 };
 use fx_base::{Fault, Name};
 use fx_layout::Layout;
@@ -42,7 +42,7 @@ impl Entry for Aggregation {
         alloc: Global,
         path: &Path<'_>,
         value: &Value,
-        earlier: &[Aggregation],
+        earlier: &mut Names,
     ) -> Result<Aggregation, Fault> {
         object_of(
             alloc,

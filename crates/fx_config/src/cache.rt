@@ -9,7 +9,7 @@ ghost use Rattle.fx_config.specs.Caches.{cache_faults, cache_of, kind_given, max
 use crate::cache_layout::layout_member;
 use crate::limits::ENTRIES;
 use crate::walk::{
-    Entry, Named, Path, Sequence, Whole, entries_member, name_member, object_of, one_of,
+    Entry, Named, Names, Path, Sequence, Whole, entries_member, name_member, object_of, one_of,
     optional_member,
 };
 use fx_base::{Fault, Name};
@@ -182,7 +182,7 @@ impl Entry for Cache {
         alloc: Global,
         path: &Path<'_>,
         value: &Value,
-        earlier: &[Cache],
+        earlier: &mut Names,
     ) -> Result<Cache, Fault> {
         object_of(
             alloc,

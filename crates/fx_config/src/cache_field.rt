@@ -1,5 +1,5 @@
 //! Fields of caches' records.
-ghost use Rattle.std.specs.Prelude.{◌≡◌, ℕ, List, [], ◌∷◌, map, codes};
+ghost use Rattle.std.specs.Prelude.{◌≡◌, ℕ, List, [], ◌∷◌, ◌++◌, map, codes, OnOk};
 ghost use Rattle.serde_json.specs.View.{view};
 ghost use Rattle.fx_config.specs.Pointer.{pointer};
 ghost use Rattle.fx_config.specs.Walk.{Reads, member_of};
@@ -9,8 +9,8 @@ ghost use Rattle.fx_config.specs.CacheFields.{cache_field_faults, cache_field_of
 use crate::element::{ElementNumber, Enterprise, element_given};
 use crate::limits::FIELDS;
 use crate::walk::{
-    Empty, Named, Path, Sequence, Whole, items_in, name_member, object_of, one_of, optional_member,
-    refusal,
+    Empty, Named, Names, Path, Sequence, Whole, items_in, name_member, object_of, one_of,
+    optional_member, refusal,
 };
 use fx_base::{Fault, Name};
 use fx_elements::{Element, width};
@@ -122,16 +122,17 @@ impl Named for CacheField {
     }
 }
 
-/// The field that stands at the path behind these. In an immediate cache, which sends each packet's record at
+/// The field that stands at the path behind fields of these names, to which its own is added. In an immediate cache, which sends each packet's record at
 /// once, all fields on an axis tell records apart.
 fn read_field(
     alloc: Global,
     path: &Path<'_>,
     value: &Value,
-    earlier: &[CacheField],
+    earlier: &mut Names,
     immediate: bool,
 ) -> Result<CacheField, Fault>
-    ensures { Reads (cache_field_faults immediate (map (λ e. e.name) earlier.now) (pointer path.now) (view value.now)) (cache_field_of immediate (view value.now)) result }
+    ensures reads { Reads (cache_field_faults immediate earlier.old (pointer path.now) (view value.now)) (cache_field_of immediate (view value.now)) result }
+    ensures names { OnOk result (earlier.new ≡ earlier.old ++ (cache_field_of immediate (view value.now)).name ∷ []) }
 {
     object_of(
         alloc,
@@ -173,16 +174,11 @@ fn fields_of(
     ensures { Reads (entries_faults (cache_field_faults immediate) (λ d. (cache_field_of immediate d).name) [] (pointer path.now) 0 (map view items.now)) (map (cache_field_of immediate) (map view items.now)) result }
 {
     let mut fields = Vec::new(alloc);
+    let mut names = Names::new(alloc);
     let mut place = 0;
     for item in items {
-        let field = read_field(
-            alloc,
-            &Path::Item(&*path, place),
-            item,
-            fields.as_slice(),
-            immediate,
-        )?;
-        fields.push(field)?;
+        let path = Path::Item(&*path, place);
+        fields.push(read_field(alloc, &path, item, &mut names, immediate)?)?;
         place += 1;
     }
     Ok(Sequence::from_vec(fields))

@@ -4,7 +4,7 @@ ghost use Rattle.fx_config.specs.CollectingProcesses.{collecting_process_faults,
 use crate::aggregation::Aggregation;
 use crate::limits::ENTRIES;
 use crate::walk::{
-    Entry, Named, Path, Refused, Sequence, entries_member, name_member, none_of, object_of,
+    Entry, Named, Names, Path, Refused, Sequence, entries_member, name_member, none_of, object_of,
 };
 use fx_base::{Fault, Name};
 use serde_json::Value;
@@ -38,7 +38,7 @@ impl Entry for CollectingProcess {
         alloc: Global,
         path: &Path<'_>,
         value: &Value,
-        earlier: &[CollectingProcess],
+        earlier: &mut Names,
     ) -> Result<CollectingProcess, Fault> {
         object_of(
             alloc,

@@ -5,7 +5,7 @@ ghost use Rattle.fx_config.specs.ExportingProcesses.{export_mode_faults, export_
 use crate::destination::Destination;
 use crate::limits::ENTRIES;
 use crate::walk::{
-    Entry, FromValue, Named, Path, Sequence, entries_member, name_member, object_of,
+    Entry, FromValue, Named, Names, Path, Sequence, entries_member, name_member, object_of,
     optional_member, refusal,
 };
 use fx_base::{Fault, Name};
@@ -90,7 +90,7 @@ impl Entry for ExportingProcess {
         alloc: Global,
         path: &Path<'_>,
         value: &Value,
-        earlier: &[ExportingProcess],
+        earlier: &mut Names,
     ) -> Result<ExportingProcess, Fault> {
         object_of(
             alloc,

@@ -1,7 +1,7 @@
 //! The container `ipfix`: a device's five lists.
 ghost use Rattle.fx_config.specs.Pointer.{pointer};
 ghost use Rattle.fx_config.specs.Walk.{Reads};
-ghost use Rattle.fx_config.specs.References.{reference_faults};
+ghost use Rattle.fx_config.specs.References.{references_among};
 ghost use Rattle.fx_config.specs.Devices.{ipfix_faults, ipfix_of};
 
 use crate::cache::Cache;
@@ -11,7 +11,7 @@ use crate::limits::ENTRIES;
 use crate::observation_point::ObservationPoint;
 use crate::references::{all_collecting_refer, caches_refer, points_refer, processes_refer};
 use crate::selection_process::SelectionProcess;
-use crate::walk::{FromValue, Path, Sequence, entries_member, object_of};
+use crate::walk::{FromValue, Names, Path, Sequence, entries_member, named_member, object_of};
 use fx_base::Fault;
 use serde_json::Value;
 use std::alloc::Global;
@@ -31,33 +31,45 @@ pub struct Device {
     pub collecting_processes: Sequence<CollectingProcess>,
 }
 
+/// The names of a device's things to which others refer.
+#[derive(Drop)]
+struct Known {
+    selecting: Names,
+    caches: Names,
+    exporting: Names,
+}
+
 /// Refuses a name that stands for nothing of the device, whose container `ipfix` is at the path (107).
-fn refers(alloc: Global, path: &Path<'_>, device: &Device) -> Result<(), Fault>
-    ensures { Reads (reference_faults (pointer path.now) device.now) tt result }
+fn refers(alloc: Global, path: &Path<'_>, device: &Device, known: &Known) -> Result<(), Fault>
+    ensures { Reads (references_among known.now.selecting known.now.caches known.now.exporting (pointer path.now) device.now) tt result }
 {
     let points = device.observation_points.as_slice();
     let selecting = device.selection_processes.as_slice();
     let caches = device.caches.as_slice();
-    let exporting = device.exporting_processes.as_slice();
     let collecting = device.collecting_processes.as_slice();
     points_refer(
         alloc,
         &Path::Member(&*path, "observationPoint"),
         points,
-        selecting,
+        &known.selecting,
     )?;
     processes_refer(
         alloc,
         &Path::Member(&*path, "selectionProcess"),
         selecting,
-        caches,
+        &known.caches,
     )?;
-    caches_refer(alloc, &Path::Member(&*path, "cache"), caches, exporting)?;
+    caches_refer(
+        alloc,
+        &Path::Member(&*path, "cache"),
+        caches,
+        &known.exporting,
+    )?;
     all_collecting_refer(
         alloc,
         &Path::Member(&*path, "collectingProcess"),
         collecting,
-        exporting,
+        &known.exporting,
     )
 }
 
@@ -87,18 +99,23 @@ impl FromValue for Ipfix {
             ],
         )?;
         let points = entries_member(alloc, path, value, "observationPoint", 0, ENTRIES)?;
-        let selecting = entries_member(alloc, path, value, "selectionProcess", 0, ENTRIES)?;
-        let caches = entries_member(alloc, path, value, "cache", 0, ENTRIES)?;
-        let exporting = entries_member(alloc, path, value, "exportingProcess", 0, ENTRIES)?;
+        let selecting = named_member(alloc, path, value, "selectionProcess", 0, ENTRIES)?;
+        let caches = named_member(alloc, path, value, "cache", 0, ENTRIES)?;
+        let exporting = named_member(alloc, path, value, "exportingProcess", 0, ENTRIES)?;
         let collecting = entries_member(alloc, path, value, "collectingProcess", 0, ENTRIES)?;
         let device = Device {
             observation_points: points,
-            selection_processes: selecting,
-            caches,
-            exporting_processes: exporting,
+            selection_processes: selecting.items,
+            caches: caches.items,
+            exporting_processes: exporting.items,
             collecting_processes: collecting,
         };
-        refers(alloc, path, &device)?;
+        let known = Known {
+            selecting: selecting.names,
+            caches: caches.names,
+            exporting: exporting.names,
+        };
+        refers(alloc, path, &device, &known)?;
         Ok(Ipfix { device })
     }
 }

@@ -4,7 +4,7 @@ ghost use Rattle.fx_config.specs.ObservationPoints.{direction_faults, direction_
 
 use crate::limits::ENTRIES;
 use crate::walk::{
-    Entry, FromValue, Named, Path, Sequence, Whole, entries_member, name_member, object_of,
+    Entry, FromValue, Named, Names, Path, Sequence, Whole, entries_member, name_member, object_of,
     optional_member, refusal, required_member,
 };
 use fx_base::{Fault, Name};
@@ -93,7 +93,7 @@ impl Entry for ObservationPoint {
         alloc: Global,
         path: &Path<'_>,
         value: &Value,
-        earlier: &[ObservationPoint],
+        earlier: &mut Names,
     ) -> Result<ObservationPoint, Fault> {
         object_of(
             alloc,

@@ -1,5 +1,5 @@
 //! The references of a device's configuration.
-ghost use Rattle.std.specs.Prelude.{◌≡◌, ℕ, map};
+ghost use Rattle.std.specs.Prelude.{◌≡◌, ℕ};
 ghost use Rattle.fx_config.specs.Pointer.{pointer};
 ghost use Rattle.fx_config.specs.Walk.{Reads};
 ghost use Rattle.fx_config.specs.Lists.{items_faults};
@@ -8,10 +8,9 @@ ghost use Rattle.fx_config.specs.References.{aggregation_references, cache_refer
 use crate::aggregation::Aggregation;
 use crate::cache::Cache;
 use crate::collecting_process::CollectingProcess;
-use crate::exporting_process::ExportingProcess;
 use crate::observation_point::ObservationPoint;
 use crate::selection_process::SelectionProcess;
-use crate::walk::{Path, known_name, known_names};
+use crate::walk::{Names, Path, known_name, known_names};
 use fx_base::Fault;
 use std::alloc::Global;
 
@@ -20,9 +19,9 @@ fn point_refers(
     alloc: Global,
     path: &Path<'_>,
     point: &ObservationPoint,
-    processes: &[SelectionProcess],
+    processes: &Names,
 ) -> Result<(), Fault>
-    ensures { Reads (point_references (map (λ x. x.name) processes.now) (pointer path.now) point.now) tt result }
+    ensures { Reads (point_references processes.now (pointer path.now) point.now) tt result }
 {
     let names = point.selection_processes.as_slice();
     known_names(
@@ -38,9 +37,9 @@ pub fn points_refer(
     alloc: Global,
     path: &Path<'_>,
     points: &[ObservationPoint],
-    processes: &[SelectionProcess],
+    processes: &Names,
 ) -> Result<(), Fault>
-    ensures { Reads (items_faults (point_references (map (λ x. x.name) processes.now)) (pointer path.now) 0 points.now) tt result }
+    ensures { Reads (items_faults (point_references processes.now) (pointer path.now) 0 points.now) tt result }
 {
     let mut place = 0;
     for point in points {
@@ -55,9 +54,9 @@ fn process_refers(
     alloc: Global,
     path: &Path<'_>,
     process: &SelectionProcess,
-    caches: &[Cache],
+    caches: &Names,
 ) -> Result<(), Fault>
-    ensures { Reads (process_references (map (λ x. x.name) caches.now) (pointer path.now) process.now) tt result }
+    ensures { Reads (process_references caches.now (pointer path.now) process.now) tt result }
 {
     match &process.cache {
         Some(cache) => known_name(alloc, &Path::Member(&*path, "cache"), cache, caches),
@@ -70,9 +69,9 @@ pub fn processes_refer(
     alloc: Global,
     path: &Path<'_>,
     processes: &[SelectionProcess],
-    caches: &[Cache],
+    caches: &Names,
 ) -> Result<(), Fault>
-    ensures { Reads (items_faults (process_references (map (λ x. x.name) caches.now)) (pointer path.now) 0 processes.now) tt result }
+    ensures { Reads (items_faults (process_references caches.now) (pointer path.now) 0 processes.now) tt result }
 {
     let mut place = 0;
     for process in processes {
@@ -87,9 +86,9 @@ fn cache_refers(
     alloc: Global,
     path: &Path<'_>,
     cache: &Cache,
-    processes: &[ExportingProcess],
+    processes: &Names,
 ) -> Result<(), Fault>
-    ensures { Reads (cache_references (map (λ x. x.name) processes.now) (pointer path.now) cache.now) tt result }
+    ensures { Reads (cache_references processes.now (pointer path.now) cache.now) tt result }
 {
     let names = cache.exporting_processes.as_slice();
     known_names(
@@ -105,9 +104,9 @@ pub fn caches_refer(
     alloc: Global,
     path: &Path<'_>,
     caches: &[Cache],
-    processes: &[ExportingProcess],
+    processes: &Names,
 ) -> Result<(), Fault>
-    ensures { Reads (items_faults (cache_references (map (λ x. x.name) processes.now)) (pointer path.now) 0 caches.now) tt result }
+    ensures { Reads (items_faults (cache_references processes.now) (pointer path.now) 0 caches.now) tt result }
 {
     let mut place = 0;
     for cache in caches {
@@ -122,9 +121,9 @@ fn aggregation_refers(
     alloc: Global,
     path: &Path<'_>,
     aggregation: &Aggregation,
-    processes: &[ExportingProcess],
+    processes: &Names,
 ) -> Result<(), Fault>
-    ensures { Reads (aggregation_references (map (λ x. x.name) processes.now) (pointer path.now) aggregation.now) tt result }
+    ensures { Reads (aggregation_references processes.now (pointer path.now) aggregation.now) tt result }
 {
     let names = aggregation.exporting_processes.as_slice();
     known_names(
@@ -140,9 +139,9 @@ fn aggregations_refer(
     alloc: Global,
     path: &Path<'_>,
     aggregations: &[Aggregation],
-    processes: &[ExportingProcess],
+    processes: &Names,
 ) -> Result<(), Fault>
-    ensures { Reads (items_faults (aggregation_references (map (λ x. x.name) processes.now)) (pointer path.now) 0 aggregations.now) tt result }
+    ensures { Reads (items_faults (aggregation_references processes.now) (pointer path.now) 0 aggregations.now) tt result }
 {
     let mut place = 0;
     for aggregation in aggregations {
@@ -158,9 +157,9 @@ fn collecting_refers(
     alloc: Global,
     path: &Path<'_>,
     collecting: &CollectingProcess,
-    processes: &[ExportingProcess],
+    processes: &Names,
 ) -> Result<(), Fault>
-    ensures { Reads (collecting_references (map (λ x. x.name) processes.now) (pointer path.now) collecting.now) tt result }
+    ensures { Reads (collecting_references processes.now (pointer path.now) collecting.now) tt result }
 {
     let names = collecting.exporting_processes.as_slice();
     let aggregations = collecting.aggregations.as_slice();
@@ -183,9 +182,9 @@ pub fn all_collecting_refer(
     alloc: Global,
     path: &Path<'_>,
     all: &[CollectingProcess],
-    processes: &[ExportingProcess],
+    processes: &Names,
 ) -> Result<(), Fault>
-    ensures { Reads (items_faults (collecting_references (map (λ x. x.name) processes.now)) (pointer path.now) 0 all.now) tt result }
+    ensures { Reads (items_faults (collecting_references processes.now) (pointer path.now) 0 all.now) tt result }
 {
     let mut place = 0;
     for collecting in all {

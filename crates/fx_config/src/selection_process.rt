@@ -4,7 +4,7 @@ ghost use Rattle.fx_config.specs.SelectionProcesses.{selection_process_faults, s
 use crate::limits::SELECTORS;
 use crate::selector::Selector;
 use crate::walk::{
-    Entry, Named, Path, Sequence, entries_member, name_member, object_of, optional_member,
+    Entry, Named, Names, Path, Sequence, entries_member, name_member, object_of, optional_member,
 };
 use fx_base::{Fault, Name};
 use serde_json::Value;
@@ -38,7 +38,7 @@ impl Entry for SelectionProcess {
         alloc: Global,
         path: &Path<'_>,
         value: &Value,
-        earlier: &[SelectionProcess],
+        earlier: &mut Names,
     ) -> Result<SelectionProcess, Fault> {
         object_of(alloc, path, value, &["name", "selector", "cache"])?;
         let name = name_member(alloc, path, value, earlier)?;

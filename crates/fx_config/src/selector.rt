@@ -5,8 +5,8 @@ ghost use Rattle.fx_config.specs.Selectors.{all_faults, is_all, method_given, se
 
 use crate::property_match::PropertyMatch;
 use crate::walk::{
-    Entry, FromValue, Named, Path, Refused, is_empty_type, name_member, none_of, object_of, one_of,
-    optional_member, refusal,
+    Entry, FromValue, Named, Names, Path, Refused, is_empty_type, name_member, none_of, object_of,
+    one_of, optional_member, refusal,
 };
 use fx_base::{Fault, Name};
 use serde_json::Value;
@@ -108,7 +108,7 @@ impl Entry for Selector {
         alloc: Global,
         path: &Path<'_>,
         value: &Value,
-        earlier: &[Selector],
+        earlier: &mut Names,
     ) -> Result<Selector, Fault> {
         object_of(
             alloc,

@@ -8,6 +8,7 @@ mod choice;
 mod entries;
 mod list;
 mod member;
+mod names;
 mod object;
 mod path;
 mod reference;
@@ -16,12 +17,13 @@ mod sequence;
 
 pub use choice::{Refused, none_of, one_of};
 pub use entries::{
-    Entry, Named, entries_member, is_named, name_member, unique_name, unique_name_by,
+    Entries, Entry, Named, entries_member, name_member, named_member, unique_name, unique_name_by,
 };
 pub use list::{items_by, items_in, items_member};
 pub use member::{FromValue, optional_member, required_member};
+pub use names::Names;
 pub use object::{document_of, object_of};
 pub use path::{Path, refusal};
-pub use reference::{known_name, known_names, place_of};
+pub use reference::{is_named, known_name, known_names, place_of};
 pub use scalar::{Empty, Text, Whole, is_empty_type, read_name};
 pub use sequence::Sequence;

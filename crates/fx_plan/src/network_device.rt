@@ -3,7 +3,7 @@ ghost use Rattle.fx_plan.specs.NetworkDevices.{network_device_faults, network_de
 
 use fx_base::{Fault, Name};
 use fx_config::Device;
-use fx_config::walk::{Entry, Named, Path, name_member, object_of, required_member};
+use fx_config::walk::{Entry, Named, Names, Path, name_member, object_of, required_member};
 use serde_json::Value;
 use std::alloc::Global;
 
@@ -33,7 +33,7 @@ impl Entry for NetworkDevice {
         alloc: Global,
         path: &Path<'_>,
         value: &Value,
-        earlier: &[NetworkDevice],
+        earlier: &mut Names,
     ) -> Result<NetworkDevice, Fault> {
         object_of(alloc, path, value, &["name", "config"])?;
         let name = name_member(alloc, path, value, earlier)?;

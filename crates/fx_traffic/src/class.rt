@@ -1,5 +1,5 @@
 //! The classes of the packets that cross a network.
-ghost use Rattle.std.specs.Prelude.{◌≡◌, ℕ, List, [], map, codes};
+ghost use Rattle.std.specs.Prelude.{◌≡◌, ◌++◌, ◌∷◌, ℕ, List, [], map, codes, OnOk};
 ghost use Rattle.serde_json.specs.View.{view};
 ghost use Rattle.serde_json.specs.Find.{get};
 ghost use Rattle.fx_config.specs.Pointer.{pointer};
@@ -14,9 +14,9 @@ use crate::list::items_in;
 use crate::path::read_paths;
 use crate::region::{read_region, whole};
 use crate::text::name_member;
-use fx_base::{Fault, Name};
+use fx_base::Fault;
 use fx_boxes::Region;
-use fx_config::walk::{Named, Path, Sequence, object_of, refusal};
+use fx_config::walk::{Named, Names, Path, Sequence, object_of, refusal};
 use fx_machine::{Class, Path as Route};
 use serde_json::Value;
 use std::alloc::Global;
@@ -45,33 +45,22 @@ fn paths_member<T: Named>(
     }
 }
 
-/// A class as the document has it.
-#[derive(Debug, Drop)]
-struct NamedClass {
-    /// Its name, which differs from those of the other classes.
-    name: Name,
-    /// Its packets.
-    class: Class,
-}
-
-/// A class behind classes with these names.
+/// A class behind classes with these names, to which its own is added.
 fn read_class<T: Named>(
     alloc: Global,
     path: &Path<'_>,
     value: &Value,
     devices: &[T],
-    earlier: &[Name],
-) -> Result<NamedClass, Fault>
-    ensures { Reads (class_faults (map T.name devices.now) earlier.now (pointer path.now) (view value.now)) (record { name = class_name (view value.now); class = class_of (map T.name devices.now) (view value.now) }) result }
+    earlier: &mut Names,
+) -> Result<Class, Fault>
+    ensures reads { Reads (class_faults (map T.name devices.now) earlier.old (pointer path.now) (view value.now)) (class_of (map T.name devices.now) (view value.now)) result }
+    ensures names { OnOk result (earlier.new ≡ earlier.old ++ class_name (view value.now) ∷ []) }
 {
     object_of(alloc, path, value, &["name", "region", "paths"])?;
-    let name = name_member(alloc, path, value, earlier)?;
+    name_member(alloc, path, value, earlier)?;
     let region = region_member(alloc, path, value)?;
     let paths = paths_member(alloc, path, value, devices)?;
-    Ok(NamedClass {
-        name,
-        class: Class::new(region, paths.into_vec()),
-    })
+    Ok(Class::new(region, paths.into_vec()))
 }
 
 /// The classes of the list at the path, in order.
@@ -83,19 +72,12 @@ fn classes_of<T: Named>(
 ) -> Result<Sequence<Class>, Fault>
     ensures { Reads (entries_faults (class_faults (map T.name devices.now)) class_name [] (pointer path.now) 0 (map view items.now)) (map (class_of (map T.name devices.now)) (map view items.now)) result }
 {
-    let mut names = Vec::new(alloc);
+    let mut names = Names::new(alloc);
     let mut classes = Vec::new(alloc);
     let mut place = 0;
     for item in items {
-        let named = read_class(
-            alloc,
-            &Path::Item(&*path, place),
-            item,
-            devices,
-            names.as_slice(),
-        )?;
-        names.push(named.name)?;
-        classes.push(named.class)?;
+        let path = Path::Item(&*path, place);
+        classes.push(read_class(alloc, &path, item, devices, &mut names)?)?;
         place += 1;
     }
     Ok(Sequence::from_vec(classes))

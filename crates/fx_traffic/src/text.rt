@@ -1,5 +1,5 @@
 //! Names in a declaration of traffic.
-ghost use Rattle.std.specs.Prelude.{◌≡◌, ℕ, List, map, codes};
+ghost use Rattle.std.specs.Prelude.{◌≡◌, ◌++◌, ◌∷◌, [], ℕ, List, codes, OnOk};
 ghost use Rattle.serde_json.specs.View.{view};
 ghost use Rattle.fx_config.specs.Pointer.{pointer};
 ghost use Rattle.fx_config.specs.Walk.{Reads, required, member_of};
@@ -7,7 +7,7 @@ ghost use Rattle.fx_config.specs.Scalars.{text_of};
 ghost use Rattle.fx_traffic.specs.Texts.{name_faults, name_once};
 
 use fx_base::{Fault, Name};
-use fx_config::walk::{self, Path, refusal, unique_name_by};
+use fx_config::walk::{self, Names, Path, refusal, unique_name_by};
 use serde_json::Value;
 use std::alloc::Global;
 
@@ -18,26 +18,28 @@ pub fn read_name(alloc: Global, path: &Path<'_>, value: &Value) -> Result<Name, 
     walk::read_name(alloc, path, value, 302)
 }
 
-/// A name that none of these is: 104 and 302 as for any name, 301 for one of them.
+/// A name that none of these is, to which it is added: 104 and 302 as for any name, 301 for one of them.
 fn unique_name(
     alloc: Global,
     path: &Path<'_>,
     value: &Value,
-    earlier: &[Name],
+    earlier: &mut Names,
 ) -> Result<Name, Fault>
-    ensures { Reads (name_once earlier.now (pointer path.now) (view value.now)) (text_of (view value.now)) result }
+    ensures reads { Reads (name_once earlier.old (pointer path.now) (view value.now)) (text_of (view value.now)) result }
+    ensures names { OnOk result (earlier.new ≡ earlier.old ++ text_of (view value.now) ∷ []) }
 {
     unique_name_by(alloc, path, value, earlier, 302, 301)
 }
 
-/// An object's member `name`, which differs from these.
+/// An object's member `name`, which differs from these and is added to them.
 pub fn name_member(
     alloc: Global,
     path: &Path<'_>,
     object: &Value,
-    earlier: &[Name],
+    earlier: &mut Names,
 ) -> Result<Name, Fault>
-    ensures { Reads ((required (codes "name") (name_once earlier.now)).faults (pointer path.now) (view object.now)) (text_of (member_of (codes "name") (view object.now))) result }
+    ensures reads { Reads ((required (codes "name") (name_once earlier.old)).faults (pointer path.now) (view object.now)) (text_of (member_of (codes "name") (view object.now))) result }
+    ensures names { OnOk result (earlier.new ≡ earlier.old ++ text_of (member_of (codes "name") (view object.now)) ∷ []) }
 {
     match object.get("name") {
         Some(value) => unique_name(alloc, &Path::Member(path, "name"), value, earlier),

@@ -1,13 +1,15 @@
 //! Lists whose entries have names that differ.
-ghost use Rattle.std.specs.Prelude.{◌≡◌, ℕ, List, [], ◌∷◌, ◌++◌, map, codes};
+ghost use Rattle.std.specs.Prelude.{◌≡◌, ℕ, List, [], ◌∷◌, ◌++◌, map, codes, OnOk};
 ghost use Rattle.serde_json.specs.Data.{Data};
 ghost use Rattle.serde_json.specs.View.{view};
 ghost use Rattle.fx_config.specs.Pointer.{pointer};
 ghost use Rattle.fx_config.specs.Walk.{Found, Reads, member_of, required};
-ghost use Rattle.fx_config.specs.Lists.{entries, entries_faults, is_among, items_of, name_once, name_once_by};
+ghost use Rattle.fx_config.specs.Lists.{entries, entries_faults, items_of, name_once, name_once_by};
+ghost use Rattle.fx_config.specs.NamedEntries.{named_entries};
 ghost use Rattle.fx_config.specs.Scalars.{text_of};
 
 use crate::walk::list::items_in;
+use crate::walk::names::Names;
 use crate::walk::path::{Path, refusal};
 use crate::walk::scalar::read_name;
 use crate::walk::sequence::Sequence;
@@ -33,65 +35,60 @@ pub trait Entry: Named {
     /// What a value without a fault means.
     ghost meaning: { Data → Self };
 
-    /// Reads the value that stands at the path behind these entries, or answers its first fault.
+    /// Reads the value that stands at the path behind entries with these names, and puts its own behind them, or
+    /// answers its first fault.
     fn from_entry(
         alloc: Global,
         path: &Path<'_>,
         value: &Value,
-        earlier: &[Self],
+        earlier: &mut Names,
     ) -> Result<Self, Fault>
-        ensures { Reads (faults (map Self.name earlier.now) (pointer path.now) (view value.now)) (meaning (view value.now)) result };
-}
-
-/// Whether an entry has the name.
-pub fn is_named<T: Named>(entries: &[T], name: &Name) -> bool
-    ensures { result ≡ is_among (map T.name entries.now) name.now }
-{
-    match entries {
-        [] => false,
-        [entry, rest @ ..] => entry.name() == name || is_named(rest, name),
-    }
+        ensures reads { Reads (faults earlier.old (pointer path.now) (view value.now)) (meaning (view value.now)) result }
+        ensures names { OnOk result (earlier.new ≡ earlier.old ++ Self.name (meaning (view value.now)) ∷ []) };
 }
 
 /// A name that differs from those of earlier entries: 104 for no text, `wrong` for a text that is no name,
 /// `twice` for one of those.
-pub fn unique_name_by<T: Named>(
+pub fn unique_name_by(
     alloc: Global,
     path: &Path<'_>,
     value: &Value,
-    earlier: &[T],
+    earlier: &mut Names,
     wrong: u16,
     twice: u16,
 ) -> Result<Name, Fault>
-    ensures { Reads (name_once_by wrong twice (map T.name earlier.now) (pointer path.now) (view value.now)) (text_of (view value.now)) result }
+    ensures reads { Reads (name_once_by wrong twice earlier.old (pointer path.now) (view value.now)) (text_of (view value.now)) result }
+    ensures names { OnOk result (earlier.new ≡ earlier.old ++ text_of (view value.now) ∷ []) }
 {
     let name = read_name(alloc, path, value, wrong)?;
-    if is_named(earlier, &name) {
+    if !earlier.add(&name)? {
         return Err(refusal(alloc, twice, path));
     }
     Ok(name)
 }
 
 /// A name that differs from those of earlier entries: 104 and 105 as for any name, 106 for one of those.
-pub fn unique_name<T: Named>(
+pub fn unique_name(
     alloc: Global,
     path: &Path<'_>,
     value: &Value,
-    earlier: &[T],
+    earlier: &mut Names,
 ) -> Result<Name, Fault>
-    ensures { Reads (name_once (map T.name earlier.now) (pointer path.now) (view value.now)) (text_of (view value.now)) result }
+    ensures reads { Reads (name_once earlier.old (pointer path.now) (view value.now)) (text_of (view value.now)) result }
+    ensures names { OnOk result (earlier.new ≡ earlier.old ++ text_of (view value.now) ∷ []) }
 {
     unique_name_by(alloc, path, value, earlier, 105, 106)
 }
 
 /// An entry's member `name`, which differs from those of earlier entries.
-pub fn name_member<T: Named>(
+pub fn name_member(
     alloc: Global,
     path: &Path<'_>,
     object: &Value,
-    earlier: &[T],
+    earlier: &mut Names,
 ) -> Result<Name, Fault>
-    ensures { Reads ((required (codes "name") (name_once (map T.name earlier.now))).faults (pointer path.now) (view object.now)) (text_of (member_of (codes "name") (view object.now))) result }
+    ensures reads { Reads ((required (codes "name") (name_once earlier.old)).faults (pointer path.now) (view object.now)) (text_of (member_of (codes "name") (view object.now))) result }
+    ensures names { OnOk result (earlier.new ≡ earlier.old ++ text_of (member_of (codes "name") (view object.now)) ∷ []) }
 {
     match object.get("name") {
         Some(value) => unique_name(alloc, &Path::Member(path, "name"), value, earlier),
@@ -117,10 +114,19 @@ impl Entry for Name {
         alloc: Global,
         path: &Path<'_>,
         value: &Value,
-        earlier: &[Name],
+        earlier: &mut Names,
     ) -> Result<Name, Fault> {
         unique_name(alloc, path, value, earlier)
     }
+}
+
+/// A list's entries in order, with their names, which differ.
+#[derive(Drop)]
+pub struct Entries<T> {
+    /// The entries.
+    pub items: Sequence<T>,
+    /// The name of each.
+    pub names: Names,
 }
 
 /// What the entries of the list at the path mean, in order.
@@ -128,21 +134,49 @@ fn entries_of<T: Entry>(
     alloc: Global,
     path: &Path<'_>,
     items: &[Value],
-) -> Result<Sequence<T>, Fault>
-    ensures { Reads (entries_faults T.faults (λ d. T.name (T.meaning d)) [] (pointer path.now) 0 (map view items.now)) (map T.meaning (map view items.now)) result }
+) -> Result<Entries<T>, Fault>
+    ensures { Reads (entries_faults T.faults (λ d. T.name (T.meaning d)) [] (pointer path.now) 0 (map view items.now)) (named_entries T.name (map T.meaning (map view items.now))) result }
 {
     let mut values = Vec::new(alloc);
+    let mut names = Names::new(alloc);
     let mut place = 0;
     for item in items {
-        let value = T::from_entry(alloc, &Path::Item(&*path, place), item, values.as_slice())?;
-        values.push(value)?;
+        values.push(T::from_entry(alloc, &Path::Item(&*path, place), item, &mut names)?)?;
         place += 1;
     }
-    Ok(Sequence::from_vec(values))
+    Ok(Entries {
+        items: Sequence::from_vec(values),
+        names,
+    })
 }
 
 /// A member that is a list of `least` to `most` entries whose names differ. Where it may be empty it may be
 /// left out; else 103 at the object.
+pub fn named_member<T: Entry>(
+    alloc: Global,
+    path: &Path<'_>,
+    object: &Value,
+    name: &str,
+    least: usize,
+    most: usize,
+) -> Result<Entries<T>, Fault>
+    ensures { Reads ((entries least most name.now T.faults (λ d. T.name (T.meaning d))).faults (pointer path.now) (view object.now)) (named_entries T.name (map T.meaning (items_of (member_of name.now (view object.now))))) result }
+{
+    match object.get(name) {
+        Some(value) => {
+            let path = Path::Member(path, name);
+            let items = items_in(alloc, &path, value, least, most)?;
+            entries_of(alloc, &path, items)
+        }
+        None if least > 0 => Err(refusal(alloc, 103, path)),
+        None => Ok(Entries {
+            items: Sequence::from_vec(Vec::new(alloc)),
+            names: Names::new(alloc),
+        }),
+    }
+}
+
+/// The same without the names.
 pub fn entries_member<T: Entry>(
     alloc: Global,
     path: &Path<'_>,
@@ -153,13 +187,5 @@ pub fn entries_member<T: Entry>(
 ) -> Result<Sequence<T>, Fault>
     ensures { Reads ((entries least most name.now T.faults (λ d. T.name (T.meaning d))).faults (pointer path.now) (view object.now)) (map T.meaning (items_of (member_of name.now (view object.now)))) result }
 {
-    match object.get(name) {
-        Some(value) => {
-            let path = Path::Member(path, name);
-            let items = items_in(alloc, &path, value, least, most)?;
-            entries_of(alloc, &path, items)
-        }
-        None if least > 0 => Err(refusal(alloc, 103, path)),
-        None => Ok(Sequence::from_vec(Vec::new(alloc))),
-    }
+    Ok(named_member(alloc, path, object, name, least, most)?.items)
 }

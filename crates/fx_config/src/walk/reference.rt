@@ -4,38 +4,34 @@ ghost use Rattle.std.specs.List.{position};
 ghost use Rattle.std.specs.Str.{bytes_eq};
 ghost use Rattle.fx_config.specs.Pointer.{pointer};
 ghost use Rattle.fx_config.specs.Walk.{Reads};
-ghost use Rattle.fx_config.specs.Lists.{items_faults, place_in};
+ghost use Rattle.fx_config.specs.Lists.{is_among, items_faults, place_in};
 ghost use Rattle.fx_config.specs.References.{unknown};
 
-use crate::walk::entries::{Named, is_named};
+use crate::walk::entries::Named;
+use crate::walk::names::Names;
 use crate::walk::path::{Path, refusal};
 use fx_base::{Fault, Name};
 use std::alloc::Global;
 
-/// Refuses the name at the path unless one of these has it (107).
-pub fn known_name<T: Named>(
-    alloc: Global,
-    path: &Path<'_>,
-    name: &Name,
-    known: &[T],
-) -> Result<(), Fault>
-    ensures { Reads (unknown (map T.name known.now) (pointer path.now) name.now) tt result }
+/// Refuses the name at the path unless it is one of these (107).
+pub fn known_name(alloc: Global, path: &Path<'_>, name: &Name, known: &Names) -> Result<(), Fault>
+    ensures { Reads (unknown known.now (pointer path.now) name.now) tt result }
 {
-    if is_named(known, name) {
+    if known.contains(name) {
         Ok(())
     } else {
         Err(refusal(alloc, 107, path))
     }
 }
 
-/// Refuses the first name of the list at the path that none of these has (107).
-pub fn known_names<T: Named>(
+/// Refuses the first name of the list at the path that is none of these (107).
+pub fn known_names(
     alloc: Global,
     path: &Path<'_>,
     names: &[Name],
-    known: &[T],
+    known: &Names,
 ) -> Result<(), Fault>
-    ensures { Reads (items_faults (unknown (map T.name known.now)) (pointer path.now) 0 names.now) tt result }
+    ensures { Reads (items_faults (unknown known.now) (pointer path.now) 0 names.now) tt result }
 {
     let mut place = 0;
     for name in names {
@@ -43,6 +39,16 @@ pub fn known_names<T: Named>(
         place += 1;
     }
     Ok(())
+}
+
+/// Whether an entry has the name.
+pub fn is_named<T: Named>(entries: &[T], name: &Name) -> bool
+    ensures { result ≡ is_among (map T.name entries.now) name.now }
+{
+    match entries {
+        [] => false,
+        [entry, rest @ ..] => entry.name() == name || is_named(rest, name),
+    }
 }
 
 fn position_of<T: Named>(named: &[T], name: &Name) -> Option<usize>

@@ -1,28 +1,20 @@
-use Rattle.std.proofs.Common.{◌≡◌, ◌+◌, [], map, drop, ◌∙◌, refl, ap, sym, arith}
+use Rattle.std.proofs.Common.{◌≡◌, ◌+◌, [], drop, ◌∙◌, refl, ap, sym, arith}
 use Rattle.std.proofs.lemmas.List.{drop_all, append-nil}
 use Rattle.fx_config.specs.Pointer.{pointer}
 use Rattle.fx_config.specs.CacheFields.{cache_field_faults, cache_field_of}
-use Rattle.fx_config.specs.declared.cache_field.CacheField.{CacheField}
-use Rattle.fx_config.proofs.Faults.{exit, refuses_more, pointer-Item}
-use Rattle.fx_config.proofs.Walks.{item_here, next_entry, next_value, names_more}
+use Rattle.fx_config.proofs.Faults.{pointer-Item}
+use Rattle.fx_config.proofs.Walks.{item_here, next_entry, next_value}
 use Rattle.fx_config.proofs.cache_field.fields_of.Goals as goal
-
-pub returns-in_err-field : goal.returns-in_err-field
-returns-in_err-field c =
-    let i = c.loop-item.invariant in
-    let v = c.item-item.result in
-    let here = item_here c.args.items.now c.loop-item.place c.loop-item.item-index v i.place (omega arith) c.item-item.is in
-    exit _ _ _ _ c.from_residual.ensures (rw (i.faults, next_entry (cache_field_faults c.args.immediate) (λ d. (cache_field_of c.args.immediate d).name) (map (λ e. e.name) c.loop-item.fields.items) (pointer c.args.path.now) c.loop-item.place c.args.items.now v here) (refuses_more _ _ _ (rw (pointer-Item, c.as_slice.ensures.value) at c.in_err-field.ensures)))
 
 pub loop-item-preserved : goal.loop-item-preserved
 loop-item-preserved c =
     let i = c.loop-item.invariant in
     let v = c.item-item.result in
     let here = item_here c.args.items.now c.loop-item.place c.loop-item.item-index v i.place (omega arith) c.item-item.is in
-    let ok = rw (pointer-Item, c.as_slice.ensures.value) at c.in_ok-field.ensures in
+    let ok = rw pointer-Item at c.in_ok-read_field.ensures.reads in
     record {
       place = ap (λ n. n + 1) i.place;
-      faults = i.faults ∙ next_entry (cache_field_faults c.args.immediate) (λ d. (cache_field_of c.args.immediate d).name) (map (λ e. e.name) c.loop-item.fields.items) (pointer c.args.path.now) c.loop-item.place c.args.items.now v here ∙ rw (ok.0, c.in_ok-push.ensures.items, names_more (λ (e : CacheField). e.name) c.loop-item.fields.items c.in_ok-field.field, ap (λ (n : CacheField). n.name) ok.1) refl;
+      faults = i.faults ∙ next_entry (cache_field_faults c.args.immediate) (λ d. (cache_field_of c.args.immediate d).name) c.loop-item.names (pointer c.args.path.now) c.loop-item.place c.args.items.now v here ∙ rw (ok.0, c.in_ok-read_field.ensures.names) refl;
       fields = rw (c.in_ok-push.ensures.items, ok.1) (sym (next_value (cache_field_of c.args.immediate) c.loop-item.fields.items c.loop-item.place c.args.items.now v here) ∙ i.fields);
     }
 

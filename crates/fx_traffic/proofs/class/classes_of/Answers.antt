@@ -1,29 +1,21 @@
 use Rattle.std.proofs.Common.{◌≡◌, ◌+◌, [], map, drop, ◌∙◌, refl, ap, sym, arith}
 use Rattle.std.proofs.lemmas.List.{drop_all, append-nil}
 use Rattle.fx_config.specs.Pointer.{pointer}
-use Rattle.fx_config.proofs.Faults.{exit, refuses_more, pointer-Item}
+use Rattle.fx_config.proofs.Faults.{pointer-Item}
 use Rattle.fx_traffic.specs.Classes.{class_faults, class_name, class_of}
-use Rattle.fx_traffic.specs.declared.class.NamedClass.{NamedClass}
 use Rattle.fx_config.proofs.Walks.{item_here, next_entry, next_value}
 use Rattle.fx_traffic.proofs.class.classes_of.Goals as goal
-
-pub returns-in_err-named : goal.returns-in_err-named
-returns-in_err-named g c =
-    let i = c.loop-item.invariant in
-    let v = c.item-item.result in
-    let here = item_here c.args.items.now c.loop-item.place c.loop-item.item-index v i.place (omega arith) c.item-item.is in
-    exit _ _ _ _ c.from_residual.ensures (rw (i.faults, next_entry (class_faults (map g.T.Named.name c.args.devices.now)) class_name c.loop-item.names.items (pointer c.args.path.now) c.loop-item.place c.args.items.now v here) (refuses_more _ _ _ (rw (pointer-Item, c.as_slice.ensures.value) at c.in_err-named.ensures)))
 
 pub loop-item-preserved : goal.loop-item-preserved
 loop-item-preserved g c =
     let i = c.loop-item.invariant in
     let v = c.item-item.result in
     let here = item_here c.args.items.now c.loop-item.place c.loop-item.item-index v i.place (omega arith) c.item-item.is in
-    let ok = rw (pointer-Item, c.as_slice.ensures.value) at c.in_ok-named.ensures in
+    let ok = rw pointer-Item at c.in_ok-read_class.ensures.reads in
     record {
       place = ap (λ n. n + 1) i.place;
-      faults = i.faults ∙ next_entry (class_faults (map g.T.Named.name c.args.devices.now)) class_name c.loop-item.names.items (pointer c.args.path.now) c.loop-item.place c.args.items.now v here ∙ rw (ok.0, c.in_ok-push.ensures.items, ap (λ (n : NamedClass). n.name) ok.1) refl;
-      classes = rw (c.in_ok-push-2.ensures.items, ap (λ (n : NamedClass). n.class) ok.1) (sym (next_value (class_of (map g.T.Named.name c.args.devices.now)) c.loop-item.classes.items c.loop-item.place c.args.items.now v here) ∙ i.classes);
+      faults = i.faults ∙ next_entry (class_faults (map g.T.Named.name c.args.devices.now)) class_name c.loop-item.names (pointer c.args.path.now) c.loop-item.place c.args.items.now v here ∙ rw (ok.0, c.in_ok-read_class.ensures.names) refl;
+      classes = rw (c.in_ok-push.ensures.items, ok.1) (sym (next_value (class_of (map g.T.Named.name c.args.devices.now)) c.loop-item.classes.items c.loop-item.place c.args.items.now v here) ∙ i.classes);
     }
 
 pub returns : goal.returns

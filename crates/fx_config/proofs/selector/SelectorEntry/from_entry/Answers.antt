@@ -1,32 +1,32 @@
-use Rattle.std.proofs.Common.{refl, map}
+use Rattle.std.proofs.Common.{refl}
 use Rattle.fx_config.specs.Selectors.{selector_rows}
 use Rattle.fx_config.proofs.Faults.{exit, refuses_more}
 use Rattle.fx_config.proofs.selector.SelectorEntry.from_entry.Goals as goal
 
-pub returns-in_err-object_of : goal.returns-in_err-object_of
-returns-in_err-object_of c =
-    exit _ _ _ _ c.from_residual.ensures (c.in_err-object_of.ensures (selector_rows (map (λ e. e.name) c.args.earlier.now)) refl)
+pub returns-in_err-object_of-clause-reads : goal.returns-in_err-object_of-clause-reads
+returns-in_err-object_of-clause-reads c =
+    exit _ _ _ _ c.from_residual.ensures (c.in_err-object_of.ensures (selector_rows c.args.earlier.now) refl)
 
-pub returns-in_err-name : goal.returns-in_err-name
-returns-in_err-name c =
-    exit _ _ _ _ c.from_residual-in_err-name.ensures (rw (c.in_ok-object_of.ensures (selector_rows (map (λ e. e.name) c.args.earlier.now)) refl) (refuses_more _ _ _ c.in_err-name.ensures))
+pub returns-in_err-name-clause-reads : goal.returns-in_err-name-clause-reads
+returns-in_err-name-clause-reads c =
+    exit _ _ _ _ c.from_residual-in_err-name.ensures (rw (c.in_ok-object_of.ensures (selector_rows c.args.earlier.now) refl) (refuses_more _ _ _ c.in_err-name.ensures.reads))
 
-pub returns-in_err-none_of : goal.returns-in_err-none_of
-returns-in_err-none_of c =
-    exit _ _ _ _ c.from_residual-in_err-none_of.ensures (rw (c.in_ok-object_of.ensures (selector_rows (map (λ e. e.name) c.args.earlier.now)) refl, c.in_ok-name.ensures.0) (refuses_more _ _ _ c.in_err-none_of.ensures))
+pub returns-in_err-none_of-clause-reads : goal.returns-in_err-none_of-clause-reads
+returns-in_err-none_of-clause-reads c =
+    exit _ _ _ _ c.from_residual-in_err-none_of.ensures (rw (c.in_ok-object_of.ensures (selector_rows c.args.earlier.now) refl, c.in_ok-name.ensures.reads.0) (refuses_more _ _ _ c.in_err-none_of.ensures))
 
-pub returns-in_err-one_of : goal.returns-in_err-one_of
-returns-in_err-one_of c =
-    exit _ _ _ _ c.from_residual-in_err-one_of.ensures (rw (c.in_ok-object_of.ensures (selector_rows (map (λ e. e.name) c.args.earlier.now)) refl, c.in_ok-name.ensures.0, c.in_ok-none_of.ensures.0) (refuses_more _ _ _ c.in_err-one_of.ensures))
+pub returns-in_err-one_of-clause-reads : goal.returns-in_err-one_of-clause-reads
+returns-in_err-one_of-clause-reads c =
+    exit _ _ _ _ c.from_residual-in_err-one_of.ensures (rw (c.in_ok-object_of.ensures (selector_rows c.args.earlier.now) refl, c.in_ok-name.ensures.reads.0, c.in_ok-none_of.ensures.0) (refuses_more _ _ _ c.in_err-one_of.ensures))
 
-pub returns-in_err-_all : goal.returns-in_err-_all
-returns-in_err-_all c =
-    exit _ _ _ _ c.from_residual-in_err-_all.ensures (rw (c.in_ok-object_of.ensures (selector_rows (map (λ e. e.name) c.args.earlier.now)) refl, c.in_ok-name.ensures.0, c.in_ok-none_of.ensures.0, c.in_ok-one_of.ensures.0) (refuses_more _ _ _ c.in_err-_all.ensures))
+pub returns-in_err-_all-clause-reads : goal.returns-in_err-_all-clause-reads
+returns-in_err-_all-clause-reads c =
+    exit _ _ _ _ c.from_residual-in_err-_all.ensures (rw (c.in_ok-object_of.ensures (selector_rows c.args.earlier.now) refl, c.in_ok-name.ensures.reads.0, c.in_ok-none_of.ensures.0, c.in_ok-one_of.ensures.0) (refuses_more _ _ _ c.in_err-_all.ensures))
 
-pub returns-in_err-filter : goal.returns-in_err-filter
-returns-in_err-filter c =
-    exit _ _ _ _ c.from_residual-in_err-filter.ensures (rw (c.in_ok-object_of.ensures (selector_rows (map (λ e. e.name) c.args.earlier.now)) refl, c.in_ok-name.ensures.0, c.in_ok-none_of.ensures.0, c.in_ok-one_of.ensures.0, c.in_ok-_all.ensures.0) (refuses_more _ _ _ c.in_err-filter.ensures))
+pub returns-in_err-filter-clause-reads : goal.returns-in_err-filter-clause-reads
+returns-in_err-filter-clause-reads c =
+    exit _ _ _ _ c.from_residual-in_err-filter.ensures (rw (c.in_ok-object_of.ensures (selector_rows c.args.earlier.now) refl, c.in_ok-name.ensures.reads.0, c.in_ok-none_of.ensures.0, c.in_ok-one_of.ensures.0, c.in_ok-_all.ensures.0) (refuses_more _ _ _ c.in_err-filter.ensures))
 
-pub returns : goal.returns
-returns c =
-    (rw (c.in_ok-object_of.ensures (selector_rows (map (λ e. e.name) c.args.earlier.now)) refl, c.in_ok-name.ensures.0, c.in_ok-none_of.ensures.0, c.in_ok-one_of.ensures.0, c.in_ok-_all.ensures.0, c.in_ok-filter.ensures.0) refl, rw (c.in_ok-name.ensures.1, c.method_given.ensures, c.in_ok-filter.ensures.1) refl)
+pub returns-clause-reads : goal.returns-clause-reads
+returns-clause-reads c =
+    (rw (c.in_ok-object_of.ensures (selector_rows c.args.earlier.now) refl, c.in_ok-name.ensures.reads.0, c.in_ok-none_of.ensures.0, c.in_ok-one_of.ensures.0, c.in_ok-_all.ensures.0, c.in_ok-filter.ensures.0) refl, rw (c.in_ok-name.ensures.reads.1, c.method_given.ensures, c.in_ok-filter.ensures.1) refl)

@@ -6,4 +6,4 @@ pub returns : goal.returns
 returns g c =
     let i = c.loop-item.invariant in
     let none : drop c.loop-item.place c.args.items.now ≡ [] = drop_all c.loop-item.place c.args.items.now (omega (arith, i.place)) in
-    (i.faults ∙ rw none refl, c.from_vec.ensures ∙ rw (none, append-nil) at i.values)
+    (i.faults ∙ rw none refl, rw (c.from_vec.ensures, (rw (none, append-nil) at i.values), (rw (none, append-nil) at i.names)) refl)

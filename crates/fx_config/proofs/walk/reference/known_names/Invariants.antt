@@ -1,12 +1,12 @@
-use Rattle.std.proofs.Common.{◌≡◌, drop, map}
+use Rattle.std.proofs.Common.{◌≡◌, drop}
 use Rattle.fx_config.specs.Pointer.{pointer}
 use Rattle.fx_config.specs.Lists.{items_faults}
 use Rattle.fx_config.specs.References.{unknown}
 use Rattle.fx_config.proofs.walk.reference.known_names.Given as goal
 
 abbrev pub invariant-loop-name : goal.invariant-loop-name
-invariant-loop-name g l =
-    let faults = unknown (map g.T.Named.name l.known) in
+invariant-loop-name l =
+    let faults = unknown l.known in
     record {
       place : l.place ≡ l.name-index;
       faults : items_faults faults (pointer l.path) 0 l.names ≡ items_faults faults (pointer l.path) l.place (drop l.place l.names);

@@ -1,7 +1,7 @@
 use Rattle.fx_config.proofs.Faults.{pointer-Member, exit}
 use Rattle.fx_config.specs.Lists.{entries_faults}
 use Rattle.std.proofs.Common.{[]}
-use Rattle.fx_config.proofs.walk.entries.entries_member.Goals as goal
+use Rattle.fx_config.proofs.walk.entries.named_member.Goals as goal
 
 pub returns-in_err-items-in-Some : goal.returns-in_err-items-in-Some
 returns-in_err-items-in-Some g c =
