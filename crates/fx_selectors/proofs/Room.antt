@@ -1,7 +1,7 @@
 -- Whether any fields are within bounds.
-use Rattle.std.proofs.Common.{◌≡◌, ℕ, ◌<◌, ◌≤◌, Bool, true, false, List, Option, Some, None, IsSome, IfSome, ◌↔◌, slice_index, refl, sym, ap, ap₂, ◌∙◌, subst, arith}
+use Rattle.std.proofs.Common.{◌≡◌, ℕ, ◌<◌, ◌≤◌, true, false, List, Option, Some, None, IsSome, IfSome, ◌↔◌, slice_index, refl, sym, ap, ap₂, ◌∙◌, subst, arith}
 use Rattle.fx_elements.specs.Axes.{axis_count, tops}
-use Rattle.fx_boxes.specs.Boxes.{Bounds, Holds, IsFields, holds}
+use Rattle.fx_boxes.specs.Boxes.{Bounds, Holds, IsFields}
 use Rattle.fx_boxes.proofs.Holding.{holds_if, holds_is}
 use Rattle.fx_selectors.specs.Selection.{has_room, region_within}
 

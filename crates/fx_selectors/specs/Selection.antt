@@ -1,6 +1,6 @@
 -- What a selection process selects (RFC 6728; property match filtering in RFC 5475, section 6.1).
-use Rattle.std.specs.Prelude.{ℕ, Bool, true, ◌&&◌, nat_le, min, max, if◌then◌else◌, List, [], ◌∷◌, Option, Some, None, slice_set}
-use Rattle.std.specs.List.{list_all, fold, flat_map}
+use Rattle.std.specs.Prelude.{Bool, true, ◌&&◌, nat_le, min, max, if◌then◌else◌, List, [], ◌∷◌, Option, Some, None, slice_set}
+use Rattle.std.specs.List.{list_all, fold}
 use Rattle.fx_elements.specs.Axes.{Fields, field, axis_index, tops}
 use Rattle.fx_boxes.specs.Boxes.{Bounds, holds}
 use Rattle.fx_config.specs.declared.property_match.PropertyMatch.{PropertyMatch}

@@ -1,5 +1,5 @@
 //! The region of the packets that a selection process selects.
-ghost use Rattle.std.specs.Prelude.{◌≡◌, length};
+ghost use Rattle.std.specs.Prelude.{◌≡◌, ℕ, List, false, length, IfSome, IfNone};
 ghost use Rattle.fx_boxes.specs.Boxes as boxes;
 ghost use Rattle.fx_selectors.specs.Selection as selection;
 
@@ -62,7 +62,10 @@ fn region_within(low: [u128; AXES], high: [u128; AXES]) -> Option<Region>
 
 /// The region of the packets that a selection process selects, or None where no packet can pass it.
 pub fn region_of(process: &SelectionProcess) -> Option<Region>
-    ensures { result ≡ selection.region_of process.now }
+    ensures bounds { result ≡ selection.region_of process.now }
+    // It selects just the packets whose fields the region holds, and where there is no region none.
+    ensures some { IfSome result (λ region. (fields : List ℕ) → boxes.IsFields fields → boxes.holds region fields ≡ selection.selects process.now fields) }
+    ensures none { IfNone result ((fields : List ℕ) → boxes.IsFields fields → selection.selects process.now fields ≡ false) }
 {
     let Bounds { low, high } = bounds_of(process.selectors.as_slice());
     region_within(low, high)
