@@ -1,39 +1,82 @@
 //! Regions: the values that the fields of a class's packets may have.
-ghost use Rattle.std.specs.Prelude.{◌≡◌, ◌≤◌, ◌∷◌, [], IfOk, IfSome};
+ghost use Rattle.std.specs.Prelude.{◌≡◌, ◌≤◌, ◌∷◌, [], IfOk, IfSome, slice_index};
 ghost use Rattle.serde_json.specs.View.{view};
 ghost use Rattle.serde_json.specs.Find.{get};
-ghost use Rattle.fx_elements.specs.Values.{values_of};
-ghost use Rattle.fx_elements.specs.declared.axis.Axis.TheVariants as axis;
+ghost use Rattle.fx_elements.specs.Axes.{axis_index, tops};
+ghost use Rattle.fx_elements.specs.Values.{value_on, values_of};
 ghost use Rattle.fx_elements.specs.declared.element.Element.TheVariants as element;
 ghost use Rattle.fx_boxes.specs.Boxes.{IsRegion};
 ghost use Rattle.fx_config.specs.Pointer.{pointer};
 ghost use Rattle.fx_config.specs.Walk.{Reads, optional};
-ghost use Rattle.fx_traffic.specs.Regions.{IsOn, all_on, axis_name, region_faults, region_of, values_faults, values_given, values_in, values_on, whole};
+ghost use Rattle.fx_traffic.specs.Regions.{IsOn, all_on, axis_name, prefix_on, region_faults, region_of, span, values_faults, values_given, values_in, values_on, whole};
 
 use fx_base::Fault;
 use fx_boxes::{Fields, Region};
 use fx_config::walk::{Path, object_of, refusal};
-use fx_elements::{AXES, Axis, Element, Range, TOPS, one_spelling, read_value, top};
+use fx_elements::{
+    AXES, Axis, Element, Range, TOPS, cut, one_spelling, read_on, read_value, top, width,
+};
 use serde_json::Value;
 use std::alloc::Global;
 
-/// The addresses that begin as a prefix does.
-fn addresses(text: &str) -> Option<Range>
-    ensures value { result ≡ values_of element.SourcePrefix text.now }
-    ensures bound { IfSome result (IsOn axis.Source) }
+/// The value on the axis that the text spells.
+fn value_on(axis: Axis, text: &[u8]) -> Option<u128>
+    ensures value { result ≡ value_on axis text.now }
+    ensures bound { IfSome result (λ value. value ≤ slice_index tops (axis_index axis)) }
 {
+    one_spelling();
+    read_on(axis, text)
+}
+
+/// The values from one that the text `low` spells to one that `high` spells.
+fn span(axis: Axis, low: &[u8], high: &[u8]) -> Option<Range>
+    ensures value { result ≡ span (value_on axis low.now) (value_on axis high.now) }
+    ensures bound { IfSome result (IsOn axis) }
+{
+    let low = value_on(axis, low)?;
+    let high = value_on(axis, high)?;
+    if low > high {
+        return None;
+    }
+    Some(Range { low, high, bits: 0 })
+}
+
+/// The addresses that begin as a prefix does.
+fn prefix_on(axis: Axis, text: &str) -> Option<Range>
+    ensures value { result ≡ prefix_on axis text.now }
+    ensures bound { IfSome result (IsOn axis) }
+{
+    if !axis.is_address() {
+        return None;
+    }
     one_spelling();
     read_value(Element::SourcePrefix, text)
 }
 
-/// The values on the axis that the text spells: addresses alone are spelled, by a prefix.
+/// The value that the text spells, by itself.
+fn single_on(axis: Axis, text: &str) -> Option<Range>
+    ensures value { result ≡ values_of (element.OnAxis axis) text.now }
+    ensures bound { IfSome result (IsOn axis) }
+{
+    let value = value_on(axis, text.as_bytes())?;
+    Some(Range {
+        low: value,
+        high: value,
+        bits: width(axis),
+    })
+}
+
+/// The values on the axis that the text spells: a value, two with a hyphen between them, or a prefix of addresses.
 fn values_on(axis: Axis, text: &str) -> Option<Range>
     ensures value { result ≡ values_on axis text.now }
     ensures bound { IfSome result (IsOn axis) }
 {
-    match axis {
-        Axis::Source | Axis::Destination => addresses(text),
-        Axis::Protocol | Axis::SourcePort | Axis::DestinationPort | Axis::ClassOfService => None,
+    match cut(text.as_bytes(), b'-') {
+        Some((low, high)) => span(axis, low, high),
+        None => match single_on(axis, text) {
+            Some(values) => Some(values),
+            None => prefix_on(axis, text),
+        },
     }
 }
 

@@ -73,7 +73,6 @@ fn refuses_documents(rt: HostRuntime) -> Result<(), Fail> {
         ("{}", "103 "),
         (r#"{"a":1,"classes":7}"#, "102 /a"),
         (r#"{"classes":{}}"#, "104 /classes"),
-        (r#"{"classes":[7,7]}"#, "305 /classes"),
         (r#"{"classes":[7]}"#, "104 /classes/0"),
         (r#"{"classes":[{}]}"#, "103 /classes/0"),
         (r#"{"classes":[{"exempt":true}]}"#, "102 /classes/0/exempt"),
@@ -89,25 +88,75 @@ fn refuses_documents(rt: HostRuntime) -> Result<(), Fail> {
             "304 /classes/0/paths",
         ),
         (
-            r#"{"classes":[{"name":"a","paths":[7,7]}]}"#,
-            "305 /classes/0/paths",
-        ),
-        (
             r#"{"classes":[{"name":"a","paths":[7]}]}"#,
             "104 /classes/0/paths/0",
-        ),
-        (
-            r#"{"classes":[{"name":"a","paths":[[7,7]]}]}"#,
-            "305 /classes/0/paths/0",
         ),
         (
             r#"{"classes":[{"name":"a","paths":[[7]]}]}"#,
             "104 /classes/0/paths/0/0",
         ),
+        (
+            r#"{"classes":[{"name":"a","paths":[[],[7]]}]}"#,
+            "104 /classes/0/paths/1/0",
+        ),
+        (
+            r#"{"classes":[{"name":"a","paths":[[]]},{"name":"b","paths":[[]]},{"name":"a"}]}"#,
+            "301 /classes/2/name",
+        ),
     ] {
         let found = outcome(rt.alloc(), text)?;
         assert_eq!(rt; found.as_str(), want, "at {text}");
     }
+    Ok(())
+}
+
+/// What a document comes to with so many sevens in a list, between these texts.
+fn with_sevens(alloc: Global, before: &str, sevens: usize, behind: &str) -> Result<String, Fail> {
+    let mut text = String::from_str(alloc, before)?;
+    for place in 0..sevens {
+        text.push_str(if place == 0 { "7" } else { ",7" })?;
+    }
+    text.push_str(behind)?;
+    outcome(alloc, text.as_str())
+}
+
+#[test]
+fn refuses_long_lists(rt: HostRuntime) -> Result<(), Fail> {
+    let path = r#"{"classes":[{"name":"a","paths":["#;
+    for (before, sevens, behind, want) in [
+        (r#"{"classes":["#, 257, "]}", "305 /classes"),
+        (r#"{"classes":["#, 256, "]}", "104 /classes/0"),
+        (path, 17, "]}]}", "305 /classes/0/paths"),
+        (path, 16, "]}]}", "104 /classes/0/paths/0"),
+    ] {
+        let found = with_sevens(rt.alloc(), before, sevens, behind)?;
+        assert_eq!(rt; found.as_str(), want, "at {sevens}");
+    }
+    let crossings = r#"{"classes":[{"name":"a","paths":[["#;
+    for (sevens, want) in [
+        (33, "305 /classes/0/paths/0"),
+        (32, "104 /classes/0/paths/0/0"),
+    ] {
+        let found = with_sevens(rt.alloc(), crossings, sevens, "]]}]}")?;
+        assert_eq!(rt; found.as_str(), want, "at {sevens}");
+    }
+    Ok(())
+}
+
+#[test]
+fn reads_spans(rt: HostRuntime) -> Result<(), Fail> {
+    let text = r#"{"classes":[{"name":"a","region":{"sourceIPv4Address":"10.0.0.1-10.0.0.9",
+        "destinationIPv4Address":"192.0.2.1","protocolIdentifier":"6","sourceTransportPort":"1024-65535",
+        "destinationTransportPort":"443","ipClassOfService":"0-0"},"paths":[[]]}]}"#;
+    let traffic = read(rt.alloc(), text)??;
+    let [class] = traffic.classes().as_slice() else {
+        return Err(Fail::from("one class"));
+    };
+    let region = class.region();
+    let low = [0x0a00_0001, 0xc000_0201, 6, 1024, 443, 0];
+    let high = [0x0a00_0009, 0xc000_0201, 6, 65535, 443, 0];
+    assert_eq!(rt; region.corner().array(), low);
+    assert_eq!(rt; region.far_corner().array(), high);
     Ok(())
 }
 
@@ -136,10 +185,28 @@ fn refuses_regions(rt: HostRuntime) -> Result<(), Fail> {
             "102 /sourceIPv4Prefix",
         ),
         (r#"{"sourceIPv4Address":7}"#, "104 /sourceIPv4Address"),
+        (r#"{"sourceIPv4Address":"10.0.0.0"}"#, "ok"),
         (
-            r#"{"sourceIPv4Address":"10.0.0.0"}"#,
+            r#"{"sourceIPv4Address":"10.0.0.1-10.0.0.0"}"#,
             "302 /sourceIPv4Address",
         ),
+        (
+            r#"{"sourceIPv4Address":"10.0.0.0/8-10.0.0.1"}"#,
+            "302 /sourceIPv4Address",
+        ),
+        (
+            r#"{"sourceTransportPort":"1-2-3"}"#,
+            "302 /sourceTransportPort",
+        ),
+        (
+            r#"{"sourceTransportPort":"0-65536"}"#,
+            "302 /sourceTransportPort",
+        ),
+        (
+            r#"{"sourceTransportPort":"1 - 2"}"#,
+            "302 /sourceTransportPort",
+        ),
+        (r#"{"protocolIdentifier":"6/8"}"#, "302 /protocolIdentifier"),
         (
             r#"{"sourceIPv4Address":"10.0.0.0/0"}"#,
             "302 /sourceIPv4Address",
@@ -152,7 +219,8 @@ fn refuses_regions(rt: HostRuntime) -> Result<(), Fail> {
             r#"{"protocolIdentifier":"6","destinationIPv4Address":"x"}"#,
             "302 /destinationIPv4Address",
         ),
-        (r#"{"protocolIdentifier":"6"}"#, "302 /protocolIdentifier"),
+        (r#"{"protocolIdentifier":"06"}"#, "302 /protocolIdentifier"),
+        (r#"{"protocolIdentifier":"6"}"#, "ok"),
         (r#"{"ipClassOfService":0}"#, "104 /ipClassOfService"),
     ] {
         let found = region_outcome(rt.alloc(), region)?;
