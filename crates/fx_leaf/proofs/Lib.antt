@@ -10,7 +10,11 @@ pub mod Headline
 pub mod Examples
 pub mod Standings
 pub mod Verdicts
+pub mod Joins
 pub mod Paths
 pub mod Uncut
 pub mod Answers
-pub mod Tables
+pub mod Filling
+pub mod Rowing
+pub mod Seeing
+pub mod Deciding

@@ -19,7 +19,7 @@ use Rattle.fx_leaf.proofs.Standings.{match_tells}
 
 -- ---- fates of lists
 
-both_assoc : (f g h : Fate) → both (both f g) h ≡ both f (both g h)
+pub both_assoc : (f g h : Fate) → both (both f g) h ≡ both f (both g h)
 both_assoc Never Never Never = refl
 both_assoc Never Never Once = refl
 both_assoc Never Never Many = refl
@@ -146,14 +146,14 @@ both_assoc Unassigned Unassigned Many = refl
 both_assoc Unassigned Unassigned Differing = refl
 both_assoc Unassigned Unassigned Unassigned = refl
 
-both_never : (f : Fate) → both f Never ≡ f
+pub both_never : (f : Fate) → both f Never ≡ f
 both_never Never = refl
 both_never Once = refl
 both_never Many = refl
 both_never Differing = refl
 both_never Unassigned = refl
 
-never_both : (f : Fate) → both Never f ≡ f
+pub never_both : (f : Fate) → both Never f ≡ f
 never_both Never = refl
 never_both Once = refl
 never_both Many = refl

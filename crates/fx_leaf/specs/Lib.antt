@@ -7,3 +7,4 @@ pub mod Standings
 pub mod Verdicts
 pub mod Tables
 pub mod Answers
+pub mod Leaves

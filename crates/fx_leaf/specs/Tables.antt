@@ -1,10 +1,12 @@
 -- Verdicts by table: an entry for each collecting process and each layout, which is told by its number.
-use Rattle.std.specs.Prelude.{◌≡◌, ℕ, suc, ◌<◌, List, [], ◌∷◌, map, length, Contains, Option, Some, None, slice_get, slice_set, if◌then◌else◌}
+use Rattle.std.specs.Prelude.{◌≡◌, ℕ, suc, ◌<◌, ◌≤◌, List, [], ◌∷◌, map, length, Contains, Option, Some, None, slice_get, slice_set, if◌then◌else◌}
+use Rattle.std.specs.List.{AllByRecursion}
 use Rattle.fx_boxes.specs.Boxes.{Bounds}
 use Rattle.fx_layout.specs.Keys.{Layout}
-use Rattle.fx_machine.specs.Network.{Net, Holder, Aggregation, Process, at_places, exporters_of}
+use Rattle.fx_machine.specs.Network.{Net, Holder, Aggregation, Process, at_places, exporters_of, aggregations_of}
+use Rattle.fx_machine.specs.Ranks.{IsNetwork}
 use Rattle.fx_leaf.specs.declared.verdict.Fate.TheVariants.{Never}
-use Rattle.fx_leaf.specs.Standings.{standing, match_fields}
+use Rattle.fx_leaf.specs.Standings.{IsEntry, standing, match_fields}
 use Rattle.fx_leaf.specs.Verdicts.{Verdict, both_judged, all_judged, where_passed, sent_verdict, layout_reads, tally_verdict, verdict}
 
 -- ---- layouts by number
@@ -84,3 +86,20 @@ Descends net rank done (process ∷ processes) =
 abbrev pub HasVerdicts : Net → Numbering → Bounds → Table → ℕ → Type 0
 HasVerdicts net n region table process =
     (number : ℕ) (layout : Layout) → slice_get n.layouts number ≡ Some layout → entry table process number ≡ verdict net region process layout
+
+-- ---- what a plan lends
+
+pub record Tables : Type 0 where
+  pub net : Net
+  pub order : List ℕ  -- its collecting processes, in the order in which their rows are filled
+  pub numbering : Numbering
+
+-- what such tables keep
+pub record AreTables (t : Tables) : Type 0 where
+  pub network : IsNetwork t.net
+  pub falls : Descends t.net network.ranked.rank [] t.order
+  pub whole : (process : ℕ) → process < length t.net.processes → Contains t.order process
+  pub reports : t.net.report < length t.net.processes
+  pub numbers : Numbers t.net t.numbering
+  pub few : length t.numbering.layouts ≤ 64
+  pub entries : (process : ℕ) → AllByRecursion (λ a. AllByRecursion IsEntry a.matches) (aggregations_of (slice_get t.net.processes process))

@@ -2,13 +2,23 @@
 //! exactly once.
 #![tactic(auto)]
 
+mod entry;
 mod laws;
+mod leaf;
+mod lent;
+mod path;
 mod regions;
+mod rows;
+mod sending;
+mod table;
 mod verdict;
 
 pub use laws::{conservation, exactly_once, fates_along_ranks, verdicts_judge_regions};
+pub use leaf::{Counted, fate};
+pub use lent::Tables;
 pub use regions::{standing, standing_to, standing_to_match};
-pub use verdict::{Fate, both_judged, either_judged};
+pub use table::{LAYOUTS, Scratch};
+pub use verdict::{Fate, both_judged, either_judged, where_passed};
 
 #[cfg(test)]
 mod tests;

@@ -121,8 +121,9 @@ fn matching(region: &Region, entries: &[MatchEntry]) -> Option<Region>
 /// of some only.
 pub fn standing_to_match(region: &Region, entries: &[MatchEntry]) -> Option<bool>
     requires { AllByRecursion standings.IsEntry entries.now }
-    ensures { boxes.IsRegion region.now → result ≡ standings.standing region.now (standings.match_fields entries.now) }
+    ensures { result ≡ standings.standing region.now (standings.match_fields entries.now) }
 {
+    let _greatest = region.far_corner();
     match matching(region, entries) {
         None => Some(false),
         Some(left) => standing(region, &left),

@@ -62,3 +62,10 @@ pub fn either_judged(one: Option<Fate>, other: Option<Fate>) -> Option<Fate>
     let other = other?;
     Some(one.either(other))
 }
+
+/// The verdict on what happens where a test passes, by whether it passes for all packets of a region or for none.
+pub fn where_passed(passes: Option<bool>, verdict: Option<Fate>) -> Option<Fate>
+    ensures { result ≡ verdicts.where_passed passes verdict }
+{
+    if passes? { verdict } else { Some(Fate::Never) }
+}

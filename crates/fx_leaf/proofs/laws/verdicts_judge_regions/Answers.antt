@@ -1,5 +1,5 @@
 use Rattle.fx_leaf.proofs.Answers.{none_is_cut, some_is_fate, once_is_sound, no_other_is_sound}
-use Rattle.fx_leaf.proofs.Tables.{table_is_verdicts}
+use Rattle.fx_leaf.proofs.Filling.{table_is_verdicts}
 use Rattle.fx_leaf.proofs.laws.verdicts_judge_regions.Goals as goal
 
 pub returns-clause-none : goal.returns-clause-none

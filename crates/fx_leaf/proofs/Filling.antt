@@ -78,7 +78,7 @@ set_elsewhere (y ∷ ys) (suc k) zero x e = refl
 set_elsewhere (y ∷ ys) (suc k) (suc j) x e = set_elsewhere ys k j x (λ same. e (ap suc same))
 
 module _ (net : Net) (n : Numbering) (region : Bounds) (ranked : IsRanked net) (numbers : Numbers net n) (reports : net.report < length net.processes) where
-  abbrev Right : Table → ℕ → Type 0
+  abbrev pub Right : Table → ℕ → Type 0
   Right table process = HasVerdicts net n region table process
 
   other_process : (q : ℕ) → length net.processes ≤ q → (q == net.report) ≡ false
@@ -88,7 +88,7 @@ module _ (net : Net) (n : Numbering) (region : Bounds) (ranked : IsRanked net) (
     apart false e = refl
 
   -- a process that isn't there handles nothing
-  not_there : (table : Table) (q : ℕ) → length table ≡ length net.processes → length net.processes ≤ q → Right table q
+  pub not_there : (table : Table) (q : ℕ) → length table ≡ length net.processes → length net.processes ≤ q → Right table q
   not_there table q size le number layout is =
       let none : slice_get table q ≡ None = slice_get_past table q (omega (arith, size, le)) in
       let tally : tally_verdict net layout q ≡ Some Never = ap (λ t. cond t (cond (refines layout net.report_layout) (Some Once) (Some Unassigned)) (Some Never)) (other_process q le) in

@@ -1,0 +1,55 @@
+-- What a leaf's answer says.
+use Rattle.std.proofs.Common.{◌≡◌, ℕ, List, Some, None, Result, Ok, refl, sym, ap, ◌∙◌, subst, IfOk, IfErr}
+use Rattle.fx_base.specs.declared.fault.Fault.{Fault}
+use Rattle.fx_boxes.specs.Boxes.{Bounds, IsRegion}
+use Rattle.fx_machine.specs.declared.traffic.Crossing.{Crossing}
+use Rattle.fx_machine.specs.Network.{Net}
+use Rattle.fx_machine.specs.Ranks.{IsNetwork}
+use Rattle.fx_leaf.specs.declared.leaf.Counted.{Counted}
+use Rattle.fx_leaf.specs.declared.verdict.Fate.TheVariants.{Never, Once, Many, Differing, Unassigned}
+use Rattle.fx_leaf.specs.Leaves.{named, leaf_of, NoneIsSound}
+use Rattle.fx_leaf.specs.Leaves.NoneIsSound.{cut, unassigned, differing, many, never}
+use Rattle.fx_leaf.specs.SoundLeaves.{SoundLeaf}
+use Rattle.fx_leaf.specs.Verdicts.{Verdict, Seen, path_verdict, counted}
+use Rattle.fx_leaf.proofs.Answers.{none_is_cut, some_is_fate, once_is_sound, no_other_is_sound}
+
+module _ (net : Net) (path : List Crossing) (region : Bounds) (is_net : IsNetwork net) (r : IsRegion region) where
+  abbrev Sound : Counted → Type 0
+  Sound c = SoundLeaf net path region c.crossing c.point c.process
+
+  said : (v : Verdict) → path_verdict net region path ≡ v → IfOk (leaf_of v (named (counted net region path))) Sound
+  said None e = tt
+  said (Some Never) e = tt
+  said (Some Many) e = tt
+  said (Some Differing) e = tt
+  said (Some Unassigned) e = tt
+  said (Some Once) e =
+      let s = once_is_sound net path region is_net r e in
+      subst (λ o. IfOk (leaf_of (Some Once) (named o)) Sound) (sym s.1) s.2
+
+  pub answer_sound : (result : Result Counted Fault) → result ≡ leaf_of (path_verdict net region path) (named (counted net region path)) → IfOk result Sound
+  answer_sound result e = subst (λ x. IfOk x Sound) (sym e) (said (path_verdict net region path) refl)
+
+  pub answer_every : (result : Result Counted Fault) → result ≡ leaf_of (path_verdict net region path) (named (counted net region path)) → (crossing point process : ℕ) → SoundLeaf net path region crossing point process → result ≡ Ok (record { crossing = crossing; point = point; process = process })
+  answer_every result e crossing point process leaf =
+      let other = no_other_is_sound net path region is_net r crossing point process leaf in
+      let s = once_is_sound net path region is_net r other.0 in
+      let same = other.1 s.0 s.1 in
+      let one : leaf_of (path_verdict net region path) (named (counted net region path)) ≡ leaf_of (Some Once) (named (Some s.0)) = ap (λ v. leaf_of v (named (counted net region path))) other.0 ∙ ap (λ o. leaf_of (Some Once) (named o)) s.1 in
+      e ∙ one ∙ names s.0 same.0 same.1 same.2
+    where
+      names : (t : Seen) → t.crossing ≡ crossing → t.point ≡ point → t.process ≡ process → leaf_of (Some Once) (named (Some t)) ≡ Ok (record { crossing = crossing; point = point; process = process })
+      names t a b d = cc
+
+  why : (v : Verdict) → path_verdict net region path ≡ v → IfErr (leaf_of v (named (counted net region path))) (NoneIsSound net path region)
+  why None e = cut (none_is_cut net path region is_net r e)
+  why (Some Never) e = let said' = some_is_fate net path region is_net r Never e in never said'.0 said'.1
+  why (Some Many) e = let said' = some_is_fate net path region is_net r Many e in many said'.0 said'.1
+  why (Some Differing) e = let said' = some_is_fate net path region is_net r Differing e in differing said'.0 said'.1
+  why (Some Unassigned) e = let said' = some_is_fate net path region is_net r Unassigned e in unassigned said'.0 said'.1
+  why (Some Once) e =
+      let s = once_is_sound net path region is_net r e in
+      subst (λ o. IfErr (leaf_of (Some Once) (named o)) (NoneIsSound net path region)) (sym s.1) tt
+
+  pub answer_none : (result : Result Counted Fault) → result ≡ leaf_of (path_verdict net region path) (named (counted net region path)) → IfErr result (NoneIsSound net path region)
+  answer_none result e = subst (λ x. IfErr x (NoneIsSound net path region)) (sym e) (why (path_verdict net region path) refl)

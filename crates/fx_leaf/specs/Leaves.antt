@@ -1,0 +1,57 @@
+-- What is to be answered of the packets of a region on a path: the leaf that is sound, or why there is none.
+use Rattle.std.specs.Prelude.{◌≡◌, ℕ, List, map, Option, Some, None, Result, Ok, Err}
+use Rattle.fx_base.specs.declared.fault.Fault.{Fault}
+use Rattle.fx_base.specs.declared.fault.Place.TheVariants as places
+use Rattle.fx_base.specs.Fault.{fault_at}
+use Rattle.fx_boxes.specs.Boxes.{Bounds}
+use Rattle.fx_machine.specs.declared.traffic.Crossing.{Crossing}
+use Rattle.fx_machine.specs.Network.{Net}
+use Rattle.fx_leaf.specs.declared.leaf.Counted.{Counted}
+use Rattle.fx_leaf.specs.declared.path.Told.{Told}
+use Rattle.fx_leaf.specs.declared.verdict.Fate.TheVariants.{Never, Once, Many, Differing, Unassigned}
+use Rattle.fx_leaf.specs.Answers.{NothingCuts, AllHave}
+use Rattle.fx_leaf.specs.Tables.{Numbering, Table, HasVerdicts}
+use Rattle.fx_leaf.specs.Verdicts.{Verdict, Seen, both_judged, all_judged, counted_from}
+
+-- a table has the verdicts of all collecting processes
+abbrev pub IsFilled : Net → Numbering → Bounds → Table → Type 0
+IsFilled net n region table = (process : ℕ) → HasVerdicts net n region table process
+
+-- the numbers of a selection process, if there is one
+abbrev pub named : Option Seen → Option Counted
+named None = None
+named (Some s) = Some (record { crossing = s.crossing; point = s.point; process = s.process })
+
+-- what is told once these were seen too: both their verdicts, and the last of them that is counted once
+pub record Seeing (before after : Told) (seen : List Seen) : Type 0 where
+  pub verdict : after.verdict ≡ both_judged before.verdict (all_judged (map (λ s. s.verdict) seen))
+  pub counted : (found : Option Seen) → before.counted ≡ named found → after.counted ≡ named (counted_from found seen)
+
+-- ---- the answer
+
+-- the fault where the verdict isn't once
+abbrev pub fault_of : Verdict → Fault
+fault_of None = fault_at 406 places.None
+fault_of (Some Unassigned) = fault_at 413 places.None
+fault_of (Some Differing) = fault_at 409 places.None
+fault_of (Some Many) = fault_at 408 places.None
+fault_of (Some Once) = fault_at 407 places.None
+fault_of (Some Never) = fault_at 407 places.None
+
+-- the selection process that counts the packets, where their verdict is once
+abbrev pub leaf_of : Verdict → Option Counted → Result Counted Fault
+leaf_of None counted = Err (fault_of None)
+leaf_of (Some Unassigned) counted = Err (fault_of (Some Unassigned))
+leaf_of (Some Differing) counted = Err (fault_of (Some Differing))
+leaf_of (Some Many) counted = Err (fault_of (Some Many))
+leaf_of (Some Never) counted = Err (fault_of (Some Never))
+leaf_of (Some Once) None = Err (fault_of (Some Once))
+leaf_of (Some Once) (Some c) = Ok c
+
+-- why no leaf is sound for the region, by number
+pub data NoneIsSound (net : Net) (path : List Crossing) (region : Bounds) : Fault → Type 0 where
+  cut : (NothingCuts net path region → ⊥) → NoneIsSound net path region (fault_at 406 places.None)
+  unassigned : NothingCuts net path region → AllHave net path region Unassigned → NoneIsSound net path region (fault_at 413 places.None)
+  differing : NothingCuts net path region → AllHave net path region Differing → NoneIsSound net path region (fault_at 409 places.None)
+  many : NothingCuts net path region → AllHave net path region Many → NoneIsSound net path region (fault_at 408 places.None)
+  never : NothingCuts net path region → AllHave net path region Never → NoneIsSound net path region (fault_at 407 places.None)

@@ -1,0 +1,42 @@
+//! Rows are filled, from the collecting processes of highest rank on.
+ghost use Rattle.std.specs.Prelude.{◌≡◌, ◌<◌, length, slice_set};
+ghost use Rattle.fx_leaf.specs.Tables as by_table;
+
+use crate::entry::entry_from;
+use crate::lent::Tables;
+use crate::table::Row;
+use fx_boxes::Region;
+
+/// The row for the collecting process at this place, from the rows of the processes that it feeds.
+fn row_from(rows: &[Row], tables: &Tables<'_>, region: &Region, process: usize) -> Row
+    requires { by_table.AreTables tables.now }
+    ensures { result ≡ by_table.row_from rows.now tables.now.net tables.now.numbering region.now process 0 tables.now.numbering.layouts }
+{
+    let layouts = tables.layouts();
+    let mut row = Row::new();
+    for number in 0..layouts.len() {
+        let layout = &layouts[number];
+        row.push(entry_from(rows, tables, region, process, number, layout));
+    }
+    row
+}
+
+/// Another row for the collecting process at this place.
+fn set_row(rows: &mut [Row], process: usize, row: Row)
+    requires { process < length rows.old }
+    ensures { rows.new ≡ slice_set rows.old process row }
+{
+    rows[process] = row;
+}
+
+/// Each row is filled, behind those of the processes that its own feeds.
+pub(crate) fn fill(rows: &mut [Row], tables: &Tables<'_>, region: &Region)
+    requires tables { by_table.AreTables tables.now }
+    requires room { length rows.old ≡ length tables.now.net.processes }
+    ensures { rows.new ≡ by_table.fill tables.now.net tables.now.numbering region.now tables.now.order rows.old }
+{
+    for process in tables.order() {
+        let row = row_from(rows, tables, region, *process);
+        set_row(rows, *process, row);
+    }
+}

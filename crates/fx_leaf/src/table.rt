@@ -1,0 +1,105 @@
+//! Room for the verdicts on records that come to the collecting processes.
+ghost use Rattle.std.specs.Prelude.{◌≡◌, ◌<◌, ◌++◌, [], ◌∷◌, length, slice_get, IfOk, IfErr};
+ghost use Rattle.fx_base.specs.Fault.{fault_at};
+ghost use Rattle.fx_base.specs.declared.fault.Place.TheVariants as places;
+ghost use Rattle.fx_leaf.specs.Tables as by_table;
+
+use crate::lent::Tables;
+use crate::verdict::Fate;
+use arrayvec::ArrayVec;
+use fx_base::Fault;
+use std::alloc::{AllocError, Global};
+use std::marker::Model;
+
+/// How many different layouts the records of a network may have.
+pub const LAYOUTS: usize = 64;
+
+/// The verdicts on records that come to a collecting process, by the number of their layout.
+#[derive(Debug, Drop)]
+pub(crate) struct Row {
+    entries: ArrayVec<Option<Fate>, LAYOUTS>,
+}
+
+impl Model for Row {
+    ghost use Rattle.std.specs.Prelude.{List};
+    ghost use Rattle.fx_leaf.specs.Verdicts.{Verdict};
+
+    ghost Value = { List Verdict };
+
+    ghost view = { λ r. r.entries.items };
+}
+
+impl Row {
+    /// A row without entries.
+    pub(crate) fn new() -> Row
+        ensures { result ≡ [] }
+    {
+        Row {
+            entries: ArrayVec::new(),
+        }
+    }
+
+    /// An entry more comes last.
+    pub(crate) fn push(&mut self, verdict: Option<Fate>)
+        requires { length self.old < LAYOUTS }
+        ensures { self.new ≡ self.old ++ verdict ∷ [] }
+    {
+        self.entries.push(verdict);
+    }
+
+    /// The entry for the layout of this number, from 0.
+    pub(crate) fn at(&self, layout: usize) -> Option<Fate>
+        ensures { result ≡ by_table.or_never (slice_get self.now layout) }
+    {
+        match self.entries.as_slice().get(layout) {
+            None => Some(Fate::Never),
+            Some(verdict) => *verdict,
+        }
+    }
+}
+
+/// The entry for a collecting process and the layout of this number, from 0 each.
+pub(crate) fn entry(rows: &[Row], process: usize, layout: usize) -> Option<Fate>
+    ensures { result ≡ by_table.entry rows.now process layout }
+{
+    match rows.get(process) {
+        None => Some(Fate::Never),
+        Some(row) => row.at(layout),
+    }
+}
+
+/// Room for what a leaf's fate is worked out from: a verdict for each collecting process and each layout.
+#[derive(Debug, Drop)]
+pub struct Scratch {
+    pub(crate) rows: Vec<Row>,
+}
+
+impl Model for Scratch {
+    ghost use Rattle.fx_leaf.specs.Tables.{Table};
+
+    ghost Value = { Table };
+
+    ghost view = { λ s. s.rows.items };
+}
+
+/// So many rows without entries.
+fn empty_rows(alloc: Global, count: usize) -> Result<Vec<Row>, AllocError>
+    ensures { IfOk result (λ rows. length rows.items ≡ count) }
+{
+    let mut rows: Vec<Row> = Vec::with_capacity(alloc, count)?;
+    for _process in 0..count {
+        rows.push(Row::new())?;
+    }
+    Ok(rows)
+}
+
+impl Scratch {
+    /// Room for the collecting processes of these tables. Fails with 900, for want of memory, alone.
+    pub fn new(alloc: Global, tables: &Tables<'_>) -> Result<Scratch, Fault>
+        ensures ok { IfOk result (λ scratch. length scratch ≡ length tables.now.net.processes) }
+        ensures err { IfErr result (λ e. e ≡ fault_at 900 places.None) }
+    {
+        let rows = empty_rows(alloc, tables.net().processes().len())?;
+        Ok(Scratch { rows })
+    }
+}
