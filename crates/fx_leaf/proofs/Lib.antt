@@ -18,3 +18,4 @@ pub mod Filling
 pub mod Rowing
 pub mod Seeing
 pub mod Deciding
+pub mod TwoMeters

@@ -21,4 +21,6 @@ pub use table::{LAYOUTS, Scratch};
 pub use verdict::{Fate, both_judged, either_judged, where_passed};
 
 #[cfg(test)]
+mod leaf_tests;
+#[cfg(test)]
 mod tests;
