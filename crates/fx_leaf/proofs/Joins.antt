@@ -23,7 +23,7 @@ pub never_joined : (v : Verdict) → both_judged (Some Never) v ≡ v
 never_joined None = refl
 never_joined (Some f) = ap Some (never_both f)
 
-drop_here : {A : Type 0} (xs : List A) (k : ℕ) (d : A) → k < length xs → drop k xs ≡ get_or xs k d ∷ drop (k + 1) xs
+pub drop_here : {A : Type 0} (xs : List A) (k : ℕ) (d : A) → k < length xs → drop k xs ≡ get_or xs k d ∷ drop (k + 1) xs
 drop_here {A = A} xs k d lt = subst (λ m. drop k xs ≡ get_or xs k d ∷ drop m xs) (sym (add-one k)) (go xs k lt)
   where
     go : (ys : List A) (i : ℕ) → i < length ys → drop i ys ≡ get_or ys i d ∷ drop (suc i) ys
@@ -31,7 +31,7 @@ drop_here {A = A} xs k d lt = subst (λ m. drop k xs ≡ get_or xs k d ∷ drop 
     go (y ∷ ys) zero h = refl
     go (y ∷ ys) (suc i) h = go ys i (le_of_suc-le-suc h)
 
-drop_none : {A : Type 0} (xs : List A) (k : ℕ) → length xs ≤ k → drop k xs ≡ []
+pub drop_none : {A : Type 0} (xs : List A) (k : ℕ) → length xs ≤ k → drop k xs ≡ []
 drop_none [] zero h = refl
 drop_none [] (suc k) h = refl
 drop_none (x ∷ xs) zero h = absurd (omega arith)

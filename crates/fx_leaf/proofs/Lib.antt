@@ -19,3 +19,5 @@ pub mod Rowing
 pub mod Seeing
 pub mod Deciding
 pub mod TwoMeters
+pub mod Bounding
+pub mod Losing

@@ -113,10 +113,10 @@ pub in_holds : (b : Bounds) (fields : Fields) → In b fields → holds b fields
 in_holds b fields h =
     on_axes (λ axis. is_between b fields (axis_index axis)) (λ axis. and_both _ _ (le-leb _ _ (h.low axis)) (le-leb _ _ (h.high axis)))
 
-common_low : (a b : Bounds) (axis : Axis) → low_at (common a b) axis ≡ max (low_at a axis) (low_at b axis)
+pub common_low : (a b : Bounds) (axis : Axis) → low_at (common a b) axis ≡ max (low_at a axis) (low_at b axis)
 common_low a b axis = value_of (λ axis. max (low_at a axis) (low_at b axis)) axis
 
-common_high : (a b : Bounds) (axis : Axis) → high_at (common a b) axis ≡ min (high_at a axis) (high_at b axis)
+pub common_high : (a b : Bounds) (axis : Axis) → high_at (common a b) axis ≡ min (high_at a axis) (high_at b axis)
 common_high a b axis = value_of (λ axis. min (high_at a axis) (high_at b axis)) axis
 
 max_left : (a b : ℕ) → a ≤ max a b
@@ -161,11 +161,11 @@ is_high region r = record {
   high = λ axis. omega arith;
 }
 
-not_below : (a b : ℕ) → nat_lt a b ≡ false → b ≤ a
+pub not_below : (a b : ℕ) → nat_lt a b ≡ false → b ≤ a
 not_below a b e = grind (arith, e)
 
 -- fields in both, where no axis keeps them apart
-meeting : (a b : Bounds) → is_empty (common a b) ≡ false → In (common a b) (common a b).low
+pub meeting : (a b : Bounds) → is_empty (common a b) ≡ false → In (common a b) (common a b).low
 meeting a b e = record {
   low = λ axis. omega arith;
   high = λ axis.
@@ -192,7 +192,7 @@ within a b fields e h = record {
     both : (axis : Axis) → (nat_le (low_at b axis) (low_at a axis) ≡ true) × (nat_le (high_at a axis) (high_at b axis) ≡ true)
     both axis = and_true (nat_le (low_at b axis) (low_at a axis)) (nat_le (high_at a axis) (high_at b axis)) (at_axis (λ axis. nat_le (low_at b axis) (low_at a axis) && nat_le (high_at a axis) (high_at b axis)) e axis)
 
-one_of : (a b : Bool) → (a && b) ≡ false → (a ≡ false) ⊎ (b ≡ false)
+pub one_of : (a b : Bool) → (a && b) ≡ false → (a ≡ false) ⊎ (b ≡ false)
 one_of true b h = inr h
 one_of false b h = inl refl
 
@@ -246,7 +246,7 @@ no_tells region = record { passes = λ b. λ is. λ fields. λ h. cc; cuts = λ 
 
 -- ---- matches
 
-all_in : (region : Bounds) (fields : Fields) → IsRegion region → In region fields → In all_fields fields
+pub all_in : (region : Bounds) (fields : Fields) → IsRegion region → In region fields → In all_fields fields
 all_in region fields r h = record {
   low = λ axis. let e = value_of (λ axis. 0) axis in omega (arith, e);
   high = λ axis. let x = h.high axis in let y = (r (axis_index axis) (index_small axis)).1 in omega (arith, x, y);
@@ -302,13 +302,13 @@ entry_out e fields h =
     let high : field fields e.axis ≤ entry_high e = subst (λ n. field fields e.axis ≤ n) (value_of (λ axis. if same_axis axis e.axis then entry_high e else slice_index tops (axis_index axis)) e.axis ∙ ap (λ t. cond t (entry_high e) (slice_index tops (axis_index e.axis))) same) (h.high e.axis) in
     eq-eqb _ _ (begun s (field fields e.axis) e.value (pow_pos (axis_width e.axis - e.bits)) low high)
 
-match_in : (es : List MatchEntry) (fields : Fields) → In all_fields fields → matches_packet es fields ≡ true → In (match_fields es) fields
+pub match_in : (es : List MatchEntry) (fields : Fields) → In all_fields fields → matches_packet es fields ≡ true → In (match_fields es) fields
 match_in [] fields all h = all
 match_in (e ∷ es) fields all h =
     let two = and_true (begins_with e fields) (matches_packet es fields) h in
     in_common (entry_fields e) (match_fields es) fields (entry_in e fields all two.0) (match_in es fields all two.1)
 
-match_out : (es : List MatchEntry) (fields : Fields) → In (match_fields es) fields → matches_packet es fields ≡ true
+pub match_out : (es : List MatchEntry) (fields : Fields) → In (match_fields es) fields → matches_packet es fields ≡ true
 match_out [] fields h = refl
 match_out (e ∷ es) fields h =
     and_both _ _ (entry_out e fields (common_left (entry_fields e) (match_fields es) fields h)) (match_out es fields (common_right (entry_fields e) (match_fields es) fields h))
@@ -345,10 +345,10 @@ selection_tells region (Some other) r = standing_tells region other r
 
 -- ---- the same in a program's terms
 
-to_in : (b : Bounds) (fields : Fields) → Holds b fields → In b fields
+pub to_in : (b : Bounds) (fields : Fields) → Holds b fields → In b fields
 to_in b fields h = is_in b fields (holds_if b fields h)
 
-from_in : (b : Bounds) (fields : Fields) → In b fields → Holds b fields
+pub from_in : (b : Bounds) (fields : Fields) → In b fields → Holds b fields
 from_in b fields h = holds_is b fields (in_holds b fields h)
 
 pub disjoint_told : (region other : Bounds) → IsDisjoint region other → standing region other ≡ Some false

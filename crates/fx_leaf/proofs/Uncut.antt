@@ -33,24 +33,24 @@ every_at P [] x h at = absurd (let lt = at.1 in omega (arith, lt))
 every_at P (y ∷ ys) x h (zero, lt, e) = subst P e h.0
 every_at P (y ∷ ys) x h (suc k, lt, e) = every_at P ys x h.1 (k, le_of_suc-le-suc lt, e)
 
-further : {A : Type 0} (x y : A) (xs : List A) → Contains xs x → Contains (y ∷ xs) x
+pub further : {A : Type 0} (x y : A) (xs : List A) → Contains xs x → Contains (y ∷ xs) x
 further x y xs at = (suc at.0, let lt = at.1 in omega (arith, lt), at.2)
 
-in_front : {A : Type 0} (xs ys : List A) (x : A) → Contains xs x → Contains (xs ++ ys) x
+pub in_front : {A : Type 0} (xs ys : List A) (x : A) → Contains xs x → Contains (xs ++ ys) x
 in_front [] ys x at = absurd (let lt = at.1 in omega (arith, lt))
 in_front (y ∷ xs) ys x (zero, lt, e) = (zero, omega arith, e)
 in_front (y ∷ xs) ys x (suc k, lt, e) = further x y (xs ++ ys) (in_front xs ys x (k, le_of_suc-le-suc lt, e))
 
-behind : {A : Type 0} (xs ys : List A) (x : A) → Contains ys x → Contains (xs ++ ys) x
+pub behind : {A : Type 0} (xs ys : List A) (x : A) → Contains ys x → Contains (xs ++ ys) x
 behind [] ys x at = at
 behind (y ∷ xs) ys x at = further x y (xs ++ ys) (behind xs ys x at)
 
-mapped : {A B : Type 0} (f : A → B) (xs : List A) (x : A) → Contains xs x → Contains (map f xs) (f x)
+pub mapped : {A B : Type 0} (f : A → B) (xs : List A) (x : A) → Contains xs x → Contains (map f xs) (f x)
 mapped f [] x at = absurd (let lt = at.1 in omega (arith, lt))
 mapped f (y ∷ xs) x (zero, lt, e) = (zero, omega arith, ap f e)
 mapped f (y ∷ xs) x (suc k, lt, e) = further (f x) (f y) (map f xs) (mapped f xs x (k, le_of_suc-le-suc lt, e))
 
-filtered : {A : Type 0} (test : A → Bool) (xs : List A) (x : A) → Contains xs x → test x ≡ true → Contains (filter test xs) x
+pub filtered : {A : Type 0} (test : A → Bool) (xs : List A) (x : A) → Contains xs x → test x ≡ true → Contains (filter test xs) x
 filtered test [] x at t = absurd (let lt = at.1 in omega (arith, lt))
 filtered test (y ∷ xs) x (zero, lt, e) t =
     subst (λ b. Contains (cond b (y ∷ filter test xs) (filter test xs)) x) (sym (ap test e ∙ t)) (zero, omega arith, e)
@@ -60,12 +60,12 @@ filtered test (y ∷ xs) x (suc k, lt, e) t =
 
 -- ---- verdicts of lists
 
-both_none : (v w : Verdict) → both_judged v w ≡ None → (v ≡ None) ⊎ (w ≡ None)
+pub both_none : (v w : Verdict) → both_judged v w ≡ None → (v ≡ None) ⊎ (w ≡ None)
 both_none None w h = inl refl
 both_none (Some f) None h = inr refl
 both_none (Some f) (Some g) h = absurd (cc)
 
-either_none : (v w : Verdict) → either_judged v w ≡ None → (v ≡ None) ⊎ (w ≡ None)
+pub either_none : (v w : Verdict) → either_judged v w ≡ None → (v ≡ None) ⊎ (w ≡ None)
 either_none None w h = inl refl
 either_none (Some f) None h = inr refl
 either_none (Some f) (Some g) h = absurd (cc)

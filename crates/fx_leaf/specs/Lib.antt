@@ -8,3 +8,5 @@ pub mod Verdicts
 pub mod Tables
 pub mod Answers
 pub mod Leaves
+pub mod Splits
+pub mod Lost

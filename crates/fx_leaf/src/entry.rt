@@ -37,7 +37,7 @@ fn entries_read(layout: &Layout, entries: &[MatchEntry]) -> bool
 }
 
 /// Whether an aggregation's key and match can be read from a layout.
-fn layout_reads(net: &Net, layout: &Layout, aggregation: &Aggregation) -> bool
+pub(crate) fn layout_reads(net: &Net, layout: &Layout, aggregation: &Aggregation) -> bool
     ensures { result ≡ verdicts.layout_reads net.now layout.now aggregation.now }
 {
     layout.refines(&net.layout_at(aggregation.holder()))

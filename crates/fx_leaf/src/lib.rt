@@ -2,10 +2,12 @@
 //! exactly once.
 #![tactic(auto)]
 
+mod bound;
 mod entry;
 mod laws;
 mod leaf;
 mod lent;
+mod lost;
 mod path;
 mod regions;
 mod rows;

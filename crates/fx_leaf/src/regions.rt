@@ -103,7 +103,7 @@ fn narrowed(region: &Region, entry: MatchEntry) -> Option<Region>
 }
 
 /// The fields of the region for which all entries hold, if there are any.
-fn matching(region: &Region, entries: &[MatchEntry]) -> Option<Region>
+pub(crate) fn matching(region: &Region, entries: &[MatchEntry]) -> Option<Region>
     requires { AllByRecursion standings.IsEntry entries.now }
     ensures some { IfSome result (λ r. (f : List ℕ) → boxes.Holds r f ↔ (boxes.Holds region.now f × (leaves.matches_packet entries.now f ≡ true))) }
     ensures none { IfNone result ((f : List ℕ) → boxes.Holds region.now f → leaves.matches_packet entries.now f ≡ false) }

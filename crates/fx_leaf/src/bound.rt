@@ -1,0 +1,67 @@
+//! Bounds at which a region may be split.
+ghost use Rattle.std.specs.Prelude.{◌≡◌, None, IfSome, IfNone};
+ghost use Rattle.std.specs.List.{AllByRecursion};
+ghost use Rattle.fx_leaf.specs.Splits as splits;
+ghost use Rattle.fx_leaf.specs.Standings as standings;
+
+use crate::regions::matching;
+use fx_boxes::Region;
+use fx_elements::{AXES, Axis};
+use fx_machine::MatchEntry;
+
+/// The axes, in order.
+const EVERY_AXIS: [Axis; AXES] = [
+    Axis::Source,
+    Axis::Destination,
+    Axis::Protocol,
+    Axis::SourcePort,
+    Axis::DestinationPort,
+    Axis::ClassOfService,
+];
+
+/// A bound of the other region on this axis that is strictly inside the region.
+fn bound_on(region: &Region, other: &Region, axis: Axis) -> Option<u128>
+    ensures some { IfSome result (λ at. splits.IsSplitBy region.now other.now axis at) }
+    ensures none { IfNone result (splits.NoSplitBy region.now other.now axis) }
+{
+    let least = region.corner().get(axis);
+    let most = region.far_corner().get(axis);
+    let low = other.corner().get(axis);
+    let high = other.far_corner().get(axis);
+    if least < low && low <= most {
+        Some(low)
+    } else if least <= high && high < most {
+        Some(high + 1)
+    } else {
+        None
+    }
+}
+
+/// A bound of the other region, where it cuts the region.
+pub(crate) fn bound(region: &Region, other: &Region) -> Option<(Axis, u128)>
+    ensures some { IfSome result (λ s. splits.IsSplitBy region.now other.now s.0 s.1) }
+    ensures none { IfNone result (standings.standing region.now other.now ≡ None → ⊥) }
+{
+    for axis in EVERY_AXIS {
+        if let Some(at) = bound_on(region, other, axis) {
+            return Some((axis, at));
+        }
+    }
+    None
+}
+
+/// A bound of a match, all of its entries together, where it cuts the region.
+pub(crate) fn bound_of_match(region: &Region, entries: &[MatchEntry]) -> Option<(Axis, u128)>
+    requires { AllByRecursion standings.IsEntry entries.now }
+    ensures some { IfSome result (λ s. splits.IsSplitBy region.now (standings.match_fields entries.now) s.0 s.1) }
+    ensures none { IfNone result (standings.standing region.now (standings.match_fields entries.now) ≡ None → ⊥) }
+{
+    let _greatest = region.far_corner();
+    match matching(region, entries) {
+        None => None,
+        Some(left) => {
+            let _ends = (left.corner(), left.far_corner());
+            bound(region, &left)
+        }
+    }
+}
