@@ -91,7 +91,7 @@ flow_record-shorter fields t bs p e = by (record_at fields bs) refl e where
   by (Some q) k m = by_flow q (record_at-shorter fields bs q k) (flow_in q.0) m
   by None k m = absurd cc
 
-abbrev flow_turn : ℕ → List FieldSpecifier → Result (Taken × List ℕ) ℕ → Result Taken ℕ
+abbrev pub flow_turn : ℕ → List FieldSpecifier → Result (Taken × List ℕ) ℕ → Result Taken ℕ
 flow_turn turns fields (Ok p) = flow_records turns fields p.0 p.1
 flow_turn turns fields (Err n) = Err n
 
@@ -140,10 +140,10 @@ after_record-shorter fields bs rest e = by (record_at fields bs) refl e where
   by (Some q) k m = let d : q.1 ≡ rest = cc in omega (arith, record_at-shorter fields bs q k, ap length d)
   by None k m = absurd cc
 
-abbrev passed : Taken → Taken
+abbrev pub passed : Taken → Taken
 passed t = record { waiting = t.waiting; skipped = t.skipped; count = (t.count + 1) % 2 ^ 32 }
 
-abbrev option_turn : ℕ → List FieldSpecifier → Taken → Option (List ℕ) → Result Taken ℕ
+abbrev pub option_turn : ℕ → List FieldSpecifier → Taken → Option (List ℕ) → Result Taken ℕ
 option_turn turns fields t (Some rest) = option_records turns fields (passed t) rest
 option_turn turns fields t None = Err 619
 

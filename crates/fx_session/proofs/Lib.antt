@@ -4,4 +4,5 @@ pub mod Notes
 pub mod DataSteps
 pub mod MessageSteps
 pub mod StreamSteps
+pub mod InFront
 pub mod Examples

@@ -83,10 +83,10 @@ join : (turns : ℕ) (k : Known) (place : ℕ) (bs cs : List ℕ) → length bs 
 join zero k place bs cs le = join_step k place bs cs (λ t p n pos small. absurd (omega arith)) (front bs) refl
 join (suc turns) k place bs cs le = join_step k place bs cs (λ t p n pos small. join turns t p (drop n bs) cs (omega (arith, length-drop n bs))) (front bs) refl
 
-fed_on : (st : Standing) (piece : List ℕ) → st.fault ≡ None → fed st piece ≡ read_all st.known st.place (st.rest ++ piece)
+pub fed_on : (st : Standing) (piece : List ℕ) → st.fault ≡ None → fed st piece ≡ read_all st.known st.place (st.rest ++ piece)
 fed_on st piece e = rw e refl
 
-fed_off : (st : Standing) (piece : List ℕ) (n : ℕ) → st.fault ≡ Some n → fed st piece ≡ st
+pub fed_off : (st : Standing) (piece : List ℕ) (n : ℕ) → st.fault ≡ Some n → fed st piece ≡ st
 fed_off st piece n e = rw e refl
 
 -- one piece and then another are both as one

@@ -46,6 +46,13 @@ read_all k place octets = read_in (length octets) k place octets
 abbrev pub fed : Standing → List ℕ → Standing
 fed st piece = elim st.fault [ Some number ↦ st | None ↦ read_all st.known st.place (st.rest ++ piece) ]
 
+-- the same behind records that wait already
+abbrev pub known_behind : List Record → Known → Known
+known_behind records k = record { domains = k.domains; waiting = records ++ k.waiting; gaps = k.gaps; skipped = k.skipped }
+
+abbrev pub behind : List Record → Standing → Standing
+behind records st = record { known = known_behind records st.known; place = st.place; rest = st.rest; fault = st.fault }
+
 -- a fault stands at the first octet of the message that is refused, want of memory nowhere
 abbrev pub fault_of : ℕ → ℕ → Fault
 fault_of place number = if number == 900 then fault_at 900 places.None else fault_at number (places.Octet place)

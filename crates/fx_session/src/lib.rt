@@ -15,7 +15,7 @@ mod template;
 mod template_set;
 mod templates;
 
-pub use session::{Session, pieces};
+pub use session::{Session, pieces, waiting};
 
 #[cfg(test)]
 mod hostile_tests;

@@ -1,5 +1,6 @@
 //! Sessions: a stream in pieces.
 ghost use Rattle.std.specs.Prelude.{◌≡◌, ◌≢◌, ◌≤◌, ◌++◌, ℕ, List, length, take, drop, Ok, Err, Some, None, IsSome};
+ghost use Rattle.fx_machine.specs.declared.record.Record.{Record};
 ghost use Rattle.fx_session.specs.Streams as streams;
 
 use crate::known::Known;
@@ -167,6 +168,14 @@ impl Session {
         self.known.skipped()
     }
 
+    /// The place in the stream of the first octet of the unfinished message, or of the refused one; 2 to the 64 less 1
+    /// where it is further on.
+    pub fn place(&self) -> u64
+        ensures { result ≡ self.now.place }
+    {
+        self.place
+    }
+
     /// How many octets of an unfinished message there are.
     pub fn left(&self) -> usize
         ensures { result ≡ length self.now.rest }
@@ -178,4 +187,10 @@ impl Session {
 /// One piece and then another are both as one, for every session: it doesn't matter how a stream is cut.
 pub fn pieces()
     ensures { (st : streams.Standing) (a : List ℕ) (b : List ℕ) → streams.fed (streams.fed st a) b ≡ streams.fed st (a ++ b) }
+{}
+
+/// Records that wait stand before those that a piece adds, and change nothing else, for every session: it doesn't
+/// matter when they are taken out.
+pub fn waiting()
+    ensures { (before : List Record) (st : streams.Standing) (piece : List ℕ) → streams.fed (streams.behind before st) piece ≡ streams.behind before (streams.fed st piece) }
 {}

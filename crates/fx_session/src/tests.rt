@@ -108,6 +108,7 @@ fn reads_records(rt: HostRuntime) -> Result<(), Fail> {
     assert!(rt; is_flow(&session.next_record(), 0x0a00_0001, 2, 300));
     assert!(rt; session.next_record().is_none());
     assert_eq!(rt; session.left(), 39);
+    assert_eq!(rt; session.place(), 60);
     session.feed(&SECOND[39..])?;
     assert!(rt; is_flow(&session.next_record(), 0x0a00_0001, 1, 300));
     assert_eq!(rt; session.left(), 0);
@@ -126,6 +127,7 @@ fn reads_each_cut(rt: HostRuntime) -> Result<(), Fail> {
         assert_eq!(rt; sums(rt.alloc(), first, second)?, (2, 3, 300, 1));
     }
     pieces();
+    waiting();
     Ok(())
 }
 
