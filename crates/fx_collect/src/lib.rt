@@ -4,6 +4,7 @@
 mod report;
 mod totals;
 
+pub use report::put_number_line;
 pub use totals::Totals;
 
 #[cfg(test)]

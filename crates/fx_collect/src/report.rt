@@ -65,8 +65,10 @@ fn put_line<S: Sink>(
     put_text(sink, b"\n")
 }
 
-/// Writes a line of a word and a number.
-fn put_number_line<S: Sink>(sink: &mut S, word: &[u8], number: u64) -> Result<(), Fault>
+/// Writes a line of a text and a number in decimal.
+///
+/// Fails with 902, at no place, where a write fails; how much the sink has taken then is open.
+pub fn put_number_line<S: Sink>(sink: &mut S, word: &[u8], number: u64) -> Result<(), Fault>
     ensures ok { OnOk result (Writes (S.taken sink.old) (S.taken sink.new) (number_line word.now number)) }
     ensures err { IfErr result (λ e. (e ≡ fault_at 902 places.None) × (S.failed sink.new ≡ true)) }
 {

@@ -87,3 +87,12 @@ fn tells_all(rt: HostRuntime) -> Result<(), Fail> {
     );
     Ok(())
 }
+
+#[test]
+fn tells_a_number(rt: HostRuntime) -> Result<(), Fail> {
+    let mut octets = [0u8; 256];
+    let mut room = Room::new(&mut octets);
+    put_number_line(&mut room, b"gaps ", 10)?;
+    assert_eq!(rt; room.octets(), b"gaps 10\n".as_slice());
+    Ok(())
+}

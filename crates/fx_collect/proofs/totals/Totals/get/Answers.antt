@@ -1,4 +1,4 @@
-use Rattle.std.proofs.Common.{◌≡◌, ℕ, List, Bool, Option, true, false, ap, sym, ◌∙◌, subst}
+use Rattle.std.proofs.Common.{◌≡◌, ℕ, List, true, false, ap, sym, ◌∙◌, subst}
 use Rattle.fx_layout.specs.Keys.{Layout, Key, same_layout}
 use Rattle.fx_layout.proofs.Projections.{same_layout_is}
 use Rattle.fx_machine.specs.Sums.{total_at}

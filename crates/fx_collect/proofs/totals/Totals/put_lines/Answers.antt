@@ -1,9 +1,9 @@
-use Rattle.std.proofs.Common.{◌≡◌, ℕ, List, ◌∷◌, Option, sym, subst, refl}
+use Rattle.std.proofs.Common.{◌≡◌, ℕ, List, ◌∷◌, sym, subst, refl}
 use Rattle.fx_base.specs.Device.{Writes}
 use Rattle.fx_base.specs.declared.counts.Counts.{Counts}
 use Rattle.fx_base.proofs.Writing.{writes_both}
-use Rattle.fx_collect.specs.Totals.{record_of, records_of, AllHaveBits}
-use Rattle.fx_collect.specs.Report.{record_line, record_lines}
+use Rattle.fx_collect.specs.Totals.{records_of, AllHaveBits}
+use Rattle.fx_collect.specs.Report.{record_lines}
 use Rattle.fx_collect.proofs.Counting.{behind_has_bits}
 use Rattle.fx_collect.proofs.totals.Totals.put_lines.Goals as goal
 

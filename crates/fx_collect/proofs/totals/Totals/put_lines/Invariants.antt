@@ -1,5 +1,5 @@
 -- Whatever completes the lines of the entries that are left completes all lines.
-use Rattle.std.proofs.Common.{ℕ, List, Option, map}
+use Rattle.std.proofs.Common.{ℕ, List, Option}
 use Rattle.fx_base.specs.Device.{Writes}
 use Rattle.fx_collect.specs.Totals.{records_of, AllHaveBits}
 use Rattle.fx_collect.specs.Report.{record_lines}

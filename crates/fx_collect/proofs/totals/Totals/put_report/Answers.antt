@@ -1,8 +1,8 @@
-use Rattle.std.proofs.Common.{◌≡◌, ℕ, List, ◌++◌, Option, length, refl, ap, ◌∙◌, subst, codes, append_assoc}
+use Rattle.std.proofs.Common.{ℕ, ◌++◌, length, refl, subst, codes, append_assoc}
 use Rattle.indexmap.proofs.MapLemmas.{OnOk-map}
 use Rattle.fx_base.specs.Device.{Writes}
 use Rattle.fx_base.proofs.Writing.{writes_both}
-use Rattle.fx_collect.specs.Report.{number_line, record_lines, totals_text}
+use Rattle.fx_collect.specs.Report.{number_line, record_lines}
 use Rattle.fx_collect.proofs.totals.Totals.put_report.Goals as goal
 
 pub returns-clause-ok : goal.returns-clause-ok

@@ -1,10 +1,10 @@
-use Rattle.std.proofs.Common.{◌≡◌, ℕ, List, ap, sym, ◌∙◌, subst, IsPermutation}
+use Rattle.std.proofs.Common.{ℕ, List, ap, sym, subst, IsPermutation}
 use Rattle.std.specs.Ordering.{nat_cmp}
 use Rattle.std.specs.Cmp.Lexicographic.{slice_cmp}
 use Rattle.std.specs.List.Sorted.{IsSorted}
 use Rattle.std.proofs.lemmas.List.Sorted.{IsPermutation-map, All-permutation}
 use Rattle.fx_base.specs.declared.counts.Counts.{Counts}
-use Rattle.fx_layout.specs.Keys.{Layout, HasBits}
+use Rattle.fx_layout.specs.Keys.{HasBits}
 use Rattle.fx_machine.specs.declared.record.Record.{Record}
 use Rattle.fx_collect.specs.Totals.{Totals, record_of, records_of}
 use Rattle.fx_collect.proofs.Counting.{values_are}
