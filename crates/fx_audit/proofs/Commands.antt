@@ -1,5 +1,5 @@
 -- What commands over octets come to.
-use Rattle.std.proofs.Common.{◌≡◌, ◌⊎◌, ℕ, List, [], Option, Some, None, Result, Ok, Err, IfSome, IfOk, IfErr, Bool, true, false, refl, sym, ap, ◌∙◌, subst, inl, inr, ◌≤◌, ◌^◌, length}
+use Rattle.std.proofs.Common.{◌≡◌, ◌⊎◌, ℕ, List, Option, Some, None, Result, Ok, Err, IfSome, IfOk, IfErr, Bool, false, sym, subst, inl, inr}
 use Rattle.fx_base.specs.declared.fault.Fault.{Fault}
 use Rattle.fx_base.specs.declared.fault.Place.TheVariants as places
 use Rattle.fx_base.specs.Fault.{fault_at}
@@ -16,7 +16,7 @@ use Rattle.fx_audit.specs.declared.bundle.Command.{Command}
 use Rattle.fx_audit.specs.declared.bundle.Command.TheVariants.{Replay}
 use Rattle.fx_audit.specs.Bundle.{IsBundle}
 use Rattle.fx_audit.specs.Documents.{IsNetwork, IsTraffic, ReadFails}
-use Rattle.fx_audit.specs.Commands.{IsEndless, IsRefusedBundle, IsRefusedReplay, IsRefusedRun, IsRefusedThere, IsReplayed, IsReplayedIn}
+use Rattle.fx_audit.specs.Commands.{IsRefusedBundle, IsRefusedReplay, IsRefusedRun, IsRefusedThere, IsReplayed, IsReplayedIn}
 use Rattle.fx_audit.specs.Replay.{IsRefused}
 use Rattle.fx_audit.proofs.Documents.{told}
 

@@ -1,12 +1,12 @@
 -- What reading a document comes to.
-use Rattle.std.proofs.Common.{◌≡◌, ◌⊎◌, ℕ, List, [], Option, Some, None, Result, Ok, Err, IfSome, refl, sym, ap, ◌∙◌, subst, inl, inr, IfOk, IfErr, IsUtf8}
+use Rattle.std.proofs.Common.{◌≡◌, ◌⊎◌, ℕ, List, [], Option, Some, None, Result, Ok, Err, IfSome, sym, ap, subst, inl, inr, IfOk, IfErr}
 use Rattle.std.specs.Result.{IsErr, IsErrAnd}
 use Rattle.serde_json.specs.Data.{Data}
 use Rattle.fx_base.specs.declared.fault.Fault.{Fault}
 use Rattle.fx_base.specs.declared.fault.Place.{Place}
 use Rattle.fx_base.specs.declared.fault.Place.TheVariants as places
 use Rattle.fx_base.specs.Fault.{fault_at}
-use Rattle.fx_config.specs.Walk.{Found, Reads, Refuses, refuses, first}
+use Rattle.fx_config.specs.Walk.{Found, Reads, refuses}
 use Rattle.fx_plan.specs.declared.network.Network.{Network}
 use Rattle.fx_plan.specs.Networks.{device_names}
 use Rattle.fx_traffic.specs.Classes.{traffic_faults}
@@ -49,7 +49,7 @@ pub exit_with : {X : Type 0} (r : Result X Fault) (e : Fault) (Q : Fault → Typ
 exit_with (Ok x) e Q h q = absurd h.1
 exit_with (Err d) e Q h q = subst Q (sym h.1) q
 
-both_told : (left_n left_t : Option (List ℕ)) (P Q : List ℕ → Type 0) (R : List ℕ → List ℕ → Type 0) → IfSome left_n P → IfSome left_t Q → ((n t : List ℕ) → P n → Q t → R n t) → IfSome left_n (λ n. IfSome left_t (λ t. R n t))
+pub both_told : (left_n left_t : Option (List ℕ)) (P Q : List ℕ → Type 0) (R : List ℕ → List ℕ → Type 0) → IfSome left_n P → IfSome left_t Q → ((n t : List ℕ) → P n → Q t → R n t) → IfSome left_n (λ n. IfSome left_t (λ t. R n t))
 both_told None left_t P Q R p q h = cc
 both_told (Some n) None P Q R p q h = cc
 both_told (Some n) (Some t) P Q R p q h = h n t p q

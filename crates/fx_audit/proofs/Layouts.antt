@@ -1,5 +1,5 @@
 -- Totals keep their layout.
-use Rattle.std.proofs.Common.{◌≡◌, Bool, true, false, cond, List, [], ◌∷◌, refl, ◌∙◌, ◌+◌, ◌%◌, ◌^◌}
+use Rattle.std.proofs.Common.{◌≡◌, true, false, cond, List, [], ◌∷◌, refl, ◌∙◌, ◌+◌, ◌%◌, ◌^◌}
 use Rattle.fx_layout.specs.Keys.{refines, project}
 use Rattle.fx_machine.specs.declared.record.Record.{Record}
 use Rattle.fx_machine.specs.States.{add_at}

@@ -3,3 +3,5 @@ pub mod Documents
 pub mod Marks
 pub mod Layouts
 pub mod Replays
+pub mod Streams
+pub mod Collects

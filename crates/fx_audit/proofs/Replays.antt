@@ -1,5 +1,5 @@
 -- A run that was replayed step by step.
-use Rattle.std.proofs.Common.{◌≡◌, ℕ, List, Result, Ok, refl, sym, ap, ◌∙◌, subst}
+use Rattle.std.proofs.Common.{◌≡◌, ℕ, List, Ok, refl, ap, ◌∙◌, subst}
 use Rattle.fx_machine.specs.Network.{Net}
 use Rattle.fx_machine.specs.Classes.{Class}
 use Rattle.fx_machine.specs.declared.packet.Packet.{Packet}
@@ -7,7 +7,6 @@ use Rattle.fx_machine.specs.declared.step.Step.{Step}
 use Rattle.fx_machine.specs.States.{State, opening, told}
 use Rattle.fx_machine.specs.Steps.{run}
 use Rattle.fx_machine.specs.Stores.{Running}
-use Rattle.fx_machine.specs.RunText.{Run}
 use Rattle.fx_audit.specs.Replay.{IsTextOf}
 
 abbrev pub Along : Running → Running → List Step → Type 0

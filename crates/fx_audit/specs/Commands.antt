@@ -10,12 +10,14 @@ use Rattle.fx_machine.specs.RunReading.{Fails, run_reading}
 use Rattle.fx_machine.specs.States.{State, opening, told}
 use Rattle.fx_machine.specs.Steps.{run}
 use Rattle.fx_plan.specs.declared.network.Network.{Network}
+use Rattle.fx_plan.specs.Networks.{network_faults}
 use Rattle.fx_plan.specs.Tables.{net_of}
 use Rattle.fx_audit.specs.Bundle.{IsBundle}
 use Rattle.fx_audit.specs.declared.bundle.Command.{Command}
 use Rattle.fx_audit.specs.declared.bundle.Command.TheVariants.{Replay}
-use Rattle.fx_audit.specs.Documents.{IsNetwork, IsRefusedByDocuments, IsTraffic, ReadFails}
+use Rattle.fx_audit.specs.Documents.{IsFirstFault, IsNetwork, IsRefusedByDocuments, IsTraffic, ReadFails}
 use Rattle.fx_audit.specs.Replay.{IsRefused, IsTextOf}
+use Rattle.fx_audit.specs.Streams.{IsRefusedStream, IsStreamText, IsWhole, stream_read}
 
 -- ---- a run that is replayed
 
@@ -47,6 +49,21 @@ IsRefusedReplay network_octets traffic_octets lines e =
     IsRefusedByDocuments network_octets traffic_octets e
     ⊎ ((network : Network) × (classes : List Class) × IsNetwork network_octets network × IsTraffic network traffic_octets classes
     × IsRefusedRun network classes lines e)
+
+-- ---- a stream that is collected
+
+-- the text that a stream comes to at the report of the network that a document says; the stream is whole
+pub record IsCollected (network_octets stream_octets text : List ℕ) : Type 0 where
+  pub network : Network
+  pub network_is : IsNetwork network_octets network
+  pub whole : IsWhole (stream_read stream_octets)
+  pub text_is : IsStreamText (net_of network).report_layout (stream_read stream_octets).known text
+
+-- the first refusal of what is collected: that of the network's document, then the stream's
+abbrev pub IsRefusedCollect : List ℕ → List ℕ → Fault → Type 0
+IsRefusedCollect network_octets stream_octets e =
+    IsFirstFault (network_faults []) network_octets e
+    ⊎ ((network : Network) × IsNetwork network_octets network × IsRefusedStream (stream_read stream_octets) e)
 
 -- ---- a bundle
 

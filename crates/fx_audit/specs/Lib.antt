@@ -2,3 +2,4 @@ pub mod Bundle
 pub mod Commands
 pub mod Documents
 pub mod Replay
+pub mod Streams

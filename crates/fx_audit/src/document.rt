@@ -45,7 +45,7 @@ pub struct Documents {
 ///
 /// Fails with 101, at no place, where they are no JSON text; as [`read_plan`] does; with 901, at no place, where
 /// a read fails or the source hasn't ended after 4,294,967,296 calls; and with 900 for want of memory.
-fn network_from<R: Source>(alloc: Global, source: &mut R) -> Result<Plan, Fault>
+pub(crate) fn network_from<R: Source>(alloc: Global, source: &mut R) -> Result<Plan, Fault>
     ensures ok { IfOk result (λ plan. IfSome (R.left source.old) (λ octets. IsNetwork octets plan)) }
     ensures err { IfErr result (λ e. (e ≡ fault_at 900 places.None) ⊎ (ReadFails (R.left source.old) (R.failed source.new) e
         ⊎ IfSome (R.left source.old) (λ octets. IsFirstFault (network_faults []) octets e))) }

@@ -4,13 +4,18 @@
 mod answer;
 mod bundle;
 mod bundle_command;
+mod collect_command;
+mod collecting;
 mod document;
 mod replay_command;
 mod replaying;
 
 pub use answer::Answer;
 pub use bundle_command::bundle_bytes;
+pub use collect_command::collect_bytes;
 pub use replay_command::replay_bytes;
 
+#[cfg(test)]
+mod collect_tests;
 #[cfg(test)]
 mod tests;

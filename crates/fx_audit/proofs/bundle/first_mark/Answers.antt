@@ -1,4 +1,4 @@
-use Rattle.std.proofs.Common.{◌≡◌, ℕ, ◌<◌, length, arith}
+use Rattle.std.proofs.Common.{arith}
 use Rattle.fx_audit.proofs.Marks.{none_at_all}
 use Rattle.fx_audit.proofs.bundle.first_mark.Goals as goal
 

@@ -1,4 +1,4 @@
-use Rattle.std.proofs.Common.{ℕ, ◌+◌, List, sym, subst, take, drop}
+use Rattle.std.proofs.Common.{ℕ, List, sym, subst, take}
 use Rattle.fx_audit.specs.Bundle.{FirstText}
 use Rattle.fx_audit.proofs.Marks.{first_text_is}
 use Rattle.fx_audit.proofs.bundle.first_text.Goals as goal

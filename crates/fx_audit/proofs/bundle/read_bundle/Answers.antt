@@ -1,5 +1,5 @@
 -- Another bundle of the same octets would have the parts that were found, so none has a part that wasn't.
-use Rattle.std.proofs.Common.{◌≡◌, ℕ, List, [], false, true, length, subst, arith, sym, ap, ◌∙◌, ◌==◌}
+use Rattle.std.proofs.Common.{◌≡◌, [], false, true, length, ap, ◌∙◌, ◌==◌}
 use Rattle.fx_audit.proofs.Marks.{no_traffic, no_third, nothing_behind}
 use Rattle.fx_audit.proofs.bundle.read_bundle.Goals as goal
 

@@ -1,11 +1,10 @@
 -- The text is that of the sorted totals and the line behind it.
-use Rattle.std.proofs.Common.{◌≡◌, ℕ, List, ◌++◌, ◌∙◌, refl, sym, ap, subst, IsPermutation}
+use Rattle.std.proofs.Common.{ℕ, List, ◌++◌, ◌∙◌, refl, ap, subst, IsPermutation}
 use Rattle.indexmap.proofs.MapLemmas.{OnOk-map}
 use Rattle.fx_base.specs.Device.{Writes}
 use Rattle.fx_base.proofs.Writing.{writes_both}
-use Rattle.fx_machine.specs.declared.record.Record.{Record}
-use Rattle.fx_collect.specs.Totals.{Totals, nothing, totals_of}
-use Rattle.fx_collect.specs.Report.{Ascends, totals_text}
+use Rattle.fx_collect.specs.Totals.{Totals, nothing}
+use Rattle.fx_collect.specs.Report.{totals_text}
 use Rattle.fx_audit.specs.Replay.{complete_line, IsTextOf}
 use Rattle.fx_audit.proofs.Layouts.{all_keep}
 use Rattle.fx_audit.proofs.replaying.put_state.Goals as goal

@@ -1,4 +1,4 @@
-use Rattle.std.proofs.Common.{◌≡◌, ℕ, List, refl, ◌∙◌}
+use Rattle.std.proofs.Common.{ℕ, List, refl, ◌∙◌}
 use Rattle.fx_base.specs.Device.{Writes}
 use Rattle.fx_audit.proofs.Replays.{replayed}
 use Rattle.fx_audit.proofs.replaying.replay.Goals as goal

@@ -1,0 +1,71 @@
+-- What a collection over octets comes to.
+use Rattle.std.proofs.Common.{◌≡◌, ◌⊎◌, ℕ, List, [], Option, Some, None, Result, Ok, Err, IfSome, IfOk, IfErr, unwrap_or, sym, ap, ◌∙◌, subst, inl, inr}
+use Rattle.serde_json.specs.Data.{Data}
+use Rattle.serde_json.specs.Read.{read}
+use Rattle.fx_base.specs.declared.fault.Fault.{Fault}
+use Rattle.fx_base.specs.declared.fault.Place.{Place}
+use Rattle.fx_base.specs.declared.fault.Place.TheVariants as places
+use Rattle.fx_config.specs.Walk.{Found}
+use Rattle.fx_machine.specs.Network.{Net}
+use Rattle.fx_plan.specs.declared.network.Network.{Network}
+use Rattle.fx_plan.specs.Networks.{network_faults}
+use Rattle.fx_plan.specs.Tables.{net_of}
+use Rattle.fx_audit.specs.declared.answer.Answer.{Answer}
+use Rattle.fx_audit.specs.declared.answer.Answer.TheVariants.{Yes}
+use Rattle.fx_audit.specs.Commands.{IsCollected, IsRefusedCollect}
+use Rattle.fx_audit.specs.Documents.{IsDocument, IsFirstFault, IsNetwork, is_found}
+use Rattle.fx_audit.specs.Streams.{IsRefusedStream, IsStreamText, IsWhole, stream_read}
+use Rattle.fx_audit.proofs.Documents.{both_told}
+
+-- ---- a stream at the report of a network
+
+abbrev Collects : Net → (List ℕ → Type 0) → List ℕ → Type 0
+Collects net W octets = IsWhole (stream_read octets) × ((text : List ℕ) × IsStreamText net.report_layout (stream_read octets).known text × W text)
+
+pub collect_done : (left_n left_s : Option (List ℕ)) (network : Network) (net : Net) (W : List ℕ → Type 0) (result : Result Answer Fault) → net ≡ net_of network → IfSome left_n (λ n. IsNetwork n network)
+    → IfOk result (λ a. (a ≡ Yes) × IfSome left_s (λ octets. Collects net W octets)) → IfOk result (λ a. (a ≡ Yes) × IfSome left_n (λ n. IfSome left_s (λ octets. (text : List ℕ) × IsCollected n octets text × W text)))
+collect_done left_n left_s network net W (Err e) is n h = cc
+collect_done left_n left_s network net W (Ok a) is n h =
+    (h.0, both_told left_n left_s (λ o. IsNetwork o network) (Collects net W) (λ o octets. (text : List ℕ) × IsCollected o octets text × W text) n h.1 (λ o octets p c. told o octets p c)) where
+      told : (o octets : List ℕ) → IsNetwork o network → Collects net W octets → (text : List ℕ) × IsCollected o octets text × W text
+      told o octets p c =
+          let text = c.1.0 in
+          let is_text : IsStreamText net.report_layout (stream_read octets).known text = c.1.1 in
+          let here : IsStreamText (net_of network).report_layout (stream_read octets).known text = subst (λ (x : Net). IsStreamText x.report_layout (stream_read octets).known text) is is_text in
+          let written : W text = c.1.2 in
+          (text, record { network = network; network_is = p; whole = c.0; text_is = here }, written)
+
+pub collect_refused : (left_n left_s : Option (List ℕ)) (network : Network) (N F W : Fault → Type 0) (M : Fault → Type 0) (result : Result Answer Fault) → IfSome left_n (λ n. IsNetwork n network)
+    → IfErr result (λ e. M e ⊎ (F e ⊎ (W e ⊎ IfSome left_s (λ octets. IsRefusedStream (stream_read octets) e))))
+    → IfErr result (λ e. M e ⊎ (N e ⊎ (F e ⊎ (W e ⊎ IfSome left_n (λ n. IfSome left_s (λ octets. IsRefusedCollect n octets e))))))
+collect_refused left_n left_s network N F W M (Ok a) n h = cc
+collect_refused left_n left_s network N F W M (Err e) n h =
+    elim h [
+      | inl m ↦ inl m
+      | inr (inl f) ↦ inr (inr (inl f))
+      | inr (inr (inl w)) ↦ inr (inr (inr (inl w)))
+      | inr (inr (inr r)) ↦
+          inr (inr (inr (inr (both_told left_n left_s (λ o. IsNetwork o network) (λ octets. IsRefusedStream (stream_read octets) e) (λ o octets. IsRefusedCollect o octets e) n r (λ o octets p q. inr (network, p, q))))))
+    ]
+
+-- ---- a document that is read has no fault
+
+none_found : (number : ℕ) (place : Place) → is_found number place [] → ⊥
+none_found number places.None h = h
+none_found number (places.Text s) h = cc
+none_found number (places.Line l) h = h
+none_found number (places.Octet o) h = h
+
+same_value : (o : Option Data) (d e : Data) → o ≡ Some d → o ≡ Some e → d ≡ e
+same_value o d e p q = ap (λ (v : Option Data). unwrap_or v d) (sym p ∙ q)
+
+faultless : {X : Type 0} (faults : Data → List Found) (meaning : Data → X) (octets : List ℕ) (x : X) (e : Fault) → IsDocument faults meaning octets x → IsFirstFault faults octets e → ⊥
+faultless faults meaning octets x e d (inl h) = h.1 d.value d.json
+faultless faults meaning octets x e d (inr h) =
+    let same = same_value (read octets) h.0 d.value h.1.1 d.json.1 in
+    none_found e.number e.place (subst (λ (fs : List Found). is_found e.number e.place fs) (ap faults same ∙ d.faultless) h.2)
+
+-- so what holds of a network with a fault holds where the network was read
+pub network_faultless : (left : Option (List ℕ)) (network : Network) (A : Type 0) → IfSome left (λ n. IsNetwork n network) → IfSome left (λ n. (e : Fault) → IsFirstFault (network_faults []) n e → A)
+network_faultless None network A h = h
+network_faultless (Some octets) network A h = λ e f. absurd (faultless (network_faults []) _ octets network e h f)

@@ -1,0 +1,148 @@
+-- A stream's records, taken out as they come.
+use Rattle.std.proofs.Common.{◌≡◌, ◌⊎◌, inl, inr, ℕ, ◌+◌, ◌<◌, ◌≤◌, List, [], ◌∷◌, ◌++◌, length, drop, refl, sym, ap, subst, ◌∙◌, arith, append_assoc, Option, Some, None, Err, IfSome, codes}
+use Rattle.std.proofs.lemmas.List.{append-nil, length-append, take-append-drop}
+use Rattle.std.specs.Io.KnownBytes.{prepend_known}
+use Rattle.fx_base.proofs.Reading.{read_more, held_within}
+use Rattle.fx_base.proofs.Writing.{writes_both}
+use Rattle.fx_base.specs.Device.{Reads, Writes}
+use Rattle.fx_base.specs.declared.fault.Fault.{Fault}
+use Rattle.fx_machine.specs.declared.record.Record.{Record}
+use Rattle.fx_collect.specs.Report.{number_line}
+use Rattle.fx_collect.specs.Totals.{Totals, with_record, with_records}
+use Rattle.fx_session.proofs.InFront.{fed-behind}
+use Rattle.fx_session.proofs.StreamSteps.{all_none, fed_off, pieces}
+use Rattle.fx_session.specs.Streams.{IsNextRecord, Standing, answer_of, behind, fed, start}
+use Rattle.fx_audit.specs.Streams.{IsTallied, drained, stream_read}
+
+-- ---- one record after another
+
+pub next_tallied : (t : Totals) (r : Record) (old new : Standing) → IsNextRecord old new (Some r) → with_records (with_record t r) new.known.waiting ≡ with_records t old.known.waiting
+next_tallied t r old new e = ap (λ (st : Standing). with_records t st.known.waiting) (sym e)
+
+pub next_drained : (r : Record) (old new : Standing) → IsNextRecord old new (Some r) → drained new ≡ drained old
+next_drained r old new e = ap drained (sym e)
+
+pub next_smaller : (r : Record) (old new : Standing) → IsNextRecord old new (Some r) → length new.known.waiting < length old.known.waiting
+next_smaller r old new e = let d = ap (λ (st : Standing). length st.known.waiting) e in omega (arith, d)
+
+pub none_tallied : (t : Totals) (old new : Standing) → IsNextRecord old new None → t ≡ with_records t old.known.waiting
+none_tallied t old new h = ap (with_records t) (sym h.0)
+
+-- a session in which no record waits
+pub none_drained : (old new : Standing) → IsNextRecord old new None → new ≡ drained old
+none_drained old new h = h.1 ∙ empty old h.0 where
+  empty : (st : Standing) → st.known.waiting ≡ [] → st ≡ drained st
+  empty st e = ap (λ (rs : List Record). let other : Standing = record { known = record { domains = st.known.domains; waiting = rs; gaps = st.known.gaps; skipped = st.known.skipped }; place = st.place; rest = st.rest; fault = st.fault } in other) e
+
+-- ---- piece after piece
+
+pub with_more : (t : Totals) (rs more : List Record) → with_records t (rs ++ more) ≡ with_records (with_records t rs) more
+with_more t [] more = refl
+with_more t (r ∷ rs) more = with_more (with_record t r) rs more
+
+-- reading on, with the records taken out, is reading on and taking them out
+read_on : (st : Standing) (piece : List ℕ) → fed st piece ≡ behind st.known.waiting (fed (drained st) piece)
+read_on st piece = ap (λ (s : Standing). fed s piece) (same st) ∙ fed-behind st.known.waiting (drained st) piece where
+  same : (st : Standing) → st ≡ behind st.known.waiting (drained st)
+  same st = ap (λ (rs : List Record). let other : Standing = record { known = record { domains = st.known.domains; waiting = rs; gaps = st.known.gaps; skipped = st.known.skipped }; place = st.place; rest = st.rest; fault = st.fault } in other) (sym (append-nil st.known.waiting))
+
+-- what is read of a stream after a piece more
+stream_on : (seen piece : List ℕ) (session : Standing) → session ≡ drained (stream_read seen) → stream_read (seen ++ piece) ≡ behind (stream_read seen).known.waiting (fed session piece)
+stream_on seen piece session is =
+    sym (pieces start seen piece) ∙ read_on (stream_read seen) piece ∙ ap (λ (s : Standing). behind (stream_read seen).known.waiting (fed s piece)) (sym is)
+
+piece_tallied : (seen piece : List ℕ) (before totals totals' : Totals) (session session' : Standing) → IsTallied seen before session totals → session' ≡ drained (fed session piece) → session'.fault ≡ None
+    → totals' ≡ with_records totals (fed session piece).known.waiting → IsTallied (seen ++ piece) before session' totals'
+piece_tallied seen piece before totals totals' session session' t is none are =
+    let on = stream_on seen piece session t.session_is in
+    let more = (fed session piece).known.waiting in
+    record {
+      session_is = is ∙ sym (ap drained on);
+      faultless = ap (λ (s : Standing). s.fault) on ∙ sym (ap (λ (s : Standing). s.fault) is) ∙ none;
+      totals_are = are ∙ ap (λ (x : Totals). with_records x more) t.totals_are ∙ sym (with_more before (stream_read seen).known.waiting more) ∙ sym (ap (λ (s : Standing). with_records before s.known.waiting) on);
+    }
+
+-- so many calls have read these octets of a stream, and its records were tallied
+pub record IsReadOn (all left : Option (List ℕ)) (before : Totals) (session : Standing) (totals : Totals) (calls : ℕ) : Type 0 where
+  pub seen : List ℕ
+  pub parts : prepend_known seen left ≡ all
+  pub tallied : IsTallied seen before session totals
+  pub count : calls ≤ length seen
+
+pub begun : (all : Option (List ℕ)) (before : Totals) (session : Standing) → session ≡ start → IsReadOn all all before session before 0
+begun all before session is =
+    let none = all_none start.known 0 in
+    record {
+      seen = [];
+      parts = nothing_held all;
+      tallied = record {
+        session_is = is ∙ sym (ap drained none);
+        faultless = ap (λ (s : Standing). s.fault) none;
+        totals_are = sym (ap (λ (s : Standing). with_records before s.known.waiting) none);
+      };
+      count = omega arith;
+    } where
+      nothing_held : (o : Option (List ℕ)) → prepend_known [] o ≡ o
+      nothing_held None = refl
+      nothing_held (Some octets) = refl
+
+pub read_further : (all left left' : Option (List ℕ)) (before totals totals' : Totals) (session session' : Standing) (calls room n : ℕ) (piece : List ℕ) → IsReadOn all left before session totals calls → Reads left left' room piece n
+    → 1 ≤ length piece → session' ≡ drained (fed session piece) → session'.fault ≡ None → totals' ≡ with_records totals (fed session piece).known.waiting → IsReadOn all left' before session' totals' (calls + 1)
+read_further all left left' before totals totals' session session' calls room n piece h reads some is none are = record {
+  seen = h.seen ++ piece;
+  parts = read_more h.seen (h.seen ++ piece) piece room n left left' refl reads ∙ h.parts;
+  tallied = piece_tallied h.seen piece before totals totals' session session' h.tallied is none are;
+  count = omega (arith, h.count, length-append h.seen piece);
+}
+
+pub read_out : (all left left' : Option (List ℕ)) (before totals : Totals) (session : Standing) (calls room : ℕ) (piece : List ℕ) → IsReadOn all left before session totals calls → 0 < room → Reads left left' room piece 0
+    → IfSome all (λ octets. IsTallied octets before session totals)
+read_out all left left' before totals session calls room piece h some reads =
+    subst (λ (o : Option (List ℕ)). IfSome o (λ octets. IsTallied octets before session totals)) h.parts (ended left reads) where
+      ended : (o : Option (List ℕ)) → Reads o left' room piece 0 → IfSome (prepend_known h.seen o) (λ octets. IsTallied octets before session totals)
+      ended None r = tt
+      ended (Some old) r = subst (λ (xs : List ℕ). IsTallied xs before session totals) (sym (ap (λ (xs : List ℕ). h.seen ++ xs) (r.end refl some) ∙ append-nil h.seen)) h.tallied
+
+pub read_too_long : (all left : Option (List ℕ)) (before totals : Totals) (session : Standing) (calls limit : ℕ) → IsReadOn all left before session totals calls → limit ≤ calls → IfSome all (λ octets. limit ≤ length octets)
+read_too_long all left before totals session calls limit h most =
+    subst (λ (o : Option (List ℕ)). IfSome o (λ octets. limit ≤ length octets)) h.parts (held_within h.seen left limit (omega (arith, h.count)))
+
+-- a fault is answered for all that comes later
+faulty : (place : ℕ) (o : Option ℕ) (e : Fault) → answer_of place o ≡ Err e → (n : ℕ) × (o ≡ Some n)
+faulty place (Some n) e h = (n, refl)
+faulty place None e h = absurd cc
+
+still_refused : (seen piece later : List ℕ) (before totals : Totals) (session : Standing) (e : Fault) → IsTallied seen before session totals → answer_of (fed session piece).place (fed session piece).fault ≡ Err e
+    → answer_of (stream_read (seen ++ (piece ++ later))).place (stream_read (seen ++ (piece ++ later))).fault ≡ Err e
+still_refused seen piece later before totals session e t h =
+    let on = stream_on seen piece session t.session_is in
+    let f = faulty (fed session piece).place (fed session piece).fault e h in
+    let now = stream_read (seen ++ piece) in
+    let stays = ap stream_read (sym (append_assoc seen piece later)) ∙ sym (pieces start (seen ++ piece) later) ∙ fed_off now later f.0 (ap (λ (s : Standing). s.fault) on ∙ f.1) in
+    ap (λ (s : Standing). answer_of s.place s.fault) (stays ∙ on) ∙ h
+
+pub read_refused : (all left left' : Option (List ℕ)) (before totals : Totals) (session : Standing) (calls room n : ℕ) (piece : List ℕ) (e : Fault) → IsReadOn all left before session totals calls → Reads left left' room piece n
+    → answer_of (fed session piece).place (fed session piece).fault ≡ Err e → IfSome all (λ octets. answer_of (stream_read octets).place (stream_read octets).fault ≡ Err e)
+read_refused all left left' before totals session calls room n piece e h reads refused =
+    subst (λ (o : Option (List ℕ)). IfSome o (λ octets. answer_of (stream_read octets).place (stream_read octets).fault ≡ Err e)) h.parts (by left reads) where
+      by : (o : Option (List ℕ)) → Reads o left' room piece n → IfSome (prepend_known h.seen o) (λ octets. answer_of (stream_read octets).place (stream_read octets).fault ≡ Err e)
+      by None r = tt
+      by (Some old) r =
+          let parts : piece ++ drop n old ≡ old = ap (λ (xs : List ℕ). xs ++ drop n old) r.octets_are ∙ take-append-drop n old in
+          subst (λ (xs : List ℕ). answer_of (stream_read (h.seen ++ xs)).place (stream_read (h.seen ++ xs)).fault ≡ Err e) parts (still_refused h.seen piece (drop n old) before totals session e h.tallied refused)
+
+pub still_faultless : (all left : Option (List ℕ)) (before totals : Totals) (session : Standing) (calls : ℕ) → IsReadOn all left before session totals calls → session.fault ≡ None
+still_faultless all left before totals session calls h = ap (λ (s : Standing). s.fault) h.tallied.session_is ∙ h.tallied.faultless
+
+pub piece_refused : (all left left' : Option (List ℕ)) (before totals : Totals) (session : Standing) (calls room n : ℕ) (piece : List ℕ) (e : Fault) (M F : Type 0) → IsReadOn all left before session totals calls → Reads left left' room piece n
+    → M ⊎ (answer_of (fed session piece).place (fed session piece).fault ≡ Err e) → M ⊎ (F ⊎ IfSome all (λ octets. answer_of (stream_read octets).place (stream_read octets).fault ≡ Err e))
+piece_refused all left left' before totals session calls room n piece e M F h reads refused =
+    elim refused [ inl m ↦ inl m | inr r ↦ inr (inr (read_refused all left left' before totals session calls room n piece e h reads r)) ]
+
+-- ---- what is written
+
+pub all_written : (a b c d : Option (List ℕ)) (text : List ℕ) (gaps gaps' skipped skipped' : ℕ) → gaps' ≡ gaps → skipped' ≡ skipped → Writes a b text → Writes b c (number_line (codes "gaps ") gaps') → Writes c d (number_line (codes "skipped ") skipped')
+    → Writes a d (text ++ (number_line (codes "gaps ") gaps ++ number_line (codes "skipped ") skipped))
+all_written a b c d text gaps gaps' skipped skipped' eg es h1 h2 h3 =
+    writes_both a b d text _ _ h1
+    (writes_both b c d _ _ _ (subst (λ (n : ℕ). Writes b c (number_line (codes "gaps ") n)) eg h2) (subst (λ (n : ℕ). Writes c d (number_line (codes "skipped ") n)) es h3) refl) refl

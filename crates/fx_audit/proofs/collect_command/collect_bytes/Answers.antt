@@ -1,0 +1,13 @@
+use Rattle.fx_audit.proofs.Collects.{collect_done, collect_refused, network_faultless}
+use Rattle.fx_audit.proofs.collect_command.collect_bytes.Goals as goal
+
+pub returns-clause-ok : goal.returns-clause-ok
+returns-clause-ok g c =
+    collect_done (g.N.Source.left c.args.network.now) (g.R.Source.left c.args.stream.now) c.in_ok-plan.plan c.net.result.now _ c.collect.result c.net.ensures c.in_ok-plan.ensures.ok c.collect.ensures.ok
+
+pub returns-clause-err : goal.returns-clause-err
+returns-clause-err g c =
+    collect_refused (g.N.Source.left c.args.network.now) (g.R.Source.left c.args.stream.now) c.in_ok-plan.plan _ _ _ _ c.collect.result c.in_ok-plan.ensures.ok c.collect.ensures.err
+
+pub returns-clause-untouched : goal.returns-clause-untouched
+returns-clause-untouched g c = network_faultless (g.N.Source.left c.args.network.now) c.in_ok-plan.plan _ c.in_ok-plan.ensures.ok

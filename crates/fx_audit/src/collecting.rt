@@ -1,0 +1,117 @@
+//! A stream's records, tallied as they come.
+ghost use Rattle.std.specs.Prelude.{◌≡◌, ◌⊎◌, ℕ, List, true, None, Err, OnOk, IfOk, IfErr, IfSome};
+ghost use Rattle.fx_base.specs.Device.{Writes};
+ghost use Rattle.fx_base.specs.Fault.{fault_at};
+ghost use Rattle.fx_base.specs.declared.fault.Place.TheVariants as places;
+ghost use Rattle.fx_collect.specs.Totals.{with_records};
+ghost use Rattle.fx_session.specs.Streams as streams;
+ghost use Rattle.fx_audit.specs.Documents.{ReadFails};
+ghost use Rattle.fx_audit.specs.Streams.{drained, stream_read, IsRefusedStream, IsStreamText, IsTallied, IsTotalsText, IsWhole};
+ghost use Rattle.fx_audit.specs.declared.answer.Answer.TheVariants.{Yes};
+
+use crate::answer::Answer;
+use fx_base::{Fault, Sink, Source};
+use fx_collect::{Totals, put_number_line};
+use fx_machine::Net;
+use fx_session::Session;
+use std::alloc::Global;
+
+/// The number of octets that are asked for at once.
+const PIECE: usize = 4096;
+
+/// The number of calls after which a source that hasn't ended counts as failing.
+const MOST_CALLS: u64 = 4_294_967_296;
+
+/// Tallies the records that wait.
+fn tally_waiting(session: &mut Session, totals: &mut Totals) -> Result<(), Fault>
+    ensures totals { OnOk result (totals.new ≡ with_records totals.old session.old.known.waiting) }
+    ensures session { OnOk result (session.new ≡ drained session.old) }
+    ensures err { IfErr result (λ e. e ≡ fault_at 900 places.None) }
+{
+    while let Some(entry) = session.next_record() {
+        totals.tally(&entry)?;
+    }
+    Ok(())
+}
+
+/// Reads on with a piece of a stream, and tallies the records that it completes.
+fn take_piece(session: &mut Session, totals: &mut Totals, piece: &[u8]) -> Result<(), Fault>
+    requires { session.old.fault ≡ None }
+    ensures session { OnOk result (session.new ≡ drained (streams.fed session.old piece.now)) }
+    ensures faultless { OnOk result (session.new.fault ≡ None) }
+    ensures totals { OnOk result (totals.new ≡ with_records totals.old (streams.fed session.old piece.now).known.waiting) }
+    ensures err { IfErr result (λ e. (e ≡ fault_at 900 places.None)
+        ⊎ (streams.answer_of (streams.fed session.old piece.now).place (streams.fed session.old piece.now).fault ≡ Err e)) }
+{
+    session.feed(piece)?;
+    tally_waiting(session, totals)
+}
+
+/// Reads a stream to its end, piece by piece, and tallies its records.
+fn tally_stream<R: Source>(
+    session: &mut Session,
+    totals: &mut Totals,
+    stream: &mut R,
+) -> Result<(), Fault>
+    requires { session.old ≡ streams.start }
+    ensures ok { OnOk result (IfSome (R.left stream.old) (λ octets. IsTallied octets totals.old session.new totals.new)) }
+    ensures err { IfErr result (λ e. (e ≡ fault_at 900 places.None) ⊎ (ReadFails (R.left stream.old) (R.failed stream.new) e
+        ⊎ IfSome (R.left stream.old) (λ octets. streams.answer_of (stream_read octets).place (stream_read octets).fault ≡ Err e))) }
+{
+    let mut piece = [0u8; PIECE];
+    for _call in 0..MOST_CALLS {
+        let n = stream.read(&mut piece)?;
+        if n == 0 {
+            return Ok(());
+        }
+        take_piece(session, totals, &piece[..n])?;
+    }
+    Err(Fault::bare(901))
+}
+
+/// Writes the text of totals, with their keys in ascending order, and the numbers of gaps and of skipped records.
+/// Nothing is written before all that takes memory is done.
+///
+/// Fails with 900 for want of memory and with 902 where a write fails, each at no place.
+fn put_collected<S: Sink>(session: &Session, totals: &mut Totals, sink: &mut S) -> Result<(), Fault>
+    ensures ok { OnOk result ((text : List ℕ) × IsTotalsText totals.old session.now.known.gaps session.now.known.skipped text × Writes (S.taken sink.old) (S.taken sink.new) text) }
+    ensures err { IfErr result (λ e. (e ≡ fault_at 900 places.None) ⊎ ((e ≡ fault_at 902 places.None) × (S.failed sink.new ≡ true))) }
+    ensures quiet { IfErr result (λ e. (e ≡ fault_at 902 places.None) ⊎ (S.taken sink.new ≡ S.taken sink.old)) }
+{
+    totals.sort()?;
+    totals.put_report(sink)?;
+    put_number_line(sink, b"gaps ", session.gaps())?;
+    put_number_line(sink, b"skipped ", session.skipped())
+}
+
+/// Tallies the flow records of an IPFIX stream under the keys of a network's report, and writes the totals and the
+/// numbers of gaps and of skipped records. The stream is read in pieces; of what was read, its templates, the
+/// unfinished message and the totals are kept.
+///
+/// Fails, at the first octet of a message, with 611 to 620 where the message is refused (see [`Session::feed`]) and
+/// with 612 where the stream ends inside it; at no place, with 901 where a read fails or the stream hasn't ended after
+/// 4,294,967,296 calls, with 900 for want of memory and 902 where a write fails. Nothing is written before the stream
+/// has ended and its totals are in order.
+pub fn collect<R: Source, S: Sink>(
+    alloc: Global,
+    net: &Net,
+    stream: &mut R,
+    sink: &mut S,
+) -> Result<Answer, Fault>
+    ensures ok { IfOk result (λ answer. (answer ≡ Yes) × IfSome (R.left stream.old) (λ octets. IsWhole (stream_read octets)
+        × ((text : List ℕ) × IsStreamText net.now.report_layout (stream_read octets).known text × Writes (S.taken sink.old) (S.taken sink.new) text))) }
+    ensures err { IfErr result (λ e. (e ≡ fault_at 900 places.None)
+        ⊎ (ReadFails (R.left stream.old) (R.failed stream.new) e
+        ⊎ (((e ≡ fault_at 902 places.None) × (S.failed sink.new ≡ true))
+        ⊎ IfSome (R.left stream.old) (λ octets. IsRefusedStream (stream_read octets) e)))) }
+    ensures quiet { IfErr result (λ e. (e ≡ fault_at 902 places.None) ⊎ (S.taken sink.new ≡ S.taken sink.old)) }
+{
+    let mut session = Session::new(alloc)?;
+    let mut totals = Totals::new(alloc, net.report_layout().copy())?;
+    tally_stream(&mut session, &mut totals, stream)?;
+    if session.left() > 0 {
+        return Err(Fault::at_octet(612, session.place()));
+    }
+    put_collected(&session, &mut totals, sink)?;
+    Ok(Answer::Yes)
+}
