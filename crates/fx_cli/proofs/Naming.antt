@@ -1,11 +1,11 @@
 -- Which words the command line takes, and what it makes of them.
-use Rattle.std.proofs.Common.{◌≡◌, ◌∙◌, ◌⊎◌, true, false, refl, sym, ap, ap₂, subst, arith, List, [], ◌∷◌, length, Option, Some, None, inl, inr, true≢false, codes}
+use Rattle.std.proofs.Common.{◌≡◌, ◌∙◌, ◌≤◌, ◌⊎◌, ℕ, true, false, refl, sym, ap, ap₂, subst, arith, List, [], ◌∷◌, length, Option, Some, None, inl, inr, true≢false, codes}
 use Rattle.std.specs.List.{fold}
 use Rattle.std.specs.Str.{bytes_eq}
 use Rattle.std.specs.Prelude.{unwrap_or, is_some, option_map}
 use Rattle.clap.specs.Words.{first_of, first_value, rows_of, HasMatchesOf, is_simple, is_simple_and_free, subcommand_rows_of, HasKind, kind_of, subcommand_name_of}
 use Rattle.clap.specs.Walk.{Held, Names, Row, Step, Text, Walk, after_step, walked, idle, nothing_held, value, word_met, walk, walk_from, subcommand_met, subcommand_or_other, finished, settled, rows_after}
-use Rattle.clap.specs.Simple.{subcommand_rows, App, built, entered, names_of, subcommand_of}
+use Rattle.clap.specs.Simple.{subcommand_rows, App, Shape, built, entered, names_of, subcommand_of}
 use Rattle.clap.specs.Kinds.{Kinds, or_else}
 use Rattle.clap.specs.Faults.{check_fault, entered_fault, defaults_fault, other_fault, fault_of, settle_fault, turn_fault, walk_fault, word_fault, step_fault}
 use Rattle.clap.specs.declared.parser.matches.ArgMatches.{ArgMatches}
@@ -16,28 +16,42 @@ use Rattle.clap.specs.declared.error.Error.{Error}
 use Rattle.clap.specs.declared.error.kind.ErrorKind.TheVariants.{OutOfMemory}
 use Rattle.std.specs.Prelude.{Box, IfSome, IsSome, Result, Ok, Err, MatchResult, IsErrAnd, string_bytes}
 use Rattle.std.specs.Box.{box_value}
-use Rattle.fx_cli.specs.declared.words.Call.TheVariants.{Replay}
+use Rattle.fx_cli.specs.declared.words.Call.TheVariants.{Collect, Replay}
 use Rattle.clap.proofs.WalkLemmas.{first_value-rows, walk_stopped}
 use Rattle.clap.proofs.FaultLemmas.{stopped_fault}
 use Rattle.std.proofs.lemmas.Slice.Eq.{bytes_eq-Decides}
 use Rattle.fx_cli.specs.Words.{NamesFiles, NamesNoCall, file_names, is_double_hyphen, is_flag}
 use Rattle.fx_cli.specs.CommandLine.{once_app}
-use Rattle.fx_cli.proofs.SingleWords.{Fails, fails_first, or_none, top, leaf, top_knows, bool_cases, plain_word, flag_word}
-use Rattle.fx_cli.proofs.FileWords.{rows_of_three, leaf_fault, LeafPasses, LeafFails, decide_leaf}
+use Rattle.fx_cli.proofs.SingleWords.{Fails, fails_first, or_none, top, top_knows, bool_cases, plain_word, flag_word}
+use Rattle.fx_cli.proofs.SingleWords as shapes
+use Rattle.fx_cli.proofs.FileWords.{CommandFails, CommandPasses, command_fault}
+use Rattle.fx_cli.proofs.ReplayWords.{decide_replay, replay_rows}
+use Rattle.fx_cli.proofs.CollectWords.{collect_rows, decide_collect}
 
 -- ---- the program's words
 
-record Takes (words : List Text) : Type 0 where
-  network : Text
-  traffic : Text
-  run : Text
-  named : NamesFiles words (codes "replay") (network ∷ traffic ∷ run ∷ [])
+-- the words name this command and so many files, and are taken
+record Takes (name : Text) (count : ℕ) (rows : List Text → List Row) (words : List Text) : Type 0 where
+  files : List Text
+  count_is : length files ≡ count
+  named : NamesFiles words name files
   takes : fault_of once_app words ≡ []
-  entered : subcommand_of once_app words ≡ Some (codes "replay", rows_of_three network traffic run)
+  entered : subcommand_of once_app words ≡ Some (name, rows files)
+
+abbrev TakesReplay : List Text → Type 0
+TakesReplay words = Takes (codes "replay") 3 replay_rows words
+
+abbrev TakesCollect : List Text → Type 0
+TakesCollect words = Takes (codes "collect") 2 collect_rows words
+
+-- the words name no so many files of this command
+abbrev Unnamed : Text → ℕ → List Text → Type 0
+Unnamed name count words = (files : List Text) → length files ≡ count → NamesFiles words name files → ⊥
 
 record Refuses (words : List Text) : Type 0 where
   fails : Fails (fault_of once_app words)
-  unnamed : (files : List Text) → length files ≡ 3 → NamesFiles words (codes "replay") files → ⊥
+  replay : Unnamed (codes "replay") 3 words
+  collect : Unnamed (codes "collect") 2 words
 
 abbrev commands : Names
 commands = names_of (built once_app)
@@ -48,7 +62,7 @@ top_end before end = or_else before (or_else (entered_fault (built once_app) end
     (or_else (defaults_fault (settled top.rules end.held).rows top.rules)
     (check_fault top (finished top.rules end.held) (is_some (entered (built once_app) end.stopped))))))
 
--- where the command `replay` was met
+-- where a command was met
 abbrev met : Text → List Text → Walk
 met command words = record (walk_from nothing_held) { stopped = Some (command, words) }
 
@@ -56,13 +70,25 @@ replay_walk : (rest : List Text) → fold (walked top.rules commands) (walked to
 unfolding walked
 replay_walk rest = sym (walk_stopped top.rules commands (walk_from nothing_held) (codes "replay") [] rest)
 
-replay_fault : (program : Text) (rest : List Text) → fault_of once_app (program ∷ codes "replay" ∷ rest) ≡ leaf_fault rest
+replay_fault : (program : Text) (rest : List Text) → fault_of once_app (program ∷ codes "replay" ∷ rest) ≡ command_fault shapes.replay rest
 unfolding walked walk_fault defaults_fault
 replay_fault program rest =
-    ap₂ top_end (stopped_fault top commands (walk_from nothing_held) (codes "replay", []) rest) (replay_walk rest) ∙ or_none (leaf_fault rest)
+    ap₂ top_end (stopped_fault top commands (walk_from nothing_held) (codes "replay", []) rest) (replay_walk rest) ∙ or_none (command_fault shapes.replay rest)
 
-replay_entered : (program : Text) (rest : List Text) → subcommand_of once_app (program ∷ codes "replay" ∷ rest) ≡ Some (codes "replay", rows_after leaf.rules [] rest)
+replay_entered : (program : Text) (rest : List Text) → subcommand_of once_app (program ∷ codes "replay" ∷ rest) ≡ Some (codes "replay", rows_after shapes.replay.rules [] rest)
 replay_entered program rest = ap (λ (w : Walk). entered (built once_app) w.stopped) (replay_walk rest)
+
+collect_walk : (rest : List Text) → fold (walked top.rules commands) (walked top.rules commands (walk_from nothing_held) (codes "collect")) rest ≡ met (codes "collect") rest
+unfolding walked
+collect_walk rest = sym (walk_stopped top.rules commands (walk_from nothing_held) (codes "collect") [] rest)
+
+collect_fault : (program : Text) (rest : List Text) → fault_of once_app (program ∷ codes "collect" ∷ rest) ≡ command_fault shapes.collect rest
+unfolding walked walk_fault defaults_fault
+collect_fault program rest =
+    ap₂ top_end (stopped_fault top commands (walk_from nothing_held) (codes "collect", []) rest) (collect_walk rest) ∙ or_none (command_fault shapes.collect rest)
+
+collect_entered : (program : Text) (rest : List Text) → subcommand_of once_app (program ∷ codes "collect" ∷ rest) ≡ Some (codes "collect", rows_after shapes.collect.rules [] rest)
+collect_entered program rest = ap (λ (w : Walk). entered (built once_app) w.stopped) (collect_walk rest)
 
 top_turn : (words : List Text) (program command : Text) → Fails (turn_fault top commands (walk_from nothing_held) command) → Fails (fault_of once_app (program ∷ command ∷ words))
 unfolding walk_fault
@@ -112,54 +138,88 @@ abbrev behind : List Text → List Text
 behind (program ∷ command ∷ rest) = rest
 behind _ = []
 
-replay_taken : (program : Text) (rest : List Text) → LeafPasses rest → Takes (program ∷ codes "replay" ∷ rest)
+replay_taken : (program : Text) (rest : List Text) → CommandPasses shapes.replay 3 replay_rows rest → TakesReplay (program ∷ codes "replay" ∷ rest)
 replay_taken program rest p = record {
-  network = p.network;
-  traffic = p.traffic;
-  run = p.run;
+  files = p.files;
+  count_is = p.count_is;
   named = record { program = program; rest = rest; words_are = refl; files_are = p.named };
   takes = replay_fault program rest ∙ p.passes;
-  entered = replay_entered program rest ∙ ap (λ rows. Some (codes "replay", rows)) p.rows;
+  entered = replay_entered program rest ∙ ap (λ rows. Some (codes "replay", rows)) p.rows_are;
 }
 
-replay_refused : (program : Text) (rest : List Text) → LeafFails rest → Refuses (program ∷ codes "replay" ∷ rest)
+collect_taken : (program : Text) (rest : List Text) → CommandPasses shapes.collect 2 collect_rows rest → TakesCollect (program ∷ codes "collect" ∷ rest)
+collect_taken program rest p = record {
+  files = p.files;
+  count_is = p.count_is;
+  named = record { program = program; rest = rest; words_are = refl; files_are = p.named };
+  takes = collect_fault program rest ∙ p.passes;
+  entered = collect_entered program rest ∙ ap (λ rows. Some (codes "collect", rows)) p.rows_are;
+}
+
+-- the word of another command names none of this one's files
+of_another : (name program command : Text) (rest : List Text) (count : ℕ) → bytes_eq name command ≡ false → Unnamed name count (program ∷ command ∷ rest)
+of_another name program command rest count other = λ files all n.
+    let same : bytes_eq name command ≡ true = (bytes_eq-Decides name command).1 (sym (ap second n.words_are)) in
+    absurd (true≢false (sym same ∙ other))
+
+of_this : (s : Shape) (name program : Text) (rest : List Text) (count : ℕ) → CommandFails s count rest → Unnamed name count (program ∷ name ∷ rest)
+of_this s name program rest count f = λ files all n. f.unnamed files all (ap file_names (ap behind n.words_are) ∙ n.files_are)
+
+replay_refused : (program : Text) (rest : List Text) → CommandFails shapes.replay 3 rest → Refuses (program ∷ codes "replay" ∷ rest)
 replay_refused program rest f = record {
   fails = subst Fails (sym (replay_fault program rest)) f.fails;
-  unnamed = λ files three n. f.unnamed files three (ap file_names (ap behind n.words_are) ∙ n.files_are);
+  replay = of_this shapes.replay (codes "replay") program rest 3 f;
+  collect = of_another (codes "collect") program (codes "replay") rest 2 refl;
 }
 
-other_refused : (program command : Text) (rest : List Text) → bytes_eq (codes "replay") command ≡ false → Fails (fault_of once_app (program ∷ command ∷ rest))
-    → Refuses (program ∷ command ∷ rest)
-other_refused program command rest other fails = record {
-  fails = fails;
-  unnamed = λ files three n.
-      let same : bytes_eq (codes "replay") command ≡ true = (bytes_eq-Decides (codes "replay") command).1 (sym (ap second n.words_are)) in
-      absurd (true≢false (sym same ∙ other));
+collect_refused : (program : Text) (rest : List Text) → CommandFails shapes.collect 2 rest → Refuses (program ∷ codes "collect" ∷ rest)
+collect_refused program rest f = record {
+  fails = subst Fails (sym (collect_fault program rest)) f.fails;
+  replay = of_another (codes "replay") program (codes "collect") rest 3 refl;
+  collect = of_this shapes.collect (codes "collect") program rest 2 f;
 }
 
-decide_words : (words : List Text) → Takes words ⊎ Refuses words
-unfolding walk_fault defaults_fault
-decide_words [] = inr (record {
-  fails = tt;
-  unnamed = λ files three n. let same = ap length n.words_are in absurd (omega (arith, same));
-})
-decide_words (program ∷ []) = inr (record {
-  fails = tt;
-  unnamed = λ files three n. let same = ap length n.words_are in absurd (omega (arith, same));
-})
-decide_words (program ∷ command ∷ rest) = elim (bool_cases (bytes_eq (codes "replay") command)) [
-  | inl is ↦
-      let same : codes "replay" ≡ command = (bytes_eq-Decides (codes "replay") command).0 is in
-      subst (λ c. Takes (program ∷ c ∷ rest) ⊎ Refuses (program ∷ c ∷ rest)) same (elim (decide_leaf rest) as (λ _. Takes (program ∷ codes "replay" ∷ rest) ⊎ Refuses (program ∷ codes "replay" ∷ rest)) [
-        | inl p ↦ inl (replay_taken program rest p)
-        | inr f ↦ inr (replay_refused program rest f)
-      ])
-  | inr other ↦ inr (other_refused program command rest other (elim (bool_cases (bytes_eq (codes "help") command)) [
+too_short : (name : Text) (count : ℕ) (words : List Text) → length words ≤ 1 → Unnamed name count words
+too_short name count words few = λ files all n. let same = ap length n.words_are in absurd (omega (arith, same, few))
+
+abbrev Decided : List Text → Type 0
+Decided words = TakesReplay words ⊎ (TakesCollect words ⊎ Refuses words)
+
+at_replay : (program : Text) (rest : List Text) → Decided (program ∷ codes "replay" ∷ rest)
+at_replay program rest = elim (decide_replay rest) as (λ _. Decided (program ∷ codes "replay" ∷ rest)) [
+  | inl p ↦ inl (replay_taken program rest p)
+  | inr f ↦ inr (inr (replay_refused program rest f))
+]
+
+at_collect : (program : Text) (rest : List Text) → Decided (program ∷ codes "collect" ∷ rest)
+at_collect program rest = elim (decide_collect rest) as (λ _. Decided (program ∷ codes "collect" ∷ rest)) [
+  | inl p ↦ inr (inl (collect_taken program rest p))
+  | inr f ↦ inr (inr (collect_refused program rest f))
+]
+
+-- neither of the two commands
+at_other : (program command : Text) (rest : List Text) → bytes_eq (codes "replay") command ≡ false → bytes_eq (codes "collect") command ≡ false → Refuses (program ∷ command ∷ rest)
+at_other program command rest first second = record {
+  fails = elim (bool_cases (bytes_eq (codes "help") command)) [
     | inl is ↦
         let same : codes "help" ≡ command = (bytes_eq-Decides (codes "help") command).0 is in
         subst (λ c. Fails (fault_of once_app (program ∷ c ∷ rest))) same (help_fails program rest)
-    | inr strange ↦ other_fails program command rest (rw (other, strange) refl)
-  ]))
+    | inr strange ↦ other_fails program command rest (rw (first, second, strange) refl)
+  ];
+  replay = of_another (codes "replay") program command rest 3 first;
+  collect = of_another (codes "collect") program command rest 2 second;
+}
+
+decide_words : (words : List Text) → Decided words
+unfolding walk_fault defaults_fault
+decide_words [] = inr (inr (record { fails = tt; replay = too_short (codes "replay") 3 [] (omega arith); collect = too_short (codes "collect") 2 [] (omega arith) }))
+decide_words (program ∷ []) = inr (inr (record { fails = tt; replay = too_short (codes "replay") 3 (program ∷ []) (omega arith); collect = too_short (codes "collect") 2 (program ∷ []) (omega arith) }))
+decide_words (program ∷ command ∷ rest) = elim (bool_cases (bytes_eq (codes "replay") command)) [
+  | inl is ↦ subst (λ c. Decided (program ∷ c ∷ rest)) ((bytes_eq-Decides (codes "replay") command).0 is) (at_replay program rest)
+  | inr first ↦ elim (bool_cases (bytes_eq (codes "collect") command)) [
+    | inl is ↦ subst (λ c. Decided (program ∷ c ∷ rest)) ((bytes_eq-Decides (codes "collect") command).0 is) (at_collect program rest)
+    | inr second ↦ inr (inr (at_other program command rest first second))
+  ]
 ]
 
 -- ---- what a parse gives
@@ -170,40 +230,53 @@ once_is_simple = refl
 once_is_free : is_simple_and_free once_app ≡ true
 once_is_free = refl
 
--- the matches of a command line that was taken
-pub record IsTaken (words : List Text) (m : ArgMatches) : Type 0 where
-  pub network : Text
-  pub traffic : Text
-  pub run : Text
-  pub named : NamesFiles words (codes "replay") (network ∷ traffic ∷ run ∷ [])
-  pub entered : subcommand_rows_of m ≡ Some (codes "replay", rows_of_three network traffic run)
+-- the matches of a command line that was taken, by this command
+pub record IsTakenBy (name : Text) (count : ℕ) (rows : List Text → List Row) (words : List Text) (m : ArgMatches) : Type 0 where
+  pub files : List Text
+  pub count_is : length files ≡ count
+  pub named : NamesFiles words name files
+  pub entered : subcommand_rows_of m ≡ Some (name, rows files)
+
+abbrev pub IsReplay : List Text → ArgMatches → Type 0
+IsReplay words m = IsTakenBy (codes "replay") 3 replay_rows words m
+
+abbrev pub IsCollect : List Text → ArgMatches → Type 0
+IsCollect words m = IsTakenBy (codes "collect") 2 collect_rows words m
 
 not_both : (k : Kinds) → k ≡ [] → Fails k → ⊥
 not_both k none fails = subst Fails none fails
 
-pub taken : (a : App) (words : List Text) (m : ArgMatches) → a ≡ once_app → HasMatchesOf a words m → (is_simple_and_free a ≡ true → fault_of a words ≡ []) → IsTaken words m
+takes_it : (a : App) (name : Text) (count : ℕ) (rows : List Text → List Row) (words : List Text) (m : ArgMatches) → a ≡ once_app → HasMatchesOf a words m → Takes name count rows words → IsTakenBy name count rows words m
+takes_it a name count rows words m same matches t = record {
+  files = t.files;
+  count_is = t.count_is;
+  named = t.named;
+  entered = (matches (ap is_simple same ∙ once_is_simple)).1 ∙ ap (λ (x : App). subcommand_of x words) same ∙ t.entered;
+}
+
+taken : (a : App) (words : List Text) (m : ArgMatches) → a ≡ once_app → HasMatchesOf a words m → (is_simple_and_free a ≡ true → fault_of a words ≡ []) → IsReplay words m ⊎ IsCollect words m
 taken a words m same matches kinds = elim (decide_words words) [
-  | inl t ↦ record {
-    network = t.network;
-    traffic = t.traffic;
-    run = t.run;
-    named = t.named;
-    entered = (matches (ap is_simple same ∙ once_is_simple)).1 ∙ ap (λ (x : App). subcommand_of x words) same ∙ t.entered;
-  }
-  | inr r ↦ absurd (not_both (fault_of once_app words) (ap (λ (x : App). fault_of x words) (sym same) ∙ kinds (ap is_simple_and_free same ∙ once_is_free)) r.fails)
+  | inl t ↦ inl (takes_it a (codes "replay") 3 replay_rows words m same matches t)
+  | inr (inl t) ↦ inr (takes_it a (codes "collect") 2 collect_rows words m same matches t)
+  | inr (inr r) ↦ absurd (not_both (fault_of once_app words) (ap (λ (x : App). fault_of x words) (sym same) ∙ kinds (ap is_simple_and_free same ∙ once_is_free)) r.fails)
 ]
 
-none_named : (words : List Text) → ((files : List Text) → length files ≡ 3 → NamesFiles words (codes "replay") files → ⊥) → NamesNoCall words
-none_named words h (Replay network traffic run) n = h (string_bytes network ∷ string_bytes traffic ∷ string_bytes run ∷ []) refl n
+none_named : (words : List Text) → Refuses words → NamesNoCall words
+none_named words r (Replay network traffic run) n = r.replay (string_bytes network ∷ string_bytes traffic ∷ string_bytes run ∷ []) refl n
+none_named words r (Collect network stream) n = r.collect (string_bytes network ∷ string_bytes stream ∷ []) refl n
+
+memory_alone : (a : App) (words : List Text) (e : Error) → a ≡ once_app → (is_simple_and_free a ≡ true → HasKind (fault_of a words) e) → fault_of once_app words ≡ [] → kind_of e ≡ OutOfMemory
+memory_alone a words e same kinds takes =
+    let none : fault_of a words ≡ [] = ap (λ (x : App). fault_of x words) same ∙ takes in
+    let there : HasKind [] e = subst (λ k. HasKind k e) none (kinds (ap is_simple_and_free same ∙ once_is_free)) in
+    elim there [ inl memory ↦ memory | inr nothing ↦ absurd nothing ]
 
 pub refused : (a : App) (words : List Text) (e : Error) → a ≡ once_app → (is_simple_and_free a ≡ true → HasKind (fault_of a words) e)
     → (kind_of e ≡ OutOfMemory) ⊎ NamesNoCall words
 refused a words e same kinds = elim (decide_words words) [
-  | inl t ↦
-      let none : fault_of a words ≡ [] = ap (λ (x : App). fault_of x words) same ∙ t.takes in
-      let there : HasKind [] e = subst (λ k. HasKind k e) none (kinds (ap is_simple_and_free same ∙ once_is_free)) in
-      elim there [ inl memory ↦ inl memory | inr nothing ↦ absurd nothing ]
-  | inr r ↦ inr (none_named words r.unnamed)
+  | inl t ↦ inl (memory_alone a words e same kinds t.takes)
+  | inr (inl t) ↦ inl (memory_alone a words e same kinds t.takes)
+  | inr (inr r) ↦ inr (none_named words r)
 ]
 
 pub passed_on : {T : Type 0} (r : Result T Error) (e : Error) (P : T → Type 0) (Q : Error → Type 0) → IsErrAnd r (λ y. y ≡ e) → Q e → MatchResult r P Q
@@ -217,11 +290,37 @@ name_of_rows m = go (out-ArgMatches m).subcommand
     go None = refl
     go (Some b) = refl
 
-pub taken_name : (words : List Text) (m : ArgMatches) → IsTaken words m → subcommand_name_of m ≡ Some (codes "replay")
-taken_name words m t = name_of_rows m ∙ ap (option_map (λ p. p.0)) t.entered
+taken_name : (name : Text) (count : ℕ) (rows : List Text → List Row) (words : List Text) (m : ArgMatches) → IsTakenBy name count rows words m → subcommand_name_of m ≡ Some name
+taken_name name count rows words m t = name_of_rows m ∙ ap (option_map (λ p. p.0)) t.entered
 
--- the value of each file's name, by the matches of the command
-pub record HasFiles (words : List Text) (found : Found) : Type 0 where
+some_same : (a b : Text) (o : Option Text) → o ≡ Some a → o ≡ Some b → a ≡ b
+some_same a b o x y = ap (λ (v : Option Text). unwrap_or v a) (sym x ∙ y)
+
+pub taken_collect : (a : App) (words : List Text) (m : ArgMatches) → a ≡ once_app → HasMatchesOf a words m → (is_simple_and_free a ≡ true → fault_of a words ≡ []) → subcommand_name_of m ≡ Some (codes "collect") → IsCollect words m
+taken_collect a words m same matches kinds name = elim (taken a words m same matches kinds) [
+  | inl t ↦
+      let other : codes "replay" ≡ codes "collect" = some_same _ _ (subcommand_name_of m) (taken_name (codes "replay") 3 replay_rows words m t) name in
+      absurd (true≢false (sym ((bytes_eq-Decides (codes "replay") (codes "collect")).1 other)))
+  | inr t ↦ t
+]
+
+pub taken_replay : (a : App) (words : List Text) (m : ArgMatches) → a ≡ once_app → HasMatchesOf a words m → (is_simple_and_free a ≡ true → fault_of a words ≡ []) → (subcommand_name_of m ≡ Some (codes "collect") → ⊥) → IsReplay words m
+taken_replay a words m same matches kinds other = elim (taken a words m same matches kinds) [
+  | inl t ↦ t
+  | inr t ↦ absurd (other (taken_name (codes "collect") 2 collect_rows words m t))
+]
+
+pub replay_name : (words : List Text) (m : ArgMatches) → IsReplay words m → subcommand_name_of m ≡ Some (codes "replay")
+replay_name words m t = taken_name (codes "replay") 3 replay_rows words m t
+
+-- ---- the values that are found
+
+-- this name's value, by the rows that a command's matches have
+value_by : (found : Found) (id name : Text) (rows : List Row) → rows_of found ≡ rows → first_of id rows ≡ Some name → first_value found id ≡ Some name
+value_by found id name rows same is = first_value-rows found id ∙ ap (first_of id) same ∙ is
+
+-- the values of a replay's three names
+pub record HasReplay (words : List Text) (found : Found) : Type 0 where
   pub network : Text
   pub traffic : Text
   pub run : Text
@@ -230,36 +329,75 @@ pub record HasFiles (words : List Text) (found : Found) : Type 0 where
   pub traffic_is : first_value found (codes "TRAFFIC") ≡ Some traffic
   pub run_is : first_value found (codes "RUN") ≡ Some run
 
-pub has_files : (words : List Text) (m : ArgMatches) (found : Found) → IsTaken words m → option_map (λ p. p.1) (subcommand_rows_of m) ≡ Some (rows_of found) → HasFiles words found
-has_files words m found t rows =
-    let all = rows_of_three t.network t.traffic t.run in
-    let same : rows_of found ≡ all = ap (λ (o : Option (List Row)). unwrap_or o all) (sym rows ∙ ap (option_map (λ p. p.1)) t.entered) in
-    record {
-      network = t.network;
-      traffic = t.traffic;
-      run = t.run;
-      named = t.named;
-      network_is = first_value-rows found (codes "NETWORK") ∙ ap (first_of (codes "NETWORK")) same;
-      traffic_is = first_value-rows found (codes "TRAFFIC") ∙ ap (first_of (codes "TRAFFIC")) same;
-      run_is = first_value-rows found (codes "RUN") ∙ ap (first_of (codes "RUN")) same;
-    }
+replay_of : (words : List Text) (found : Found) (files : List Text) → length files ≡ 3 → NamesFiles words (codes "replay") files → rows_of found ≡ replay_rows files → HasReplay words found
+replay_of words found [] all named rows = absurd (omega (arith, all))
+replay_of words found (a ∷ []) all named rows = absurd (omega (arith, all))
+replay_of words found (a ∷ b ∷ []) all named rows = absurd (omega (arith, all))
+replay_of words found (a ∷ b ∷ c ∷ []) all named rows = record {
+  network = a;
+  traffic = b;
+  run = c;
+  named = named;
+  network_is = value_by found (codes "NETWORK") a (replay_rows (a ∷ b ∷ c ∷ [])) rows refl;
+  traffic_is = value_by found (codes "TRAFFIC") b (replay_rows (a ∷ b ∷ c ∷ [])) rows refl;
+  run_is = value_by found (codes "RUN") c (replay_rows (a ∷ b ∷ c ∷ [])) rows refl;
+}
+replay_of words found (a ∷ b ∷ c ∷ d ∷ others) all named rows = absurd (omega (arith, all))
+
+-- the values of a collection's two names
+pub record HasCollect (words : List Text) (found : Found) : Type 0 where
+  pub network : Text
+  pub stream : Text
+  pub named : NamesFiles words (codes "collect") (network ∷ stream ∷ [])
+  pub network_is : first_value found (codes "NETWORK") ≡ Some network
+  pub stream_is : first_value found (codes "STREAM") ≡ Some stream
+
+collect_of : (words : List Text) (found : Found) (files : List Text) → length files ≡ 2 → NamesFiles words (codes "collect") files → rows_of found ≡ collect_rows files → HasCollect words found
+collect_of words found [] all named rows = absurd (omega (arith, all))
+collect_of words found (a ∷ []) all named rows = absurd (omega (arith, all))
+collect_of words found (a ∷ b ∷ []) all named rows = record {
+  network = a;
+  stream = b;
+  named = named;
+  network_is = value_by found (codes "NETWORK") a (collect_rows (a ∷ b ∷ [])) rows refl;
+  stream_is = value_by found (codes "STREAM") b (collect_rows (a ∷ b ∷ [])) rows refl;
+}
+collect_of words found (a ∷ b ∷ c ∷ others) all named rows = absurd (omega (arith, all))
+
+same_rows : (name : Text) (count : ℕ) (rows : List Text → List Row) (words : List Text) (m : ArgMatches) (found : Found) (t : IsTakenBy name count rows words m)
+    → option_map (λ p. p.1) (subcommand_rows_of m) ≡ Some (rows_of found) → rows_of found ≡ rows t.files
+same_rows name count rows words m found t e = ap (λ (o : Option (List Row)). unwrap_or o (rows t.files)) (sym e ∙ ap (option_map (λ p. p.1)) t.entered)
+
+pub has_replay : (words : List Text) (m : ArgMatches) (found : Found) → IsReplay words m → option_map (λ p. p.1) (subcommand_rows_of m) ≡ Some (rows_of found) → HasReplay words found
+has_replay words m found t e = replay_of words found t.files t.count_is t.named (same_rows (codes "replay") 3 replay_rows words m found t e)
+
+pub has_collect : (words : List Text) (m : ArgMatches) (found : Found) → IsCollect words m → option_map (λ p. p.1) (subcommand_rows_of m) ≡ Some (rows_of found) → HasCollect words found
+has_collect words m found t e = collect_of words found t.files t.count_is t.named (same_rows (codes "collect") 2 collect_rows words m found t e)
 
 pub has_first : (found : Found) (id name : Text) → first_value found id ≡ Some name → IsSome (first_value found id)
 has_first found id name is = subst (λ (o : Option Text). IsSome o) (sym is) refl
 
-pub same_file : (found : Found) (id name file : Text) → first_value found id ≡ Some file → first_value found id ≡ Some name → file ≡ name
+same_file : (found : Found) (id name file : Text) → first_value found id ≡ Some file → first_value found id ≡ Some name → file ≡ name
 same_file found id name file a b = ap (λ (o : Option Text). unwrap_or o file) (sym a ∙ b)
 
 pub if_some : {X : Type 0} (o : Option X) (x : X) (P : X → Type 0) → o ≡ Some x → IfSome o P → P x
 if_some o x P is h = subst (λ v. IfSome v P) is h
 
 -- the words name the values that are there
-pub with_files : (words : List Text) (found : Found) → HasFiles words found → (network traffic run : Text) → first_value found (codes "NETWORK") ≡ Some network
+pub with_replay : (words : List Text) (found : Found) → HasReplay words found → (network traffic run : Text) → first_value found (codes "NETWORK") ≡ Some network
     → first_value found (codes "TRAFFIC") ≡ Some traffic → first_value found (codes "RUN") ≡ Some run
     → NamesFiles words (codes "replay") (network ∷ traffic ∷ run ∷ [])
-with_files words found f network traffic run n t r =
+with_replay words found f network traffic run n t r =
     subst (NamesFiles words (codes "replay"))
     (λ i. same_file found (codes "NETWORK") network f.network f.network_is n i
     ∷ same_file found (codes "TRAFFIC") traffic f.traffic f.traffic_is t i
     ∷ same_file found (codes "RUN") run f.run f.run_is r i ∷ [])
+    f.named
+
+pub with_collect : (words : List Text) (found : Found) → HasCollect words found → (network stream : Text) → first_value found (codes "NETWORK") ≡ Some network
+    → first_value found (codes "STREAM") ≡ Some stream → NamesFiles words (codes "collect") (network ∷ stream ∷ [])
+with_collect words found f network stream n t =
+    subst (NamesFiles words (codes "collect"))
+    (λ i. same_file found (codes "NETWORK") network f.network f.network_is n i
+    ∷ same_file found (codes "STREAM") stream f.stream f.stream_is t i ∷ [])
     f.named

@@ -23,6 +23,10 @@ a_call_has_no_fault : fault_of once_app (codes "once" ∷ codes "replay" ∷ cod
 unfolding clap_on_literals
 a_call_has_no_fault = refl
 
+a_stream_call_has_no_fault : fault_of once_app (codes "once" ∷ codes "collect" ∷ codes "a" ∷ codes "b" ∷ []) ≡ []
+unfolding clap_on_literals
+a_stream_call_has_no_fault = refl
+
 -- help is asked for by a flag or as a command
 help_flag : fault_of once_app (codes "once" ∷ codes "--help" ∷ []) ≡ DisplayHelp ∷ []
 unfolding clap_on_literals

@@ -10,8 +10,15 @@ file_rule name = record (new_rule name) { required = true }
 abbrev pub over_documents : Text → Rule → App
 over_documents command third = with_rule (with_rule (with_rule (new_app command) (file_rule (codes "NETWORK"))) (file_rule (codes "TRAFFIC"))) third
 
+-- a command over a network and another file
+abbrev pub over_network : Text → Rule → App
+over_network command file = with_rule (with_rule (new_app command) (file_rule (codes "NETWORK"))) file
+
 abbrev pub wants_command : Shape → Shape
 wants_command s = record s { subcommand_required = true }
 
 abbrev pub once_app : App
-once_app = with_subcommand (on_top wants_command (new_app (codes "once"))) (over_documents (codes "replay") (file_rule (codes "RUN"))).top
+once_app =
+    let replay = over_documents (codes "replay") (file_rule (codes "RUN")) in
+    let collect = over_network (codes "collect") (file_rule (codes "STREAM")) in
+    with_subcommand (with_subcommand (on_top wants_command (new_app (codes "once"))) replay.top) collect.top

@@ -13,7 +13,7 @@ use crate::ending::finish;
 use crate::files::open;
 use crate::words::{Call, read_words};
 use crate::words_ending::{finish_unread, finish_words};
-use fx_audit::{Answer, bundle_bytes, replay_bytes};
+use fx_audit::{Answer, bundle_bytes, collect_bytes, replay_bytes};
 use fx_base::{Fault, LineReader, Outside, Sink};
 use std::env;
 use std::io::{self, BufWriter, Write};
@@ -44,6 +44,11 @@ pub(crate) fn answer_call<R: AllocGlobal + Files, S: Sink>(
             let run = open(rt, run.as_str())?;
             let mut lines = LineReader::new(rt.alloc(), run)?;
             replay_bytes(rt.alloc(), &mut network, &mut traffic, &mut lines, sink)
+        }
+        Call::Collect { network, stream } => {
+            let mut network = open(rt, network.as_str())?;
+            let mut stream = open(rt, stream.as_str())?;
+            collect_bytes(rt.alloc(), &mut network, &mut stream, sink)
         }
     }
 }

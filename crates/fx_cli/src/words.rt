@@ -2,7 +2,7 @@
 ghost use Rattle.std.specs.Prelude.{◌≡◌, ◌⊎◌, IfErr, IfOk, IsSome, MatchResult, false, map, Some, string_bytes};
 ghost use Rattle.clap.specs.Words.{app_of, fault_of, first_value, found_of, HasKind, kind_of, rule_of};
 ghost use Rattle.clap.specs.declared.builder.command.Command.TheViews.{out-Command};
-ghost use Rattle.fx_cli.specs.CommandLine.{file_rule, once_app, over_documents};
+ghost use Rattle.fx_cli.specs.CommandLine.{file_rule, once_app, over_documents, over_network};
 ghost use Rattle.fx_cli.specs.Words.{Names, NamesNoCall};
 
 use clap::error::ErrorKind;
@@ -20,6 +20,13 @@ pub enum Call {
         traffic: String,
         /// The run's text.
         run: String,
+    },
+    /// Collects a stream at the report of a network.
+    Collect {
+        /// The network document.
+        network: String,
+        /// The IPFIX stream.
+        stream: String,
     },
 }
 
@@ -51,6 +58,24 @@ fn over_documents<'a>(
         .arg(third)
 }
 
+/// A command over a network and another file.
+fn over_network<'a>(
+    alloc: Global,
+    name: &'a str,
+    about: &'a str,
+    second: Arg<'a>,
+) -> Result<Command<'a>, AllocError>
+    requires { second.global ≡ false }
+    ensures app { IfOk result (λ c. app_of c ≡ over_network name.entry.now (rule_of second.entry)) }
+    ensures local { IfOk result (λ c. (out-Command c).has_globals ≡ false) }
+{
+    let network = file(alloc, "NETWORK", "The network document (JSON)");
+    Command::new(alloc, name)
+        .about(about)
+        .arg(network)?
+        .arg(second)
+}
+
 /// The program's command line.
 fn command_line<'a>(alloc: Global) -> Result<Command<'a>, AllocError>
     ensures { IfOk result (λ c. app_of c ≡ once_app) }
@@ -62,13 +87,21 @@ fn command_line<'a>(alloc: Global) -> Result<Command<'a>, AllocError>
         "Replays a run, and prints the collector's totals in its last state",
         run,
     )?;
+    let stream = file(alloc, "STREAM", "The IPFIX stream (messages in octets)");
+    let collect = over_network(
+        alloc,
+        "collect",
+        "Collects an IPFIX stream, and prints the totals of its flow records",
+        stream,
+    )?;
     Command::new(alloc, "once")
         .about("An auditor for IP flow metering")
         .after_help(
             "With no words, a bundle (a command and its files in one text) is read from standard input.",
         )
         .subcommand_required(true)
-        .subcommand(replay)
+        .subcommand(replay)?
+        .subcommand(collect)
 }
 
 /// The name of a file that the words give.
@@ -89,6 +122,12 @@ pub fn read_words(alloc: Global, words: &[String]) -> Result<Call, Error>
     ensures kinds { IfErr result (HasKind (fault_of once_app (map string_bytes words.now))) }
 {
     let matches = command_line(alloc)?.try_get_matches_from(words)?;
+    if let Some(found) = matches.subcommand_matches("collect") {
+        return Ok(Call::Collect {
+            network: file_name(alloc, found, "NETWORK")?,
+            stream: file_name(alloc, found, "STREAM")?,
+        });
+    }
     let found = matches.subcommand_matches("replay").unwrap();
     Ok(Call::Replay {
         network: file_name(alloc, found, "NETWORK")?,

@@ -16,18 +16,20 @@ fn words(alloc: Global, line: &str) -> Result<Vec<String>, AllocError> {
     Ok(words)
 }
 
-/// The files of the replay that the words name, each behind a bar.
+/// The files of the call that the words name, each behind a bar.
 fn files(alloc: Global, line: &str) -> Result<String, AllocError> {
     let words = words(alloc, line)?;
     let Ok(call) = read_words(alloc, words.as_slice()) else {
         return Ok(String::new(alloc));
     };
-    let Call::Replay {
-        network,
-        traffic,
-        run,
-    } = call;
-    format!(in alloc; "|{network}|{traffic}|{run}")
+    match call {
+        Call::Replay {
+            network,
+            traffic,
+            run,
+        } => format!(in alloc; "|{network}|{traffic}|{run}"),
+        Call::Collect { network, stream } => format!(in alloc; "|{network}|{stream}"),
+    }
 }
 
 /// The exit status of words that name no call, with whether a text was written.
@@ -51,6 +53,8 @@ fn reads_words(rt: HostRuntime) -> Result<(), Fail> {
     assert!(rt; plain.as_str() == "|net.json|traffic.json|run.txt");
     let hyphens = files(alloc, "./a/b replay - -- -x --")?;
     assert!(rt; hyphens.as_str() == "|-|-x|--");
+    let two = files(alloc, "once collect net.json stream.ipfix")?;
+    assert!(rt; two.as_str() == "|net.json|stream.ipfix");
     Ok(())
 }
 
@@ -64,6 +68,7 @@ fn ends_words_that_name_no_call(rt: HostRuntime) -> Result<(), Fail> {
     assert!(rt; ends_words(alloc, "once replay a b")? == Some((6, true)));
     assert!(rt; ends_words(alloc, "once replay a b c d")? == Some((6, true)));
     assert!(rt; ends_words(alloc, "once replay a -x c")? == Some((6, true)));
+    assert!(rt; ends_words(alloc, "once collect a b c")? == Some((6, true)));
     Ok(())
 }
 
@@ -118,6 +123,28 @@ fn opens_all_files_first(rt: HostRuntime) -> Result<(), Fail> {
     assert_eq!(rt; refusal(&rt, "/dev/null", "/dev/null")?, 101);
     assert_eq!(rt; refusal(&rt, "/dev/null", "/dev/null/none")?, 901);
     assert_eq!(rt; refusal(&rt, "/dev/null/none", "/dev/null")?, 901);
+    Ok(())
+}
+
+/// The number of the refusal of collecting this stream at a network.
+fn collect_refusal(rt: &HostRuntime, network: &str, stream: &str) -> Result<u16, AllocError> {
+    let alloc = rt.alloc();
+    let call = Call::Collect {
+        network: String::from_str(alloc, network)?,
+        stream: String::from_str(alloc, stream)?,
+    };
+    let mut octets = [0u8; 64];
+    let mut room = Room::new(&mut octets);
+    Ok(match answer_call(rt, &call, &mut room) {
+        Ok(_) => 0,
+        Err(fault) => fault.number,
+    })
+}
+
+#[test]
+fn opens_both_files_first(rt: HostRuntime) -> Result<(), Fail> {
+    assert_eq!(rt; collect_refusal(&rt, "/dev/null", "/dev/null")?, 101);
+    assert_eq!(rt; collect_refusal(&rt, "/dev/null", "/dev/null/none")?, 901);
     Ok(())
 }
 
