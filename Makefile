@@ -25,10 +25,11 @@ replay: once
 rows: once
 	python3 tests/rows.py ./once
 
-# Replays the examples and compares with what they should print.
+# Replays the runs of the examples and compares with what they should print.
 examples: once
-	for example in examples/*/; do \
-	  ./once replay $$example/network.json $$example/traffic.json $$example/run.txt | diff - $$example/totals.txt || exit 1; \
+	for run in examples/*/run*.txt; do \
+	  example=$$(dirname $$run); \
+	  ./once replay $$example/network.json $$example/traffic.json $$run | diff - $$example/totals$${run##*/run} || exit 1; \
 	done
 
 clean:
