@@ -86,14 +86,16 @@ fn refuses_the_network_before_the_stream(rt: HostRuntime) {
     assert!(rt; is_refused(alloc, NETWORK, &FIRST[..59], &Fault::at_octet(612, 0)));
 }
 
+/// The stream's first piece is read, and then a read fails.
 #[test]
 fn fails_with_its_devices(rt: HostRuntime) -> Result<(), Fail> {
     let mut network = Octets::new(NETWORK);
-    let mut stream = Fuse::new(Octets::new(&FIRST), 1);
-    let mut octets = [0u8; 8];
+    let mut stream = Fuse::new(Octets::new(&FIRST), 2);
+    let mut octets = [0u8; 256];
     let mut room = Room::new(&mut octets);
     let outcome = collect_bytes(rt.alloc(), &mut network, &mut stream, &mut room);
     assert_eq!(rt; outcome.err().map(|fault| fault.number), Some(901));
+    assert!(rt; room.octets().is_empty());
     Ok(())
 }
 
