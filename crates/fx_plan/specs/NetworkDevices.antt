@@ -1,5 +1,5 @@
 -- The devices of a network document.
-use Rattle.std.specs.Prelude.{ℕ, List, [], ◌∷◌, codes}
+use Rattle.std.specs.Prelude.{ℕ, List, [], ◌∷◌, codes, length, sum_by}
 use Rattle.serde_json.specs.Data.{Data}
 use Rattle.fx_config.specs.Walk.{Found, Row, object_faults, required, member_of}
 use Rattle.fx_config.specs.Lists.{name_once}
@@ -21,3 +21,7 @@ network_device_of d = record {
   name = text_of (member_of (codes "name") d);
   config = device_of (member_of (codes "config") d);
 }
+
+-- how many collecting processes they have
+abbrev pub process_count : List NetworkDevice → ℕ
+process_count devices = sum_by (λ x. length x.config.collecting_processes) devices

@@ -1,16 +1,17 @@
 -- Network documents: devices, the links between them, and the report that is asked for.
-use Rattle.std.specs.Prelude.{ℕ, List, [], ◌∷◌, codes, map, Option}
+use Rattle.std.specs.Prelude.{ℕ, List, [], ◌∷◌, codes, map, nat_lt, Option}
 use Rattle.std.specs.Option.{option_map}
 use Rattle.serde_json.specs.Data.{Data}
 use Rattle.fx_machine.specs.Network.{numbered}
 use Rattle.fx_config.specs.declared.ipfix.Device.{Device}
-use Rattle.fx_config.specs.Walk.{Found, Row, object_faults, required, member_of}
+use Rattle.fx_config.specs.Pointer.{below}
+use Rattle.fx_config.specs.Walk.{Found, Row, object_faults, required, then_check, fault_if, member_of}
 use Rattle.fx_config.specs.Lists.{items_of}
-use Rattle.fx_plan.specs.declared.limits.TheConstants.{DEVICES}
+use Rattle.fx_plan.specs.declared.limits.TheConstants.{DEVICES, PROCESSES}
 use Rattle.fx_plan.specs.declared.network.Network.{Network}
 use Rattle.fx_plan.specs.declared.network_device.NetworkDevice.{NetworkDevice}
 use Rattle.fx_plan.specs.RequiredLists.{required_entries}
-use Rattle.fx_plan.specs.NetworkDevices.{network_device_faults, network_device_of}
+use Rattle.fx_plan.specs.NetworkDevices.{network_device_faults, network_device_of, process_count}
 use Rattle.fx_plan.specs.Links.{link_of, links_row}
 use Rattle.fx_plan.specs.Reports.{report_faults, report_of}
 
@@ -21,6 +22,7 @@ devices_of d = map network_device_of (items_of (member_of (codes "devices") d))
 abbrev pub network_rows : List NetworkDevice → List Row
 network_rows devices =
     required_entries DEVICES (codes "devices") network_device_faults (λ d. (network_device_of d).name)
+    ∷ then_check (λ up d. fault_if (nat_lt PROCESSES (process_count devices)) 115 (below up (codes "devices")))
     ∷ links_row devices
     ∷ required (codes "report") (report_faults devices)
     ∷ []

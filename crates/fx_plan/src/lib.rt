@@ -4,7 +4,7 @@
 mod ends;
 mod exporters;
 mod holders;
-mod key_field;
+mod key_layout;
 mod labels;
 mod limits;
 mod link;
@@ -13,12 +13,12 @@ mod network;
 mod network_device;
 mod plan;
 mod points;
+mod process_count;
 mod processes;
 mod refuse;
 mod report;
 mod required_list;
 
-pub use key_field::KeyField;
 pub use link::Link;
 pub use network::{Network, read_network};
 pub use network_device::NetworkDevice;

@@ -1,10 +1,13 @@
-//! How many entries the lists of a network document may have.
+//! How much a network document may have.
 
 /// The greatest number of devices.
-pub const DEVICES: usize = 2;
+pub const DEVICES: usize = 64;
 
 /// The greatest number of links.
-pub const LINKS: usize = 1;
+pub const LINKS: usize = 1024;
+
+/// The greatest number of collecting processes, of all devices together.
+pub const PROCESSES: usize = 256;
 
 /// The greatest number of fields of the report's key.
-pub const KEY_FIELDS: usize = 6;
+pub const KEY_FIELDS: usize = 32;

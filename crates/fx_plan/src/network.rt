@@ -8,6 +8,7 @@ use crate::limits::DEVICES;
 use crate::link::Link;
 use crate::links::links_member;
 use crate::network_device::NetworkDevice;
+use crate::process_count::processes_are_few;
 use crate::report::{Report, report_member};
 use crate::required_list::required_entries;
 use fx_base::Fault;
@@ -16,7 +17,7 @@ use serde_json::Value;
 use std::alloc::Global;
 
 /// What a network document says. The ends of each link are there, no two links lead from one destination, the
-/// report's collecting process is there, and its key is made of axes, none twice.
+/// report's collecting process is there, and its key is made of axes and leading bits of addresses, no axis twice.
 #[derive(Debug, Drop)]
 pub struct Network {
     /// The devices, in document order, as all its lists.
@@ -38,6 +39,7 @@ impl FromValue for Network {
             alloc, path, value, "devices", DEVICES,
         )?;
         let known = devices.as_slice();
+        processes_are_few(alloc, path, known)?;
         let links = links_member(alloc, path, value, known)?;
         let report = report_member(alloc, path, value, known)?;
         Ok(Network {
@@ -52,10 +54,11 @@ impl FromValue for Network {
 /// the document. That of a device's configuration stands below `/devices/i/config`.
 ///
 /// 102 a member that may not be there, 103 one that is missing, 104 a value of another kind, 105 a value that
-/// isn't allowed, 106 a name twice, 115 too many entries, 107, 111, 112 and 114 as in a device's own document;
-/// 201 a link whose device, exporting process, destination or collecting process isn't there, 202 a second link
-/// of one destination, 205 a report whose collecting process isn't there, 206 one with a key field that is no
-/// axis or with an axis twice; 900, at no place, for want of memory.
+/// isn't allowed, 106 a name twice, 115 too many entries, or too many collecting processes of all devices
+/// together, 107 to 114 as in a device's own document; 201 a link whose device, exporting process, destination or
+/// collecting process isn't there, 202 a second link of one destination, 205 a report whose collecting process
+/// isn't there, 206 one with a key field that is no part of an axis or with an axis twice; 900, at no place, for
+/// want of memory.
 pub fn read_network(alloc: Global, value: &Value) -> Result<Network, Fault>
     ensures { Reads (network_faults [] (view value.now)) (network_of (view value.now)) result }
 {

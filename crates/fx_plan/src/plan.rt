@@ -8,7 +8,7 @@ ghost use Rattle.fx_plan.specs.Tables as tables;
 
 use crate::exporters::exporters_of;
 use crate::holders::cache_holders;
-use crate::key_field::key_layout;
+use crate::key_layout::layout_of;
 use crate::labels::{cache_labels, collecting_labels, exporting_labels, place};
 use crate::network::{Network, read_network};
 use crate::points::tables_of;
@@ -24,7 +24,7 @@ use std::marker::Model;
 fn report_layout_of(network: &Network) -> Layout
     ensures { result ≡ tables.report_layout_of network.now }
 {
-    match key_layout(network.report.key.as_slice()) {
+    match layout_of(network.report.key.as_slice()) {
         Some(layout) => layout,
         None => Layout::new(),
     }

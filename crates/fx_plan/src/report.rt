@@ -6,12 +6,13 @@ ghost use Rattle.fx_config.specs.Walk.{Reads, fault_if, member_of, required};
 ghost use Rattle.fx_plan.specs.Reports.{has_place, key_layout, report_faults, report_of};
 
 use crate::ends::has_collecting_process;
-use crate::key_field::{KeyField, key_layout};
+use crate::key_layout::layout_of;
 use crate::limits::KEY_FIELDS;
 use crate::network_device::NetworkDevice;
 use crate::refuse::refuse_if;
 use crate::required_list::required_items;
 use fx_base::{Fault, Name};
+use fx_config::KeyField;
 use fx_config::walk::{Path, Sequence, object_of, refusal, required_member};
 use serde_json::Value;
 use std::alloc::Global;
@@ -23,7 +24,7 @@ pub struct Report {
     pub device: Name,
     /// The collecting process, on that device.
     pub collecting_process: Name,
-    /// The fields of the key: axes, none twice.
+    /// The fields of the key: axes or the leading bits of addresses, no axis twice.
     pub key: Sequence<KeyField>,
 }
 
@@ -40,11 +41,11 @@ fn process_is_there(
     refuse_if(alloc, path, 205, !there)
 }
 
-/// Refuses a report at the path with a key field that is no axis, or with an axis twice (206).
+/// Refuses a report at the path with a key field that stands for no part of an axis, or with an axis twice (206).
 fn key_is_axes(alloc: Global, path: &Path<'_>, report: &Report) -> Result<(), Fault>
     ensures { Reads (fault_if (not (is_some (key_layout report.now.key))) 206 (pointer path.now)) tt result }
 {
-    let fails = key_layout(report.key.as_slice()).is_none();
+    let fails = layout_of(report.key.as_slice()).is_none();
     refuse_if(alloc, path, 206, fails)
 }
 

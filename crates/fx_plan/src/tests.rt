@@ -63,6 +63,7 @@ fn reads_a_network(rt: HostRuntime) -> Result<(), Fail> {
         return Err(Fail::from("one key field"));
     };
     assert_eq!(rt; field.element, Element::OnAxis(Axis::Source));
+    assert_eq!(rt; field.prefix_length, None);
     Ok(())
 }
 
@@ -74,18 +75,40 @@ fn refuses_wrong_networks(rt: HostRuntime) -> Result<(), Fail> {
         (r#"{"a/b":1}"#, "102 /a~1b"),
         (r#"{"devices":[]}"#, "103 "),
         (r#"{"devices":{},"links":[]}"#, "104 /devices"),
-        (r#"{"devices":[{},{},{}]}"#, "115 /devices"),
         (
             r#"{"devices":[{"name":"a","config":{}}]}"#,
             "103 /devices/0/config",
         ),
-        (r#"{"devices":[],"links":[{},{}]}"#, "115 /links"),
         (r#"{"devices":[],"links":[{}]}"#, "103 /links/0"),
         (r#"{"devices":[],"links":[]}"#, "103 "),
     ];
     for (text, wanted) in rows {
         assert_eq!(rt; outcome(rt.alloc(), text)?.as_str(), wanted);
     }
+    Ok(())
+}
+
+/// A list of so many empty objects.
+fn empty_objects(alloc: Global, count: usize) -> Result<String, Fail> {
+    let mut text = String::from_str(alloc, "[{}")?;
+    for _ in 1..count {
+        text.push_str(",{}")?;
+    }
+    text.push_str("]")?;
+    Ok(text)
+}
+
+#[test]
+fn refuses_too_many_devices_and_links(rt: HostRuntime) -> Result<(), Fail> {
+    let objects = empty_objects(rt.alloc(), 65)?;
+    let text = format!(in rt.alloc(); "{{\"devices\":{objects}}}")?;
+    assert_eq!(rt;
+        outcome(rt.alloc(), text.as_str())?.as_str(),
+        "115 /devices"
+    );
+    let objects = empty_objects(rt.alloc(), 1025)?;
+    let text = format!(in rt.alloc(); "{{\"devices\":[],\"links\":{objects}}}")?;
+    assert_eq!(rt; outcome(rt.alloc(), text.as_str())?.as_str(), "115 /links");
     Ok(())
 }
 
@@ -141,6 +164,18 @@ fn refuses_wrong_reports(rt: HostRuntime) -> Result<(), Fail> {
         (
             r#""report":{"device":"c1","collectingProcess":"cp"}"#,
             "103 /report",
+        ),
+        (
+            r#""report":{"device":"c1","collectingProcess":"cp","key":[{"ieId":44}]}"#,
+            "103 /report/key/0",
+        ),
+        (
+            r#""report":{"device":"c1","collectingProcess":"cp","key":[{"ieId":8,"prefixLength":16}]}"#,
+            "206 /report",
+        ),
+        (
+            r#""report":{"device":"c1","collectingProcess":"cp","key":[{"ieId":44,"prefixLength":16}]}"#,
+            "ok",
         ),
         (
             r#""report":{"device":"c1","collectingProcess":"cp","key":[]}"#,
