@@ -1,2 +1,5 @@
 pub mod Linking
 pub mod Nets
+pub mod Comings
+pub mod Ranked
+pub mod Ranges

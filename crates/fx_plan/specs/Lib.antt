@@ -5,3 +5,5 @@ pub mod Reports
 pub mod Networks
 pub mod Labels
 pub mod Tables
+pub mod Feeding
+pub mod Ranks

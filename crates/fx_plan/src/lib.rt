@@ -3,6 +3,7 @@
 
 mod ends;
 mod exporters;
+mod feeders;
 mod holders;
 mod key_layout;
 mod labels;
