@@ -1,7 +1,7 @@
 -- Which collecting processes feed which: a process feeds those to which what it sends, and what its aggregations
 -- send, can be carried.
-use Rattle.std.specs.Prelude.{ℕ, ◌==◌, Bool, true, false, ◌||◌, List, length, map, Option, Some, None, slice_get}
-use Rattle.std.specs.List.{list_any, range_with_len}
+use Rattle.std.specs.Prelude.{ℕ, ◌==◌, Bool, true, false, not, ◌||◌, List, length, map, zip, Option, Some, None, slice_get}
+use Rattle.std.specs.List.{list_any, list_all, range_with_len}
 use Rattle.fx_machine.specs.Network.{Net, Exporter, Process, at_places, exporters_of}
 
 abbrev pub is_place : ℕ → Option ℕ → Bool
@@ -38,3 +38,7 @@ places_of net = range_with_len 0 (length net.processes)
 -- for each process whether it feeds this one
 abbrev pub feeders : Net → ℕ → List Bool
 feeders net process = map (λ from. feeds net from process) (places_of net)
+
+-- of all that feed a process each has come
+abbrev pub have_come : List Bool → List Bool → Bool
+have_come feeders come = list_all (λ x. not x.0 || x.1) (zip feeders come)

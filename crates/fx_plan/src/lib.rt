@@ -16,6 +16,7 @@ mod plan;
 mod points;
 mod process_count;
 mod processes;
+mod rank_order;
 mod refuse;
 mod report;
 mod required_list;
