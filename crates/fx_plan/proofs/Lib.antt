@@ -3,3 +3,4 @@ pub mod Nets
 pub mod Comings
 pub mod Ranked
 pub mod Ranges
+pub mod Numberings

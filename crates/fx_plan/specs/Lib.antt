@@ -7,3 +7,4 @@ pub mod Labels
 pub mod Tables
 pub mod Feeding
 pub mod Ranks
+pub mod Layouts

@@ -7,6 +7,7 @@ mod feeders;
 mod holders;
 mod key_layout;
 mod labels;
+mod layouts;
 mod limits;
 mod link;
 mod links;

@@ -11,3 +11,6 @@ pub const PROCESSES: usize = 256;
 
 /// The greatest number of fields of the report's key.
 pub const KEY_FIELDS: usize = 32;
+
+/// The greatest number of different layouts.
+pub const LAYOUTS: usize = 64;

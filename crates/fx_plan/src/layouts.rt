@@ -1,0 +1,94 @@
+//! The layouts of a network, by number.
+ghost use Rattle.std.specs.Prelude.{◌≡◌, ◌⊎◌, ℕ, ◌<◌, ◌≤◌, Some, IfErr, IfOk, length, position, slice_get};
+ghost use Rattle.fx_base.specs.Fault.{fault_at};
+ghost use Rattle.fx_base.specs.declared.fault.Place.TheVariants as places;
+ghost use Rattle.fx_layout.specs.Keys.{Fits, same_layout};
+ghost use Rattle.fx_machine.specs.Network.{layout_of};
+ghost use Rattle.fx_plan.specs.Layouts as layouts;
+
+use crate::limits::LAYOUTS;
+use fx_base::Fault;
+use fx_layout::Layout;
+use fx_machine::{Holder, Net};
+use std::alloc::Global;
+
+fn position_of(known: &[Layout], layout: &Layout) -> Option<usize>
+    ensures { result ≡ position (λ other. same_layout other layout.now) known.now }
+{
+    known.iter().position(|other| other.same(layout))
+}
+
+/// The number of a layout, from 0, which is added last where it isn't known yet.
+///
+/// Fails with 207 where there would be too many, and with 900 for want of memory.
+fn number_in(known: &mut Vec<Layout>, layout: &Layout) -> Result<usize, Fault>
+    requires { length known.old.items ≤ LAYOUTS }
+    ensures known { IfOk result (λ n. (known.new.items ≡ layouts.with_layout known.old.items layout.now) × (slice_get known.new.items n ≡ Some layout.now)) }
+    ensures few { IfOk result (λ n. length known.new.items ≤ LAYOUTS) }
+    ensures err { IfErr result (λ e. (e ≡ fault_at 900 places.None) ⊎ ((e ≡ fault_at 207 places.None) × (LAYOUTS < length (layouts.with_layout known.old.items layout.now)))) }
+{
+    if let Some(number) = position_of(known.as_slice(), layout) {
+        return Ok(number);
+    }
+    let number = known.len();
+    if number == LAYOUTS {
+        return Err(Fault::bare(207));
+    }
+    known.push(layout.copy())?;
+    Ok(number)
+}
+
+/// No part of a layout has more bits than its axis.
+fn fits(layout: &Layout)
+    ensures { Fits layout.now }
+{
+    let _parts = layout.parts();
+}
+
+/// The numbers of the layouts of what holds records; those that aren't known yet are added last.
+fn numbers_of(
+    alloc: Global,
+    known: &mut Vec<Layout>,
+    holders: &[Holder],
+) -> Result<Vec<usize>, Fault>
+    requires { length known.old.items ≤ LAYOUTS }
+    ensures known { IfOk result (λ v. known.new.items ≡ layouts.with_layouts known.old.items (layouts.held_layouts holders.now)) }
+    ensures numbers { IfOk result (λ v. layouts.AreNumbers known.new.items holders.now v.items) }
+    ensures fits { IfOk result (λ v. (k : ℕ) → Fits (layout_of (slice_get holders.now k))) }
+    ensures few { IfOk result (λ v. length known.new.items ≤ LAYOUTS) }
+    ensures err { IfErr result (λ e. (e ≡ fault_at 900 places.None) ⊎ ((e ≡ fault_at 207 places.None) × (LAYOUTS < length (layouts.with_layouts known.old.items (layouts.held_layouts holders.now))))) }
+{
+    let mut numbers = Vec::new(alloc);
+    for holder in holders {
+        let layout = holder.layout();
+        fits(layout);
+        let number = number_in(known, layout)?;
+        numbers.push(number)?;
+    }
+    Ok(numbers)
+}
+
+/// The layouts of a network, and the number of each holder's, from 0.
+#[derive(Debug, Drop)]
+pub struct Numbering {
+    /// The layouts, each once.
+    pub layouts: Vec<Layout>,
+    /// For each cache and aggregation the number of its layout.
+    pub numbers: Vec<usize>,
+}
+
+/// The layouts of a network by number.
+///
+/// Fails with 207 where there are too many, and with 900 for want of memory.
+pub fn numbering_of(alloc: Global, net: &Net) -> Result<Numbering, Fault>
+    ensures layouts { IfOk result (λ n. n.layouts.items ≡ layouts.layouts_of net.now) }
+    ensures numbers { IfOk result (λ n. layouts.AreNumbers n.layouts.items net.now.holders n.numbers.items) }
+    ensures fits { IfOk result (λ n. (k : ℕ) → Fits (layout_of (slice_get net.now.holders k))) }
+    ensures few { IfOk result (λ n. length n.layouts.items ≤ LAYOUTS) }
+    ensures err { IfErr result (λ e. (e ≡ fault_at 900 places.None) ⊎ ((e ≡ fault_at 207 places.None) × (LAYOUTS < length (layouts.layouts_of net.now)))) }
+{
+    let mut layouts = Vec::new(alloc);
+    let numbers = numbers_of(alloc, &mut layouts, net.holders())?;
+    let _report = number_in(&mut layouts, net.report_layout())?;
+    Ok(Numbering { layouts, numbers })
+}
