@@ -4,3 +4,6 @@ pub mod Comings
 pub mod Ranked
 pub mod Ranges
 pub mod Numberings
+pub mod Resolution
+pub mod Matching
+pub mod Stalling

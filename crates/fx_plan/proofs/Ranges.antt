@@ -1,8 +1,9 @@
 -- Lists made from each number below a bound.
-use Rattle.std.proofs.Common.{◌≡◌, ℕ, zero, suc, ◌+◌, ◌<◌, ◌==◌, Bool, true, false, not, ◌&&◌, ◌||◌, List, [], ◌∷◌, ◌++◌, length, map, refl, sym, ap, ◌∙◌, arith, Option, Some, None, find, position, cond, zip, nat_lt, get_or, slice_set, count_by, get_or-set_same, get_or-set_other, subst, inl, inr, slice_get}
+use Rattle.std.proofs.Common.{◌≡◌, ℕ, zero, suc, ◌+◌, ◌<◌, ◌==◌, Bool, true, false, not, ◌&&◌, ◌||◌, List, [], ◌∷◌, ◌++◌, length, map, refl, sym, ap, ◌∙◌, arith, Option, Some, None, find, position, cond, zip, filter, ◌≤◌, nat_lt, get_or, slice_set, count_by, get_or-set_same, get_or-set_other, subst, inl, inr, slice_get}
 use lib.ListN.{replicate}
 use Rattle.std.specs.List.{range_with_len, list_all, position_or_len}
-use Rattle.std.proofs.lemmas.List.{map-append}
+use Rattle.std.proofs.lemmas.List.{map-append, append-nil}
+use Rattle.std.proofs.lemmas.List.Elements.{filter-append}
 use Rattle.std.proofs.lemmas.List.FromFn.{map-range_with_len_more, length-range_with_len, get_or-range_with_len, length-map-range_with_len, get_or-map-range_with_len, fill_by_all}
 use Rattle.std.proofs.lemmas.Option.{slice_get-get_or, slice_get_past}
 use Rattle.std.proofs.lemmas.Bool.{cases_lt, cases_eq, cond-true, cond-false, lt-ltb, le-ltb}
@@ -87,3 +88,27 @@ flags_none a (suc n) = ap (λ (l : List Bool). false ∷ l) (flags_none (a + 1) 
 
 pub count_none : (a n : ℕ) → count_by (λ c. not c) (replicate n false) ≡ n
 count_none a n = sum_by-replicate (λ (c : Bool). cond (not c) 1 0) n false ∙ omega arith
+
+-- ---- filters
+
+pub range_more : (a n : ℕ) → range_with_len a (n + 1) ≡ range_with_len a n ++ (a + n) ∷ []
+range_more a zero = let e : a ≡ a + 0 = omega arith in ap (λ (x : ℕ). x ∷ []) e
+range_more a (suc n) =
+    let e : suc n + 1 ≡ suc (n + 1) = omega arith in
+    let f : a + 1 + n ≡ a + suc n = omega arith in
+    rw e (ap (λ (l : List ℕ). a ∷ l) (range_more (a + 1) n ∙ ap (λ (x : ℕ). range_with_len (a + 1) n ++ x ∷ []) f))
+
+filter_last : (p : ℕ → Bool) (n : ℕ) → filter p (range_with_len 0 (n + 1)) ≡ filter p (range_with_len 0 n) ++ cond (p n) (n ∷ []) []
+filter_last p n =
+    let z : 0 + n ≡ n = omega arith in
+    ap (filter p) (range_more 0 n ∙ ap (λ (x : ℕ). range_with_len 0 n ++ x ∷ []) z) ∙ filter-append p (range_with_len 0 n) (n ∷ [])
+
+pub filter_yes : (p : ℕ → Bool) (n : ℕ) → p n ≡ true → filter p (range_with_len 0 (n + 1)) ≡ filter p (range_with_len 0 n) ++ n ∷ []
+filter_yes p n e = filter_last p n ∙ rw e refl
+
+pub filter_no : (p : ℕ → Bool) (n : ℕ) → p n ≡ false → filter p (range_with_len 0 (n + 1)) ≡ filter p (range_with_len 0 n)
+filter_no p n e = filter_last p n ∙ rw e (append-nil (filter p (range_with_len 0 n)))
+
+pub filter_same : (p q : ℕ → Bool) (a n : ℕ) → ((k : ℕ) → a ≤ k → k < a + n → p k ≡ q k) → filter p (range_with_len a n) ≡ filter q (range_with_len a n)
+filter_same p q a zero same = refl
+filter_same p q a (suc n) same = rw (same a (omega arith) (omega arith), filter_same p q (a + 1) n (λ k low high. same k (omega arith) (omega arith))) refl

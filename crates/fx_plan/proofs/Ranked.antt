@@ -8,7 +8,7 @@ use Rattle.fx_layout.specs.Keys.{Fits}
 use Rattle.fx_machine.specs.Network.{Net, Exporter, Process, Aggregation, at_places, exporters_of, layout_of}
 use Rattle.fx_machine.specs.Ranks.{RisesTo, Rises, AllRise, ProcessRises, IsRanked, IsNetwork}
 use Rattle.fx_plan.specs.Feeding.{feeds, feeds_by, lead_to, leads_to, is_place}
-use Rattle.fx_plan.specs.Ranks.{is_in, IsRankOrder, rank_in, Descends, IsDescending}
+use Rattle.fx_plan.specs.Ranks.{is_in, IsRankOrder, rank_in, Descends, IsDescending, IsWhole, LinksLead}
 use Rattle.fx_plan.proofs.Comings.{AllCome, all_ranked, feeders_before, place_bound, descending}
 
 -- ---- what a process feeds has a higher rank
@@ -35,9 +35,6 @@ process_rises net rank from (Some process) h =
         (list_any_at (λ (a : Aggregation). lead_to net q (exporters_of net (slice_get net.holders a.holder))) process.aggregations k a low led))))
 
 -- ---- links lead to processes
-
-abbrev pub LinksLead : Net → Type 0
-LinksLead net = (link place : ℕ) → slice_get net.links link ≡ Some place → place < length net.processes
 
 place_within : (net : Net) (q : ℕ) (o : Option ℕ) → ((place : ℕ) → o ≡ Some place → place < length net.processes) → is_place q o ≡ true → q < length net.processes
 place_within net q None h e = cc
@@ -67,14 +64,6 @@ pub fed_within : (net : Net) → LinksLead net → (p q : ℕ) → feeds net p q
 fed_within net leads p q f = process_within net leads q (slice_get net.processes p) f
 
 -- ---- ranks
-
--- what an order of ranks keeps in which all processes come
-pub record IsWhole (net : Net) (order : List ℕ) : Type 0 where
-  pub order_is : IsRankOrder net order
-  pub short : length order ≤ length net.processes
-  pub all : (q : ℕ) → q < length net.processes → is_in order q ≡ true
-  pub some : 0 < length net.processes
-  pub leads : LinksLead net
 
 pub ranked : (net : Net) (order : List ℕ) → IsWhole net order → IsRanked net
 ranked net order w =

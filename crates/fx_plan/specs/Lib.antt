@@ -8,3 +8,6 @@ pub mod Tables
 pub mod Feeding
 pub mod Ranks
 pub mod Layouts
+pub mod Matches
+pub mod Cycles
+pub mod Plans

@@ -1,5 +1,5 @@
 -- The order of ranks, in which each collecting process comes behind all that feed it, and cycles, which have none.
-use Rattle.std.specs.Prelude.{◌≡◌, ℕ, suc, ◌<◌, ◌==◌, Bool, true, not, ◌&&◌, ◌||◌, List, [], ◌∷◌, ◌++◌, length, Contains, Option, Some, None, find, filter, if◌then◌else◌}
+use Rattle.std.specs.Prelude.{◌≡◌, ℕ, suc, ◌<◌, ◌≤◌, ◌==◌, Bool, true, not, ◌&&◌, ◌||◌, List, [], ◌∷◌, ◌++◌, length, Contains, Option, Some, None, find, filter, slice_get, if◌then◌else◌}
 use Rattle.std.specs.List.{list_any, list_all}
 use Rattle.fx_machine.specs.Network.{Net}
 use Rattle.fx_machine.specs.Ranks.{IsRanked}
@@ -45,6 +45,19 @@ pub record IsDescending (net : Net) (order : List ℕ) : Type 0 where
   pub ranked : IsRanked net
   pub descends : Descends net ranked.rank [] order
   pub whole : (process : ℕ) → process < length net.processes → Contains order process
+
+-- ---- an order in which all processes come
+
+-- each link leads to a process that is there
+abbrev pub LinksLead : Net → Type 0
+LinksLead net = (link place : ℕ) → slice_get net.links link ≡ Some place → place < length net.processes
+
+pub record IsWhole (net : Net) (order : List ℕ) : Type 0 where
+  pub order_is : IsRankOrder net order
+  pub short : length order ≤ length net.processes
+  pub all : (process : ℕ) → process < length net.processes → is_in order process ≡ true
+  pub some : 0 < length net.processes
+  pub leads : LinksLead net
 
 -- ---- cycles
 

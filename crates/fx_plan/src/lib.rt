@@ -1,6 +1,7 @@
 //! Network documents: devices, each with its configuration, the links between them, and the report.
 #![tactic(auto)]
 
+mod cycle;
 mod ends;
 mod exporters;
 mod feeders;
@@ -18,6 +19,7 @@ mod points;
 mod process_count;
 mod processes;
 mod rank_order;
+mod ranks;
 mod refuse;
 mod report;
 mod required_list;

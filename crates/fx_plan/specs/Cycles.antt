@@ -1,0 +1,40 @@
+-- How collecting processes are named by numbers, and the text that tells those that are stuck.
+use Rattle.std.specs.Prelude.{◌≡◌, ℕ, ◌+◌, List, [], ◌∷◌, ◌++◌, length, map, decimal, string_bytes, flat_map}
+use Rattle.std.specs.List.{range_with_len}
+use Rattle.fx_base.specs.declared.fault.Fault.{Fault}
+use Rattle.fx_base.specs.declared.fault.Place.{Place}
+use Rattle.fx_base.specs.declared.fault.Place.TheVariants as places
+use Rattle.fx_machine.specs.Network.{at_places}
+use Rattle.fx_plan.specs.declared.cycle.ProcessNumber.{ProcessNumber}
+use Rattle.fx_plan.specs.declared.network_device.NetworkDevice.{NetworkDevice}
+
+-- the processes of a device that has this number
+abbrev pub numbers_on : ℕ → ℕ → List ProcessNumber
+numbers_on device count = map (λ n. record { device = device; process = n + 1 }) (range_with_len 0 count)
+
+-- those of devices that are numbered one after another, from this number on
+abbrev pub numbers_from : ℕ → List NetworkDevice → List ProcessNumber
+numbers_from n [] = []
+numbers_from n (x ∷ xs) = numbers_on n (length x.config.collecting_processes) ++ numbers_from (n + 1) xs
+
+-- all processes in document order, with devices, and processes on a device, counted from 1
+abbrev pub process_numbers : List NetworkDevice → List ProcessNumber
+process_numbers devices = numbers_from 1 devices
+
+-- `1.2` is the second process of the first device
+abbrev pub number_text : ProcessNumber → List ℕ
+number_text n = decimal n.device ++ 46 ∷ decimal n.process
+
+-- separated by single spaces
+abbrev pub numbers_text : List ProcessNumber → List ℕ
+numbers_text [] = []
+numbers_text (n ∷ ns) = number_text n ++ flat_map (λ m. 32 ∷ number_text m) ns
+
+abbrev pub stuck_text : List NetworkDevice → List ℕ → List ℕ
+stuck_text devices stuck = numbers_text (at_places (process_numbers devices) stuck)
+
+abbrev pub IsText : Place → List ℕ → Type 0
+IsText (places.Text s) text = string_bytes s ≡ text
+IsText places.None text = ⊥
+IsText (places.Line n) text = ⊥
+IsText (places.Octet n) text = ⊥

@@ -1,0 +1,61 @@
+-- What a network document is planned as, and what refuses it once its walk has found no fault.
+use Rattle.std.specs.Prelude.{◌≡◌, ◌⊎◌, ℕ, ◌<◌, ◌≤◌, List, [], length, reverse, slice_get, Result, Ok, Err}
+use Rattle.serde_json.specs.Data.{Data}
+use Rattle.fx_base.specs.declared.fault.Fault.{Fault}
+use Rattle.fx_base.specs.declared.fault.Place.TheVariants as places
+use Rattle.fx_base.specs.Fault.{fault_at}
+use Rattle.fx_config.specs.Walk.{Refuses}
+use Rattle.fx_layout.specs.Keys.{Fits, Layout}
+use Rattle.fx_machine.specs.Network.{Net, layout_of}
+use Rattle.fx_plan.specs.declared.limits.TheConstants.{LAYOUTS}
+use Rattle.fx_plan.specs.declared.network.Network.{Network}
+use Rattle.fx_plan.specs.Cycles.{IsText, stuck_text}
+use Rattle.fx_plan.specs.Layouts.{AreNumbers, layouts_of}
+use Rattle.fx_plan.specs.Matches.{AreEntries}
+use Rattle.fx_plan.specs.Networks.{network_faults, network_of}
+use Rattle.fx_plan.specs.Ranks.{AreStuck, IsStuck, IsWhole, LinksLead}
+use Rattle.fx_plan.specs.Tables.{net_of}
+
+-- the links and the report lead to processes that are there
+pub record IsResolved (net : Net) : Type 0 where
+  pub leads : LinksLead net
+  pub report : net.report < length net.processes
+
+-- ---- what refuses it
+
+abbrev pub HasTooManyLayouts : Net → Type 0
+HasTooManyLayouts net = LAYOUTS < length (layouts_of net)
+
+-- some processes are stuck, and the fault tells them all
+pub record IsCycle (network : Network) (e : Fault) : Type 0 where
+  pub stuck : List ℕ
+  pub are_stuck : AreStuck (net_of network) stuck
+  pub one : (process : ℕ) × (process < length (net_of network).processes) × IsStuck (net_of network) process
+  pub number : e.number ≡ 204
+  pub text : IsText e.place (stuck_text network.devices stuck)
+
+-- the refusals of a network whose document has no other fault, in this order
+abbrev pub RefusesNetwork : Network → Fault → Type 0
+RefusesNetwork network e =
+    ((e ≡ fault_at 207 places.None) × HasTooManyLayouts (net_of network))
+    ⊎ ((length (layouts_of (net_of network)) ≤ LAYOUTS) × IsCycle network e)
+
+-- what reading a plan comes to: the network that the document means, if it has no fault at all, and else its first
+-- fault; or want of memory
+abbrev pub ReadsPlan : Data → Result Network Fault → Type 0
+ReadsPlan d (Ok network) =
+    (network_faults [] d ≡ []) × (network ≡ network_of d) × (length (layouts_of (net_of network)) ≤ LAYOUTS) × ((process : ℕ) → IsStuck (net_of network) process → ⊥)
+ReadsPlan d (Err e) = Refuses e (network_faults [] d) ⊎ ((network_faults [] d ≡ []) × RefusesNetwork (network_of d) e)
+
+-- ---- what it keeps
+
+pub record IsPlan (network : Network) (net : Net) (ranked order : List ℕ) (layouts : List Layout) (numbers : List ℕ) : Type 0 where
+  pub net_is : net ≡ net_of network
+  pub report : net.report < length net.processes
+  pub whole : IsWhole net ranked
+  pub order_is : order ≡ reverse ranked
+  pub fits : (holder : ℕ) → Fits (layout_of (slice_get net.holders holder))
+  pub entries : AreEntries net
+  pub layouts_are : layouts ≡ layouts_of net
+  pub few : length layouts ≤ LAYOUTS
+  pub numbers_are : AreNumbers layouts net.holders numbers

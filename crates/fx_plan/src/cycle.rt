@@ -1,0 +1,134 @@
+//! Cycles: collecting processes that feed themselves by way of others, and all that those feed.
+ghost use Rattle.std.specs.Prelude.{◌≡◌, ◌⊎◌, ◌++◌, not, OnOk, IfOk, filter, length, false, slice_get, slice_index_or, string_bytes};
+ghost use Rattle.std.specs.List.{range_with_len};
+ghost use Rattle.fx_base.specs.Fault.{fault_at};
+ghost use Rattle.fx_base.specs.declared.fault.Place.TheVariants as places;
+ghost use Rattle.fx_machine.specs.Network as machine;
+ghost use Rattle.fx_plan.specs.Cycles as cycles;
+
+use crate::network_device::NetworkDevice;
+use fx_base::{Fault, Place};
+use std::alloc::{AllocError, Global};
+
+/// The number of a collecting process: that of its device, and its own on that device, from 1.
+#[derive(Clone, Copy, Debug, PartialEq, Eq)]
+pub struct ProcessNumber {
+    pub device: usize,
+    pub process: usize,
+}
+
+/// So many processes of a device come last.
+fn push_numbers(
+    numbers: &mut Vec<ProcessNumber>,
+    device: usize,
+    count: usize,
+) -> Result<(), AllocError>
+    ensures { OnOk result (numbers.new.items ≡ numbers.old.items ++ cycles.numbers_on device count) }
+{
+    for n in 0..count {
+        numbers.push(ProcessNumber {
+            device,
+            process: n + 1,
+        })?;
+    }
+    Ok(())
+}
+
+/// The numbers of all processes, in document order.
+fn process_numbers(
+    alloc: Global,
+    devices: &[NetworkDevice],
+) -> Result<Vec<ProcessNumber>, AllocError>
+    ensures { IfOk result (λ v. v.items ≡ cycles.process_numbers devices.now) }
+{
+    let mut numbers = Vec::new(alloc);
+    for (place, device) in devices.iter().enumerate() {
+        let count = device.config.collecting_processes.as_slice().len();
+        push_numbers(&mut numbers, place + 1, count)?;
+    }
+    Ok(numbers)
+}
+
+/// The places of the processes that haven't come.
+fn places_left(alloc: Global, come: &[bool]) -> Result<Vec<usize>, AllocError>
+    ensures { IfOk result (λ v. v.items ≡ filter (λ place. not (slice_index_or come.now place false)) (range_with_len 0 (length come.now))) }
+{
+    let mut places = Vec::new(alloc);
+    for (place, there) in come.iter().enumerate() {
+        if !*there {
+            places.push(place)?;
+        }
+    }
+    Ok(places)
+}
+
+fn number_at(numbers: &[ProcessNumber], place: usize) -> Option<ProcessNumber>
+    ensures { result ≡ slice_get numbers.now place }
+{
+    numbers.get(place).copied()
+}
+
+fn numbers_at(
+    alloc: Global,
+    numbers: &[ProcessNumber],
+    places: &[usize],
+) -> Result<Vec<ProcessNumber>, AllocError>
+    ensures { IfOk result (λ v. v.items ≡ machine.at_places numbers.now places.now) }
+{
+    let mut found = Vec::new(alloc);
+    for place in places {
+        if let Some(number) = number_at(numbers, *place) {
+            found.push(number)?;
+        }
+    }
+    Ok(found)
+}
+
+fn push_number(text: &mut String, number: ProcessNumber) -> Result<(), AllocError>
+    ensures { OnOk result (string_bytes text.new ≡ string_bytes text.old ++ cycles.number_text number) }
+{
+    write!(text, "{}.{}", number.device, number.process)
+}
+
+/// The numbers, separated by single spaces.
+fn numbers_text(alloc: Global, numbers: &[ProcessNumber]) -> Result<String, AllocError>
+    ensures { IfOk result (λ s. string_bytes s ≡ cycles.numbers_text numbers.now) }
+{
+    let mut text = String::new(alloc);
+    if let [first, rest @ ..] = numbers {
+        push_number(&mut text, *first)?;
+        for number in rest {
+            text.push_str(" ")?;
+            push_number(&mut text, *number)?;
+        }
+    }
+    Ok(text)
+}
+
+/// The numbers of the processes that haven't come, separated by single spaces.
+fn cycle_text(
+    alloc: Global,
+    devices: &[NetworkDevice],
+    come: &[bool],
+) -> Result<String, AllocError>
+    ensures { IfOk result (λ s. string_bytes s ≡ cycles.stuck_text devices.now (filter (λ place. not (slice_index_or come.now place false)) (range_with_len 0 (length come.now)))) }
+{
+    let places = places_left(alloc, come)?;
+    let numbers = process_numbers(alloc, devices)?;
+    let left = numbers_at(alloc, numbers.as_slice(), places.as_slice())?;
+    numbers_text(alloc, left.as_slice())
+}
+
+/// The refusal (204) of a network of these devices whose processes don't all come, or want of memory (900) for its
+/// text.
+pub fn cycle(alloc: Global, devices: &[NetworkDevice], come: &[bool]) -> Fault
+    ensures { (result ≡ fault_at 900 places.None) ⊎ ((result.number ≡ 204) × cycles.IsText result.place (cycles.stuck_text devices.now (filter (λ place. not (slice_index_or come.now place false)) (range_with_len 0 (length come.now))))) }
+{
+    match cycle_text(alloc, devices, come) {
+        Ok(text) => Fault {
+            number: 204,
+            place: Place::Text(text),
+        },
+        Err(error) => Fault::from(error),
+    }
+}

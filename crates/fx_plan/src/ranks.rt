@@ -1,0 +1,61 @@
+//! The ranks of a network's collecting processes.
+ghost use Rattle.std.specs.Prelude.{◌≡◌, ◌⊎◌, ◌∷◌, [], Bool, true, IfErr, IfOk, reverse};
+ghost use Rattle.std.specs.List.{list_all};
+ghost use Rattle.fx_base.specs.Fault.{fault_at};
+ghost use Rattle.fx_base.specs.declared.fault.Place.TheVariants as places;
+ghost use Rattle.fx_plan.specs.Plans.{IsCycle, IsResolved};
+ghost use Rattle.fx_plan.specs.Ranks.{IsWhole};
+ghost use Rattle.fx_plan.specs.Tables as tables;
+
+use crate::cycle::cycle;
+use crate::network::Network;
+use crate::rank_order::rank_order;
+use fx_base::Fault;
+use fx_machine::Net;
+use std::alloc::{AllocError, Global};
+
+/// The collecting processes of a network in two orders.
+#[derive(Debug, Drop)]
+pub struct Ranks {
+    /// In the order of ranks.
+    pub ranked: Vec<usize>,
+    /// The other way round.
+    pub order: Vec<usize>,
+}
+
+fn all_have_come(come: &[bool]) -> bool
+    ensures { result ≡ list_all (λ c. c) come.now }
+{
+    come.iter().all(|there| *there)
+}
+
+fn turned(alloc: Global, ranked: &[usize]) -> Result<Vec<usize>, AllocError>
+    ensures { IfOk result (λ v. v.items ≡ reverse ranked.now) }
+{
+    ranked.iter().rev().copied().collect(alloc)
+}
+
+/// The ranks of a network's collecting processes, where links lead to processes that are there.
+///
+/// Fails with 204 where there are none, since links form a cycle, and with 900 for want of memory.
+pub fn ranks_of(alloc: Global, network: &Network, net: &Net) -> Result<Ranks, Fault>
+    requires net_is { net.now ≡ tables.net_of network.now }
+    requires resolved { IsResolved net.now }
+    ensures whole { IfOk result (λ r. IsWhole net.now r.ranked.items) }
+    ensures order { IfOk result (λ r. r.order.items ≡ reverse r.ranked.items) }
+    ensures err { IfErr result (λ e. (e ≡ fault_at 900 places.None) ⊎ IsCycle network.now e) }
+{
+    let coming = rank_order(alloc, net)?;
+    if !all_have_come(coming.come.as_slice()) {
+        return Err(cycle(
+            alloc,
+            network.devices.as_slice(),
+            coming.come.as_slice(),
+        ));
+    }
+    let order = turned(alloc, coming.order.as_slice())?;
+    Ok(Ranks {
+        ranked: coming.order,
+        order,
+    })
+}
