@@ -1,12 +1,11 @@
 -- What the order of ranks keeps: each process behind all that feed it, each once.
-use Rattle.std.proofs.Common.{◌≡◌, ℕ, suc, zero, ◌+◌, ◌<◌, ◌≤◌, ◌==◌, Bool, true, false, not, ◌&&◌, ◌||◌, List, [], ◌∷◌, ◌++◌, length, Contains, Option, Some, None, find, refl, sym, ap, ◌∙◌, subst, arith, append_assoc, cond, nat_lt, ◌⊎◌, inl, inr, eqb-true, add-suc, slice_get, reverse}
+use Rattle.std.proofs.Common.{◌≡◌, ℕ, suc, zero, ◌+◌, ◌<◌, ◌≤◌, ◌==◌, Bool, true, false, not, ◌&&◌, ◌||◌, List, [], ◌∷◌, ◌++◌, length, Contains, Some, None, find, refl, sym, ap, ◌∙◌, subst, arith, append_assoc, nat_lt, ◌⊎◌, inl, inr, eqb-true}
 use mathlib.Core.List.{reverse_aux}
-use Rattle.std.specs.List.{list_any, list_all, range_with_len}
-use Rattle.std.proofs.lemmas.Grind.{common_steps}
-use Rattle.std.proofs.lemmas.Bool.{cond-true, cond-false, lt-ltb, ltb-true, not_from_false, ne_eqb, cases_eq, and_parts, and_cases, and_from, or_cases, or_parts, or_left, or_right, not-true, not-false, eq-eqb, cases_Bool, both_ways, cases_lt}
+use Rattle.std.specs.List.{list_all, range_with_len}
+use Rattle.std.proofs.lemmas.Bool.{cond-true, cond-false, lt-ltb, ltb-true, not_from_false, cases_eq, and_parts, and_cases, and_from, or_cases, or_parts, or_left, or_right, not-true, not-false, eq-eqb, cases_Bool, both_ways, cases_lt}
 use Rattle.std.proofs.lemmas.Option.{slice_get_past}
 use Rattle.std.proofs.lemmas.List.{append-nil, length-append}
-use Rattle.std.proofs.lemmas.List.Elements.{Contains-append_left, Contains-append_right}
+use Rattle.std.proofs.lemmas.List.Elements.{Contains-append_right}
 use Rattle.std.proofs.lemmas.List.Folds.{list_any-append}
 use Rattle.fx_elements.proofs.Cuts.{chosen}
 use Rattle.fx_machine.specs.Network.{Net}
@@ -46,9 +45,9 @@ none_in t a (suc n) h q low high =
     elim (chosen (t a) (Some a) (find t (range_with_len (a + 1) n)) None h) [
       | inl w ↦ cc
       | inr w ↦ elim (cases_eq a q) [
-          | inl e ↦ subst (λ (x : ℕ). t x ≡ false) e w.0
-          | inr e ↦ none_in t (a + 1) n w.1 q (omega arith) (omega arith)
-        ]
+        | inl e ↦ subst (λ (x : ℕ). t x ≡ false) e w.0
+        | inr e ↦ none_in t (a + 1) n w.1 q (omega arith) (omega arith)
+      ]
     ]
 
 -- ---- what has come
@@ -88,10 +87,10 @@ ready_if net come q within h =
       within = within;
       new = not-true (is_in come q) both.0;
       fed = λ p f.
-        elim (or_cases (not (feeds net p q)) (is_in come p) (all_in (λ p. not (feeds net p q) || is_in come p) 0 (length net.processes) both.1 p (omega arith) (let w = feeder_within net p q f in omega arith))) [
-          | inl e ↦ absurd (both_ways (feeds net p q) (not-true (feeds net p q) e) f)
-          | inr e ↦ e
-        ];
+          elim (or_cases (not (feeds net p q)) (is_in come p) (all_in (λ p. not (feeds net p q) || is_in come p) 0 (length net.processes) both.1 p (omega arith) (let w = feeder_within net p q f in omega arith))) [
+            | inl e ↦ absurd (both_ways (feeds net p q) (not-true (feeds net p q) e) f)
+            | inr e ↦ e
+          ];
     }
 
 pub next_is_ready : (net : Net) (come : List ℕ) (q : ℕ) → next net come ≡ Some q → IsReady net come q
@@ -125,12 +124,12 @@ feeders_before net rank come [] i c b r p q h f = cc
 feeders_before net rank come (x ∷ xs) i c b r p q h f =
     elim (or_cases (x == q) (is_in xs q) h) [
       | inl e ↦
-        (let same : x ≡ q = eqb-true x q e in
-        let here : feeds net p x ≡ true = subst (λ (y : ℕ). feeds net p y ≡ true) (sym same) f in
-        let low : rank p < i = b p ((next_is_ready net come x c.0).fed p here) in
-        let high : rank x ≡ rank q = ap rank same in
-        let first : rank x ≡ i = r.0 in
-        omega arith)
+          (let same : x ≡ q = eqb-true x q e in
+          let here : feeds net p x ≡ true = subst (λ (y : ℕ). feeds net p y ≡ true) (sym same) f in
+          let low : rank p < i = b p ((next_is_ready net come x c.0).fed p here) in
+          let high : rank x ≡ rank q = ap rank same in
+          let first : rank x ≡ i = r.0 in
+          omega arith)
       | inr e ↦ feeders_before net rank (come ++ x ∷ []) xs (suc i) c.1 (below_more rank i come x b r.0) r.1 p q e f
     ]
 
@@ -154,11 +153,11 @@ place_bound (x ∷ xs) k p =
     elim (cases_Bool (x == p)) [
       | inl e ↦ inr (let is : place_from k (x ∷ xs) p ≡ k = cond-true (x == p) k (place_from (suc k) xs p) e in omega arith)
       | inr e ↦
-        (let is : place_from k (x ∷ xs) p ≡ place_from (suc k) xs p = cond-false (x == p) k (place_from (suc k) xs p) e in
-        elim (place_bound xs (suc k) p) [
-          | inl z ↦ inl (is ∙ z)
-          | inr z ↦ inr (omega arith)
-        ])
+          (let is : place_from k (x ∷ xs) p ≡ place_from (suc k) xs p = cond-false (x == p) k (place_from (suc k) xs p) e in
+          elim (place_bound xs (suc k) p) [
+            | inl z ↦ inl (is ∙ z)
+            | inr z ↦ inr (omega arith)
+          ])
     ]
 
 -- ---- the order turned round
@@ -172,9 +171,9 @@ come_step net come x xs all q low =
     elim (all q low) [
       | inl h ↦ inl (come_kept come x q h)
       | inr h ↦ elim (or_cases (x == q) (is_in xs q) h) [
-          | inl e ↦ inl (subst (λ (y : ℕ). is_in (come ++ x ∷ []) y ≡ true) (eqb-true x q e) (come_last come x))
-          | inr e ↦ inr e
-        ]
+        | inl e ↦ inl (subst (λ (y : ℕ). is_in (come ++ x ∷ []) y ≡ true) (eqb-true x q e) (come_last come x))
+        | inr e ↦ inr e
+      ]
     ]
 
 pub descending : (net : Net) (rank : ℕ → ℕ) (come order behind : List ℕ) (i : ℕ) → ComesNext net come order → AllBelow rank i come → RankedFrom rank i order → AllCome net come order → ((done : List ℕ) → ((z : ℕ) → is_in order z ≡ true → Contains done z) → Descends net rank done behind) → Descends net rank [] (reverse_aux order behind)
@@ -183,18 +182,22 @@ descending net rank come (x ∷ xs) behind i c b r all h =
     let first : rank x ≡ i = r.0 in
     let low : x < length net.processes = (next_is_ready net come x c.0).within in
     let higher : (q : ℕ) → q < length net.processes → rank x < rank q → is_in xs q ≡ true = λ q w m.
-      (elim (all q w) [
-        | inl e ↦ (let v : rank q < i = b q e in absurd (omega arith))
-        | inr e ↦ elim (or_cases (x == q) (is_in xs q) e) [
-            | inl f ↦ (let v : rank x ≡ rank q = ap rank (eqb-true x q f) in absurd (omega arith))
-            | inr f ↦ f
-          ]
-      ]) in
+    (elim (all q w) [
+      | inl e ↦ (let v : rank q < i = b q e in absurd (omega arith))
+      | inr e ↦ elim (or_cases (x == q) (is_in xs q) e) [
+        | inl f ↦ (let v : rank x ≡ rank q = ap rank (eqb-true x q f) in absurd (omega arith))
+        | inr f ↦ f
+      ]
+    ]) in
     descending net rank (come ++ x ∷ []) xs (x ∷ behind) (suc i) c.1 (below_more rank i come x b r.0) r.1 (come_step net come x xs all)
-      (λ done among. (low, λ q w m. among q (higher q w m), h (x ∷ done) (λ z e. elim (or_cases (x == z) (is_in xs z) e) [
+    (λ done among. (
+      low,
+      λ q w m. among q (higher q w m),
+      h (x ∷ done) (λ z e. elim (or_cases (x == z) (is_in xs z) e) [
         | inl f ↦ (0, omega (arith), eqb-true x z f)
         | inr f ↦ Contains-append_right (x ∷ []) done z (among z f)
-      ])))
+      ]),
+    ))
 
 -- ---- those that are stuck
 
@@ -202,10 +205,10 @@ pub none_stuck : (net : Net) (among : ℕ → Bool) (come order : List ℕ) → 
 none_stuck net among come [] c fed free q h = cc
 none_stuck net among come (x ∷ xs) c fed free q h =
     let here : among x ≡ false =
-      (elim (cases_Bool (among x)) [
-        | inl e ↦ (let w = fed.feeder x e in absurd (both_ways (among w.0) (free w.0 ((next_is_ready net come x c.0).fed w.0 w.2)) w.1))
-        | inr e ↦ e
-      ]) in
+    (elim (cases_Bool (among x)) [
+      | inl e ↦ (let w = fed.feeder x e in absurd (both_ways (among w.0) (free w.0 ((next_is_ready net come x c.0).fed w.0 w.2)) w.1))
+      | inr e ↦ e
+    ]) in
     elim (or_cases (x == q) (is_in xs q) h) [
       | inl e ↦ subst (λ (y : ℕ). among y ≡ false) (eqb-true x q e) here
       | inr e ↦ none_stuck net among (come ++ x ∷ []) xs c.1 fed (λ p m. elim (come_more come x p m) [ inl l ↦ free p l | inr l ↦ subst (λ (y : ℕ). among y ≡ false) l here ]) q e
@@ -216,17 +219,18 @@ left_stuck net order c q low out =
     record {
       among = λ p. nat_lt p (length net.processes) && not (is_in order p);
       is_among = and_from (nat_lt q (length net.processes)) (not (is_in order q)) (lt-ltb q (length net.processes) low) (not_from_false (is_in order q) out);
-      within = record { feeder = λ x h.
-        let both = and_parts (nat_lt x (length net.processes)) (not (is_in order x)) h in
-        let new : is_in order x ≡ false = not-true (is_in order x) both.1 in
-        let not_ready : is_ready net order x ≡ false = none_in (is_ready net order) 0 (length net.processes) (none_is_ready net [] order c) x (omega arith) (let w : x < length net.processes = ltb-true x (length net.processes) both.0 in omega arith) in
-        (elim (and_cases (not (is_in order x)) (list_all (λ p. not (feeds net p x) || is_in order p) (places_of net)) not_ready) [
-          | inl e ↦ absurd (both_ways (not (is_in order x)) e both.1)
-          | inr e ↦
-            (let w = some_not (λ p. not (feeds net p x) || is_in order p) 0 (length net.processes) e in
-            let free = or_parts (not (feeds net w.0 x)) (is_in order w.0) w.3 in
-            let fed : feeds net w.0 x ≡ true = not-false (feeds net w.0 x) free.0 in
-            (w.0, and_from (nat_lt w.0 (length net.processes)) (not (is_in order w.0)) (lt-ltb w.0 (length net.processes) (feeder_within net w.0 x fed)) (not_from_false (is_in order w.0) free.1), fed))
-        ])
+      within = record {
+        feeder = λ x h.
+            let both = and_parts (nat_lt x (length net.processes)) (not (is_in order x)) h in
+            let new : is_in order x ≡ false = not-true (is_in order x) both.1 in
+            let not_ready : is_ready net order x ≡ false = none_in (is_ready net order) 0 (length net.processes) (none_is_ready net [] order c) x (omega arith) (let w : x < length net.processes = ltb-true x (length net.processes) both.0 in omega arith) in
+            (elim (and_cases (not (is_in order x)) (list_all (λ p. not (feeds net p x) || is_in order p) (places_of net)) not_ready) [
+              | inl e ↦ absurd (both_ways (not (is_in order x)) e both.1)
+              | inr e ↦
+                  (let w = some_not (λ p. not (feeds net p x) || is_in order p) 0 (length net.processes) e in
+                  let free = or_parts (not (feeds net w.0 x)) (is_in order w.0) w.3 in
+                  let fed : feeds net w.0 x ≡ true = not-false (feeds net w.0 x) free.0 in
+                  (w.0, and_from (nat_lt w.0 (length net.processes)) (not (is_in order w.0)) (lt-ltb w.0 (length net.processes) (feeder_within net w.0 x fed)) (not_from_false (is_in order w.0) free.1), fed))
+            ]);
       };
     }

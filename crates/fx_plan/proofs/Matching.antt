@@ -1,5 +1,5 @@
 -- The matches that documents mean have no more bits than their axes, and values of no more bits than those.
-use Rattle.std.proofs.Common.{◌≡◌, ℕ, ◌+◌, ◌-◌, ◌*◌, ◌/◌, ◌^◌, ◌<◌, ◌≤◌, List, [], ◌∷◌, ◌++◌, length, map, Option, Some, None, refl, sym, ap, ◌∙◌, subst, arith, slice_index, option_map, codes}
+use Rattle.std.proofs.Common.{◌≡◌, ℕ, ◌+◌, ◌-◌, ◌*◌, ◌/◌, ◌^◌, ◌<◌, ◌≤◌, List, [], ◌∷◌, ◌++◌, length, map, Option, Some, None, refl, ap, ◌∙◌, subst, arith, slice_index, option_map, codes}
 use Rattle.std.specs.List.{AllByRecursion}
 use Rattle.std.specs.Option.{unwrap_or}
 use Rattle.std.proofs.Math.Nat.{div-lt_iff_lt-mul, div-mul-le_self}
@@ -121,8 +121,8 @@ devices_have : (exporting : List Label) (holder : ℕ) (xs : List NetworkDevice)
 devices_have exporting holder [] h = tt
 devices_have exporting holder (x ∷ xs) h =
     both_have AllHaveEntries (processes_from exporting x.name holder x.config.collecting_processes) (processes_in exporting (holder + length (held_by exporting x.name x.config.collecting_processes)) xs)
-      (processes_have exporting x.name holder x.config.collecting_processes h.0)
-      (devices_have exporting (holder + length (held_by exporting x.name x.config.collecting_processes)) xs h.1)
+    (processes_have exporting x.name holder x.config.collecting_processes h.0)
+    (devices_have exporting (holder + length (held_by exporting x.name x.config.collecting_processes)) xs h.1)
 
 device_matches : (d : Data) → DeviceMatches (network_device_of d)
 unfolding device_of

@@ -3,7 +3,7 @@ use Rattle.std.proofs.Common.{◌≡◌, ℕ, List, ◌++◌, length, map, refl}
 use Rattle.fx_layout.specs.Keys.{Layout}
 use Rattle.fx_machine.specs.Network as machine
 use Rattle.fx_plan.specs.Labels.{Label, cache_labels, collecting_labels, exporting_labels, place}
-use Rattle.fx_plan.specs.Tables.{exporters_of, cache_holders, aggregation_holders, holders_of, processes_in, processes_of, table_of, report_layout_of, net_of}
+use Rattle.fx_plan.specs.Tables.{exporters_of, cache_holders, aggregation_holders, processes_in, table_of, report_layout_of, net_of}
 use Rattle.fx_plan.specs.declared.link.Link.{Link}
 use Rattle.fx_plan.specs.declared.network.Network.{Network}
 use Rattle.fx_plan.specs.declared.network_device.NetworkDevice.{NetworkDevice}

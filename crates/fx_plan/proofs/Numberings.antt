@@ -1,17 +1,17 @@
 -- Layouts by number.
-use Rattle.std.proofs.Common.{◌≡◌, ℕ, zero, suc, ◌+◌, ◌<◌, ◌≤◌, Bool, true, false, not, List, [], ◌∷◌, ◌++◌, length, map, refl, sym, ap, ◌∙◌, subst, arith, Option, Some, None, Result, Ok, Err, IfErr, position, cond, inl, inr, get_or, slice_get}
+use Rattle.std.proofs.Common.{◌≡◌, ℕ, zero, suc, ◌+◌, ◌≤◌, Bool, true, false, List, [], ◌∷◌, ◌++◌, length, refl, sym, ap, ◌∙◌, subst, arith, Some, None, Result, Ok, Err, IfErr, position, inl, inr, get_or, slice_get}
 use Rattle.std.specs.Result.{IsErr, IsErrAnd}
 use Rattle.std.specs.List.{list_any, position_or_len}
-use Rattle.std.proofs.lemmas.Bool.{cases_Bool, cond-true, cond-false, both_ways, or_from, cond_both}
-use Rattle.std.proofs.lemmas.Option.{slice_get-get_or, slice_get_past, slice_get_within}
+use Rattle.std.proofs.lemmas.Bool.{cases_Bool, cond-true, cond-false, or_from, cond_both}
+use Rattle.std.proofs.lemmas.Option.{slice_get-get_or}
 use Rattle.std.proofs.lemmas.List.{length-append}
 use Rattle.std.proofs.lemmas.List.Folds.{list_any_at}
 use Rattle.std.proofs.lemmas.List.Quantifiers.{position-Some}
-use Rattle.fx_layout.specs.Keys.{Layout, Fits, same_layout}
+use Rattle.fx_layout.specs.Keys.{Layout, same_layout}
 use Rattle.fx_layout.proofs.Layouts.{none_passes}
 use Rattle.fx_layout.proofs.Projections.{same_layout_is}
-use Rattle.fx_machine.specs.Network.{Holder, layout_of}
-use Rattle.fx_plan.specs.Layouts.{AreNumbers, held_layouts, is_known, with_layout, with_layouts}
+use Rattle.fx_machine.specs.Network.{Holder}
+use Rattle.fx_plan.specs.Layouts.{AreNumbers, is_known, with_layout, with_layouts}
 
 pub known_at : (known : List Layout) (layout : Layout) (n : ℕ) → Some n ≡ position (λ other. same_layout other layout) known → (known ≡ with_layout known layout) × (slice_get known n ≡ Some layout)
 known_at known layout n e =

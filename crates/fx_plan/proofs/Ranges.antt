@@ -1,5 +1,5 @@
 -- Lists made from each number below a bound.
-use Rattle.std.proofs.Common.{◌≡◌, ℕ, zero, suc, ◌+◌, ◌<◌, ◌==◌, Bool, true, false, not, ◌&&◌, ◌||◌, List, [], ◌∷◌, ◌++◌, length, map, refl, sym, ap, ◌∙◌, arith, Option, Some, None, find, position, cond, zip, filter, ◌≤◌, nat_lt, get_or, slice_set, count_by, get_or-set_same, get_or-set_other, subst, inl, inr, slice_get}
+use Rattle.std.proofs.Common.{◌≡◌, ℕ, zero, suc, ◌+◌, ◌<◌, Bool, true, false, not, ◌&&◌, ◌||◌, List, [], ◌∷◌, ◌++◌, length, map, refl, sym, ap, ◌∙◌, arith, Some, None, find, position, cond, zip, filter, ◌≤◌, nat_lt, get_or, slice_set, count_by, get_or-set_same, get_or-set_other, subst, inl, inr}
 use lib.ListN.{replicate}
 use Rattle.std.specs.List.{range_with_len, list_all, position_or_len}
 use Rattle.std.proofs.lemmas.List.{map-append, append-nil}
@@ -45,11 +45,11 @@ position_in_range t n =
     let k = position_or_len t (range_with_len 0 n) in
     elim (cases_lt k (length xs)) [
       | inl lt ↦
-        (let low : k < n = omega (arith, length-range_with_len 0 n) in
-        cond-true (nat_lt k (length xs)) (Some k) None (lt-ltb k (length xs) lt)
-        ∙ sym (find_at t xs ∙ (slice_get-get_or xs k 0 lt ∙ ap (λ (x : ℕ). Some x) (get_or-range_with_len 0 n k 0 low ∙ omega arith))))
+          (let low : k < n = omega (arith, length-range_with_len 0 n) in
+          cond-true (nat_lt k (length xs)) (Some k) None (lt-ltb k (length xs) lt)
+          ∙ sym (find_at t xs ∙ (slice_get-get_or xs k 0 lt ∙ ap (λ (x : ℕ). Some x) (get_or-range_with_len 0 n k 0 low ∙ omega arith))))
       | inr le ↦
-        cond-false (nat_lt k (length xs)) (Some k) None (le-ltb k (length xs) le) ∙ sym (find_at t xs ∙ slice_get_past xs k le)
+          cond-false (nat_lt k (length xs)) (Some k) None (le-ltb k (length xs) le) ∙ sym (find_at t xs ∙ slice_get_past xs k le)
     ]
 
 pub ready_position : {X : Type 0} (v : X → List Bool) (f : ℕ → List Bool) (g : ℕ → Bool) (fed : ℕ → ℕ → Bool) (n : ℕ) (rows : List X) (come : List Bool) → ((q : ℕ) → f q ≡ map (fed q) (range_with_len 0 n)) → map v rows ≡ map f (range_with_len 0 n) → come ≡ map g (range_with_len 0 n)
@@ -67,13 +67,13 @@ pub flags_set : (g h : ℕ → Bool) (place n : ℕ) (come : List Bool) → come
 flags_set g h place n come e low here others =
     let long : length come ≡ n = ap length e ∙ length-map-range_with_len g 0 n in
     fill_by_all h (slice_set come place true) n true (length-set come place true ∙ long) (λ k w.
-      elim (cases_eq k place) [
-        | inl is ↦
+    elim (cases_eq k place) [
+      | inl is ↦
           (let within : place < length come = omega arith in
           subst (λ (x : ℕ). get_or (slice_set come place true) x true ≡ h x) (sym is) (get_or-set_same come place true true within ∙ sym here))
-        | inr not_it ↦
+      | inr not_it ↦
           get_or-set_other come place k true true not_it ∙ (ap (λ (l : List Bool). get_or l k true) e ∙ (get_or-map-range_with_len g 0 n k k true w (omega arith) ∙ sym (others k not_it)))
-      ])
+    ])
 
 pub count_set : (come : List Bool) (place : ℕ) → place < length come → get_or come place true ≡ false → count_by (λ c. not c) (slice_set come place true) + 1 ≡ count_by (λ c. not c) come
 count_set come place low here =

@@ -1,5 +1,5 @@
 -- Networks whose processes all come in the order of ranks are ranked.
-use Rattle.std.proofs.Common.{◌≡◌, ℕ, suc, zero, ◌+◌, ◌<◌, ◌≤◌, ◌==◌, Bool, true, false, ◌||◌, List, [], ◌∷◌, ◌++◌, length, All, Contains, Option, Some, None, refl, sym, ap, ◌∙◌, subst, arith, ◌⊎◌, inl, inr, eqb-true, slice_get, reverse, get_or}
+use Rattle.std.proofs.Common.{◌≡◌, ℕ, ◌<◌, ◌≤◌, ◌==◌, true, List, [], ◌∷◌, length, Contains, Option, Some, None, refl, subst, arith, ◌⊎◌, inl, inr, eqb-true, slice_get, reverse, get_or}
 use mathlib.Core.List.{reverse_aux}
 use Rattle.std.specs.List.{list_any}
 use Rattle.std.proofs.lemmas.Bool.{or_cases, or_left, or_right, eq-eqb}
@@ -8,8 +8,8 @@ use Rattle.fx_layout.specs.Keys.{Fits}
 use Rattle.fx_machine.specs.Network.{Net, Exporter, Process, Aggregation, at_places, exporters_of, layout_of}
 use Rattle.fx_machine.specs.Ranks.{RisesTo, Rises, AllRise, ProcessRises, IsRanked, IsNetwork}
 use Rattle.fx_plan.specs.Feeding.{feeds, feeds_by, lead_to, leads_to, is_place}
-use Rattle.fx_plan.specs.Ranks.{is_in, IsRankOrder, rank_in, Descends, IsDescending, IsWhole, LinksLead}
-use Rattle.fx_plan.proofs.Comings.{AllCome, all_ranked, feeders_before, place_bound, descending}
+use Rattle.fx_plan.specs.Ranks.{is_in, rank_in, IsDescending, IsWhole, LinksLead}
+use Rattle.fx_plan.proofs.Comings.{all_ranked, feeders_before, place_bound, descending}
 
 -- ---- what a process feeds has a higher rank
 
@@ -24,15 +24,16 @@ rises_if net rank from (Some link) h = rises_to rank from (slice_get net.links l
 all_rise : (net : Net) (rank : ℕ → ℕ) (from : ℕ) (exporters : List Exporter) → ((q : ℕ) → lead_to net q exporters ≡ true → rank from < rank q) → AllRise rank net from exporters
 all_rise net rank from exporters h k e low j o lower =
     rises_if net rank from (get_or (get_or exporters k e).destinations j o) (λ q led.
-      h q (list_any_at (λ (x : Exporter). list_any (leads_to net q) x.destinations) exporters k e low (list_any_at (leads_to net q) (get_or exporters k e).destinations j o lower led)))
+    h q (list_any_at (λ (x : Exporter). list_any (leads_to net q) x.destinations) exporters k e low (list_any_at (leads_to net q) (get_or exporters k e).destinations j o lower led)))
 
 process_rises : (net : Net) (rank : ℕ → ℕ) (from : ℕ) (o : Option Process) → ((q : ℕ) → feeds_by net q o ≡ true → rank from < rank q) → ProcessRises rank net from o
 process_rises net rank from None h = tt
-process_rises net rank from (Some process) h =
-    (all_rise net rank from (at_places net.exporters process.exporters) (λ q led. h q (or_left (lead_to net q (at_places net.exporters process.exporters)) (list_any (λ a. lead_to net q (exporters_of net (slice_get net.holders a.holder))) process.aggregations) led)),
-    λ k a low. all_rise net rank from (exporters_of net (slice_get net.holders (get_or process.aggregations k a).holder)) (λ q led.
+process_rises net rank from (Some process) h = (
+  all_rise net rank from (at_places net.exporters process.exporters) (λ q led. h q (or_left (lead_to net q (at_places net.exporters process.exporters)) (list_any (λ a. lead_to net q (exporters_of net (slice_get net.holders a.holder))) process.aggregations) led)),
+  λ k a low. all_rise net rank from (exporters_of net (slice_get net.holders (get_or process.aggregations k a).holder)) (λ q led.
       h q (or_right (lead_to net q (at_places net.exporters process.exporters)) (list_any (λ a. lead_to net q (exporters_of net (slice_get net.holders a.holder))) process.aggregations)
-        (list_any_at (λ (a : Aggregation). lead_to net q (exporters_of net (slice_get net.holders a.holder))) process.aggregations k a low led))))
+      (list_any_at (λ (a : Aggregation). lead_to net q (exporters_of net (slice_get net.holders a.holder))) process.aggregations k a low led))),
+)
 
 -- ---- links lead to processes
 
@@ -56,8 +57,8 @@ process_within net leads q (Some process) e =
     elim (or_cases (lead_to net q (at_places net.exporters process.exporters)) (list_any (λ a. lead_to net q (exporters_of net (slice_get net.holders a.holder))) process.aggregations) e) [
       | inl f ↦ all_led_within net leads q (at_places net.exporters process.exporters) f
       | inr f ↦
-        (let some = Any-from_list_any (λ (a : Aggregation). lead_to net q (exporters_of net (slice_get net.holders a.holder))) process.aggregations f in
-        all_led_within net leads q (exporters_of net (slice_get net.holders some.1.holder)) some.4)
+          (let some = Any-from_list_any (λ (a : Aggregation). lead_to net q (exporters_of net (slice_get net.holders a.holder))) process.aggregations f in
+          all_led_within net leads q (exporters_of net (slice_get net.holders some.1.holder)) some.4)
     ]
 
 pub fed_within : (net : Net) → LinksLead net → (p q : ℕ) → feeds net p q ≡ true → q < length net.processes
@@ -71,7 +72,7 @@ ranked net order w =
       rank = rank_in order;
       below = λ process. (elim (place_bound order 0 process) [ inl e ↦ (let some : 0 < length net.processes = w.some in omega arith) | inr e ↦ (let short : length order ≤ length net.processes = w.short in omega arith) ]);
       rises = λ process. process_rises net (rank_in order) process (slice_get net.processes process) (λ q f.
-        feeders_before net (rank_in order) [] order 0 w.order_is (λ p e. cc) (all_ranked net order [] order 0 refl refl w.order_is) process q (w.all q (fed_within net w.leads process q f)) f);
+          feeders_before net (rank_in order) [] order 0 w.order_is (λ p e. cc) (all_ranked net order [] order 0 refl refl w.order_is) process q (w.all q (fed_within net w.leads process q f)) f);
     }
 
 -- ---- the order turned round

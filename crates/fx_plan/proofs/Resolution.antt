@@ -1,5 +1,5 @@
 -- In a network without a fault links lead to collecting processes that are there, and so does the report.
-use Rattle.std.proofs.Common.{◌≡◌, ℕ, zero, suc, ◌+◌, ◌<◌, ◌≤◌, List, [], ◌∷◌, ◌++◌, length, map, Bool, true, false, not, ◌&&◌, ◌||◌, cond, Option, Some, None, refl, sym, ap, ◌∙◌, subst, arith, drop, codes, nat_lt, slice_get, flat_map, inl, inr}
+use Rattle.std.proofs.Common.{◌≡◌, ℕ, zero, suc, ◌+◌, ◌<◌, List, [], ◌∷◌, ◌++◌, length, map, Bool, true, false, not, ◌&&◌, ◌||◌, cond, Option, Some, None, refl, sym, ap, ◌∙◌, subst, arith, drop, codes, nat_lt, slice_get, inl, inr}
 use Rattle.std.specs.List.{list_any, position_or_len}
 use Rattle.std.specs.Option.{unwrap_or}
 use Rattle.std.specs.Str.{bytes_eq}
@@ -15,10 +15,8 @@ use Rattle.fx_config.specs.Lists.{by_length, is_among, items_in, items_of, list_
 use Rattle.fx_config.specs.declared.collecting_process.CollectingProcess.{CollectingProcess}
 use Rattle.fx_config.specs.declared.ipfix.Device.{Device}
 use Rattle.fx_config.proofs.Resolved.{none_before, none_behind}
-use Rattle.fx_machine.specs.Network.{Net}
 use Rattle.fx_plan.specs.declared.limits.TheConstants.{LINKS}
 use Rattle.fx_plan.specs.declared.link.Link.{Link}
-use Rattle.fx_plan.specs.declared.network.Network.{Network}
 use Rattle.fx_plan.specs.declared.network_device.NetworkDevice.{NetworkDevice}
 use Rattle.fx_plan.specs.Labels.{Label, collecting_labels, exporting_labels, device_labels, is_label, place}
 use Rattle.fx_plan.specs.Links.{device_named, has_collecting_process, has_ends, has_destination, link_faults, link_of, link_rows, links_faults}
@@ -52,10 +50,10 @@ label_there (x ∷ xs) device name h =
     list_any-append (is_label device name) here (collecting_labels xs)
     ∙ (elim (cases_Bool (bytes_eq x.name device)) [
       | inl e ↦
-        or_left (list_any (is_label device name) here) (list_any (is_label device name) (collecting_labels xs))
+          or_left (list_any (is_label device name) here) (list_any (is_label device name) (collecting_labels xs))
           (named_there device name x.name x.config.collecting_processes e (subst (λ (o : Option Device). has_collecting_process name o ≡ true) (cond-true (bytes_eq x.name device) (Some x.config) (device_named xs device) e) h))
       | inr e ↦
-        or_right (list_any (is_label device name) here) (list_any (is_label device name) (collecting_labels xs))
+          or_right (list_any (is_label device name) here) (list_any (is_label device name) (collecting_labels xs))
           (label_there xs device name (subst (λ (o : Option Device). has_collecting_process name o ≡ true) (cond-false (bytes_eq x.name device) (Some x.config) (device_named xs device) e) h))
     ])
 

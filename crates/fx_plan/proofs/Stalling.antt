@@ -1,5 +1,5 @@
 -- Where not all processes come, those that don't are stuck, and no others are.
-use Rattle.std.proofs.Common.{◌≡◌, ℕ, ◌+◌, ◌<◌, ◌≤◌, Bool, true, false, not, List, [], ◌∷◌, length, map, filter, get_or, refl, sym, ap, ◌∙◌, subst, arith, ◌⊎◌, inl, inr}
+use Rattle.std.proofs.Common.{◌≡◌, ℕ, ◌<◌, ◌≤◌, Bool, true, false, not, List, [], length, map, filter, get_or, sym, ap, ◌∙◌, arith, inl, inr}
 use Rattle.std.specs.List.{list_all, range_with_len}
 use Rattle.std.proofs.lemmas.Bool.{cases_Bool, both_ways, not-true, not_from_false}
 use Rattle.std.proofs.lemmas.List.Folds.{list_all-map}
@@ -33,14 +33,14 @@ stuck_if net order come c e =
       test = λ q. not (is_in order q);
       yes = λ process low h. left_stuck net order c process low (not-true (is_in order process) h);
       no = λ process low s.
-        (elim (cases_Bool (is_in order process)) [
-          | inl y ↦ absurd (both_ways (s.among process) (none_stuck net s.among [] order c s.within (λ p f. cc) process y) s.is_among)
-          | inr n ↦ not_from_false (is_in order process) n
-        ]);
+          (elim (cases_Bool (is_in order process)) [
+            | inl y ↦ absurd (both_ways (s.among process) (none_stuck net s.among [] order c s.within (λ p f. cc) process y) s.is_among)
+            | inr n ↦ not_from_false (is_in order process) n
+          ]);
       all =
-        ap (λ (n : ℕ). filter (λ place. not (get_or come place false)) (range_with_len 0 n)) long
-        ∙ filter_same (λ place. not (get_or come place false)) (λ q. not (is_in order q)) 0 (length net.processes) (λ k low high.
-            ap not (ap (λ (l : List Bool). get_or l k false) e ∙ get_or-map-range_with_len (is_in order) 0 (length net.processes) k k false (omega arith) (omega arith)));
+          ap (λ (n : ℕ). filter (λ place. not (get_or come place false)) (range_with_len 0 n)) long
+          ∙ filter_same (λ place. not (get_or come place false)) (λ q. not (is_in order q)) 0 (length net.processes) (λ k low high.
+          ap not (ap (λ (l : List Bool). get_or l k false) e ∙ get_or-map-range_with_len (is_in order) 0 (length net.processes) k k false (omega arith) (omega arith)));
     }
 
 pub one_stuck : (net : Net) (order : List ℕ) (come : List Bool) → IsRankOrder net order → come ≡ map (is_in order) (places_of net) → list_all (λ c. c) come ≡ false → (process : ℕ) × (process < length net.processes) × IsStuck net process

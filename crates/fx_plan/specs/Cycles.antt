@@ -1,7 +1,6 @@
 -- How collecting processes are named by numbers, and the text that tells those that are stuck.
 use Rattle.std.specs.Prelude.{◌≡◌, ℕ, ◌+◌, List, [], ◌∷◌, ◌++◌, length, map, decimal, string_bytes, flat_map}
 use Rattle.std.specs.List.{range_with_len}
-use Rattle.fx_base.specs.declared.fault.Fault.{Fault}
 use Rattle.fx_base.specs.declared.fault.Place.{Place}
 use Rattle.fx_base.specs.declared.fault.Place.TheVariants as places
 use Rattle.fx_machine.specs.Network.{at_places}

@@ -1,6 +1,6 @@
 -- Which collecting processes feed which: a process feeds those to which what it sends, and what its aggregations
 -- send, can be carried.
-use Rattle.std.specs.Prelude.{ℕ, ◌==◌, Bool, true, false, not, ◌||◌, List, length, map, zip, Option, Some, None, slice_get}
+use Rattle.std.specs.Prelude.{ℕ, ◌==◌, Bool, false, not, ◌||◌, List, length, map, zip, Option, Some, None, slice_get}
 use Rattle.std.specs.List.{list_any, list_all, range_with_len}
 use Rattle.fx_machine.specs.Network.{Net, Exporter, Process, at_places, exporters_of}
 

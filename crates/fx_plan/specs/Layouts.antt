@@ -1,5 +1,5 @@
 -- The layouts of a network, each once: those of its caches, those of its aggregations, and that of the report.
-use Rattle.std.specs.Prelude.{◌≡◌, ℕ, List, [], ◌∷◌, ◌++◌, map, Option, Some, None, slice_get, if◌then◌else◌, Bool}
+use Rattle.std.specs.Prelude.{◌≡◌, ℕ, List, [], ◌∷◌, ◌++◌, map, Some, slice_get, if◌then◌else◌, Bool}
 use Rattle.std.specs.List.{list_any}
 use Rattle.fx_layout.specs.Keys.{Layout, same_layout}
 use Rattle.fx_machine.specs.Network.{Net, Holder}

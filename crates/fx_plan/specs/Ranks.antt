@@ -1,5 +1,5 @@
 -- The order of ranks, in which each collecting process comes behind all that feed it, and cycles, which have none.
-use Rattle.std.specs.Prelude.{◌≡◌, ℕ, suc, ◌<◌, ◌≤◌, ◌==◌, Bool, true, not, ◌&&◌, ◌||◌, List, [], ◌∷◌, ◌++◌, length, Contains, Option, Some, None, find, filter, slice_get, if◌then◌else◌}
+use Rattle.std.specs.Prelude.{◌≡◌, ℕ, suc, ◌<◌, ◌≤◌, ◌==◌, Bool, true, not, ◌&&◌, ◌||◌, List, [], ◌∷◌, ◌++◌, length, Contains, Option, Some, None, find, filter, position, slice_get, if◌then◌else◌}
 use Rattle.std.specs.List.{list_any, list_all}
 use Rattle.fx_machine.specs.Network.{Net}
 use Rattle.fx_machine.specs.Ranks.{IsRanked}
@@ -33,6 +33,10 @@ place_from n (p ∷ ps) process = if p == process then n else place_from (suc n)
 
 abbrev pub rank_in : List ℕ → ℕ → ℕ
 rank_in order process = place_from 0 order process
+
+-- a process's rank: its place in the order, from 0, if it comes
+abbrev pub IsRank : Net → ℕ → Option ℕ → Type 0
+IsRank net process rank = (order : List ℕ) × IsRankOrder net order × (rank ≡ position (λ p. p == process) order)
 
 -- each process comes behind all of higher rank, and all come
 abbrev pub Descends : Net → (ℕ → ℕ) → List ℕ → List ℕ → Type 0

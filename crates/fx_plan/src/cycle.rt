@@ -106,11 +106,7 @@ fn numbers_text(alloc: Global, numbers: &[ProcessNumber]) -> Result<String, Allo
 }
 
 /// The numbers of the processes that haven't come, separated by single spaces.
-fn cycle_text(
-    alloc: Global,
-    devices: &[NetworkDevice],
-    come: &[bool],
-) -> Result<String, AllocError>
+fn cycle_text(alloc: Global, devices: &[NetworkDevice], come: &[bool]) -> Result<String, AllocError>
     ensures { IfOk result (λ s. string_bytes s ≡ cycles.stuck_text devices.now (filter (λ place. not (slice_index_or come.now place false)) (range_with_len 0 (length come.now)))) }
 {
     let places = places_left(alloc, come)?;

@@ -1,18 +1,25 @@
 //! Network documents and the networks that they mean.
-ghost use Rattle.std.specs.Prelude.{◌≡◌, [], IfOk};
+ghost use Rattle.std.specs.Prelude.{◌≡◌, ◌==◌, ◌<◌, ◌≤◌, IfOk, length, position};
 ghost use Rattle.serde_json.specs.View.{view};
-ghost use Rattle.fx_config.specs.Walk.{Reads};
+ghost use Rattle.fx_machine.specs.Ranks.{IsNetwork};
 ghost use Rattle.fx_machine.specs.Views.{now_of};
-ghost use Rattle.fx_plan.specs.Networks.{device_numbered, network_faults, network_of};
+ghost use Rattle.fx_plan.specs.Layouts.{AreNumbers, layouts_of};
+ghost use Rattle.fx_plan.specs.Matches.{AreEntries};
+ghost use Rattle.fx_plan.specs.Networks.{device_numbered};
+ghost use Rattle.fx_plan.specs.Plans.{ReadsPlan};
+ghost use Rattle.fx_plan.specs.Ranks.{IsDescending, IsRank, IsRankOrder, IsWhole};
 ghost use Rattle.fx_plan.specs.Tables as tables;
 
 use crate::exporters::exporters_of;
 use crate::holders::cache_holders;
 use crate::key_layout::layout_of;
 use crate::labels::{cache_labels, collecting_labels, exporting_labels, place};
+use crate::layouts::{Numbering, numbering_of};
+use crate::limits::LAYOUTS;
 use crate::network::{Network, read_network};
 use crate::points::tables_of;
 use crate::processes::{link_ends, processes_in};
+use crate::ranks::{Ranks, ranks_of};
 use fx_base::Fault;
 use fx_config::Device;
 use fx_layout::Layout;
@@ -61,28 +68,34 @@ fn net_of(alloc: Global, network: &Network) -> Result<Net, AllocError>
 }
 
 /// A network document and the network that it means. Contracts see it as what the document says.
+///
+/// Each link leads to a collecting process of higher rank than each process that feeds it.
 #[derive(Debug, Drop)]
 pub struct Plan {
     network: Network,
     net: Net,
+    ranks: Ranks,
+    numbering: Numbering,
 }
 
 impl Model for Plan {
-    ghost use Rattle.std.specs.Prelude.{◌≡◌};
-    ghost use Rattle.fx_plan.specs.Tables.{net_of};
+    ghost use Rattle.fx_plan.specs.Plans.{IsPlan};
     ghost use Rattle.fx_plan.specs.declared.network.Network as of_network;
 
     ghost Value = { of_network.Network };
 
     ghost view = { λ p. p.network };
 
-    ghost invariant = { λ p. p.net ≡ net_of p.network };
+    ghost invariant = { λ p. IsPlan p.network p.net p.ranks.ranked.items p.ranks.order.items p.numbering.layouts.items p.numbering.numbers.items };
 }
 
 impl Plan {
     /// The network that the document means.
     pub fn net(&self) -> &Net
-        ensures { result.now ≡ tables.net_of self.now }
+        ensures value { result.now ≡ tables.net_of self.now }
+        ensures network { IsNetwork result.now }
+        ensures report { result.now.report < length result.now.processes }
+        ensures entries { AreEntries result.now }
     {
         &self.net
     }
@@ -106,14 +119,71 @@ impl Plan {
         let device = self.network.devices.as_slice().get(place)?;
         Some(&device.config)
     }
+
+    /// The places of all collecting processes in the order of ranks: each time the first in document order whose
+    /// feeders have all come.
+    pub fn ranked(&self) -> &[usize]
+        ensures order { IsRankOrder (tables.net_of self.now) result.now }
+        ensures whole { IsWhole (tables.net_of self.now) result.now }
+    {
+        self.ranks.ranked.as_slice()
+    }
+
+    /// The rank of the collecting process at this place, from 0: its place in the order of ranks. None where there
+    /// is no such process.
+    pub fn rank(&self, process: usize) -> Option<usize>
+        ensures { IsRank (tables.net_of self.now) process result }
+    {
+        rank_in(self.ranks.ranked.as_slice(), process)
+    }
+
+    /// The places of all collecting processes, each behind all of higher rank.
+    pub fn order(&self) -> &[usize]
+        ensures { IsDescending (tables.net_of self.now) result.now }
+    {
+        self.ranks.order.as_slice()
+    }
+
+    /// The layouts of the network, each once: those of its caches, of its aggregations and of the report, in that
+    /// order. There are at most 64.
+    pub fn layouts(&self) -> &[Layout]
+        ensures value { result.now ≡ layouts_of (tables.net_of self.now) }
+        ensures few { length result.now ≤ LAYOUTS }
+    {
+        self.numbering.layouts.as_slice()
+    }
+
+    /// For each cache and aggregation of the network the number of its layout, from 0.
+    pub fn layout_numbers(&self) -> &[usize]
+        ensures { AreNumbers (layouts_of (tables.net_of self.now)) (tables.net_of self.now).holders result.now }
+    {
+        self.numbering.numbers.as_slice()
+    }
 }
 
-/// Reads a network document: what it says, with the network that it means, or its first fault, as
-/// [`read_network`] does.
+fn rank_in(ranked: &[usize], process: usize) -> Option<usize>
+    ensures { result ≡ position (λ place. place == process) ranked.now }
+{
+    ranked.iter().position(|place| *place == process)
+}
+
+/// Reads a network document: what it says, with the network that it means, or its first fault.
+///
+/// That is the first of those of [`read_network`], or else 207, at no place, where caches, aggregations and the
+/// report have more than 64 different layouts; 204 where links form a cycle, at the numbers of all collecting
+/// processes that can't come behind all that feed them, as `1.1 2.1`, of device and process, in document order; or
+/// 900, at no place, for want of memory.
 pub fn read_plan(alloc: Global, value: &Value) -> Result<Plan, Fault>
-    ensures { Reads (network_faults [] (view value.now)) (network_of (view value.now)) result }
+    ensures { ReadsPlan (view value.now) result }
 {
     let network = read_network(alloc, value)?;
     let net = net_of(alloc, &network)?;
-    Ok(Plan { network, net })
+    let numbering = numbering_of(alloc, &net)?;
+    let ranks = ranks_of(alloc, &network, &net)?;
+    Ok(Plan {
+        network,
+        net,
+        ranks,
+        numbering,
+    })
 }

@@ -30,10 +30,8 @@ fn have_come(feeders: &[bool], come: &[bool]) -> bool
 fn first_ready(feeders: &[Vec<bool>], come: &[bool]) -> Option<usize>
     ensures { result ≡ position (λ x. not x.1 && have_come x.0.items come.now) (zip feeders.now come.now) }
 {
-    feeders
-        .iter()
-        .zip(come)
-        .position(|(feeders, there)| !*there && have_come(feeders.as_slice(), come))
+    feeders.iter().zip(come).position(|(feeders, there)| !*there
+        && have_come(feeders.as_slice(), come))
 }
 
 /// The processes of the network that come in the order of ranks.

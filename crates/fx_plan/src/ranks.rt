@@ -47,11 +47,7 @@ pub fn ranks_of(alloc: Global, network: &Network, net: &Net) -> Result<Ranks, Fa
 {
     let coming = rank_order(alloc, net)?;
     if !all_have_come(coming.come.as_slice()) {
-        return Err(cycle(
-            alloc,
-            network.devices.as_slice(),
-            coming.come.as_slice(),
-        ));
+        return Err(cycle(alloc, network.devices.as_slice(), coming.come.as_slice()));
     }
     let order = turned(alloc, coming.order.as_slice())?;
     Ok(Ranks {

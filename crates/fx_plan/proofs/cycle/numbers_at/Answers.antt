@@ -1,4 +1,4 @@
-use Rattle.std.proofs.Common.{◌≡◌, ℕ, ◌+◌, List, [], ◌∷◌, ◌++◌, Option, Some, None, drop, get_or, slice_get, refl, sym, ap, ◌∙◌, append_assoc, arith, Vec, Global}
+use Rattle.std.proofs.Common.{◌≡◌, ℕ, ◌+◌, List, [], ◌∷◌, ◌++◌, Some, None, drop, get_or, slice_get, refl, ap, ◌∙◌, append_assoc, Vec, Global}
 use Rattle.std.proofs.lemmas.List.{drop_more}
 use Rattle.fx_machine.specs.Network.{at_places}
 use Rattle.fx_plan.specs.declared.cycle.ProcessNumber.{ProcessNumber}

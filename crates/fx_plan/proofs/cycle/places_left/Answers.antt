@@ -1,5 +1,4 @@
-use Rattle.std.proofs.Common.{◌≡◌, ℕ, ◌+◌, Bool, true, false, not, List, ◌∷◌, ◌++◌, [], Vec, Global, get_or, sym, ap, ◌∙◌, refl, filter}
-use Rattle.std.specs.List.{range_with_len}
+use Rattle.std.proofs.Common.{ℕ, Bool, false, not, List, ◌∷◌, ◌++◌, [], Vec, Global, get_or, sym, ap, ◌∙◌}
 use Rattle.std.proofs.lemmas.Bool.{not_from_false, not_from_true}
 use Rattle.fx_plan.proofs.Ranges.{filter_yes, filter_no}
 use Rattle.fx_plan.proofs.cycle.places_left.Goals as goal

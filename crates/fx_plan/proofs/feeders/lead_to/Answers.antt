@@ -1,7 +1,7 @@
-use Rattle.std.proofs.Common.{◌≡◌, ℕ, Bool, false, ◌||◌, List, [], ◌∷◌, Option, Some, None, refl, ap, ◌∙◌, slice_get}
+use Rattle.std.proofs.Common.{◌≡◌, ℕ, ◌||◌, List, [], ◌∷◌, Option, Some, None, refl, ◌∙◌, slice_get}
 use Rattle.std.specs.List.{list_any}
 use Rattle.fx_machine.specs.Network.{Net, Exporter, at_places, before}
-use Rattle.fx_plan.specs.Feeding.{leads_at, lead_to, leads_to}
+use Rattle.fx_plan.specs.Feeding.{leads_at, lead_to}
 use Rattle.fx_plan.proofs.feeders.lead_to.Goals as goal
 
 before_leads : (net : Net) (process : ℕ) (o : Option Exporter) (rest : List Exporter) → lead_to net process (before o rest) ≡ (leads_at net process o || lead_to net process rest)

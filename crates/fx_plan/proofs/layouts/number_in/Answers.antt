@@ -1,8 +1,7 @@
-use Rattle.std.proofs.Common.{◌≡◌, ◌<◌, ◌+◌, ℕ, List, [], ◌∷◌, ◌++◌, length, refl, sym, ap, ◌∙◌, subst, arith, inl, inr, slice_get, vec_len}
+use Rattle.std.proofs.Common.{◌≡◌, ◌+◌, [], ◌∷◌, ◌++◌, length, sym, ap, ◌∙◌, arith, inr, vec_len}
 use Rattle.fx_layout.specs.Keys.{Layout}
 use Rattle.std.proofs.lemmas.List.{length-append}
 use Rattle.fx_plan.specs.Layouts.{with_layout}
-use Rattle.fx_plan.specs.declared.limits.TheConstants.{LAYOUTS}
 use Rattle.fx_plan.proofs.Numberings.{known_at, unknown, last_is}
 use Rattle.fx_plan.proofs.layouts.number_in.Goals as goal
 

@@ -1,6 +1,3 @@
-use Rattle.std.proofs.Common.{◌≡◌, List, ◌∙◌, subst, sym}
-use Rattle.fx_layout.specs.Keys.{Layout}
-use Rattle.fx_plan.specs.Layouts.{AreNumbers}
 use Rattle.fx_plan.proofs.Numberings.{numbers_grow}
 use Rattle.fx_plan.proofs.layouts.numbering_of.Goals as goal
 

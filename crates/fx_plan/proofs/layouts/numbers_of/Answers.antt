@@ -1,12 +1,10 @@
-use Rattle.std.proofs.Common.{◌≡◌, ◌⊎◌, ◌<◌, ◌≤◌, ◌+◌, ℕ, List, [], ◌∷◌, ◌++◌, length, map, take, drop, get_or, refl, sym, ap, ◌∙◌, subst, arith, inl, inr, slice_get, Option, Some, None, below_more, OnOk}
-use Rattle.std.proofs.lemmas.List.{take_more, drop_all, take_all}
+use Rattle.std.proofs.Common.{◌≡◌, ◌<◌, ◌≤◌, ◌+◌, [], ◌∷◌, ◌++◌, length, take, drop, refl, sym, ap, ◌∙◌, subst, arith, inl, inr, slice_get, Option, Some, below_more}
+use Rattle.std.proofs.lemmas.List.{take_more}
 use Rattle.std.proofs.lemmas.Option.{slice_get_read, slice_get_past}
 use Rattle.std.proofs.lemmas.Bool.{cases_lt}
-use Rattle.fx_base.specs.Fault.{fault_at}
-use Rattle.fx_base.specs.declared.fault.Place.TheVariants as places
 use Rattle.fx_layout.specs.Keys.{Layout, Fits}
 use Rattle.fx_machine.specs.Network.{Holder, layout_of}
-use Rattle.fx_plan.specs.Layouts.{AreNumbers, held_layouts, with_layout, with_layouts}
+use Rattle.fx_plan.specs.Layouts.{held_layouts, with_layout, with_layouts}
 use Rattle.fx_plan.specs.declared.limits.TheConstants.{LAYOUTS}
 use Rattle.fx_plan.proofs.Linking.{drop_item}
 use Rattle.fx_plan.proofs.Numberings.{all_longer, exit_with, numbers_grow, numbers_push}
@@ -24,10 +22,10 @@ returns-in_err-number-clause-err c =
     exit_with _ _ _ c.from_residual.ensures (elim c.in_err-number.ensures.err [
       | inl m ↦ inl m
       | inr f ↦
-        (let more : LAYOUTS < length (with_layout known c.layout-layout.result.now) = f.1 in
-        let longer : length (with_layout known c.layout-layout.result.now) ≤ length (with_layouts (with_layout known c.layout-layout.result.now) (held_layouts (drop (n + 1) xs))) = all_longer (with_layout known c.layout-layout.result.now) (held_layouts (drop (n + 1) xs)) in
-        let all : length (with_layouts (with_layout known c.layout-layout.result.now) (held_layouts (drop (n + 1) xs))) ≡ length (with_layouts c.args.known.now.items (held_layouts xs)) = ap length same in
-        inr (f.0, omega (arith, more, longer, all)))
+          (let more : LAYOUTS < length (with_layout known c.layout-layout.result.now) = f.1 in
+          let longer : length (with_layout known c.layout-layout.result.now) ≤ length (with_layouts (with_layout known c.layout-layout.result.now) (held_layouts (drop (n + 1) xs))) = all_longer (with_layout known c.layout-layout.result.now) (held_layouts (drop (n + 1) xs)) in
+          let all : length (with_layouts (with_layout known c.layout-layout.result.now) (held_layouts (drop (n + 1) xs))) ≡ length (with_layouts c.args.known.now.items (held_layouts xs)) = ap length same in
+          inr (f.0, omega (arith, more, longer, all)))
     ])
 
 pub loop-holder-preserved : goal.loop-holder-preserved
@@ -55,6 +53,6 @@ returns-clause-fits c = λ k.
     (elim (cases_lt k c.loop-holder.holder-index) [
       | inl lt ↦ c.loop-holder.invariant.fits k lt
       | inr le ↦
-        (let past : length c.args.holders.now ≤ k = omega (arith, le) in
-        subst (λ (o : Option Holder). Fits (layout_of o)) (sym (slice_get_past c.args.holders.now k past)) tt)
+          (let past : length c.args.holders.now ≤ k = omega (arith, le) in
+          subst (λ (o : Option Holder). Fits (layout_of o)) (sym (slice_get_past c.args.holders.now k past)) tt)
     ])

@@ -1,12 +1,10 @@
-use Rattle.std.proofs.Common.{◌≡◌, ◌≤◌, ◌<◌, ◌+◌, ℕ, Bool, true, false, not, ◌&&◌, List, [], ◌∷◌, ◌++◌, length, map, position, zip, Option, Some, None, Vec, Global, refl, sym, ap, ◌∙◌, subst, arith, get_or, slice_set, count_by, inl, inr, append_assoc}
-use Rattle.std.specs.List.{list_any, range_with_len}
-use Rattle.std.proofs.lemmas.Bool.{eq-eqb, ne_eqb, or_from, true_from_ne_false, cases_Bool, both_ways}
+use Rattle.std.proofs.Common.{◌≡◌, ◌<◌, ◌+◌, ℕ, Bool, true, false, not, ◌&&◌, List, [], ◌∷◌, ◌++◌, length, map, position, zip, Some, Vec, Global, refl, sym, ap, ◌∙◌, subst, arith, get_or, slice_set, count_by, inl, inr, append_assoc}
+use Rattle.std.proofs.lemmas.Bool.{cases_Bool, both_ways}
 use Rattle.std.proofs.lemmas.List.{append-nil, length-append}
 use Rattle.std.proofs.lemmas.List.FromFn.{length-map-range_with_len, get_or-map-range_with_len}
-use Rattle.std.proofs.lemmas.List.Folds.{list_any-append}
 use Rattle.fx_machine.specs.Network.{Net}
 use Rattle.fx_plan.specs.Feeding.{feeds, feeders, have_come, places_of}
-use Rattle.fx_plan.specs.Ranks.{IsRankOrder, ComesNext, is_in, next}
+use Rattle.fx_plan.specs.Ranks.{is_in, next}
 use Rattle.fx_plan.proofs.Comings.{come_kept, come_last, come_more, next_is_ready}
 use Rattle.fx_plan.proofs.Ranges.{ready_position, flags_set, flags_none, count_set, count_none}
 use Rattle.fx_plan.proofs.rank_order.rank_order.Goals as goal
@@ -26,10 +24,10 @@ others_kept order place k other =
     elim (cases_Bool (is_in order k)) [
       | inl e ↦ come_kept order place k e ∙ sym e
       | inr e ↦
-        elim (cases_Bool (is_in (order ++ place ∷ []) k)) [
-          | inl f ↦ elim (come_more order place k f) [ inl g ↦ absurd (both_ways (is_in order k) e g) | inr g ↦ absurd (other (sym g)) ]
-          | inr f ↦ f ∙ sym e
-        ]
+          elim (cases_Bool (is_in (order ++ place ∷ []) k)) [
+            | inl f ↦ elim (come_more order place k f) [ inl g ↦ absurd (both_ways (is_in order k) e g) | inr g ↦ absurd (other (sym g)) ]
+            | inr f ↦ f ∙ sym e
+          ]
     ]
 
 flags_here : (net : Net) (order : List ℕ) (come : List Bool) (place : ℕ) → come ≡ map (is_in order) (places_of net) → next net order ≡ Some place → Flags net order come place

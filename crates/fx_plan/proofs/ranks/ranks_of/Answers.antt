@@ -1,10 +1,6 @@
-use Rattle.std.proofs.Common.{◌≡◌, ℕ, Bool, true, false, List, refl, sym, ap, ◌∙◌, subst, inl, inr}
+use Rattle.std.proofs.Common.{◌≡◌, Bool, true, false, List, sym, ap, ◌∙◌, subst, inl, inr}
 use Rattle.std.specs.List.{list_all}
-use Rattle.std.proofs.lemmas.Bool.{not-true, not-false}
-use Rattle.fx_machine.specs.Network.{Net}
 use Rattle.fx_plan.specs.declared.network_device.NetworkDevice.{NetworkDevice}
-use Rattle.fx_plan.specs.Plans.{IsCycle}
-use Rattle.fx_plan.specs.Ranks.{AreStuck, IsStuck}
 use Rattle.fx_plan.specs.Cycles.{IsText, stuck_text}
 use Rattle.fx_plan.proofs.Stalling.{one_stuck, stuck_if, stuck_places, whole_if}
 use Rattle.fx_plan.proofs.ranks.ranks_of.Goals as goal
@@ -18,15 +14,15 @@ returns-then-not-all_have_come-clause-err c =
     elim c.cycle.ensures [
       | inl m ↦ inl m
       | inr f ↦ inr (record {
-          stuck = stuck_places come;
-          are_stuck = rw (← c.requires.net_is) (stuck_if net order come c.in_ok-coming.ensures.order c.in_ok-coming.ensures.come);
-          one = rw (← c.requires.net_is) (one_stuck net order come c.in_ok-coming.ensures.order c.in_ok-coming.ensures.come some);
-          number = f.0;
-          text =
+        stuck = stuck_places come;
+        are_stuck = rw (← c.requires.net_is) (stuck_if net order come c.in_ok-coming.ensures.order c.in_ok-coming.ensures.come);
+        one = rw (← c.requires.net_is) (one_stuck net order come c.in_ok-coming.ensures.order c.in_ok-coming.ensures.come some);
+        number = f.0;
+        text =
             (let told : IsText c.cycle.result.place (stuck_text c.as_slice-then-not-all_have_come.result.now (stuck_places c.as_slice-then-not-all_have_come-2.result.now)) = f.1 in
             subst (λ (flags : List Bool). IsText c.cycle.result.place (stuck_text c.args.network.now.devices (stuck_places flags))) c.as_slice-then-not-all_have_come-2.ensures.value
-              (subst (λ (devices : List NetworkDevice). IsText c.cycle.result.place (stuck_text devices (stuck_places c.as_slice-then-not-all_have_come-2.result.now))) c.as_slice-then-not-all_have_come.ensures told));
-        })
+            (subst (λ (devices : List NetworkDevice). IsText c.cycle.result.place (stuck_text devices (stuck_places c.as_slice-then-not-all_have_come-2.result.now))) c.as_slice-then-not-all_have_come.ensures told));
+      })
     ]
 
 pub returns-clause-whole : goal.returns-clause-whole

@@ -1,0 +1,5 @@
+use Rattle.fx_plan.proofs.Ranked.{network}
+use Rattle.fx_plan.proofs.plan.Plan.net.Goals as goal
+
+pub returns-clause-network : goal.returns-clause-network
+returns-clause-network c = network c.self.inside.net c.self.inside.ranks.ranked.items c.self.invariant.whole c.self.invariant.fits

@@ -1,0 +1,16 @@
+use Rattle.std.proofs.Common.{ℕ, List, reverse, sym, ◌∙◌, subst}
+use Rattle.fx_machine.specs.Network.{Net}
+use Rattle.fx_plan.specs.Ranks.{IsDescending}
+use Rattle.fx_plan.specs.Tables.{net_of}
+use Rattle.fx_plan.proofs.Ranked.{turned}
+use Rattle.fx_plan.proofs.plan.Plan.order.Goals as goal
+
+pub returns : goal.returns
+returns c =
+    let i = c.self.invariant in
+    let v = c.self.view_is in
+    let ranked = c.self.inside.ranks.ranked.items in
+    let down : IsDescending c.self.inside.net (reverse ranked) = turned c.self.inside.net ranked i.whole in
+    let there : IsDescending (net_of c.self.inside.network) (reverse ranked) = subst (λ (n : Net). IsDescending n (reverse ranked)) i.net_is down in
+    let here : IsDescending (net_of c.self.inside.network) c.as_slice.result.now = subst (λ (l : List ℕ). IsDescending (net_of c.self.inside.network) l) (sym (c.as_slice.ensures.value ∙ i.order_is)) there in
+    rw (← v) here
