@@ -1,5 +1,5 @@
 -- What a collection over octets comes to.
-use Rattle.std.proofs.Common.{◌≡◌, ◌⊎◌, ℕ, List, [], Option, Some, None, Result, Ok, Err, IfSome, IfOk, IfErr, unwrap_or, sym, ap, ◌∙◌, subst, inl, inr}
+use Rattle.std.proofs.Common.{◌≡◌, ◌⊎◌, ℕ, List, [], Option, Some, None, Result, Ok, Err, IfSome, IfOk, IfErr, unwrap_or, sym, ap, ◌∙◌, subst, inl, inr, arith}
 use Rattle.serde_json.specs.Data.{Data}
 use Rattle.serde_json.specs.Read.{read}
 use Rattle.fx_base.specs.declared.fault.Fault.{Fault}
@@ -8,14 +8,15 @@ use Rattle.fx_base.specs.declared.fault.Place.TheVariants as places
 use Rattle.fx_config.specs.Walk.{Found}
 use Rattle.fx_machine.specs.Network.{Net}
 use Rattle.fx_plan.specs.declared.network.Network.{Network}
-use Rattle.fx_plan.specs.Networks.{network_faults}
+use Rattle.fx_plan.specs.Networks.{network_faults, network_of}
+use Rattle.fx_plan.specs.Plans.{RefusesNetwork}
 use Rattle.fx_plan.specs.Tables.{net_of}
 use Rattle.fx_audit.specs.declared.answer.Answer.{Answer}
 use Rattle.fx_audit.specs.declared.answer.Answer.TheVariants.{Yes}
 use Rattle.fx_audit.specs.Commands.{IsCollected, IsRefusedCollect}
-use Rattle.fx_audit.specs.Documents.{IsDocument, IsFirstFault, IsNetwork, is_found}
+use Rattle.fx_audit.specs.Documents.{IsDocument, IsFirstFault, IsNetwork, IsPlannable, IsRefusedNetwork, by_walk, by_plan, is_found}
 use Rattle.fx_audit.specs.Streams.{IsRefusedStream, IsStreamText, IsWhole, stream_read}
-use Rattle.fx_audit.proofs.Documents.{both_told}
+use Rattle.fx_audit.proofs.Documents.{both_told, first_told}
 
 -- ---- a stream at the report of a network
 
@@ -65,7 +66,29 @@ faultless faults meaning octets x e d (inr h) =
     let same = same_value (read octets) h.0 d.value h.1.1 d.json.1 in
     none_found e.number e.place (subst (λ (fs : List Found). is_found e.number e.place fs) (ap faults same ∙ d.faultless) h.2)
 
--- so what holds of a network with a fault holds where the network was read
-pub network_faultless : (left : Option (List ℕ)) (network : Network) (A : Type 0) → IfSome left (λ n. IsNetwork n network) → IfSome left (λ n. (e : Fault) → IsFirstFault (network_faults []) n e → A)
+-- what the octets mean
+same_network : (octets : List ℕ) (x y : Network) → IsDocument (network_faults []) network_of octets x → IsDocument (network_faults []) network_of octets y → y ≡ x
+same_network octets x y p q = q.means ∙ ap network_of (same_value (read octets) q.value p.value q.json.1 p.json.1) ∙ sym p.means
+
+unrefused : (network : Network) (e : Fault) → IsPlannable network → RefusesNetwork network e → ⊥
+unrefused network e p (inl h) = let few = p.0 in let many = h.1 in absurd (omega (arith, few, many))
+unrefused network e p (inr h) = p.1 h.1.one.0 h.1.one.2
+
+not_refused : (octets : List ℕ) (network : Network) (e : Fault) → IsNetwork octets network → IsRefusedNetwork octets e → ⊥
+not_refused octets network e n (by_walk h) = faultless (network_faults []) network_of octets network e n.document h
+not_refused octets network e n (by_plan other document refuses) =
+    unrefused network e n.plannable (subst (λ (x : Network). RefusesNetwork x e) (same_network octets network other n.document document) refuses)
+
+-- so what holds of a network that is refused holds where the network was read
+pub network_faultless : (left : Option (List ℕ)) (network : Network) (A : Type 0) → IfSome left (λ n. IsNetwork n network) → IfSome left (λ n. (e : Fault) → IsRefusedNetwork n e → A)
 network_faultless None network A h = h
-network_faultless (Some octets) network A h = λ e f. absurd (faultless (network_faults []) _ octets network e h f)
+network_faultless (Some octets) network A h = λ e f. absurd (not_refused octets network e h f)
+
+-- the network's document is refused
+pub collect_unread : (left_n left_s : Option (List ℕ)) (e : Fault) (M N T W : Type 0) → M ⊎ (N ⊎ IfSome left_n (λ n. IsRefusedNetwork n e)) → M ⊎ (N ⊎ (T ⊎ (W ⊎ IfSome left_n (λ n. IfSome left_s (λ o. IsRefusedCollect n o e)))))
+collect_unread left_n left_s e M N T W h =
+    elim h [
+      | inl m ↦ inl m
+      | inr (inl n) ↦ inr (inl n)
+      | inr (inr f) ↦ inr (inr (inr (inr (first_told left_n left_s (λ n. IsRefusedNetwork n e) (λ n o. IsRefusedCollect n o e) (λ n o p. inl p) f))))
+    ]

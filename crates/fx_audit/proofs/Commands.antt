@@ -15,7 +15,8 @@ use Rattle.fx_audit.specs.declared.answer.Answer.TheVariants.{Yes}
 use Rattle.fx_audit.specs.declared.bundle.Command.{Command}
 use Rattle.fx_audit.specs.declared.bundle.Command.TheVariants.{Replay}
 use Rattle.fx_audit.specs.Bundle.{IsBundle}
-use Rattle.fx_audit.specs.Documents.{IsNetwork, IsTraffic, ReadFails}
+use Rattle.fx_audit.specs.Documents.{IsNetwork, IsRefusedByDocuments, IsTraffic, ReadFails}
+use Rattle.fx_audit.proofs.Documents.{both_mapped}
 use Rattle.fx_audit.specs.Commands.{IsRefusedBundle, IsRefusedReplay, IsRefusedRun, IsRefusedThere, IsReplayed, IsReplayedIn}
 use Rattle.fx_audit.specs.Replay.{IsRefused}
 use Rattle.fx_audit.proofs.Documents.{told}
@@ -113,3 +114,13 @@ bundle_refused left octets text command n t third R W (Err e) same is b h =
 pub no_bundle : (left : Option (List ℕ)) (octets text : List ℕ) (e : Fault) → IfSome left (λ l. octets ≡ l) → text ≡ octets → e ≡ fault_at 801 places.None → ((command : Command) (network : List ℕ) (traffic : List ℕ) (third : List ℕ) → IsBundle text command network traffic third → ⊥) → IfSome left (λ o. IsRefusedBundle o e)
 no_bundle left octets text e same is number none =
     told left octets (λ o. IsRefusedBundle o e) same (inl (number, λ command network traffic third b. none command network traffic third (subst (λ (o : List ℕ). IsBundle o command network traffic third) (sym is) b)))
+
+-- a document is refused
+pub replay_unread : (left_n left_t : Option (List ℕ)) (lines : Lines) (e : Fault) (M N T F W : Type 0) → M ⊎ (N ⊎ (T ⊎ IfSome left_n (λ n. IfSome left_t (λ t. IsRefusedByDocuments n t e)))) → M ⊎ (N ⊎ (T ⊎ (F ⊎ (W ⊎ IfSome left_n (λ n. IfSome left_t (λ t. IsRefusedReplay n t lines e))))))
+replay_unread left_n left_t lines e M N T F W h =
+    elim h [
+      | inl m ↦ inl m
+      | inr (inl n) ↦ inr (inl n)
+      | inr (inr (inl t)) ↦ inr (inr (inl t))
+      | inr (inr (inr f)) ↦ inr (inr (inr (inr (inr (both_mapped left_n left_t (λ n t. IsRefusedByDocuments n t e) (λ n t. IsRefusedReplay n t lines e) (λ n t p. inl p) f)))))
+    ]

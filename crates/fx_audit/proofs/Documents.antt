@@ -1,5 +1,5 @@
 -- What reading a document comes to.
-use Rattle.std.proofs.Common.{◌≡◌, ◌⊎◌, ℕ, List, [], Option, Some, None, Result, Ok, Err, IfSome, sym, ap, subst, inl, inr, IfOk, IfErr}
+use Rattle.std.proofs.Common.{◌≡◌, ◌⊎◌, ℕ, List, [], Option, Some, None, Result, Ok, Err, IfSome, refl, sym, ap, subst, inl, inr, IfOk, IfErr}
 use Rattle.std.specs.Result.{IsErr, IsErrAnd}
 use Rattle.serde_json.specs.Data.{Data}
 use Rattle.fx_base.specs.declared.fault.Fault.{Fault}
@@ -8,9 +8,10 @@ use Rattle.fx_base.specs.declared.fault.Place.TheVariants as places
 use Rattle.fx_base.specs.Fault.{fault_at}
 use Rattle.fx_config.specs.Walk.{Found, Reads, refuses}
 use Rattle.fx_plan.specs.declared.network.Network.{Network}
-use Rattle.fx_plan.specs.Networks.{device_names}
+use Rattle.fx_plan.specs.Networks.{device_names, network_faults, network_of}
+use Rattle.fx_plan.specs.Plans.{ReadsPlan}
 use Rattle.fx_traffic.specs.Classes.{traffic_faults}
-use Rattle.fx_audit.specs.Documents.{IsDocument, IsFirstFault, IsJson, IsNetwork, IsRefusedByDocuments, is_found}
+use Rattle.fx_audit.specs.Documents.{IsDocument, IsFirstFault, IsJson, IsNetwork, IsRefusedByDocuments, IsRefusedNetwork, by_walk, by_plan, is_found}
 
 -- what holds of the octets that were read holds of those that were left
 pub told : (left : Option (List ℕ)) (octets : List ℕ) (P : List ℕ → Type 0) → IfSome left (λ l. octets ≡ l) → P octets → IfSome left P
@@ -37,10 +38,35 @@ source_refused faults meaning left octets text d Q same is json (Ok x) h = cc
 source_refused faults meaning left octets text d Q same is json (Err e) h =
     elim (found_or_memory e.number e.place (faults d) h) [ inl m ↦ inl m | inr f ↦ inr (inr (refused_first faults left octets e same (inr (d, subst (λ (o : List ℕ). IsJson o d) is json, f)))) ]
 
+-- the same for the document of a network, which can be planned or is refused
+pub network_read : (left : Option (List ℕ)) (octets text : List ℕ) (d : Data) → IfSome left (λ l. octets ≡ l) → text ≡ octets → IsJson text d → (r : Result Network Fault) → ReadsPlan d r → IfOk r (λ x. IfSome left (λ l. IsNetwork l x))
+network_read left octets text d same is json (Ok x) h =
+    told left octets (λ l. IsNetwork l x) same (record {
+      document = record { value = d; json = subst (λ (o : List ℕ). IsJson o d) is json; faultless = h.0; means = h.1 };
+      plannable = (h.2, h.3);
+    })
+network_read left octets text d same is json (Err e) h = cc
+
+pub network_refused : (left : Option (List ℕ)) (octets text : List ℕ) (d : Data) (Q : Fault → Type 0) → IfSome left (λ l. octets ≡ l) → text ≡ octets → IsJson text d → (r : Result Network Fault) → ReadsPlan d r → IfErr r (λ e. (e ≡ fault_at 900 places.None) ⊎ (Q e ⊎ IfSome left (λ l. IsRefusedNetwork l e)))
+network_refused left octets text d Q same is json (Ok x) h = cc
+network_refused left octets text d Q same is json (Err e) h =
+    let own : IsJson octets d = subst (λ (o : List ℕ). IsJson o d) is json in
+    elim h [
+      | inl f ↦ elim (found_or_memory e.number e.place (network_faults [] d) f) [
+          | inl m ↦ inl m
+          | inr g ↦ inr (inr (told left octets (λ l. IsRefusedNetwork l e) same (by_walk (inr (d, own, g)))))
+        ]
+      | inr n ↦ inr (inr (told left octets (λ l. IsRefusedNetwork l e) same (by_plan (network_of d) (record { value = d; json = own; faultless = n.0; means = refl }) n.1)))
+    ]
+
 -- octets that are no JSON text
 pub no_json : (faults : Data → List Found) (left : Option (List ℕ)) (octets text : List ℕ) (e : Fault) (Q : Type 0) → IfSome left (λ l. octets ≡ l) → text ≡ octets → (e ≡ fault_at 900 places.None) ⊎ ((e ≡ fault_at 101 places.None) × ((d : Data) → IsJson text d → ⊥)) → (e ≡ fault_at 900 places.None) ⊎ (Q ⊎ IfSome left (λ l. IsFirstFault faults l e))
 no_json faults left octets text e Q same is h =
     elim h [ inl m ↦ inl m | inr n ↦ inr (inr (refused_first faults left octets e same (inl (n.0, λ d j. n.1 d (subst (λ (o : List ℕ). IsJson o d) (sym is) j))))) ]
+
+pub no_network : (left : Option (List ℕ)) (octets text : List ℕ) (e : Fault) (Q : Type 0) → IfSome left (λ l. octets ≡ l) → text ≡ octets → (e ≡ fault_at 900 places.None) ⊎ ((e ≡ fault_at 101 places.None) × ((d : Data) → IsJson text d → ⊥)) → (e ≡ fault_at 900 places.None) ⊎ (Q ⊎ IfSome left (λ l. IsRefusedNetwork l e))
+no_network left octets text e Q same is h =
+    elim h [ inl m ↦ inl m | inr n ↦ inr (inr (told left octets (λ l. IsRefusedNetwork l e) same (by_walk (inl (n.0, λ d j. n.1 d (subst (λ (o : List ℕ). IsJson o d) (sym is) j)))))) ]
 
 -- ---- two documents
 
@@ -53,6 +79,25 @@ pub both_told : (left_n left_t : Option (List ℕ)) (P Q : List ℕ → Type 0) 
 both_told None left_t P Q R p q h = cc
 both_told (Some n) None P Q R p q h = cc
 both_told (Some n) (Some t) P Q R p q h = h n t p q
+
+pub first_told : (left_n left_t : Option (List ℕ)) (P : List ℕ → Type 0) (R : List ℕ → List ℕ → Type 0) → ((n t : List ℕ) → P n → R n t) → IfSome left_n P → IfSome left_n (λ n. IfSome left_t (λ t. R n t))
+first_told None left_t P R h p = cc
+first_told (Some n) None P R h p = cc
+first_told (Some n) (Some t) P R h p = h n t p
+
+pub both_mapped : (left_n left_t : Option (List ℕ)) (P R : List ℕ → List ℕ → Type 0) → ((n t : List ℕ) → P n t → R n t) → IfSome left_n (λ n. IfSome left_t (λ t. P n t)) → IfSome left_n (λ n. IfSome left_t (λ t. R n t))
+both_mapped None left_t P R h p = cc
+both_mapped (Some n) None P R h p = cc
+both_mapped (Some n) (Some t) P R h p = h n t p
+
+-- the network's document is refused
+pub first_refused : (left_n left_t : Option (List ℕ)) (e : Fault) (M N T : Type 0) → M ⊎ (N ⊎ IfSome left_n (λ n. IsRefusedNetwork n e)) → M ⊎ (N ⊎ (T ⊎ IfSome left_n (λ n. IfSome left_t (λ t. IsRefusedByDocuments n t e))))
+first_refused left_n left_t e M N T h =
+    elim h [
+      | inl m ↦ inl m
+      | inr (inl n) ↦ inr (inl n)
+      | inr (inr f) ↦ inr (inr (inr (first_told left_n left_t (λ n. IsRefusedNetwork n e) (λ n t. IsRefusedByDocuments n t e) (λ n t p. inl p) f)))
+    ]
 
 pub traffic_refused : (left_n left_t : Option (List ℕ)) (network : Network) (e : Fault) (M N T : Type 0) → IfSome left_n (λ n. IsNetwork n network) → M ⊎ (T ⊎ IfSome left_t (λ t. IsFirstFault (traffic_faults (device_names network) []) t e)) → M ⊎ (N ⊎ (T ⊎ IfSome left_n (λ n. IfSome left_t (λ t. IsRefusedByDocuments n t e))))
 traffic_refused left_n left_t network e M N T is h =

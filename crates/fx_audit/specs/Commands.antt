@@ -10,12 +10,11 @@ use Rattle.fx_machine.specs.RunReading.{Fails, run_reading}
 use Rattle.fx_machine.specs.States.{State, opening, told}
 use Rattle.fx_machine.specs.Steps.{run}
 use Rattle.fx_plan.specs.declared.network.Network.{Network}
-use Rattle.fx_plan.specs.Networks.{network_faults}
 use Rattle.fx_plan.specs.Tables.{net_of}
 use Rattle.fx_audit.specs.Bundle.{IsBundle}
 use Rattle.fx_audit.specs.declared.bundle.Command.{Command}
 use Rattle.fx_audit.specs.declared.bundle.Command.TheVariants.{Replay}
-use Rattle.fx_audit.specs.Documents.{IsFirstFault, IsNetwork, IsRefusedByDocuments, IsTraffic, ReadFails}
+use Rattle.fx_audit.specs.Documents.{IsNetwork, IsRefusedByDocuments, IsRefusedNetwork, IsTraffic, ReadFails}
 use Rattle.fx_audit.specs.Replay.{IsRefused, IsTextOf}
 use Rattle.fx_audit.specs.Streams.{IsRefusedStream, IsStreamText, IsWhole, stream_read}
 
@@ -62,7 +61,7 @@ pub record IsCollected (network_octets stream_octets text : List ℕ) : Type 0 w
 -- the first refusal of what is collected: that of the network's document, then the stream's
 abbrev pub IsRefusedCollect : List ℕ → List ℕ → Fault → Type 0
 IsRefusedCollect network_octets stream_octets e =
-    IsFirstFault (network_faults []) network_octets e
+    IsRefusedNetwork network_octets e
     ⊎ ((network : Network) × IsNetwork network_octets network × IsRefusedStream (stream_read stream_octets) e)
 
 -- ---- a bundle

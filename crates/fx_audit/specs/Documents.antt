@@ -9,7 +9,12 @@ use Rattle.fx_base.specs.Fault.{fault_at}
 use Rattle.fx_config.specs.Walk.{Found, first}
 use Rattle.fx_machine.specs.Classes.{Class}
 use Rattle.fx_plan.specs.declared.network.Network.{Network}
+use Rattle.fx_plan.specs.declared.limits.TheConstants.{LAYOUTS}
+use Rattle.fx_plan.specs.Layouts.{layouts_of}
 use Rattle.fx_plan.specs.Networks.{device_names, network_faults, network_of}
+use Rattle.fx_plan.specs.Plans.{RefusesNetwork}
+use Rattle.fx_plan.specs.Ranks.{IsStuck}
+use Rattle.fx_plan.specs.Tables.{net_of}
 use Rattle.fx_traffic.specs.Classes.{traffic_faults, traffic_of}
 
 -- a source that is read to its end fails, or hasn't ended after 2 to the 32 calls
@@ -39,8 +44,19 @@ IsFirstFault faults octets e =
     ((e ≡ fault_at 101 places.None) × ((d : Data) → IsJson octets d → ⊥))
     ⊎ ((d : Data) × IsJson octets d × is_found e.number e.place (faults d))
 
-abbrev pub IsNetwork : List ℕ → Network → Type 0
-IsNetwork octets network = IsDocument (network_faults []) network_of octets network
+-- a network has few enough layouts, and its links form no cycle
+abbrev pub IsPlannable : Network → Type 0
+IsPlannable network = (length (layouts_of (net_of network)) ≤ LAYOUTS) × ((process : ℕ) → IsStuck (net_of network) process → ⊥)
+
+-- the octets are the document of a network
+pub record IsNetwork (octets : List ℕ) (network : Network) : Type 0 where
+  pub document : IsDocument (network_faults []) network_of octets network
+  pub plannable : IsPlannable network
+
+-- the first fault of the document itself, or else what refuses the network that it means
+pub data IsRefusedNetwork (octets : List ℕ) (e : Fault) : Type 0 where
+  by_walk : IsFirstFault (network_faults []) octets e → IsRefusedNetwork octets e
+  by_plan : (network : Network) → IsDocument (network_faults []) network_of octets network → RefusesNetwork network e → IsRefusedNetwork octets e
 
 -- a declaration of the traffic that crosses this network
 abbrev pub IsTraffic : Network → List ℕ → List Class → Type 0
@@ -49,5 +65,5 @@ IsTraffic network octets classes = IsDocument (traffic_faults (device_names netw
 -- the first fault of a command's two documents, of which the network's is read first
 abbrev pub IsRefusedByDocuments : List ℕ → List ℕ → Fault → Type 0
 IsRefusedByDocuments network_octets traffic_octets e =
-    IsFirstFault (network_faults []) network_octets e
+    IsRefusedNetwork network_octets e
     ⊎ ((network : Network) × IsNetwork network_octets network × IsFirstFault (traffic_faults (device_names network) []) traffic_octets e)

@@ -1,12 +1,11 @@
 //! The command that collects a stream, from octets to octets.
-ghost use Rattle.std.specs.Prelude.{◌≡◌, ◌⊎◌, ℕ, List, [], IfOk, IfErr, IfSome, true};
+ghost use Rattle.std.specs.Prelude.{◌≡◌, ◌⊎◌, ℕ, List, IfOk, IfErr, IfSome, true};
 ghost use Rattle.fx_base.specs.Device.{Writes};
 ghost use Rattle.fx_base.specs.Fault.{fault_at};
 ghost use Rattle.fx_base.specs.declared.fault.Fault.{Fault};
 ghost use Rattle.fx_base.specs.declared.fault.Place.TheVariants as places;
-ghost use Rattle.fx_plan.specs.Networks.{network_faults};
 ghost use Rattle.fx_audit.specs.Commands.{IsCollected, IsRefusedCollect};
-ghost use Rattle.fx_audit.specs.Documents.{IsFirstFault, ReadFails};
+ghost use Rattle.fx_audit.specs.Documents.{IsRefusedNetwork, ReadFails};
 ghost use Rattle.fx_audit.specs.declared.answer.Answer.TheVariants.{Yes};
 
 use crate::answer::Answer;
@@ -35,7 +34,7 @@ pub fn collect_bytes<N: Source, R: Source, S: Sink>(
         ⊎ (ReadFails (R.left stream.old) (R.failed stream.new) e
         ⊎ (((e ≡ fault_at 902 places.None) × (S.failed sink.new ≡ true))
         ⊎ IfSome (N.left network.old) (λ n. IfSome (R.left stream.old) (λ octets. IsRefusedCollect n octets e)))))) }
-    ensures untouched { IfSome (N.left network.old) (λ n. (e : Fault) → IsFirstFault (network_faults []) n e → stream.new ≡ stream.old) }
+    ensures untouched { IfSome (N.left network.old) (λ n. (e : Fault) → IsRefusedNetwork n e → stream.new ≡ stream.old) }
     ensures quiet { IfErr result (λ e. (e ≡ fault_at 902 places.None) ⊎ (S.taken sink.new ≡ S.taken sink.old)) }
 {
     let plan = network_from(alloc, network)?;

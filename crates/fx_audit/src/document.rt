@@ -4,9 +4,9 @@ ghost use Rattle.serde_json.specs.View.{view};
 ghost use Rattle.serde_json.specs.Data.{Data};
 ghost use Rattle.fx_base.specs.Fault.{fault_at};
 ghost use Rattle.fx_base.specs.declared.fault.Place.TheVariants as places;
-ghost use Rattle.fx_plan.specs.Networks.{device_names, network_faults};
+ghost use Rattle.fx_plan.specs.Networks.{device_names};
 ghost use Rattle.fx_traffic.specs.Classes.{traffic_faults};
-ghost use Rattle.fx_audit.specs.Documents.{IsFirstFault, IsJson, IsNetwork, IsRefusedByDocuments, IsTraffic, ReadFails};
+ghost use Rattle.fx_audit.specs.Documents.{IsFirstFault, IsJson, IsNetwork, IsRefusedByDocuments, IsRefusedNetwork, IsTraffic, ReadFails};
 
 use fx_base::{Fault, Source, read_whole};
 use fx_plan::{Plan, read_plan};
@@ -48,7 +48,7 @@ pub struct Documents {
 pub(crate) fn network_from<R: Source>(alloc: Global, source: &mut R) -> Result<Plan, Fault>
     ensures ok { IfOk result (λ plan. IfSome (R.left source.old) (λ octets. IsNetwork octets plan)) }
     ensures err { IfErr result (λ e. (e ≡ fault_at 900 places.None) ⊎ (ReadFails (R.left source.old) (R.failed source.new) e
-        ⊎ IfSome (R.left source.old) (λ octets. IsFirstFault (network_faults []) octets e))) }
+        ⊎ IfSome (R.left source.old) (λ octets. IsRefusedNetwork octets e))) }
 {
     let octets = read_whole(alloc, source)?;
     let value = value_of(alloc, octets.as_slice())?;

@@ -1,14 +1,12 @@
-use Rattle.std.specs.Prelude.{[]}
 use Rattle.serde_json.specs.View.{view}
-use Rattle.fx_plan.specs.Networks.{network_faults, network_of}
 use Rattle.fx_audit.specs.Documents.{ReadFails}
-use Rattle.fx_audit.proofs.Documents.{source_read, source_refused}
+use Rattle.fx_audit.proofs.Documents.{network_read, network_refused}
 use Rattle.fx_audit.proofs.document.network_from.Goals as goal
 
 pub returns-clause-ok : goal.returns-clause-ok
 returns-clause-ok g c =
-    source_read (network_faults []) network_of (g.R.Source.left c.args.source.now) c.in_ok-octets.octets.items c.as_slice.result.now (view c.in_ok-value.value) c.in_ok-octets.ensures.all c.as_slice.ensures.value c.in_ok-value.ensures.ok c.read_plan.result c.read_plan.ensures
+    network_read (g.R.Source.left c.args.source.now) c.in_ok-octets.octets.items c.as_slice.result.now (view c.in_ok-value.value) c.in_ok-octets.ensures.all c.as_slice.ensures.value c.in_ok-value.ensures.ok c.read_plan.result c.read_plan.ensures
 
 pub returns-clause-err : goal.returns-clause-err
 returns-clause-err g c =
-    source_refused (network_faults []) network_of (g.R.Source.left c.args.source.now) c.in_ok-octets.octets.items c.as_slice.result.now (view c.in_ok-value.value) (λ e. ReadFails (g.R.Source.left c.args.source.now) (g.R.Source.failed c.read_whole.new.source) e) c.in_ok-octets.ensures.all c.as_slice.ensures.value c.in_ok-value.ensures.ok c.read_plan.result c.read_plan.ensures
+    network_refused (g.R.Source.left c.args.source.now) c.in_ok-octets.octets.items c.as_slice.result.now (view c.in_ok-value.value) (λ e. ReadFails (g.R.Source.left c.args.source.now) (g.R.Source.failed c.read_whole.new.source) e) c.in_ok-octets.ensures.all c.as_slice.ensures.value c.in_ok-value.ensures.ok c.read_plan.result c.read_plan.ensures

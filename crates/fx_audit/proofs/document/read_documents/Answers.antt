@@ -1,6 +1,10 @@
-use Rattle.fx_audit.proofs.Documents.{exit_with, traffic_refused}
+use Rattle.fx_audit.proofs.Documents.{exit_with, first_refused, traffic_refused}
 use Rattle.fx_audit.proofs.document.read_documents.Goals as goal
 
 pub returns-in_err-traffic-clause-err : goal.returns-in_err-traffic-clause-err
 returns-in_err-traffic-clause-err g c =
     exit_with _ _ _ c.from_residual-in_err-traffic.ensures (traffic_refused (g.N.Source.left c.args.network.now) (g.T.Source.left c.args.traffic.now) c.in_ok-plan.plan _ _ _ _ c.in_ok-plan.ensures.ok c.in_err-traffic.ensures.err)
+
+pub returns-in_err-plan-clause-err : goal.returns-in_err-plan-clause-err
+returns-in_err-plan-clause-err g c =
+    exit_with _ _ _ c.from_residual.ensures (first_refused (g.N.Source.left c.args.network.now) (g.T.Source.left c.args.traffic.now) _ _ _ _ c.in_err-plan.ensures.err)

@@ -1,4 +1,5 @@
-use Rattle.fx_audit.proofs.Commands.{replay_done, replay_refused}
+use Rattle.fx_audit.proofs.Commands.{replay_done, replay_refused, replay_unread}
+use Rattle.fx_audit.proofs.Documents.{exit_with}
 use Rattle.fx_audit.proofs.replay_command.replay_bytes.Goals as goal
 
 pub returns-clause-ok : goal.returns-clause-ok
@@ -8,3 +9,7 @@ returns-clause-ok g c =
 pub returns-clause-err : goal.returns-clause-err
 returns-clause-err g c =
     replay_refused (g.N.Source.left c.args.network.now) (g.T.Source.left c.args.traffic.now) c.in_ok-documents.documents.plan c.in_ok-documents.documents.traffic c.args.run.now _ _ _ _ c.replay_lines.result c.in_ok-documents.ensures.network c.in_ok-documents.ensures.traffic c.replay_lines.ensures.err
+
+pub returns-in_err-documents-clause-err : goal.returns-in_err-documents-clause-err
+returns-in_err-documents-clause-err g c =
+    exit_with _ _ _ c.from_residual.ensures (replay_unread (g.N.Source.left c.args.network.now) (g.T.Source.left c.args.traffic.now) c.args.run.now _ _ _ _ _ _ c.in_err-documents.ensures.err)
