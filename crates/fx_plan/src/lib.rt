@@ -31,4 +31,6 @@ pub use plan::{Plan, read_plan};
 pub use report::Report;
 
 #[cfg(test)]
+mod plan_tests;
+#[cfg(test)]
 mod tests;
