@@ -1,13 +1,14 @@
 -- Where not all processes come, those that don't are stuck, and no others are.
-use Rattle.std.proofs.Common.{◌≡◌, ℕ, ◌<◌, ◌≤◌, Bool, true, false, not, List, [], length, map, filter, get_or, sym, ap, ◌∙◌, arith, inl, inr}
-use Rattle.std.specs.List.{list_all, range_with_len}
-use Rattle.std.proofs.lemmas.Bool.{cases_Bool, both_ways, not-true, not_from_false}
-use Rattle.std.proofs.lemmas.List.Folds.{list_all-map}
+use Rattle.std.proofs.Common.{◌≡◌, ℕ, zero, suc, All, Option, Some, None, slice_get, eqb-true, subst, ◌<◌, ◌≤◌, Bool, true, false, not, List, [], length, map, filter, get_or, sym, ap, ◌∙◌, arith, inl, inr}
+use Rattle.std.specs.List.{list_all, list_any, range_with_len}
+use Rattle.std.proofs.lemmas.Bool.{cases_Bool, or_cases, both_ways, not-true, not_from_false}
+use Rattle.std.proofs.lemmas.List.Folds.{list_all-map, Any-from_list_any}
 use Rattle.std.proofs.lemmas.List.FromFn.{length-map-range_with_len, get_or-map-range_with_len}
-use Rattle.fx_machine.specs.Network.{Net}
-use Rattle.fx_plan.specs.Feeding.{places_of}
+use Rattle.fx_machine.specs.Network.{Net, Exporter, Process, Aggregation, at_places, exporters_of}
+use Rattle.fx_machine.specs.Ranks.{RisesTo, Rises, AllRise, ProcessRises, IsRanked}
+use Rattle.fx_plan.specs.Feeding.{feeds, feeds_by, is_place, lead_to, leads_to, places_of}
 use Rattle.fx_plan.specs.Plans.{IsResolved}
-use Rattle.fx_plan.specs.Ranks.{AreStuck, IsRankOrder, IsStuck, IsWhole, is_in}
+use Rattle.fx_plan.specs.Ranks.{AreStuck, IsFedWithin, IsRankOrder, IsStuck, IsWhole, is_in}
 use Rattle.fx_plan.proofs.Comings.{all_in, feeder_within, left_stuck, none_stuck, some_not}
 use Rattle.fx_plan.proofs.Ranges.{filter_same}
 
@@ -55,3 +56,44 @@ none_are_stuck net order w process s =
     let f = s.within.feeder process s.is_among in
     let come = w.all f.0 (feeder_within net f.0 process f.2) in
     both_ways (s.among f.0) (none_stuck net s.among [] order w.order_is s.within (λ p e. cc) f.0 come) f.1
+
+-- ---- where processes are stuck there are no ranks
+
+rises_to_place : (rank : ℕ → ℕ) (from q : ℕ) (o : Option ℕ) → RisesTo rank from o → is_place q o ≡ true → rank from < rank q
+rises_to_place rank from q None h e = cc
+rises_to_place rank from q (Some place) h e = subst (λ (x : ℕ). rank from < rank x) (eqb-true place q e) h
+
+rises_along : (net : Net) (rank : ℕ → ℕ) (from q : ℕ) (o : Option ℕ) → Rises rank net from o → leads_to net q o ≡ true → rank from < rank q
+rises_along net rank from q None h e = cc
+rises_along net rank from q (Some link) h e = rises_to_place rank from q (slice_get net.links link) h e
+
+all_rise_along : (net : Net) (rank : ℕ → ℕ) (from q : ℕ) (exporters : List Exporter) → AllRise rank net from exporters → lead_to net q exporters ≡ true → rank from < rank q
+all_rise_along net rank from q exporters h e =
+    let some = Any-from_list_any (λ (x : Exporter). list_any (leads_to net q) x.destinations) exporters e in
+    let one = Any-from_list_any (leads_to net q) some.1.destinations some.4 in
+    let here : All (Rises rank net from) some.1.destinations = subst (λ (x : Exporter). All (Rises rank net from) x.destinations) some.3 (h some.0 some.1 some.2) in
+    rises_along net rank from q one.1 (subst (λ (o : Option ℕ). Rises rank net from o) one.3 (here one.0 one.1 one.2)) one.4
+
+process_rises_along : (net : Net) (rank : ℕ → ℕ) (from q : ℕ) (o : Option Process) → ProcessRises rank net from o → feeds_by net q o ≡ true → rank from < rank q
+process_rises_along net rank from q None h e = cc
+process_rises_along net rank from q (Some process) h e =
+    elim (or_cases (lead_to net q (at_places net.exporters process.exporters)) (list_any (λ a. lead_to net q (exporters_of net (slice_get net.holders a.holder))) process.aggregations) e) [
+      | inl f ↦ all_rise_along net rank from q (at_places net.exporters process.exporters) h.0 f
+      | inr f ↦
+        (let some = Any-from_list_any (λ (a : Aggregation). lead_to net q (exporters_of net (slice_get net.holders a.holder))) process.aggregations f in
+        let here : AllRise rank net from (exporters_of net (slice_get net.holders some.1.holder)) = subst (λ (a : Aggregation). AllRise rank net from (exporters_of net (slice_get net.holders a.holder))) some.3 (h.1 some.0 some.1 some.2) in
+        all_rise_along net rank from q (exporters_of net (slice_get net.holders some.1.holder)) here some.4)
+    ]
+
+pub rank_rises : (net : Net) (r : IsRanked net) (p q : ℕ) → feeds net p q ≡ true → r.rank p < r.rank q
+rank_rises net r p q f = process_rises_along net r.rank p q (slice_get net.processes p) (r.rises p) f
+
+none_below : (net : Net) (r : IsRanked net) (among : ℕ → Bool) → IsFedWithin net among → (n p : ℕ) → r.rank p < n → among p ≡ true → ⊥
+none_below net r among fed zero p low h = absurd (omega arith)
+none_below net r among fed (suc n) p low h =
+    let f = fed.feeder p h in
+    let lower : r.rank f.0 < r.rank p = rank_rises net r f.0 p f.2 in
+    none_below net r among fed n f.0 (omega arith) f.1
+
+pub no_ranks : (net : Net) (process : ℕ) → IsStuck net process → IsRanked net → ⊥
+no_ranks net process s r = none_below net r s.among s.within (suc (r.rank process)) process (omega arith) s.is_among

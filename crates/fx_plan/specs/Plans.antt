@@ -7,6 +7,7 @@ use Rattle.fx_base.specs.Fault.{fault_at}
 use Rattle.fx_config.specs.Walk.{Refuses}
 use Rattle.fx_layout.specs.Keys.{Fits, Layout}
 use Rattle.fx_machine.specs.Network.{Net, layout_of}
+use Rattle.fx_machine.specs.Ranks.{IsRanked}
 use Rattle.fx_plan.specs.declared.limits.TheConstants.{LAYOUTS}
 use Rattle.fx_plan.specs.declared.network.Network.{Network}
 use Rattle.fx_plan.specs.Cycles.{IsText, stuck_text}
@@ -26,11 +27,12 @@ pub record IsResolved (net : Net) : Type 0 where
 abbrev pub HasTooManyLayouts : Net → Type 0
 HasTooManyLayouts net = LAYOUTS < length (layouts_of net)
 
--- some processes are stuck, and the fault tells them all
+-- some processes are stuck, so there are no ranks, and the fault tells them all
 pub record IsCycle (network : Network) (e : Fault) : Type 0 where
   pub stuck : List ℕ
   pub are_stuck : AreStuck (net_of network) stuck
   pub one : (process : ℕ) × (process < length (net_of network).processes) × IsStuck (net_of network) process
+  pub unranked : IsRanked (net_of network) → ⊥
   pub number : e.number ≡ 204
   pub text : IsText e.place (stuck_text network.devices stuck)
 
