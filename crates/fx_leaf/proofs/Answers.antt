@@ -15,7 +15,7 @@ use Rattle.fx_leaf.proofs.Paths.{packet_said, packet_counted}
 use Rattle.fx_leaf.proofs.Uncut.{selections_uncut, matches_uncut, path_lost}
 
 -- the least packet of a region
-low_holds : (region : Bounds) → IsRegion region → holds region region.low ≡ true
+pub low_holds : (region : Bounds) → IsRegion region → holds region region.low ≡ true
 low_holds region r = in_holds region region.low (is_low region (ordered region r))
 
 pub none_is_cut : Judges NoneIsCut

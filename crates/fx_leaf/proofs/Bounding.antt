@@ -1,15 +1,15 @@
 -- Bounds of what cuts a region.
-use Rattle.std.proofs.Common.{◌≡◌, ◌≢◌, ◌⊎◌, inl, inr, ℕ, ◌+◌, ◌<◌, ◌≤◌, max, min, Bool, true, false, cond, List, get_or, Option, Some, None, refl, sym, ap, ◌∙◌, subst, arith, nat_le, nat_lt, IfSome, IfNone}
+use Rattle.std.proofs.Common.{◌≡◌, inl, inr, ℕ, ◌<◌, ◌≤◌, true, false, cond, List, get_or, Option, Some, None, refl, ◌∙◌, arith, nat_le, nat_lt, IfSome, IfNone}
 use Rattle.std.specs.Prelude.{◌&&◌}
 use Rattle.fx_elements.specs.declared.axis.Axis.{Axis}
 use Rattle.fx_elements.specs.declared.axis.Axis.TheVariants.{Source, Destination, Protocol, SourcePort, DestinationPort, ClassOfService}
-use Rattle.fx_elements.specs.Axes.{Fields, axes, axis_index}
-use Rattle.fx_boxes.specs.Boxes.{Bounds, IsRegion, Holds, holds}
+use Rattle.fx_elements.specs.Axes.{Fields, axes}
+use Rattle.fx_boxes.specs.Boxes.{Bounds, IsRegion, Holds}
 use Rattle.fx_machine.specs.declared.aggregation.MatchEntry.{MatchEntry}
 use Rattle.fx_leaf.specs.SoundLeaves.{matches_packet}
 use Rattle.fx_leaf.specs.Splits.{IsBound, IsSplitBy, NoSplitBy}
 use Rattle.fx_leaf.specs.Standings.{low_at, high_at, common, is_empty, is_within, standing, match_fields}
-use Rattle.fx_leaf.proofs.Standings.{In, is_in, not_all_of, none_of, one_of, not_below, common_low, common_high, meeting, common_left, common_right, ordered, Ordered, match_in, match_out, all_in, to_in, from_in}
+use Rattle.fx_leaf.proofs.Standings.{In, not_all_of, none_of, one_of, not_below, common_low, common_high, common_left, common_right, match_in, match_out, all_in, to_in, from_in}
 
 -- nothing splits on any axis
 pub on_each : (region other : Bounds) → ((k : ℕ) → k < 6 → NoSplitBy region other (get_or axes k Source)) → (axis : Axis) → NoSplitBy region other axis

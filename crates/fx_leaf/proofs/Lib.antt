@@ -21,3 +21,5 @@ pub mod Deciding
 pub mod TwoMeters
 pub mod Bounding
 pub mod Losing
+pub mod Following
+pub mod Cutting

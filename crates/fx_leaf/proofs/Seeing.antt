@@ -1,5 +1,5 @@
 -- What is told along a path, from a table that is filled.
-use Rattle.std.proofs.Common.{◌≡◌, inl, inr, ℕ, zero, suc, ◌+◌, ◌<◌, cond, List, [], ◌∷◌, ◌++◌, map, length, take, get_or, Option, Some, None, refl, sym, ap, ap₂, ◌∙◌, subst, arith, slice_get, add-one, le_of_suc-le-suc, length-set, append-nil, append_assoc}
+use Rattle.std.proofs.Common.{◌≡◌, inl, inr, ℕ, zero, suc, ◌+◌, ◌<◌, ◌≤◌, cond, List, [], ◌∷◌, ◌++◌, map, length, take, get_or, Option, Some, None, refl, sym, ap, ap₂, ◌∙◌, subst, arith, slice_get, add-one, le_of_suc-le-suc, length-set, append-nil, append_assoc}
 use Rattle.std.proofs.lemmas.Bool.{cases_lt}
 use Rattle.fx_boxes.specs.Boxes.{Bounds}
 use Rattle.fx_layout.specs.Keys.{Layout}
@@ -13,6 +13,7 @@ use Rattle.fx_leaf.specs.Tables.{Numbering, Numbers, Table, Tables, AreTables, n
 use Rattle.fx_leaf.specs.Verdicts.{Verdict, VerdictAt, both_judged, all_judged, one_judged, process_verdict, destination_verdict, send_verdict, sent_verdict, holder_verdict, verdict, Seen, seen_if, seen_by, seen_at, seen_along, counted_from}
 use Rattle.fx_leaf.proofs.Joins.{joined_assoc, joined_never, never_joined}
 use Rattle.fx_leaf.proofs.Filling.{table_is_verdicts, not_there}
+use Rattle.fx_leaf.proofs.Uncut.{both_none}
 
 -- ---- a filled table
 
@@ -50,7 +51,7 @@ module _ (net : Net) (n : Numbering) (region : Bounds) (table : Table) (filled :
     send_is : (e : Exporter) → send_verdict (entry table) net number e ≡ send_verdict (verdict net region) net layout e
     send_is e = ap (λ vs. cond e.parallel (all_judged vs) (one_judged vs)) (destinations_are e.destinations)
 
-    sent_is : (es : List Exporter) → sent_verdict (entry table) net number es ≡ sent_verdict (verdict net region) net layout es
+    pub sent_is : (es : List Exporter) → sent_verdict (entry table) net number es ≡ sent_verdict (verdict net region) net layout es
     sent_is [] = refl
     sent_is (e ∷ es) = ap₂ both_judged (send_is e) (sent_is es)
 
@@ -63,12 +64,20 @@ module _ (net : Net) (n : Numbering) (region : Bounds) (table : Table) (filled :
 
 -- ---- one more seen
 
-abbrev judged : List Seen → Verdict
+abbrev pub judged : List Seen → Verdict
 judged ss = all_judged (map (λ s. s.verdict) ss)
 
 judged_append : (xs ys : List Seen) → judged (xs ++ ys) ≡ both_judged (judged xs) (judged ys)
 judged_append [] ys = sym (never_joined (judged ys))
 judged_append (x ∷ xs) ys = ap (both_judged x.verdict) (judged_append xs ys) ∙ sym (joined_assoc x.verdict (judged xs) (judged ys))
+
+-- where neither part has none, the whole hasn't
+pub none_more : (xs ys all : List Seen) → all ≡ xs ++ ys → (judged xs ≡ None → ⊥) → (judged ys ≡ None → ⊥) → judged all ≡ None → ⊥
+none_more xs ys all is none new h =
+    elim (both_none (judged xs) (judged ys) (sym (judged_append xs ys) ∙ ap judged (sym is) ∙ h)) [
+      | inl e ↦ none e
+      | inr e ↦ new e
+    ]
 
 counted_append : (found : Option Seen) (xs ys : List Seen) → counted_from (counted_from found xs) ys ≡ counted_from found (xs ++ ys)
 counted_append found [] ys = refl
@@ -100,14 +109,15 @@ module _ (at : VerdictAt) (net : Net) (region : Bounds) where
       let x = get_or ss k d in
       ap (λ (xs : List Seen). here ++ xs) (by_more crossing point (q + 1) k ss d (le_of_suc-le-suc lt) ∙ ap (λ (i : ℕ). seen_by at net region crossing point (q + 1) (take k ss) ++ seen_if at net region crossing point i x.region x.holder) e) ∙ sym (append_assoc here (seen_by at net region crossing point (q + 1) (take k ss)) (seen_if at net region crossing point (q + suc k) x.region x.holder))
 
+  pub by_next : (crossing point k : ℕ) (ss : List Selection) (s : Selection) → k < length ss → s ≡ get_or ss k s → seen_by at net region crossing point 1 (take (k + 1) ss) ≡ seen_by at net region crossing point 1 (take k ss) ++ seen_if at net region crossing point (k + 1) s.region s.holder
+  by_next crossing point k ss s lt is =
+      let first : 1 + k ≡ k + 1 = omega arith in
+      ap (λ m. seen_by at net region crossing point 1 (take m ss)) (add-one k) ∙ by_more crossing point 1 k ss s lt ∙ ap₂ (λ (i : ℕ) (x : Selection). seen_by at net region crossing point 1 (take k ss) ++ seen_if at net region crossing point i x.region x.holder) first (sym is)
+
   -- a selection process more
   pub seen_selection : (crossing point k : ℕ) (ss : List Selection) (s : Selection) (a b c : Told) → k < length ss → s ≡ get_or ss k s → Seeing a b (seen_by at net region crossing point 1 (take k ss)) → Seeing b c (seen_if at net region crossing point (k + 1) s.region s.holder) → Seeing a c (seen_by at net region crossing point 1 (take (k + 1) ss))
   seen_selection crossing point k ss s a b c lt is so new =
-      let first : 1 + k ≡ k + 1 = omega arith in
-      let more : seen_by at net region crossing point 1 (take (k + 1) ss) ≡ seen_by at net region crossing point 1 (take k ss) ++ seen_if at net region crossing point (k + 1) s.region s.holder =
-      ap (λ m. seen_by at net region crossing point 1 (take m ss)) (add-one k) ∙ by_more crossing point 1 k ss s lt ∙ ap₂ (λ (i : ℕ) (x : Selection). seen_by at net region crossing point 1 (take k ss) ++ seen_if at net region crossing point i x.region x.holder) first (sym is)
-      in
-      subst (λ (xs : List Seen). Seeing a c xs) (sym more) (seeing_append a b c _ _ so new)
+      subst (λ (xs : List Seen). Seeing a c xs) (sym (by_next crossing point k ss s lt is)) (seeing_append a b c _ _ so new)
 
   abbrev pub at_one : ℕ → ℕ → Crossing → Point → List Seen
   at_one number place crossing point = cond (watches point crossing) (seen_by at net region number place 1 point.selections) []
@@ -123,14 +133,15 @@ module _ (at : VerdictAt) (net : Net) (region : Bounds) where
       let x = get_or ps k d in
       ap (λ (xs : List Seen). here ++ xs) (at_more number (n + 1) k crossing ps d (le_of_suc-le-suc lt) ∙ ap (λ (i : ℕ). seen_at at net region number (n + 1) (take k ps) crossing ++ at_one number i crossing x) e) ∙ sym (append_assoc here (seen_at at net region number (n + 1) (take k ps) crossing) (at_one number (n + suc k) crossing x))
 
+  pub at_next : (number k : ℕ) (crossing : Crossing) (ps : List Point) (p : Point) → k < length ps → p ≡ get_or ps k p → seen_at at net region number 1 (take (k + 1) ps) crossing ≡ seen_at at net region number 1 (take k ps) crossing ++ at_one number (k + 1) crossing p
+  at_next number k crossing ps p lt is =
+      let first : 1 + k ≡ k + 1 = omega arith in
+      ap (λ m. seen_at at net region number 1 (take m ps) crossing) (add-one k) ∙ at_more number 1 k crossing ps p lt ∙ ap₂ (λ (i : ℕ) (x : Point). seen_at at net region number 1 (take k ps) crossing ++ at_one number i crossing x) first (sym is)
+
   -- a point more
   pub seen_point : (number k : ℕ) (crossing : Crossing) (ps : List Point) (p : Point) (a b c : Told) → k < length ps → p ≡ get_or ps k p → Seeing a b (seen_at at net region number 1 (take k ps) crossing) → Seeing b c (at_one number (k + 1) crossing p) → Seeing a c (seen_at at net region number 1 (take (k + 1) ps) crossing)
   seen_point number k crossing ps p a b c lt is so new =
-      let first : 1 + k ≡ k + 1 = omega arith in
-      let more : seen_at at net region number 1 (take (k + 1) ps) crossing ≡ seen_at at net region number 1 (take k ps) crossing ++ at_one number (k + 1) crossing p =
-      ap (λ m. seen_at at net region number 1 (take m ps) crossing) (add-one k) ∙ at_more number 1 k crossing ps p lt ∙ ap₂ (λ (i : ℕ) (x : Point). seen_at at net region number 1 (take k ps) crossing ++ at_one number i crossing x) first (sym is)
-      in
-      subst (λ (xs : List Seen). Seeing a c xs) (sym more) (seeing_append a b c _ _ so new)
+      subst (λ (xs : List Seen). Seeing a c xs) (sym (at_next number k crossing ps p lt is)) (seeing_append a b c _ _ so new)
 
   abbrev pub at_crossing : ℕ → Crossing → List Seen
   at_crossing n c = seen_at at net region n 1 (points_of (numbered net.devices c.device)) c
@@ -146,11 +157,22 @@ module _ (at : VerdictAt) (net : Net) (region : Bounds) where
       let x = get_or cs k d in
       ap (λ (xs : List Seen). here ++ xs) (along_more (n + 1) k cs d (le_of_suc-le-suc lt) ∙ ap (λ (i : ℕ). seen_along at net region (n + 1) (take k cs) ++ at_crossing i x) e) ∙ sym (append_assoc here (seen_along at net region (n + 1) (take k cs)) (at_crossing (n + suc k) x))
 
+  pub along_next : (k : ℕ) (cs : List Crossing) (x : Crossing) → k < length cs → x ≡ get_or cs k x → seen_along at net region 1 (take (k + 1) cs) ≡ seen_along at net region 1 (take k cs) ++ at_crossing (k + 1) x
+  along_next k cs x lt is =
+      let first : 1 + k ≡ k + 1 = omega arith in
+      ap (λ m. seen_along at net region 1 (take m cs)) (add-one k) ∙ along_more 1 k cs x lt ∙ ap₂ (λ (i : ℕ) (y : Crossing). seen_along at net region 1 (take k cs) ++ at_crossing i y) first (sym is)
+
   -- a crossing more
   pub seen_crossing : (k : ℕ) (cs : List Crossing) (x : Crossing) (a b c : Told) → k < length cs → x ≡ get_or cs k x → Seeing a b (seen_along at net region 1 (take k cs)) → Seeing b c (at_crossing (k + 1) x) → Seeing a c (seen_along at net region 1 (take (k + 1) cs))
   seen_crossing k cs x a b c lt is so new =
-      let first : 1 + k ≡ k + 1 = omega arith in
-      let more : seen_along at net region 1 (take (k + 1) cs) ≡ seen_along at net region 1 (take k cs) ++ at_crossing (k + 1) x =
-      ap (λ m. seen_along at net region 1 (take m cs)) (add-one k) ∙ along_more 1 k cs x lt ∙ ap₂ (λ (i : ℕ) (y : Crossing). seen_along at net region 1 (take k cs) ++ at_crossing i y) first (sym is)
-      in
-      subst (λ (xs : List Seen). Seeing a c xs) (sym more) (seeing_append a b c _ _ so new)
+      subst (λ (xs : List Seen). Seeing a c xs) (sym (along_next k cs x lt is)) (seeing_append a b c _ _ so new)
+
+take_whole : {A : Type 0} (xs : List A) (k : ℕ) → length xs ≤ k → take k xs ≡ xs
+take_whole [] zero le = refl
+take_whole [] (suc k) le = refl
+take_whole (x ∷ xs) zero le = absurd (omega arith)
+take_whole {A = A} (x ∷ xs) (suc k) le = ap (λ (ys : List A). x ∷ ys) (take_whole xs k (le_of_suc-le-suc le))
+
+-- what isn't so of all that were gone over isn't so of the whole
+pub whole_none : {A : Type 0} (P : List A → Type 0) (xs : List A) (k : ℕ) → length xs ≤ k → (P (take k xs) → ⊥) → P xs → ⊥
+whole_none P xs k le h p = h (subst P (sym (take_whole xs k le)) p)

@@ -1,15 +1,18 @@
 -- Where a region that is cut may be split.
-use Rattle.std.specs.Prelude.{◌≡◌, ◌≢◌, ◌⊎◌, ℕ, ◌+◌, true, List, Contains, Some, None, slice_get}
+use Rattle.std.specs.Prelude.{◌≡◌, ◌≢◌, ◌⊎◌, ℕ, ◌+◌, true, List, map, Contains, Some, None, slice_get}
 use Rattle.fx_elements.specs.declared.axis.Axis.{Axis}
 use Rattle.fx_elements.specs.Axes.{Fields, axis_index}
 use Rattle.fx_boxes.specs.Boxes.{Bounds, holds, IsStrictlyInside}
-use Rattle.fx_layout.specs.Keys.{Key}
+use Rattle.fx_layout.specs.Keys.{Key, key_of}
 use Rattle.fx_machine.specs.declared.traffic.Crossing.{Crossing}
 use Rattle.fx_machine.specs.declared.observation.Selection.{Selection}
-use Rattle.fx_machine.specs.Network.{Net, Point, Aggregation, numbered, points_of, aggregations_of}
+use Rattle.fx_machine.specs.Network.{Net, Point, Aggregation, numbered, points_of, aggregations_of, layout_of}
+use Rattle.fx_machine.specs.Acts.{Hold}
 use Rattle.fx_machine.specs.Occurrences.{watches}
+use Rattle.fx_leaf.specs.Fates.{acts_along}
 use Rattle.fx_leaf.specs.SoundLeaves.{Uncut, Reached, can_read, matches_packet}
 use Rattle.fx_leaf.specs.Standings.{low_at, high_at, match_fields}
+use Rattle.fx_leaf.specs.Verdicts.{Verdict, Seen, all_judged}
 
 -- a low of a region, or one above a high
 abbrev pub IsBound : Bounds → Axis → ℕ → Type 0
@@ -48,3 +51,12 @@ pub data IsSplit (net : Net) (path : List Crossing) (region : Bounds) (axis : Ax
 pub record NoSplitBy (region other : Bounds) (axis : Axis) : Type 0 where
   pub low : IsStrictlyInside region (axis_index axis) (low_at other axis) → ⊥
   pub high : IsStrictlyInside region (axis_index axis) (high_at other axis + 1) → ⊥
+
+-- the verdicts of all of these together
+abbrev pub judged : List Seen → Verdict
+judged seen = all_judged (map (λ s. s.verdict) seen)
+
+-- the least packet of the region comes to be held there
+abbrev pub HeldAlong : Net → List Crossing → Bounds → ℕ → Type 0
+HeldAlong net path region holder =
+    Contains (acts_along net region.low path) (Hold holder (key_of (layout_of (slice_get net.holders holder)) region.low))

@@ -48,6 +48,7 @@ fn judged(scratch: &mut Scratch, tables: &Tables<'_>, path: &[Crossing], region:
     ensures counted { result.counted ≡ leaves.named (verdicts.counted tables.now.net region.now path.now) }
     ensures size { length scratch.new ≡ length scratch.old }
 {
+    let _greatest = region.far_corner();
     let rows = &mut scratch.rows[..tables.net().processes().len()];
     fill(rows, tables, region);
     let judge = Judge {

@@ -12,6 +12,7 @@ mod path;
 mod regions;
 mod rows;
 mod sending;
+mod split;
 mod table;
 mod verdict;
 
@@ -19,6 +20,7 @@ pub use laws::{conservation, exactly_once, fates_along_ranks, verdicts_judge_reg
 pub use leaf::{Counted, fate};
 pub use lent::Tables;
 pub use regions::{standing, standing_to, standing_to_match};
+pub use split::cut;
 pub use table::{LAYOUTS, Scratch};
 pub use verdict::{Fate, both_judged, either_judged, where_passed};
 

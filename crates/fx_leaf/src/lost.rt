@@ -28,12 +28,7 @@ pub(crate) enum Lost {
 }
 
 /// The place of the collecting process to which a destination leads, if there is no verdict there.
-fn lost_process(
-    rows: &[Row],
-    net: &Net,
-    number: usize,
-    destination: Option<usize>,
-) -> Option<usize>
+fn lost_process(rows: &[Row], net: &Net, number: usize, destination: Option<usize>) -> Option<usize>
     ensures some { IfSome result (λ process. by_lost.LeadsOn rows.now net.now number (destination ∷ []) process) }
     ensures none { IfNone result (verdicts.destination_verdict (by_table.entry rows.now) net.now number destination ≡ None → ⊥) }
 {

@@ -1,5 +1,6 @@
 //! The verdict on the packets of a region that take a path.
 ghost use Rattle.std.specs.Prelude.{◌≡◌, [], ◌∷◌, if◌then◌else◌};
+ghost use Rattle.fx_boxes.specs.Boxes as boxes;
 ghost use Rattle.fx_machine.specs.Network as network;
 ghost use Rattle.fx_machine.specs.Occurrences as met;
 ghost use Rattle.fx_leaf.specs.Leaves as leaves;
@@ -47,6 +48,7 @@ pub(crate) struct Judge<'a> {
     pub(crate) tables: &'a Tables<'a>,
     pub(crate) rows: &'a [Row],
     pub(crate) region: &'a Region,
+    ghost bounded: { boxes.IsRegion region.now },
     ghost numbers: { by_table.Numbers tables.now.net tables.now.numbering },
     ghost filled: { leaves.IsFilled tables.now.net tables.now.numbering region.now rows.now },
 }

@@ -1,4 +1,4 @@
-use Rattle.std.proofs.Common.{◌≡◌, ◌∙◌, ap, refl, List, [], ◌∷◌, ℕ}
+use Rattle.std.proofs.Common.{◌≡◌, ◌∙◌, ap, List, [], ◌∷◌}
 use Rattle.fx_layout.specs.Keys.{Layout}
 use Rattle.fx_leaf.specs.Tables.{Tables, Numbering}
 use Rattle.fx_leaf.proofs.TwoMeters.{two_meters}

@@ -1,4 +1,3 @@
-use Rattle.std.proofs.Common.{◌≡◌, None, map, drop}
 use Rattle.fx_leaf.specs.Tables.{entry}
 use Rattle.fx_leaf.specs.Verdicts.{destination_verdict}
 use Rattle.fx_leaf.proofs.Losing.{Still}

@@ -1,0 +1,158 @@
+-- Where what is met along a path splits a region.
+use Rattle.std.proofs.Common.{◌≡◌, ℕ, zero, suc, ◌+◌, true, cond, ◌++◌, List, [], ◌∷◌, Option, Some, None, refl, sym, ap, ◌∙◌, subst, arith, slice_get, if◌then◌else◌, IfSome, IfNone, IsSome, le_of_suc-le-suc}
+use Rattle.std.specs.Prelude.{Contains, ◌↔◌}
+use Rattle.fx_elements.specs.declared.axis.Axis.{Axis}
+use Rattle.fx_elements.specs.Axes.{Fields, axis_index}
+use Rattle.fx_boxes.specs.Boxes.{Bounds, IsRegion, IsStrictlyInside}
+use Rattle.fx_layout.specs.Keys.{key_of}
+use Rattle.fx_machine.specs.declared.observation.Occurrence.{Occurrence}
+use Rattle.fx_machine.specs.declared.observation.Selection.{Selection}
+use Rattle.fx_machine.specs.declared.traffic.Crossing.{Crossing}
+use Rattle.fx_machine.specs.Network.{Net, Point, numbered, points_of, at_places, named_by, exporters_of, layout_of}
+use Rattle.fx_machine.specs.Occurrences.{selects, occurrence, met_by, watches, met_at, occurrences}
+use Rattle.fx_machine.specs.Acts.{Act, Hold}
+use Rattle.fx_machine.specs.Steps.{meet, crossing_acts}
+use Rattle.fx_leaf.specs.declared.lost.Lost.TheVariants.{Behind}
+use Rattle.fx_machine.specs.Ranks.{IsNetwork}
+use Rattle.fx_leaf.specs.Answers.{NothingCuts}
+use Rattle.fx_leaf.specs.Fates.{acts_along}
+use Rattle.fx_leaf.specs.Leaves.{IsFilled}
+use Rattle.fx_leaf.specs.Lost.{SendsOn, SentByHolder, Starts, IsLost}
+use Rattle.fx_leaf.specs.SoundLeaves.{Uncut}
+use Rattle.fx_leaf.specs.SoundLeaves.Reached.{first}
+use Rattle.fx_leaf.specs.Splits.{IsSplitBy, Meets, IsSplit, HeldAlong}
+use Rattle.fx_leaf.specs.Splits.IsSplit.{of_selection, of_match}
+use Rattle.fx_leaf.specs.Standings.{standing_to}
+use Rattle.fx_leaf.specs.Tables.{Tables, Table, AreTables, number_of_layout, entry}
+use Rattle.fx_leaf.specs.Verdicts.{Verdict, sent_verdict, holder_verdict, verdict, path_verdict}
+use Rattle.fx_leaf.proofs.Answers.{low_holds, some_is_fate}
+use Rattle.fx_leaf.proofs.Following.{numbered_holder}
+use Rattle.fx_leaf.proofs.Seeing.{holder_is}
+use Rattle.fx_leaf.proofs.Standings.{selection_tells, standing_tells}
+use Rattle.fx_leaf.proofs.Uncut.{in_front, behind, mapped}
+
+pub some_more : {A : Type 0} (P Q : A → Type 0) (o : Option A) → ((x : A) → P x → Q x) → IfSome o P → IfSome o Q
+some_more P Q None f h = tt
+some_more P Q (Some x) f h = f x h
+
+pub none_more : {A : Type 0} (P Q : Type 0) (o : Option A) → (P → Q) → IfNone o P → IfNone o Q
+none_more P Q None f h = f h
+none_more P Q (Some x) f h = tt
+
+-- ---- a holder
+
+pub sends_of_holder : (t : Tables) (table : Table) (net : Net) (number : ℕ) (places : List ℕ) (holder process : ℕ) → net ≡ t.net → number ≡ number_of_layout t.numbering holder → places ≡ named_by (slice_get net.holders holder) → SendsOn table net number (at_places net.exporters places) process → SentByHolder t table holder (Behind process number)
+sends_of_holder t table net number places holder process same n named s =
+    (n, subst (λ (x : Net). SendsOn table x number (exporters_of x (slice_get x.holders holder)) process) same (subst (λ (ps : List ℕ). SendsOn table net number (at_places net.exporters ps) process) named s))
+
+module _ (t : Tables) (are : AreTables t) (region : Bounds) (r : IsRegion region) (table : Table) where
+  pub starts_at : (path : List Crossing) (holder process number : ℕ) → SentByHolder t table holder (Behind process number) → HeldAlong t.net path region holder → Starts t region path process number
+  starts_at path holder process number s held =
+      let sends = s.1 in
+      let key = key_of (layout_of (slice_get t.net.holders holder)) region.low in
+      record {
+        fields = region.low;
+        holder = holder;
+        here = low_holds region r;
+        layout_is = ap (slice_get t.numbering.layouts) s.0 ∙ numbered_holder t are.numbers holder (slice_get t.net.holders holder) refl sends.exporter sends.sends;
+        reached = first (Hold holder key) process key held (sends.exporter, sends.sends, (sends.on.link, sends.on.among, sends.on.leads, refl));
+      }
+
+  pub lost_there : (holder process number : ℕ) → SentByHolder t table holder (Behind process number) → IsLost t table process number
+  lost_there holder process number s =
+      let sends = s.1 in
+      (sends.on.none, (layout_of (slice_get t.net.holders holder), ap (slice_get t.numbering.layouts) s.0 ∙ numbered_holder t are.numbers holder (slice_get t.net.holders holder) refl sends.exporter sends.sends))
+
+  pub not_by_holder : IsFilled t.net t.numbering region table → (net : Net) (number : ℕ) (places : List ℕ) (holder : ℕ) → net ≡ t.net → number ≡ number_of_layout t.numbering holder → places ≡ named_by (slice_get net.holders holder) → (sent_verdict (entry table) net number (at_places net.exporters places) ≡ None → ⊥) → holder_verdict (verdict t.net region) t.net holder ≡ None → ⊥
+  not_by_holder filled net number places holder same n named none h =
+      let P : Net → ℕ → Type 0 = λ x. λ m. sent_verdict (entry table) x m (exporters_of x (slice_get x.holders holder)) ≡ None → ⊥ in
+      let none' : P t.net (number_of_layout t.numbering holder) = subst (λ m. P t.net m) n (subst (λ x. P x number) same (subst (λ (ps : List ℕ). sent_verdict (entry table) net number (at_places net.exporters ps) ≡ None → ⊥) named none)) in
+      none' (holder_is t.net t.numbering region table filled are.numbers holder ∙ h)
+
+-- ---- what is met is held
+
+module _ (net : Net) (fields : Fields) (s : Selection) (holder : ℕ) (cached : s.holder ≡ Some holder) (on : selects s.region fields ≡ true) where
+  -- an occurrence with this cache
+  abbrev Met : List Occurrence → Type 0
+  Met os = (o : Occurrence) × Contains os o × (o.holder ≡ holder)
+
+  met_here : (n p : ℕ) (x : Selection) (rest : List Occurrence) → x ≡ s → Met ((if selects x.region fields then occurrence n p x.holder else []) ++ rest)
+  met_here n p x rest same =
+      let o : Occurrence = record { point = n; process = p; holder = holder } in
+      let picked : selects x.region fields ≡ true = ap (λ (y : Selection). selects y.region fields) same ∙ on in
+      let own : x.holder ≡ Some holder = ap (λ (y : Selection). y.holder) same ∙ cached in
+      (o, subst (λ b. Contains (cond b (occurrence n p x.holder) [] ++ rest) o) (sym picked) (subst (λ h. Contains (occurrence n p h ++ rest) o) (sym own) (zero, omega arith, refl)), refl)
+
+  met_later : (xs ys : List Occurrence) → Met ys → Met (xs ++ ys)
+  met_later xs ys m = (m.0, behind xs ys m.0 m.1, m.2)
+
+  met_first : (xs ys : List Occurrence) → Met xs → Met (xs ++ ys)
+  met_first xs ys m = (m.0, in_front xs ys m.0 m.1, m.2)
+
+  met_in : (n p : ℕ) (ss : List Selection) → Contains ss s → Met (met_by n p ss fields)
+  met_in n p [] at = absurd (let lt = at.1 in omega (arith, lt))
+  met_in n p (x ∷ xs) (zero, lt, e) = met_here n p x (met_by n (p + 1) xs fields) e
+  met_in n p (x ∷ xs) (suc k, lt, e) =
+      met_later (if selects x.region fields then occurrence n p x.holder else []) (met_by n (p + 1) xs fields) (met_in n (p + 1) xs (k, le_of_suc-le-suc lt, e))
+
+  module _ (crossing : Crossing) (point : Point) (watched : watches point crossing ≡ true) (among : Contains point.selections s) where
+    point_here : (n : ℕ) (p : Point) (rest : List Occurrence) → p ≡ point → Met ((if watches p crossing then met_by n 1 p.selections fields else []) ++ rest)
+    point_here n p rest same =
+        let seen : watches p crossing ≡ true = ap (λ (q : Point). watches q crossing) same ∙ watched in
+        let own : Contains p.selections s = subst (λ (q : Point). Contains q.selections s) (sym same) among in
+        met_first (if watches p crossing then met_by n 1 p.selections fields else []) rest (subst (λ b. Met (cond b (met_by n 1 p.selections fields) [])) (sym seen) (met_in n 1 p.selections own))
+
+    met_among : (n : ℕ) (points : List Point) → Contains points point → Met (met_at n points crossing fields)
+    met_among n [] at = absurd (let lt = at.1 in omega (arith, lt))
+    met_among n (p ∷ ps) (zero, lt, e) = point_here n p (met_at (n + 1) ps crossing fields) e
+    met_among n (p ∷ ps) (suc k, lt, e) =
+        met_later (if watches p crossing then met_by n 1 p.selections fields else []) (met_at (n + 1) ps crossing fields) (met_among (n + 1) ps (k, le_of_suc-le-suc lt, e))
+
+    abbrev held : Act
+    held = Hold holder (key_of (layout_of (slice_get net.holders holder)) fields)
+
+    held_there : Contains (points_of (numbered net.devices crossing.device)) point → Contains (crossing_acts net fields (Some crossing)) held
+    held_there seen =
+        let m = met_among 1 (points_of (numbered net.devices crossing.device)) seen in
+        subst (λ h. Contains (crossing_acts net fields (Some crossing)) (Hold h (key_of (layout_of (slice_get net.holders h)) fields))) m.2 (mapped (meet net fields) (occurrences net crossing fields) m.0 m.1)
+
+    held_along : (path : List Crossing) → Contains path crossing → Contains (points_of (numbered net.devices crossing.device)) point → Contains (acts_along net fields path) held
+    held_along [] at seen = absurd (let lt = at.1 in omega (arith, lt))
+    held_along (c ∷ cs) (zero, lt, e) seen =
+        in_front (crossing_acts net fields (Some c)) (acts_along net fields cs) held (subst (λ (x : Crossing). Contains (crossing_acts net fields (Some x)) held) (sym e) (held_there seen))
+    held_along (c ∷ cs) (suc k, lt, e) seen =
+        behind (crossing_acts net fields (Some c)) (acts_along net fields cs) held (held_along cs (k, le_of_suc-le-suc lt, e) seen)
+
+pub meets_held : (net : Net) (path : List Crossing) (region : Bounds) (s : Selection) (holder : ℕ) → IsRegion region → s.holder ≡ Some holder → standing_to region s.region ≡ Some true → Meets net path s → HeldAlong net path region holder
+meets_held net path region s holder r cached all m =
+    let on = (selection_tells region s.region r).passes true all region.low (low_holds region r) in
+    held_along net region.low s holder cached on m.crossing m.point m.watched m.among path m.crosses m.seen
+
+pub selection_split : (net : Net) (path : List Crossing) (region other : Bounds) (s : Selection) (holder : ℕ) (axis : Axis) (at : ℕ) → IsRegion region → s.holder ≡ Some holder → s.region ≡ Some other → standing_to region s.region ≡ None → IsSplitBy region other axis at → Meets net path s → IsSplit net path region axis at
+selection_split net path region other s holder axis at r cached selected cut by m =
+    of_selection s other m (λ none. absurd (let e : Some holder ≡ None = sym cached ∙ none in cc)) selected ((standing_tells region other r).cuts (ap (standing_to region) (sym selected) ∙ cut)) by
+
+-- what splits a region cuts it
+pub split_cuts : (net : Net) (path : List Crossing) (region : Bounds) (axis : Axis) (at : ℕ) → IsSplit net path region axis at → NothingCuts net path region → ⊥
+split_cuts net path region axis at (of_selection s other m cached selected cuts by) nothing =
+    cuts (subst (λ o. Uncut region (selects o)) selected (nothing.0 m.crossing m.point s m.crosses m.seen m.watched m.among cached))
+split_cuts net path region axis at (of_match a reach cuts by) nothing =
+    cuts (nothing.1 reach.fields reach.process reach.key a reach.here reach.reached reach.among reach.read)
+
+pub split_inside : (net : Net) (path : List Crossing) (region : Bounds) (axis : Axis) (at : ℕ) → IsSplit net path region axis at → IsStrictlyInside region (axis_index axis) at
+split_inside net path region axis at (of_selection s other m cached selected cuts by) = by.inside
+split_inside net path region axis at (of_match a reach cuts by) = by.inside
+
+module _ (net : Net) (path : List Crossing) (region : Bounds) (is_net : IsNetwork net) (r : IsRegion region) where
+  -- what is cut has no verdict
+  none_if_cut : (v : Verdict) → path_verdict net region path ≡ v → (NothingCuts net path region → ⊥) → path_verdict net region path ≡ None
+  none_if_cut None e cuts = e
+  none_if_cut (Some f) e cuts = absurd (cuts (some_is_fate net path region is_net r f e).0)
+
+  pub exactly_cut : (o : Option (Axis × ℕ)) → IfSome o (λ s. IsSplit net path region s.0 s.1) → IfNone o (path_verdict net region path ≡ None → ⊥) → IsSome o ↔ (path_verdict net region path ≡ None)
+  exactly_cut None some none = (λ h. absurd (cc), λ h. absurd (none h))
+  exactly_cut (Some s) some none = (λ h. none_if_cut (path_verdict net region path) refl (split_cuts net path region s.0 s.1 some), λ h. refl)
+
+  pub cut_exactly : (o : Option (Axis × ℕ)) → IfSome o (λ s. IsSplit net path region s.0 s.1) → IfNone o (path_verdict net region path ≡ None → ⊥) → IsSome o ↔ (NothingCuts net path region → ⊥)
+  cut_exactly None some none = (λ h. absurd (cc), λ h. absurd (none (none_if_cut (path_verdict net region path) refl h)))
+  cut_exactly (Some s) some none = (λ h. split_cuts net path region s.0 s.1 some, λ h. refl)

@@ -1,0 +1,177 @@
+-- From where there is no verdict to what cuts the region.
+use Rattle.std.proofs.Common.{◌≡◌, inl, inr, ℕ, ◌<◌, true, false, cond, ◌==◌, List, [], ◌∷◌, map, filter, All, Option, Some, None, refl, sym, ap, ap₂, ◌∙◌, subst, arith, slice_get, if◌then◌else◌}
+use Rattle.std.specs.Prelude.{Contains}
+use Rattle.std.specs.List.{list_all}
+use Rattle.fx_elements.specs.declared.axis.Axis.{Axis}
+use Rattle.fx_boxes.specs.Boxes.{Bounds, IsRegion}
+use Rattle.fx_layout.specs.Keys.{Layout, Key, key_of, refines, reads}
+use Rattle.fx_layout.proofs.Projections.{and_true, project_key}
+use Rattle.fx_machine.specs.declared.traffic.Crossing.{Crossing}
+use Rattle.fx_machine.specs.Network.{Net, Exporter, Holder, Aggregation, Process, at_places, exporters_of, layout_of, aggregations_of, takes}
+use Rattle.fx_machine.specs.Acts.{Act, Tally, Send}
+use Rattle.fx_machine.specs.Steps.{take_in, acts_of, coming_to}
+use Rattle.fx_machine.specs.Ranks.{RisesTo, Rises, AllRise, ProcessRises, IsRanked}
+use Rattle.fx_leaf.specs.declared.lost.Lost.TheVariants.{Split, Behind}
+use Rattle.fx_leaf.specs.declared.verdict.Fate.TheVariants.{Never, Once, Unassigned}
+use Rattle.fx_leaf.specs.Leaves.{IsFilled}
+use Rattle.fx_leaf.specs.Lost.{SendsOn, LostAmong, SentOn, LostAt, LostFrom, Starts, IsLost}
+use Rattle.fx_leaf.specs.SoundLeaves.Reached.{next}
+use Rattle.fx_leaf.specs.Splits.{IsSplit}
+use Rattle.fx_leaf.specs.Splits.IsSplit.{of_match}
+use Rattle.fx_leaf.specs.Standings.{standing, match_fields}
+use Rattle.fx_leaf.specs.Tables.{Tables, Table, AreTables, Numbers, number_of_layout, entry, taken_entry, handled_entry}
+use Rattle.fx_leaf.specs.Verdicts.{Verdict, both_judged, all_judged, where_passed, layout_reads, taken_verdict, tally_verdict, handled_verdict, coming_verdict, verdict}
+use Rattle.fx_leaf.proofs.Ranks.{every_of_all}
+use Rattle.fx_leaf.proofs.Seeing.{sent_is, holder_is}
+use Rattle.fx_leaf.proofs.Standings.{match_tells}
+use Rattle.fx_leaf.proofs.Uncut.{every_at, in_front, behind, mapped, filtered, both_none, verdict_agrees}
+use Rattle.fx_leaf.proofs.Verdicts.{takes_read}
+
+same_some : {A : Type 0} {x y : A} → Some x ≡ Some y → x ≡ y
+same_some h = cc
+
+-- a holder that names exporting processes is there, and its layout has its number
+pub numbered_holder : (t : Tables) → Numbers t.net t.numbering → (holder : ℕ) (o : Option Holder) → slice_get t.net.holders holder ≡ o → (e : Exporter) → Contains (exporters_of t.net o) e → slice_get t.numbering.layouts (number_of_layout t.numbering holder) ≡ Some (layout_of o)
+numbered_holder t numbers holder None is e at = absurd (let lt = at.1 in omega (arith, lt))
+numbered_holder t numbers holder (Some h) is e at = numbers holder h is
+
+module _ (t : Tables) (are : AreTables t) (region : Bounds) (r : IsRegion region) (table : Table) where
+  abbrev net : Net
+  net = t.net
+
+  abbrev own : ℕ → Layout
+  own holder = layout_of (slice_get net.holders holder)
+
+  -- ---- what is done with a record at a collecting process
+
+  module _ (from : ℕ) (p : Process) (there : slice_get net.processes from ≡ Some p) (key : Key) where
+    inside : (a : Act) → Contains (acts_of net key (Some p)) a → Contains (coming_to net key from) a
+    inside a at =
+        behind (if from == net.report then Tally key ∷ [] else []) (acts_of net key (slice_get net.processes from)) a (subst (λ o. Contains (acts_of net key o) a) (sym there) at)
+
+    is_sent : (e : Exporter) → Contains (at_places net.exporters p.exporters) e → Contains (coming_to net key from) (Send e key)
+    is_sent e at =
+        inside (Send e key) (in_front (map (λ e. Send e key) (at_places net.exporters p.exporters)) (map (take_in net key) (filter (takes net key) p.aggregations)) (Send e key) (mapped (λ e. Send e key) (at_places net.exporters p.exporters) e at))
+
+    is_taken : (a : Aggregation) → Contains p.aggregations a → takes net key a ≡ true → Contains (coming_to net key from) (take_in net key a)
+    is_taken a at on =
+        inside (take_in net key a) (behind (map (λ e. Send e key) (at_places net.exporters p.exporters)) (map (take_in net key) (filter (takes net key) p.aggregations)) (take_in net key a) (mapped (take_in net key) (filter (takes net key) p.aggregations) a (filtered (takes net key) p.aggregations a at on)))
+
+  -- ---- a step further
+
+  module _ (path : List Crossing) (from number : ℕ) (s : Starts t region path from number) where
+    abbrev key : Key
+    key = key_of (own s.holder) s.fields
+
+    same_layout : (layout : Layout) → slice_get t.numbering.layouts number ≡ Some layout → layout ≡ own s.holder
+    same_layout layout is = same_some (sym is ∙ s.layout_is)
+
+    split_among : (p : Process) → slice_get net.processes from ≡ Some p → (axis : Axis) (at : ℕ) → LostAmong t region table (own s.holder) p.aggregations (Split axis at) → IsSplit net path region axis at
+    split_among p there axis at l =
+        let a = l.aggregation in
+        of_match a (record {
+          fields = s.fields;
+          process = from;
+          key = key;
+          here = s.here;
+          reached = s.reached;
+          among = subst (λ o. Contains (aggregations_of o) a) (sym there) l.among;
+          read = l.lost_in.0;
+        }) ((match_tells region a.matches r).cuts l.lost_in.1) l.lost_in.2
+
+    pub follow_split : (axis : Axis) (at : ℕ) → LostFrom t region table from number (Split axis at) → IsSplit net path region axis at
+    follow_split axis at l = by l.lost_at
+      where
+        by : LostAt t region table number l.layout l.at (Split axis at) → IsSplit net path region axis at
+        by (inl none) = absurd none
+        by (inr among) = split_among l.at l.process_is axis at (subst (λ y. LostAmong t region table y l.at.aggregations (Split axis at)) (same_layout l.layout l.layout_is) among)
+
+    sent_next : (p : Process) → slice_get net.processes from ≡ Some p → (process next' : ℕ) → SentOn t table number p (Behind process next') → Starts t region path process next'
+    sent_next p there process next' (same, sends) = record {
+      fields = s.fields;
+      holder = s.holder;
+      here = s.here;
+      layout_is = ap (slice_get t.numbering.layouts) same ∙ s.layout_is;
+      reached = next from key (Send sends.exporter key) process key s.reached (is_sent from p there key sends.exporter sends.sends) (sends.on.link, sends.on.among, sends.on.leads, refl);
+    }
+
+    taken_next : (p : Process) → slice_get net.processes from ≡ Some p → (process next' : ℕ) → LostAmong t region table (own s.holder) p.aggregations (Behind process next') → Starts t region path process next'
+    taken_next p there process next' l =
+        let a = l.aggregation in
+        let fits = are.network.fits s.holder in
+        let two = and_true (refines (own s.holder) (own a.holder)) (list_all (λ e. reads (own s.holder) e.axis e.bits) a.matches) l.lost_in.0 in
+        let on : takes net key a ≡ true = takes_read net (own s.holder) s.fields a fits l.lost_in.0 ∙ (match_tells region a.matches r).passes true l.lost_in.1 s.fields s.here in
+        let by = l.lost_in.2 in
+        let sends = by.1 in
+        record {
+          fields = s.fields;
+          holder = a.holder;
+          here = s.here;
+          layout_is = ap (slice_get t.numbering.layouts) by.0 ∙ numbered_holder t are.numbers a.holder (slice_get net.holders a.holder) refl sends.exporter sends.sends;
+          reached = next from key (take_in net key a) process (key_of (own a.holder) s.fields) s.reached (is_taken from p there key a l.among on) (sends.exporter, sends.sends, (sends.on.link, sends.on.among, sends.on.leads, sym (project_key (own s.holder) (own a.holder) s.fields fits two.0)));
+        }
+
+    pub follow_on : (process next' : ℕ) → LostFrom t region table from number (Behind process next') → Starts t region path process next'
+    follow_on process next' l = by l.lost_at
+      where
+        by : LostAt t region table number l.layout l.at (Behind process next') → Starts t region path process next'
+        by (inl sent) = sent_next l.at l.process_is process next' sent
+        by (inr among) = taken_next l.at l.process_is process next' (subst (λ y. LostAmong t region table y l.at.aggregations (Behind process next')) (same_layout l.layout l.layout_is) among)
+
+  -- ---- lost further on, at a process of higher rank
+
+  pub lost_on : (from number process next' : ℕ) → LostFrom t region table from number (Behind process next') → IsLost t table process next'
+  lost_on from number process next' l = by l.lost_at
+    where
+      by : LostAt t region table number l.layout l.at (Behind process next') → IsLost t table process next'
+      by (inl (same, sends)) = (subst (λ m. entry table process m ≡ None) (sym same) sends.on.none, (l.layout, ap (slice_get t.numbering.layouts) same ∙ l.layout_is))
+      by (inr among) =
+          let to = among.lost_in.2 in
+          (to.1.on.none, (own among.aggregation.holder, ap (slice_get t.numbering.layouts) to.0 ∙ numbered_holder t are.numbers among.aggregation.holder (slice_get net.holders among.aggregation.holder) refl to.1.exporter to.1.sends))
+
+  rises_by : (ranked : IsRanked net) (from number process : ℕ) (es : List Exporter) → AllRise ranked.rank net from es → SendsOn table net number es process → ranked.rank from < ranked.rank process
+  rises_by ranked from number process es all s =
+      let one = every_at (λ e. All (Rises ranked.rank net from) e.destinations) es s.exporter (every_of_all (λ e. All (Rises ranked.rank net from) e.destinations) es all) s.sends in
+      let to = every_at (Rises ranked.rank net from) s.exporter.destinations (Some s.on.link) (every_of_all (Rises ranked.rank net from) s.exporter.destinations one) s.on.among in
+      subst (RisesTo ranked.rank from) s.on.leads to
+
+  pub ranks_rise : (ranked : IsRanked net) (from number process next' : ℕ) → LostFrom t region table from number (Behind process next') → ranked.rank from < ranked.rank process
+  ranks_rise ranked from number process next' l = by (subst (ProcessRises ranked.rank net from) l.process_is (ranked.rises from)) l.lost_at
+    where
+      by : ProcessRises ranked.rank net from (Some l.at) → LostAt t region table number l.layout l.at (Behind process next') → ranked.rank from < ranked.rank process
+      by rises (inl sent) = rises_by ranked from number process (at_places net.exporters l.at.exporters) rises.0 sent.1
+      by rises (inr among) =
+          let a = among.aggregation in
+          let P : Aggregation → Type 0 = λ a. AllRise ranked.rank net from (exporters_of net (slice_get net.holders a.holder)) in
+          rises_by ranked from next' process (exporters_of net (slice_get net.holders a.holder)) (every_at P l.at.aggregations a (every_of_all P l.at.aggregations rises.1) among.among) among.lost_in.2.1
+
+  -- ---- where nothing is lost
+
+  module _ (filled : IsFilled net t.numbering region table) where
+    taken_is : (layout : Layout) (a : Aggregation) → taken_entry table net t.numbering region layout a ≡ taken_verdict (verdict net region) net region layout a
+    taken_is layout a =
+        ap (λ v. cond (layout_reads net layout a) (where_passed (standing region (match_fields a.matches)) v) (Some Never)) (holder_is net t.numbering region table filled are.numbers a.holder)
+
+    all_taken_are : (layout : Layout) (as' : List Aggregation) → map (taken_entry table net t.numbering region layout) as' ≡ map (taken_verdict (verdict net region) net region layout) as'
+    all_taken_are layout [] = refl
+    all_taken_are layout (a ∷ as') = ap₂ (λ (v : Verdict) (vs : List Verdict). v ∷ vs) (taken_is layout a) (all_taken_are layout as')
+
+    handled_is : (number : ℕ) (layout : Layout) → slice_get t.numbering.layouts number ≡ Some layout → (o : Option Process) → handled_entry table net t.numbering region number layout o ≡ handled_verdict (verdict net region) net region layout o
+    handled_is number layout is None = refl
+    handled_is number layout is (Some p) =
+        ap₂ both_judged (sent_is net t.numbering region table filled number layout is (at_places net.exporters p.exporters)) (ap all_judged (all_taken_are layout p.aggregations))
+
+    tally_some : (layout : Layout) (process : ℕ) → tally_verdict net layout process ≡ None → ⊥
+    tally_some layout process h =
+        elim (process == net.report) as (λ t. cond t (cond (refines layout net.report_layout) (Some Once) (Some Unassigned)) (Some Never) ≡ None → ⊥) [
+          | true ↦ λ k. elim (refines layout net.report_layout) as (λ r. cond r (Some Once) (Some Unassigned) ≡ None → ⊥) [ true ↦ λ m. absurd (cc) | false ↦ λ m. absurd (cc) ] k
+          | false ↦ λ k. absurd (cc)
+        ] h
+
+    pub not_lost : (process number : ℕ) → ((layout : Layout) → slice_get t.numbering.layouts number ≡ Some layout → handled_entry table net t.numbering region number layout (slice_get net.processes process) ≡ None → ⊥) → IsLost t table process number → ⊥
+    not_lost process number none (h, (layout, is)) =
+        let judged : coming_verdict (verdict net region) net region process layout ≡ None = sym (verdict_agrees net region are.network.ranked process layout) ∙ sym (filled process number layout is) ∙ h in
+        elim (both_none (tally_verdict net layout process) (handled_verdict (verdict net region) net region layout (slice_get net.processes process)) judged) [
+          | inl k ↦ tally_some layout process k
+          | inr k ↦ none layout is (handled_is number layout is (slice_get net.processes process) ∙ k)
+        ]
