@@ -5,6 +5,7 @@ use Rattle.fx_boxes.specs.Boxes.{Bounds}
 use Rattle.fx_layout.specs.Keys.{Layout}
 use Rattle.fx_machine.specs.Network.{Net, Holder, Aggregation, Process, at_places, exporters_of, aggregations_of}
 use Rattle.fx_machine.specs.Ranks.{IsNetwork}
+use Rattle.fx_leaf.specs.declared.table.TheConstants.{LAYOUTS}
 use Rattle.fx_leaf.specs.declared.verdict.Fate.TheVariants.{Never}
 use Rattle.fx_leaf.specs.Standings.{IsEntry, standing, match_fields}
 use Rattle.fx_leaf.specs.Verdicts.{Verdict, both_judged, all_judged, where_passed, sent_verdict, layout_reads, tally_verdict, verdict}
@@ -101,5 +102,5 @@ pub record AreTables (t : Tables) : Type 0 where
   pub whole : (process : ℕ) → process < length t.net.processes → Contains t.order process
   pub reports : t.net.report < length t.net.processes
   pub numbers : Numbers t.net t.numbering
-  pub few : length t.numbering.layouts ≤ 64
+  pub few : length t.numbering.layouts ≤ LAYOUTS
   pub entries : (process : ℕ) → AllByRecursion (λ a. AllByRecursion IsEntry a.matches) (aggregations_of (slice_get t.net.processes process))

@@ -4,6 +4,7 @@ ghost use Rattle.std.specs.Prelude.{◌≡◌, [], ◌∷◌, IfOk};
 use super::*;
 use fx_base::{Fault, Name};
 use fx_boxes::{Fields, Region};
+use fx_elements::Axis;
 use fx_layout::Layout;
 use fx_machine::{Crossing, Device, Exporter, Holder, Net, Point, Process, Selection};
 use std::alloc::Global;
@@ -53,26 +54,27 @@ fn caches(alloc: Global) -> Result<Vec<Holder>, Fail>
     Ok(vec![in alloc; cache(alloc, 0)?, cache(alloc, 1)?]?)
 }
 
-fn exporters(alloc: Global) -> Result<Vec<Exporter>, Fail> {
-    let first = Exporter::new(true, vec![in alloc; Some(0)]?);
-    let second = Exporter::new(true, vec![in alloc; Some(1)]?);
-    Ok(vec![in alloc; first, second]?)
+/// An exporting process that sends to these destinations.
+fn exporter(alloc: Global, parallel: bool, links: &[Option<usize>]) -> Result<Exporter, Fail> {
+    Ok(Exporter::new(parallel, links.to_vec(alloc)?))
 }
 
-fn network(alloc: Global) -> Result<Net, Fail>
+/// The network, in which the second meter has this exporting process and the report this layout.
+fn network(alloc: Global, second: Exporter, report: Layout) -> Result<Net, Fail>
     ensures holders { IfOk result (λ n. n.holders ≡ record { layout = []; exporters = 0 ∷ [] } ∷ record { layout = []; exporters = 1 ∷ [] } ∷ []) }
     ensures processes { IfOk result (λ n. n.processes ≡ record { exporters = []; aggregations = [] } ∷ []) }
     ensures report { IfOk result (λ n. n.report ≡ 0) }
 {
+    let first = exporter(alloc, true, &[Some(0)])?;
     let collecting = Process::new(vec![in alloc]?, vec![in alloc]?);
     Ok(Net::new(
         devices(alloc)?,
-        exporters(alloc)?,
+        vec![in alloc; first, second]?,
         caches(alloc)?,
         vec![in alloc; collecting]?,
         vec![in alloc; 0, 0]?,
         0,
-        Layout::new(),
+        report,
     ))
 }
 
@@ -91,37 +93,88 @@ fn path(alloc: Global) -> Result<Vec<Crossing>, Fail> {
     Ok(vec![in alloc; first, second]?)
 }
 
-/// What is answered for the sources from one to another.
-fn answer(alloc: Global, low: u128, high: u128) -> Result<Result<Counted, Fault>, Fail> {
-    let net = network(alloc)?;
+/// What `fate` answers for the sources from one to another.
+fn leaf(alloc: Global, net: &Net, low: u128, high: u128) -> Result<Result<Counted, Fault>, Fail>
+    requires holders { net.now.holders ≡ record { layout = []; exporters = 0 ∷ [] } ∷ record { layout = []; exporters = 1 ∷ [] } ∷ [] }
+    requires processes { net.now.processes ≡ record { exporters = []; aggregations = [] } ∷ [] }
+    requires report { net.now.report ≡ 0 }
+{
     let layouts = vec![in alloc; Layout::new()]?;
-    let tables = Tables::new(&net, &[0], layouts.as_slice(), &[0, 0]);
+    let tables = Tables::new(net, &[0], layouts.as_slice(), &[0, 0]);
     let mut scratch = Scratch::new(alloc, &tables)?;
     let path = path(alloc)?;
     let region = sources(low, high)?;
     Ok(fate(&mut scratch, &tables, path.as_slice(), &region))
 }
 
+/// What `cut` answers for them.
+fn split(alloc: Global, net: &Net, low: u128, high: u128) -> Result<Option<(Axis, u128)>, Fail>
+    requires holders { net.now.holders ≡ record { layout = []; exporters = 0 ∷ [] } ∷ record { layout = []; exporters = 1 ∷ [] } ∷ [] }
+    requires processes { net.now.processes ≡ record { exporters = []; aggregations = [] } ∷ [] }
+    requires report { net.now.report ≡ 0 }
+{
+    let layouts = vec![in alloc; Layout::new()]?;
+    let tables = Tables::new(net, &[0], layouts.as_slice(), &[0, 0]);
+    let mut scratch = Scratch::new(alloc, &tables)?;
+    let path = path(alloc)?;
+    let region = sources(low, high)?;
+    Ok(cut(&mut scratch, &tables, path.as_slice(), &region))
+}
+
 #[test]
 fn each_filter_counts_its_half(rt: HostRuntime) -> Result<(), Fail> {
-    let first = Counted {
+    let second = exporter(rt.alloc(), true, &[Some(1)])?;
+    let net = network(rt.alloc(), second, Layout::new())?;
+    let below = Counted {
         crossing: 1,
         point: 1,
         process: 1,
     };
-    assert_eq!(rt; answer(rt.alloc(), 0, 0x7fff_ffff)?, Ok(first));
-    let second = Counted {
+    assert_eq!(rt; leaf(rt.alloc(), &net, 0, 0x7fff_ffff)?, Ok(below));
+    let above = Counted {
         crossing: 2,
         point: 1,
         process: 1,
     };
-    assert_eq!(rt; answer(rt.alloc(), 0x8000_0000, 0xffff_ffff)?, Ok(second));
+    assert_eq!(rt;
+        leaf(rt.alloc(), &net, 0x8000_0000, 0xffff_ffff)?,
+        Ok(above)
+    );
+    assert_eq!(rt; split(rt.alloc(), &net, 0x8000_0000, 0xffff_ffff)?, None);
     Ok(())
 }
 
 #[test]
 fn a_filter_cuts_a_region(rt: HostRuntime) -> Result<(), Fail> {
-    let across = answer(rt.alloc(), 0x7fff_ffff, 0xffff_ffff)?;
+    let second = exporter(rt.alloc(), true, &[Some(1)])?;
+    let net = network(rt.alloc(), second, Layout::new())?;
+    let across = leaf(rt.alloc(), &net, 0x7fff_ffff, 0xffff_ffff)?;
     assert_eq!(rt; across, Err(Fault::bare(406)));
+    let at = split(rt.alloc(), &net, 0x7fff_ffff, 0xffff_ffff)?;
+    assert_eq!(rt; at, Some((Axis::Source, 0x8000_0000)));
+    Ok(())
+}
+
+/// The fault for the second meter's half, where it has this exporting process.
+fn fault(alloc: Global, second: Exporter, report: Layout) -> Result<Fault, Fail> {
+    let net = network(alloc, second, report)?;
+    let answer = leaf(alloc, &net, 0x8000_0000, 0xffff_ffff)?;
+    Ok(answer.err().ok_or("a leaf")?)
+}
+
+#[test]
+fn tells_why_no_leaf_is_sound(rt: HostRuntime) -> Result<(), Fail> {
+    let nowhere = exporter(rt.alloc(), true, &[None])?;
+    assert_eq!(rt;
+        fault(rt.alloc(), nowhere, Layout::new())?,
+        Fault::bare(407)
+    );
+    let twice = exporter(rt.alloc(), true, &[Some(0), Some(1)])?;
+    assert_eq!(rt; fault(rt.alloc(), twice, Layout::new())?, Fault::bare(408));
+    let chosen = exporter(rt.alloc(), false, &[Some(0), None])?;
+    assert_eq!(rt; fault(rt.alloc(), chosen, Layout::new())?, Fault::bare(409));
+    let plain = exporter(rt.alloc(), true, &[Some(1)])?;
+    let by_source = Layout::new().with(Axis::Source, 32).ok_or("no layout")?;
+    assert_eq!(rt; fault(rt.alloc(), plain, by_source)?, Fault::bare(413));
     Ok(())
 }

@@ -2,7 +2,7 @@ use Rattle.std.proofs.Common.{◌≡◌, ◌∙◌, ap, List, [], ◌∷◌}
 use Rattle.fx_layout.specs.Keys.{Layout}
 use Rattle.fx_leaf.specs.Tables.{Tables, Numbering}
 use Rattle.fx_leaf.proofs.TwoMeters.{two_meters}
-use Rattle.fx_leaf.proofs.leaf_tests.answer.Goals as goal
+use Rattle.fx_leaf.proofs.leaf_tests.leaf.Goals as goal
 
 pub fate-requires-clause-tables : goal.fate-requires-clause-tables
 fate-requires-clause-tables c =
@@ -11,4 +11,4 @@ fate-requires-clause-tables c =
     let numbering : c.new-tables.result.numbering ≡ record { layouts = [] ∷ []; numbers = 0 ∷ 0 ∷ [] } =
     ap (λ (t : Tables). t.numbering) is ∙ ap (λ (ls : List Layout). let n : Numbering = record { layouts = ls; numbers = 0 ∷ 0 ∷ [] } in n) made
     in
-    two_meters c.new-tables.result (ap (λ (t : Tables). t.net.holders) is ∙ c.in_ok-net.ensures.holders) (ap (λ (t : Tables). t.net.processes) is ∙ c.in_ok-net.ensures.processes) (ap (λ (t : Tables). t.net.report) is ∙ c.in_ok-net.ensures.report) (ap (λ (t : Tables). t.order) is) numbering
+    two_meters c.new-tables.result (ap (λ (t : Tables). t.net.holders) is ∙ c.requires.holders) (ap (λ (t : Tables). t.net.processes) is ∙ c.requires.processes) (ap (λ (t : Tables). t.net.report) is ∙ c.requires.report) (ap (λ (t : Tables). t.order) is) numbering
