@@ -4,7 +4,7 @@ ghost use Rattle.std.specs.List.{AllByRecursion};
 ghost use Rattle.fx_leaf.specs.Splits as splits;
 ghost use Rattle.fx_leaf.specs.Standings as standings;
 
-use crate::regions::matching;
+use crate::regions::{bounded, matching};
 use fx_boxes::Region;
 use fx_elements::{AXES, Axis};
 use fx_machine::MatchEntry;
@@ -56,7 +56,7 @@ pub(crate) fn bound_of_match(region: &Region, entries: &[MatchEntry]) -> Option<
     ensures some { IfSome result (λ s. splits.IsSplitBy region.now (standings.match_fields entries.now) s.0 s.1) }
     ensures none { IfNone result (standings.standing region.now (standings.match_fields entries.now) ≡ None → ⊥) }
 {
-    let _greatest = region.far_corner();
+    bounded(region);
     match matching(region, entries) {
         None => None,
         Some(left) => {

@@ -7,6 +7,7 @@ ghost use Rattle.fx_leaf.specs.Verdicts as verdicts;
 
 use crate::lent::Tables;
 use crate::path::{Judge, Told};
+use crate::regions::bounded;
 use crate::rows::fill;
 use crate::table::Scratch;
 use crate::verdict::Fate;
@@ -48,7 +49,7 @@ fn judged(scratch: &mut Scratch, tables: &Tables<'_>, path: &[Crossing], region:
     ensures counted { result.counted ≡ leaves.named (verdicts.counted tables.now.net region.now path.now) }
     ensures size { length scratch.new ≡ length scratch.old }
 {
-    let _greatest = region.far_corner();
+    bounded(region);
     let rows = &mut scratch.rows[..tables.net().processes().len()];
     fill(rows, tables, region);
     let judge = Judge {
@@ -82,6 +83,6 @@ pub fn fate(
     ensures told { result ≡ leaves.leaf_of (verdicts.path_verdict tables.now.net region.now path.now) (leaves.named (verdicts.counted tables.now.net region.now path.now)) }
     ensures size { length scratch.new ≡ length scratch.old }
 {
-    let _greatest = region.far_corner();
+    bounded(region);
     leaf_of(judged(scratch, tables, path, region))
 }

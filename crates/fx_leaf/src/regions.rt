@@ -10,6 +10,13 @@ use fx_boxes::Region;
 use fx_elements::{Axis, width};
 use fx_machine::MatchEntry;
 
+/// No low of the region is above its high, as its type keeps.
+pub(crate) fn bounded(region: &Region)
+    ensures { boxes.IsRegion region.now }
+{
+    let _greatest = region.far_corner();
+}
+
 /// Whether all fields of the region, or none, are in the other too. None where the other cuts the region.
 pub fn standing(region: &Region, other: &Region) -> Option<bool>
     ensures { result ≡ standings.standing region.now other.now }
@@ -123,7 +130,7 @@ pub fn standing_to_match(region: &Region, entries: &[MatchEntry]) -> Option<bool
     requires { AllByRecursion standings.IsEntry entries.now }
     ensures { result ≡ standings.standing region.now (standings.match_fields entries.now) }
 {
-    let _greatest = region.far_corner();
+    bounded(region);
     match matching(region, entries) {
         None => Some(false),
         Some(left) => standing(region, &left),

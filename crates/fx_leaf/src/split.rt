@@ -16,7 +16,7 @@ use crate::bound::bound;
 use crate::lent::Tables;
 use crate::lost::{Lost, lost_at, lost_by};
 use crate::path::Judge;
-use crate::regions::standing_to;
+use crate::regions::{bounded, standing_to};
 use crate::rows::fill;
 use crate::table::Scratch;
 use fx_boxes::Region;
@@ -165,7 +165,7 @@ fn split_of(
     ensures none { IfNone result (verdicts.path_verdict tables.now.net region.now path.now ≡ None → ⊥) }
     ensures size { length scratch.new ≡ length scratch.old }
 {
-    let _greatest = region.far_corner();
+    bounded(region);
     let rows = &mut scratch.rows[..tables.net().processes().len()];
     fill(rows, tables, region);
     let judge = Judge {
@@ -194,6 +194,6 @@ pub fn cut(
     ensures bound { IfSome result (λ s. splits.IsSplit tables.now.net path.now region.now s.0 s.1) }
     ensures size { length scratch.new ≡ length scratch.old }
 {
-    let _greatest = region.far_corner();
+    bounded(region);
     split_of(scratch, tables, path, region)
 }

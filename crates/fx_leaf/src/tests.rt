@@ -19,6 +19,10 @@ fn joins_fates(rt: HostRuntime) {
     assert_eq!(rt; Fate::Once.either(Fate::Never), Fate::Differing);
     assert_eq!(rt; both_judged(Some(Fate::Never), None), None);
     assert_eq!(rt;
+        where_passed(Some(false), Some(Fate::Once)),
+        Some(Fate::Never)
+    );
+    assert_eq!(rt;
         either_judged(Some(Fate::Once), Some(Fate::Once)),
         Some(Fate::Once)
     );

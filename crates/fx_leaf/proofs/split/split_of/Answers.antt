@@ -12,7 +12,7 @@ invariant_of-judge c =
     let view : length c.scratch.inside.rows.items ≡ length c.args.scratch.now = ap (λ (t : Table). length t) c.scratch.view_is in
     let size : length (take (length c.processes.result.now) c.deref_mut.result.now) ≡ length c.args.tables.now.net.processes = omega (arith, count, rows, view, c.requires.room, length-take {A = List Verdict}) in
     record {
-      bounded = c.far_corner-greatest.ensures.region;
+      bounded = c.bounded.ensures;
       numbers = c.requires.tables.numbers;
       filled = is_filled c.args.tables.now c.args.region.now (take (length c.processes.result.now) c.deref_mut.result.now) c.fill.new.rows c.requires.tables size c.fill.ensures;
     }
