@@ -1,6 +1,9 @@
 -- Where what is met along a path splits a region.
-use Rattle.std.proofs.Common.{◌≡◌, ℕ, zero, suc, ◌+◌, true, cond, ◌++◌, List, [], ◌∷◌, Option, Some, None, refl, sym, ap, ◌∙◌, subst, arith, slice_get, if◌then◌else◌, IfSome, IfNone, IsSome, le_of_suc-le-suc}
+use Rattle.std.proofs.Common.{◌≡◌, ◌≢◌, ℕ, zero, suc, ◌+◌, true, cond, ◌++◌, List, [], ◌∷◌, Option, Some, None, Result, Err, refl, sym, ap, ◌∙◌, subst, arith, slice_get, if◌then◌else◌, IfSome, IfNone, IsSome, le_of_suc-le-suc}
 use Rattle.std.specs.Prelude.{Contains, ◌↔◌}
+use Rattle.fx_base.specs.declared.fault.Fault.{Fault}
+use Rattle.fx_base.specs.declared.fault.Place.TheVariants as places
+use Rattle.fx_base.specs.Fault.{fault_at}
 use Rattle.fx_elements.specs.declared.axis.Axis.{Axis}
 use Rattle.fx_elements.specs.Axes.{Fields, axis_index}
 use Rattle.fx_boxes.specs.Boxes.{Bounds, IsRegion, IsStrictlyInside}
@@ -12,11 +15,13 @@ use Rattle.fx_machine.specs.Network.{Net, Point, numbered, points_of, at_places,
 use Rattle.fx_machine.specs.Occurrences.{selects, occurrence, met_by, watches, met_at, occurrences}
 use Rattle.fx_machine.specs.Acts.{Act, Hold}
 use Rattle.fx_machine.specs.Steps.{meet, crossing_acts}
+use Rattle.fx_leaf.specs.declared.leaf.Counted.{Counted}
+use Rattle.fx_leaf.specs.declared.verdict.Fate.TheVariants.{Never, Once, Many, Differing, Unassigned}
 use Rattle.fx_leaf.specs.declared.lost.Lost.TheVariants.{Behind}
 use Rattle.fx_machine.specs.Ranks.{IsNetwork}
 use Rattle.fx_leaf.specs.Answers.{NothingCuts}
 use Rattle.fx_leaf.specs.Fates.{acts_along}
-use Rattle.fx_leaf.specs.Leaves.{IsFilled}
+use Rattle.fx_leaf.specs.Leaves.{IsFilled, named, leaf_of, leaf_told}
 use Rattle.fx_leaf.specs.Lost.{SendsOn, SentByHolder, Starts, IsLost}
 use Rattle.fx_leaf.specs.SoundLeaves.{Uncut}
 use Rattle.fx_leaf.specs.SoundLeaves.Reached.{first}
@@ -24,7 +29,7 @@ use Rattle.fx_leaf.specs.Splits.{IsSplitBy, Meets, IsSplit, HeldAlong}
 use Rattle.fx_leaf.specs.Splits.IsSplit.{of_selection, of_match}
 use Rattle.fx_leaf.specs.Standings.{standing_to}
 use Rattle.fx_leaf.specs.Tables.{Tables, Table, AreTables, number_of_layout, entry}
-use Rattle.fx_leaf.specs.Verdicts.{Verdict, sent_verdict, holder_verdict, verdict, path_verdict}
+use Rattle.fx_leaf.specs.Verdicts.{Verdict, sent_verdict, holder_verdict, verdict, path_verdict, counted}
 use Rattle.fx_leaf.proofs.Answers.{low_holds, some_is_fate}
 use Rattle.fx_leaf.proofs.Following.{numbered_holder}
 use Rattle.fx_leaf.proofs.Seeing.{holder_is}
@@ -143,15 +148,31 @@ pub split_inside : (net : Net) (path : List Crossing) (region : Bounds) (axis : 
 split_inside net path region axis at (of_selection s other m cached selected cuts by) = by.inside
 split_inside net path region axis at (of_match a reach cuts by) = by.inside
 
+numbers_same : (a b : Result Counted Fault) (f g : Fault) → a ≡ Err f → b ≡ Err g → a ≡ b → f.number ≡ g.number
+numbers_same a b f g x y e = let same : f ≡ g = cc in ap (λ (x : Fault). x.number) same
+
+other : {v : Verdict} (n : ℕ) (a b : Result Counted Fault) → n ≢ 406 → a ≡ Err (fault_at n places.None) → b ≡ Err (fault_at 406 places.None) → a ≡ b → v ≡ None
+other n a b differs x y e = absurd (differs (numbers_same a b (fault_at n places.None) (fault_at 406 places.None) x y e))
+
 module _ (net : Net) (path : List Crossing) (region : Bounds) (is_net : IsNetwork net) (r : IsRegion region) where
   -- what is cut has no verdict
   none_if_cut : (v : Verdict) → path_verdict net region path ≡ v → (NothingCuts net path region → ⊥) → path_verdict net region path ≡ None
   none_if_cut None e cuts = e
   none_if_cut (Some f) e cuts = absurd (cuts (some_is_fate net path region is_net r f e).0)
 
-  pub exactly_cut : (o : Option (Axis × ℕ)) → IfSome o (λ s. IsSplit net path region s.0 s.1) → IfNone o (path_verdict net region path ≡ None → ⊥) → IsSome o ↔ (path_verdict net region path ≡ None)
-  exactly_cut None some none = (λ h. absurd (cc), λ h. absurd (none h))
-  exactly_cut (Some s) some none = (λ h. none_if_cut (path_verdict net region path) refl (split_cuts net path region s.0 s.1 some), λ h. refl)
+  -- 406 is answered for nothing else
+  only_none : (v : Verdict) (c : Option Counted) → leaf_of v c ≡ Err (fault_at 406 places.None) → v ≡ None
+  only_none None c e = refl
+  only_none (Some Never) c e = other 407 _ _ (omega arith) refl refl e
+  only_none (Some Once) None e = other 407 _ _ (omega arith) refl refl e
+  only_none (Some Once) (Some s) e = absurd (cc)
+  only_none (Some Many) c e = other 408 _ _ (omega arith) refl refl e
+  only_none (Some Differing) c e = other 409 _ _ (omega arith) refl refl e
+  only_none (Some Unassigned) c e = other 413 _ _ (omega arith) refl refl e
+
+  pub exactly_cut : (o : Option (Axis × ℕ)) → IfSome o (λ s. IsSplit net path region s.0 s.1) → IfNone o (path_verdict net region path ≡ None → ⊥) → IsSome o ↔ (leaf_told net path region ≡ Err (fault_at 406 places.None))
+  exactly_cut None some none = (λ h. absurd (cc), λ h. absurd (none (only_none (path_verdict net region path) (named (counted net region path)) h)))
+  exactly_cut (Some s) some none = (λ h. ap (λ v. leaf_of v (named (counted net region path))) (none_if_cut (path_verdict net region path) refl (split_cuts net path region s.0 s.1 some)), λ h. refl)
 
   pub cut_exactly : (o : Option (Axis × ℕ)) → IfSome o (λ s. IsSplit net path region s.0 s.1) → IfNone o (path_verdict net region path ≡ None → ⊥) → IsSome o ↔ (NothingCuts net path region → ⊥)
   cut_exactly None some none = (λ h. absurd (cc), λ h. absurd (none (none_if_cut (path_verdict net region path) refl h)))

@@ -11,7 +11,7 @@ use Rattle.fx_leaf.specs.declared.path.Told.{Told}
 use Rattle.fx_leaf.specs.declared.verdict.Fate.TheVariants.{Never, Once, Many, Differing, Unassigned}
 use Rattle.fx_leaf.specs.Answers.{NothingCuts, AllHave}
 use Rattle.fx_leaf.specs.Tables.{Numbering, Table, HasVerdicts}
-use Rattle.fx_leaf.specs.Verdicts.{Verdict, Seen, both_judged, all_judged, counted_from}
+use Rattle.fx_leaf.specs.Verdicts.{Verdict, Seen, both_judged, all_judged, counted_from, path_verdict, counted}
 
 -- a table has the verdicts of all collecting processes
 abbrev pub IsFilled : Net → Numbering → Bounds → Table → Type 0
@@ -38,7 +38,7 @@ fault_of (Some Many) = fault_at 408 places.None
 fault_of (Some Once) = fault_at 407 places.None
 fault_of (Some Never) = fault_at 407 places.None
 
--- the selection process that counts the packets, where their verdict is once
+-- the selection process that counts the packets, where their verdict is once; there always is one then
 abbrev pub leaf_of : Verdict → Option Counted → Result Counted Fault
 leaf_of None counted = Err (fault_of None)
 leaf_of (Some Unassigned) counted = Err (fault_of (Some Unassigned))
@@ -47,6 +47,10 @@ leaf_of (Some Many) counted = Err (fault_of (Some Many))
 leaf_of (Some Never) counted = Err (fault_of (Some Never))
 leaf_of (Some Once) None = Err (fault_of (Some Once))
 leaf_of (Some Once) (Some c) = Ok c
+
+-- the answer for the packets of a region on a path
+abbrev pub leaf_told : Net → List Crossing → Bounds → Result Counted Fault
+leaf_told net path region = leaf_of (path_verdict net region path) (named (counted net region path))
 
 -- why no leaf is sound for the region, by number
 pub data NoneIsSound (net : Net) (path : List Crossing) (region : Bounds) : Fault → Type 0 where

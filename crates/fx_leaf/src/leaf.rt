@@ -64,8 +64,8 @@ fn judged(scratch: &mut Scratch, tables: &Tables<'_>, path: &[Crossing], region:
 /// them. It takes no memory, and answers the same whatever the room held.
 ///
 /// Fails with 406 where a selection process, or the match of an aggregation that records of the packets reach, holds
-/// for some of the packets only; else with 413 where records can come to the report that its layout can't be read
-/// from, with 409 where the destinations of a choice differ, with 408 where packets are counted more than once, and
+/// for some of the packets only; else with 413 where records can come to the report under a layout that doesn't refine
+/// the report's, with 409 where the destinations of a choice differ, with 408 where packets are counted more than once, and
 /// with 407 where they aren't counted.
 pub fn fate(
     scratch: &mut Scratch,
@@ -80,7 +80,7 @@ pub fn fate(
     // it is answered wherever there is one, and no other leaf is sound.
     ensures every { (crossing point process : ℕ) → sound_leaves.SoundLeaf tables.now.net path.now region.now crossing point process → result ≡ Ok (record { crossing = crossing; point = point; process = process }) }
     ensures none { IfErr result (λ e. leaves.NoneIsSound tables.now.net path.now region.now e) }
-    ensures told { result ≡ leaves.leaf_of (verdicts.path_verdict tables.now.net region.now path.now) (leaves.named (verdicts.counted tables.now.net region.now path.now)) }
+    ensures told { result ≡ leaves.leaf_told tables.now.net path.now region.now }
     ensures size { length scratch.new ≡ length scratch.old }
 {
     bounded(region);

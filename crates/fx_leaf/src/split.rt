@@ -1,5 +1,7 @@
 //! Where a region that is cut may be split.
-ghost use Rattle.std.specs.Prelude.{◌≡◌, ◌≤◌, ◌↔◌, ℕ, true, List, [], length, if◌then◌else◌, Contains, None, IsSome, IfSome, IfNone};
+ghost use Rattle.std.specs.Prelude.{◌≡◌, ◌≤◌, ◌↔◌, ℕ, true, List, [], length, if◌then◌else◌, Contains, None, Err, IsSome, IfSome, IfNone};
+ghost use Rattle.fx_base.specs.Fault.{fault_at};
+ghost use Rattle.fx_base.specs.declared.fault.Place.TheVariants as places;
 ghost use Rattle.fx_boxes.specs.Boxes as boxes;
 ghost use Rattle.fx_elements.specs.Axes as axes;
 ghost use Rattle.fx_machine.specs.Network as network;
@@ -7,6 +9,7 @@ ghost use Rattle.fx_machine.specs.Occurrences as met;
 ghost use Rattle.fx_machine.specs.declared.observation.Selection as of_selection;
 ghost use Rattle.fx_machine.specs.declared.traffic.Crossing as of_crossing;
 ghost use Rattle.fx_leaf.specs.Answers as answers;
+ghost use Rattle.fx_leaf.specs.Leaves as leaves;
 ghost use Rattle.fx_leaf.specs.Lost as by_lost;
 ghost use Rattle.fx_leaf.specs.Splits as splits;
 ghost use Rattle.fx_leaf.specs.Tables as by_table;
@@ -188,7 +191,8 @@ pub fn cut(
 ) -> Option<(Axis, u128)>
     requires tables { by_table.AreTables tables.now }
     requires room { length tables.now.net.processes ≤ length scratch.old }
-    ensures exact { IsSome result ↔ (verdicts.path_verdict tables.now.net region.now path.now ≡ None) }
+    // It is there exactly where `fate` answers 406, and so where something cuts the region.
+    ensures exact { IsSome result ↔ (leaves.leaf_told tables.now.net path.now region.now ≡ Err (fault_at 406 places.None)) }
     ensures cuts { IsSome result ↔ (answers.NothingCuts tables.now.net path.now region.now → ⊥) }
     ensures inside { IfSome result (λ s. boxes.IsStrictlyInside region.now (axes.axis_index s.0) s.1) }
     ensures bound { IfSome result (λ s. splits.IsSplit tables.now.net path.now region.now s.0 s.1) }
