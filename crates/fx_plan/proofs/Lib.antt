@@ -7,3 +7,4 @@ pub mod Numberings
 pub mod Resolution
 pub mod Matching
 pub mod Stalling
+pub mod Grouping

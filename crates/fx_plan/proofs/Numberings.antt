@@ -20,7 +20,7 @@ known_at known layout n e =
     let there : is_known known layout ≡ true = list_any_at p known n [] at.0 at.1 in
     (sym (cond-true (is_known known layout) known (known ++ layout ∷ []) there), slice_get-get_or known n [] at.0 ∙ ap (λ (l : Layout). Some l) (same_layout_is (get_or known n []) layout at.1))
 
-none_any : {X : Type 0} (p : X → Bool) (xs : List X) → length xs ≡ position_or_len p xs → list_any p xs ≡ false
+pub none_any : {X : Type 0} (p : X → Bool) (xs : List X) → length xs ≡ position_or_len p xs → list_any p xs ≡ false
 none_any p [] e = refl
 none_any p (x ∷ xs) e =
     elim (cases_Bool (p x)) [

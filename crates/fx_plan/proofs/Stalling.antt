@@ -80,9 +80,9 @@ process_rises_along net rank from q (Some process) h e =
     elim (or_cases (lead_to net q (at_places net.exporters process.exporters)) (list_any (λ a. lead_to net q (exporters_of net (slice_get net.holders a.holder))) process.aggregations) e) [
       | inl f ↦ all_rise_along net rank from q (at_places net.exporters process.exporters) h.0 f
       | inr f ↦
-        (let some = Any-from_list_any (λ (a : Aggregation). lead_to net q (exporters_of net (slice_get net.holders a.holder))) process.aggregations f in
-        let here : AllRise rank net from (exporters_of net (slice_get net.holders some.1.holder)) = subst (λ (a : Aggregation). AllRise rank net from (exporters_of net (slice_get net.holders a.holder))) some.3 (h.1 some.0 some.1 some.2) in
-        all_rise_along net rank from q (exporters_of net (slice_get net.holders some.1.holder)) here some.4)
+          (let some = Any-from_list_any (λ (a : Aggregation). lead_to net q (exporters_of net (slice_get net.holders a.holder))) process.aggregations f in
+          let here : AllRise rank net from (exporters_of net (slice_get net.holders some.1.holder)) = subst (λ (a : Aggregation). AllRise rank net from (exporters_of net (slice_get net.holders a.holder))) some.3 (h.1 some.0 some.1 some.2) in
+          all_rise_along net rank from q (exporters_of net (slice_get net.holders some.1.holder)) here some.4)
     ]
 
 pub rank_rises : (net : Net) (r : IsRanked net) (p q : ℕ) → feeds net p q ≡ true → r.rank p < r.rank q

@@ -1,5 +1,5 @@
 -- How the things of a network's devices are named: by the device and by their own name.
-use Rattle.std.specs.Prelude.{ℕ, List, Bool, ◌&&◌, map}
+use Rattle.std.specs.Prelude.{◌≡◌, ℕ, ◌<◌, ◌≤◌, List, [], ◌∷◌, length, Bool, ◌&&◌, map, slice_index_or}
 use Rattle.std.specs.List.{flat_map, position_or_len}
 use Rattle.std.specs.Str.{bytes_eq}
 use Rattle.fx_plan.specs.declared.network_device.NetworkDevice.{NetworkDevice}
@@ -27,3 +27,20 @@ is_label device name label = bytes_eq label.device device && bytes_eq label.name
 -- the place in a table whose entries have these labels; behind the table where there is none
 abbrev pub place : List Label → List ℕ → List ℕ → ℕ
 place labels device name = position_or_len (is_label device name) labels
+
+-- ---- groups
+
+-- labels of one device that stand one after another, up to an end
+pub record Group : Type 0 where
+  pub device : List ℕ
+  pub start : ℕ
+  pub end : ℕ
+
+abbrev pub AreOfDevice : Group → List Label → Type 0
+AreOfDevice group labels = (k : ℕ) (d : Label) → group.start ≤ k → k < group.end → (slice_index_or labels k d).device ≡ group.device
+
+-- labels fall into groups, from this place on up to an end
+abbrev pub AreGrouped : ℕ → List Label → List Group → ℕ → Type 0
+AreGrouped from labels [] end = from ≡ end
+AreGrouped from labels (group ∷ groups) end =
+    (group.start ≡ from) × (from ≤ group.end) × (group.end ≤ length labels) × AreOfDevice group labels × AreGrouped group.end labels groups end

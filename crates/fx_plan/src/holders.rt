@@ -3,7 +3,7 @@ ghost use Rattle.std.specs.Prelude.{◌≡◌, ◌++◌, OnOk, IfOk, map};
 ghost use Rattle.std.specs.List.{flat_map};
 ghost use Rattle.fx_plan.specs.Tables as tables;
 
-use crate::labels::{Label, places};
+use crate::labels::{Labels, places};
 use crate::network_device::NetworkDevice;
 use fx_base::Name;
 use fx_config::{Aggregation, Cache};
@@ -12,7 +12,7 @@ use std::alloc::{AllocError, Global};
 
 fn cache_holder(
     alloc: Global,
-    exporting: &[Label<'_>],
+    exporting: &Labels<'_>,
     device: &Name,
     cache: &Cache,
 ) -> Result<Holder, AllocError>
@@ -27,7 +27,7 @@ fn cache_holder(
 fn push_caches(
     alloc: Global,
     holders: &mut Vec<Holder>,
-    exporting: &[Label<'_>],
+    exporting: &Labels<'_>,
     device: &Name,
     caches: &[Cache],
 ) -> Result<(), AllocError>
@@ -43,7 +43,7 @@ fn push_caches(
 /// The caches of all devices, in document order.
 pub fn cache_holders(
     alloc: Global,
-    exporting: &[Label<'_>],
+    exporting: &Labels<'_>,
     devices: &[NetworkDevice],
 ) -> Result<Vec<Holder>, AllocError>
     ensures { IfOk result (λ v. v.items ≡ tables.cache_holders exporting.now devices.now) }
@@ -58,7 +58,7 @@ pub fn cache_holders(
 
 pub fn aggregation_holder(
     alloc: Global,
-    exporting: &[Label<'_>],
+    exporting: &Labels<'_>,
     device: &Name,
     aggregation: &Aggregation,
 ) -> Result<Holder, AllocError>

@@ -1,6 +1,6 @@
 //! How the things of a network's devices are named.
-ghost use Rattle.std.specs.Prelude.{◌≡◌, ◌++◌, OnOk, IfOk, map};
-ghost use Rattle.std.specs.List.{position, position_or_len};
+ghost use Rattle.std.specs.Prelude.{◌≡◌, ◌++◌, OnOk, IfOk, length, map};
+ghost use Rattle.std.specs.List.{position};
 ghost use Rattle.fx_plan.specs.Labels as naming;
 
 use crate::network_device::NetworkDevice;
@@ -48,54 +48,104 @@ fn push_labels<'n, T: Named>(
     Ok(())
 }
 
+/// Labels of one device that stand one after another.
+#[derive(Drop)]
+struct Group<'n> {
+    device: &'n Name,
+    start: usize,
+    end: usize,
+}
+
+impl<'n> Model for Group<'n> {
+    ghost use Rattle.fx_plan.specs.Labels as naming;
+
+    ghost Value = { naming.Group };
+
+    ghost view = { λ g. record { device = g.device.now; start = g.start; end = g.end } };
+}
+
+/// The labels of all things of a kind, in document order. Contracts see them as the list of labels. Those of a
+/// device are found without a look at the others.
+#[derive(Drop)]
+pub struct Labels<'n> {
+    labels: Vec<Label<'n>>,
+    groups: Vec<Group<'n>>,
+}
+
+impl<'n> Model for Labels<'n> {
+    ghost use Rattle.std.specs.Prelude.{List, length};
+    ghost use Rattle.fx_plan.specs.Labels as naming;
+
+    ghost Value = { List naming.Label };
+
+    ghost view = { λ l. l.labels.items };
+
+    ghost invariant = { λ l. naming.AreGrouped 0 l.labels.items l.groups.items (length l.labels.items) };
+}
+
+/// The labels of a device's things come last, as a group.
+fn push_group<'n, T: Named>(
+    labels: &mut Vec<Label<'n>>,
+    groups: &mut Vec<Group<'n>>,
+    device: &'n Name,
+    things: &'n [T],
+) -> Result<(), AllocError>
+    ensures labels { OnOk result (labels.new.items ≡ labels.old.items ++ naming.device_labels T.name device.now things.now) }
+    ensures groups { OnOk result (naming.AreGrouped 0 labels.old.items groups.old.items (length labels.old.items) → naming.AreGrouped 0 labels.new.items groups.new.items (length labels.new.items)) }
+{
+    let start = labels.len();
+    push_labels(labels, device, things)?;
+    let end = labels.len();
+    groups.push(Group { device, start, end })?;
+    Ok(())
+}
+
 /// The labels of all exporting processes, in document order.
 pub fn exporting_labels<'n>(
     alloc: Global,
     devices: &'n [NetworkDevice],
-) -> Result<Vec<Label<'n>>, AllocError>
-    ensures { IfOk result (λ v. v.items ≡ naming.exporting_labels devices.now) }
+) -> Result<Labels<'n>, AllocError>
+    ensures { IfOk result (λ v. v ≡ naming.exporting_labels devices.now) }
 {
     let mut labels = Vec::new(alloc);
+    let mut groups = Vec::new(alloc);
     for device in devices {
-        push_labels(
-            &mut labels,
-            &device.name,
-            device.config.exporting_processes.as_slice(),
-        )?;
+        let things = device.config.exporting_processes.as_slice();
+        push_group(&mut labels, &mut groups, &device.name, things)?;
     }
-    Ok(labels)
+    Ok(Labels { labels, groups })
 }
 
 /// The labels of all caches, in document order.
 pub fn cache_labels<'n>(
     alloc: Global,
     devices: &'n [NetworkDevice],
-) -> Result<Vec<Label<'n>>, AllocError>
-    ensures { IfOk result (λ v. v.items ≡ naming.cache_labels devices.now) }
+) -> Result<Labels<'n>, AllocError>
+    ensures { IfOk result (λ v. v ≡ naming.cache_labels devices.now) }
 {
     let mut labels = Vec::new(alloc);
+    let mut groups = Vec::new(alloc);
     for device in devices {
-        push_labels(&mut labels, &device.name, device.config.caches.as_slice())?;
+        let things = device.config.caches.as_slice();
+        push_group(&mut labels, &mut groups, &device.name, things)?;
     }
-    Ok(labels)
+    Ok(Labels { labels, groups })
 }
 
 /// The labels of all collecting processes, in document order.
 pub fn collecting_labels<'n>(
     alloc: Global,
     devices: &'n [NetworkDevice],
-) -> Result<Vec<Label<'n>>, AllocError>
-    ensures { IfOk result (λ v. v.items ≡ naming.collecting_labels devices.now) }
+) -> Result<Labels<'n>, AllocError>
+    ensures { IfOk result (λ v. v ≡ naming.collecting_labels devices.now) }
 {
     let mut labels = Vec::new(alloc);
+    let mut groups = Vec::new(alloc);
     for device in devices {
-        push_labels(
-            &mut labels,
-            &device.name,
-            device.config.collecting_processes.as_slice(),
-        )?;
+        let things = device.config.collecting_processes.as_slice();
+        push_group(&mut labels, &mut groups, &device.name, things)?;
     }
-    Ok(labels)
+    Ok(Labels { labels, groups })
 }
 
 fn position_of(labels: &[Label<'_>], device: &Name, name: &Name) -> Option<usize>
@@ -105,19 +155,25 @@ fn position_of(labels: &[Label<'_>], device: &Name, name: &Name) -> Option<usize
 }
 
 /// The place, from 0, in a table whose entries have these labels; behind the table where there is none.
-pub fn place(labels: &[Label<'_>], device: &Name, name: &Name) -> usize
+pub fn place(labels: &Labels<'_>, device: &Name, name: &Name) -> usize
     ensures { result ≡ naming.place labels.now device.now name.now }
 {
-    match position_of(labels, device, name) {
-        Some(place) => place,
-        None => labels.len(),
+    let all = labels.labels.as_slice();
+    for group in labels.groups.as_slice() {
+        if group.device == device {
+            let own = &all[group.start..group.end];
+            if let Some(n) = position_of(own, device, name) {
+                return group.start + n;
+            }
+        }
     }
+    all.len()
 }
 
 /// The places of a device's things.
 pub fn places<T: Named>(
     alloc: Global,
-    labels: &[Label<'_>],
+    labels: &Labels<'_>,
     device: &Name,
     things: &[T],
 ) -> Result<Vec<usize>, AllocError>

@@ -45,16 +45,14 @@ fn net_of(alloc: Global, network: &Network) -> Result<Net, AllocError>
     let links = network.links.as_slice();
     let caches = cache_labels(alloc, devices)?;
     let collecting = collecting_labels(alloc, devices)?;
-    let collecting = collecting.as_slice();
-    let tables = tables_of(alloc, caches.as_slice(), collecting, devices)?;
+    let tables = tables_of(alloc, &caches, &collecting, devices)?;
     let exporters = exporters_of(alloc, links, devices)?;
     let exporting = exporting_labels(alloc, devices)?;
-    let exporting = exporting.as_slice();
-    let mut holders = cache_holders(alloc, exporting, devices)?;
-    let processes = processes_in(alloc, &mut holders, exporting, devices)?;
-    let ends = link_ends(alloc, collecting, links)?;
+    let mut holders = cache_holders(alloc, &exporting, devices)?;
+    let processes = processes_in(alloc, &mut holders, &exporting, devices)?;
+    let ends = link_ends(alloc, &collecting, links)?;
     let report = &network.report;
-    let report_place = place(collecting, &report.device, &report.collecting_process);
+    let report_place = place(&collecting, &report.device, &report.collecting_process);
     let layout = report_layout_of(network);
     Ok(Net::new(
         tables,

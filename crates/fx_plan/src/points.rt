@@ -4,7 +4,7 @@ ghost use Rattle.fx_plan.specs.Labels as naming;
 ghost use Rattle.fx_plan.specs.Tables as tables;
 ghost use Rattle.fx_selectors.specs.Selection.{region_of};
 
-use crate::labels::{Label, place, places};
+use crate::labels::{Labels, place, places};
 use crate::network_device::NetworkDevice;
 use fx_base::Name;
 use fx_boxes::Region;
@@ -49,7 +49,7 @@ fn process_named<'p>(processes: &'p [SelectionProcess], name: &Name) -> Option<&
 }
 
 /// The place of the cache of a device's selection process of this name, if it has one.
-fn cache_place(caches: &[Label<'_>], device: &NetworkDevice, name: &Name) -> Option<usize>
+fn cache_place(caches: &Labels<'_>, device: &NetworkDevice, name: &Name) -> Option<usize>
     ensures { result ≡ option_map (naming.place caches.now device.now.name) (option_and_then (λ p. p.cache) (tables.process_named device.now.config.selection_processes name.now)) }
 {
     match process_named(device.config.selection_processes.as_slice(), name) {
@@ -71,7 +71,7 @@ fn region_named(device: &NetworkDevice, name: &Name) -> Option<Region>
 
 fn selections_of(
     alloc: Global,
-    caches: &[Label<'_>],
+    caches: &Labels<'_>,
     device: &NetworkDevice,
     names: &[Name],
 ) -> Result<Vec<Selection>, AllocError>
@@ -100,7 +100,7 @@ fn sees(direction: Direction) -> (bool, bool)
 
 fn point_of(
     alloc: Global,
-    caches: &[Label<'_>],
+    caches: &Labels<'_>,
     device: &NetworkDevice,
     point: &ObservationPoint,
 ) -> Result<Point, AllocError>
@@ -115,7 +115,7 @@ fn point_of(
 
 fn points_of(
     alloc: Global,
-    caches: &[Label<'_>],
+    caches: &Labels<'_>,
     device: &NetworkDevice,
     points: &[ObservationPoint],
 ) -> Result<Vec<Point>, AllocError>
@@ -132,8 +132,8 @@ fn points_of(
 /// A device's tables, by the labels of all caches and of all collecting processes.
 fn table_of(
     alloc: Global,
-    caches: &[Label<'_>],
-    collecting: &[Label<'_>],
+    caches: &Labels<'_>,
+    collecting: &Labels<'_>,
     device: &NetworkDevice,
 ) -> Result<Device, AllocError>
     ensures { IfOk result (λ t. t ≡ tables.table_of caches.now collecting.now device.now) }
@@ -157,8 +157,8 @@ fn table_of(
 /// The tables of all devices, in document order.
 pub fn tables_of(
     alloc: Global,
-    caches: &[Label<'_>],
-    collecting: &[Label<'_>],
+    caches: &Labels<'_>,
+    collecting: &Labels<'_>,
     devices: &[NetworkDevice],
 ) -> Result<Vec<Device>, AllocError>
     ensures { IfOk result (λ v. v.items ≡ map (tables.table_of caches.now collecting.now) devices.now) }

@@ -4,7 +4,7 @@ ghost use Rattle.fx_plan.specs.Labels as naming;
 ghost use Rattle.fx_plan.specs.Tables as tables;
 
 use crate::holders::aggregation_holder;
-use crate::labels::{Label, place, places};
+use crate::labels::{Labels, place, places};
 use crate::link::Link;
 use crate::network_device::NetworkDevice;
 use fx_base::Name;
@@ -41,7 +41,7 @@ fn match_entries(alloc: Global, matches: &[PropertyMatch]) -> Result<Vec<MatchEn
 fn push_aggregations(
     alloc: Global,
     holders: &mut Vec<Holder>,
-    exporting: &[Label<'_>],
+    exporting: &Labels<'_>,
     device: &Name,
     aggregations: &[Aggregation],
 ) -> Result<Vec<machine::Aggregation>, AllocError>
@@ -60,7 +60,7 @@ fn push_aggregations(
 fn process_from(
     alloc: Global,
     holders: &mut Vec<Holder>,
-    exporting: &[Label<'_>],
+    exporting: &Labels<'_>,
     device: &Name,
     process: &CollectingProcess,
 ) -> Result<Process, AllocError>
@@ -79,7 +79,7 @@ fn push_processes(
     alloc: Global,
     processes: &mut Vec<Process>,
     holders: &mut Vec<Holder>,
-    exporting: &[Label<'_>],
+    exporting: &Labels<'_>,
     device: &Name,
     collecting: &[CollectingProcess],
 ) -> Result<(), AllocError>
@@ -98,7 +98,7 @@ fn push_processes(
 pub fn processes_in(
     alloc: Global,
     holders: &mut Vec<Holder>,
-    exporting: &[Label<'_>],
+    exporting: &Labels<'_>,
     devices: &[NetworkDevice],
 ) -> Result<Vec<Process>, AllocError>
     ensures held { OnOk result (holders.new.items ≡ holders.old.items ++ tables.aggregation_holders exporting.now devices.now) }
@@ -122,7 +122,7 @@ pub fn processes_in(
 /// The places of the collecting processes to which the links lead.
 pub fn link_ends(
     alloc: Global,
-    collecting: &[Label<'_>],
+    collecting: &Labels<'_>,
     links: &[Link],
 ) -> Result<Vec<usize>, AllocError>
     ensures { IfOk result (λ v. v.items ≡ map (λ link. naming.place collecting.now link.to_device link.to_process) links.now) }

@@ -1,6 +1,10 @@
-use Rattle.std.proofs.Common.{◌≡◌, take}
-use Rattle.fx_plan.specs.Labels.{exporting_labels}
+use Rattle.std.proofs.Common.{◌≡◌, length, take}
+use Rattle.fx_plan.specs.Labels.{AreGrouped, exporting_labels}
 use Rattle.fx_plan.proofs.labels.exporting_labels.Given as goal
 
 abbrev pub invariant-loop-device : goal.invariant-loop-device
-invariant-loop-device l = l.labels.items ≡ exporting_labels (take l.device-index l.devices)
+invariant-loop-device l =
+    record {
+      labels : l.labels.items ≡ exporting_labels (take l.device-index l.devices);
+      groups : AreGrouped 0 l.labels.items l.groups.items (length l.labels.items);
+    }

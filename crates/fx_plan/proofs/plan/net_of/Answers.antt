@@ -6,7 +6,7 @@ pub returns : goal.returns
 returns c =
     c.new.ensures ∙ net_is c.args.network.now _ _ _ _ _ _ _ _ _ _ _ _ _
     c.as_slice-devices.ensures c.as_slice-links.ensures
-    (c.as_slice.ensures.value ∙ c.in_ok-caches.ensures) (c.as_slice-collecting.ensures.value ∙ c.in_ok-collecting.ensures)
-    c.in_ok-tables.ensures c.in_ok-exporters.ensures (c.as_slice-exporting.ensures.value ∙ c.in_ok-exporting.ensures)
+    c.in_ok-caches.ensures c.in_ok-collecting.ensures
+    c.in_ok-tables.ensures c.in_ok-exporters.ensures c.in_ok-exporting.ensures
     c.in_ok-holders.ensures c.in_ok-processes.ensures.held c.in_ok-processes.ensures.tables c.in_ok-ends.ensures
     c.place-report_place.ensures c.report_layout_of-layout.ensures
