@@ -25,6 +25,8 @@ pub use table::{LAYOUTS, Scratch};
 pub use verdict::{Fate, both_judged, either_judged, where_passed};
 
 #[cfg(test)]
+mod chain_tests;
+#[cfg(test)]
 mod leaf_tests;
 #[cfg(test)]
 mod tests;
