@@ -1,20 +1,30 @@
 #!/usr/bin/env bash
-# How the time of a replay grows with the steps of its run: all packets are counted in one record, which then leaves
-# the cache and arrives. Prints the time of the fastest of five runs for 100,000 and for 200,000 steps, and fails
-# where the second is more than 2.5 times the first.
+# How the time of a replay grows with the steps of its run, in two networks: all packets are counted in one record,
+# which then leaves the cache and arrives; and packets of many sources are counted in a record each, which then go
+# along a chain of ten collectors that aggregate them. Prints the time of the fastest of five runs for a run and for
+# one of twice the size, and fails where the second takes more than 2.5 times as long.
 set -eu
 cd "$(dirname "$0")/.."
 work=$(mktemp -d)
 trap 'rm -rf "$work"' EXIT
 
 python3 - ./once examples/one-meter-one-collector "$work" <<'PYTHON'
-import os, subprocess, sys, time
+import json, os, subprocess, sys, time
 
 program, example, work = sys.argv[1:]
 
 
-def run_text(steps):
+HOPS = 10
+EACH = 100
+
+
+def one_record(steps):
+    """A run of so many steps, and the totals that it comes to."""
     packets = steps - 2
+    return one_record_text(packets), "keys 1\n10.0.0.1 packets %d octets %d\nunassigned 0\ncomplete yes\n" % (packets, 100 * packets)
+
+
+def one_record_text(packets):
     yield "once-run 1\n"
     for _ in range(packets):
         yield "packet 1 1 10.0.0.1 192.0.2.1 6 49152 443 0 100\n"
@@ -24,24 +34,94 @@ def run_text(steps):
     yield "expire cache 1 1 1\narrive 1 1\nend\n"
 
 
-def seconds(steps):
+def device(name, lists):
+    return {"name": name, "config": {"ietf-ipfix-psamp:ipfix": lists}}
+
+
+def exporting():
+    return [{"name": "on", "destination": [{"name": "next", "tcpExporter": {}}]}]
+
+
+def link(number):
+    return {"device": "d%d" % number, "exportingProcess": "on", "destination": "next", "toDevice": "d%d" % (number + 1), "toProcess": "in"}
+
+
+def chain_network():
+    """A meter, ten collectors that aggregate by source and send on, and the collector that reports."""
+    fields = [{"name": "s", "ieName": "sourceIPv4Address", "isFlowKey": [None]}, {"name": "o", "ieId": 1}, {"name": "p", "ieId": 2}]
+    by_source = [{"ieName": "sourceIPv4Address"}]
+    meter = device("d1", {
+        "observationPoint": [{"name": "a", "observationDomainId": 0, "ifName": ["eth0"], "selectionProcess": ["all"]}],
+        "selectionProcess": [{"name": "all", "selector": [{"name": "a", "selectAll": [None]}], "cache": "by source"}],
+        "cache": [{"name": "by source", "timeoutCache": {"cacheLayout": {"cacheField": fields}}, "exportingProcess": ["on"]}],
+        "exportingProcess": exporting(),
+    })
+    aggregation = {"name": "by source", "key": by_source, "exportingProcess": ["on"]}
+    hops = [device("d%d" % (hop + 2), {"exportingProcess": exporting(), "collectingProcess": [{"name": "in", "once-audit:aggregation": [aggregation]}]}) for hop in range(HOPS)]
+    last = device("d%d" % (HOPS + 2), {"collectingProcess": [{"name": "in"}]})
+    return {
+        "devices": [meter] + hops + [last],
+        "links": [link(number) for number in range(1, HOPS + 2)],
+        "report": {"device": "d%d" % (HOPS + 2), "collectingProcess": "in", "key": by_source},
+    }
+
+
+def address(source):
+    return "10.0.%d.%d" % (source // 256, source % 256)
+
+
+def chain(packets):
+    """A run of so many packets, each hundred of which come from one source, and the totals that it comes to."""
+    sources = packets // EACH
+    lines = "".join("%s packets %d octets %d\n" % (address(source), EACH, 100 * EACH) for source in range(sources))
+    return chain_text(packets, sources), "keys %d\n%sunassigned 0\ncomplete yes\n" % (sources, lines)
+
+
+def chain_text(packets, sources):
+    yield "once-run 1\n"
+    for packet in range(packets):
+        yield "packet 1 1 %s 192.0.2.1 6 49152 443 0 100\n" % address(packet % sources)
+    for packet in range(packets):
+        yield "cross %d 1 %s\n" % (packet + 1, "n" if packet < sources else packet % sources + 1)
+    for _ in range(sources):
+        yield "expire cache 1 1 1\n"
+        for hop in range(HOPS):
+            yield "arrive %d 1 n\nexpire aggregation %d 1 1 1\n" % (hop + 1, hop + 2)
+        yield "arrive %d 1\n" % (HOPS + 1)
+    yield "end\n"
+
+
+def seconds(network, traffic, run, size):
     path = os.path.join(work, "run.txt")
+    text, wanted = run(size)
     with open(path, "w") as file:
-        file.writelines(run_text(steps))
-    words = [program, "replay", example + "/network.json", example + "/traffic.json", path]
-    wanted = "keys 1\n10.0.0.1 packets %d octets %d\nunassigned 0\ncomplete yes\n" % (steps - 2, 100 * (steps - 2))
+        file.writelines(text)
     best = None
     for _ in range(5):
         start = time.monotonic()
-        printed = subprocess.run(words, stdout=subprocess.PIPE, check=True).stdout.decode()
+        printed = subprocess.run([program, "replay", network, traffic, path], stdout=subprocess.PIPE, check=True).stdout.decode()
         taken = time.monotonic() - start
         if printed != wanted:
-            sys.exit("printed %r in place of %r" % (printed[:200], wanted))
+            sys.exit("printed %r in place of %r" % (printed[:200], wanted[:200]))
         best = taken if best is None else min(best, taken)
     return best
 
 
-first, second = seconds(100_000), seconds(200_000)
-print("100,000 steps %.3f s, 200,000 steps %.3f s, %.2f times as long" % (first, second, second / first))
-sys.exit(0 if second <= 2.5 * first else 1)
+def compare(what, network, traffic, run, size):
+    first, second = seconds(network, traffic, run, size), seconds(network, traffic, run, 2 * size)
+    print("%s: %d %.3f s, %d %.3f s, %.2f times as long" % (what, size, first, 2 * size, second, second / first))
+    return second <= 2.5 * first
+
+
+network = os.path.join(work, "network.json")
+with open(network, "w") as file:
+    json.dump(chain_network(), file)
+traffic = os.path.join(work, "traffic.json")
+with open(traffic, "w") as file:
+    json.dump({"classes": [{"name": "all", "paths": [[{"device": "d1", "interface": "eth0", "direction": "ingress"}]]}]}, file)
+done = [
+    compare("steps of one record", example + "/network.json", example + "/traffic.json", one_record, 100_000),
+    compare("packets into a chain", network, traffic, chain, 50_000),
+]
+sys.exit(0 if all(done) else 1)
 PYTHON
