@@ -47,6 +47,8 @@ pub data IsSplit (net : Net) (path : List Crossing) (region : Bounds) (axis : Ax
   of_selection : (s : Selection) (other : Bounds) → Meets net path s → s.holder ≢ None → s.region ≡ Some other → (Uncut region (holds other) → ⊥) → IsSplitBy region other axis at → IsSplit net path region axis at
   of_match : (a : Aggregation) → Reaches net path region a → (Uncut region (matches_packet a.matches) → ⊥) → IsSplitBy region (match_fields a.matches) axis at → IsSplit net path region axis at
 
+-- ---- what its parts tell
+
 -- on this axis no bound of the second region is strictly inside the first
 pub record NoSplitBy (region other : Bounds) (axis : Axis) : Type 0 where
   pub low : IsStrictlyInside region (axis_index axis) (low_at other axis) → ⊥
