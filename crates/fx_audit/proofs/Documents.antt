@@ -53,9 +53,9 @@ network_refused left octets text d Q same is json (Err e) h =
     let own : IsJson octets d = subst (λ (o : List ℕ). IsJson o d) is json in
     elim h [
       | inl f ↦ elim (found_or_memory e.number e.place (network_faults [] d) f) [
-          | inl m ↦ inl m
-          | inr g ↦ inr (inr (told left octets (λ l. IsRefusedNetwork l e) same (by_walk (inr (d, own, g)))))
-        ]
+        | inl m ↦ inl m
+        | inr g ↦ inr (inr (told left octets (λ l. IsRefusedNetwork l e) same (by_walk (inr (d, own, g)))))
+      ]
       | inr n ↦ inr (inr (told left octets (λ l. IsRefusedNetwork l e) same (by_plan (network_of d) (record { value = d; json = own; faultless = n.0; means = refl }) n.1)))
     ]
 
