@@ -1,0 +1,95 @@
+-- Lines are accepted exactly where they are those of a sound certificate, and then each packet is counted once.
+use Rattle.std.proofs.Common.{◌≡◌, ℕ, suc, ◌≤◌, Bool, true, false, List, [], ◌∷◌, map, length, refl, ap, ap₂, sym, ◌∙◌, cond, Result, Ok, Err, Option, Some, None, leb-false, arith}
+use Rattle.std.specs.Prelude.{nat_lt}
+use Rattle.std.specs.List.{AllByRecursion}
+use Rattle.fx_base.specs.Lines.{next_number}
+use Rattle.fx_cert.specs.declared.item.Item.{Item}
+use Rattle.fx_cert.specs.ItemText.{IsText, item_text}
+use Rattle.fx_cert.specs.ItemReading.{item_of}
+use Rattle.fx_cert.proofs.Texts.{item_found}
+use Rattle.fx_machine.specs.Classes.{Class}
+use Rattle.fx_machine.specs.Claim.{ExactlyOnce}
+use Rattle.fx_machine.specs.Network.{Net}
+use Rattle.fx_machine.specs.Ranks.{IsNetwork}
+use Rattle.fx_leaf.proofs.Headline as headline
+use Rattle.fx_check.specs.Judging.{Judge, judge_of}
+use Rattle.fx_check.specs.Outcomes.{Accepted}
+use Rattle.fx_check.specs.Targets.{Target, targets_of, AreRegions}
+use Rattle.fx_check.specs.Verdict.{Goal, Line, Refusal, Reading, long, cut, malformed, says, said, reading_of, after_reading, made_after, goes_on, first_refusal, whole}
+use Rattle.fx_check.specs.Certificates.{IsCertificate, IsWritable, item_line, certificate_items}
+use Rattle.fx_check.proofs.Readings.{line_says}
+use Rattle.fx_check.proofs.Sounding.{all_sound, all_right, sound_of}
+use Rattle.fx_check.proofs.Trees.{on, verdict, right_only, right_all}
+
+-- ---- a line says an item exactly where it is that item's line
+
+is_line : (l : Line) (i : Item) → reading_of l ≡ says i → (l ≡ item_line i) × IsWritable i
+is_line l i e = by_length (nat_lt 4096 (length l.0)) refl l.1 refl e where
+  is_text : l.1 ≡ true → length l.0 ≤ 4096 → IsText l.0 i → (l ≡ item_line i) × IsWritable i
+  is_text ended short text = (ap₂ (λ (a : List ℕ) (b : Bool). let l : Line = (a, b) in l) text.1 ended, (text.0, rw (← text.1) short))
+
+  by_text : (o : Option Item) → item_of l.0 ≡ o → said o ≡ says i → l.1 ≡ true → length l.0 ≤ 4096 → (l ≡ item_line i) × IsWritable i
+  by_text None is e ended short = absurd cc
+  by_text (Some j) is e ended short = let same : j ≡ i = cc in is_text ended short (item_found l.0 i (is ∙ ap (λ x. Some x) same))
+
+  by_length : (b : Bool) → nat_lt 4096 (length l.0) ≡ b → (f : Bool) → l.1 ≡ f → cond b long (cond f (said (item_of l.0)) cut) ≡ says i → (l ≡ item_line i) × IsWritable i
+  by_length true is f ended e = absurd cc
+  by_length false is false ended e = absurd cc
+  by_length false is true ended e = by_text (item_of l.0) refl e ended (let n = leb-false 4097 (length l.0) is in omega (arith, n))
+
+are_lines : (ls : List Line) (is : List Item) → map reading_of ls ≡ map says is → (ls ≡ map item_line is) × AllByRecursion IsWritable is
+are_lines [] [] e = (refl, tt)
+are_lines [] (i ∷ is) e = absurd cc
+are_lines (l ∷ ls) [] e = absurd cc
+are_lines (l ∷ ls) (i ∷ is) e =
+    let first : reading_of l ≡ says i = cc in
+    let rest : map reading_of ls ≡ map says is = cc in
+    let here = is_line l i first in
+    let more = are_lines ls is rest in
+    (ap₂ (λ (x : Line) (xs : List Line). x ∷ xs) here.0 more.0, (here.1, more.1))
+
+say_items : (is : List Item) → AllByRecursion IsWritable is → map reading_of (map item_line is) ≡ map says is
+say_items [] h = refl
+say_items (i ∷ is) h = ap₂ (λ (x : Reading) (xs : List Reading). x ∷ xs) (line_says (item_text i) true i refl h.0.1 (h.0.0, refl)) (say_items is h.1)
+
+-- ---- no refusal is no fault
+
+no_fault : (judge : Judge) (n made : ℕ) (gs : List Goal) (ls : List Line) → first_refusal judge n made gs ls ≡ None → verdict judge made gs (map reading_of ls) ≡ None
+no_fault judge n made [] [] e = refl
+no_fault judge n made (g ∷ gs) [] e = absurd cc
+no_fault judge n made gs (l ∷ ls) e = go (λ left h. no_fault judge (next_number n) (made_after made (reading_of l)) left ls h) (after_reading judge made gs (reading_of l)) e where
+  go : ((left : List Goal) → first_refusal judge (next_number n) (made_after made (reading_of l)) left ls ≡ None → verdict judge (made_after made (reading_of l)) left (map reading_of ls) ≡ None)
+      → (r : Result (List Goal) ℕ) → goes_on (next_number n) ls (λ left. first_refusal judge (next_number n) (made_after made (reading_of l)) left ls) r ≡ None → on (λ left. verdict judge (made_after made (reading_of l)) left (map reading_of ls)) r ≡ None
+  go more (Ok left) e = more left e
+  go more (Err k) e = absurd cc
+
+no_refusal : (judge : Judge) (n made : ℕ) (gs : List Goal) (ls : List Line) → verdict judge made gs (map reading_of ls) ≡ None → first_refusal judge n made gs ls ≡ None
+no_refusal judge n made [] [] e = refl
+no_refusal judge n made (g ∷ gs) [] e = absurd cc
+no_refusal judge n made gs (l ∷ ls) e = go (λ left h. no_refusal judge (next_number n) (made_after made (reading_of l)) left ls h) (after_reading judge made gs (reading_of l)) e where
+  go : ((left : List Goal) → verdict judge (made_after made (reading_of l)) left (map reading_of ls) ≡ None → first_refusal judge (next_number n) (made_after made (reading_of l)) left ls ≡ None)
+      → (r : Result (List Goal) ℕ) → on (λ left. verdict judge (made_after made (reading_of l)) left (map reading_of ls)) r ≡ None → goes_on (next_number n) ls (λ left. first_refusal judge (next_number n) (made_after made (reading_of l)) left ls) r ≡ None
+  go more (Ok left) e = more left e
+  go more (Err k) e = absurd cc
+
+-- ---- certificates
+
+pub certificate_only : (net : Net) (ts : List Target) (n : ℕ) (ls : List Line) → IsNetwork net → AreRegions ts → first_refusal (judge_of net) n 0 (whole ts) ls ≡ None → IsCertificate net ts ls
+certificate_only net ts n ls is_net rs e =
+    let right = right_only (judge_of net) ts (map reading_of ls) (no_fault (judge_of net) n 0 (whole ts) ls e) in
+    let written = are_lines ls (certificate_items ts right.0) right.1 in
+    record { trees = right.0; sound = all_sound net is_net ts right.0 rs right.2; lines_are = written.0; writable = written.1; few = right.3 }
+
+pub certificate_all : (net : Net) (ts : List Target) (n : ℕ) (ls : List Line) → IsNetwork net → AreRegions ts → IsCertificate net ts ls → first_refusal (judge_of net) n 0 (whole ts) ls ≡ None
+certificate_all net ts n ls is_net rs c =
+    no_refusal (judge_of net) n 0 (whole ts) ls
+    (ap (verdict (judge_of net) 0 (whole ts)) (ap (map reading_of) c.lines_are ∙ say_items (certificate_items ts c.trees) c.writable)
+    ∙ right_all (judge_of net) ts c.trees (all_right net is_net ts c.trees rs c.sound) c.few)
+
+-- ---- the headline
+
+pub certified_once : (net : Net) (classes : List Class) (ls : List Line) → IsNetwork net → IsCertificate net (targets_of classes) ls → ExactlyOnce net classes
+certified_once net classes ls is_net c = let s = sound_of net classes c.trees c.sound in headline.exactly_once net classes s.0 is_net s.1
+
+pub accepted_once : (net : Net) (classes : List Class) → IsNetwork net → AreRegions (targets_of classes) → Accepted net (targets_of classes) → ExactlyOnce net classes
+accepted_once net classes is_net rs a = certified_once net classes a.lines is_net (certificate_only net (targets_of classes) a.before a.lines is_net rs a.none)

@@ -1,0 +1,9 @@
+pub mod Standing
+pub mod Readings
+pub mod Going
+pub mod Lent
+pub mod Listing
+pub mod Trees
+pub mod Sounding
+pub mod Accepting
+pub mod Calling

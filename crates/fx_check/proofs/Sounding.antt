@@ -1,0 +1,145 @@
+-- A leaf with which nothing is wrong is sound, and so are trees of such leaves.
+use Rattle.std.proofs.Common.{◌≡◌, ℕ, zero, suc, ◌+◌, ◌-◌, ◌<◌, ◌≤◌, Bool, true, false, ◌&&◌, cond, eqb, List, [], ◌∷◌, ◌++◌, refl, ap, sym, subst, ◌∙◌, arith, Result, Ok, Err, Option, Some, None, IfOk, eqb-true, eq-eqb, slice_index, slice_set, slice_get}
+use Rattle.std.specs.List.{AllByRecursion}
+use Rattle.fx_base.specs.declared.fault.Fault.{Fault}
+use Rattle.fx_elements.specs.Axes.{axis_index}
+use Rattle.fx_boxes.specs.Boxes.{Bounds, IsRegion, IsStrictlyInside, below_part, above_part}
+use Rattle.fx_machine.specs.declared.traffic.Crossing.{Crossing}
+use Rattle.fx_machine.specs.Classes.{Class}
+use Rattle.fx_machine.specs.Network.{Net, numbered, entries}
+use Rattle.fx_machine.specs.Ranks.{IsNetwork}
+use Rattle.fx_leaf.specs.declared.leaf.Counted.{Counted}
+use Rattle.fx_leaf.specs.Certificates.{Tree, Leaf, Split, SoundTree, Sound}
+use Rattle.fx_leaf.specs.SoundLeaves.{SoundLeaf}
+use Rattle.fx_leaf.proofs.Deciding.{answer_sound, answer_every}
+use Rattle.fx_check.specs.Judging.{judge_of, same_leaf, sound_leaf, unless_same}
+use Rattle.fx_check.specs.Targets.{Target, targets_along, targets_from, targets_of, AreRegions}
+use Rattle.fx_check.specs.Certificates.{IsShallow, AllSound}
+use Rattle.fx_check.proofs.Trees.{IsRight, AllRight}
+
+-- ---- regions of parts
+
+lowered : (highs : List ℕ) (i at : ℕ) (f : ℕ → ℕ) → f i < at → (k : ℕ) → f k ≤ slice_index highs k → f k ≤ slice_index (slice_set highs i (at - 1)) k
+lowered [] i at f lt k h = h
+lowered (x ∷ xs) zero at f lt zero h = omega (arith, lt)
+lowered (x ∷ xs) zero at f lt (suc k) h = h
+lowered (x ∷ xs) (suc i) at f lt zero h = h
+lowered (x ∷ xs) (suc i) at f lt (suc k) h = lowered xs i at (λ n. f (suc n)) lt k h
+
+raised : (lows : List ℕ) (i at : ℕ) (f : ℕ → ℕ) → at ≤ f i → (k : ℕ) → slice_index lows k ≤ f k → slice_index (slice_set lows i at) k ≤ f k
+raised [] i at f le k h = h
+raised (x ∷ xs) zero at f le zero h = le
+raised (x ∷ xs) zero at f le (suc k) h = h
+raised (x ∷ xs) (suc i) at f le zero h = h
+raised (x ∷ xs) (suc i) at f le (suc k) h = raised xs i at (λ n. f (suc n)) le k h
+
+below_region : (b : Bounds) (i at : ℕ) → IsRegion b → IsStrictlyInside b i at → IsRegion (below_part b i at)
+below_region b i at r inside k small = (
+  lowered b.high i at (slice_index b.low) inside.0 k (r k small).0,
+  let top : slice_index (slice_set b.high i (at - 1)) k ≤ slice_index b.high k = raised b.high i (at - 1) (slice_index b.high) (omega (arith, inside.1)) k (omega arith) in omega (arith, top, (r k small).1),
+)
+
+above_region : (b : Bounds) (i at : ℕ) → IsRegion b → IsStrictlyInside b i at → IsRegion (above_part b i at)
+above_region b i at r inside k small = (raised b.low i at (slice_index b.high) inside.1 k (r k small).0, (r k small).1)
+
+-- ---- leaves
+
+both : (a b : Bool) → (a && b) ≡ true → (a ≡ true) × (b ≡ true)
+both true b h = (refl, h)
+both false b h = absurd cc
+
+is_same : (a b : Counted) → same_leaf a b ≡ true → (a.crossing ≡ b.crossing) × (a.point ≡ b.point) × (a.process ≡ b.process)
+is_same a b e =
+    let k = both (eqb a.crossing b.crossing) (eqb a.point b.point && eqb a.process b.process) e in
+    let l = both (eqb a.point b.point) (eqb a.process b.process) k.1 in
+    (eqb-true a.crossing b.crossing k.0, eqb-true a.point b.point l.0, eqb-true a.process b.process l.1)
+
+same_as_itself : (a : Counted) → same_leaf a a ≡ true
+same_as_itself a = rw (eq-eqb a.crossing a.crossing refl, eq-eqb a.point a.point refl, eq-eqb a.process a.process refl) refl
+
+-- 410 unless the leaves are the same
+abbrev unless : Bool → Option ℕ
+unless same = cond {A = Option ℕ} same None (Some 410)
+
+module _ (net : Net) (is_net : IsNetwork net) where
+  leaf_sound : (t : Target) (b : Bounds) (l : Counted) → IsRegion b → judge_of net t b l ≡ None → SoundLeaf net t.crossings b l.crossing l.point l.process
+  leaf_sound t b l r e = go (sound_leaf net t.crossings b) (answer_sound net t.crossings b is_net r (sound_leaf net t.crossings b) refl) e where
+    by_test : (c : Counted) (same : Bool) → same_leaf c l ≡ same → SoundLeaf net t.crossings b c.crossing c.point c.process → cond same (◌≡◌ {A = Option ℕ} None None) (◌≡◌ {A = Option ℕ} (Some 410) None) → SoundLeaf net t.crossings b l.crossing l.point l.process
+    by_test c true is sound h = let s = is_same c l is in rw (← s.0, ← s.1, ← s.2) sound
+    by_test c false is sound h = absurd cc
+
+    chosen : (same : Bool) → unless same ≡ None → cond same (◌≡◌ {A = Option ℕ} None None) (◌≡◌ {A = Option ℕ} (Some 410) None)
+    chosen true e = e
+    chosen false e = e
+
+    go : (answer : Result Counted Fault) → IfOk answer (λ c. SoundLeaf net t.crossings b c.crossing c.point c.process) → unless_same l answer ≡ None → SoundLeaf net t.crossings b l.crossing l.point l.process
+    go (Err f) sound e = absurd cc
+    go (Ok c) sound e = by_test c (same_leaf c l) refl sound (chosen (same_leaf c l) e)
+
+  leaf_right : (t : Target) (b : Bounds) (l : Counted) → IsRegion b → SoundLeaf net t.crossings b l.crossing l.point l.process → judge_of net t b l ≡ None
+  leaf_right t b l r sound =
+      ap (unless_same l) (answer_every net t.crossings b is_net r (sound_leaf net t.crossings b) refl l.crossing l.point l.process sound) ∙ ap unless (same_as_itself l)
+
+  -- ---- trees
+
+  tree_sound : (t : Target) (b : Bounds) (d : ℕ) (x : Tree) → IsRegion b → IsRight (judge_of net) t b d x → SoundTree net t.crossings b x × IsShallow d x
+  tree_sound t b d (Leaf crossing point process) r right = (leaf_sound t b (record { crossing = crossing; point = point; process = process }) r right, tt)
+  tree_sound t b d (Split a at x y) r right =
+      let i = axis_index a in
+      let below = tree_sound t (below_part b i at) (d + 1) x (below_region b i at r right.1) right.2 in
+      let above = tree_sound t (above_part b i at) (d + 1) y (above_region b i at r right.1) right.3 in
+      ((right.1, below.0, above.0), (right.0, below.1, above.1))
+
+  tree_right : (t : Target) (b : Bounds) (d : ℕ) (x : Tree) → IsRegion b → SoundTree net t.crossings b x → IsShallow d x → IsRight (judge_of net) t b d x
+  tree_right t b d (Leaf crossing point process) r sound shallow = leaf_right t b (record { crossing = crossing; point = point; process = process }) r sound
+  tree_right t b d (Split a at x y) r sound shallow =
+      let i = axis_index a in
+      (shallow.0, sound.0, tree_right t (below_part b i at) (d + 1) x (below_region b i at r sound.0) sound.1 shallow.1, tree_right t (above_part b i at) (d + 1) y (above_region b i at r sound.0) sound.2 shallow.2)
+
+  pub all_sound : (ts : List Target) (xs : List Tree) → AreRegions ts → AllRight (judge_of net) ts xs → AllSound net ts xs
+  all_sound [] [] rs right = tt
+  all_sound [] (x ∷ xs) rs right = absurd right
+  all_sound (t ∷ ts) [] rs right = absurd right
+  all_sound (t ∷ ts) (x ∷ xs) rs right = let s = tree_sound t t.region 0 x rs.0 right.0 in (s.0, s.1, all_sound ts xs rs.1 right.1)
+
+  pub all_right : (ts : List Target) (xs : List Tree) → AreRegions ts → AllSound net ts xs → AllRight (judge_of net) ts xs
+  all_right [] [] rs sound = tt
+  all_right [] (x ∷ xs) rs sound = absurd sound
+  all_right (t ∷ ts) [] rs sound = absurd sound
+  all_right (t ∷ ts) (x ∷ xs) rs sound = (tree_right t t.region 0 x rs.0 sound.0 sound.1, all_right ts xs rs.1 sound.2)
+
+-- ---- trees by class and path
+
+-- a tree for each of these paths
+abbrev HasTrees : Net → Bounds → List (List Crossing) → List Tree → Type 0
+HasTrees net b paths ys = (m : ℕ) (path : List Crossing) → slice_get paths m ≡ Some path → (x : Tree) × (slice_get ys m ≡ Some x) × SoundTree net path b x
+
+along : (net : Net) (c : ℕ) (b : Bounds) (m : ℕ) (paths : List (List Crossing)) (ts : List Target) (xs : List Tree) → AllSound net (targets_along c b m paths ++ ts) xs → (ys : List Tree) × (zs : List Tree) × HasTrees net b paths ys × AllSound net ts zs
+along net c b m [] ts xs sound = ([], xs, λ k. λ path. λ e. absurd cc, sound)
+along net c b m (p ∷ ps) ts [] sound = absurd sound
+along net c b m (p ∷ ps) ts (x ∷ xs) sound = let rest = along net c b (m + 1) ps ts xs sound.2 in (x ∷ rest.0, rest.1, has rest.0 rest.2, rest.3) where
+  has : (ys : List Tree) → HasTrees net b ps ys → HasTrees net b (p ∷ ps) (x ∷ ys)
+  has ys more zero path e = (x, refl, let same : p ≡ path = cc in subst (λ q. SoundTree net q b x) same sound.0)
+  has ys more (suc k) path e = more k path e
+
+-- trees for each of these classes
+abbrev HaveTrees : Net → List Class → List (List Tree) → Type 0
+HaveTrees net classes trees = (c : ℕ) (class : Class) → slice_get classes c ≡ Some class → HasTrees net class.region class.paths (entries (slice_get trees c))
+
+by_class : (net : Net) (c : ℕ) (classes : List Class) (xs : List Tree) → AllSound net (targets_from c classes) xs → (trees : List (List Tree)) × HaveTrees net classes trees
+by_class net c [] xs sound = ([], λ k. λ class. λ e. absurd cc)
+by_class net c (k ∷ ks) xs sound =
+    let first = along net c k.region 1 k.paths (targets_from (c + 1) ks) xs sound in
+    let rest = by_class net (c + 1) ks first.1 first.3 in
+    (first.0 ∷ rest.0, have first.0 rest.0 first.2 rest.1)
+  where
+    have : (ys : List Tree) (trees : List (List Tree)) → HasTrees net k.region k.paths ys → HaveTrees net ks trees → HaveTrees net (k ∷ ks) (ys ∷ trees)
+    have ys trees h more zero class e = let same : k ≡ class = cc in subst (λ q. HasTrees net q.region q.paths ys) same h
+    have ys trees h more (suc n) class e = more n class e
+
+pub sound_of : (net : Net) (classes : List Class) (xs : List Tree) → AllSound net (targets_of classes) xs → (trees : List (List Tree)) × Sound net classes trees
+sound_of net classes xs sound = let made = by_class net 1 classes xs sound in (made.0, go made.0 made.1) where
+  go : (trees : List (List Tree)) → HaveTrees net classes trees → Sound net classes trees
+  go trees have zero m class path e f = absurd cc
+  go trees have (suc c) zero class path e f = absurd cc
+  go trees have (suc c) (suc m) class path e f = have c class e m path f

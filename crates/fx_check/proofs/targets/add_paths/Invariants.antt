@@ -1,0 +1,10 @@
+use Rattle.std.proofs.Common.{◌≡◌, ◌+◌, ◌++◌, drop}
+use Rattle.fx_check.specs.Targets.{targets_along, AreRegions}
+use Rattle.fx_check.proofs.targets.add_paths.Given as goal
+
+-- what was added, and the paths that are left
+abbrev pub invariant-paths : goal.invariant-paths
+invariant-paths l = record {
+  items : l.targets.items ++ targets_along l.number l.region (l.place + 1) (drop l.place l.paths) ≡ l.fn.targets.items ++ targets_along l.number l.region 1 l.paths;
+  regions : AreRegions l.fn.targets.items → AreRegions l.targets.items;
+}

@@ -1,0 +1,10 @@
+use Rattle.std.proofs.Common.{◌≡◌, ◌+◌, ◌++◌, drop}
+use Rattle.fx_check.specs.Targets.{targets_from, AreRegions}
+use Rattle.fx_check.proofs.targets.targets_of.Given as goal
+
+-- what was added, and the classes that are left
+abbrev pub invariant-classes : goal.invariant-classes
+invariant-classes l = record {
+  items : l.targets.items ++ targets_from (l.place + 1) (drop l.place l.classes) ≡ targets_from 1 l.classes;
+  regions : AreRegions l.targets.items;
+}

@@ -1,0 +1,66 @@
+-- The lines of a sound certificate.
+use Rattle.std.specs.Prelude.{◌≡◌, ℕ, ◌+◌, ◌<◌, ◌≤◌, true, List, [], ◌∷◌, ◌++◌, map, length}
+use Rattle.std.specs.List.{AllByRecursion}
+use Rattle.fx_elements.specs.Axes.{axis_index}
+use Rattle.fx_boxes.specs.Boxes.{Bounds, below_part, above_part}
+use Rattle.fx_cert.specs.declared.item.Item.{Item}
+use Rattle.fx_cert.specs.declared.item.Item.TheVariants as item
+use Rattle.fx_cert.specs.ItemText.{IsItem, item_text}
+use Rattle.fx_machine.specs.Network.{Net}
+use Rattle.fx_leaf.specs.Certificates.{Tree, Leaf, Split, SoundTree}
+use Rattle.fx_check.specs.Targets.{Target}
+use Rattle.fx_check.specs.Verdict.{Line, line_limit, depth_limit}
+
+-- a split, then the tree of its lower part, then that of its upper part
+abbrev pub tree_items : Tree → List Item
+tree_items (Leaf crossing point process) = item.Leaf crossing point process ∷ []
+tree_items (Split axis at below above) = item.Split axis at ∷ (tree_items below ++ tree_items above)
+
+-- for each target its line and its tree, and then the last line
+abbrev pub body_items : List Target → List Tree → List Item
+body_items (t ∷ ts) (x ∷ xs) = item.Class t.class t.path ∷ (tree_items x ++ body_items ts xs)
+body_items _ _ = item.End ∷ []
+
+abbrev pub certificate_items : List Target → List Tree → List Item
+certificate_items ts xs = item.Header ∷ body_items ts xs
+
+-- the item's text, which a line feed ends
+abbrev pub item_line : Item → Line
+item_line i = (item_text i, true)
+
+-- its numbers are within their bounds, and its text has at most 4,096 bytes
+abbrev pub IsWritable : Item → Type 0
+IsWritable i = IsItem i × (length (item_text i) ≤ 4096)
+
+-- ---- limits
+
+-- how many split and leaf lines there are
+abbrev pub size : Tree → ℕ
+size (Leaf crossing point process) = 1
+size (Split axis at below above) = 1 + (size below + size above)
+
+abbrev pub sizes : List Tree → ℕ
+sizes [] = 0
+sizes (x ∷ xs) = size x + sizes xs
+
+-- no split in a tree whose root has this depth is too deep
+abbrev pub IsShallow : ℕ → Tree → Type 0
+IsShallow d (Leaf crossing point process) = Unit {0}
+IsShallow d (Split axis at below above) = (d < depth_limit) × IsShallow (d + 1) below × IsShallow (d + 1) above
+
+-- ---- certificates
+
+-- a sound tree for each target, in order
+abbrev pub AllSound : Net → List Target → List Tree → Type 0
+AllSound net [] [] = Unit {0}
+AllSound net (t ∷ ts) (x ∷ xs) = SoundTree net t.crossings t.region x × IsShallow 0 x × AllSound net ts xs
+AllSound net [] (x ∷ xs) = ⊥
+AllSound net (t ∷ ts) [] = ⊥
+
+-- the lines are those of a sound certificate within the limits
+pub record IsCertificate (net : Net) (targets : List Target) (lines : List Line) : Type 0 where
+  pub trees : List Tree
+  pub sound : AllSound net targets trees
+  pub lines_are : lines ≡ map item_line (certificate_items targets trees)
+  pub writable : AllByRecursion IsWritable (certificate_items targets trees)
+  pub few : sizes trees ≤ line_limit

@@ -1,0 +1,6 @@
+pub mod Targets
+pub mod Judging
+pub mod Verdict
+pub mod Certificates
+pub mod Standing
+pub mod Outcomes

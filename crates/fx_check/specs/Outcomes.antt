@@ -1,0 +1,27 @@
+-- What checking comes to, beside what its reader of lines itself answers.
+use Rattle.std.specs.Prelude.{◌≡◌, ℕ, ◌⊎◌, List, Option, Some, None, IfSome}
+use Rattle.fx_base.specs.declared.fault.Fault.{Fault}
+use Rattle.fx_base.specs.Lines.{Lines, text_lines}
+use Rattle.fx_machine.specs.Network.{Net}
+use Rattle.fx_check.specs.Targets.{Target}
+use Rattle.fx_check.specs.Judging.{judge_of}
+use Rattle.fx_check.specs.Verdict.{Line, Refusal, whole, first_refusal, refusal_in}
+
+-- the first refusal of a certificate for the targets, where the reader tells its bytes
+abbrev pub refusal_of : Net → List Target → Lines → Option (Option Refusal)
+refusal_of net targets lines = refusal_in (judge_of net) lines 0 (whole targets)
+
+-- the reader goes on behind the refused line, unless it was the reader that refused a line that is too long
+abbrev pub StandsBehind : Lines → Refusal → Type 0
+StandsBehind lines r =
+    ((r.fault.number ≡ 903) × (lines.stopped ≡ Some r.fault)) ⊎ ((lines.stopped ≡ None) × (lines.number ≡ r.last) × ((text : List ℕ) × (lines.left ≡ Some text) × (text_lines text ≡ r.behind)))
+
+abbrev pub IsRefusal : Fault → Lines → Option Refusal → Type 0
+IsRefusal e lines None = ⊥
+IsRefusal e lines (Some r) = (e ≡ r.fault) × StandsBehind lines r
+
+-- some lines were accepted
+pub record Accepted (net : Net) (targets : List Target) : Type 0 where
+  pub before : ℕ
+  pub lines : List Line
+  pub none : first_refusal (judge_of net) before 0 (whole targets) lines ≡ None

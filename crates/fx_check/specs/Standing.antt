@@ -1,0 +1,64 @@
+-- What a certificate still has to say where a checker stands.
+use Rattle.std.specs.Prelude.{◌≡◌, ℕ, ◌+◌, ◌<◌, ◌≤◌, List, [], ◌∷◌, length, drop, Result, Ok, Err}
+use Rattle.fx_check.specs.Targets.{Target}
+use Rattle.fx_check.specs.declared.stack.Waiting.{Waiting}
+use Rattle.fx_check.specs.declared.course.Course.{Course}
+use Rattle.fx_check.specs.declared.course.Stage.{Stage}
+use Rattle.fx_check.specs.declared.course.Stage.TheVariants as stage
+use Rattle.fx_check.specs.Verdict.{Goal, header, tree, ahead}
+
+-- the regions that wait, the last of them first, and then gs
+abbrev pub waiting_goals : Target → List Waiting → List Goal → List Goal
+waiting_goals t [] gs = gs
+waiting_goals t (w ∷ ws) gs = waiting_goals t ws (tree t w.region w.depth ∷ gs)
+
+-- within the tree of the first of the targets
+abbrev pub tree_goals : List Target → Waiting → List Waiting → List Goal
+tree_goals [] w ws = []
+tree_goals (t ∷ ts) w ws = tree t w.region w.depth ∷ waiting_goals t ws (ahead ts)
+
+abbrev pub goals_at : List Target → ℕ → List Waiting → Stage → List Goal
+goals_at ts at ws stage.Header = header ∷ ahead (drop at ts)
+goals_at ts at ws stage.Between = ahead (drop at ts)
+goals_at ts at ws (stage.Tree w) = tree_goals (drop at ts) w ws
+goals_at ts at ws stage.Ended = []
+
+abbrev pub goals : List Target → Course → List Goal
+goals ts c = goals_at ts c.current c.waiting c.stage
+
+-- each region that waits is deeper than its place, which counts from k
+abbrev pub AreDeepFrom : ℕ → List Waiting → Type 0
+AreDeepFrom k [] = Unit {0}
+AreDeepFrom k (w ∷ ws) = (k < w.depth) × (w.depth ≤ 512) × AreDeepFrom (k + 1) ws
+
+abbrev pub AreDeep : List Waiting → ℕ → Type 0
+AreDeep ws depth = (depth ≤ 512) × (length ws ≤ depth) × AreDeepFrom 0 ws
+
+abbrev pub IsStandingAt : List Target → ℕ → List Waiting → Stage → Type 0
+IsStandingAt ts at ws stage.Header = ws ≡ []
+IsStandingAt ts at ws stage.Between = ws ≡ []
+IsStandingAt ts at ws (stage.Tree w) = (at < length ts) × AreDeep ws w.depth
+IsStandingAt ts at ws stage.Ended = ws ≡ []
+
+abbrev pub IsStanding : List Target → Course → Type 0
+IsStanding ts c = IsStandingAt ts c.current c.waiting c.stage
+
+-- in the tree of a region
+abbrev pub IsInTree : Stage → Type 0
+IsInTree stage.Header = ⊥
+IsInTree stage.Between = ⊥
+IsInTree (stage.Tree w) = Unit {0}
+IsInTree stage.Ended = ⊥
+
+abbrev pub rest_of_tree : List Target → List Waiting → List Goal
+rest_of_tree [] ws = []
+rest_of_tree (t ∷ ts) ws = waiting_goals t ws (ahead ts)
+
+-- what is to be said after the region's tree
+abbrev pub rest_goals : List Target → Course → List Goal
+rest_goals ts c = rest_of_tree (drop c.current ts) c.waiting
+
+-- a call's outcome, with what is left to say
+abbrev pub map_result : {A : Type 0} → Result A ℕ → List Goal → Result (List Goal) ℕ
+map_result (Ok x) gs = Ok gs
+map_result (Err n) gs = Err n

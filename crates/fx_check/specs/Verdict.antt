@@ -1,0 +1,158 @@
+-- What a certificate still has to say, and the first of its lines that says something else.
+use Rattle.std.specs.Prelude.{ℕ, ◌+◌, ◌&&◌, ◌==◌, Bool, nat_lt, nat_le, if◌then◌else◌, List, [], ◌∷◌, length, Result, Ok, Err, Option, Some, None, slice_index}
+use Rattle.std.specs.Option.{option_map}
+use Rattle.fx_base.specs.declared.fault.Fault.{Fault}
+use Rattle.fx_base.specs.declared.fault.Place.TheVariants as places
+use Rattle.fx_base.specs.Fault.{fault_at}
+use Rattle.fx_base.specs.Lines.{Lines, text_lines, next_number}
+use Rattle.fx_elements.specs.Axes.{axis_index}
+use Rattle.fx_boxes.specs.Boxes.{Bounds, below_part, above_part}
+use Rattle.fx_cert.specs.declared.item.Item.{Item}
+use Rattle.fx_cert.specs.declared.item.Item.TheVariants as item
+use Rattle.fx_cert.specs.ItemReading.{item_of}
+use Rattle.fx_leaf.specs.declared.leaf.Counted.{Counted}
+use Rattle.fx_check.specs.Targets.{Target}
+use Rattle.fx_check.specs.Judging.{Judge}
+
+-- ---- goals
+
+-- what is still to be said: the first line, the line of a target, the tree of a region at a depth, or the last line
+pub data Goal : Type 0 where
+  header : Goal
+  opening : Target → Goal
+  tree : Target → Bounds → ℕ → Goal
+  close : Goal
+
+-- the targets in order, each with the tree of its region, and then the last line
+abbrev pub ahead : List Target → List Goal
+ahead [] = close ∷ []
+ahead (t ∷ ts) = opening t ∷ tree t t.region 0 ∷ ahead ts
+
+abbrev pub whole : List Target → List Goal
+whole ts = header ∷ ahead ts
+
+-- ---- an item
+
+-- how many split and leaf lines there may be
+abbrev pub line_limit : ℕ
+line_limit = 1000000
+
+-- the depth of a split is below this; that of the first is 0
+abbrev pub depth_limit : ℕ
+depth_limit = 512
+
+-- nothing is wrong, or something that has this number
+abbrev pub unless_wrong : Option ℕ → List Goal → Result (List Goal) ℕ
+unless_wrong None gs = Ok gs
+unless_wrong (Some n) gs = Err n
+
+abbrev pub leaf_answer : ℕ → Option ℕ → List Goal → Result (List Goal) ℕ
+leaf_answer made wrong gs = if nat_le line_limit made then Err 414 else unless_wrong wrong gs
+
+-- a split of a region at a depth, at a value of the axis at k
+abbrev pub split_answer : ℕ → Bounds → ℕ → ℕ → ℕ → List Goal → Result (List Goal) ℕ
+split_answer made b d k at gs =
+    if nat_le line_limit made then Err 414
+    else if nat_le depth_limit d then Err 412
+    else if nat_lt (slice_index b.low k) at && nat_le at (slice_index b.high k) then Ok gs
+    else Err 404
+
+-- the trees of the two parts, that of the lower one first
+abbrev pub parts : Target → Bounds → ℕ → ℕ → ℕ → List Goal → List Goal
+parts t b d k at gs = tree t (below_part b k at) (d + 1) ∷ tree t (above_part b k at) (d + 1) ∷ gs
+
+-- what is left to say after an item, or the number of its fault; so many split and leaf lines came before
+abbrev pub after : Judge → ℕ → List Goal → Item → Result (List Goal) ℕ
+after judge made [] i = Err 411
+after judge made (header ∷ gs) item.Header = Ok gs
+after judge made (header ∷ gs) _ = Err 401
+after judge made (opening t ∷ gs) (item.Class c m) = if c == t.class && m == t.path then Ok gs else Err 403
+after judge made (opening t ∷ gs) _ = Err 403
+after judge made (tree t b d ∷ gs) (item.Leaf crossing point process) =
+    leaf_answer made (judge t b (record { crossing = crossing; point = point; process = process })) gs
+after judge made (tree t b d ∷ gs) (item.Split a at) =
+    split_answer made b d (axis_index a) at (parts t b d (axis_index a) at gs)
+after judge made (tree t b d ∷ gs) _ = Err 403
+after judge made (close ∷ gs) item.End = Ok gs
+after judge made (close ∷ gs) _ = Err 403
+
+-- the split and leaf lines, with this item's
+abbrev pub made_by : ℕ → Item → ℕ
+made_by made (item.Leaf crossing point process) = made + 1
+made_by made (item.Split a at) = made + 1
+made_by made item.Header = made
+made_by made (item.Class c m) = made
+made_by made item.End = made
+
+-- ---- a line
+
+-- a line, and whether a line feed ended it
+abbrev pub Line : Type 0
+Line = List ℕ × Bool
+
+pub data Reading : Type 0 where
+  long : Reading  -- it has more than 4,096 bytes
+  cut : Reading  -- the text ends inside it
+  malformed : Reading  -- no item has this text
+  says : Item → Reading
+
+abbrev pub said : Option Item → Reading
+said None = malformed
+said (Some i) = says i
+
+abbrev pub reading_of : Line → Reading
+reading_of l = if nat_lt 4096 (length l.0) then long else if l.1 then said (item_of l.0) else cut
+
+-- the fault of a line that is no item's text
+abbrev pub form_fault : List Goal → ℕ
+form_fault [] = 411
+form_fault (header ∷ gs) = 401
+form_fault (opening t ∷ gs) = 402
+form_fault (tree t b d ∷ gs) = 402
+form_fault (close ∷ gs) = 402
+
+abbrev pub after_reading : Judge → ℕ → List Goal → Reading → Result (List Goal) ℕ
+after_reading judge made gs long = Err 903
+after_reading judge made gs cut = Err 405
+after_reading judge made gs malformed = Err (form_fault gs)
+after_reading judge made gs (says i) = after judge made gs i
+
+abbrev pub made_after : ℕ → Reading → ℕ
+made_after made long = made
+made_after made cut = made
+made_after made malformed = made
+made_after made (says i) = made_by made i
+
+-- ---- a text
+
+-- a fault at a line, the last number that was read, and the lines behind it
+pub record Refusal : Type 0 where
+  pub fault : Fault
+  pub last : ℕ
+  pub behind : List Line
+
+abbrev pub at_line : ℕ → ℕ → Fault
+at_line number n = fault_at number (places.Line n)
+
+abbrev pub refused : ℕ → ℕ → List Line → Refusal
+refused number n ls = record { fault = at_line number n; last = n; behind = ls }
+
+-- the text ends behind the line n: something may still have to be said
+abbrev pub at_end : ℕ → List Goal → Option Refusal
+at_end n [] = None
+at_end n (g ∷ gs) = Some (record { fault = at_line 405 (next_number n); last = n; behind = [] })
+
+-- the refusal of the line n, or that of what `next` says of the lines behind it
+abbrev pub goes_on : ℕ → List Line → (List Goal → Option Refusal) → Result (List Goal) ℕ → Option Refusal
+goes_on n ls next (Err number) = Some (refused number n ls)
+goes_on n ls next (Ok left) = next left
+
+-- the first refusal of the lines behind the line n, if there is one
+abbrev pub first_refusal : Judge → ℕ → ℕ → List Goal → List Line → Option Refusal
+first_refusal judge n made gs [] = at_end n gs
+first_refusal judge n made gs (l ∷ ls) =
+    goes_on (next_number n) ls (λ left. first_refusal judge (next_number n) (made_after made (reading_of l)) left ls) (after_reading judge made gs (reading_of l))
+
+-- the first refusal of what a reader of lines has left, where it tells its bytes
+abbrev pub refusal_in : Judge → Lines → ℕ → List Goal → Option (Option Refusal)
+refusal_in judge lines made gs = option_map (λ text. first_refusal judge lines.number made gs (text_lines text)) lines.left

@@ -1,0 +1,104 @@
+//! Checking a certificate, line by line.
+ghost use Rattle.std.specs.Prelude.{◌≡◌, ◌⊎◌, ◌≤◌, ℕ, List, None, IfOk, IfErr, OnOk, IfSome, length};
+ghost use Rattle.std.specs.List.{AllByRecursion};
+ghost use Rattle.fx_base.specs.Fault.{fault_at};
+ghost use Rattle.fx_base.specs.Lines.{text_lines};
+ghost use Rattle.fx_base.specs.declared.fault.Place.TheVariants as places;
+ghost use Rattle.fx_leaf.specs.Tables.{AreTables};
+ghost use Rattle.fx_machine.specs.Claim.{ExactlyOnce};
+ghost use Rattle.fx_machine.specs.RunReading.{Fails};
+ghost use Rattle.fx_plan.specs.Tables.{net_of};
+ghost use Rattle.fx_check.specs.Certificates.{IsCertificate};
+ghost use Rattle.fx_check.specs.Judging.{judge_of};
+ghost use Rattle.fx_check.specs.Outcomes.{refusal_of, IsRefusal, Accepted};
+ghost use Rattle.fx_check.specs.Standing.{goals, IsStanding};
+ghost use Rattle.fx_check.specs.Targets.{AreRegions, targets_of};
+ghost use Rattle.fx_check.specs.Verdict.{whole};
+
+use crate::course::Course;
+use crate::tables::tables_of;
+use crate::targets::{Target, targets_of};
+use fx_base::{Fault, LineReader, Source};
+use fx_leaf::{Scratch, Tables};
+use fx_machine::Class;
+use fx_plan::Plan;
+use fx_traffic::Traffic;
+use std::alloc::Global;
+
+/// Takes all lines.
+fn take_lines<R: Source>(
+    course: &mut Course,
+    scratch: &mut Scratch,
+    tables: &Tables<'_>,
+    targets: &[Target<'_>],
+    lines: &mut LineReader<R>,
+) -> Result<(), Fault>
+    requires tables { AreTables tables.now }
+    requires room { length tables.now.net.processes ≤ length scratch.old }
+    requires standing { IsStanding targets.now course.old }
+    requires made { course.old.made ≡ 0 }
+    requires goals { goals targets.now course.old ≡ whole targets.now }
+    ensures ok { OnOk result (IfSome (refusal_of tables.now.net targets.now lines.old) (λ r. r ≡ None)) }
+    ensures accepted { OnOk result (Accepted tables.now.net targets.now) }
+    ensures err { IfErr result (λ e. Fails lines.old lines.new e ⊎ IfSome (refusal_of tables.now.net targets.now lines.old) (IsRefusal e lines.new)) }
+{
+    'lines: loop {
+        if !lines.advance()? {
+            return course.end(targets, lines.number());
+        }
+        if let Err(number) = course.take(scratch, tables, targets, &lines.line()) {
+            return Err(Fault::at_line(number, lines.number()));
+        }
+    }
+}
+
+/// Checks a certificate of these classes over the tables of a network.
+fn check_classes<R: Source>(
+    alloc: Global,
+    tables: &Tables<'_>,
+    classes: &[Class],
+    lines: &mut LineReader<R>,
+) -> Result<(), Fault>
+    requires tables { AreTables tables.now }
+    ensures ok { OnOk result (IfSome (refusal_of tables.now.net (targets_of classes.now) lines.old) (λ r. r ≡ None)) }
+    ensures accepted { OnOk result (Accepted tables.now.net (targets_of classes.now)) }
+    ensures regions { OnOk result (AreRegions (targets_of classes.now)) }
+    ensures err { IfErr result (λ e. ((e ≡ fault_at 900 places.None) × (lines.new ≡ lines.old)) ⊎ (Fails lines.old lines.new e ⊎ IfSome (refusal_of tables.now.net (targets_of classes.now) lines.old) (IsRefusal e lines.new))) }
+{
+    let targets = targets_of(alloc, classes)?;
+    let mut scratch = Scratch::new(alloc, tables)?;
+    let mut course = Course::new(alloc)?;
+    take_lines(&mut course, &mut scratch, tables, targets.as_slice(), lines)
+}
+
+/// Checks the text of a certificate, which begins with the reader's next line: Ok is the yes. Then each packet of the
+/// traffic, on whichever of its class's paths, is counted exactly once by every complete run of the network.
+///
+/// The text is a line `once-certificate 1`; for each path of each class, in order, a line `class CLASS PATH` and a
+/// tree; and a line `end`. A tree is a leaf, `L CROSSING POINT PROCESS`, or a split, `S AXIS AT`, followed by the tree
+/// of the values below `AT` and that of the values from `AT` on.
+///
+/// The text is read once, a line at a time. All memory is taken before the first line is read: 900, at no place, leaves
+/// the reader as it was. Else it fails at the first line where something is wrong, and the reader goes on behind that
+/// line. What is looked for in a line, in this order: 901, at no place, and 903 are the reader's; 405 the text ends
+/// before `end`, or inside the line (at the text's end the place is the number of lines, plus 1); 411 a line behind
+/// `end`; 401 the first line isn't the one above; 402 a later line is no item's text; 403 an item isn't in its place;
+/// 414 more than 1,000,000 split and leaf lines; for a split 412, deeper than 511, where the first has depth 0, then
+/// 404, not strictly inside its region; for a leaf 406, 413, 409, 408 and 407, as [`fate`](fx_leaf::fate) answers
+/// them, then 410, another selection process than the one that counts.
+pub fn check<R: Source>(
+    alloc: Global,
+    plan: &Plan,
+    traffic: &Traffic,
+    lines: &mut LineReader<R>,
+) -> Result<(), Fault>
+    // Each packet is counted once.
+    ensures once { OnOk result (ExactlyOnce (net_of plan.now) traffic.now) }
+    // The text is that of a sound certificate, and none such is refused.
+    ensures certificate { OnOk result (IfSome lines.old.left (λ text. IsCertificate (net_of plan.now) (targets_of traffic.now) (text_lines text))) }
+    ensures ok { OnOk result (IfSome (refusal_of (net_of plan.now) (targets_of traffic.now) lines.old) (λ r. r ≡ None)) }
+    ensures err { IfErr result (λ e. ((e ≡ fault_at 900 places.None) × (lines.new ≡ lines.old)) ⊎ (Fails lines.old lines.new e ⊎ IfSome (refusal_of (net_of plan.now) (targets_of traffic.now) lines.old) (IsRefusal e lines.new))) }
+{
+    let tables = tables_of(plan);
+    check_classes(alloc, &tables, traffic.classes().as_slice(), lines)
+}

@@ -1,0 +1,307 @@
+//! Where a checker stands in a certificate, and what a line does there.
+ghost use Rattle.std.specs.Prelude.{◌≡◌, ◌+◌, ◌<◌, ◌≤◌, [], List, ℕ, length, IfOk, IfErr, OnOk, Ok, Err, Some, None, if◌then◌else◌};
+ghost use Rattle.fx_boxes.specs.Boxes.{below_part, above_part};
+ghost use Rattle.fx_cert.specs.declared.item.Item.TheVariants as of_item;
+ghost use Rattle.fx_elements.specs.Axes.{axis_index};
+ghost use Rattle.fx_leaf.specs.Tables.{AreTables};
+ghost use Rattle.fx_check.specs.Judging.{Judge, judge_of};
+ghost use Rattle.fx_check.specs.Standing.{goals, rest_goals, IsStanding, IsInTree, map_result};
+ghost use Rattle.fx_check.specs.Verdict.{Goal, after, after_reading, split_answer, made_by, made_after, form_fault, reading_of, at_end};
+
+use crate::judging::leaf_fault;
+use crate::stack::{Stack, Waiting};
+use crate::targets::Target;
+use fx_base::{Fault, Line};
+use fx_boxes::Region;
+use fx_cert::{Item, read_item};
+use fx_elements::Axis;
+use fx_leaf::{Counted, Scratch, Tables};
+use std::alloc::{AllocError, Global};
+
+/// How many split and leaf lines a certificate may have.
+const LINES: u32 = 1_000_000;
+
+/// What comes next.
+#[derive(Clone, Copy, Debug, PartialEq, Eq)]
+pub(crate) enum Stage {
+    /// The first line.
+    Header,
+    /// The line of the current target, or the last line behind all targets.
+    Between,
+    /// The tree of a region of the current target.
+    Tree(Waiting),
+    /// Nothing: the last line was read.
+    Ended,
+}
+
+/// Where a checker stands in a certificate.
+#[derive(Drop)]
+pub(crate) struct Course {
+    pub(crate) stage: Stage,
+    /// The place of the current target, from 0.
+    pub(crate) current: usize,
+    /// The upper parts of the splits above the current region.
+    pub(crate) waiting: Stack,
+    /// How many split and leaf lines came.
+    pub(crate) made: u32,
+}
+
+impl Course {
+    /// Before the first line.
+    pub(crate) fn new(alloc: Global) -> Result<Course, AllocError>
+        ensures { IfOk result (λ c. (c.stage ≡ Stage.Header) × (c.current ≡ 0) × (c.waiting ≡ []) × (c.made ≡ 0)) }
+    {
+        Ok(Course {
+            stage: Stage::Header,
+            current: 0,
+            waiting: Stack::new(alloc)?,
+            made: 0,
+        })
+    }
+
+    /// Takes an item between the trees.
+    fn between(&mut self, targets: &[Target<'_>], item: &Item) -> Result<(), u16>
+        requires standing { IsStanding targets.now self.old }
+        requires stage { self.old.stage ≡ Stage.Between }
+        ensures after { (judge : Judge) → after judge self.old.made (goals targets.now self.old) item.now ≡ map_result result (goals targets.now self.new) }
+        ensures standing { OnOk result (IsStanding targets.now self.new) }
+        ensures made { OnOk result (self.new.made ≡ made_by self.old.made item.now) }
+    {
+        if self.current < targets.len() {
+            let target = &targets[self.current];
+            if let Item::Class { class, path } = item {
+                if *class == target.class && *path == target.path {
+                    self.stage = Stage::Tree(Waiting {
+                        region: target.region,
+                        depth: 0,
+                    });
+                    return Ok(());
+                }
+            }
+            return Err(403);
+        }
+        if let Item::End = item {
+            self.stage = Stage::Ended;
+            return Ok(());
+        }
+        Err(403)
+    }
+
+    /// Ends the tree of a region: that of the region on top comes next, or the target is done.
+    fn close_region(&mut self, targets: &[Target<'_>])
+        requires standing { IsStanding targets.now self.old }
+        requires stage { IsInTree self.old.stage }
+        ensures goals { goals targets.now self.new ≡ rest_goals targets.now self.old }
+        ensures standing { IsStanding targets.now self.new }
+        ensures made { self.new.made ≡ self.old.made }
+    {
+        match self.waiting.pop() {
+            Some(top) => {
+                self.stage = Stage::Tree(top);
+            }
+            None => {
+                self.current += 1;
+                self.stage = Stage::Between;
+            }
+        }
+    }
+
+    /// Takes a leaf as the tree of a region.
+    fn leaf(
+        &mut self,
+        scratch: &mut Scratch,
+        tables: &Tables<'_>,
+        targets: &[Target<'_>],
+        here: &Waiting,
+        leaf: &Counted,
+    ) -> Result<(), u16>
+        requires tables { AreTables tables.now }
+        requires room { length tables.now.net.processes ≤ length scratch.old }
+        requires standing { IsStanding targets.now self.old }
+        requires stage { self.old.stage ≡ Stage.Tree here.now }
+        ensures after { after (judge_of tables.now.net) self.old.made (goals targets.now self.old) (of_item.Leaf leaf.now.crossing leaf.now.point leaf.now.process) ≡ map_result result (goals targets.now self.new) }
+        ensures standing { OnOk result (IsStanding targets.now self.new) }
+        ensures made { OnOk result (self.new.made ≡ self.old.made + 1) }
+        ensures size { length scratch.new ≡ length scratch.old }
+    {
+        let target = &targets[self.current];
+        if self.made >= LINES {
+            return Err(414);
+        }
+        if let Some(number) = leaf_fault(scratch, tables, target, &here.region, leaf) {
+            return Err(number);
+        }
+        self.made += 1;
+        self.close_region(targets);
+        Ok(())
+    }
+
+    /// Takes a split of a region: its lower part comes next, and its upper part waits.
+    fn split(
+        &mut self,
+        targets: &[Target<'_>],
+        here: &Waiting,
+        axis: Axis,
+        at: u128,
+    ) -> Result<(), u16>
+        requires standing { IsStanding targets.now self.old }
+        requires stage { self.old.stage ≡ Stage.Tree here.now }
+        ensures after { (judge : Judge) → after judge self.old.made (goals targets.now self.old) (of_item.Split axis at) ≡ map_result result (goals targets.now self.new) }
+        ensures standing { OnOk result (IsStanding targets.now self.new) }
+        ensures made { OnOk result (self.new.made ≡ self.old.made + 1) }
+    {
+        let depth = here.depth;
+        let (below, above) = split_region(self.made, &here.region, depth, axis, at)?;
+        self.waiting.push(Waiting {
+            region: above,
+            depth: depth + 1,
+        });
+        self.stage = Stage::Tree(Waiting {
+            region: below,
+            depth: depth + 1,
+        });
+        self.made += 1;
+        Ok(())
+    }
+
+    /// Takes an item of the tree of a region.
+    fn within(
+        &mut self,
+        scratch: &mut Scratch,
+        tables: &Tables<'_>,
+        targets: &[Target<'_>],
+        here: &Waiting,
+        item: &Item,
+    ) -> Result<(), u16>
+        requires tables { AreTables tables.now }
+        requires room { length tables.now.net.processes ≤ length scratch.old }
+        requires standing { IsStanding targets.now self.old }
+        requires stage { self.old.stage ≡ Stage.Tree here.now }
+        ensures after { after (judge_of tables.now.net) self.old.made (goals targets.now self.old) item.now ≡ map_result result (goals targets.now self.new) }
+        ensures standing { OnOk result (IsStanding targets.now self.new) }
+        ensures made { OnOk result (self.new.made ≡ made_by self.old.made item.now) }
+        ensures size { length scratch.new ≡ length scratch.old }
+    {
+        match item {
+            Item::Leaf {
+                crossing,
+                point,
+                process,
+            } => {
+                let leaf = Counted {
+                    crossing: *crossing,
+                    point: *point,
+                    process: *process,
+                };
+                self.leaf(scratch, tables, targets, here, &leaf)
+            }
+            Item::Split { axis, at } => self.split(targets, here, *axis, *at),
+            _ => Err(403),
+        }
+    }
+
+    /// Takes an item.
+    fn step(
+        &mut self,
+        scratch: &mut Scratch,
+        tables: &Tables<'_>,
+        targets: &[Target<'_>],
+        item: &Item,
+    ) -> Result<(), u16>
+        requires tables { AreTables tables.now }
+        requires room { length tables.now.net.processes ≤ length scratch.old }
+        requires standing { IsStanding targets.now self.old }
+        ensures after { after (judge_of tables.now.net) self.old.made (goals targets.now self.old) item.now ≡ map_result result (goals targets.now self.new) }
+        ensures standing { OnOk result (IsStanding targets.now self.new) }
+        ensures made { OnOk result (self.new.made ≡ made_by self.old.made item.now) }
+        ensures size { length scratch.new ≡ length scratch.old }
+    {
+        match self.stage {
+            Stage::Ended => Err(411),
+            Stage::Header => match item {
+                Item::Header => {
+                    self.stage = Stage::Between;
+                    Ok(())
+                }
+                _ => Err(401),
+            },
+            Stage::Between => self.between(targets, item),
+            Stage::Tree(here) => self.within(scratch, tables, targets, &here, item),
+        }
+    }
+
+    /// The number of the fault of a line that is no item's text.
+    fn form_fault(&self, targets: &[Target<'_>]) -> u16
+        requires { IsStanding targets.now self.now }
+        ensures { result ≡ form_fault (goals targets.now self.now) }
+    {
+        match self.stage {
+            Stage::Header => 401,
+            Stage::Between => 402,
+            Stage::Tree(_) => 402,
+            Stage::Ended => 411,
+        }
+    }
+
+    /// Takes a line, or answers the number of its fault: 405 where no line feed ends it, 411 behind the last line,
+    /// 401 where the first line isn't `once-certificate 1`, 402 where another is no item's text, 403 where an item
+    /// isn't in its place, 414 where split and leaf lines are too many, 412 where a split is too deep, 404 where it
+    /// isn't strictly inside its region, or what is wrong with a leaf.
+    pub(crate) fn take(
+        &mut self,
+        scratch: &mut Scratch,
+        tables: &Tables<'_>,
+        targets: &[Target<'_>],
+        line: &Line<'_>,
+    ) -> Result<(), u16>
+        requires tables { AreTables tables.now }
+        requires room { length tables.now.net.processes ≤ length scratch.old }
+        requires standing { IsStanding targets.now self.old }
+        requires short { length line.now.bytes.now ≤ 4096 }
+        ensures after { after_reading (judge_of tables.now.net) self.old.made (goals targets.now self.old) (reading_of (line.now.bytes.now, line.now.ended)) ≡ map_result result (goals targets.now self.new) }
+        ensures standing { OnOk result (IsStanding targets.now self.new) }
+        ensures made { OnOk result (self.new.made ≡ made_after self.old.made (reading_of (line.now.bytes.now, line.now.ended))) }
+        ensures size { length scratch.new ≡ length scratch.old }
+    {
+        if !line.ended {
+            return Err(405);
+        }
+        let Ok(item) = read_item(line) else {
+            return Err(self.form_fault(targets));
+        };
+        self.step(scratch, tables, targets, &item)
+    }
+
+    /// What is answered at the text's end, behind the line of this number.
+    pub(crate) fn end(&self, targets: &[Target<'_>], number: u64) -> Result<(), Fault>
+        requires { IsStanding targets.now self.now }
+        ensures ok { OnOk result ((n : ℕ) → at_end n (goals targets.now self.now) ≡ None) }
+        ensures err { IfErr result (λ e. at_end number (goals targets.now self.now) ≡ Some (record { fault = e; last = number; behind = [] })) }
+    {
+        match self.stage {
+            Stage::Ended => Ok(()),
+            _ => Err(Fault::at_line(405, number.saturating_add(1))),
+        }
+    }
+}
+
+/// The parts of a region at a depth, where a split may stand.
+fn split_region(
+    made: u32,
+    region: &Region,
+    depth: u32,
+    axis: Axis,
+    at: u128,
+) -> Result<(Region, Region), u16>
+    ensures answer { (gs : List Goal) → split_answer made region.now depth (axis_index axis) at gs ≡ map_result result gs }
+    ensures parts { IfOk result (λ p. (p.0 ≡ below_part region.now (axis_index axis) at) × (p.1 ≡ above_part region.now (axis_index axis) at)) }
+    ensures bounds { OnOk result ((depth < 512) × (made < 1000000)) }
+{
+    if made >= LINES {
+        return Err(414);
+    }
+    if depth >= 512 {
+        return Err(412);
+    }
+    region.split(axis, at).ok_or(404)
+}

@@ -1,0 +1,40 @@
+//! What is wrong with a leaf.
+ghost use Rattle.std.specs.Prelude.{◌≡◌, ◌≤◌, length};
+ghost use Rattle.fx_leaf.specs.Tables.{AreTables};
+ghost use Rattle.fx_check.specs.Judging as of_judging;
+
+use crate::targets::Target;
+use fx_boxes::Region;
+use fx_leaf::{Counted, Scratch, Tables, fate};
+
+fn same_leaf(one: &Counted, other: &Counted) -> bool
+    ensures { result ≡ of_judging.same_leaf one.now other.now }
+{
+    one.crossing == other.crossing && one.point == other.point && one.process == other.process
+}
+
+/// The number of what is wrong with a leaf for a region of a target, if anything is: why no leaf is sound there, or
+/// 410 where another one is.
+pub(crate) fn leaf_fault(
+    scratch: &mut Scratch,
+    tables: &Tables<'_>,
+    target: &Target<'_>,
+    region: &Region,
+    leaf: &Counted,
+) -> Option<u16>
+    requires tables { AreTables tables.now }
+    requires room { length tables.now.net.processes ≤ length scratch.old }
+    ensures fault { result ≡ of_judging.judge_of tables.now.net target.now region.now leaf.now }
+    ensures size { length scratch.new ≡ length scratch.old }
+{
+    match fate(scratch, tables, target.crossings, region) {
+        Err(e) => Some(e.number),
+        Ok(counted) => {
+            if same_leaf(&counted, leaf) {
+                None
+            } else {
+                Some(410)
+            }
+        }
+    }
+}

@@ -1,0 +1,13 @@
+//! The streaming checker of certificates.
+#![tactic(auto)]
+
+mod checking;
+mod course;
+mod judging;
+mod laws;
+mod stack;
+mod tables;
+mod targets;
+
+pub use checking::check;
+pub use laws::{certificates_are_accepted, certificates_count_once};

@@ -1,0 +1,63 @@
+//! Regions whose trees are still to come.
+ghost use Rattle.std.specs.Prelude.{◌≡◌, ◌<◌, ◌∷◌, ◌++◌, [], length, IfOk, IfNone, option_to_list};
+
+use fx_boxes::Region;
+use std::alloc::{AllocError, Global};
+use std::marker::Model;
+
+/// The depth of a split is below this.
+pub(crate) const DEPTHS: usize = 512;
+
+/// A region that waits for its tree, and the depth of that tree's root.
+#[derive(Clone, Copy, Debug, PartialEq, Eq)]
+pub(crate) struct Waiting {
+    pub(crate) region: Region,
+    pub(crate) depth: u32,
+}
+
+/// Up to 512 regions, the last of which comes next. All its room is made at the start.
+#[derive(Drop)]
+pub(crate) struct Stack {
+    items: Vec<Waiting>,
+}
+
+impl Model for Stack {
+    ghost use Rattle.std.specs.Prelude.{List, length, vec_capacity, ◌≤◌};
+    ghost use Rattle.fx_check.specs.declared.stack.Waiting.{Waiting};
+
+    ghost Value = { List Waiting };
+
+    ghost view = { λ s. s.items.items };
+
+    ghost invariant = { λ s. (512 ≤ vec_capacity s.items) × (length s.items.items ≤ 512) };
+}
+
+impl Stack {
+    /// No regions, and room for 512.
+    pub(crate) fn new(alloc: Global) -> Result<Stack, AllocError>
+        ensures { IfOk result (λ s. s ≡ []) }
+    {
+        Ok(Stack {
+            items: Vec::with_capacity(alloc, DEPTHS)?,
+        })
+    }
+
+    /// Puts a region on top.
+    pub(crate) fn push(&mut self, waiting: Waiting)
+        requires { length self.old < 512 }
+        ensures { self.new ≡ self.old ++ waiting ∷ [] }
+    {
+        match self.items.push(waiting) {
+            Ok(()) => {}
+            Err(_) => unreachable!(),
+        }
+    }
+
+    /// Takes the region on top.
+    pub(crate) fn pop(&mut self) -> Option<Waiting>
+        ensures items { self.old ≡ self.new ++ option_to_list result }
+        ensures none { IfNone result (self.old ≡ []) }
+    {
+        self.items.pop()
+    }
+}

@@ -1,0 +1,20 @@
+//! What a plan lends to judge leaves.
+ghost use Rattle.std.specs.Prelude.{◌≡◌};
+ghost use Rattle.fx_leaf.specs.Tables.{AreTables};
+ghost use Rattle.fx_plan.specs.Tables.{net_of};
+
+use fx_leaf::Tables;
+use fx_plan::Plan;
+
+/// The network of a plan, with its layouts by number and the order in which its collecting processes are judged.
+pub(crate) fn tables_of(plan: &Plan) -> Tables<'_>
+    ensures tables { AreTables result }
+    ensures net { result.net ≡ net_of plan.now }
+{
+    Tables::new(
+        plan.net(),
+        plan.order(),
+        plan.layouts(),
+        plan.layout_numbers(),
+    )
+}
