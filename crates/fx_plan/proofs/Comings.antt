@@ -102,6 +102,16 @@ pub none_is_ready : (net : Net) (come order : List ℕ) → ComesNext net come o
 none_is_ready net come [] c = rw append-nil c
 none_is_ready net come (x ∷ xs) c = rw (← append_assoc come (x ∷ []) xs) (none_is_ready net (come ++ x ∷ []) xs c.1)
 
+-- there is one order of ranks
+pub one_order : (net : Net) (come xs ys : List ℕ) → ComesNext net come xs → ComesNext net come ys → xs ≡ ys
+one_order net come [] [] h k = refl
+one_order net come [] (y ∷ ys) h k = cc
+one_order net come (x ∷ xs) [] h k = cc
+one_order net come (x ∷ xs) (y ∷ ys) h k =
+    let same : x ≡ y = cc in
+    let rest = one_order net (come ++ x ∷ []) xs ys h.1 (subst (λ (p : ℕ). ComesNext net (come ++ p ∷ []) ys) (sym same) k.1) in
+    rw (same, rest) refl
+
 -- ---- ranks
 
 -- these processes have ranks one after another, from this one on

@@ -1,5 +1,5 @@
-use Rattle.std.proofs.Common.{◌≡◌, ℕ, List, ◌∷◌, [], ◌++◌, length, ap, ◌∙◌}
-use Rattle.fx_plan.specs.Labels.{Group, Label, device_labels}
+use Rattle.std.proofs.Common.{◌≡◌, ◌++◌, length, ap, ◌∙◌}
+use Rattle.fx_plan.specs.Labels.{Group, device_labels}
 use Rattle.fx_plan.proofs.Grouping.{one_group_more, own_device}
 use Rattle.fx_plan.proofs.labels.push_group.Goals as goal
 
