@@ -154,9 +154,17 @@ fn looks_up(rt: HostRuntime) -> Result<(), Fail> {
     );
     assert_eq!(rt; net.links(), [net.report()].as_slice());
     assert_eq!(rt; classes.as_slice().len(), 1);
-    assert_eq!(rt; net.points_of(1)[0].selections()[0].holder, Some(0));
-    let crossing = &classes.as_slice()[0].paths()[0].as_slice()[0];
-    assert!(rt; net.points_of(1)[0].watches(crossing) && net.points_of(2).is_empty());
+    let ([point], [class]) = (net.points_of(1), classes.as_slice()) else {
+        return Err(Fail::from("one point and one class"));
+    };
+    let ([selection], [path]) = (point.selections(), class.paths()) else {
+        return Err(Fail::from("one selection process and one path"));
+    };
+    assert_eq!(rt; selection.holder, Some(0));
+    let [crossing] = path.as_slice() else {
+        return Err(Fail::from("one crossing"));
+    };
+    assert!(rt; point.watches(crossing) && net.points_of(2).is_empty());
     assert_eq!(rt; net.layout_at(0).parts().len() + net.named_by(0).len(), 2);
     choices_are_free();
     Ok(())
