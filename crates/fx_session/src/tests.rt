@@ -82,11 +82,8 @@ fn is_refused(alloc: Global, stream: &[u8], number: u16, octet: u64) -> Result<b
     }
 }
 
-/// The records, packets and octets of two pieces of a stream, and its gaps.
-fn sums(alloc: Global, first: &[u8], second: &[u8]) -> Result<(u64, u64, u64, u64), Fault> {
-    let mut session = Session::new(alloc)?;
-    session.feed(first)?;
-    session.feed(second)?;
+/// The records, packets and octets that wait, and the gaps.
+fn sums_of(session: &mut Session) -> (u64, u64, u64, u64) {
     let mut records = 0u64;
     let mut packets = 0u64;
     let mut octets = 0u64;
@@ -97,7 +94,15 @@ fn sums(alloc: Global, first: &[u8], second: &[u8]) -> Result<(u64, u64, u64, u6
             octets = octets.wrapping_add(entry.counts.octets);
         }
     }
-    Ok((records, packets, octets, session.gaps()))
+    (records, packets, octets, session.gaps())
+}
+
+/// The records, packets and octets of two pieces of a stream, and its gaps.
+fn sums(alloc: Global, first: &[u8], second: &[u8]) -> Result<(u64, u64, u64, u64), Fault> {
+    let mut session = Session::new(alloc)?;
+    session.feed(first)?;
+    session.feed(second)?;
+    Ok(sums_of(&mut session))
 }
 
 #[test]
@@ -151,6 +156,32 @@ fn reads_octet_by_octet(rt: HostRuntime) -> Result<(), Fail> {
     }
     assert!(rt; is_flow(&session.next_record(), 0x0a00_0001, 1, 100));
     assert!(rt; session.next_record().is_none());
+    Ok(())
+}
+
+/// The records, packets, octets and gaps of two messages that come one octet at a time.
+fn sums_by_octet(
+    alloc: Global,
+    first: &[u8],
+    second: &[u8],
+) -> Result<(u64, u64, u64, u64), Fault> {
+    let mut session = Session::new(alloc)?;
+    for octet in first {
+        session.feed(&[*octet])?;
+    }
+    for octet in second {
+        session.feed(&[*octet])?;
+    }
+    Ok(sums_of(&mut session))
+}
+
+#[test]
+fn reads_two_messages_octet_by_octet(rt: HostRuntime) -> Result<(), Fail> {
+    assert_eq!(rt; sums_by_octet(rt.alloc(), &FIRST, &SECOND)?, (2, 3, 600, 0));
+    assert_eq!(rt;
+        sums_by_octet(rt.alloc(), &OPTIONS, &WITHDRAWN)?,
+        (2, 3, 300, 1)
+    );
     Ok(())
 }
 
