@@ -104,7 +104,8 @@ def stored(folder, stream, records):
         run.terminate()
         used = os.wait4(run.pid, 0)[2]
     files = [os.path.join(folder, name) for name in os.listdir(folder)]
-    flows = sum(int(line.split()[1]) for path in files for line in timed(["nfdump", "-I", "-r", path])[2].splitlines() if line.startswith("Flows:"))
+    lines = [line.split() for path in files for line in timed(["nfdump", "-I", "-r", path])[2].splitlines()]
+    flows = sum(int(words[1]) for words in lines if words and words[0] == "Flows:")
     return None if taken is None or flows != records else (taken, used.ru_utime + used.ru_stime)
 
 

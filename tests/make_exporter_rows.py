@@ -73,7 +73,8 @@ def frames():
         protocol = (6, 6, 17, 1)[number % 4]
         ports = (1024 + 7 * number, (80, 443, 53, 0)[number % 4]) if protocol != 1 else (0, 0)
         flows.append((0x0A000001 + number % 9, 0xC0000201 + number % 5, protocol, ports, (0, 0, 40, 184)[number // 4 % 4]))
-    made = [ipv4(flows[number % 64] if number < 64 else draw.choice(flows), draw.randint(40, 1500), number) for number in range(250)]
+    drawn = flows + [draw.choice(flows) for _ in range(250 - len(flows))]
+    made = [ipv4(flow, draw.randint(40, 1500), number) for number, flow in enumerate(drawn)]
     made += [ipv6(1 + number % 2, 20 + number) for number in range(6)]
     draw.shuffle(made)
     return made
