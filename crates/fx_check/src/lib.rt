@@ -11,3 +11,6 @@ mod targets;
 
 pub use checking::check;
 pub use laws::{certificates_are_accepted, certificates_count_once};
+
+#[cfg(test)]
+mod tests;
