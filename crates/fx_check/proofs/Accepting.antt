@@ -1,5 +1,5 @@
 -- Lines are accepted exactly where they are those of a sound certificate, and then each packet is counted once.
-use Rattle.std.proofs.Common.{◌≡◌, ℕ, suc, ◌≤◌, Bool, true, false, List, [], ◌∷◌, map, length, refl, ap, ap₂, sym, ◌∙◌, cond, Result, Ok, Err, Option, Some, None, leb-false, arith}
+use Rattle.std.proofs.Common.{◌≡◌, ℕ, suc, ◌≤◌, Bool, true, false, List, [], ◌∷◌, map, length, refl, ap, ap₂, sym, subst, ◌∙◌, cond, Result, Ok, Err, Option, Some, None, leb-false, arith}
 use Rattle.std.specs.Prelude.{nat_lt}
 use Rattle.std.specs.List.{AllByRecursion}
 use Rattle.fx_base.specs.Lines.{next_number}
@@ -15,10 +15,10 @@ use Rattle.fx_leaf.proofs.Headline as headline
 use Rattle.fx_check.specs.Judging.{Judge, judge_of}
 use Rattle.fx_check.specs.Outcomes.{Accepted}
 use Rattle.fx_check.specs.Targets.{Target, targets_of, AreRegions}
-use Rattle.fx_check.specs.Verdict.{Goal, Line, Refusal, Reading, long, cut, malformed, says, said, reading_of, after_reading, made_after, goes_on, first_refusal, whole}
-use Rattle.fx_check.specs.Certificates.{IsCertificate, IsWritable, item_line, certificate_items}
+use Rattle.fx_check.specs.Verdict.{Goal, Line, Refusal, Reading, long, cut, malformed, says, said, reading_of, after_reading, made_after, goes_on, first_refusal, whole, line_limit}
+use Rattle.fx_check.specs.Certificates.{IsCertificate, IsShallow, IsWritable, item_line, certificate_items, sizes, in_a_row}
 use Rattle.fx_check.proofs.Readings.{line_says}
-use Rattle.fx_check.proofs.Sounding.{all_sound, all_right, sound_of}
+use Rattle.fx_check.proofs.Sounding.{all_sound, all_right, sound_of, sound_back}
 use Rattle.fx_check.proofs.Trees.{on, verdict, right_only, right_all}
 
 -- ---- a line says an item exactly where it is that item's line
@@ -74,22 +74,35 @@ no_refusal judge n made gs (l ∷ ls) e = go (λ left h. no_refusal judge (next_
 
 -- ---- certificates
 
-pub certificate_only : (net : Net) (ts : List Target) (n : ℕ) (ls : List Line) → IsNetwork net → AreRegions ts → first_refusal (judge_of net) n 0 (whole ts) ls ≡ None → IsCertificate net ts ls
-certificate_only net ts n ls is_net rs e =
+pub certificate_only : (net : Net) (classes : List Class) (n : ℕ) (ls : List Line) → IsNetwork net → AreRegions (targets_of classes) → first_refusal (judge_of net) n 0 (whole (targets_of classes)) ls ≡ None → IsCertificate net classes ls
+certificate_only net classes n ls is_net rs e =
+    let ts = targets_of classes in
     let right = right_only (judge_of net) ts (map reading_of ls) (no_fault (judge_of net) n 0 (whole ts) ls e) in
     let written = are_lines ls (certificate_items ts right.0) right.1 in
-    record { trees = right.0; sound = all_sound net is_net ts right.0 rs right.2; lines_are = written.0; writable = written.1; few = right.3 }
+    let sound = all_sound net is_net ts right.0 rs right.2 in
+    let made = sound_of net classes right.0 sound.0 in
+    record {
+      trees = made.0;
+      each = made.2;
+      sound = made.1;
+      shallow = subst (λ xs. AllByRecursion (IsShallow 0) xs) made.3 sound.1;
+      lines_are = subst (λ xs. ls ≡ map item_line (certificate_items ts xs)) made.3 written.0;
+      writable = subst (λ xs. AllByRecursion IsWritable (certificate_items ts xs)) made.3 written.1;
+      few = subst (λ xs. sizes xs ≤ line_limit) made.3 right.3;
+    }
 
-pub certificate_all : (net : Net) (ts : List Target) (n : ℕ) (ls : List Line) → IsNetwork net → AreRegions ts → IsCertificate net ts ls → first_refusal (judge_of net) n 0 (whole ts) ls ≡ None
-certificate_all net ts n ls is_net rs c =
+pub certificate_all : (net : Net) (classes : List Class) (n : ℕ) (ls : List Line) → IsNetwork net → AreRegions (targets_of classes) → IsCertificate net classes ls → first_refusal (judge_of net) n 0 (whole (targets_of classes)) ls ≡ None
+certificate_all net classes n ls is_net rs c =
+    let ts = targets_of classes in
+    let xs = in_a_row c.trees in
     no_refusal (judge_of net) n 0 (whole ts) ls
-    (ap (verdict (judge_of net) 0 (whole ts)) (ap (map reading_of) c.lines_are ∙ say_items (certificate_items ts c.trees) c.writable)
-    ∙ right_all (judge_of net) ts c.trees (all_right net is_net ts c.trees rs c.sound) c.few)
+    (ap (verdict (judge_of net) 0 (whole ts)) (ap (map reading_of) c.lines_are ∙ say_items (certificate_items ts xs) c.writable)
+    ∙ right_all (judge_of net) ts xs (all_right net is_net ts xs rs (sound_back net classes c.trees c.each c.sound) c.shallow) c.few)
 
 -- ---- the headline
 
-pub certified_once : (net : Net) (classes : List Class) (ls : List Line) → IsNetwork net → IsCertificate net (targets_of classes) ls → ExactlyOnce net classes
-certified_once net classes ls is_net c = let s = sound_of net classes c.trees c.sound in headline.exactly_once net classes s.0 is_net s.1
+pub certified_once : (net : Net) (classes : List Class) (ls : List Line) → IsNetwork net → IsCertificate net classes ls → ExactlyOnce net classes
+certified_once net classes ls is_net c = headline.exactly_once net classes c.trees is_net c.sound
 
 pub accepted_once : (net : Net) (classes : List Class) → IsNetwork net → AreRegions (targets_of classes) → Accepted net (targets_of classes) → ExactlyOnce net classes
-accepted_once net classes is_net rs a = certified_once net classes a.lines is_net (certificate_only net (targets_of classes) a.before a.lines is_net rs a.none)
+accepted_once net classes is_net rs a = certified_once net classes a.lines is_net (certificate_only net classes a.before a.lines is_net rs a.none)

@@ -21,7 +21,7 @@ abbrev Unrefused : Net → List Class → Lines → Type 0
 Unrefused net classes lines = IfSome (refusal_of net (targets_of classes) lines) (λ r. r ≡ None)
 
 abbrev Certified : Net → List Class → Lines → Type 0
-Certified net classes lines = IfSome lines.left (λ text. IsCertificate net (targets_of classes) (text_lines text))
+Certified net classes lines = IfSome lines.left (λ text. IsCertificate net classes (text_lines text))
 
 abbrev IsFault : Net → List Class → Lines → Lines → Fault → Type 0
 IsFault net classes old new e =
@@ -33,9 +33,9 @@ moved P net n classes cs e f h = subst (λ m. P m cs) e (subst (λ xs. P net xs)
 
 certified : (net : Net) (classes : List Class) (lines : Lines) → IsNetwork net → AreRegions (targets_of classes) → Unrefused net classes lines → Certified net classes lines
 certified net classes lines is_net rs h = go lines.left h where
-  go : (o : Option (List ℕ)) → IfSome (option_map (λ text. first_refusal (judge_of net) lines.number 0 (whole (targets_of classes)) (text_lines text)) o) (λ r. r ≡ None) → IfSome o (λ text. IsCertificate net (targets_of classes) (text_lines text))
+  go : (o : Option (List ℕ)) → IfSome (option_map (λ text. first_refusal (judge_of net) lines.number 0 (whole (targets_of classes)) (text_lines text)) o) (λ r. r ≡ None) → IfSome o (λ text. IsCertificate net classes (text_lines text))
   go None h = tt
-  go (Some text) h = certificate_only net (targets_of classes) lines.number (text_lines text) is_net rs h
+  go (Some text) h = certificate_only net classes lines.number (text_lines text) is_net rs h
 
 module _ {X : Type 0} (net n : Net) (classes cs : List Class) (same_net : net ≡ n) (same_classes : classes ≡ cs) where
   pub once : (r : Result X Fault) → IsNetwork net → OnOk r (AreRegions (targets_of classes)) → OnOk r (Accepted net (targets_of classes)) → OnOk r (ExactlyOnce n cs)

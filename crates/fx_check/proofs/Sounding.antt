@@ -1,5 +1,5 @@
 -- A leaf with which nothing is wrong is sound, and so are trees of such leaves.
-use Rattle.std.proofs.Common.{◌≡◌, ℕ, zero, suc, ◌+◌, ◌-◌, ◌<◌, ◌≤◌, Bool, true, false, ◌&&◌, cond, eqb, List, [], ◌∷◌, ◌++◌, refl, ap, sym, subst, ◌∙◌, arith, Result, Ok, Err, Option, Some, None, IfOk, eqb-true, eq-eqb, slice_index, slice_set, slice_get}
+use Rattle.std.proofs.Common.{◌≡◌, ℕ, zero, suc, ◌+◌, ◌-◌, ◌<◌, ◌≤◌, Bool, true, false, ◌&&◌, cond, eqb, List, [], ◌∷◌, ◌++◌, length, refl, ap, sym, subst, ◌∙◌, arith, Result, Ok, Err, Option, Some, None, IfOk, eqb-true, eq-eqb, slice_index, slice_set, slice_get}
 use Rattle.std.specs.List.{AllByRecursion}
 use Rattle.fx_base.specs.declared.fault.Fault.{Fault}
 use Rattle.fx_elements.specs.Axes.{axis_index}
@@ -14,8 +14,15 @@ use Rattle.fx_leaf.specs.SoundLeaves.{SoundLeaf}
 use Rattle.fx_leaf.proofs.Deciding.{answer_sound, answer_every}
 use Rattle.fx_check.specs.Judging.{judge_of, same_leaf, sound_leaf, unless_same}
 use Rattle.fx_check.specs.Targets.{Target, targets_along, targets_from, targets_of, AreRegions}
-use Rattle.fx_check.specs.Certificates.{IsShallow, AllSound}
+use Rattle.fx_check.specs.Certificates.{IsShallow, AreFor, in_a_row}
 use Rattle.fx_check.proofs.Trees.{IsRight, AllRight}
+
+-- a sound tree for each target, in order
+abbrev pub AllSound : Net → List Target → List Tree → Type 0
+AllSound net [] [] = Unit {0}
+AllSound net (t ∷ ts) (x ∷ xs) = SoundTree net t.crossings t.region x × AllSound net ts xs
+AllSound net [] (x ∷ xs) = ⊥
+AllSound net (t ∷ ts) [] = ⊥
 
 -- ---- regions of parts
 
@@ -96,17 +103,20 @@ module _ (net : Net) (is_net : IsNetwork net) where
       let i = axis_index a in
       (shallow.0, sound.0, tree_right t (below_part b i at) (d + 1) x (below_region b i at r sound.0) sound.1 shallow.1, tree_right t (above_part b i at) (d + 1) y (above_region b i at r sound.0) sound.2 shallow.2)
 
-  pub all_sound : (ts : List Target) (xs : List Tree) → AreRegions ts → AllRight (judge_of net) ts xs → AllSound net ts xs
-  all_sound [] [] rs right = tt
+  pub all_sound : (ts : List Target) (xs : List Tree) → AreRegions ts → AllRight (judge_of net) ts xs → AllSound net ts xs × AllByRecursion (IsShallow 0) xs
+  all_sound [] [] rs right = (tt, tt)
   all_sound [] (x ∷ xs) rs right = absurd right
   all_sound (t ∷ ts) [] rs right = absurd right
-  all_sound (t ∷ ts) (x ∷ xs) rs right = let s = tree_sound t t.region 0 x rs.0 right.0 in (s.0, s.1, all_sound ts xs rs.1 right.1)
+  all_sound (t ∷ ts) (x ∷ xs) rs right =
+      let s = tree_sound t t.region 0 x rs.0 right.0 in
+      let more = all_sound ts xs rs.1 right.1 in
+      ((s.0, more.0), (s.1, more.1))
 
-  pub all_right : (ts : List Target) (xs : List Tree) → AreRegions ts → AllSound net ts xs → AllRight (judge_of net) ts xs
-  all_right [] [] rs sound = tt
-  all_right [] (x ∷ xs) rs sound = absurd sound
-  all_right (t ∷ ts) [] rs sound = absurd sound
-  all_right (t ∷ ts) (x ∷ xs) rs sound = (tree_right t t.region 0 x rs.0 sound.0 sound.1, all_right ts xs rs.1 sound.2)
+  pub all_right : (ts : List Target) (xs : List Tree) → AreRegions ts → AllSound net ts xs → AllByRecursion (IsShallow 0) xs → AllRight (judge_of net) ts xs
+  all_right [] [] rs sound shallow = tt
+  all_right [] (x ∷ xs) rs sound shallow = absurd sound
+  all_right (t ∷ ts) [] rs sound shallow = absurd sound
+  all_right (t ∷ ts) (x ∷ xs) rs sound shallow = (tree_right t t.region 0 x rs.0 sound.0 shallow.0, all_right ts xs rs.1 sound.1 shallow.1)
 
 -- ---- trees by class and path
 
@@ -114,32 +124,53 @@ module _ (net : Net) (is_net : IsNetwork net) where
 abbrev HasTrees : Net → Bounds → List (List Crossing) → List Tree → Type 0
 HasTrees net b paths ys = (m : ℕ) (path : List Crossing) → slice_get paths m ≡ Some path → (x : Tree) × (slice_get ys m ≡ Some x) × SoundTree net path b x
 
-along : (net : Net) (c : ℕ) (b : Bounds) (m : ℕ) (paths : List (List Crossing)) (ts : List Target) (xs : List Tree) → AllSound net (targets_along c b m paths ++ ts) xs → (ys : List Tree) × (zs : List Tree) × HasTrees net b paths ys × AllSound net ts zs
-along net c b m [] ts xs sound = ([], xs, λ k. λ path. λ e. absurd cc, sound)
+along : (net : Net) (c : ℕ) (b : Bounds) (m : ℕ) (paths : List (List Crossing)) (ts : List Target) (xs : List Tree) → AllSound net (targets_along c b m paths ++ ts) xs
+    → (ys : List Tree) × (zs : List Tree) × HasTrees net b paths ys × AllSound net ts zs × (length ys ≡ length paths) × (xs ≡ ys ++ zs)
+along net c b m [] ts xs sound = ([], xs, λ k. λ path. λ e. absurd cc, sound, refl, refl)
 along net c b m (p ∷ ps) ts [] sound = absurd sound
-along net c b m (p ∷ ps) ts (x ∷ xs) sound = let rest = along net c b (m + 1) ps ts xs sound.2 in (x ∷ rest.0, rest.1, has rest.0 rest.2, rest.3) where
+along net c b m (p ∷ ps) ts (x ∷ xs) sound = let rest = along net c b (m + 1) ps ts xs sound.1 in (x ∷ rest.0, rest.1, has rest.0 rest.2, rest.3, ap suc rest.4, ap (λ w. x ∷ w) rest.5) where
   has : (ys : List Tree) → HasTrees net b ps ys → HasTrees net b (p ∷ ps) (x ∷ ys)
   has ys more zero path e = (x, refl, let same : p ≡ path = cc in subst (λ q. SoundTree net q b x) same sound.0)
   has ys more (suc k) path e = more k path e
+
+along_back : (net : Net) (c : ℕ) (b : Bounds) (m : ℕ) (paths : List (List Crossing)) (ts : List Target) (ys zs : List Tree) → length ys ≡ length paths → HasTrees net b paths ys → AllSound net ts zs → AllSound net (targets_along c b m paths ++ ts) (ys ++ zs)
+along_back net c b m [] ts [] zs e has sound = sound
+along_back net c b m [] ts (y ∷ ys) zs e has sound = absurd (omega (arith, e))
+along_back net c b m (p ∷ ps) ts [] zs e has sound = absurd (omega (arith, e))
+along_back net c b m (p ∷ ps) ts (y ∷ ys) zs e has sound =
+    let first = has 0 p refl in
+    let same : y ≡ first.0 = let f = first.1 in cc in
+    (rw same first.2, along_back net c b (m + 1) ps ts ys zs (omega (arith, e)) (λ k. λ path. λ f. has (suc k) path f) sound)
 
 -- trees for each of these classes
 abbrev HaveTrees : Net → List Class → List (List Tree) → Type 0
 HaveTrees net classes trees = (c : ℕ) (class : Class) → slice_get classes c ≡ Some class → HasTrees net class.region class.paths (entries (slice_get trees c))
 
-by_class : (net : Net) (c : ℕ) (classes : List Class) (xs : List Tree) → AllSound net (targets_from c classes) xs → (trees : List (List Tree)) × HaveTrees net classes trees
-by_class net c [] xs sound = ([], λ k. λ class. λ e. absurd cc)
+by_class : (net : Net) (c : ℕ) (classes : List Class) (xs : List Tree) → AllSound net (targets_from c classes) xs → (trees : List (List Tree)) × HaveTrees net classes trees × AreFor classes trees × (xs ≡ in_a_row trees)
+by_class net c [] [] sound = ([], λ k. λ class. λ e. absurd cc, tt, refl)
+by_class net c [] (x ∷ xs) sound = absurd sound
 by_class net c (k ∷ ks) xs sound =
     let first = along net c k.region 1 k.paths (targets_from (c + 1) ks) xs sound in
     let rest = by_class net (c + 1) ks first.1 first.3 in
-    (first.0 ∷ rest.0, have first.0 rest.0 first.2 rest.1)
+    (first.0 ∷ rest.0, have first.0 rest.0 first.2 rest.1, (first.4, rest.2), first.5 ∙ ap (λ w. first.0 ++ w) rest.3)
   where
     have : (ys : List Tree) (trees : List (List Tree)) → HasTrees net k.region k.paths ys → HaveTrees net ks trees → HaveTrees net (k ∷ ks) (ys ∷ trees)
     have ys trees h more zero class e = let same : k ≡ class = cc in subst (λ q. HasTrees net q.region q.paths ys) same h
     have ys trees h more (suc n) class e = more n class e
 
-pub sound_of : (net : Net) (classes : List Class) (xs : List Tree) → AllSound net (targets_of classes) xs → (trees : List (List Tree)) × Sound net classes trees
-sound_of net classes xs sound = let made = by_class net 1 classes xs sound in (made.0, go made.0 made.1) where
+by_class_back : (net : Net) (c : ℕ) (classes : List Class) (trees : List (List Tree)) → AreFor classes trees → HaveTrees net classes trees → AllSound net (targets_from c classes) (in_a_row trees)
+by_class_back net c [] [] each have = tt
+by_class_back net c [] (ys ∷ trees) each have = absurd each
+by_class_back net c (k ∷ ks) [] each have = absurd each
+by_class_back net c (k ∷ ks) (ys ∷ trees) each have =
+    along_back net c k.region 1 k.paths (targets_from (c + 1) ks) ys (in_a_row trees) each.0 (have 0 k refl) (by_class_back net (c + 1) ks trees each.1 (λ n. λ class. λ e. have (suc n) class e))
+
+pub sound_of : (net : Net) (classes : List Class) (xs : List Tree) → AllSound net (targets_of classes) xs → (trees : List (List Tree)) × Sound net classes trees × AreFor classes trees × (xs ≡ in_a_row trees)
+sound_of net classes xs sound = let made = by_class net 1 classes xs sound in (made.0, go made.0 made.1, made.2, made.3) where
   go : (trees : List (List Tree)) → HaveTrees net classes trees → Sound net classes trees
   go trees have zero m class path e f = absurd cc
   go trees have (suc c) zero class path e f = absurd cc
   go trees have (suc c) (suc m) class path e f = have c class e m path f
+
+pub sound_back : (net : Net) (classes : List Class) (trees : List (List Tree)) → AreFor classes trees → Sound net classes trees → AllSound net (targets_of classes) (in_a_row trees)
+sound_back net classes trees each sound = by_class_back net 1 classes trees each (λ c. λ class. λ e. λ m. λ path. λ f. sound (suc c) (suc m) class path e f)

@@ -6,9 +6,10 @@ use Rattle.fx_boxes.specs.Boxes.{Bounds, below_part, above_part}
 use Rattle.fx_cert.specs.declared.item.Item.{Item}
 use Rattle.fx_cert.specs.declared.item.Item.TheVariants as item
 use Rattle.fx_cert.specs.ItemText.{IsItem, item_text}
+use Rattle.fx_machine.specs.Classes.{Class}
 use Rattle.fx_machine.specs.Network.{Net}
-use Rattle.fx_leaf.specs.Certificates.{Tree, Leaf, Split, SoundTree}
-use Rattle.fx_check.specs.Targets.{Target}
+use Rattle.fx_leaf.specs.Certificates.{Tree, Leaf, Split, Sound}
+use Rattle.fx_check.specs.Targets.{Target, targets_of}
 use Rattle.fx_check.specs.Verdict.{Line, line_limit, depth_limit}
 
 -- a split, then the tree of its lower part, then that of its upper part
@@ -50,17 +51,24 @@ IsShallow d (Split axis at below above) = (d < depth_limit) × IsShallow (d + 1)
 
 -- ---- certificates
 
--- a sound tree for each target, in order
-abbrev pub AllSound : Net → List Target → List Tree → Type 0
-AllSound net [] [] = Unit {0}
-AllSound net (t ∷ ts) (x ∷ xs) = SoundTree net t.crossings t.region x × IsShallow 0 x × AllSound net ts xs
-AllSound net [] (x ∷ xs) = ⊥
-AllSound net (t ∷ ts) [] = ⊥
+-- a tree for each path of each class
+abbrev pub AreFor : List Class → List (List Tree) → Type 0
+AreFor [] [] = Unit {0}
+AreFor (class ∷ classes) (xs ∷ trees) = (length xs ≡ length class.paths) × AreFor classes trees
+AreFor [] (xs ∷ trees) = ⊥
+AreFor (class ∷ classes) [] = ⊥
+
+-- all trees, class by class
+abbrev pub in_a_row : List (List Tree) → List Tree
+in_a_row [] = []
+in_a_row (xs ∷ trees) = xs ++ in_a_row trees
 
 -- the lines are those of a sound certificate within the limits
-pub record IsCertificate (net : Net) (targets : List Target) (lines : List Line) : Type 0 where
-  pub trees : List Tree
-  pub sound : AllSound net targets trees
-  pub lines_are : lines ≡ map item_line (certificate_items targets trees)
-  pub writable : AllByRecursion IsWritable (certificate_items targets trees)
-  pub few : sizes trees ≤ line_limit
+pub record IsCertificate (net : Net) (classes : List Class) (lines : List Line) : Type 0 where
+  pub trees : List (List Tree)
+  pub each : AreFor classes trees
+  pub sound : Sound net classes trees
+  pub shallow : AllByRecursion (IsShallow 0) (in_a_row trees)
+  pub lines_are : lines ≡ map item_line (certificate_items (targets_of classes) (in_a_row trees))
+  pub writable : AllByRecursion IsWritable (certificate_items (targets_of classes) (in_a_row trees))
+  pub few : sizes (in_a_row trees) ≤ line_limit

@@ -95,7 +95,7 @@ pub fn check<R: Source>(
     // Each packet is counted once.
     ensures once { OnOk result (ExactlyOnce (net_of plan.now) traffic.now) }
     // The text is that of a sound certificate, and none such is refused.
-    ensures certificate { OnOk result (IfSome lines.old.left (λ text. IsCertificate (net_of plan.now) (targets_of traffic.now) (text_lines text))) }
+    ensures certificate { OnOk result (IfSome lines.old.left (λ text. IsCertificate (net_of plan.now) traffic.now (text_lines text))) }
     ensures ok { OnOk result (IfSome (refusal_of (net_of plan.now) (targets_of traffic.now) lines.old) (λ r. r ≡ None)) }
     ensures err { IfErr result (λ e. ((e ≡ fault_at 900 places.None) × (lines.new ≡ lines.old)) ⊎ (Fails lines.old lines.new e ⊎ IfSome (refusal_of (net_of plan.now) (targets_of traffic.now) lines.old) (IsRefusal e lines.new))) }
 {
