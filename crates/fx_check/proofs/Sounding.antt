@@ -1,5 +1,5 @@
 -- A leaf with which nothing is wrong is sound, and so are trees of such leaves.
-use Rattle.std.proofs.Common.{◌≡◌, ℕ, zero, suc, ◌+◌, ◌-◌, ◌<◌, ◌≤◌, Bool, true, false, ◌&&◌, cond, eqb, List, [], ◌∷◌, ◌++◌, length, refl, ap, sym, subst, ◌∙◌, arith, Result, Ok, Err, Option, Some, None, IfOk, eqb-true, eq-eqb, slice_index, slice_set, slice_get}
+use Rattle.std.proofs.Common.{◌≡◌, ℕ, zero, suc, ◌+◌, ◌-◌, ◌<◌, ◌≤◌, Bool, true, false, ◌&&◌, cond, eqb, List, [], ◌∷◌, ◌++◌, length, refl, ap, sym, subst, ◌∙◌, arith, Result, Ok, Err, Option, Some, None, inl, inr, IfOk, IfErr, eqb-true, eq-eqb, slice_index, slice_set, slice_get}
 use Rattle.std.specs.List.{AllByRecursion}
 use Rattle.fx_base.specs.declared.fault.Fault.{Fault}
 use Rattle.fx_elements.specs.Axes.{axis_index}
@@ -11,8 +11,12 @@ use Rattle.fx_machine.specs.Ranks.{IsNetwork}
 use Rattle.fx_leaf.specs.declared.leaf.Counted.{Counted}
 use Rattle.fx_leaf.specs.Certificates.{Tree, Leaf, Split, SoundTree, Sound}
 use Rattle.fx_leaf.specs.SoundLeaves.{SoundLeaf}
-use Rattle.fx_leaf.proofs.Deciding.{answer_sound, answer_every}
-use Rattle.fx_check.specs.Judging.{judge_of, same_leaf, sound_leaf, unless_same}
+use Rattle.fx_leaf.proofs.Deciding.{answer_sound, answer_every, answer_none}
+use Rattle.fx_leaf.specs.Leaves.{NoneIsSound}
+use Rattle.fx_leaf.specs.Leaves.NoneIsSound.{cut, unassigned, differing, many, never}
+use Rattle.fx_base.specs.Fault.{fault_at}
+use Rattle.fx_base.specs.declared.fault.Place.TheVariants as places
+use Rattle.fx_check.specs.Judging.{judge_of, same_leaf, sound_leaf, unless_same, IsWrong}
 use Rattle.fx_check.specs.Targets.{Target, targets_along, targets_from, targets_of, AreRegions}
 use Rattle.fx_check.specs.Certificates.{IsShallow, AreFor, in_a_row}
 use Rattle.fx_check.proofs.Trees.{IsRight, AllRight}
@@ -86,6 +90,23 @@ module _ (net : Net) (is_net : IsNetwork net) where
   leaf_right : (t : Target) (b : Bounds) (l : Counted) → IsRegion b → SoundLeaf net t.crossings b l.crossing l.point l.process → judge_of net t b l ≡ None
   leaf_right t b l r sound =
       ap (unless_same l) (answer_every net t.crossings b is_net r (sound_leaf net t.crossings b) refl l.crossing l.point l.process sound) ∙ ap unless (same_as_itself l)
+
+  pub leaf_wrong : (t : Target) (b : Bounds) (l : Counted) (n : ℕ) → IsRegion b → judge_of net t b l ≡ Some n → IsWrong net t.crossings b l n
+  leaf_wrong t b l n r e = go (sound_leaf net t.crossings b) (answer_sound net t.crossings b is_net r (sound_leaf net t.crossings b) refl) (answer_none net t.crossings b is_net r (sound_leaf net t.crossings b) refl) e where
+    by_number : (f : Fault) → NoneIsSound net t.crossings b f → f.number ≡ n → NoneIsSound net t.crossings b (fault_at n places.None)
+    by_number f (cut h) is = rw (← is) (cut h)
+    by_number f (unassigned h a) is = rw (← is) (unassigned h a)
+    by_number f (differing h a) is = rw (← is) (differing h a)
+    by_number f (many h a) is = rw (← is) (many h a)
+    by_number f (never h a) is = rw (← is) (never h a)
+
+    by_test : (c : Counted) (same : Bool) → same_leaf c l ≡ same → SoundLeaf net t.crossings b c.crossing c.point c.process → unless same ≡ Some n → IsWrong net t.crossings b l n
+    by_test c true is sound h = absurd cc
+    by_test c false is sound h = inr (let k : 410 ≡ n = cc in sym k, record { other = c; sound = sound; differs = is })
+
+    go : (answer : Result Counted Fault) → IfOk answer (λ c. SoundLeaf net t.crossings b c.crossing c.point c.process) → IfErr answer (NoneIsSound net t.crossings b) → unless_same l answer ≡ Some n → IsWrong net t.crossings b l n
+    go (Err f) sound none e = inl (by_number f none (let k : f.number ≡ n = cc in k))
+    go (Ok c) sound none e = by_test c (same_leaf c l) refl sound e
 
   -- ---- trees
 

@@ -1,11 +1,14 @@
 -- What is wrong with a leaf of a certificate.
-use Rattle.std.specs.Prelude.{ℕ, Bool, ◌==◌, ◌&&◌, List, Option, Some, None, Result, Ok, Err, if◌then◌else◌}
+use Rattle.std.specs.Prelude.{◌≡◌, ◌⊎◌, ℕ, Bool, false, ◌==◌, ◌&&◌, List, Option, Some, None, Result, Ok, Err, if◌then◌else◌}
 use Rattle.fx_base.specs.declared.fault.Fault.{Fault}
+use Rattle.fx_base.specs.declared.fault.Place.TheVariants as places
+use Rattle.fx_base.specs.Fault.{fault_at}
 use Rattle.fx_boxes.specs.Boxes.{Bounds}
 use Rattle.fx_machine.specs.declared.traffic.Crossing.{Crossing}
 use Rattle.fx_machine.specs.Network.{Net}
 use Rattle.fx_leaf.specs.declared.leaf.Counted.{Counted}
-use Rattle.fx_leaf.specs.Leaves.{leaf_of, named}
+use Rattle.fx_leaf.specs.Leaves.{leaf_of, named, NoneIsSound}
+use Rattle.fx_leaf.specs.SoundLeaves.{SoundLeaf}
 use Rattle.fx_leaf.specs.Verdicts.{path_verdict, counted}
 use Rattle.fx_check.specs.Targets.{Target}
 
@@ -27,3 +30,16 @@ unless_same leaf (Ok c) = if same_leaf c leaf then None else Some 410
 
 abbrev pub judge_of : Net → Judge
 judge_of net target region leaf = unless_same leaf (sound_leaf net target.crossings region)
+
+-- ---- what the number says
+
+-- another leaf is sound
+pub record OtherIsSound (net : Net) (path : List Crossing) (region : Bounds) (leaf : Counted) : Type 0 where
+  pub other : Counted
+  pub sound : SoundLeaf net path region other.crossing other.point other.process
+  pub differs : same_leaf other leaf ≡ false
+
+-- no leaf is sound, for the reason that has this number; or, for 410, another one is
+abbrev pub IsWrong : Net → List Crossing → Bounds → Counted → ℕ → Type 0
+IsWrong net path region leaf number =
+    NoneIsSound net path region (fault_at number places.None) ⊎ ((number ≡ 410) × OtherIsSound net path region leaf)

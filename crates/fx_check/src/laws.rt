@@ -1,12 +1,14 @@
 //! The laws: no code, but contracts over the definitions.
-ghost use Rattle.std.specs.Prelude.{◌≡◌, ℕ, List, None};
+ghost use Rattle.std.specs.Prelude.{◌≡◌, ℕ, List, None, Some};
+ghost use Rattle.fx_boxes.specs.Boxes.{Bounds, IsRegion};
+ghost use Rattle.fx_leaf.specs.declared.leaf.Counted.{Counted};
 ghost use Rattle.fx_machine.specs.Claim.{ExactlyOnce};
 ghost use Rattle.fx_machine.specs.Classes as traffic;
 ghost use Rattle.fx_machine.specs.Network as network;
 ghost use Rattle.fx_machine.specs.Ranks.{IsNetwork};
 ghost use Rattle.fx_check.specs.Certificates.{IsCertificate};
-ghost use Rattle.fx_check.specs.Judging.{judge_of};
-ghost use Rattle.fx_check.specs.Targets.{AreRegions, targets_of};
+ghost use Rattle.fx_check.specs.Judging.{judge_of, IsWrong};
+ghost use Rattle.fx_check.specs.Targets.{AreRegions, Target, targets_of};
 ghost use Rattle.fx_check.specs.Verdict.{Line, first_refusal, whole};
 
 /// Lines have no refusal exactly where they are those of a certificate: a sound tree for each path of each class,
@@ -19,4 +21,10 @@ pub fn certificates_are_accepted()
 /// Where there is a certificate, each packet of the classes is counted exactly once by every complete run.
 pub fn certificates_count_once()
     ensures { (net : network.Net) (classes : List traffic.Class) (lines : List Line) → IsNetwork net → IsCertificate net classes lines → ExactlyOnce net classes }
+{}
+
+/// Where something is wrong with a leaf for a region, its number says why no leaf is sound there, or is 410 where
+/// another one is.
+pub fn wrong_leaves_are_told()
+    ensures { (net : network.Net) (target : Target) (region : Bounds) (leaf : Counted) (number : ℕ) → IsNetwork net → IsRegion region → judge_of net target region leaf ≡ Some number → IsWrong net target.crossings region leaf number }
 {}

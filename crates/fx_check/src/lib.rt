@@ -10,7 +10,7 @@ mod tables;
 mod targets;
 
 pub use checking::check;
-pub use laws::{certificates_are_accepted, certificates_count_once};
+pub use laws::{certificates_are_accepted, certificates_count_once, wrong_leaves_are_told};
 
 #[cfg(test)]
 mod tests;

@@ -190,4 +190,5 @@ fn splits_where_filters_cut(rt: HostRuntime) -> Result<(), Fail> {
 fn the_laws() {
     certificates_are_accepted();
     certificates_count_once();
+    wrong_leaves_are_told();
 }
