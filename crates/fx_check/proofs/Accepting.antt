@@ -1,5 +1,5 @@
 -- Lines are accepted exactly where they are those of a sound certificate, and then each packet is counted once.
-use Rattle.std.proofs.Common.{◌≡◌, ℕ, suc, ◌≤◌, Bool, true, false, List, [], ◌∷◌, map, length, refl, ap, ap₂, sym, subst, ◌∙◌, cond, Result, Ok, Err, Option, Some, None, leb-false, arith}
+use Rattle.std.proofs.Common.{◌≡◌, ℕ, ◌≤◌, Bool, true, false, List, [], ◌∷◌, map, length, refl, ap, ap₂, subst, ◌∙◌, cond, Result, Ok, Err, Option, Some, None, leb-false, arith}
 use Rattle.std.specs.Prelude.{nat_lt}
 use Rattle.std.specs.List.{AllByRecursion}
 use Rattle.fx_base.specs.Lines.{next_number}
@@ -14,8 +14,8 @@ use Rattle.fx_machine.specs.Ranks.{IsNetwork}
 use Rattle.fx_leaf.proofs.Headline as headline
 use Rattle.fx_check.specs.Judging.{Judge, judge_of}
 use Rattle.fx_check.specs.Outcomes.{Accepted}
-use Rattle.fx_check.specs.Targets.{Target, targets_of, AreRegions}
-use Rattle.fx_check.specs.Verdict.{Goal, Line, Refusal, Reading, long, cut, malformed, says, said, reading_of, after_reading, made_after, goes_on, first_refusal, whole, line_limit}
+use Rattle.fx_check.specs.Targets.{targets_of, AreRegions}
+use Rattle.fx_check.specs.Verdict.{Goal, Line, Reading, long, cut, says, said, reading_of, after_reading, made_after, goes_on, first_refusal, whole, line_limit}
 use Rattle.fx_check.specs.Certificates.{IsCertificate, IsShallow, IsWritable, item_line, certificate_items, sizes, in_a_row}
 use Rattle.fx_check.proofs.Readings.{line_says}
 use Rattle.fx_check.proofs.Sounding.{all_sound, all_right, sound_of, sound_back}

@@ -1,5 +1,5 @@
 -- What a call over tables and classes says of the plan and the traffic that lend them.
-use Rattle.std.proofs.Common.{◌≡◌, ℕ, ◌⊎◌, List, Option, Some, None, Result, Ok, Err, IfSome, IfErr, OnOk, ap, sym, ◌∙◌, subst}
+use Rattle.std.proofs.Common.{◌≡◌, ℕ, ◌⊎◌, List, Option, Some, None, Result, Ok, Err, IfSome, IfErr, OnOk, subst}
 use Rattle.std.specs.Option.{option_map}
 use Rattle.fx_base.specs.declared.fault.Fault.{Fault}
 use Rattle.fx_base.specs.declared.fault.Place.TheVariants as places
@@ -14,7 +14,7 @@ use Rattle.fx_check.specs.Certificates.{IsCertificate}
 use Rattle.fx_check.specs.Judging.{judge_of}
 use Rattle.fx_check.specs.Outcomes.{refusal_of, IsRefusal, Accepted}
 use Rattle.fx_check.specs.Targets.{targets_of, AreRegions}
-use Rattle.fx_check.specs.Verdict.{Refusal, whole, first_refusal}
+use Rattle.fx_check.specs.Verdict.{whole, first_refusal}
 use Rattle.fx_check.proofs.Accepting.{certificate_only, accepted_once}
 
 abbrev Unrefused : Net → List Class → Lines → Type 0

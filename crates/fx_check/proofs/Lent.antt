@@ -1,11 +1,11 @@
 -- What a plan lends keeps what leaves are judged by.
-use Rattle.std.proofs.Common.{◌≡◌, ℕ, zero, suc, ◌<◌, ◌≤◌, List, [], ◌∷◌, length, Some, None, slice_get, sym, subst}
+use Rattle.std.proofs.Common.{◌≡◌, ℕ, zero, suc, ◌<◌, ◌≤◌, List, [], ◌∷◌, length, Some, slice_get, sym, subst}
 use Rattle.std.specs.List.{AllByRecursion}
 use Rattle.fx_layout.specs.Keys.{Layout}
 use Rattle.fx_machine.specs.Network.{Net, Holder, Process, aggregations_of}
 use Rattle.fx_machine.specs.Ranks.{IsNetwork}
 use Rattle.fx_leaf.specs.Standings.{IsEntry}
-use Rattle.fx_leaf.specs.Tables.{Numbering, AreTables, Descends, number_of_layout, or_first}
+use Rattle.fx_leaf.specs.Tables.{AreTables, Descends, or_first}
 use Rattle.fx_plan.specs.Ranks as plan
 use Rattle.fx_plan.specs.Layouts.{AreNumbers}
 use Rattle.fx_plan.specs.Matches.{AreEntries, AllHaveEntries}

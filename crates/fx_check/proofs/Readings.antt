@@ -6,7 +6,7 @@ use Rattle.fx_cert.specs.declared.item.Item.{Item}
 use Rattle.fx_cert.specs.ItemText.{IsText}
 use Rattle.fx_cert.specs.ItemReading.{item_of}
 use Rattle.fx_cert.proofs.Texts.{item_found, reads}
-use Rattle.fx_check.specs.Verdict.{Reading, malformed, says, said, cut, reading_of}
+use Rattle.fx_check.specs.Verdict.{malformed, says, said, cut, reading_of}
 
 not_long : (n : ℕ) → n ≤ 4096 → nat_lt 4096 n ≡ false
 not_long n le = lt-leb (suc 4096) n (omega arith)

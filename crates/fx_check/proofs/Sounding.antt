@@ -6,7 +6,7 @@ use Rattle.fx_elements.specs.Axes.{axis_index}
 use Rattle.fx_boxes.specs.Boxes.{Bounds, IsRegion, IsStrictlyInside, below_part, above_part}
 use Rattle.fx_machine.specs.declared.traffic.Crossing.{Crossing}
 use Rattle.fx_machine.specs.Classes.{Class}
-use Rattle.fx_machine.specs.Network.{Net, numbered, entries}
+use Rattle.fx_machine.specs.Network.{Net, entries}
 use Rattle.fx_machine.specs.Ranks.{IsNetwork}
 use Rattle.fx_leaf.specs.declared.leaf.Counted.{Counted}
 use Rattle.fx_leaf.specs.Certificates.{Tree, Leaf, Split, SoundTree, Sound}

@@ -1,5 +1,5 @@
 -- What checking comes to, beside what its reader of lines itself answers.
-use Rattle.std.specs.Prelude.{◌≡◌, ℕ, ◌⊎◌, List, Option, Some, None, IfSome}
+use Rattle.std.specs.Prelude.{◌≡◌, ℕ, ◌⊎◌, List, Option, Some, None}
 use Rattle.fx_base.specs.declared.fault.Fault.{Fault}
 use Rattle.fx_base.specs.Lines.{Lines, text_lines}
 use Rattle.fx_machine.specs.Network.{Net}

@@ -1,6 +1,5 @@
 //! Checking a certificate, line by line.
-ghost use Rattle.std.specs.Prelude.{◌≡◌, ◌⊎◌, ◌≤◌, ℕ, List, None, IfOk, IfErr, OnOk, IfSome, length};
-ghost use Rattle.std.specs.List.{AllByRecursion};
+ghost use Rattle.std.specs.Prelude.{◌≡◌, ◌⊎◌, ◌≤◌, None, IfErr, OnOk, IfSome, length};
 ghost use Rattle.fx_base.specs.Fault.{fault_at};
 ghost use Rattle.fx_base.specs.Lines.{text_lines};
 ghost use Rattle.fx_base.specs.declared.fault.Place.TheVariants as places;
@@ -9,7 +8,6 @@ ghost use Rattle.fx_machine.specs.Claim.{ExactlyOnce};
 ghost use Rattle.fx_machine.specs.RunReading.{Fails};
 ghost use Rattle.fx_plan.specs.Tables.{net_of};
 ghost use Rattle.fx_check.specs.Certificates.{IsCertificate};
-ghost use Rattle.fx_check.specs.Judging.{judge_of};
 ghost use Rattle.fx_check.specs.Outcomes.{refusal_of, IsRefusal, Accepted};
 ghost use Rattle.fx_check.specs.Standing.{goals, IsStanding};
 ghost use Rattle.fx_check.specs.Targets.{AreRegions, targets_of};
@@ -25,7 +23,7 @@ use fx_plan::Plan;
 use fx_traffic::Traffic;
 use std::alloc::Global;
 
-/// Takes all lines.
+/// Takes all lines, the first of which is a certificate's first.
 fn take_lines<R: Source>(
     course: &mut Course,
     scratch: &mut Scratch,

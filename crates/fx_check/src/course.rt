@@ -1,5 +1,5 @@
 //! Where a checker stands in a certificate, and what a line does there.
-ghost use Rattle.std.specs.Prelude.{◌≡◌, ◌+◌, ◌<◌, ◌≤◌, [], List, ℕ, length, IfOk, IfErr, OnOk, Ok, Err, Some, None, if◌then◌else◌};
+ghost use Rattle.std.specs.Prelude.{◌≡◌, ◌+◌, ◌<◌, ◌≤◌, [], List, ℕ, length, IfOk, IfErr, OnOk, Ok, Err, Some, None};
 ghost use Rattle.fx_boxes.specs.Boxes.{below_part, above_part};
 ghost use Rattle.fx_cert.specs.declared.item.Item.TheVariants as of_item;
 ghost use Rattle.fx_elements.specs.Axes.{axis_index};

@@ -1,5 +1,5 @@
 //! The paths of all classes, each of which needs a tree.
-ghost use Rattle.std.specs.Prelude.{◌≡◌, ◌+◌, ◌++◌, [], ◌∷◌, IfOk, OnOk, length};
+ghost use Rattle.std.specs.Prelude.{◌≡◌, ◌++◌, IfOk, OnOk};
 ghost use Rattle.fx_check.specs.Targets as of_targets;
 
 use fx_boxes::Region;
