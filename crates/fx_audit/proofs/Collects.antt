@@ -6,15 +6,17 @@ use Rattle.fx_base.specs.declared.fault.Fault.{Fault}
 use Rattle.fx_base.specs.declared.fault.Place.{Place}
 use Rattle.fx_base.specs.declared.fault.Place.TheVariants as places
 use Rattle.fx_config.specs.Walk.{Found}
+use Rattle.fx_machine.specs.Classes.{Class}
 use Rattle.fx_machine.specs.Network.{Net}
 use Rattle.fx_plan.specs.declared.network.Network.{Network}
-use Rattle.fx_plan.specs.Networks.{network_faults, network_of}
+use Rattle.fx_plan.specs.Networks.{device_names, network_faults, network_of}
 use Rattle.fx_plan.specs.Plans.{RefusesNetwork}
 use Rattle.fx_plan.specs.Tables.{net_of}
+use Rattle.fx_traffic.specs.Classes.{traffic_faults, traffic_of}
 use Rattle.fx_audit.specs.declared.answer.Answer.{Answer}
 use Rattle.fx_audit.specs.declared.answer.Answer.TheVariants.{Yes}
 use Rattle.fx_audit.specs.Commands.{IsCollected, IsRefusedCollect}
-use Rattle.fx_audit.specs.Documents.{IsDocument, IsFirstFault, IsNetwork, IsPlannable, IsRefusedNetwork, by_walk, by_plan, is_found}
+use Rattle.fx_audit.specs.Documents.{IsDocument, IsFirstFault, IsNetwork, IsPlannable, IsRefusedByDocuments, IsRefusedNetwork, IsTraffic, by_walk, by_plan, is_found}
 use Rattle.fx_audit.specs.Streams.{IsRefusedStream, IsStreamText, IsWhole, stream_read}
 use Rattle.fx_audit.proofs.Documents.{both_told, first_told}
 
@@ -83,6 +85,17 @@ not_refused octets network e n (by_plan other document refuses) =
 pub network_faultless : (left : Option (List ℕ)) (network : Network) (A : Type 0) → IfSome left (λ n. IsNetwork n network) → IfSome left (λ n. (e : Fault) → IsRefusedNetwork n e → A)
 network_faultless None network A h = h
 network_faultless (Some octets) network A h = λ e f. absurd (not_refused octets network e h f)
+
+-- the same for two documents
+not_refused_by : (n t : List ℕ) (network : Network) (classes : List Class) (e : Fault) → IsNetwork n network → IsTraffic network t classes → IsRefusedByDocuments n t e → ⊥
+not_refused_by n t network classes e is of (inl h) = not_refused n network e is h
+not_refused_by n t network classes e is of (inr h) =
+    let same = same_network n network h.0 is.document h.1.document in
+    faultless (traffic_faults (device_names network) []) (traffic_of (device_names network)) t classes e of (subst (λ (x : Network). IsFirstFault (traffic_faults (device_names x) []) t e) same h.2)
+
+pub documents_faultless : (left_n left_t : Option (List ℕ)) (network : Network) (classes : List Class) (A : Type 0) → IfSome left_n (λ n. IsNetwork n network) → IfSome left_t (λ t. IsTraffic network t classes) → IfSome left_n (λ n. IfSome left_t (λ t. (e : Fault) → IsRefusedByDocuments n t e → A))
+documents_faultless left_n left_t network classes A n t =
+    both_told left_n left_t (λ o. IsNetwork o network) (λ o. IsTraffic network o classes) (λ x y. (e : Fault) → IsRefusedByDocuments x y e → A) n t (λ x y p q e f. absurd (not_refused_by x y network classes e p q f))
 
 -- the network's document is refused
 pub collect_unread : (left_n left_s : Option (List ℕ)) (e : Fault) (M N T W : Type 0) → M ⊎ (N ⊎ IfSome left_n (λ n. IsRefusedNetwork n e)) → M ⊎ (N ⊎ (T ⊎ (W ⊎ IfSome left_n (λ n. IfSome left_s (λ o. IsRefusedCollect n o e)))))

@@ -13,11 +13,10 @@ use Rattle.fx_plan.specs.Tables.{net_of}
 use Rattle.fx_audit.specs.declared.answer.Answer.{Answer}
 use Rattle.fx_audit.specs.declared.answer.Answer.TheVariants.{Yes}
 use Rattle.fx_audit.specs.declared.bundle.Command.{Command}
-use Rattle.fx_audit.specs.declared.bundle.Command.TheVariants.{Replay}
 use Rattle.fx_audit.specs.Bundle.{IsBundle}
 use Rattle.fx_audit.specs.Documents.{IsNetwork, IsRefusedByDocuments, IsTraffic, ReadFails}
 use Rattle.fx_audit.proofs.Documents.{both_mapped}
-use Rattle.fx_audit.specs.Commands.{IsRefusedBundle, IsRefusedReplay, IsRefusedRun, IsRefusedThere, IsReplayed, IsReplayedIn}
+use Rattle.fx_audit.specs.Commands.{IsDone, IsRefusedBundle, IsRefusedBy, IsRefusedReplay, IsRefusedRun, IsRefusedThere, IsReplayed, IsReplayedIn}
 use Rattle.fx_audit.specs.Replay.{IsRefused}
 use Rattle.fx_audit.proofs.Documents.{told}
 
@@ -73,36 +72,32 @@ of_told left_n left_t n t R en et h =
 fails_there : (left : Option (List ℕ)) (octets : List ℕ) (failed : Bool) (e : Fault) → left ≡ Some octets → failed ≡ false → ReadFails left failed e → ReadFails (Some octets) false e
 fails_there left octets failed e same none h = subst (λ (b : Bool). ReadFails (Some octets) b e) none (subst (λ (o : Option (List ℕ)). ReadFails o failed e) same h)
 
-pub there_refused : (left_n left_t : Option (List ℕ)) (n t third : List ℕ) (failed_n failed_t : Bool) (old new : Lines) (W : Fault → Type 0) (result : Result Answer Fault) → left_n ≡ Some n → left_t ≡ Some t → failed_n ≡ false → failed_t ≡ false → old ≡ new_lines (Some third) false → IfErr result (λ e. (e ≡ fault_at 900 places.None) ⊎ (ReadFails left_n failed_n e ⊎ (ReadFails left_t failed_t e ⊎ (Fails old new e ⊎ (W e ⊎ IfSome left_n (λ x. IfSome left_t (λ y. IsRefusedReplay x y old e))))))) → IfErr result (λ e. (e ≡ fault_at 900 places.None) ⊎ (W e ⊎ IsRefusedThere n t third e))
-there_refused left_n left_t n t third failed_n failed_t old new W (Ok a) en et fn ft is h = cc
-there_refused left_n left_t n t third failed_n failed_t old new W (Err e) en et fn ft is h =
+pub there_refused : (command actual : Command) (left_n left_t : Option (List ℕ)) (n t third : List ℕ) (failed_n failed_t : Bool) (old new : Lines) (W : Fault → Type 0) (result : Result Answer Fault) → actual ≡ command → left_n ≡ Some n → left_t ≡ Some t → failed_n ≡ false → failed_t ≡ false → old ≡ new_lines (Some third) false → IfErr result (λ e. (e ≡ fault_at 900 places.None) ⊎ (ReadFails left_n failed_n e ⊎ (ReadFails left_t failed_t e ⊎ (Fails old new e ⊎ (W e ⊎ IfSome left_n (λ x. IfSome left_t (λ y. IsRefusedBy command x y old e))))))) → IfErr result (λ e. (e ≡ fault_at 900 places.None) ⊎ (W e ⊎ IsRefusedThere actual n t third e))
+there_refused command actual left_n left_t n t third failed_n failed_t old new W (Ok a) same en et fn ft is h = cc
+there_refused command actual left_n left_t n t third failed_n failed_t old new W (Err e) same en et fn ft is h =
     elim h [
       | inl m ↦ inl m
       | inr (inl f) ↦ inr (inr (inr (inl (fails_there left_n n failed_n e en fn f))))
       | inr (inr (inl f)) ↦ inr (inr (inr (inr (inl (fails_there left_t t failed_t e et ft f)))))
       | inr (inr (inr (inl f))) ↦ inr (inr (inr (inr (inr (new, subst (λ (l : Lines). Fails l new e) is f)))))
       | inr (inr (inr (inr (inl w)))) ↦ inr (inl w)
-      | inr (inr (inr (inr (inr r)))) ↦ inr (inr (inl (subst (λ (l : Lines). IsRefusedReplay n t l e) is (of_told left_n left_t n t (λ x y. IsRefusedReplay x y old e) en et r))))
+      | inr (inr (inr (inr (inr r)))) ↦ inr (inr (inl (subst (λ (k : Command). IsRefusedBy k n t (new_lines (Some third) false) e) (sym same) (subst (λ (l : Lines). IsRefusedBy command n t l e) is (of_told left_n left_t n t (λ x y. IsRefusedBy command x y old e) en et r)))))
     ]
 
-only_replay : (octets : List ℕ) (command : Command) (n t third : List ℕ) → IsBundle octets command n t third → IsBundle octets Replay n t third
-only_replay octets Replay n t third h = h
-
-pub bundle_done : (left : Option (List ℕ)) (octets text : List ℕ) (command : Command) (n t third : List ℕ) (W : List ℕ → Type 0) (result : Result Answer Fault) → IfSome left (λ l. octets ≡ l) → text ≡ octets → IsBundle text command n t third → IfOk result (λ a. (a ≡ Yes) × ((out : List ℕ) × IsReplayed n t (new_lines (Some third) false) out × W out)) → IfOk result (λ a. (a ≡ Yes) × IfSome left (λ o. (network : List ℕ) × (traffic : List ℕ) × (last : List ℕ) × (out : List ℕ) × IsBundle o Replay network traffic last × IsReplayed network traffic (new_lines (Some last) false) out × W out))
+pub bundle_done : (left : Option (List ℕ)) (octets text : List ℕ) (command : Command) (n t third : List ℕ) (W : List ℕ → Type 0) (result : Result Answer Fault) → IfSome left (λ l. octets ≡ l) → text ≡ octets → IsBundle text command n t third → IfOk result (λ a. (out : List ℕ) × IsDone command n t (new_lines (Some third) false) a out × W out) → IfOk result (λ a. IfSome left (λ o. (command' : Command) × (network : List ℕ) × (traffic : List ℕ) × (last : List ℕ) × (out : List ℕ) × IsBundle o command' network traffic last × IsDone command' network traffic (new_lines (Some last) false) a out × W out))
 bundle_done left octets text command n t third W (Err e) same is b h = cc
 bundle_done left octets text command n t third W (Ok a) same is b h =
-    let out = h.1.0 in
-    let replayed : IsReplayed n t (new_lines (Some third) false) out = h.1.1 in
-    let written : W out = h.1.2 in
-    let there : IsBundle octets Replay n t third = only_replay octets command n t third (subst (λ (o : List ℕ). IsBundle o command n t third) is b) in
-    (h.0, told left octets (λ o. (network : List ℕ) × (traffic : List ℕ) × (last : List ℕ) × (out' : List ℕ) × IsBundle o Replay network traffic last × IsReplayed network traffic (new_lines (Some last) false) out' × W out') same (n, t, third, out, there, replayed, written))
+    let out = h.0 in
+    let done : IsDone command n t (new_lines (Some third) false) a out = h.1 in
+    let written : W out = h.2 in
+    let there : IsBundle octets command n t third = subst (λ (o : List ℕ). IsBundle o command n t third) is b in
+    told left octets (λ o. (command' : Command) × (network : List ℕ) × (traffic : List ℕ) × (last : List ℕ) × (out' : List ℕ) × IsBundle o command' network traffic last × IsDone command' network traffic (new_lines (Some last) false) a out' × W out') same (command, n, t, third, out, there, done, written)
 
-there_in : (left : Option (List ℕ)) (octets text : List ℕ) (command : Command) (n t third : List ℕ) (e : Fault) → IfSome left (λ l. octets ≡ l) → text ≡ octets → IsBundle text command n t third → IsRefusedThere n t third e → IfSome left (λ o. IsRefusedBundle o e)
+there_in : (left : Option (List ℕ)) (octets text : List ℕ) (command : Command) (n t third : List ℕ) (e : Fault) → IfSome left (λ l. octets ≡ l) → text ≡ octets → IsBundle text command n t third → IsRefusedThere command n t third e → IfSome left (λ o. IsRefusedBundle o e)
 there_in left octets text command n t third e same is b h =
-    let there : IsBundle octets Replay n t third = only_replay octets command n t third (subst (λ (o : List ℕ). IsBundle o command n t third) is b) in
-    told left octets (λ o. IsRefusedBundle o e) same (inr (n, t, third, there, h))
+    told left octets (λ o. IsRefusedBundle o e) same (inr (command, n, t, third, subst (λ (o : List ℕ). IsBundle o command n t third) is b, h))
 
-pub bundle_refused : (left : Option (List ℕ)) (octets text : List ℕ) (command : Command) (n t third : List ℕ) (R W : Fault → Type 0) (result : Result Answer Fault) → IfSome left (λ l. octets ≡ l) → text ≡ octets → IsBundle text command n t third → IfErr result (λ e. (e ≡ fault_at 900 places.None) ⊎ (W e ⊎ IsRefusedThere n t third e)) → IfErr result (λ e. (e ≡ fault_at 900 places.None) ⊎ (R e ⊎ (W e ⊎ IfSome left (λ o. IsRefusedBundle o e))))
+pub bundle_refused : (left : Option (List ℕ)) (octets text : List ℕ) (command : Command) (n t third : List ℕ) (R W : Fault → Type 0) (result : Result Answer Fault) → IfSome left (λ l. octets ≡ l) → text ≡ octets → IsBundle text command n t third → IfErr result (λ e. (e ≡ fault_at 900 places.None) ⊎ (W e ⊎ IsRefusedThere command n t third e)) → IfErr result (λ e. (e ≡ fault_at 900 places.None) ⊎ (R e ⊎ (W e ⊎ IfSome left (λ o. IsRefusedBundle o e))))
 bundle_refused left octets text command n t third R W (Ok a) same is b h = cc
 bundle_refused left octets text command n t third R W (Err e) same is b h =
     elim h [

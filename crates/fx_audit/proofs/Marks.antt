@@ -1,10 +1,10 @@
 -- Lines `%%` in octets.
-use Rattle.std.proofs.Common.{◌≡◌, ℕ, ◌+◌, ◌<◌, ◌≤◌, Bool, true, false, ◌&&◌, List, [], ◌∷◌, ◌++◌, length, take, drop, refl, sym, ap, ◌∙◌, subst, arith, ◌⊎◌, inl, inr}
+use Rattle.std.proofs.Common.{◌≡◌, ℕ, ◌+◌, ◌<◌, ◌≤◌, Bool, true, false, ◌&&◌, List, [], ◌∷◌, ◌++◌, length, take, drop, slice_index, refl, sym, ap, ◌∙◌, subst, arith, ◌⊎◌, inl, inr}
 use Rattle.std.proofs.lemmas.List.{length-drop, length-take, length-take-le, take-append-drop}
 use Rattle.std.proofs.Math.Seq.{drop-drop}
 use Rattle.std.proofs.lemmas.Slice.Eq.{bytes_eq-Decides}
 use Rattle.fx_audit.specs.declared.bundle.Command.{Command}
-use Rattle.fx_audit.specs.declared.bundle.Command.TheVariants.{Replay}
+use Rattle.fx_audit.specs.declared.bundle.Command.TheVariants.{Replay, Check}
 use Rattle.fx_audit.specs.Bundle.{mark, begins_line, is_mark_at, FirstText, HasNoMark, command_line, IsBundle}
 
 both : (a b : Bool) → (a && b) ≡ true → (a ≡ true) × (b ≡ true)
@@ -79,6 +79,9 @@ no_text bytes text rest h f = let no : is_mark_at bytes (length text) ≡ false 
 
 one_command : (a b : Command) (r s : List ℕ) → command_line a ++ r ≡ command_line b ++ s → r ≡ s
 one_command Replay Replay r s e = ap (λ (bs : List ℕ). drop 7 bs) e
+one_command Check Check r s e = ap (λ (bs : List ℕ). drop 6 bs) e
+one_command Replay Check r s e = let first : 114 ≡ 99 = ap (λ (bs : List ℕ). slice_index bs 0) e in absurd (omega (arith, first))
+one_command Check Replay r s e = let first : 99 ≡ 114 = ap (λ (bs : List ℕ). slice_index bs 0) e in absurd (omega (arith, first))
 
 pub behind_network : (bytes r0 r1 network n t h : List ℕ) (a b : Command) → bytes ≡ command_line a ++ r0 → FirstText r0 network r1 → IsBundle bytes b n t h → (r2 : List ℕ) × FirstText r1 t r2 × FirstText r2 h []
 behind_network bytes r0 r1 network n t h a b line f i =

@@ -1,5 +1,5 @@
 -- What commands make of octets.
-use Rattle.std.specs.Prelude.{◌≡◌, ◌⊎◌, ℕ, List, [], Ok, Err, Some, IfSome, false}
+use Rattle.std.specs.Prelude.{◌≡◌, ◌⊎◌, ℕ, List, Ok, Err, Some, IfSome, false}
 use Rattle.fx_base.specs.declared.fault.Fault.{Fault}
 use Rattle.fx_base.specs.declared.fault.Place.TheVariants as places
 use Rattle.fx_base.specs.Fault.{fault_at}
@@ -11,9 +11,12 @@ use Rattle.fx_machine.specs.States.{State, opening, told}
 use Rattle.fx_machine.specs.Steps.{run}
 use Rattle.fx_plan.specs.declared.network.Network.{Network}
 use Rattle.fx_plan.specs.Tables.{net_of}
+use Rattle.fx_audit.specs.declared.answer.Answer.{Answer}
+use Rattle.fx_audit.specs.declared.answer.Answer.TheVariants.{Yes}
 use Rattle.fx_audit.specs.Bundle.{IsBundle}
+use Rattle.fx_audit.specs.Checks.{IsAnswered, IsRefusedCertificate}
 use Rattle.fx_audit.specs.declared.bundle.Command.{Command}
-use Rattle.fx_audit.specs.declared.bundle.Command.TheVariants.{Replay}
+use Rattle.fx_audit.specs.declared.bundle.Command.TheVariants.{Replay, Check}
 use Rattle.fx_audit.specs.Documents.{IsNetwork, IsRefusedByDocuments, IsRefusedNetwork, IsTraffic, ReadFails}
 use Rattle.fx_audit.specs.Replay.{IsRefused, IsTextOf}
 use Rattle.fx_audit.specs.Streams.{IsRefusedStream, IsStreamText, IsWhole, stream_read}
@@ -64,7 +67,34 @@ IsRefusedCollect network_octets stream_octets e =
     IsRefusedNetwork network_octets e
     ⊎ ((network : Network) × IsNetwork network_octets network × IsRefusedStream (stream_read stream_octets) e)
 
+-- ---- a certificate that is checked
+
+-- the answer to a certificate in the network and traffic that two documents say
+pub record IsChecked (network_octets traffic_octets : List ℕ) (lines : Lines) (answer : Answer) (text : List ℕ) : Type 0 where
+  pub network : Network
+  pub classes : List Class
+  pub network_is : IsNetwork network_octets network
+  pub traffic_is : IsTraffic network traffic_octets classes
+  pub answered : IsAnswered network classes lines answer text
+
+-- the first refusal of a check that is no answer: that of the documents, then the certificate's
+abbrev pub IsRefusedCheck : List ℕ → List ℕ → Lines → Fault → Type 0
+IsRefusedCheck network_octets traffic_octets lines e =
+    IsRefusedByDocuments network_octets traffic_octets e
+    ⊎ ((network : Network) × (classes : List Class) × IsNetwork network_octets network × IsTraffic network traffic_octets classes
+    × IsRefusedCertificate network classes lines e)
+
 -- ---- a bundle
+
+-- what a command answers, and the text that it prints
+abbrev pub IsDone : Command → List ℕ → List ℕ → Lines → Answer → List ℕ → Type 0
+IsDone Replay network traffic lines answer text = (answer ≡ Yes) × IsReplayed network traffic lines text
+IsDone Check network traffic lines answer text = IsChecked network traffic lines answer text
+
+-- what a command makes of these octets is refused
+abbrev pub IsRefusedBy : Command → List ℕ → List ℕ → Lines → Fault → Type 0
+IsRefusedBy Replay network traffic lines e = IsRefusedReplay network traffic lines e
+IsRefusedBy Check network traffic lines e = IsRefusedCheck network traffic lines e
 
 -- a text in memory that takes more than 2 to the 32 calls to read
 abbrev pub IsEndless : List ℕ → List ℕ → List ℕ → Fault → Type 0
@@ -72,11 +102,11 @@ IsEndless network traffic third e =
     ReadFails (Some network) false e ⊎ (ReadFails (Some traffic) false e ⊎ ((lines : Lines) × Fails (new_lines (Some third) false) lines e))
 
 -- what a bundle's command makes of its texts is refused
-abbrev pub IsRefusedThere : List ℕ → List ℕ → List ℕ → Fault → Type 0
-IsRefusedThere network traffic third e = IsRefusedReplay network traffic (new_lines (Some third) false) e ⊎ IsEndless network traffic third e
+abbrev pub IsRefusedThere : Command → List ℕ → List ℕ → List ℕ → Fault → Type 0
+IsRefusedThere command network traffic third e = IsRefusedBy command network traffic (new_lines (Some third) false) e ⊎ IsEndless network traffic third e
 
 -- the octets are no bundle, or what its command makes of its texts is refused
 abbrev pub IsRefusedBundle : List ℕ → Fault → Type 0
 IsRefusedBundle octets e =
     ((e ≡ fault_at 801 places.None) × ((command : Command) (network : List ℕ) (traffic : List ℕ) (third : List ℕ) → IsBundle octets command network traffic third → ⊥))
-    ⊎ ((network : List ℕ) × (traffic : List ℕ) × (third : List ℕ) × IsBundle octets Replay network traffic third × IsRefusedThere network traffic third e)
+    ⊎ ((command : Command) × (network : List ℕ) × (traffic : List ℕ) × (third : List ℕ) × IsBundle octets command network traffic third × IsRefusedThere command network traffic third e)

@@ -1,4 +1,5 @@
 pub mod Bundle
+pub mod Checks
 pub mod Commands
 pub mod Documents
 pub mod Replay

@@ -7,6 +7,7 @@ ghost use Rattle.fx_audit.specs.declared.bundle.Command.{Command};
 #[derive(Clone, Copy, Debug, PartialEq, Eq)]
 pub enum Command {
     Replay,
+    Check,
 }
 
 /// The command of a bundle and its texts.
@@ -62,8 +63,11 @@ fn command_of(bytes: &[u8]) -> Option<(Command, &[u8])>
     ensures some { IfSome result (λ p. bytes.now ≡ command_line p.0 ++ p.1.now) }
     ensures none { IfNone result ((command : Command) (rest : List ℕ) → bytes.now ≡ command_line command ++ rest → ⊥) }
 {
-    let rest = bytes.strip_prefix(b"replay\n")?;
-    Some((Command::Replay, rest))
+    if let Some(rest) = bytes.strip_prefix(b"replay\n") {
+        return Some((Command::Replay, rest));
+    }
+    let rest = bytes.strip_prefix(b"check\n")?;
+    Some((Command::Check, rest))
 }
 
 /// The bundle that these octets are, or None where they have another shape.

@@ -5,30 +5,35 @@ ghost use Rattle.fx_base.specs.Fault.{fault_at};
 ghost use Rattle.fx_base.specs.Lines.{new_lines};
 ghost use Rattle.fx_base.specs.declared.fault.Place.TheVariants as places;
 ghost use Rattle.fx_audit.specs.Bundle.{IsBundle};
-ghost use Rattle.fx_audit.specs.Commands.{IsRefusedBundle, IsRefusedThere, IsReplayed};
+ghost use Rattle.fx_audit.specs.Commands.{IsDone, IsRefusedBundle, IsRefusedThere};
 ghost use Rattle.fx_audit.specs.Documents.{ReadFails};
-ghost use Rattle.fx_audit.specs.declared.answer.Answer.TheVariants.{Yes};
-ghost use Rattle.fx_audit.specs.declared.bundle.Command.TheVariants as commands;
+ghost use Rattle.fx_audit.specs.declared.answer.Answer.TheVariants.{Yes, No};
+ghost use Rattle.fx_audit.specs.declared.bundle.Command.{Command};
 
 use crate::answer::Answer;
 use crate::bundle::{Bundle, Command, read_bundle};
+use crate::check_command::check_bytes;
 use crate::replay_command::replay_bytes;
 use fx_base::{Fault, LineReader, Octets, Sink, Source, read_whole};
 use std::alloc::Global;
 
-/// Replays the run of a bundle.
-fn replay_bundle<S: Sink>(alloc: Global, bundle: &Bundle<'_>, sink: &mut S) -> Result<Answer, Fault>
-    ensures ok { IfOk result (λ answer. (answer ≡ Yes) × ((text : List ℕ)
-        × IsReplayed bundle.now.network.now bundle.now.traffic.now (new_lines (Some bundle.now.third.now) false) text × Writes (S.taken sink.old) (S.taken sink.new) text)) }
+/// Does what a bundle's command does with its texts.
+fn answer_bundle<S: Sink>(alloc: Global, bundle: &Bundle<'_>, sink: &mut S) -> Result<Answer, Fault>
+    ensures answer { IfOk result (λ answer. (answer ≡ Yes) ⊎ (answer ≡ No)) }
+    ensures ok { IfOk result (λ answer. (text : List ℕ)
+        × IsDone bundle.now.command bundle.now.network.now bundle.now.traffic.now (new_lines (Some bundle.now.third.now) false) answer text × Writes (S.taken sink.old) (S.taken sink.new) text) }
     ensures err { IfErr result (λ e. (e ≡ fault_at 900 places.None)
         ⊎ (((e ≡ fault_at 902 places.None) × (S.failed sink.new ≡ true))
-        ⊎ IsRefusedThere bundle.now.network.now bundle.now.traffic.now bundle.now.third.now e)) }
+        ⊎ IsRefusedThere bundle.now.command bundle.now.network.now bundle.now.traffic.now bundle.now.third.now e)) }
     ensures quiet { IfErr result (λ e. (e ≡ fault_at 902 places.None) ⊎ (S.taken sink.new ≡ S.taken sink.old)) }
 {
     let mut network = Octets::new(bundle.network);
     let mut traffic = Octets::new(bundle.traffic);
-    let mut run = LineReader::new(alloc, Octets::new(bundle.third))?;
-    replay_bytes(alloc, &mut network, &mut traffic, &mut run, sink)
+    let mut third = LineReader::new(alloc, Octets::new(bundle.third))?;
+    match bundle.command {
+        Command::Replay => replay_bytes(alloc, &mut network, &mut traffic, &mut third, sink),
+        Command::Check => check_bytes(alloc, &mut network, &mut traffic, &mut third, sink),
+    }
 }
 
 /// Reads a bundle, a command with its texts, and does what the command does with them.
@@ -41,9 +46,10 @@ pub fn bundle_bytes<B: Source, S: Sink>(
     bundle: &mut B,
     sink: &mut S,
 ) -> Result<Answer, Fault>
-    ensures ok { IfOk result (λ answer. (answer ≡ Yes) × IfSome (B.left bundle.old) (λ octets.
-        (network : List ℕ) × (traffic : List ℕ) × (third : List ℕ) × (text : List ℕ) × IsBundle octets commands.Replay network traffic third
-        × IsReplayed network traffic (new_lines (Some third) false) text × Writes (S.taken sink.old) (S.taken sink.new) text)) }
+    ensures answer { IfOk result (λ answer. (answer ≡ Yes) ⊎ (answer ≡ No)) }
+    ensures ok { IfOk result (λ answer. IfSome (B.left bundle.old) (λ octets.
+        (command : Command) × (network : List ℕ) × (traffic : List ℕ) × (third : List ℕ) × (text : List ℕ) × IsBundle octets command network traffic third
+        × IsDone command network traffic (new_lines (Some third) false) answer text × Writes (S.taken sink.old) (S.taken sink.new) text)) }
     ensures err { IfErr result (λ e. (e ≡ fault_at 900 places.None)
         ⊎ (ReadFails (B.left bundle.old) (B.failed bundle.new) e
         ⊎ (((e ≡ fault_at 902 places.None) × (S.failed sink.new ≡ true))
@@ -54,7 +60,5 @@ pub fn bundle_bytes<B: Source, S: Sink>(
     let Some(bundle) = read_bundle(octets.as_slice()) else {
         return Err(Fault::bare(801));
     };
-    match bundle.command {
-        Command::Replay => replay_bundle(alloc, &bundle, sink),
-    }
+    answer_bundle(alloc, &bundle, sink)
 }

@@ -4,6 +4,7 @@
 mod answer;
 mod bundle;
 mod bundle_command;
+mod check_command;
 mod collect_command;
 mod collecting;
 mod document;
@@ -12,9 +13,12 @@ mod replaying;
 
 pub use answer::Answer;
 pub use bundle_command::bundle_bytes;
+pub use check_command::check_bytes;
 pub use collect_command::collect_bytes;
 pub use replay_command::replay_bytes;
 
+#[cfg(test)]
+mod check_tests;
 #[cfg(test)]
 mod collect_tests;
 #[cfg(test)]

@@ -28,7 +28,7 @@ fn refuses_other_shapes(rt: HostRuntime) {
     assert!(rt; read_bundle(b" replay\n%%\n%%\n%%\n").is_none());
 }
 
-const NETWORK: &[u8] = br#"{"devices":[{"name":"m1","config":{"ietf-ipfix-psamp:ipfix":{
+pub(crate) const NETWORK: &[u8] = br#"{"devices":[{"name":"m1","config":{"ietf-ipfix-psamp:ipfix":{
 "observationPoint":[{"name":"op","observationDomainId":0,"ifName":["eth0"],"selectionProcess":["sp"]}],
 "selectionProcess":[{"name":"sp","selector":[{"name":"a","selectAll":[null]}],"cache":"ca"}],
 "cache":[{"name":"ca","timeoutCache":{"cacheLayout":{"cacheField":[
@@ -40,7 +40,7 @@ const NETWORK: &[u8] = br#"{"devices":[{"name":"m1","config":{"ietf-ipfix-psamp:
 "report":{"device":"c1","collectingProcess":"cp","key":[{"ieName":"sourceIPv4Address"}]}}
 "#;
 
-const TRAFFIC: &[u8] =
+pub(crate) const TRAFFIC: &[u8] =
     br#"{"classes":[{"name":"web","region":{"sourceIPv4Address":"10.0.0.0/8"},"paths":[[{"device":"m1","interface":"eth0","direction":"ingress"}]]}]}
 "#;
 
@@ -152,7 +152,7 @@ fn replays_a_bundle(rt: HostRuntime) -> Result<(), Fail> {
 fn refuses_what_is_no_bundle(rt: HostRuntime) -> Result<(), Fail> {
     for bundle in [
         b"".as_slice(),
-        b"check\n%%\n%%\n%%\n",
+        b"checks\n%%\n%%\n%%\n",
         b"replay\n{\n%%\n{\n%%\n",
     ] {
         let (outcome, unwritten) = bundled(rt.alloc(), bundle, b"")?;

@@ -8,8 +8,8 @@ returns-in_default-clause-err g c =
 
 pub returns-clause-ok : goal.returns-clause-ok
 returns-clause-ok g c =
-    bundle_done (g.B.Source.left c.args.bundle.now) c.in_ok-octets.octets.items c.as_slice.result.now c.in-Some.bundle.command _ _ _ _ c.replay_bundle.result c.in_ok-octets.ensures.all c.as_slice.ensures.value c.in-Some.ensures.some c.replay_bundle.ensures.ok
+    bundle_done (g.B.Source.left c.args.bundle.now) c.in_ok-octets.octets.items c.as_slice.result.now c.in-Some.bundle.command _ _ _ _ c.answer_bundle.result c.in_ok-octets.ensures.all c.as_slice.ensures.value c.in-Some.ensures.some c.answer_bundle.ensures.ok
 
 pub returns-clause-err : goal.returns-clause-err
 returns-clause-err g c =
-    bundle_refused (g.B.Source.left c.args.bundle.now) c.in_ok-octets.octets.items c.as_slice.result.now c.in-Some.bundle.command _ _ _ _ _ c.replay_bundle.result c.in_ok-octets.ensures.all c.as_slice.ensures.value c.in-Some.ensures.some c.replay_bundle.ensures.err
+    bundle_refused (g.B.Source.left c.args.bundle.now) c.in_ok-octets.octets.items c.as_slice.result.now c.in-Some.bundle.command _ _ _ _ _ c.answer_bundle.result c.in_ok-octets.ensures.all c.as_slice.ensures.value c.in-Some.ensures.some c.answer_bundle.ensures.err

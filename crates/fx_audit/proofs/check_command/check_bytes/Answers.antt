@@ -1,0 +1,20 @@
+use Rattle.fx_audit.proofs.Checks.{check_done, check_refused, check_unread}
+use Rattle.fx_audit.proofs.Collects.{documents_faultless}
+use Rattle.fx_audit.proofs.Documents.{exit_with}
+use Rattle.fx_audit.proofs.check_command.check_bytes.Goals as goal
+
+pub returns-clause-ok : goal.returns-clause-ok
+returns-clause-ok g c =
+    check_done (g.N.Source.left c.args.network.now) (g.T.Source.left c.args.traffic.now) c.in_ok-documents.documents.plan c.in_ok-documents.documents.traffic c.args.certificate.now _ c.check_lines.result c.in_ok-documents.ensures.network c.in_ok-documents.ensures.traffic c.check_lines.ensures.ok
+
+pub returns-clause-err : goal.returns-clause-err
+returns-clause-err g c =
+    check_refused (g.N.Source.left c.args.network.now) (g.T.Source.left c.args.traffic.now) c.in_ok-documents.documents.plan c.in_ok-documents.documents.traffic c.args.certificate.now _ _ _ _ c.check_lines.result c.in_ok-documents.ensures.network c.in_ok-documents.ensures.traffic c.check_lines.ensures.err
+
+pub returns-clause-untouched : goal.returns-clause-untouched
+returns-clause-untouched g c =
+    documents_faultless (g.N.Source.left c.args.network.now) (g.T.Source.left c.args.traffic.now) c.in_ok-documents.documents.plan c.in_ok-documents.documents.traffic _ c.in_ok-documents.ensures.network c.in_ok-documents.ensures.traffic
+
+pub returns-in_err-documents-clause-err : goal.returns-in_err-documents-clause-err
+returns-in_err-documents-clause-err g c =
+    exit_with _ _ _ c.from_residual.ensures (check_unread (g.N.Source.left c.args.network.now) (g.T.Source.left c.args.traffic.now) c.args.certificate.now _ _ _ _ _ _ c.in_err-documents.ensures.err)

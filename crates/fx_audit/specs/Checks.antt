@@ -1,0 +1,70 @@
+-- What a checked certificate is answered with, and what is printed.
+use Rattle.std.specs.Prelude.{◌≡◌, ◌⊎◌, ℕ, ◌≤◌, List, [], ◌∷◌, ◌++◌, codes, decimal, Option, Some, None, IfSome}
+use Rattle.fx_base.specs.declared.fault.Fault.{Fault}
+use Rattle.fx_base.specs.declared.fault.Place.{Place}
+use Rattle.fx_base.specs.declared.fault.Place.TheVariants as places
+use Rattle.fx_base.specs.Fault.{place_text}
+use Rattle.fx_base.specs.Lines.{Lines, text_lines}
+use Rattle.fx_machine.specs.Claim.{ExactlyOnce}
+use Rattle.fx_machine.specs.Classes.{Class}
+use Rattle.fx_plan.specs.declared.network.Network.{Network}
+use Rattle.fx_plan.specs.Tables.{net_of}
+use Rattle.fx_check.specs.Certificates.{IsCertificate}
+use Rattle.fx_check.specs.Outcomes.{refusal_of}
+use Rattle.fx_check.specs.Targets.{targets_of}
+use Rattle.fx_check.specs.Verdict.{Refusal}
+use Rattle.fx_audit.specs.declared.answer.Answer.{Answer}
+use Rattle.fx_audit.specs.declared.answer.Answer.TheVariants.{Yes, No, Unknown}
+
+-- ---- what is printed
+
+abbrev pub yes_line : List ℕ
+yes_line = codes "yes" ++ 10 ∷ []
+
+-- a place behind a number; nothing where there is none
+abbrev pub place_behind : Place → List ℕ
+place_behind places.None = []
+place_behind (places.Line n) = 32 ∷ place_text (places.Line n)
+place_behind (places.Octet n) = 32 ∷ place_text (places.Octet n)
+place_behind (places.Text text) = 32 ∷ place_text (places.Text text)
+
+abbrev pub no_line : Fault → List ℕ
+no_line e = codes "no " ++ (decimal e.number ++ (place_behind e.place ++ 10 ∷ []))
+
+-- ---- what is answered
+
+-- a refusal with this number makes the answer no
+abbrev pub MeansNo : ℕ → Type 0
+MeansNo number = (401 ≤ number) × (number ≤ 414)
+
+abbrev pub IsFaultOf : Fault → Option Refusal → Type 0
+IsFaultOf e None = ⊥
+IsFaultOf e (Some r) = e ≡ r.fault
+
+-- the first refusal of a certificate for these classes in a network, where the reader tells its text
+abbrev pub IsRefusedText : Network → List Class → Lines → Fault → Type 0
+IsRefusedText network classes lines e = IfSome (refusal_of (net_of network) (targets_of classes) lines) (IsFaultOf e)
+
+-- each packet is counted once; the certificate shows it, and nothing in it is refused, where the reader tells its text
+pub record IsYes (network : Network) (classes : List Class) (lines : Lines) (text : List ℕ) : Type 0 where
+  pub once : ExactlyOnce (net_of network) classes
+  pub certificate : IfSome lines.left (λ octets. IsCertificate (net_of network) classes (text_lines octets))
+  pub accepted : IfSome (refusal_of (net_of network) (targets_of classes) lines) (λ r. r ≡ None)
+  pub text_is : text ≡ yes_line
+
+-- the certificate is refused, by a number that makes the answer no; or so was what the reader had read before
+pub record IsNo (network : Network) (classes : List Class) (lines : Lines) (text : List ℕ) : Type 0 where
+  pub fault : Fault
+  pub means_no : MeansNo fault.number
+  pub refused : (lines.stopped ≡ Some fault) ⊎ IsRefusedText network classes lines fault
+  pub text_is : text ≡ no_line fault
+
+-- the answer to a certificate, in this network and traffic, and the text that it prints
+abbrev pub IsAnswered : Network → List Class → Lines → Answer → List ℕ → Type 0
+IsAnswered network classes lines Yes text = IsYes network classes lines text
+IsAnswered network classes lines No text = IsNo network classes lines text
+IsAnswered network classes lines Unknown text = ⊥
+
+-- the certificate is refused otherwise
+abbrev pub IsRefusedCertificate : Network → List Class → Lines → Fault → Type 0
+IsRefusedCertificate network classes lines e = IsRefusedText network classes lines e × (MeansNo e.number → ⊥)
