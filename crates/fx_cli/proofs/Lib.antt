@@ -1,4 +1,6 @@
+pub mod CheckWords
 pub mod CollectWords
+pub mod DocumentWords
 pub mod FileWords
 pub mod Naming
 pub mod ReplayWords

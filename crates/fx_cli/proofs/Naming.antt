@@ -16,7 +16,7 @@ use Rattle.clap.specs.declared.error.Error.{Error}
 use Rattle.clap.specs.declared.error.kind.ErrorKind.TheVariants.{OutOfMemory}
 use Rattle.std.specs.Prelude.{Box, IfSome, IsSome, Result, Ok, Err, MatchResult, IsErrAnd, string_bytes}
 use Rattle.std.specs.Box.{box_value}
-use Rattle.fx_cli.specs.declared.words.Call.TheVariants.{Collect, Replay}
+use Rattle.fx_cli.specs.declared.words.Call.TheVariants.{Check, Collect, Replay}
 use Rattle.clap.proofs.WalkLemmas.{first_value-rows, walk_stopped}
 use Rattle.clap.proofs.FaultLemmas.{stopped_fault}
 use Rattle.std.proofs.lemmas.Slice.Eq.{bytes_eq-Decides}
@@ -26,7 +26,9 @@ use Rattle.fx_cli.proofs.SingleWords.{Fails, fails_first, or_none, top, top_know
 use Rattle.fx_cli.proofs.SingleWords as shapes
 use Rattle.fx_cli.proofs.FileWords.{CommandFails, CommandPasses, command_fault}
 use Rattle.fx_cli.proofs.ReplayWords.{decide_replay, replay_rows}
+use Rattle.fx_cli.proofs.CheckWords.{check_rows, decide_check}
 use Rattle.fx_cli.proofs.CollectWords.{collect_rows, decide_collect}
+use Rattle.fx_cli.proofs.DocumentWords.{document_rows}
 
 -- ---- the program's words
 
@@ -44,6 +46,9 @@ TakesReplay words = Takes (codes "replay") 3 replay_rows words
 abbrev TakesCollect : List Text → Type 0
 TakesCollect words = Takes (codes "collect") 2 collect_rows words
 
+abbrev TakesCheck : List Text → Type 0
+TakesCheck words = Takes (codes "check") 3 check_rows words
+
 -- the words name no so many files of this command
 abbrev Unnamed : Text → ℕ → List Text → Type 0
 Unnamed name count words = (files : List Text) → length files ≡ count → NamesFiles words name files → ⊥
@@ -52,6 +57,7 @@ record Refuses (words : List Text) : Type 0 where
   fails : Fails (fault_of once_app words)
   replay : Unnamed (codes "replay") 3 words
   collect : Unnamed (codes "collect") 2 words
+  check : Unnamed (codes "check") 3 words
 
 abbrev commands : Names
 commands = names_of (built once_app)
@@ -89,6 +95,18 @@ collect_fault program rest =
 
 collect_entered : (program : Text) (rest : List Text) → subcommand_of once_app (program ∷ codes "collect" ∷ rest) ≡ Some (codes "collect", rows_after shapes.collect.rules [] rest)
 collect_entered program rest = ap (λ (w : Walk). entered (built once_app) w.stopped) (collect_walk rest)
+
+check_walk : (rest : List Text) → fold (walked top.rules commands) (walked top.rules commands (walk_from nothing_held) (codes "check")) rest ≡ met (codes "check") rest
+unfolding walked
+check_walk rest = sym (walk_stopped top.rules commands (walk_from nothing_held) (codes "check") [] rest)
+
+check_fault_is : (program : Text) (rest : List Text) → fault_of once_app (program ∷ codes "check" ∷ rest) ≡ command_fault shapes.check rest
+unfolding walked walk_fault defaults_fault
+check_fault_is program rest =
+    ap₂ top_end (stopped_fault top commands (walk_from nothing_held) (codes "check", []) rest) (check_walk rest) ∙ or_none (command_fault shapes.check rest)
+
+check_entered : (program : Text) (rest : List Text) → subcommand_of once_app (program ∷ codes "check" ∷ rest) ≡ Some (codes "check", rows_after shapes.check.rules [] rest)
+check_entered program rest = ap (λ (w : Walk). entered (built once_app) w.stopped) (check_walk rest)
 
 top_turn : (words : List Text) (program command : Text) → Fails (turn_fault top commands (walk_from nothing_held) command) → Fails (fault_of once_app (program ∷ command ∷ words))
 unfolding walk_fault
@@ -156,6 +174,15 @@ collect_taken program rest p = record {
   entered = collect_entered program rest ∙ ap (λ rows. Some (codes "collect", rows)) p.rows_are;
 }
 
+check_taken : (program : Text) (rest : List Text) → CommandPasses shapes.check 3 check_rows rest → TakesCheck (program ∷ codes "check" ∷ rest)
+check_taken program rest p = record {
+  files = p.files;
+  count_is = p.count_is;
+  named = record { program = program; rest = rest; words_are = refl; files_are = p.named };
+  takes = check_fault_is program rest ∙ p.passes;
+  entered = check_entered program rest ∙ ap (λ rows. Some (codes "check", rows)) p.rows_are;
+}
+
 -- the word of another command names none of this one's files
 of_another : (name program command : Text) (rest : List Text) (count : ℕ) → bytes_eq name command ≡ false → Unnamed name count (program ∷ command ∷ rest)
 of_another name program command rest count other = λ files all n.
@@ -170,6 +197,7 @@ replay_refused program rest f = record {
   fails = subst Fails (sym (replay_fault program rest)) f.fails;
   replay = of_this shapes.replay (codes "replay") program rest 3 f;
   collect = of_another (codes "collect") program (codes "replay") rest 2 refl;
+  check = of_another (codes "check") program (codes "replay") rest 3 refl;
 }
 
 collect_refused : (program : Text) (rest : List Text) → CommandFails shapes.collect 2 rest → Refuses (program ∷ codes "collect" ∷ rest)
@@ -177,48 +205,78 @@ collect_refused program rest f = record {
   fails = subst Fails (sym (collect_fault program rest)) f.fails;
   replay = of_another (codes "replay") program (codes "collect") rest 3 refl;
   collect = of_this shapes.collect (codes "collect") program rest 2 f;
+  check = of_another (codes "check") program (codes "collect") rest 3 refl;
+}
+
+check_refused : (program : Text) (rest : List Text) → CommandFails shapes.check 3 rest → Refuses (program ∷ codes "check" ∷ rest)
+check_refused program rest f = record {
+  fails = subst Fails (sym (check_fault_is program rest)) f.fails;
+  replay = of_another (codes "replay") program (codes "check") rest 3 refl;
+  collect = of_another (codes "collect") program (codes "check") rest 2 refl;
+  check = of_this shapes.check (codes "check") program rest 3 f;
 }
 
 too_short : (name : Text) (count : ℕ) (words : List Text) → length words ≤ 1 → Unnamed name count words
 too_short name count words few = λ files all n. let same = ap length n.words_are in absurd (omega (arith, same, few))
 
 abbrev Decided : List Text → Type 0
-Decided words = TakesReplay words ⊎ (TakesCollect words ⊎ Refuses words)
+Decided words = TakesReplay words ⊎ (TakesCollect words ⊎ (TakesCheck words ⊎ Refuses words))
 
 at_replay : (program : Text) (rest : List Text) → Decided (program ∷ codes "replay" ∷ rest)
 at_replay program rest = elim (decide_replay rest) as (λ _. Decided (program ∷ codes "replay" ∷ rest)) [
   | inl p ↦ inl (replay_taken program rest p)
-  | inr f ↦ inr (inr (replay_refused program rest f))
+  | inr f ↦ inr (inr (inr (replay_refused program rest f)))
 ]
 
 at_collect : (program : Text) (rest : List Text) → Decided (program ∷ codes "collect" ∷ rest)
 at_collect program rest = elim (decide_collect rest) as (λ _. Decided (program ∷ codes "collect" ∷ rest)) [
   | inl p ↦ inr (inl (collect_taken program rest p))
-  | inr f ↦ inr (inr (collect_refused program rest f))
+  | inr f ↦ inr (inr (inr (collect_refused program rest f)))
 ]
 
--- neither of the two commands
-at_other : (program command : Text) (rest : List Text) → bytes_eq (codes "replay") command ≡ false → bytes_eq (codes "collect") command ≡ false → Refuses (program ∷ command ∷ rest)
-at_other program command rest first second = record {
+at_check : (program : Text) (rest : List Text) → Decided (program ∷ codes "check" ∷ rest)
+at_check program rest = elim (decide_check rest) as (λ _. Decided (program ∷ codes "check" ∷ rest)) [
+  | inl p ↦ inr (inr (inl (check_taken program rest p)))
+  | inr f ↦ inr (inr (inr (check_refused program rest f)))
+]
+
+-- none of the commands
+at_other : (program command : Text) (rest : List Text) → bytes_eq (codes "replay") command ≡ false → bytes_eq (codes "collect") command ≡ false → bytes_eq (codes "check") command ≡ false
+    → Refuses (program ∷ command ∷ rest)
+at_other program command rest first second third = record {
   fails = elim (bool_cases (bytes_eq (codes "help") command)) [
     | inl is ↦
         let same : codes "help" ≡ command = (bytes_eq-Decides (codes "help") command).0 is in
         subst (λ c. Fails (fault_of once_app (program ∷ c ∷ rest))) same (help_fails program rest)
-    | inr strange ↦ other_fails program command rest (rw (first, second, strange) refl)
+    | inr strange ↦ other_fails program command rest (rw (first, second, third, strange) refl)
   ];
   replay = of_another (codes "replay") program command rest 3 first;
   collect = of_another (codes "collect") program command rest 2 second;
+  check = of_another (codes "check") program command rest 3 third;
 }
 
 decide_words : (words : List Text) → Decided words
 unfolding walk_fault defaults_fault
-decide_words [] = inr (inr (record { fails = tt; replay = too_short (codes "replay") 3 [] (omega arith); collect = too_short (codes "collect") 2 [] (omega arith) }))
-decide_words (program ∷ []) = inr (inr (record { fails = tt; replay = too_short (codes "replay") 3 (program ∷ []) (omega arith); collect = too_short (codes "collect") 2 (program ∷ []) (omega arith) }))
+decide_words [] = inr (inr (inr (record {
+  fails = tt;
+  replay = too_short (codes "replay") 3 [] (omega arith);
+  collect = too_short (codes "collect") 2 [] (omega arith);
+  check = too_short (codes "check") 3 [] (omega arith);
+})))
+decide_words (program ∷ []) = inr (inr (inr (record {
+  fails = tt;
+  replay = too_short (codes "replay") 3 (program ∷ []) (omega arith);
+  collect = too_short (codes "collect") 2 (program ∷ []) (omega arith);
+  check = too_short (codes "check") 3 (program ∷ []) (omega arith);
+})))
 decide_words (program ∷ command ∷ rest) = elim (bool_cases (bytes_eq (codes "replay") command)) [
   | inl is ↦ subst (λ c. Decided (program ∷ c ∷ rest)) ((bytes_eq-Decides (codes "replay") command).0 is) (at_replay program rest)
   | inr first ↦ elim (bool_cases (bytes_eq (codes "collect") command)) [
     | inl is ↦ subst (λ c. Decided (program ∷ c ∷ rest)) ((bytes_eq-Decides (codes "collect") command).0 is) (at_collect program rest)
-    | inr second ↦ inr (inr (at_other program command rest first second))
+    | inr second ↦ elim (bool_cases (bytes_eq (codes "check") command)) [
+      | inl is ↦ subst (λ c. Decided (program ∷ c ∷ rest)) ((bytes_eq-Decides (codes "check") command).0 is) (at_check program rest)
+      | inr third ↦ inr (inr (inr (at_other program command rest first second third)))
+    ]
   ]
 ]
 
@@ -243,6 +301,9 @@ IsReplay words m = IsTakenBy (codes "replay") 3 replay_rows words m
 abbrev pub IsCollect : List Text → ArgMatches → Type 0
 IsCollect words m = IsTakenBy (codes "collect") 2 collect_rows words m
 
+abbrev pub IsCheck : List Text → ArgMatches → Type 0
+IsCheck words m = IsTakenBy (codes "check") 3 check_rows words m
+
 not_both : (k : Kinds) → k ≡ [] → Fails k → ⊥
 not_both k none fails = subst Fails none fails
 
@@ -254,16 +315,18 @@ takes_it a name count rows words m same matches t = record {
   entered = (matches (ap is_simple same ∙ once_is_simple)).1 ∙ ap (λ (x : App). subcommand_of x words) same ∙ t.entered;
 }
 
-taken : (a : App) (words : List Text) (m : ArgMatches) → a ≡ once_app → HasMatchesOf a words m → (is_simple_and_free a ≡ true → fault_of a words ≡ []) → IsReplay words m ⊎ IsCollect words m
+taken : (a : App) (words : List Text) (m : ArgMatches) → a ≡ once_app → HasMatchesOf a words m → (is_simple_and_free a ≡ true → fault_of a words ≡ []) → IsReplay words m ⊎ (IsCollect words m ⊎ IsCheck words m)
 taken a words m same matches kinds = elim (decide_words words) [
   | inl t ↦ inl (takes_it a (codes "replay") 3 replay_rows words m same matches t)
-  | inr (inl t) ↦ inr (takes_it a (codes "collect") 2 collect_rows words m same matches t)
-  | inr (inr r) ↦ absurd (not_both (fault_of once_app words) (ap (λ (x : App). fault_of x words) (sym same) ∙ kinds (ap is_simple_and_free same ∙ once_is_free)) r.fails)
+  | inr (inl t) ↦ inr (inl (takes_it a (codes "collect") 2 collect_rows words m same matches t))
+  | inr (inr (inl t)) ↦ inr (inr (takes_it a (codes "check") 3 check_rows words m same matches t))
+  | inr (inr (inr r)) ↦ absurd (not_both (fault_of once_app words) (ap (λ (x : App). fault_of x words) (sym same) ∙ kinds (ap is_simple_and_free same ∙ once_is_free)) r.fails)
 ]
 
 none_named : (words : List Text) → Refuses words → NamesNoCall words
 none_named words r (Replay network traffic run) n = r.replay (string_bytes network ∷ string_bytes traffic ∷ string_bytes run ∷ []) refl n
 none_named words r (Collect network stream) n = r.collect (string_bytes network ∷ string_bytes stream ∷ []) refl n
+none_named words r (Check network traffic certificate) n = r.check (string_bytes network ∷ string_bytes traffic ∷ string_bytes certificate ∷ []) refl n
 
 memory_alone : (a : App) (words : List Text) (e : Error) → a ≡ once_app → (is_simple_and_free a ≡ true → HasKind (fault_of a words) e) → fault_of once_app words ≡ [] → kind_of e ≡ OutOfMemory
 memory_alone a words e same kinds takes =
@@ -276,7 +339,8 @@ pub refused : (a : App) (words : List Text) (e : Error) → a ≡ once_app → (
 refused a words e same kinds = elim (decide_words words) [
   | inl t ↦ inl (memory_alone a words e same kinds t.takes)
   | inr (inl t) ↦ inl (memory_alone a words e same kinds t.takes)
-  | inr (inr r) ↦ inr (none_named words r)
+  | inr (inr (inl t)) ↦ inl (memory_alone a words e same kinds t.takes)
+  | inr (inr (inr r)) ↦ inr (none_named words r)
 ]
 
 pub passed_on : {T : Type 0} (r : Result T Error) (e : Error) (P : T → Type 0) (Q : Error → Type 0) → IsErrAnd r (λ y. y ≡ e) → Q e → MatchResult r P Q
@@ -296,18 +360,32 @@ taken_name name count rows words m t = name_of_rows m ∙ ap (option_map (λ p. 
 some_same : (a b : Text) (o : Option Text) → o ≡ Some a → o ≡ Some b → a ≡ b
 some_same a b o x y = ap (λ (v : Option Text). unwrap_or v a) (sym x ∙ y)
 
+-- matches of one command are no matches of another
+other_name : (name other : Text) (count : ℕ) (rows : List Text → List Row) (words : List Text) (m : ArgMatches) → IsTakenBy name count rows words m → subcommand_name_of m ≡ Some other → bytes_eq name other ≡ false → ⊥
+other_name name other count rows words m t is differ =
+    let same : name ≡ other = some_same name other (subcommand_name_of m) (taken_name name count rows words m t) is in
+    true≢false (sym ((bytes_eq-Decides name other).1 same) ∙ differ)
+
 pub taken_collect : (a : App) (words : List Text) (m : ArgMatches) → a ≡ once_app → HasMatchesOf a words m → (is_simple_and_free a ≡ true → fault_of a words ≡ []) → subcommand_name_of m ≡ Some (codes "collect") → IsCollect words m
 taken_collect a words m same matches kinds name = elim (taken a words m same matches kinds) [
-  | inl t ↦
-      let other : codes "replay" ≡ codes "collect" = some_same _ _ (subcommand_name_of m) (taken_name (codes "replay") 3 replay_rows words m t) name in
-      absurd (true≢false (sym ((bytes_eq-Decides (codes "replay") (codes "collect")).1 other)))
-  | inr t ↦ t
+  | inl t ↦ absurd (other_name (codes "replay") (codes "collect") 3 replay_rows words m t name refl)
+  | inr (inl t) ↦ t
+  | inr (inr t) ↦ absurd (other_name (codes "check") (codes "collect") 3 check_rows words m t name refl)
 ]
 
-pub taken_replay : (a : App) (words : List Text) (m : ArgMatches) → a ≡ once_app → HasMatchesOf a words m → (is_simple_and_free a ≡ true → fault_of a words ≡ []) → (subcommand_name_of m ≡ Some (codes "collect") → ⊥) → IsReplay words m
-taken_replay a words m same matches kinds other = elim (taken a words m same matches kinds) [
+pub taken_check : (a : App) (words : List Text) (m : ArgMatches) → a ≡ once_app → HasMatchesOf a words m → (is_simple_and_free a ≡ true → fault_of a words ≡ []) → subcommand_name_of m ≡ Some (codes "check") → IsCheck words m
+taken_check a words m same matches kinds name = elim (taken a words m same matches kinds) [
+  | inl t ↦ absurd (other_name (codes "replay") (codes "check") 3 replay_rows words m t name refl)
+  | inr (inl t) ↦ absurd (other_name (codes "collect") (codes "check") 2 collect_rows words m t name refl)
+  | inr (inr t) ↦ t
+]
+
+pub taken_replay : (a : App) (words : List Text) (m : ArgMatches) → a ≡ once_app → HasMatchesOf a words m → (is_simple_and_free a ≡ true → fault_of a words ≡ []) → (subcommand_name_of m ≡ Some (codes "collect") → ⊥)
+    → (subcommand_name_of m ≡ Some (codes "check") → ⊥) → IsReplay words m
+taken_replay a words m same matches kinds collect check = elim (taken a words m same matches kinds) [
   | inl t ↦ t
-  | inr t ↦ absurd (other (taken_name (codes "collect") 2 collect_rows words m t))
+  | inr (inl t) ↦ absurd (collect (taken_name (codes "collect") 2 collect_rows words m t))
+  | inr (inr t) ↦ absurd (check (taken_name (codes "check") 3 check_rows words m t))
 ]
 
 pub replay_name : (words : List Text) (m : ArgMatches) → IsReplay words m → subcommand_name_of m ≡ Some (codes "replay")
@@ -319,30 +397,35 @@ replay_name words m t = taken_name (codes "replay") 3 replay_rows words m t
 value_by : (found : Found) (id name : Text) (rows : List Row) → rows_of found ≡ rows → first_of id rows ≡ Some name → first_value found id ≡ Some name
 value_by found id name rows same is = first_value-rows found id ∙ ap (first_of id) same ∙ is
 
--- the values of a replay's three names
-pub record HasReplay (words : List Text) (found : Found) : Type 0 where
+-- the values of the three names of a command over documents
+pub record HasDocuments (command third : Text) (words : List Text) (found : Found) : Type 0 where
   pub network : Text
   pub traffic : Text
-  pub run : Text
-  pub named : NamesFiles words (codes "replay") (network ∷ traffic ∷ run ∷ [])
+  pub last : Text
+  pub named : NamesFiles words command (network ∷ traffic ∷ last ∷ [])
   pub network_is : first_value found (codes "NETWORK") ≡ Some network
   pub traffic_is : first_value found (codes "TRAFFIC") ≡ Some traffic
-  pub run_is : first_value found (codes "RUN") ≡ Some run
+  pub last_is : first_value found third ≡ Some last
 
-replay_of : (words : List Text) (found : Found) (files : List Text) → length files ≡ 3 → NamesFiles words (codes "replay") files → rows_of found ≡ replay_rows files → HasReplay words found
-replay_of words found [] all named rows = absurd (omega (arith, all))
-replay_of words found (a ∷ []) all named rows = absurd (omega (arith, all))
-replay_of words found (a ∷ b ∷ []) all named rows = absurd (omega (arith, all))
-replay_of words found (a ∷ b ∷ c ∷ []) all named rows = record {
+-- the rows of three files say each of them
+abbrev HasThird : Text → Type 0
+HasThird third = (a b c : Text) → first_of third (document_rows third (a ∷ b ∷ c ∷ [])) ≡ Some c
+
+documents_of : (command third : Text) (words : List Text) (found : Found) (files : List Text) → HasThird third → length files ≡ 3 → NamesFiles words command files → rows_of found ≡ document_rows third files
+    → HasDocuments command third words found
+documents_of command third words found [] has all named rows = absurd (omega (arith, all))
+documents_of command third words found (a ∷ []) has all named rows = absurd (omega (arith, all))
+documents_of command third words found (a ∷ b ∷ []) has all named rows = absurd (omega (arith, all))
+documents_of command third words found (a ∷ b ∷ c ∷ []) has all named rows = record {
   network = a;
   traffic = b;
-  run = c;
+  last = c;
   named = named;
-  network_is = value_by found (codes "NETWORK") a (replay_rows (a ∷ b ∷ c ∷ [])) rows refl;
-  traffic_is = value_by found (codes "TRAFFIC") b (replay_rows (a ∷ b ∷ c ∷ [])) rows refl;
-  run_is = value_by found (codes "RUN") c (replay_rows (a ∷ b ∷ c ∷ [])) rows refl;
+  network_is = value_by found (codes "NETWORK") a (document_rows third (a ∷ b ∷ c ∷ [])) rows refl;
+  traffic_is = value_by found (codes "TRAFFIC") b (document_rows third (a ∷ b ∷ c ∷ [])) rows refl;
+  last_is = value_by found third c (document_rows third (a ∷ b ∷ c ∷ [])) rows (has a b c);
 }
-replay_of words found (a ∷ b ∷ c ∷ d ∷ others) all named rows = absurd (omega (arith, all))
+documents_of command third words found (a ∷ b ∷ c ∷ d ∷ others) has all named rows = absurd (omega (arith, all))
 
 -- the values of a collection's two names
 pub record HasCollect (words : List Text) (found : Found) : Type 0 where
@@ -368,8 +451,17 @@ same_rows : (name : Text) (count : ℕ) (rows : List Text → List Row) (words :
     → option_map (λ p. p.1) (subcommand_rows_of m) ≡ Some (rows_of found) → rows_of found ≡ rows t.files
 same_rows name count rows words m found t e = ap (λ (o : Option (List Row)). unwrap_or o (rows t.files)) (sym e ∙ ap (option_map (λ p. p.1)) t.entered)
 
+abbrev pub HasReplay : List Text → Found → Type 0
+HasReplay words found = HasDocuments (codes "replay") (codes "RUN") words found
+
+abbrev pub HasCheck : List Text → Found → Type 0
+HasCheck words found = HasDocuments (codes "check") (codes "CERTIFICATE") words found
+
 pub has_replay : (words : List Text) (m : ArgMatches) (found : Found) → IsReplay words m → option_map (λ p. p.1) (subcommand_rows_of m) ≡ Some (rows_of found) → HasReplay words found
-has_replay words m found t e = replay_of words found t.files t.count_is t.named (same_rows (codes "replay") 3 replay_rows words m found t e)
+has_replay words m found t e = documents_of (codes "replay") (codes "RUN") words found t.files (λ a b c. refl) t.count_is t.named (same_rows (codes "replay") 3 replay_rows words m found t e)
+
+pub has_check : (words : List Text) (m : ArgMatches) (found : Found) → IsCheck words m → option_map (λ p. p.1) (subcommand_rows_of m) ≡ Some (rows_of found) → HasCheck words found
+has_check words m found t e = documents_of (codes "check") (codes "CERTIFICATE") words found t.files (λ a b c. refl) t.count_is t.named (same_rows (codes "check") 3 check_rows words m found t e)
 
 pub has_collect : (words : List Text) (m : ArgMatches) (found : Found) → IsCollect words m → option_map (λ p. p.1) (subcommand_rows_of m) ≡ Some (rows_of found) → HasCollect words found
 has_collect words m found t e = collect_of words found t.files t.count_is t.named (same_rows (codes "collect") 2 collect_rows words m found t e)
@@ -384,14 +476,14 @@ pub if_some : {X : Type 0} (o : Option X) (x : X) (P : X → Type 0) → o ≡ S
 if_some o x P is h = subst (λ v. IfSome v P) is h
 
 -- the words name the values that are there
-pub with_replay : (words : List Text) (found : Found) → HasReplay words found → (network traffic run : Text) → first_value found (codes "NETWORK") ≡ Some network
-    → first_value found (codes "TRAFFIC") ≡ Some traffic → first_value found (codes "RUN") ≡ Some run
-    → NamesFiles words (codes "replay") (network ∷ traffic ∷ run ∷ [])
-with_replay words found f network traffic run n t r =
-    subst (NamesFiles words (codes "replay"))
+pub with_documents : (command third : Text) (words : List Text) (found : Found) → HasDocuments command third words found → (network traffic last : Text) → first_value found (codes "NETWORK") ≡ Some network
+    → first_value found (codes "TRAFFIC") ≡ Some traffic → first_value found third ≡ Some last
+    → NamesFiles words command (network ∷ traffic ∷ last ∷ [])
+with_documents command third words found f network traffic last n t l =
+    subst (NamesFiles words command)
     (λ i. same_file found (codes "NETWORK") network f.network f.network_is n i
     ∷ same_file found (codes "TRAFFIC") traffic f.traffic f.traffic_is t i
-    ∷ same_file found (codes "RUN") run f.run f.run_is r i ∷ [])
+    ∷ same_file found third last f.last f.last_is l i ∷ [])
     f.named
 
 pub with_collect : (words : List Text) (found : Found) → HasCollect words found → (network stream : Text) → first_value found (codes "NETWORK") ≡ Some network

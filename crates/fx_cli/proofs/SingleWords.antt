@@ -50,6 +50,9 @@ replay = first_of (built once_app).subs
 abbrev pub collect : Shape
 collect = first_of (behind_first (built once_app).subs)
 
+abbrev pub check : Shape
+check = first_of (behind_first (behind_first (built once_app).subs))
+
 -- ---- flags: help is answered with an error too, and no other is known
 
 abbrev pub help : Rule
@@ -85,6 +88,13 @@ collect_knows = record {
   again = refl;
   long = λ name v h. long_fails collect.rules (bytes_eq (codes "help") name || false) v h;
   short = λ x rest h next. short_fails collect.rules (104 == x || false) rest h next;
+}
+
+pub check_knows : KnowsHelp check
+check_knows = record {
+  again = refl;
+  long = λ name v h. long_fails check.rules (bytes_eq (codes "help") name || false) v h;
+  short = λ x rest h next. short_fails check.rules (104 == x || false) rest h next;
 }
 
 pub top_knows : KnowsHelp top

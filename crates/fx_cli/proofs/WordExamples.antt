@@ -27,6 +27,10 @@ a_stream_call_has_no_fault : fault_of once_app (codes "once" ∷ codes "collect"
 unfolding clap_on_literals
 a_stream_call_has_no_fault = refl
 
+a_certificate_call_has_no_fault : fault_of once_app (codes "once" ∷ codes "check" ∷ codes "a" ∷ codes "b" ∷ codes "c" ∷ []) ≡ []
+unfolding clap_on_literals
+a_certificate_call_has_no_fault = refl
+
 -- help is asked for by a flag or as a command
 help_flag : fault_of once_app (codes "once" ∷ codes "--help" ∷ []) ≡ DisplayHelp ∷ []
 unfolding clap_on_literals

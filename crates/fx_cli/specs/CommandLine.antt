@@ -21,4 +21,5 @@ abbrev pub once_app : App
 once_app =
     let replay = over_documents (codes "replay") (file_rule (codes "RUN")) in
     let collect = over_network (codes "collect") (file_rule (codes "STREAM")) in
-    with_subcommand (with_subcommand (on_top wants_command (new_app (codes "once"))) replay.top) collect.top
+    let check = over_documents (codes "check") (file_rule (codes "CERTIFICATE")) in
+    with_subcommand (with_subcommand (with_subcommand (on_top wants_command (new_app (codes "once"))) replay.top) collect.top) check.top

@@ -1,10 +1,9 @@
 //! A command, from its words to its exit status.
 ghost use Rattle.std.specs.Prelude.{◌≡◌, ◌⊎◌, ℕ, ◌≤◌, IfErr, IfOk, length, map, string_bytes, false};
-ghost use Rattle.fx_audit.specs.declared.answer.Answer.TheVariants.{Yes};
 ghost use Rattle.fx_base.specs.Fault.{fault_at};
 ghost use Rattle.fx_base.specs.declared.fault.Place.TheVariants as places;
 ghost use Rattle.fx_cli.specs.Ending.{IsExitStatus};
-ghost use Rattle.fx_cli.specs.Running.{IsCallStatus};
+ghost use Rattle.fx_cli.specs.Running.{IsAnswerOf, IsCallStatus};
 ghost use Rattle.fx_cli.specs.Words.{Names, NamesNoCall};
 ghost use Rattle.fx_cli.specs.declared.words.Call.{Call};
 ghost use Rattle.fx_cli.specs.WordsEnding.{IsWordsStatus};
@@ -13,7 +12,7 @@ use crate::ending::finish;
 use crate::files::open;
 use crate::words::{Call, read_words};
 use crate::words_ending::{finish_unread, finish_words};
-use fx_audit::{Answer, bundle_bytes, collect_bytes, replay_bytes};
+use fx_audit::{Answer, bundle_bytes, check_bytes, collect_bytes, replay_bytes};
 use fx_base::{Fault, LineReader, Outside, Sink};
 use std::env;
 use std::io::{self, BufWriter, Write};
@@ -30,7 +29,7 @@ pub(crate) fn answer_call<R: AllocGlobal + Files, S: Sink>(
     call: &Call,
     sink: &mut S,
 ) -> Result<Answer, Fault>
-    ensures ok { IfOk result (λ answer. answer ≡ Yes) }
+    ensures ok { IfOk result (IsAnswerOf call.now) }
     ensures quiet { IfErr result (λ e. (e ≡ fault_at 902 places.None) ⊎ (S.taken sink.new ≡ S.taken sink.old)) }
 {
     match call {
@@ -49,6 +48,17 @@ pub(crate) fn answer_call<R: AllocGlobal + Files, S: Sink>(
             let mut network = open(rt, network.as_str())?;
             let mut stream = open(rt, stream.as_str())?;
             collect_bytes(rt.alloc(), &mut network, &mut stream, sink)
+        }
+        Call::Check {
+            network,
+            traffic,
+            certificate,
+        } => {
+            let mut network = open(rt, network.as_str())?;
+            let mut traffic = open(rt, traffic.as_str())?;
+            let certificate = open(rt, certificate.as_str())?;
+            let mut lines = LineReader::new(rt.alloc(), certificate)?;
+            check_bytes(rt.alloc(), &mut network, &mut traffic, &mut lines, sink)
         }
     }
 }

@@ -1,8 +1,9 @@
 //! The words of the command line.
-ghost use Rattle.std.specs.Prelude.{◌≡◌, ◌⊎◌, IfErr, IfOk, IsSome, MatchResult, false, map, Some, string_bytes};
-ghost use Rattle.clap.specs.Words.{app_of, fault_of, first_value, found_of, HasKind, kind_of, rule_of};
+ghost use Rattle.std.specs.Prelude.{◌≡◌, ◌⊎◌, IfErr, IfOk, IsSome, MatchResult, codes, false, map, Some, string_bytes};
+ghost use Rattle.clap.specs.Simple.{on_top};
+ghost use Rattle.clap.specs.Words.{app_of, fault_of, first_value, found_of, HasKind, kind_of, new_app, rule_of};
 ghost use Rattle.clap.specs.declared.builder.command.Command.TheViews.{out-Command};
-ghost use Rattle.fx_cli.specs.CommandLine.{file_rule, once_app, over_documents, over_network};
+ghost use Rattle.fx_cli.specs.CommandLine.{file_rule, once_app, over_documents, over_network, wants_command};
 ghost use Rattle.fx_cli.specs.Words.{Names, NamesNoCall};
 
 use clap::error::ErrorKind;
@@ -27,6 +28,15 @@ pub enum Call {
         network: String,
         /// The IPFIX stream.
         stream: String,
+    },
+    /// Checks a certificate of a network over declared traffic.
+    Check {
+        /// The network document.
+        network: String,
+        /// The traffic declaration.
+        traffic: String,
+        /// The certificate's text.
+        certificate: String,
     },
 }
 
@@ -76,32 +86,71 @@ fn over_network<'a>(
         .arg(second)
 }
 
-/// The program's command line.
-fn command_line<'a>(alloc: Global) -> Result<Command<'a>, AllocError>
-    ensures { IfOk result (λ c. app_of c ≡ once_app) }
+/// The command `replay`.
+fn replay_command<'a>(alloc: Global) -> Result<Command<'a>, AllocError>
+    ensures app { IfOk result (λ c. app_of c ≡ over_documents (codes "replay") (file_rule (codes "RUN"))) }
+    ensures local { IfOk result (λ c. (out-Command c).has_globals ≡ false) }
 {
     let run = file(alloc, "RUN", "The text of a run");
-    let replay = over_documents(
+    over_documents(
         alloc,
         "replay",
         "Replays a run, and prints the collector's totals in its last state",
         run,
-    )?;
+    )
+}
+
+/// The command `collect`.
+fn collect_command<'a>(alloc: Global) -> Result<Command<'a>, AllocError>
+    ensures app { IfOk result (λ c. app_of c ≡ over_network (codes "collect") (file_rule (codes "STREAM"))) }
+    ensures local { IfOk result (λ c. (out-Command c).has_globals ≡ false) }
+{
     let stream = file(alloc, "STREAM", "The IPFIX stream (messages in octets)");
-    let collect = over_network(
+    over_network(
         alloc,
         "collect",
         "Collects an IPFIX stream, and prints the totals of its flow records",
         stream,
-    )?;
+    )
+}
+
+/// The command `check`.
+fn check_command<'a>(alloc: Global) -> Result<Command<'a>, AllocError>
+    ensures app { IfOk result (λ c. app_of c ≡ over_documents (codes "check") (file_rule (codes "CERTIFICATE"))) }
+    ensures local { IfOk result (λ c. (out-Command c).has_globals ≡ false) }
+{
+    let certificate = file(alloc, "CERTIFICATE", "The text of a certificate");
+    over_documents(
+        alloc,
+        "check",
+        "Checks a certificate that the collector's totals count every packet exactly once",
+        certificate,
+    )
+}
+
+/// The program, before its commands are added.
+fn program<'a>(alloc: Global) -> Command<'a>
+    ensures { app_of result ≡ on_top wants_command (new_app (codes "once")) }
+{
     Command::new(alloc, "once")
         .about("An auditor for IP flow metering")
         .after_help(
             "With no words, a bundle (a command and its files in one text) is read from standard input.",
         )
         .subcommand_required(true)
+}
+
+/// The program's command line.
+fn command_line<'a>(alloc: Global) -> Result<Command<'a>, AllocError>
+    ensures { IfOk result (λ c. app_of c ≡ once_app) }
+{
+    let replay = replay_command(alloc)?;
+    let collect = collect_command(alloc)?;
+    let check = check_command(alloc)?;
+    program(alloc)
         .subcommand(replay)?
-        .subcommand(collect)
+        .subcommand(collect)?
+        .subcommand(check)
 }
 
 /// The name of a file that the words give.
@@ -122,16 +171,23 @@ pub fn read_words(alloc: Global, words: &[String]) -> Result<Call, Error>
     ensures kinds { IfErr result (HasKind (fault_of once_app (map string_bytes words.now))) }
 {
     let matches = command_line(alloc)?.try_get_matches_from(words)?;
-    if let Some(found) = matches.subcommand_matches("collect") {
+    if let Some(collect) = matches.subcommand_matches("collect") {
         return Ok(Call::Collect {
-            network: file_name(alloc, found, "NETWORK")?,
-            stream: file_name(alloc, found, "STREAM")?,
+            network: file_name(alloc, collect, "NETWORK")?,
+            stream: file_name(alloc, collect, "STREAM")?,
         });
     }
-    let found = matches.subcommand_matches("replay").unwrap();
+    if let Some(check) = matches.subcommand_matches("check") {
+        return Ok(Call::Check {
+            network: file_name(alloc, check, "NETWORK")?,
+            traffic: file_name(alloc, check, "TRAFFIC")?,
+            certificate: file_name(alloc, check, "CERTIFICATE")?,
+        });
+    }
+    let replay = matches.subcommand_matches("replay").unwrap();
     Ok(Call::Replay {
-        network: file_name(alloc, found, "NETWORK")?,
-        traffic: file_name(alloc, found, "TRAFFIC")?,
-        run: file_name(alloc, found, "RUN")?,
+        network: file_name(alloc, replay, "NETWORK")?,
+        traffic: file_name(alloc, replay, "TRAFFIC")?,
+        run: file_name(alloc, replay, "RUN")?,
     })
 }

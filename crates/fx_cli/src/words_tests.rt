@@ -29,6 +29,11 @@ fn files(alloc: Global, line: &str) -> Result<String, AllocError> {
             run,
         } => format!(in alloc; "|{network}|{traffic}|{run}"),
         Call::Collect { network, stream } => format!(in alloc; "|{network}|{stream}"),
+        Call::Check {
+            network,
+            traffic,
+            certificate,
+        } => format!(in alloc; "|{network}|{traffic}|{certificate}"),
     }
 }
 
@@ -59,6 +64,26 @@ fn reads_words(rt: HostRuntime) -> Result<(), Fail> {
 }
 
 #[test]
+fn reads_words_of_check(rt: HostRuntime) -> Result<(), Fail> {
+    let alloc = rt.alloc();
+    let words = words(alloc, "once check net.json traffic.json cert.txt")?;
+    let Ok(
+        Call::Check {
+            network,
+            traffic,
+            certificate,
+        },
+    ) = read_words(alloc, words.as_slice())
+    else {
+        return Err(Fail::from("a check"));
+    };
+    assert!(rt; network.as_str() == "net.json");
+    assert!(rt; traffic.as_str() == "traffic.json");
+    assert!(rt; certificate.as_str() == "cert.txt");
+    Ok(())
+}
+
+#[test]
 fn ends_words_that_name_no_call(rt: HostRuntime) -> Result<(), Fail> {
     let alloc = rt.alloc();
     assert!(rt; ends_words(alloc, "once --help")? == Some((0, true)));
@@ -69,6 +94,7 @@ fn ends_words_that_name_no_call(rt: HostRuntime) -> Result<(), Fail> {
     assert!(rt; ends_words(alloc, "once replay a b c d")? == Some((6, true)));
     assert!(rt; ends_words(alloc, "once replay a -x c")? == Some((6, true)));
     assert!(rt; ends_words(alloc, "once collect a b c")? == Some((6, true)));
+    assert!(rt; ends_words(alloc, "once check a b")? == Some((6, true)));
     Ok(())
 }
 
@@ -145,6 +171,30 @@ fn collect_refusal(rt: &HostRuntime, network: &str, stream: &str) -> Result<u16,
 fn opens_both_files_first(rt: HostRuntime) -> Result<(), Fail> {
     assert_eq!(rt; collect_refusal(&rt, "/dev/null", "/dev/null")?, 101);
     assert_eq!(rt; collect_refusal(&rt, "/dev/null", "/dev/null/none")?, 901);
+    Ok(())
+}
+
+/// The number of the refusal of a check of these files.
+fn check_refusal(rt: &HostRuntime, traffic: &str, certificate: &str) -> Result<u16, AllocError> {
+    let alloc = rt.alloc();
+    let call = Call::Check {
+        network: String::from_str(alloc, "/dev/null")?,
+        traffic: String::from_str(alloc, traffic)?,
+        certificate: String::from_str(alloc, certificate)?,
+    };
+    let mut octets = [0u8; 64];
+    let mut room = Room::new(&mut octets);
+    Ok(match answer_call(rt, &call, &mut room) {
+        Ok(_) => 0,
+        Err(fault) => fault.number,
+    })
+}
+
+#[test]
+fn opens_the_certificate_first(rt: HostRuntime) -> Result<(), Fail> {
+    assert_eq!(rt; check_refusal(&rt, "/dev/null", "/dev/null")?, 101);
+    assert_eq!(rt; check_refusal(&rt, "/dev/null", "/dev/null/none")?, 901);
+    assert_eq!(rt; check_refusal(&rt, "/dev/null/none", "/dev/null")?, 901);
     Ok(())
 }
 
