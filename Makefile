@@ -25,11 +25,15 @@ replay: once
 rows: once
 	python3 tests/rows.py ./once
 
-# Replays the runs of the examples and compares with what they should print.
+# Replays the runs of the examples and checks their certificates, and compares with what they should print.
 examples: once
 	for run in examples/*/run*.txt; do \
 	  example=$$(dirname $$run); \
 	  ./once replay $$example/network.json $$example/traffic.json $$run | diff - $$example/totals$${run##*/run} || exit 1; \
+	done
+	for certificate in examples/*/certificate*.txt; do \
+	  example=$$(dirname $$certificate); \
+	  ./once check $$example/network.json $$example/traffic.json $$certificate | diff - $$example/answer$${certificate##*/certificate} || exit 1; \
 	done
 
 clean:
