@@ -1,8 +1,9 @@
 -- What a collector has counted.
-use Rattle.std.specs.Prelude.{ℕ, ◌+◌, ◌%◌, ◌^◌, List, [], ◌∷◌, map, All, Option, Some, None, if◌then◌else◌}
+use Rattle.std.specs.Prelude.{◌≡◌, ℕ, ◌+◌, ◌%◌, ◌^◌, false, List, [], ◌∷◌, map, length, All, Option, Some, None, if◌then◌else◌}
+use Rattle.std.specs.List.{AllByRecursion}
 use Rattle.fx_base.specs.declared.counts.Counts.{Counts}
 use Rattle.fx_base.specs.Counts.{add_counts}
-use Rattle.fx_layout.specs.Keys.{Layout, HasBits, refines, project}
+use Rattle.fx_layout.specs.Keys.{Layout, Key, HasBits, refines, project, same_key}
 use Rattle.fx_machine.specs.declared.record.Record.{Record}
 use Rattle.fx_machine.specs.States.{State, add_at}
 
@@ -27,9 +28,29 @@ abbrev pub with_records : Totals → List Record → Totals
 with_records t [] = t
 with_records t (r ∷ rs) = with_records (with_record t r) rs
 
--- what a network in this state has counted
+-- what a network in this state has counted, told record by record
 abbrev pub totals_of : Layout → State → Totals
 totals_of layout s = record (with_records (nothing layout) s.totals) { unassigned = s.unassigned }
+
+-- the same as it stands in the state
+abbrev pub totals_in : Layout → State → Totals
+totals_in layout s = record { layout = layout; entries = s.totals; unassigned = s.unassigned }
+
+-- ---- the records of a table of totals
+
+-- a key under the layout
+abbrev pub IsUnder : Layout → Key → Type 0
+IsUnder layout key = (key.layout ≡ layout) × (length key.values ≡ length layout)
+
+-- no two have one key
+abbrev pub Differ : List Record → Type 0
+Differ [] = Unit {0}
+Differ (r ∷ rs) = AllByRecursion (λ other. same_key r.key other.key ≡ false) rs × Differ rs
+
+-- each has a key of its own, under the layout
+pub record IsTable (layout : Layout) (rs : List Record) : Type 0 where
+  pub under : AllByRecursion (λ r. IsUnder layout r.key) rs
+  pub differ : Differ rs
 
 -- ---- what is kept: values and counts
 

@@ -1,0 +1,24 @@
+-- The totals of a run.
+use Rattle.std.specs.Prelude.{◌≡◌, List, Ok}
+use Rattle.fx_layout.specs.Keys.{IsLayout}
+use Rattle.fx_machine.specs.declared.packet.Packet.{Packet}
+use Rattle.fx_machine.specs.declared.step.Step.{Step}
+use Rattle.fx_machine.specs.Network.{Net}
+use Rattle.fx_machine.specs.Classes.{Class}
+use Rattle.fx_machine.specs.States.{State, opening, told}
+use Rattle.fx_machine.specs.Steps.{run}
+use Rattle.fx_collect.specs.Totals.{IsTable, totals_of, totals_in}
+
+-- a fact of each run's last state
+abbrev pub AfterRuns : (Net → State → Type 0) → Type 0
+AfterRuns P =
+    (net : Net) (classes : List Class) (packets : List Packet) (steps : List Step) (last : State) → run net classes packets steps (opening net classes packets) ≡ Ok last → P net last
+
+-- under the report's layout its totals have each key once
+abbrev pub HasTable : Net → State → Type 0
+HasTable net last = IsTable net.report_layout last.totals
+
+-- what is told of it are its own totals
+abbrev pub IsToldAsItIs : Net → State → Type 0
+IsToldAsItIs net last =
+    IsLayout net.report_layout → totals_of net.report_layout (told last) ≡ totals_in net.report_layout (told last)
