@@ -1,7 +1,6 @@
 pub mod Commands
 pub mod Documents
 pub mod Marks
-pub mod Layouts
 pub mod Replays
 pub mod Streams
 pub mod Collects

@@ -1,5 +1,6 @@
 -- A run that was replayed step by step.
-use Rattle.std.proofs.Common.{◌≡◌, ℕ, List, Ok, refl, ap, ◌∙◌, subst}
+use Rattle.std.proofs.Common.{◌≡◌, ℕ, List, Ok, refl, sym, ap, ◌∙◌, subst}
+use Rattle.fx_layout.specs.Keys.{IsLayout}
 use Rattle.fx_machine.specs.Network.{Net}
 use Rattle.fx_machine.specs.Classes.{Class}
 use Rattle.fx_machine.specs.declared.packet.Packet.{Packet}
@@ -7,6 +8,8 @@ use Rattle.fx_machine.specs.declared.step.Step.{Step}
 use Rattle.fx_machine.specs.States.{State, opening, told}
 use Rattle.fx_machine.specs.Steps.{run}
 use Rattle.fx_machine.specs.Stores.{Running}
+use Rattle.fx_collect.specs.Totals.{totals_of, totals_in}
+use Rattle.fx_collect.proofs.Runs.{run_retold}
 use Rattle.fx_audit.specs.Replay.{IsTextOf}
 
 abbrev pub Along : Running → Running → List Step → Type 0
@@ -18,6 +21,21 @@ Replayed net classes packets steps W =
 
 abbrev begun : Net → List Class → List Packet → Running
 begun net classes packets = record { net = net; classes = classes; packets = packets; state = opening net classes packets }
+
+-- what a run's last state tells are its own totals
+abbrev TellsItsOwn : Running → Type 0
+TellsItsOwn r = totals_of r.net.report_layout r.state ≡ totals_in r.net.report_layout r.state
+
+own_from_opening : (net : Net) (classes : List Class) (packets : List Packet) (steps : List Step) (new : Running) → IsLayout net.report_layout → Along (begun net classes packets) new steps → new.net ≡ net → TellsItsOwn new
+own_from_opening net classes packets steps new l along same =
+    let end = along (opening net classes packets) refl in
+    let here : totals_of net.report_layout (told end.0) ≡ totals_in net.report_layout (told end.0) = run_retold net classes packets steps end.0 l end.1 in
+    let there : totals_of net.report_layout new.state ≡ totals_in net.report_layout new.state = subst (λ (s : State). totals_of net.report_layout s ≡ totals_in net.report_layout s) (sym end.2) here in
+    subst (λ (n : Net). totals_of n.report_layout new.state ≡ totals_in n.report_layout new.state) (sym same) there
+
+pub tells_its_own : (net : Net) (classes : List Class) (packets : List Packet) (steps : List Step) (old new : Running) → IsLayout net.report_layout → old ≡ begun net classes packets → Along old new steps → new.net ≡ old.net → TellsItsOwn new
+tells_its_own net classes packets steps old new l eo along same =
+    own_from_opening net classes packets steps new l (subst (λ (r : Running). Along r new steps) eo along) (same ∙ ap (λ (r : Running). r.net) eo)
 
 from_opening : (net : Net) (classes : List Class) (packets : List Packet) (steps : List Step) (new : Running) (text : List ℕ) (W : List ℕ → Type 0) → Along (begun net classes packets) new steps → new.net ≡ net → IsTextOf new.net.report_layout new.state text → W text → Replayed net classes packets steps W
 from_opening net classes packets steps new text W along same is w =

@@ -9,7 +9,7 @@ use Rattle.fx_machine.specs.Classes.{Class, IsOf}
 use Rattle.fx_machine.specs.States.{State, Complete, opening}
 use Rattle.fx_machine.specs.Steps.{run}
 use Rattle.fx_machine.specs.RunText.{Run}
-use Rattle.fx_collect.specs.Totals.{Totals, totals_of}
+use Rattle.fx_collect.specs.Totals.{Totals}
 use Rattle.fx_collect.specs.Report.{Ascends, totals_text}
 
 abbrev pub complete_line : Bool → List ℕ
@@ -19,7 +19,7 @@ complete_line false = codes "complete no" ++ 10 ∷ []
 -- the text of a state: its totals with their keys in ascending order, and a line that says whether it is complete
 pub record IsTextOf (layout : Layout) (s : State) (text : List ℕ) : Type 0 where
   pub totals : Totals
-  pub entries : IsPermutation (totals_of layout s).entries totals.entries
+  pub entries : IsPermutation s.totals totals.entries
   pub ascending : Ascends totals.entries
   pub layout_is : totals.layout ≡ layout
   pub unassigned : totals.unassigned ≡ s.unassigned

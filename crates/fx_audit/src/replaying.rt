@@ -3,9 +3,10 @@ ghost use Rattle.std.specs.Prelude.{◌≡◌, ◌⊎◌, ℕ, List, None, Ok, E
 ghost use Rattle.fx_base.specs.Device.{Writes};
 ghost use Rattle.fx_base.specs.Fault.{fault_at};
 ghost use Rattle.fx_base.specs.declared.fault.Place.TheVariants as places;
+ghost use Rattle.fx_layout.specs.Keys.{IsLayout};
 ghost use Rattle.fx_machine.specs.States as states;
 ghost use Rattle.fx_machine.specs.Steps as stepping;
-ghost use Rattle.fx_collect.specs.Totals.{totals_of};
+ghost use Rattle.fx_collect.specs.Totals.{totals_of, totals_in};
 ghost use Rattle.fx_collect.specs.Report.{totals_text, Ascends};
 ghost use Rattle.fx_audit.specs.Replay.{complete_line, IsRefused, IsTextOf};
 ghost use Rattle.fx_audit.specs.declared.answer.Answer.TheVariants.{Yes};
@@ -43,11 +44,19 @@ fn put_complete<S: Sink>(sink: &mut S, complete: bool) -> Result<(), Fault>
     }
 }
 
-/// Writes the text of a state: the totals of its report with their keys in ascending order, and whether it is
-/// complete. Nothing is written before all that takes memory is done.
+/// A network's report has a layout.
+fn has_layout(net: &Net)
+    ensures { IsLayout net.now.report_layout }
+{
+    let _parts = net.report_layout().parts();
+}
+
+/// Writes the text of a state that a run has come to: the totals of its report with their keys in ascending order,
+/// and whether it is complete. Nothing is written before all that takes memory is done.
 ///
 /// Fails with 900 for want of memory and with 902 where a write fails, each at no place.
 fn put_state<S: Sink>(alloc: Global, state: &State<'_>, sink: &mut S) -> Result<(), Fault>
+    requires own { totals_of state.now.net.report_layout state.now.state ≡ totals_in state.now.net.report_layout state.now.state }
     ensures ok { OnOk result ((text : List ℕ) × IsTextOf state.now.net.report_layout state.now.state text × Writes (S.taken sink.old) (S.taken sink.new) text) }
     ensures err { IfErr result (λ e. (e ≡ fault_at 900 places.None) ⊎ ((e ≡ fault_at 902 places.None) × (S.failed sink.new ≡ true))) }
     ensures quiet { IfErr result (λ e. (e ≡ fault_at 902 places.None) ⊎ (S.taken sink.new ≡ S.taken sink.old)) }
@@ -80,6 +89,7 @@ pub fn replay<S: Sink>(
     let (packets, steps) = run.into_parts();
     let mut state = State::open(alloc, net, classes, packets)?;
     make_steps(&mut state, steps.as_slice())?;
+    has_layout(net);
     put_state(alloc, &state, sink)?;
     Ok(Answer::Yes)
 }

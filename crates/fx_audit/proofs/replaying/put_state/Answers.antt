@@ -1,24 +1,24 @@
 -- The text is that of the sorted totals and the line behind it.
-use Rattle.std.proofs.Common.{ℕ, List, ◌++◌, ◌∙◌, refl, ap, subst, IsPermutation}
+use Rattle.std.proofs.Common.{◌≡◌, ℕ, List, ◌++◌, ◌∙◌, refl, ap, subst, IsPermutation}
 use Rattle.indexmap.proofs.MapLemmas.{OnOk-map}
 use Rattle.fx_base.specs.Device.{Writes}
 use Rattle.fx_base.proofs.Writing.{writes_both}
-use Rattle.fx_collect.specs.Totals.{Totals, nothing}
+use Rattle.fx_collect.specs.Totals.{Totals, totals_in}
 use Rattle.fx_collect.specs.Report.{totals_text}
 use Rattle.fx_audit.specs.Replay.{complete_line, IsTextOf}
-use Rattle.fx_audit.proofs.Layouts.{all_keep}
 use Rattle.fx_audit.proofs.replaying.put_state.Goals as goal
 
 pub returns-clause-ok : goal.returns-clause-ok
 returns-clause-ok g c =
     let sorted = c.sort.new.self in
+    let own : c.in_ok-totals.totals ≡ totals_in c.args.state.now.net.report_layout c.args.state.now.state = c.in_ok-totals.ensures.ok ∙ c.requires.own in
     let text : List ℕ = totals_text sorted ++ complete_line c.complete.result in
     let is : IsTextOf c.args.state.now.net.report_layout c.args.state.now.state text = record {
       totals = sorted;
-      entries = subst (λ (t : Totals). IsPermutation t.entries sorted.entries) c.in_ok-totals.ensures.ok c.in_ok-sort.ensures.same.0;
+      entries = subst (λ (t : Totals). IsPermutation t.entries sorted.entries) own c.in_ok-sort.ensures.same.0;
       ascending = c.in_ok-sort.ensures.sorted;
-      layout_is = c.in_ok-sort.ensures.same.1 ∙ ap (λ (t : Totals). t.layout) c.in_ok-totals.ensures.ok ∙ all_keep (nothing c.args.state.now.net.report_layout) c.args.state.now.state.totals;
-      unassigned = c.in_ok-sort.ensures.same.2 ∙ ap (λ (t : Totals). t.unassigned) c.in_ok-totals.ensures.ok;
+      layout_is = c.in_ok-sort.ensures.same.1 ∙ ap (λ (t : Totals). t.layout) own;
+      unassigned = c.in_ok-sort.ensures.same.2 ∙ ap (λ (t : Totals). t.unassigned) own;
       complete = c.complete.result;
       is_complete = c.complete.ensures;
       text_is = refl;
