@@ -11,7 +11,7 @@ use Rattle.fx_plan.specs.declared.network.Network.{Network}
 use Rattle.fx_plan.specs.Tables.{net_of}
 use Rattle.fx_check.specs.Certificates.{IsCertificate}
 use Rattle.fx_check.specs.Outcomes.{refusal_of}
-use Rattle.fx_check.specs.Targets.{targets_of}
+use Rattle.fx_traffic.specs.Targets.{targets_of}
 use Rattle.fx_check.specs.Verdict.{Refusal}
 use Rattle.fx_audit.specs.declared.answer.Answer.{Answer}
 use Rattle.fx_audit.specs.declared.answer.Answer.TheVariants.{Yes, No, Unknown}

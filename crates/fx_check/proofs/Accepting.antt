@@ -14,7 +14,7 @@ use Rattle.fx_machine.specs.Ranks.{IsNetwork}
 use Rattle.fx_leaf.proofs.Headline as headline
 use Rattle.fx_check.specs.Judging.{Judge, judge_of}
 use Rattle.fx_check.specs.Outcomes.{Accepted}
-use Rattle.fx_check.specs.Targets.{targets_of, AreRegions}
+use Rattle.fx_traffic.specs.Targets.{targets_of, AreRegions}
 use Rattle.fx_check.specs.Verdict.{Goal, Line, Reading, long, cut, says, said, reading_of, after_reading, made_after, goes_on, first_refusal, whole, line_limit}
 use Rattle.fx_check.specs.Certificates.{IsCertificate, IsShallow, IsWritable, item_line, certificate_items, sizes, in_a_row}
 use Rattle.fx_check.proofs.Readings.{line_says}

@@ -13,7 +13,7 @@ use Rattle.fx_machine.specs.RunReading.{Fails}
 use Rattle.fx_check.specs.Certificates.{IsCertificate}
 use Rattle.fx_check.specs.Judging.{judge_of}
 use Rattle.fx_check.specs.Outcomes.{refusal_of, IsRefusal, Accepted}
-use Rattle.fx_check.specs.Targets.{targets_of, AreRegions}
+use Rattle.fx_traffic.specs.Targets.{targets_of, AreRegions}
 use Rattle.fx_check.specs.Verdict.{whole, first_refusal}
 use Rattle.fx_check.proofs.Accepting.{certificate_only, accepted_once}
 

@@ -2,7 +2,6 @@ pub mod Standing
 pub mod Readings
 pub mod Going
 pub mod Lent
-pub mod Listing
 pub mod Trees
 pub mod Sounding
 pub mod Accepting

@@ -17,7 +17,7 @@ use Rattle.fx_leaf.specs.Leaves.NoneIsSound.{cut, unassigned, differing, many, n
 use Rattle.fx_base.specs.Fault.{fault_at}
 use Rattle.fx_base.specs.declared.fault.Place.TheVariants as places
 use Rattle.fx_check.specs.Judging.{judge_of, same_leaf, sound_leaf, unless_same, IsWrong}
-use Rattle.fx_check.specs.Targets.{Target, targets_along, targets_from, targets_of, AreRegions}
+use Rattle.fx_traffic.specs.Targets.{Target, targets_along, targets_from, targets_of, AreRegions}
 use Rattle.fx_check.specs.Certificates.{IsShallow, AreFor, in_a_row}
 use Rattle.fx_check.proofs.Trees.{IsRight, AllRight}
 

@@ -9,7 +9,7 @@ use Rattle.fx_cert.specs.declared.item.Item.TheVariants as item
 use Rattle.fx_leaf.specs.declared.leaf.Counted.{Counted}
 use Rattle.fx_leaf.specs.Certificates.{Tree, Leaf, Split}
 use Rattle.fx_check.specs.Judging.{Judge}
-use Rattle.fx_check.specs.Targets.{Target}
+use Rattle.fx_traffic.specs.Targets.{Target}
 use Rattle.fx_check.specs.Verdict.{Goal, header, opening, tree, close, ahead, whole, line_limit, depth_limit, leaf_answer, split_answer, parts, after, made_by, Reading, long, cut, malformed, says, after_reading, made_after}
 use Rattle.fx_check.specs.Certificates.{tree_items, size, sizes, body_items, certificate_items}
 

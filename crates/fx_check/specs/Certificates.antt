@@ -7,7 +7,7 @@ use Rattle.fx_cert.specs.ItemText.{IsItem, item_text}
 use Rattle.fx_machine.specs.Classes.{Class}
 use Rattle.fx_machine.specs.Network.{Net}
 use Rattle.fx_leaf.specs.Certificates.{Tree, Leaf, Split, Sound}
-use Rattle.fx_check.specs.Targets.{Target, targets_of}
+use Rattle.fx_traffic.specs.Targets.{Target, targets_of}
 use Rattle.fx_check.specs.Verdict.{Line, line_limit, depth_limit}
 
 -- a split, then the tree of its lower part, then that of its upper part

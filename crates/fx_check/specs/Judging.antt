@@ -10,7 +10,7 @@ use Rattle.fx_leaf.specs.declared.leaf.Counted.{Counted}
 use Rattle.fx_leaf.specs.Leaves.{leaf_of, named, NoneIsSound}
 use Rattle.fx_leaf.specs.SoundLeaves.{SoundLeaf}
 use Rattle.fx_leaf.specs.Verdicts.{path_verdict, counted}
-use Rattle.fx_check.specs.Targets.{Target}
+use Rattle.fx_traffic.specs.Targets.{Target}
 
 -- the number of what is wrong with a leaf for a region of a target, if anything is
 abbrev pub Judge : Type 0

@@ -1,4 +1,3 @@
-pub mod Targets
 pub mod Judging
 pub mod Verdict
 pub mod Certificates

@@ -3,7 +3,7 @@ use Rattle.std.specs.Prelude.{◌≡◌, ℕ, ◌⊎◌, List, Option, Some, Non
 use Rattle.fx_base.specs.declared.fault.Fault.{Fault}
 use Rattle.fx_base.specs.Lines.{Lines, text_lines}
 use Rattle.fx_machine.specs.Network.{Net}
-use Rattle.fx_check.specs.Targets.{Target}
+use Rattle.fx_traffic.specs.Targets.{Target}
 use Rattle.fx_check.specs.Judging.{judge_of}
 use Rattle.fx_check.specs.Verdict.{Line, Refusal, whole, first_refusal, refusal_in}
 

@@ -1,6 +1,6 @@
 -- What a certificate still has to say where a checker stands.
 use Rattle.std.specs.Prelude.{◌≡◌, ℕ, ◌+◌, ◌<◌, ◌≤◌, List, [], ◌∷◌, length, drop, Result, Ok, Err}
-use Rattle.fx_check.specs.Targets.{Target}
+use Rattle.fx_traffic.specs.Targets.{Target}
 use Rattle.fx_check.specs.declared.stack.Waiting.{Waiting}
 use Rattle.fx_check.specs.declared.course.Course.{Course}
 use Rattle.fx_check.specs.declared.course.Stage.{Stage}

@@ -10,7 +10,7 @@ use Rattle.fx_boxes.specs.Boxes.{Bounds, below_part, above_part}
 use Rattle.fx_cert.specs.declared.item.Item.{Item}
 use Rattle.fx_cert.specs.declared.item.Item.TheVariants as item
 use Rattle.fx_cert.specs.ItemReading.{item_of}
-use Rattle.fx_check.specs.Targets.{Target}
+use Rattle.fx_traffic.specs.Targets.{Target}
 use Rattle.fx_check.specs.Judging.{Judge}
 
 -- ---- goals

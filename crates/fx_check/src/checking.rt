@@ -10,17 +10,15 @@ ghost use Rattle.fx_plan.specs.Tables.{net_of};
 ghost use Rattle.fx_check.specs.Certificates.{IsCertificate};
 ghost use Rattle.fx_check.specs.Outcomes.{refusal_of, IsRefusal, Accepted};
 ghost use Rattle.fx_check.specs.Standing.{goals, IsStanding};
-ghost use Rattle.fx_check.specs.Targets.{AreRegions, targets_of};
+ghost use Rattle.fx_traffic.specs.Targets.{AreRegions, targets_of};
 ghost use Rattle.fx_check.specs.Verdict.{whole};
 
 use crate::course::Course;
 use crate::tables::tables_of;
-use crate::targets::{Target, targets_of};
 use fx_base::{Fault, LineReader, Source};
 use fx_leaf::{Scratch, Tables};
-use fx_machine::Class;
 use fx_plan::Plan;
-use fx_traffic::Traffic;
+use fx_traffic::{Target, Traffic};
 use std::alloc::Global;
 
 /// Takes all lines, the first of which is a certificate's first.
@@ -54,16 +52,16 @@ fn take_lines<R: Source>(
 fn check_classes<R: Source>(
     alloc: Global,
     tables: &Tables<'_>,
-    classes: &[Class],
+    traffic: &Traffic,
     lines: &mut LineReader<R>,
 ) -> Result<(), Fault>
     requires tables { AreTables tables.now }
-    ensures ok { OnOk result (IfSome (refusal_of tables.now.net (targets_of classes.now) lines.old) (λ r. r ≡ None)) }
-    ensures accepted { OnOk result (Accepted tables.now.net (targets_of classes.now)) }
-    ensures regions { OnOk result (AreRegions (targets_of classes.now)) }
-    ensures err { IfErr result (λ e. ((e ≡ fault_at 900 places.None) × (lines.new ≡ lines.old)) ⊎ (Fails lines.old lines.new e ⊎ IfSome (refusal_of tables.now.net (targets_of classes.now) lines.old) (IsRefusal e lines.new))) }
+    ensures ok { OnOk result (IfSome (refusal_of tables.now.net (targets_of traffic.now) lines.old) (λ r. r ≡ None)) }
+    ensures accepted { OnOk result (Accepted tables.now.net (targets_of traffic.now)) }
+    ensures regions { OnOk result (AreRegions (targets_of traffic.now)) }
+    ensures err { IfErr result (λ e. ((e ≡ fault_at 900 places.None) × (lines.new ≡ lines.old)) ⊎ (Fails lines.old lines.new e ⊎ IfSome (refusal_of tables.now.net (targets_of traffic.now) lines.old) (IsRefusal e lines.new))) }
 {
-    let targets = targets_of(alloc, classes)?;
+    let targets = traffic.targets(alloc)?;
     let mut scratch = Scratch::new(alloc, tables)?;
     let mut course = Course::new(alloc)?;
     take_lines(&mut course, &mut scratch, tables, targets.as_slice(), lines)
@@ -98,5 +96,5 @@ pub fn check<R: Source>(
     ensures err { IfErr result (λ e. ((e ≡ fault_at 900 places.None) × (lines.new ≡ lines.old)) ⊎ (Fails lines.old lines.new e ⊎ IfSome (refusal_of (net_of plan.now) (targets_of traffic.now) lines.old) (IsRefusal e lines.new))) }
 {
     let tables = tables_of(plan);
-    check_classes(alloc, &tables, traffic.classes().as_slice(), lines)
+    check_classes(alloc, &tables, traffic, lines)
 }

@@ -10,12 +10,12 @@ ghost use Rattle.fx_check.specs.Verdict.{Goal, after, after_reading, split_answe
 
 use crate::judging::leaf_fault;
 use crate::stack::{Stack, Waiting};
-use crate::targets::Target;
 use fx_base::{Fault, Line};
 use fx_boxes::Region;
 use fx_cert::{Item, read_item};
 use fx_elements::Axis;
 use fx_leaf::{Counted, Scratch, Tables};
+use fx_traffic::Target;
 use std::alloc::{AllocError, Global};
 
 /// How many split and leaf lines a certificate may have.

@@ -3,9 +3,9 @@ ghost use Rattle.std.specs.Prelude.{◌≡◌, ◌≤◌, length};
 ghost use Rattle.fx_leaf.specs.Tables.{AreTables};
 ghost use Rattle.fx_check.specs.Judging as of_judging;
 
-use crate::targets::Target;
 use fx_boxes::Region;
 use fx_leaf::{Counted, Scratch, Tables, fate};
+use fx_traffic::Target;
 
 fn same_leaf(one: &Counted, other: &Counted) -> bool
     ensures { result ≡ of_judging.same_leaf one.now other.now }

@@ -7,7 +7,6 @@ mod judging;
 mod laws;
 mod stack;
 mod tables;
-mod targets;
 
 pub use checking::check;
 pub use laws::{certificates_are_accepted, certificates_count_once, wrong_leaves_are_told};

@@ -1,1 +1,2 @@
 mod Regions
+pub mod Listing

@@ -3,3 +3,4 @@ pub mod Lists
 pub mod Crossings
 pub mod Regions
 pub mod Classes
+pub mod Targets

@@ -7,9 +7,11 @@ mod limits;
 mod list;
 mod path;
 mod region;
+mod targets;
 mod text;
 mod traffic;
 
+pub use targets::Target;
 #[cfg(test)]
 use traffic::read_classes;
 pub use traffic::{Traffic, read_traffic};

@@ -271,3 +271,17 @@ fn refuses_crossings(rt: HostRuntime) -> Result<(), Fail> {
     }
     Ok(())
 }
+
+#[test]
+fn lists_the_paths_of_all_classes(rt: HostRuntime) -> Result<(), Fail> {
+    let text = r#"{"classes":[{"name":"a","paths":[[],[]]},{"name":"b","paths":[[]]}]}"#;
+    let traffic = read(rt.alloc(), text)??;
+    let targets = traffic.targets(rt.alloc())?;
+    let [first, second, third] = targets.as_slice() else {
+        return Err(Fail::from("three paths"));
+    };
+    assert!(rt; (first.class, first.path) == (1, 1));
+    assert!(rt; (second.class, second.path) == (1, 2));
+    assert!(rt; (third.class, third.path) == (2, 1));
+    Ok(())
+}

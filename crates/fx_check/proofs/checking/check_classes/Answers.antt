@@ -1,7 +1,7 @@
 use Rattle.std.proofs.Common.{List, ◌∙◌, IfSome, inr, subst, ◌⊎◌}
 use Rattle.fx_machine.specs.RunReading.{Fails}
 use Rattle.fx_check.specs.Outcomes.{refusal_of, IsRefusal}
-use Rattle.fx_check.specs.Targets.{Target}
+use Rattle.fx_traffic.specs.Targets.{Target}
 use Rattle.fx_check.proofs.Going.{err_gives}
 use Rattle.fx_check.proofs.checking.check_classes.Goals as goal
 

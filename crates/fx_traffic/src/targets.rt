@@ -1,23 +1,31 @@
 //! The paths of all classes, each of which needs a tree.
-ghost use Rattle.std.specs.Prelude.{◌≡◌, ◌++◌, IfOk, OnOk};
-ghost use Rattle.fx_check.specs.Targets as of_targets;
+ghost use Rattle.std.specs.Prelude.{◌≡◌, ◌++◌, IfErr, IfOk, OnOk};
+ghost use Rattle.fx_base.specs.Fault.{fault_at};
+ghost use Rattle.fx_base.specs.declared.fault.Place.TheVariants as places;
+ghost use Rattle.fx_traffic.specs.Targets as of_targets;
 
+use crate::traffic::Traffic;
+use fx_base::Fault;
 use fx_boxes::Region;
 use fx_machine::{Class, Crossing};
 use std::alloc::{AllocError, Global};
 use std::marker::Model;
 
-/// A path of a class, both by number from 1, with the class's region and the path's crossings.
+/// A path of a class.
 #[derive(Drop)]
-pub(crate) struct Target<'a> {
-    pub(crate) class: u64,
-    pub(crate) path: u64,
-    pub(crate) region: Region,
-    pub(crate) crossings: &'a [Crossing],
+pub struct Target<'a> {
+    /// The number of the class, from 1 in document order.
+    pub class: u64,
+    /// The number of the path, from 1 among those of its class.
+    pub path: u64,
+    /// The packets of the class.
+    pub region: Region,
+    /// What they cross on the path.
+    pub crossings: &'a [Crossing],
 }
 
 impl<'a> Model for Target<'a> {
-    ghost use Rattle.fx_check.specs.Targets.{Target};
+    ghost use Rattle.fx_traffic.specs.Targets.{Target};
 
     ghost Value = { Target };
 
@@ -48,10 +56,7 @@ fn add_paths<'a>(
 }
 
 /// The paths of these classes, in order.
-pub(crate) fn targets_of<'a>(
-    alloc: Global,
-    classes: &'a [Class],
-) -> Result<Vec<Target<'a>>, AllocError>
+fn targets_of<'a>(alloc: Global, classes: &'a [Class]) -> Result<Vec<Target<'a>>, AllocError>
     ensures items { IfOk result (λ ts. ts.items ≡ of_targets.targets_of classes.now) }
     ensures regions { IfOk result (λ ts. of_targets.AreRegions ts.items) }
 {
@@ -60,4 +65,18 @@ pub(crate) fn targets_of<'a>(
         add_paths(&mut targets, place as u64 + 1, &classes[place])?;
     }
     Ok(targets)
+}
+
+impl Traffic {
+    /// The paths of all classes, in document order.
+    ///
+    /// Fails with 900, at no place, for want of memory.
+    pub fn targets(&self, alloc: Global) -> Result<Vec<Target<'_>>, Fault>
+        ensures items { IfOk result (λ ts. ts.items ≡ of_targets.targets_of self.now) }
+        ensures regions { IfOk result (λ ts. of_targets.AreRegions ts.items) }
+        ensures err { IfErr result (λ e. e ≡ fault_at 900 places.None) }
+    {
+        let targets = targets_of(alloc, self.classes().as_slice())?;
+        Ok(targets)
+    }
 }

@@ -4,7 +4,7 @@ use Rattle.std.proofs.Math.Seq.{drop-cons}
 use Rattle.fx_boxes.specs.Boxes.{Bounds, IsRegion}
 use Rattle.fx_machine.specs.declared.traffic.Crossing.{Crossing}
 use Rattle.fx_machine.specs.Classes.{Class}
-use Rattle.fx_check.specs.Targets.{Target, targets_along, targets_from, AreRegions}
+use Rattle.fx_traffic.specs.Targets.{Target, targets_along, targets_from, AreRegions}
 
 pub regions_more : (ts : List Target) (t : Target) → AreRegions ts → IsRegion t.region → AreRegions (ts ++ t ∷ [])
 regions_more [] t h is = (is, tt)

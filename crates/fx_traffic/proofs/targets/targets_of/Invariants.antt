@@ -1,6 +1,6 @@
 use Rattle.std.proofs.Common.{◌≡◌, ◌+◌, ◌++◌, drop}
-use Rattle.fx_check.specs.Targets.{targets_from, AreRegions}
-use Rattle.fx_check.proofs.targets.targets_of.Given as goal
+use Rattle.fx_traffic.specs.Targets.{targets_from, AreRegions}
+use Rattle.fx_traffic.proofs.targets.targets_of.Given as goal
 
 -- what was added, and the classes that are left
 abbrev pub invariant-classes : goal.invariant-classes

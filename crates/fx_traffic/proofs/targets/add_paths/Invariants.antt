@@ -1,6 +1,6 @@
 use Rattle.std.proofs.Common.{◌≡◌, ◌+◌, ◌++◌, drop}
-use Rattle.fx_check.specs.Targets.{targets_along, AreRegions}
-use Rattle.fx_check.proofs.targets.add_paths.Given as goal
+use Rattle.fx_traffic.specs.Targets.{targets_along, AreRegions}
+use Rattle.fx_traffic.proofs.targets.add_paths.Given as goal
 
 -- what was added, and the paths that are left
 abbrev pub invariant-paths : goal.invariant-paths
