@@ -1,12 +1,15 @@
 -- Layouts that are built along the axes.
-use Rattle.std.proofs.Common.{◌≡◌, ℕ, suc, ◌≤◌, ◌<◌, Bool, true, false, ◌&&◌, not, ◌==◌, cond, le-ltb, [], ◌∷◌, ◌++◌, refl, ap, ◌∙◌, arith, Option, Some, None}
-use Rattle.std.specs.Prelude.{is_some}
+use Rattle.std.proofs.Common.{◌≡◌, ℕ, suc, ◌≤◌, ◌<◌, Bool, true, false, ◌&&◌, not, ◌==◌, cond, le-ltb, List, [], ◌∷◌, ◌++◌, refl, ap, sym, ◌∙◌, arith, Option, Some, None}
+use Rattle.std.specs.Prelude.{is_some, nat_le, bytes_eq}
+use Rattle.std.proofs.lemmas.Slice.Eq.{bytes_eq-Decides}
 use Rattle.std.proofs.lemmas.Bool.Decides.{nat_tests}
 use Rattle.fx_elements.specs.declared.axis.Axis.{Axis}
+use Rattle.fx_elements.specs.declared.axis.Axis.TheVariants.{Source, Destination, Protocol, SourcePort, DestinationPort, ClassOfService}
 use Rattle.fx_elements.specs.Axes.{axis_index}
 use Rattle.fx_layout.specs.declared.layout.Part.{Part}
 use Rattle.fx_layout.specs.Keys.{Layout, part_at, with_part, can_stand}
-use Rattle.fx_session.specs.Parts.{AllBefore}
+use Rattle.fx_session.specs.Flows.{Found, part_of, layout_of}
+use Rattle.fx_session.specs.Parts.{AllBefore, Stands, bits_of, part_by, layout_by}
 
 pub before-more : (l : Layout) (j k : ℕ) → AllBefore l j → j ≤ k → AllBefore l k
 before-more [] j k b h = tt
@@ -31,3 +34,27 @@ with_part-last (q ∷ qs) p b =
 
 pub can_add : (l : Layout) (p : Part) → can_stand p ≡ true → AllBefore l (axis_index p.axis) → (can_stand p && not (is_some (part_at l p.axis))) ≡ true
 can_add l p s b = ap (λ (t : Bool). t && not (is_some (part_at l p.axis))) s ∙ ap (λ (o : Option Part). not (is_some o)) (part_at-none l p.axis b)
+
+-- ---- layouts by the number of bits on each axis
+
+apart_from_none : (n : ℕ) (b : Bool) → (nat_le 1 n && b) ≡ true → (n == 0) ≡ false
+apart_from_none n b h = by (nat_le 1 n) refl h where
+  by : (t : Bool) → nat_le 1 n ≡ t → (t && b) ≡ true → (n == 0) ≡ false
+  by true e h = grind (arith, nat_tests)
+  by false e h = absurd cc
+
+part_by-is : (axis : Axis) (f : Found) → Stands axis f → part_of axis f ≡ part_by axis (bits_of f)
+part_by-is axis None s = refl
+part_by-is axis (Some p) s = ap (λ (t : Bool). cond t [] (record { axis = axis; bits = p.bits } ∷ [])) (sym (apart_from_none p.bits _ s))
+
+pub layout_by-is : (a b c d e f : Found) → Stands Source a → Stands Destination b → Stands Protocol c → Stands SourcePort d → Stands DestinationPort e → Stands ClassOfService f
+    → layout_of a b c d e f ≡ layout_by (bits_of a ∷ bits_of b ∷ bits_of c ∷ bits_of d ∷ bits_of e ∷ bits_of f ∷ [])
+layout_by-is a b c d e f sa sb sc sd se sf =
+    cc (part_by-is Source a sa, part_by-is Destination b sb, part_by-is Protocol c sc, part_by-is SourcePort d sd, part_by-is DestinationPort e se, part_by-is ClassOfService f sf)
+
+-- the same bits have the same layout
+pub same_bits : (l : Layout) (old new : List ℕ) → l ≡ layout_by old → false ≡ not (bytes_eq old new) → l ≡ layout_by new
+same_bits l old new h e = by (bytes_eq old new) refl e where
+  by : (t : Bool) → bytes_eq old new ≡ t → false ≡ not t → l ≡ layout_by new
+  by true k e = h ∙ ap layout_by ((bytes_eq-Decides old new).0 k)
+  by false k e = absurd cc

@@ -5,6 +5,7 @@ ghost use Rattle.fx_session.specs.DataReading as reading;
 ghost use Rattle.fx_session.specs.Calls.{Does, Grows};
 
 use crate::flow::flow_of;
+use crate::key::LastLayout;
 use crate::seen::read_record;
 use crate::taken::Taken;
 use crate::template::Template;
@@ -16,6 +17,7 @@ use fx_wire::{FieldSpecifier, cut_record};
 /// want of memory; nothing is taken then.
 fn take_flow<'a>(
     fields: &[FieldSpecifier],
+    last: &mut LastLayout,
     taken: &mut Taken,
     octets: &'a [u8],
 ) -> Result<&'a [u8], u16>
@@ -25,7 +27,7 @@ fn take_flow<'a>(
     let Some((seen, rest)) = read_record(fields, octets) else {
         return Err(619);
     };
-    match flow_of(&seen) {
+    match flow_of(last, &seen) {
         Ok(flow) => match taken.take(flow) {
             Ok(()) => Ok(rest),
             Err(number) => Err(number),
@@ -42,9 +44,10 @@ pub(crate) fn take_flows(template: &Template, taken: &mut Taken, octets: &[u8]) 
     ensures grows { Grows taken.old.waiting taken.new.waiting }
 {
     let shortest = template.shortest();
+    let mut last = LastLayout::new();
     let mut rest = octets;
     while rest.len() >= shortest {
-        match take_flow(template.fields(), taken, rest) {
+        match take_flow(template.fields(), &mut last, taken, rest) {
             Ok(behind) => rest = behind,
             Err(number) => return Err(number),
         }

@@ -3,7 +3,7 @@ ghost use Rattle.std.specs.Prelude.{◌≡◌, Ok, Err, Some, None, slice_index_
 ghost use Rattle.fx_session.specs.Flows as flows;
 ghost use Rattle.fx_session.specs.Values as values;
 
-use crate::key::{address_part, key_of, whole_part};
+use crate::key::{LastLayout, address_part, whole_part};
 use crate::seen::{PLACES, Seen};
 use fx_base::Counts;
 use fx_elements::Axis;
@@ -13,7 +13,7 @@ use fx_machine::Record;
 /// The key of what is noted.
 ///
 /// Fails with 620 where a prefix that is read has a length above 32.
-fn noted_key(numbers: &[Option<u128>; PLACES]) -> Result<Key, u16>
+fn noted_key(last: &mut LastLayout, numbers: &[Option<u128>; PLACES]) -> Result<Key, u16>
     ensures { result ≡ flows.key_in (λ place. slice_index_or numbers.now place None) }
 {
     let source = match address_part(numbers[0], numbers[8], numbers[10]) {
@@ -24,7 +24,7 @@ fn noted_key(numbers: &[Option<u128>; PLACES]) -> Result<Key, u16>
         Ok(destination) => destination,
         Err(number) => return Err(number),
     };
-    Ok(key_of(
+    Ok(last.key_of(
         source,
         destination,
         whole_part(Axis::Protocol, numbers[2]),
@@ -38,7 +38,10 @@ fn noted_key(numbers: &[Option<u128>; PLACES]) -> Result<Key, u16>
 ///
 /// Fails with 620 where a prefix that is read has a length above 32.
 #[tactic(auto, unfolding(crate::specs::Flows::flow_of))]
-fn noted_flow(numbers: &[Option<u128>; PLACES]) -> Result<Option<Record>, u16>
+fn noted_flow(
+    last: &mut LastLayout,
+    numbers: &[Option<u128>; PLACES],
+) -> Result<Option<Record>, u16>
     ensures { result ≡ flows.flow_of (λ place. slice_index_or numbers.now place None) }
 {
     let Some(octets) = numbers[6] else {
@@ -47,7 +50,7 @@ fn noted_flow(numbers: &[Option<u128>; PLACES]) -> Result<Option<Record>, u16>
     let Some(packets) = numbers[7] else {
         return Ok(None);
     };
-    match noted_key(numbers) {
+    match noted_key(last, numbers) {
         Ok(key) => Ok(Some(Record {
             key,
             counts: Counts {
@@ -62,8 +65,8 @@ fn noted_flow(numbers: &[Option<u128>; PLACES]) -> Result<Option<Record>, u16>
 /// The flow record of a data record of which this is noted, None without both counters.
 ///
 /// Fails with 620 where a prefix that is read has a length above 32.
-pub(crate) fn flow_of(seen: &Seen) -> Result<Option<Record>, u16>
+pub(crate) fn flow_of(last: &mut LastLayout, seen: &Seen) -> Result<Option<Record>, u16>
     ensures { (vs : values.Values) → values.Notes seen.now.numbers vs → result ≡ flows.flow_in vs }
 {
-    noted_flow(&seen.numbers)
+    noted_flow(last, &seen.numbers)
 }

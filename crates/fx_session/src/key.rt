@@ -7,8 +7,9 @@ ghost use Rattle.fx_session.specs.Flows as flows;
 ghost use Rattle.fx_session.specs.Parts as parts;
 
 use fx_boxes::Fields;
-use fx_elements::{Axis, width};
+use fx_elements::{AXES, Axis, width};
 use fx_layout::{Key, Layout};
+use std::marker::Model;
 
 /// What is known of the value on an axis: how many of its leading bits, and a value that has them.
 #[derive(Clone, Copy, Debug, PartialEq, Eq)]
@@ -94,29 +95,52 @@ fn add_part(layout: &Layout, axis: Axis, found: Option<Leading>) -> Layout
     }
 }
 
-/// The key of what is known on each axis.
-pub(crate) fn key_of(
+/// How many leading bits are known on an axis, 0 where none is.
+fn bits_of(found: &Option<Leading>) -> u32
+    ensures { result ≡ parts.bits_of found.now }
+{
+    match found {
+        None => 0,
+        Some(leading) => leading.bits,
+    }
+}
+
+/// The layout of what is known on each axis.
+fn layout_of(
     source: Option<Leading>,
     destination: Option<Leading>,
     protocol: Option<Leading>,
     sport: Option<Leading>,
     dport: Option<Leading>,
     tos: Option<Leading>,
-) -> Key
+) -> Layout
     requires source { parts.Stands axes.Source source }
     requires destination { parts.Stands axes.Destination destination }
     requires protocol { parts.Stands axes.Protocol protocol }
     requires sport { parts.Stands axes.SourcePort sport }
     requires dport { parts.Stands axes.DestinationPort dport }
     requires tos { parts.Stands axes.ClassOfService tos }
-    ensures { result ≡ keys.key_of (flows.layout_of source destination protocol sport dport tos) (flows.fields_of source destination protocol sport dport tos) }
+    ensures { result ≡ flows.layout_of source destination protocol sport dport tos }
 {
     let layout = add_part(&Layout::new(), Axis::Source, source);
     let layout = add_part(&layout, Axis::Destination, destination);
     let layout = add_part(&layout, Axis::Protocol, protocol);
     let layout = add_part(&layout, Axis::SourcePort, sport);
     let layout = add_part(&layout, Axis::DestinationPort, dport);
-    let layout = add_part(&layout, Axis::ClassOfService, tos);
+    add_part(&layout, Axis::ClassOfService, tos)
+}
+
+/// The fields of what is known on each axis, 0 where nothing is.
+fn fields_of(
+    source: Option<Leading>,
+    destination: Option<Leading>,
+    protocol: Option<Leading>,
+    sport: Option<Leading>,
+    dport: Option<Leading>,
+    tos: Option<Leading>,
+) -> Fields
+    ensures { result ≡ flows.fields_of source destination protocol sport dport tos }
+{
     let values = [
         value_of(Axis::Source, source),
         value_of(Axis::Destination, destination),
@@ -126,7 +150,71 @@ pub(crate) fn key_of(
         value_of(Axis::ClassOfService, tos),
     ];
     match Fields::new(values) {
-        Some(fields) => layout.key_of(&fields),
+        Some(fields) => fields,
         None => unreachable!(),
+    }
+}
+
+/// The layout of the last key that was made, seen as its bits on each axis: the next record under a template mostly has
+/// the same one.
+#[derive(Drop)]
+pub(crate) struct LastLayout {
+    bits: [u32; AXES],
+    layout: Layout,
+}
+
+impl Model for LastLayout {
+    ghost use Rattle.std.specs.Prelude.{◌≡◌, List, ℕ};
+    ghost use Rattle.fx_session.specs.Parts as parts;
+
+    ghost Value = { List ℕ };
+
+    ghost view = { λ l. l.bits };
+
+    ghost invariant = { λ l. l.layout ≡ parts.layout_by l.bits };
+}
+
+impl LastLayout {
+    /// The layout without parts.
+    pub fn new() -> LastLayout
+        ensures { result ≡ 0 ∷ 0 ∷ 0 ∷ 0 ∷ 0 ∷ 0 ∷ [] }
+    {
+        LastLayout {
+            bits: [0; AXES],
+            layout: Layout::new(),
+        }
+    }
+
+    /// The key of what is known on each axis.
+    pub fn key_of(
+        &mut self,
+        source: Option<Leading>,
+        destination: Option<Leading>,
+        protocol: Option<Leading>,
+        sport: Option<Leading>,
+        dport: Option<Leading>,
+        tos: Option<Leading>,
+    ) -> Key
+        requires source { parts.Stands axes.Source source }
+        requires destination { parts.Stands axes.Destination destination }
+        requires protocol { parts.Stands axes.Protocol protocol }
+        requires sport { parts.Stands axes.SourcePort sport }
+        requires dport { parts.Stands axes.DestinationPort dport }
+        requires tos { parts.Stands axes.ClassOfService tos }
+        ensures { result ≡ keys.key_of (flows.layout_of source destination protocol sport dport tos) (flows.fields_of source destination protocol sport dport tos) }
+    {
+        let bits = [
+            bits_of(&source),
+            bits_of(&destination),
+            bits_of(&protocol),
+            bits_of(&sport),
+            bits_of(&dport),
+            bits_of(&tos),
+        ];
+        if self.bits != bits {
+            self.layout = layout_of(source, destination, protocol, sport, dport, tos);
+            self.bits = bits;
+        }
+        self.layout.key_of(&fields_of(source, destination, protocol, sport, dport, tos))
     }
 }
