@@ -1,5 +1,6 @@
 pub mod TemplateSteps
 pub mod Layouts
+pub mod Numbers
 pub mod Notes
 pub mod DataSteps
 pub mod MessageSteps

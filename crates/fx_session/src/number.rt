@@ -7,6 +7,20 @@ ghost use Rattle.fx_session.specs.Flows as flows;
 pub(crate) fn number_in(octets: &[u8]) -> u128
     ensures { result ≡ flows.number_in octets.now }
 {
+    match octets {
+        [a, b, c, d] => u128::from(u32::from_be_bytes([*a, *b, *c, *d])),
+        [a, b, c, d, e, f, g, h] => {
+            u128::from(u64::from_be_bytes([*a, *b, *c, *d, *e, *f, *g, *h]))
+        }
+        _ => number_by_octets(octets),
+    }
+}
+
+/// The same, octet by octet.
+#[tactic(auto, unfolding(crate::specs::Flows::number_in))]
+fn number_by_octets(octets: &[u8]) -> u128
+    ensures { result ≡ flows.number_in octets.now }
+{
     let mut number: u128 = 0;
     for octet in octets {
         number = number % (1u128 << 120) * 256 + u128::from(*octet);

@@ -1,0 +1,6 @@
+use Rattle.std.proofs.Common.{◌∙◌, sym, arith}
+use Rattle.fx_session.proofs.Numbers.{eight}
+use Rattle.fx_session.proofs.number.number_in.Goals as goal
+
+pub returns-in-len8 : goal.returns-in-len8
+returns-in-len8 c = c.from-in-len8.ensures ∙ c.from_be_bytes-in-len8.ensures ∙ sym (eight c.args.octets.now (λ i. omega (arith, c.type_inv.octets i)) (omega (arith, c.in-len8.len_at_least, c.in-len8.len_below)))
