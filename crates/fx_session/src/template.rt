@@ -1,17 +1,25 @@
 //! Templates.
-ghost use Rattle.std.specs.Prelude.{◌≡◌, ◌≤◌, ◌&&◌, ◌==◌, length};
+ghost use Rattle.std.specs.Prelude.{◌≡◌, ◌≤◌, ◌&&◌, ◌==◌, length, IfOk, IfErr};
 ghost use Rattle.fx_wire.specs.Values.{shortest_record};
 ghost use Rattle.fx_session.specs.Templates as templates;
 
 use fx_wire::FieldSpecifier;
+use std::alloc::Global;
 use std::marker::Model;
 
-/// A template or an options template: how many of its fields are scope fields, and its fields.
+/// How many fields of a template are scope fields, its fields, and how few octets a record can have.
 #[derive(Drop)]
-pub(crate) struct Template {
+struct Body {
     scope: u16,
     fields: Vec<FieldSpecifier>,
     shortest: usize,
+}
+
+/// A template or an options template: how many of its fields are scope fields, and its fields. It stands in a block of
+/// its own, so that the room of a table for templates that aren't there is small.
+#[derive(Drop)]
+pub(crate) struct Template {
+    body: Box<Body>,
 }
 
 impl Model for Template {
@@ -21,9 +29,9 @@ impl Model for Template {
 
     ghost Value = { templates.Template };
 
-    ghost view = { λ t. record { scope = t.scope; fields = t.fields.items } };
+    ghost view = { λ t. record { scope = t.body.value.scope; fields = t.body.value.fields.items } };
 
-    ghost invariant = { λ t. (t.shortest ≡ shortest_record t.fields.items) × (1 ≤ t.shortest) };
+    ghost invariant = { λ t. (t.body.value.shortest ≡ shortest_record t.body.value.fields.items) × (1 ≤ t.body.value.shortest) };
 }
 
 /// Whether two fields are written in the same way.
@@ -56,16 +64,26 @@ fn same_fields(a: &[FieldSpecifier], b: &[FieldSpecifier]) -> bool
 }
 
 impl Template {
-    /// A template of these fields, whose records have `shortest` octets at least.
-    pub fn new(scope: u16, fields: Vec<FieldSpecifier>, shortest: usize) -> Template
+    /// A template of these fields, whose records have `shortest` octets at least. Fails with 900 for want of memory.
+    pub fn new(
+        alloc: Global,
+        scope: u16,
+        fields: Vec<FieldSpecifier>,
+        shortest: usize,
+    ) -> Result<Template, u16>
         requires shortest { shortest ≡ shortest_record fields.items }
         requires some { 1 ≤ shortest }
-        ensures { result ≡ record { scope = scope; fields = fields.items } }
+        ensures ok { IfOk result (λ t. t ≡ record { scope = scope; fields = fields.items }) }
+        ensures err { IfErr result (λ n. n ≡ 900) }
     {
-        Template {
+        let body = Body {
             scope,
             fields,
             shortest,
+        };
+        match Box::new(alloc, body) {
+            Ok(body) => Ok(Template { body }),
+            Err(_) => Err(900),
         }
     }
 
@@ -73,7 +91,7 @@ impl Template {
     pub fn fields(&self) -> &[FieldSpecifier]
         ensures { result.now ≡ self.now.fields }
     {
-        self.fields.as_slice()
+        self.body.fields.as_slice()
     }
 
     /// How few octets a record can have.
@@ -81,13 +99,13 @@ impl Template {
         ensures value { result ≡ shortest_record self.now.fields }
         ensures some { 1 ≤ result }
     {
-        self.shortest
+        self.body.shortest
     }
 
     /// Whether the two templates are written in the same way.
     pub fn same(&self, other: &Template) -> bool
         ensures { result ≡ templates.same_template self.now other.now }
     {
-        self.scope == other.scope && same_fields(self.fields.as_slice(), other.fields.as_slice())
+        self.body.scope == other.body.scope && same_fields(self.fields(), other.fields())
     }
 }

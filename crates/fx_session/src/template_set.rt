@@ -85,12 +85,13 @@ fn declare<'a>(
     ensures done { reading.Follows (sets.with_fields templates.old kind new.id new.scope (fields.fields_in new.count octets.now)) templates.new result }
     ensures shorter { reading.IsNoLonger octets.now result }
 {
-    let (fields, rest) = read_fields(alloc, new.count, octets)?;
+    let (mut fields, rest) = read_fields(alloc, new.count, octets)?;
     if kind == TemplateKind::Plain && has_narrow(fields.as_slice()) {
         return Err(618);
     }
     let shortest = shortest_record(fields.as_slice());
-    let template = Template::new(new.scope, fields, shortest);
+    fields.shrink_to_fit();
+    let template = Template::new(alloc, new.scope, fields, shortest)?;
     templates.declare(kind, new.id, template)?;
     Ok(rest)
 }
