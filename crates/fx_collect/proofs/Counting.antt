@@ -1,10 +1,12 @@
 -- Counting into a map from values to counts is counting into a list of records.
-use Rattle.std.proofs.Common.{◌≡◌, ℕ, suc, Bool, true, false, cond, ◌&&◌, List, [], ◌∷◌, map, Some, None, refl, sym, ap, ◌∙◌, arith, bytes_eq, ◌==◌, eq-eqb}
+use Rattle.std.proofs.Common.{◌≡◌, ℕ, suc, Bool, true, false, cond, ◌&&◌, List, [], ◌∷◌, map, Option, Some, None, refl, sym, ap, ◌∙◌, arith, bytes_eq, ◌==◌, eq-eqb, position, is_some}
 use Rattle.std.specs.List.{All}
 use Rattle.std.specs.Map.{lookup, keys_of}
 use Rattle.std.proofs.lemmas.List.Elements.{All-cons}
 use Rattle.std.proofs.lemmas.Slice.Eq.{bytes_eq-Decides}
 use Rattle.indexmap.specs.IndexMap.{insert_entry}
+use Rattle.indexmap.specs.Layout.{set_value_at}
+use Rattle.indexmap.proofs.MapLemmas.{Found-position, insert_entry-first}
 use Rattle.fx_base.specs.declared.counts.Counts.{Counts}
 use Rattle.fx_base.specs.Counts.{add_counts}
 use Rattle.fx_elements.specs.Axes.{axis_index}
@@ -92,3 +94,17 @@ values_are layout (e ∷ es) = ap (λ vs. e.0 ∷ vs) (values_are layout es)
 
 pub behind_has_bits : (layout : Layout) (e : List ℕ × Counts) (es : List (List ℕ × Counts)) → AllHaveBits layout (e ∷ es) → AllHaveBits layout es
 behind_has_bits layout e es h = all_tail (λ (p : List ℕ × Counts). HasBits layout p.0) e es h
+
+-- ---- a write at the place of a key
+
+pub put_at : (es : List (List ℕ × Counts)) (k : List ℕ) (i : ℕ) (total c n : Counts) → position (bytes_eq k) (keys_of es) ≡ Some i → lookup (bytes_eq k) es ≡ Some total → n ≡ add_counts total c
+    → set_value_at es i n ≡ insert_entry bytes_eq es k (added (lookup (bytes_eq k) es) c)
+put_at es k i total c n p at is =
+    sym (insert_entry-first bytes_eq k n es i (Found-position (bytes_eq k) es i p).first)
+    ∙ ap (λ (m : Counts). insert_entry bytes_eq es k m) (is ∙ ap (λ (o : Option Counts). added o c) (sym at))
+
+pub put_new : (es : List (List ℕ × Counts)) (k : List ℕ) (c : Counts) → is_some (lookup (bytes_eq k) es) ≡ false → insert_entry bytes_eq es k c ≡ insert_entry bytes_eq es k (added (lookup (bytes_eq k) es) c)
+put_new es k c h = by (lookup (bytes_eq k) es) h where
+  by : (o : Option Counts) → is_some o ≡ false → insert_entry bytes_eq es k c ≡ insert_entry bytes_eq es k (added o c)
+  by None h = refl
+  by (Some m) h = absurd cc

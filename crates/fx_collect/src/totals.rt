@@ -1,11 +1,11 @@
 //! What a collector has counted under each key.
-ghost use Rattle.std.specs.Prelude.{◌≡◌, ℕ, ◌+◌, ◌%◌, ◌^◌, None, Some, IsPermutation, IfOk, IfErr, OnOk, option_copied, length};
+ghost use Rattle.std.specs.Prelude.{◌≡◌, ℕ, ◌+◌, ◌%◌, ◌^◌, None, Some, IsPermutation, IfOk, IfErr, OnOk, length};
 ghost use Rattle.fx_base.specs.Fault.{fault_at};
 ghost use Rattle.fx_base.specs.declared.fault.Place.TheVariants as places;
 ghost use Rattle.fx_layout.specs.Keys.{HasBits};
 ghost use Rattle.fx_machine.specs.States.{add_at};
 ghost use Rattle.fx_machine.specs.Sums.{total_at};
-ghost use Rattle.fx_collect.specs.Totals.{added, nothing, with_record, with_records, totals_of};
+ghost use Rattle.fx_collect.specs.Totals.{nothing, with_record, with_records, totals_of};
 ghost use Rattle.fx_collect.specs.Report.{Ascends};
 
 use fx_base::{Counts, Fault};
@@ -33,16 +33,6 @@ impl Model for Totals {
     ghost invariant = { λ t. totals.AllHaveBits t.layout t.counts.entries };
 }
 
-/// What was counted before, with more.
-fn with_more(before: Option<&Counts>, more: &Counts) -> Counts
-    ensures { result ≡ added (option_copied before.entry) more.now }
-{
-    match before {
-        Some(counts) => counts.add(more),
-        None => *more,
-    }
-}
-
 impl Totals {
     /// Totals under the keys of this layout, of nothing so far.
     ///
@@ -64,8 +54,15 @@ impl Totals {
         ensures ok { OnOk result (self.new ≡ record self.old { entries = add_at self.old.entries (record { layout = self.old.layout; values = values }) counts.now }) }
         ensures err { IfErr result (λ e. (e ≡ fault_at 900 places.None) × (self.new ≡ self.old)) }
     {
-        let total = with_more(self.counts.get(&values), counts);
-        self.counts.insert(values, total)?;
+        match self.counts.get_index_of(&values) {
+            Some(place) => {
+                let total = &mut self.counts[place];
+                *total = total.add(counts);
+            }
+            None => {
+                self.counts.insert(values, *counts)?;
+            }
+        }
         Ok(())
     }
 

@@ -1,4 +1,4 @@
-use Rattle.std.proofs.Common.{◌≡◌, ℕ, List, Option, ap, sym, ◌∙◌, subst}
+use Rattle.std.proofs.Common.{◌≡◌, ℕ, List, ap, sym, ◌∙◌, subst}
 use Rattle.std.specs.Map.{lookup}
 use Rattle.std.specs.Prelude.{bytes_eq}
 use Rattle.indexmap.specs.IndexMap.{insert_entry}
@@ -7,19 +7,39 @@ use Rattle.fx_layout.specs.Keys.{Layout, HasBits}
 use Rattle.fx_machine.specs.declared.record.Record.{Record}
 use Rattle.fx_machine.specs.States.{add_at}
 use Rattle.fx_collect.specs.Totals.{Totals, added, records_of, AllHaveBits}
-use Rattle.fx_collect.proofs.Counting.{insert_adds, insert_has_bits}
+use Rattle.fx_collect.proofs.Counting.{insert_adds, insert_has_bits, put_at, put_new}
+use Rattle.fx_collect.proofs.totals.Totals.add.Goals.{in-Some, in-None+in_ok-insert-in-None}
 use Rattle.fx_collect.proofs.totals.Totals.add.Goals as goal
 
-pub invariant_of-self-2 : goal.invariant_of-self-2
-invariant_of-self-2 c =
-    let own : c.self.inside.layout ≡ c.args.self.now.layout = ap (λ (t : Totals). t.layout) c.self.view_is in
-    let bits : HasBits c.self.inside.layout c.args.values = subst (λ (l : Layout). HasBits l c.args.values) (sym own) c.requires in
-    subst (λ (es : List (List ℕ × Counts)). AllHaveBits c.self.inside.layout es) (sym c.in_ok-insert.ensures.entries) (insert_has_bits c.self.inside.layout c.self.inside.counts.entries c.args.values c.with_more-total.result bits c.self.invariant)
+-- the values have their bits, and keep them
+kept : (t : Totals) (layout : Layout) (es after : List (List ℕ × Counts)) (k : List ℕ) (n : Counts) → layout ≡ t.layout → HasBits t.layout k → AllHaveBits layout es
+    → after ≡ insert_entry bytes_eq es k n → AllHaveBits layout after
+kept t layout es after k n own h inv is =
+    subst (λ (xs : List (List ℕ × Counts)). AllHaveBits layout xs) (sym is) (insert_has_bits layout es k n (subst (λ (l : Layout). HasBits l k) (sym own) h) inv)
+
+pub invariant_of-self : goal.invariant_of-self
+invariant_of-self c =
+    kept c.args.self.now c.self.inside.layout c.self.inside.counts.entries _ c.args.values _ (ap (λ (t : Totals). t.layout) c.self.view_is) c.requires c.self.invariant
+    (put_at c.self.inside.counts.entries c.args.values c.in-Some.place c.index_mut-total.result.now c.args.counts.now c.add.result (sym c.in-Some.ensures.index) (sym c.in-Some.ensures.value ∙ c.index_mut-total.ensures.value) c.add.ensures)
+
+pub invariant_of-self-in_ok-insert-in-None : goal.invariant_of-self-in_ok-insert-in-None
+invariant_of-self-in_ok-insert-in-None c =
+    kept c.args.self.now c.self.inside.layout c.self.inside.counts.entries c.insert.new.self.entries c.args.values c.args.counts.now (ap (λ (t : Totals). t.layout) c.self.view_is) c.requires c.self.invariant
+    c.in_ok-insert-in-None.ensures.entries
+
+-- what was put is what was counted before with more
+counted : (t : Totals) (layout : Layout) (es after : List (List ℕ × Counts)) (unassigned : ℕ) (k : List ℕ) (c : Counts)
+    → record { layout = layout; entries = records_of layout es; unassigned = unassigned } ≡ t
+    → after ≡ insert_entry bytes_eq es k (added (lookup (bytes_eq k) es) c)
+    → record { layout = layout; entries = records_of layout after; unassigned = unassigned } ≡ record t { entries = add_at t.entries (record { layout = t.layout; values = k }) c }
+counted t layout es after unassigned k c view is =
+    ap (λ (rs : List Record). record { layout = layout; entries = rs; unassigned = unassigned }) (ap (records_of layout) is ∙ insert_adds layout es k c)
+    ∙ ap (λ (u : Totals). record u { entries = add_at u.entries (record { layout = u.layout; values = k }) c }) view
 
 pub returns-clause-ok : goal.returns-clause-ok
-returns-clause-ok c =
-    let es = c.self.inside.counts.entries in
-    let total : c.with_more-total.result ≡ added (lookup (bytes_eq c.args.values) es) c.args.counts.now = c.with_more-total.ensures ∙ ap (λ (o : Option Counts). added o c.args.counts.now) c.get.ensures.value in
-    let into : c.insert.new.self.entries ≡ insert_entry bytes_eq es c.args.values (added (lookup (bytes_eq c.args.values) es) c.args.counts.now) = c.in_ok-insert.ensures.entries ∙ ap (λ (n : Counts). insert_entry bytes_eq es c.args.values n) total in
-    let counted : records_of c.self.inside.layout c.insert.new.self.entries ≡ add_at (records_of c.self.inside.layout es) (record { layout = c.self.inside.layout; values = c.args.values }) c.args.counts.now = ap (records_of c.self.inside.layout) into ∙ insert_adds c.self.inside.layout es c.args.values c.args.counts.now in
-    ap (λ (rs : List Record). record { layout = c.self.inside.layout; entries = rs; unassigned = c.self.inside.unassigned }) counted ∙ ap (λ (t : Totals). record t { entries = add_at t.entries (record { layout = t.layout; values = c.args.values }) c.args.counts.now }) c.self.view_is
+returns-clause-ok c = elim c.match-get_index_of.branch [
+  | in-Some w ↦ w.self-is ∙ counted c.args.self.now c.self.inside.layout c.self.inside.counts.entries _ c.self.inside.unassigned c.args.values c.args.counts.now c.self.view_is
+      (put_at c.self.inside.counts.entries c.args.values w.in-Some.place w.index_mut-total.result.now c.args.counts.now w.add.result (sym w.in-Some.ensures.index) (sym w.in-Some.ensures.value ∙ w.index_mut-total.ensures.value) w.add.ensures)
+  | in-None+in_ok-insert-in-None w ↦ w.self-is ∙ counted c.args.self.now c.self.inside.layout c.self.inside.counts.entries w.insert.new.self.entries c.self.inside.unassigned c.args.values c.args.counts.now c.self.view_is
+      (w.in_ok-insert-in-None.ensures.entries ∙ put_new c.self.inside.counts.entries c.args.values c.args.counts.now (sym w.in-None.ensures.found))
+]
