@@ -35,7 +35,7 @@ fits_if (part ∷ parts) h =
 
 -- ---- order
 
-index_below : (axis : Axis) → axis_index axis < axis_count
+pub index_below : (axis : Axis) → axis_index axis < axis_count
 index_below Source = omega arith
 index_below Destination = omega arith
 index_below Protocol = omega arith

@@ -6,9 +6,10 @@ use Rattle.std.proofs.lemmas.Nat.{pow_pos}
 use Rattle.std.specs.List.{list_all, list_any}
 use Rattle.fx_elements.specs.declared.axis.Axis.{Axis}
 use Rattle.fx_elements.specs.declared.axis.Axis.TheVariants.{Source, Destination, Protocol, SourcePort, DestinationPort, ClassOfService}
-use Rattle.fx_elements.specs.Axes.{Fields, field, axes, tops, axis_index, axis_count, axis_width, same_axis}
+use Rattle.fx_elements.specs.Axes.{Fields, field, axes, tops, axis_index, axis_width, same_axis}
 use Rattle.fx_boxes.specs.Boxes.{Bounds, IsRegion, Holds, IsInside, IsDisjoint, holds, is_between}
 use Rattle.fx_boxes.proofs.Holding.{holds_is, holds_if}
+use Rattle.fx_layout.proofs.Layouts.{index_below}
 use Rattle.fx_layout.proofs.Projections.{and_true, and_both, axis_is}
 use Rattle.fx_machine.specs.declared.aggregation.MatchEntry.{MatchEntry}
 use Rattle.fx_machine.specs.Occurrences.{selects}
@@ -87,14 +88,6 @@ value_of g SourcePort = refl
 value_of g DestinationPort = refl
 value_of g ClassOfService = refl
 
-pub index_small : (axis : Axis) → axis_index axis < axis_count
-index_small Source = omega arith
-index_small Destination = omega arith
-index_small Protocol = omega arith
-index_small SourcePort = omega arith
-index_small DestinationPort = omega arith
-index_small ClassOfService = omega arith
-
 -- ---- fields that are in a region
 
 pub record In (b : Bounds) (fields : Fields) : Type 0 where
@@ -147,7 +140,7 @@ abbrev pub Ordered : Bounds → Type 0
 Ordered b = (axis : Axis) → low_at b axis ≤ high_at b axis
 
 pub ordered : (region : Bounds) → IsRegion region → Ordered region
-ordered region r axis = (r (axis_index axis) (index_small axis)).0
+ordered region r axis = (r (axis_index axis) (index_below axis)).0
 
 pub is_low : (region : Bounds) → Ordered region → In region region.low
 is_low region r = record {
@@ -249,7 +242,7 @@ no_tells region = record { passes = λ b. λ is. λ fields. λ h. cc; cuts = λ 
 pub all_in : (region : Bounds) (fields : Fields) → IsRegion region → In region fields → In all_fields fields
 all_in region fields r h = record {
   low = λ axis. let e = value_of (λ axis. 0) axis in omega (arith, e);
-  high = λ axis. let x = h.high axis in let y = (r (axis_index axis) (index_small axis)).1 in omega (arith, x, y);
+  high = λ axis. let x = h.high axis in let y = (r (axis_index axis) (index_below axis)).1 in omega (arith, x, y);
 }
 
 -- the values that begin with some bits are those from a least to a greatest

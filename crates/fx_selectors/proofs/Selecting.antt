@@ -6,9 +6,10 @@ use Rattle.std.proofs.lemmas.List.{get_or-set_same, get_or-set_other, length-set
 use Rattle.std.specs.List.{list_all, fold}
 use Rattle.fx_elements.specs.Axes.{Fields, field, axis_count, axis_index, tops}
 use Rattle.fx_elements.specs.declared.axis.Axis.{Axis}
-use Rattle.fx_elements.specs.declared.axis.Axis.TheVariants.{Source, Destination, Protocol, SourcePort, DestinationPort, ClassOfService}
 use Rattle.fx_boxes.specs.Boxes.{Bounds, Holds, IsFields, holds}
 use Rattle.fx_boxes.proofs.Holding.{holds_if, holds_is}
+use Rattle.fx_layout.proofs.Layouts.{index_below}
+use Rattle.fx_layout.proofs.Projections.{and_true}
 use Rattle.fx_config.specs.declared.property_match.PropertyMatch.{PropertyMatch}
 use Rattle.fx_config.specs.declared.selector.Method.{Method}
 use Rattle.fx_config.specs.declared.selector.Method.TheVariants.{SelectAll, FilterMatch}
@@ -16,23 +17,11 @@ use Rattle.fx_config.specs.declared.selector.Selector.{Selector}
 use Rattle.fx_config.specs.declared.selection_process.SelectionProcess.{SelectionProcess}
 use Rattle.fx_selectors.specs.Selection.{has, passes, selects, everything, narrowed, narrowed_by, bounds_of, has_room, region_of, region_within}
 
-both : (a b : Bool) → (a && b) ≡ true → (a ≡ true) × (b ≡ true)
-both true b h = (refl, h)
-both false b h = absurd (cc)
-
 some_is : {A : Type 0} {x y : A} → ◌≡◌ {A = Option A} (Some x) (Some y) → x ≡ y
 some_is {A} {x} h = ap (λ (o : Option A). unwrap_or o x) h
 
 none_some : {A : Type 0} {x : A} → ◌≡◌ {A = Option A} None (Some x) → ⊥
 none_some h = absurd (cc)
-
-index_small : (axis : Axis) → axis_index axis < axis_count
-index_small Source = omega arith
-index_small Destination = omega arith
-index_small Protocol = omega arith
-index_small SourcePort = omega arith
-index_small DestinationPort = omega arith
-index_small ClassOfService = omega arith
 
 -- bounds have a value for each axis
 abbrev IsWhole : Bounds → Type 0
@@ -43,10 +32,10 @@ narrowed_whole b m whole = (length-set b.low _ _ ∙ whole.0, length-set b.high 
 
 -- where each place is the axis of the match or another
 low_own : (b : Bounds) (m : PropertyMatch) → IsWhole b → get_or (narrowed b m).low (axis_index m.axis) 0 ≡ max (field b.low m.axis) m.range.low
-low_own b m whole = get_or-set_same b.low (axis_index m.axis) _ 0 (let small = index_small m.axis in omega (arith, small, whole.0))
+low_own b m whole = get_or-set_same b.low (axis_index m.axis) _ 0 (let small = index_below m.axis in omega (arith, small, whole.0))
 
 high_own : (b : Bounds) (m : PropertyMatch) → IsWhole b → get_or (narrowed b m).high (axis_index m.axis) 0 ≡ min (field b.high m.axis) m.range.high
-high_own b m whole = get_or-set_same b.high (axis_index m.axis) _ 0 (let small = index_small m.axis in omega (arith, small, whole.1))
+high_own b m whole = get_or-set_same b.high (axis_index m.axis) _ 0 (let small = index_below m.axis in omega (arith, small, whole.1))
 
 -- another place
 other : (k i : ℕ) → (k == i) ≡ false → k ≡ i → ⊥
@@ -105,13 +94,13 @@ module _ (b : Bounds) (m : PropertyMatch) (f : Fields) (whole : IsWhole b) where
   has_if among = rw (le-leb _ _ among.0, le-leb _ _ among.1) refl
 
   has_is : has m f ≡ true → IsAmong
-  has_is h = let parts = both (nat_le m.range.low (field f m.axis)) _ h in (leb-true _ _ parts.0, leb-true _ _ parts.1)
+  has_is h = let parts = and_true (nat_le m.range.low (field f m.axis)) _ h in (leb-true _ _ parts.0, leb-true _ _ parts.1)
 
   within_if : Holds b f → has m f ≡ true → Holds (narrowed b m) f
   within_if h t k lt = after_at (has_is t) k (h k lt)
 
   within_is : Holds (narrowed b m) f → Holds b f × (has m f ≡ true)
-  within_is h = (λ k lt. before_at k (h k lt), has_if (among_own (h _ (index_small m.axis))))
+  within_is h = (λ k lt. before_at k (h k lt), has_if (among_own (h _ (index_below m.axis))))
 
 -- no bound passes the greatest value
 narrowed_fields : (b : Bounds) (m : PropertyMatch) → IsWhole b → IsFields b.high → IsFields (narrowed b m).high
@@ -120,7 +109,7 @@ narrowed_fields b m whole fields k lt = elim (k == axis_index m.axis) as (λ t. 
       let i = eqb-true k (axis_index m.axis) e in
       let own = high_own b m whole in
       let least = min-le_left (field b.high m.axis) m.range.high in
-      let before = fields (axis_index m.axis) (index_small m.axis) in
+      let before = fields (axis_index m.axis) (index_below m.axis) in
       subst (λ (n : ℕ). get_or (narrowed b m).high n 0 ≤ get_or tops n 0) (sym i) (rw own (omega (arith, least, before)))
   | false ↦ λ e. rw (get_or-set_other b.high (axis_index m.axis) k _ 0 (other k _ e)) (fields k lt)
 ] refl
@@ -152,7 +141,7 @@ step_is b (FilterMatch m) f whole h = within_is b m f whole h
 left_if : (b : Bounds) (ss : List Selector) (f : Fields) → IsWhole b → Holds b f → all_pass ss f ≡ true → Holds (left b ss) f
 left_if b [] f whole h t = h
 left_if b (s ∷ ss) f whole h t =
-    let parts = both (passes s.method f) (all_pass ss f) t in
+    let parts = and_true (passes s.method f) (all_pass ss f) t in
     left_if (narrowed_by b s.method) ss f (step_whole b s.method whole) (step_if b s.method f whole h parts.0) parts.1
 
 left_is : (b : Bounds) (ss : List Selector) (f : Fields) → IsWhole b → Holds (left b ss) f → Holds b f × (all_pass ss f ≡ true)
