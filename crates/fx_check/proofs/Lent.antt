@@ -4,15 +4,10 @@ use Rattle.std.specs.List.{AllByRecursion}
 use Rattle.fx_layout.specs.Keys.{Layout}
 use Rattle.fx_machine.specs.Network.{Net, Holder, Process, aggregations_of}
 use Rattle.fx_machine.specs.Ranks.{IsNetwork}
-use Rattle.fx_leaf.specs.Standings.{IsEntry}
-use Rattle.fx_leaf.specs.Tables.{AreTables, Descends, or_first}
+use Rattle.fx_machine.specs.Matches.{AreEntries, AllHaveEntries, HasEntries}
+use Rattle.fx_leaf.specs.Tables.{AreTables, or_first}
 use Rattle.fx_plan.specs.Ranks as plan
 use Rattle.fx_plan.specs.Layouts.{AreNumbers}
-use Rattle.fx_plan.specs.Matches.{AreEntries, AllHaveEntries}
-
-descends : (net : Net) (rank : ℕ → ℕ) (done order : List ℕ) → plan.Descends net rank done order → Descends net rank done order
-descends net rank done [] h = tt
-descends net rank done (process ∷ processes) h = (h.0, h.1, descends net rank (process ∷ done) processes h.2)
 
 numbered : (layouts : List Layout) (holders : List Holder) (numbers : List ℕ) → AreNumbers layouts holders numbers → (holder : ℕ) (h : Holder) → slice_get holders holder ≡ Some h → slice_get layouts (or_first (slice_get numbers holder)) ≡ Some h.layout
 numbered layouts [] [] are holder h e = absurd cc
@@ -21,7 +16,7 @@ numbered layouts (x ∷ hs) [] are holder h e = absurd are
 numbered layouts (x ∷ hs) (n ∷ ns) are zero h e = let same : x ≡ h = cc in rw (← same) are.0
 numbered layouts (x ∷ hs) (n ∷ ns) are (suc k) h e = numbered layouts hs ns are.1 k h e
 
-entries : (processes : List Process) → AllByRecursion AllHaveEntries processes → (process : ℕ) → AllByRecursion (λ a. AllByRecursion IsEntry a.matches) (aggregations_of (slice_get processes process))
+entries : (processes : List Process) → AllByRecursion AllHaveEntries processes → (process : ℕ) → AllByRecursion HasEntries (aggregations_of (slice_get processes process))
 entries [] h process = tt
 entries (p ∷ ps) h zero = h.0
 entries (p ∷ ps) h (suc k) = entries ps h.1 k
@@ -30,7 +25,7 @@ pub lent : (net : Net) (order : List ℕ) (layouts : List Layout) (numbers : Lis
     → AreTables (record { net = net; order = order; numbering = record { layouts = layouts; numbers = numbers } })
 lent net order layouts numbers network report are descending few numbered_so = record {
   network = record { ranked = descending.ranked; fits = network.fits };
-  falls = descends net descending.ranked.rank [] order descending.descends;
+  falls = descending.descends;
   whole = descending.whole;
   reports = report;
   numbers = numbered layouts net.holders numbers numbered_so;

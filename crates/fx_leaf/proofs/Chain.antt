@@ -6,8 +6,9 @@ use Rattle.fx_elements.specs.declared.axis.Axis.TheVariants.{Source}
 use Rattle.fx_layout.specs.Keys.{Layout, Fits}
 use Rattle.fx_machine.specs.Network.{Device, Exporter, Holder, Aggregation, Process, exporters_of, Net, layout_of, aggregations_of}
 use Rattle.fx_machine.specs.Ranks.{RisesTo, Rises, AllRise, ProcessRises}
-use Rattle.fx_leaf.specs.Standings.{IsEntry}
-use Rattle.fx_leaf.specs.Tables.{Numbering, number_of_layout, Descends, Tables, AreTables}
+use Rattle.fx_machine.specs.Orders.{Descends}
+use Rattle.fx_machine.specs.Matches.{HasEntries}
+use Rattle.fx_leaf.specs.Tables.{Numbering, number_of_layout, Tables, AreTables}
 
 abbrev pub sends_on : List Exporter
 sends_on = record { parallel = true; destinations = Some 0 ∷ [] } ∷ record { parallel = true; destinations = Some 1 ∷ [] } ∷ record { parallel = true; destinations = Some 2 ∷ [] } ∷ []
@@ -71,7 +72,7 @@ module _ (devices : List Device) (report_layout a b c : Layout) where
     whole (suc (suc zero)) lt = (0, omega arith, refl)
     whole (suc (suc (suc k))) lt = absurd (omega arith)
 
-    entries : (process : ℕ) → AllByRecursion (λ a. AllByRecursion IsEntry a.matches) (aggregations_of (slice_get collecting process))
+    entries : (process : ℕ) → AllByRecursion HasEntries (aggregations_of (slice_get collecting process))
     entries zero = (tt, tt)
     entries (suc zero) = (((omega arith, omega arith), tt), tt)
     entries (suc (suc zero)) = tt

@@ -7,10 +7,11 @@ use Rattle.fx_boxes.specs.Boxes.{Bounds}
 use Rattle.fx_layout.specs.Keys.{Layout, refines}
 use Rattle.fx_machine.specs.Network.{Net, Exporter, Holder, Aggregation, Process, at_places, exporters_of, layout_of}
 use Rattle.fx_machine.specs.Ranks.{RisesTo, Rises, AllRise, ProcessRises, IsRanked}
+use Rattle.fx_machine.specs.Orders.{Descends}
 use Rattle.fx_leaf.specs.declared.verdict.Fate.TheVariants.{Never, Once, Unassigned}
 use Rattle.fx_leaf.specs.Standings.{standing, match_fields}
 use Rattle.fx_leaf.specs.Verdicts.{both_judged, all_judged, one_judged, where_passed, process_verdict, destination_verdict, send_verdict, sent_verdict, layout_reads, taken_verdict, tally_verdict, handled_verdict, coming_verdict, verdict}
-use Rattle.fx_leaf.specs.Tables.{Numbering, number_of_layout, Numbers, Table, or_never, entry_in, entry, taken_entry, handled_entry, entry_from, row_from, fill, Descends, HasVerdicts}
+use Rattle.fx_leaf.specs.Tables.{Numbering, number_of_layout, Numbers, Table, or_never, entry_in, entry, taken_entry, handled_entry, entry_from, row_from, fill, HasVerdicts}
 use Rattle.fx_leaf.specs.Answers.{TableIsVerdicts}
 use Rattle.fx_leaf.proofs.Ranks.{every_of_all, map_same, every_on}
 use Rattle.fx_leaf.proofs.Uncut.{verdict_agrees}

@@ -3,8 +3,9 @@ use Rattle.std.proofs.Common.{◌≡◌, ℕ, zero, suc, ◌+◌, ◌<◌, List,
 use Rattle.fx_boxes.specs.Boxes.{Bounds}
 use Rattle.fx_layout.specs.Keys.{Layout}
 use Rattle.fx_machine.specs.Network.{Net}
+use Rattle.fx_machine.specs.Orders.{Descends}
 use Rattle.fx_leaf.specs.Verdicts.{Verdict}
-use Rattle.fx_leaf.specs.Tables.{Numbering, Table, entry_from, row_from, fill, Descends}
+use Rattle.fx_leaf.specs.Tables.{Numbering, Table, entry_from, row_from, fill}
 
 module _ (table : Table) (net : Net) (n : Numbering) (region : Bounds) (process : ℕ) where
   pub row_length : (first : ℕ) (layouts : List Layout) → length (row_from table net n region process first layouts) ≡ length layouts

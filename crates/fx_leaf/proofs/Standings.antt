@@ -12,9 +12,10 @@ use Rattle.fx_boxes.proofs.Holding.{holds_is, holds_if}
 use Rattle.fx_layout.proofs.Layouts.{index_below}
 use Rattle.fx_layout.proofs.Projections.{and_true, and_both, axis_is}
 use Rattle.fx_machine.specs.declared.aggregation.MatchEntry.{MatchEntry}
+use Rattle.fx_machine.specs.Matches.{IsEntry}
 use Rattle.fx_machine.specs.Occurrences.{selects}
 use Rattle.fx_leaf.specs.SoundLeaves.{Uncut, matches_packet}
-use Rattle.fx_leaf.specs.Standings.{low_at, high_at, common, is_empty, is_within, standing, standing_to, all_fields, entry_low, entry_high, begins_with, IsEntry, entry_fields, match_fields, Tells}
+use Rattle.fx_leaf.specs.Standings.{low_at, high_at, common, is_empty, is_within, standing, standing_to, all_fields, entry_low, entry_high, begins_with, entry_fields, match_fields, Tells}
 
 -- ---- tests on each axis
 

@@ -5,7 +5,7 @@ use Rattle.std.specs.List.{AllByRecursion}
 use Rattle.fx_layout.specs.Keys.{Layout, Fits}
 use Rattle.fx_machine.specs.Network.{Device, Exporter, Holder, Process, Net, layout_of, aggregations_of}
 use Rattle.fx_machine.specs.Ranks.{ProcessRises}
-use Rattle.fx_leaf.specs.Standings.{IsEntry}
+use Rattle.fx_machine.specs.Matches.{HasEntries}
 use Rattle.fx_leaf.specs.Tables.{Numbering, number_of_layout, Tables, AreTables}
 
 abbrev pub two_caches : List Holder
@@ -42,7 +42,7 @@ module _ (devices : List Device) (exporters : List Exporter) (links : List ℕ) 
   whole zero lt = (zero, omega arith, refl)
   whole (suc k) lt = absurd (omega arith)
 
-  entries : (process : ℕ) → AllByRecursion (λ a. AllByRecursion IsEntry a.matches) (aggregations_of (slice_get one_process process))
+  entries : (process : ℕ) → AllByRecursion HasEntries (aggregations_of (slice_get one_process process))
   entries zero = tt
   entries (suc p) = tt
 

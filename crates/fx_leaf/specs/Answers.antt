@@ -5,12 +5,13 @@ use Rattle.fx_elements.specs.Axes.{Fields}
 use Rattle.fx_machine.specs.declared.traffic.Crossing.{Crossing}
 use Rattle.fx_machine.specs.Network.{Net}
 use Rattle.fx_machine.specs.Ranks.{IsRanked, IsNetwork}
+use Rattle.fx_machine.specs.Orders.{Descends}
 use Rattle.fx_leaf.specs.declared.verdict.Fate.{Fate}
 use Rattle.fx_leaf.specs.declared.verdict.Fate.TheVariants.{Once}
 use Rattle.fx_leaf.specs.Fates.{packet_fate}
 use Rattle.fx_leaf.specs.SoundLeaves.{SelectionsUncut, MatchesUncut, SoundLeaf}
 use Rattle.fx_leaf.specs.Verdicts.{Seen, path_verdict, counted}
-use Rattle.fx_leaf.specs.Tables.{Numbering, Numbers, Table, fill, Descends, HasVerdicts}
+use Rattle.fx_leaf.specs.Tables.{Numbering, Numbers, Table, fill, HasVerdicts}
 
 -- nothing cuts the region
 abbrev pub NothingCuts : Net → List Crossing → Bounds → Type 0

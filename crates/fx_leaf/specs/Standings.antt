@@ -1,5 +1,5 @@
 -- How a region stands to a test of packets: it passes for all of its packets, for none, or for some only.
-use Rattle.std.specs.Prelude.{◌≡◌, ℕ, ◌+◌, ◌-◌, ◌*◌, ◌^◌, Bool, true, false, ◌&&◌, nat_le, nat_lt, max, min, List, [], ◌∷◌, map, Option, Some, None, if◌then◌else◌, slice_index, ◌==◌, ◌<◌, ◌≤◌}
+use Rattle.std.specs.Prelude.{◌≡◌, ℕ, ◌+◌, ◌-◌, ◌*◌, ◌^◌, Bool, true, false, ◌&&◌, nat_le, nat_lt, max, min, List, [], ◌∷◌, map, Option, Some, None, if◌then◌else◌, slice_index, ◌==◌}
 use Rattle.std.specs.List.{list_all, list_any}
 use Rattle.fx_elements.specs.declared.axis.Axis.{Axis}
 use Rattle.fx_elements.specs.Axes.{Fields, axes, tops, axis_index, axis_width, same_axis, field}
@@ -38,10 +38,6 @@ standing_to region (Some other) = standing region other
 
 abbrev pub all_fields : Bounds
 all_fields = record { low = map (λ axis. 0) axes; high = tops }
-
--- an entry has no more bits than its axis, and its value no more than its bits
-abbrev pub IsEntry : MatchEntry → Type 0
-IsEntry e = (e.bits ≤ axis_width e.axis) × (e.value < 2 ^ e.bits)
 
 abbrev pub begins_with : MatchEntry → Fields → Bool
 begins_with e fields = leading (axis_width e.axis) e.bits (field fields e.axis) == e.value

@@ -5,9 +5,11 @@ use Rattle.fx_boxes.specs.Boxes.{Bounds}
 use Rattle.fx_layout.specs.Keys.{Layout}
 use Rattle.fx_machine.specs.Network.{Net, Holder, Aggregation, Process, at_places, exporters_of, aggregations_of}
 use Rattle.fx_machine.specs.Ranks.{IsNetwork}
+use Rattle.fx_machine.specs.Orders.{Descends}
+use Rattle.fx_machine.specs.Matches.{HasEntries}
 use Rattle.fx_leaf.specs.declared.table.TheConstants.{LAYOUTS}
 use Rattle.fx_leaf.specs.declared.verdict.Fate.TheVariants.{Never}
-use Rattle.fx_leaf.specs.Standings.{IsEntry, standing, match_fields}
+use Rattle.fx_leaf.specs.Standings.{standing, match_fields}
 use Rattle.fx_leaf.specs.Verdicts.{Verdict, both_judged, all_judged, where_passed, sent_verdict, layout_reads, tally_verdict, verdict}
 
 -- ---- layouts by number
@@ -75,14 +77,6 @@ fill net n region [] table = table
 fill net n region (process ∷ processes) table =
     fill net n region processes (slice_set table process (row_from table net n region process 0 n.layouts))
 
--- ---- the order in which rows are filled
-
--- each process comes behind all of higher rank
-abbrev pub Descends : Net → (ℕ → ℕ) → List ℕ → List ℕ → Type 0
-Descends net rank done [] = Unit {0}
-Descends net rank done (process ∷ processes) =
-    (process < length net.processes) × ((q : ℕ) → q < length net.processes → rank process < rank q → Contains done q) × Descends net rank (process ∷ done) processes
-
 -- the entries for a process are its verdicts
 abbrev pub HasVerdicts : Net → Numbering → Bounds → Table → ℕ → Type 0
 HasVerdicts net n region table process =
@@ -103,4 +97,4 @@ pub record AreTables (t : Tables) : Type 0 where
   pub reports : t.net.report < length t.net.processes
   pub numbers : Numbers t.net t.numbering
   pub few : length t.numbering.layouts ≤ LAYOUTS
-  pub entries : (process : ℕ) → AllByRecursion (λ a. AllByRecursion IsEntry a.matches) (aggregations_of (slice_get t.net.processes process))
+  pub entries : (process : ℕ) → AllByRecursion HasEntries (aggregations_of (slice_get t.net.processes process))

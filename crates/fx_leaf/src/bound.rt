@@ -1,6 +1,7 @@
 //! Bounds at which a region may be split.
 ghost use Rattle.std.specs.Prelude.{◌≡◌, None, IfSome, IfNone};
 ghost use Rattle.std.specs.List.{AllByRecursion};
+ghost use Rattle.fx_machine.specs.Matches.{IsEntry};
 ghost use Rattle.fx_leaf.specs.Splits as splits;
 ghost use Rattle.fx_leaf.specs.Standings as standings;
 
@@ -52,7 +53,7 @@ pub(crate) fn bound(region: &Region, other: &Region) -> Option<(Axis, u128)>
 
 /// A bound of a match, all of its entries together, where it cuts the region.
 pub(crate) fn bound_of_match(region: &Region, entries: &[MatchEntry]) -> Option<(Axis, u128)>
-    requires { AllByRecursion standings.IsEntry entries.now }
+    requires { AllByRecursion IsEntry entries.now }
     ensures some { IfSome result (λ s. splits.IsSplitBy region.now (standings.match_fields entries.now) s.0 s.1) }
     ensures none { IfNone result (standings.standing region.now (standings.match_fields entries.now) ≡ None → ⊥) }
 {

@@ -2,8 +2,8 @@
 ghost use Rattle.std.specs.Prelude.{◌≡◌, map, slice_get, Some};
 ghost use Rattle.std.specs.List.{AllByRecursion, list_all};
 ghost use Rattle.fx_layout.specs.Keys as keys;
+ghost use Rattle.fx_machine.specs.Matches.{HasEntries};
 ghost use Rattle.fx_machine.specs.Network as network;
-ghost use Rattle.fx_leaf.specs.Standings as standings;
 ghost use Rattle.fx_leaf.specs.Tables as by_table;
 ghost use Rattle.fx_leaf.specs.Verdicts as verdicts;
 
@@ -52,7 +52,7 @@ fn taken(
     layout: &Layout,
     aggregation: &Aggregation,
 ) -> Option<Fate>
-    requires { AllByRecursion standings.IsEntry aggregation.now.matches }
+    requires { HasEntries aggregation.now }
     ensures { result ≡ by_table.taken_entry rows.now tables.now.net tables.now.numbering region.now layout.now aggregation.now }
 {
     if !layout_reads(tables.net(), layout, aggregation) {
@@ -70,7 +70,7 @@ fn all_taken(
     layout: &Layout,
     aggregations: &[Aggregation],
 ) -> Option<Fate>
-    requires { AllByRecursion (λ a. AllByRecursion standings.IsEntry a.matches) aggregations.now }
+    requires { AllByRecursion HasEntries aggregations.now }
     ensures { result ≡ verdicts.all_judged (map (by_table.taken_entry rows.now tables.now.net tables.now.numbering region.now layout.now) aggregations.now) }
 {
     let mut joined = Some(Fate::Never);
@@ -89,7 +89,7 @@ fn handled(
     layout: &Layout,
     process: &Process,
 ) -> Option<Fate>
-    requires { AllByRecursion (λ a. AllByRecursion standings.IsEntry a.matches) process.now.aggregations }
+    requires { AllByRecursion HasEntries process.now.aggregations }
     ensures { result ≡ by_table.handled_entry rows.now tables.now.net tables.now.numbering region.now number layout.now (Some process.now) }
 {
     let forwarded = sent(rows, tables.net(), number, process.exporters());

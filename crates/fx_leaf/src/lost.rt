@@ -2,9 +2,9 @@
 ghost use Rattle.std.specs.Prelude.{◌≡◌, ℕ, map, slice_get, Contains, Some, None, [], ◌∷◌, IfSome, IfNone};
 ghost use Rattle.std.specs.List.{AllByRecursion};
 ghost use Rattle.fx_layout.specs.Keys as keys;
+ghost use Rattle.fx_machine.specs.Matches.{HasEntries};
 ghost use Rattle.fx_machine.specs.Network as network;
 ghost use Rattle.fx_leaf.specs.Lost as by_lost;
-ghost use Rattle.fx_leaf.specs.Standings as standings;
 ghost use Rattle.fx_leaf.specs.Tables as by_table;
 ghost use Rattle.fx_leaf.specs.Verdicts as verdicts;
 
@@ -106,7 +106,7 @@ fn lost_in_match(
     layout: &Layout,
     aggregation: &Aggregation,
 ) -> Option<Lost>
-    requires { AllByRecursion standings.IsEntry aggregation.now.matches }
+    requires { HasEntries aggregation.now }
     ensures some { IfSome result (λ lost. by_lost.LostIn tables.now region.now rows.now layout.now aggregation.now lost) }
     ensures none { IfNone result (by_table.taken_entry rows.now tables.now.net tables.now.numbering region.now layout.now aggregation.now ≡ None → ⊥) }
 {
@@ -131,7 +131,7 @@ fn lost_in_matches(
     layout: &Layout,
     aggregations: &[Aggregation],
 ) -> Option<Lost>
-    requires { AllByRecursion (λ a. AllByRecursion standings.IsEntry a.matches) aggregations.now }
+    requires { AllByRecursion HasEntries aggregations.now }
     ensures some { IfSome result (λ lost. by_lost.LostAmong tables.now region.now rows.now layout.now aggregations.now lost) }
     ensures none { IfNone result (verdicts.all_judged (map (by_table.taken_entry rows.now tables.now.net tables.now.numbering region.now layout.now) aggregations.now) ≡ None → ⊥) }
 {
@@ -152,7 +152,7 @@ fn lost_in(
     layout: &Layout,
     process: &Process,
 ) -> Option<Lost>
-    requires { AllByRecursion (λ a. AllByRecursion standings.IsEntry a.matches) process.now.aggregations }
+    requires { AllByRecursion HasEntries process.now.aggregations }
     ensures some { IfSome result (λ lost. by_lost.LostAt tables.now region.now rows.now number layout.now process.now lost) }
     ensures none { IfNone result (by_table.handled_entry rows.now tables.now.net tables.now.numbering region.now number layout.now (Some process.now) ≡ None → ⊥) }
 {

@@ -3,6 +3,7 @@ ghost use Rattle.std.specs.Prelude.{◌≡◌, ◌≤◌, ◌<◌, ◌↔◌, �
 ghost use Rattle.std.specs.List.{AllByRecursion};
 ghost use Rattle.fx_boxes.specs.Boxes as boxes;
 ghost use Rattle.fx_elements.specs.Axes as axes;
+ghost use Rattle.fx_machine.specs.Matches.{IsEntry};
 ghost use Rattle.fx_leaf.specs.SoundLeaves as leaves;
 ghost use Rattle.fx_leaf.specs.Standings as standings;
 
@@ -74,7 +75,7 @@ fn up_to(region: &Region, axis: Axis, most: u128) -> Option<Region>
 
 /// How many values of its axis begin with the bits of an entry.
 fn span(entry: MatchEntry) -> u128
-    requires { standings.IsEntry entry }
+    requires { IsEntry entry }
     ensures { result ≡ 2 ^ (axes.axis_width entry.axis - entry.bits) }
 {
     1 << (width(entry.axis) - entry.bits)
@@ -82,7 +83,7 @@ fn span(entry: MatchEntry) -> u128
 
 /// The least value that begins with the bits of an entry.
 fn least_of(entry: MatchEntry) -> u128
-    requires { standings.IsEntry entry }
+    requires { IsEntry entry }
     ensures { result ≡ standings.entry_low entry }
 {
     entry.value * span(entry)
@@ -90,7 +91,7 @@ fn least_of(entry: MatchEntry) -> u128
 
 /// The greatest value that begins with the bits of an entry.
 fn most_of(entry: MatchEntry) -> u128
-    requires { standings.IsEntry entry }
+    requires { IsEntry entry }
     ensures value { result ≡ standings.entry_high entry }
     ensures bound { result < 2 ^ 127 }
 {
@@ -99,7 +100,7 @@ fn most_of(entry: MatchEntry) -> u128
 
 /// The fields of the region that begin with the bits of an entry, if there are any.
 fn narrowed(region: &Region, entry: MatchEntry) -> Option<Region>
-    requires { standings.IsEntry entry }
+    requires { IsEntry entry }
     ensures some { IfSome result (λ r. (f : List ℕ) → boxes.Holds r f ↔ (boxes.Holds region.now f × (standings.begins_with entry f ≡ true))) }
     ensures none { IfNone result ((f : List ℕ) → boxes.Holds region.now f → standings.begins_with entry f ≡ false) }
 {
@@ -111,7 +112,7 @@ fn narrowed(region: &Region, entry: MatchEntry) -> Option<Region>
 
 /// The fields of the region for which all entries hold, if there are any.
 pub(crate) fn matching(region: &Region, entries: &[MatchEntry]) -> Option<Region>
-    requires { AllByRecursion standings.IsEntry entries.now }
+    requires { AllByRecursion IsEntry entries.now }
     ensures some { IfSome result (λ r. (f : List ℕ) → boxes.Holds r f ↔ (boxes.Holds region.now f × (leaves.matches_packet entries.now f ≡ true))) }
     ensures none { IfNone result ((f : List ℕ) → boxes.Holds region.now f → leaves.matches_packet entries.now f ≡ false) }
 {
@@ -127,7 +128,7 @@ pub(crate) fn matching(region: &Region, entries: &[MatchEntry]) -> Option<Region
 /// Whether a match, all of its entries together, holds of all fields of the region or of none. None where it holds
 /// of some only.
 pub fn standing_to_match(region: &Region, entries: &[MatchEntry]) -> Option<bool>
-    requires { AllByRecursion standings.IsEntry entries.now }
+    requires { AllByRecursion IsEntry entries.now }
     ensures { result ≡ standings.standing region.now (standings.match_fields entries.now) }
 {
     bounded(region);

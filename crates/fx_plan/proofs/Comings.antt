@@ -9,8 +9,9 @@ use Rattle.std.proofs.lemmas.List.Elements.{Contains-append_right}
 use Rattle.std.proofs.lemmas.List.Folds.{list_any-append}
 use Rattle.fx_elements.proofs.Cuts.{chosen}
 use Rattle.fx_machine.specs.Network.{Net}
+use Rattle.fx_machine.specs.Orders.{Descends}
 use Rattle.fx_plan.specs.Feeding.{feeds, feeds_by, places_of}
-use Rattle.fx_plan.specs.Ranks.{is_in, is_ready, next, ComesNext, place_from, rank_in, Descends, IsFedWithin, IsStuck, IsRankOrder}
+use Rattle.fx_plan.specs.Ranks.{is_in, is_ready, next, ComesNext, place_from, rank_in, IsFedWithin, IsStuck, IsRankOrder}
 
 -- ---- ranges
 

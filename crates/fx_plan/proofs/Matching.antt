@@ -27,7 +27,7 @@ use Rattle.fx_config.specs.Devices.{device_of}
 use Rattle.fx_config.specs.PropertyMatches.{property_match_of, property_meant}
 use Rattle.fx_plan.specs.declared.network_device.NetworkDevice.{NetworkDevice}
 use Rattle.fx_plan.specs.Labels.{Label, exporting_labels}
-use Rattle.fx_plan.specs.Matches.{AllHaveEntries, AreEntries, HasEntries, IsEntry}
+use Rattle.fx_machine.specs.Matches.{AllHaveEntries, AreEntries, HasEntries, IsEntry}
 use Rattle.fx_plan.specs.NetworkDevices.{network_device_of}
 use Rattle.fx_plan.specs.Networks.{devices_of, network_of}
 use Rattle.fx_plan.specs.Tables.{aggregations_from, cache_holders, held_by, match_entry, net_of, processes_from, processes_in}

@@ -8,6 +8,5 @@ pub mod Tables
 pub mod Feeding
 pub mod Ranks
 pub mod Layouts
-pub mod Matches
 pub mod Cycles
 pub mod Plans

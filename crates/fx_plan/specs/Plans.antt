@@ -7,12 +7,12 @@ use Rattle.fx_base.specs.Fault.{fault_at}
 use Rattle.fx_config.specs.Walk.{Refuses}
 use Rattle.fx_layout.specs.Keys.{Fits, Layout}
 use Rattle.fx_machine.specs.Network.{Net, layout_of}
+use Rattle.fx_machine.specs.Matches.{AreEntries}
 use Rattle.fx_machine.specs.Ranks.{IsRanked}
 use Rattle.fx_plan.specs.declared.limits.TheConstants.{LAYOUTS}
 use Rattle.fx_plan.specs.declared.network.Network.{Network}
 use Rattle.fx_plan.specs.Cycles.{IsText, stuck_text}
 use Rattle.fx_plan.specs.Layouts.{AreNumbers, layouts_of}
-use Rattle.fx_plan.specs.Matches.{AreEntries}
 use Rattle.fx_plan.specs.Networks.{network_faults, network_of}
 use Rattle.fx_plan.specs.Ranks.{AreStuck, IsStuck, IsWhole, LinksLead}
 use Rattle.fx_plan.specs.Tables.{net_of}

@@ -2,6 +2,7 @@
 use Rattle.std.specs.Prelude.{◌≡◌, ℕ, suc, ◌<◌, ◌≤◌, ◌==◌, Bool, true, not, ◌&&◌, ◌||◌, List, [], ◌∷◌, ◌++◌, length, Contains, Option, Some, None, find, filter, position, slice_get, if◌then◌else◌}
 use Rattle.std.specs.List.{list_any, list_all}
 use Rattle.fx_machine.specs.Network.{Net}
+use Rattle.fx_machine.specs.Orders.{Descends}
 use Rattle.fx_machine.specs.Ranks.{IsRanked}
 use Rattle.fx_plan.specs.Feeding.{feeds, places_of}
 
@@ -38,13 +39,7 @@ rank_in order process = place_from 0 order process
 abbrev pub IsRank : Net → ℕ → Option ℕ → Type 0
 IsRank net process rank = (order : List ℕ) × IsRankOrder net order × (rank ≡ position (λ p. p == process) order)
 
--- each process comes behind all of higher rank, and all come
-abbrev pub Descends : Net → (ℕ → ℕ) → List ℕ → List ℕ → Type 0
-Descends net rank done [] = Unit {0}
-Descends net rank done (process ∷ processes) =
-    (process < length net.processes) × ((q : ℕ) → q < length net.processes → rank process < rank q → Contains done q) × Descends net rank (process ∷ done) processes
-
--- processes in an order in which those with higher ranks come first
+-- an order in which those with higher ranks come first, and all come
 pub record IsDescending (net : Net) (order : List ℕ) : Type 0 where
   pub ranked : IsRanked net
   pub descends : Descends net ranked.rank [] order

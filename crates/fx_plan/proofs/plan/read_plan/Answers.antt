@@ -1,8 +1,8 @@
 use Rattle.std.proofs.Common.{List, length, ◌≤◌, sym, ap, ◌∙◌, subst}
 use Rattle.serde_json.specs.View.{view}
+use Rattle.fx_machine.specs.Matches.{AreEntries}
 use Rattle.fx_machine.specs.Network.{Net}
 use Rattle.fx_plan.specs.Layouts.{layouts_of}
-use Rattle.fx_plan.specs.Matches.{AreEntries}
 use Rattle.fx_plan.specs.Plans.{IsResolved}
 use Rattle.fx_plan.specs.Ranks.{IsStuck}
 use Rattle.fx_plan.specs.declared.limits.TheConstants.{LAYOUTS}
