@@ -8,3 +8,4 @@ pub mod Resolution
 pub mod Matching
 pub mod Stalling
 pub mod Grouping
+pub mod Starting

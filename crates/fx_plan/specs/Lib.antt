@@ -1,6 +1,7 @@
 pub mod RequiredLists
 pub mod NetworkDevices
 pub mod Links
+pub mod Starts
 pub mod Reports
 pub mod Networks
 pub mod Labels

@@ -68,19 +68,3 @@ pub fn has_ends(devices: &[NetworkDevice], link: &Link) -> bool
 {
     has_start(devices, link) && has_collecting_process(devices, &link.to_device, &link.to_process)
 }
-
-/// Whether two links lead from one destination.
-fn same_start(a: &Link, b: &Link) -> bool
-    ensures { result ≡ links.same_start a.now b.now }
-{
-    a.device == b.device
-        && a.exporting_process == b.exporting_process
-        && a.destination == b.destination
-}
-
-/// Whether one of these links leads from the same destination.
-pub fn starts_there(earlier: &[Link], link: &Link) -> bool
-    ensures { result ≡ links.starts_there earlier.now link.now }
-{
-    earlier.iter().any(|other| same_start(link, other))
-}

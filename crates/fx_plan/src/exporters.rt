@@ -3,32 +3,17 @@ ghost use Rattle.std.specs.Prelude.{◌≡◌, ◌++◌, OnOk, IfOk, map};
 ghost use Rattle.std.specs.List.{position};
 ghost use Rattle.fx_plan.specs.Tables as tables;
 
-use crate::link::Link;
+use crate::link_table::Links;
 use crate::network_device::NetworkDevice;
 use fx_base::Name;
 use fx_config::{Destination, ExportMode, ExportingProcess};
 use fx_machine::Exporter;
 use std::alloc::{AllocError, Global};
 
-fn leads_from(link: &Link, device: &Name, process: &Name, destination: &Name) -> bool
-    ensures { result ≡ tables.leads_from device.now process.now destination.now link.now }
-{
-    link.device == *device && link.exporting_process == *process && link.destination == *destination
-}
-
-/// The place of the link that leads from a destination, if there is one.
-fn link_place(links: &[Link], device: &Name, process: &Name, destination: &Name) -> Option<usize>
-    ensures { result ≡ position (tables.leads_from device.now process.now destination.now) links.now }
-{
-    links
-        .iter()
-        .position(|link| leads_from(link, device, process, destination))
-}
-
-/// The links of an exporting process's destinations.
+/// The place of the link of each destination of an exporting process, if it has one.
 fn link_places(
     alloc: Global,
-    links: &[Link],
+    links: &Links,
     device: &Name,
     process: &Name,
     destinations: &[Destination],
@@ -37,7 +22,8 @@ fn link_places(
 {
     let mut places = Vec::new(alloc);
     for destination in destinations {
-        places.push(link_place(links, device, process, &destination.name))?;
+        let place = links.place_of(device, process, &destination.name)?;
+        places.push(place)?;
     }
     Ok(places)
 }
@@ -54,7 +40,7 @@ fn is_parallel(mode: ExportMode) -> bool
 
 fn exporter_of(
     alloc: Global,
-    links: &[Link],
+    links: &Links,
     device: &Name,
     process: &ExportingProcess,
 ) -> Result<Exporter, AllocError>
@@ -69,7 +55,7 @@ fn exporter_of(
 fn push_exporters(
     alloc: Global,
     exporters: &mut Vec<Exporter>,
-    links: &[Link],
+    links: &Links,
     device: &Name,
     processes: &[ExportingProcess],
 ) -> Result<(), AllocError>
@@ -85,7 +71,7 @@ fn push_exporters(
 /// The exporting processes of all devices, in document order.
 pub fn exporters_of(
     alloc: Global,
-    links: &[Link],
+    links: &Links,
     devices: &[NetworkDevice],
 ) -> Result<Vec<Exporter>, AllocError>
     ensures { IfOk result (λ v. v.items ≡ tables.exporters_of links.now devices.now) }

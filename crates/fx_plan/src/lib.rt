@@ -11,6 +11,7 @@ mod labels;
 mod layouts;
 mod limits;
 mod link;
+mod link_table;
 mod links;
 mod network;
 mod network_device;
@@ -25,6 +26,7 @@ mod report;
 mod required_list;
 
 pub use link::Link;
+pub use link_table::Links;
 pub use network::{Network, read_network};
 pub use network_device::NetworkDevice;
 pub use plan::{Plan, read_plan};

@@ -1,18 +1,19 @@
 //! The list of links.
-ghost use Rattle.std.specs.Prelude.{◌≡◌, ℕ, List, [], ◌∷◌, map, codes, not};
+ghost use Rattle.std.specs.Prelude.{◌≡◌, ℕ, List, [], ◌∷◌, ◌++◌, OnOk, map, codes, not};
 ghost use Rattle.serde_json.specs.View.{view};
 ghost use Rattle.fx_config.specs.Pointer.{pointer};
 ghost use Rattle.fx_config.specs.Walk.{Reads, fault_if, member_of};
 ghost use Rattle.fx_config.specs.Lists.{items_of};
 ghost use Rattle.fx_plan.specs.Links.{has_ends, starts_there, link_faults, link_of, links_faults, links_row};
 
-use crate::ends::{has_ends, starts_there};
+use crate::ends::has_ends;
 use crate::limits::LINKS;
 use crate::link::Link;
+use crate::link_table::Links;
 use crate::network_device::NetworkDevice;
 use crate::refuse::refuse_if;
 use fx_base::{Fault, Name};
-use fx_config::walk::{Path, Sequence, items_in, object_of, refusal, required_member};
+use fx_config::walk::{Path, items_in, object_of, refusal, required_member};
 use serde_json::Value;
 use std::alloc::Global;
 
@@ -28,23 +29,26 @@ fn ends_are_there(
     refuse_if(alloc, path, 201, !has_ends(devices, link))
 }
 
-/// Refuses a link at the path that leads from the same destination as an earlier one (202).
-fn starts_alone(alloc: Global, path: &Path<'_>, earlier: &[Link], link: &Link) -> Result<(), Fault>
-    ensures { Reads (fault_if (starts_there earlier.now link.now) 202 (pointer path.now)) tt result }
+/// Puts a link at the path behind these. Refuses it where one of them leads from the same destination (202).
+fn add_alone(alloc: Global, path: &Path<'_>, earlier: &mut Links, link: Link) -> Result<(), Fault>
+    ensures reads { Reads (fault_if (starts_there earlier.old link) 202 (pointer path.now)) tt result }
+    ensures links { OnOk result (earlier.new ≡ earlier.old ++ link ∷ []) }
 {
-    refuse_if(alloc, path, 202, starts_there(earlier, link))
+    let alone = earlier.add(link)?;
+    refuse_if(alloc, path, 202, !alone)
 }
 
-/// The link that stands at the path behind these: 201 where one of its ends isn't there, 202 where an earlier
+/// Puts the link that stands at the path behind these: 201 where one of its ends isn't there, 202 where an earlier
 /// link leads from the same destination.
-fn link_behind(
+fn add_link(
     alloc: Global,
     path: &Path<'_>,
     value: &Value,
     devices: &[NetworkDevice],
-    earlier: &[Link],
-) -> Result<Link, Fault>
-    ensures { Reads (link_faults devices.now earlier.now (pointer path.now) (view value.now)) (link_of (view value.now)) result }
+    earlier: &mut Links,
+) -> Result<(), Fault>
+    ensures reads { Reads (link_faults devices.now earlier.old (pointer path.now) (view value.now)) tt result }
+    ensures links { OnOk result (earlier.new ≡ earlier.old ++ link_of (view value.now) ∷ []) }
 {
     object_of(
         alloc,
@@ -71,8 +75,8 @@ fn link_behind(
         to_process,
     };
     ends_are_there(alloc, path, devices, &link)?;
-    starts_alone(alloc, path, earlier, &link)?;
-    Ok(link)
+    add_alone(alloc, path, earlier, link)?;
+    Ok(())
 }
 
 /// What the links of the list at the path mean, in order.
@@ -81,23 +85,17 @@ fn links_of(
     path: &Path<'_>,
     items: &[Value],
     devices: &[NetworkDevice],
-) -> Result<Sequence<Link>, Fault>
+) -> Result<Links, Fault>
     ensures { Reads (links_faults devices.now [] (pointer path.now) 0 (map view items.now)) (map link_of (map view items.now)) result }
 {
-    let mut values = Vec::new(alloc);
+    let mut links = Links::new(alloc);
     let mut place = 0;
     for item in items {
-        let value = link_behind(
-            alloc,
-            &Path::Item(&*path, place),
-            item,
-            devices,
-            values.as_slice(),
-        )?;
-        values.push(value)?;
+        let path = Path::Item(&*path, place);
+        add_link(alloc, &path, item, devices, &mut links)?;
         place += 1;
     }
-    Ok(Sequence::from_vec(values))
+    Ok(links)
 }
 
 /// The network's links: 103 at the object where there is no list of them.
@@ -106,7 +104,7 @@ pub fn links_member(
     path: &Path<'_>,
     object: &Value,
     devices: &[NetworkDevice],
-) -> Result<Sequence<Link>, Fault>
+) -> Result<Links, Fault>
     ensures { Reads ((links_row devices.now).faults (pointer path.now) (view object.now)) (map link_of (items_of (member_of (codes "links") (view object.now)))) result }
 {
     match object.get("links") {

@@ -5,7 +5,7 @@ ghost use Rattle.fx_config.specs.Walk.{Reads};
 ghost use Rattle.fx_plan.specs.Networks.{network_faults, network_of};
 
 use crate::limits::DEVICES;
-use crate::link::Link;
+use crate::link_table::Links;
 use crate::links::links_member;
 use crate::network_device::NetworkDevice;
 use crate::process_count::processes_are_few;
@@ -23,7 +23,7 @@ pub struct Network {
     /// The devices, in document order, as all its lists.
     pub devices: Sequence<NetworkDevice>,
     /// The links between them.
-    pub links: Sequence<Link>,
+    pub links: Links,
     /// What is asked for.
     pub report: Report,
 }

@@ -42,15 +42,14 @@ fn net_of(alloc: Global, network: &Network) -> Result<Net, AllocError>
     ensures { IfOk result (λ net. net ≡ tables.net_of network.now) }
 {
     let devices = network.devices.as_slice();
-    let links = network.links.as_slice();
     let caches = cache_labels(alloc, devices)?;
     let collecting = collecting_labels(alloc, devices)?;
     let tables = tables_of(alloc, &caches, &collecting, devices)?;
-    let exporters = exporters_of(alloc, links, devices)?;
+    let exporters = exporters_of(alloc, &network.links, devices)?;
     let exporting = exporting_labels(alloc, devices)?;
     let mut holders = cache_holders(alloc, &exporting, devices)?;
     let processes = processes_in(alloc, &mut holders, &exporting, devices)?;
-    let ends = link_ends(alloc, &collecting, links)?;
+    let ends = link_ends(alloc, &collecting, network.links.as_slice())?;
     let report = &network.report;
     let report_place = place(&collecting, &report.device, &report.collecting_process);
     let layout = report_layout_of(network);

@@ -1,10 +1,16 @@
-use Rattle.std.proofs.Common.{List, length, ◌≤◌, sym, ap, ◌∙◌, subst}
+use Rattle.std.proofs.Common.{◌≡◌, ◌⊎◌, List, [], length, ◌≤◌, Result, Ok, Err, IsErr, IsErrAnd, refl, sym, ap, ◌∙◌, subst, inl, inr}
+use Rattle.serde_json.specs.Data.{Data}
 use Rattle.serde_json.specs.View.{view}
+use Rattle.fx_base.specs.Fault.{fault_at}
+use Rattle.fx_base.specs.declared.fault.Fault.{Fault}
+use Rattle.fx_base.specs.declared.fault.Place.TheVariants as places
 use Rattle.fx_machine.specs.Matches.{AreEntries}
 use Rattle.fx_machine.specs.Network.{Net}
 use Rattle.fx_plan.specs.Layouts.{layouts_of}
-use Rattle.fx_plan.specs.Plans.{IsResolved}
+use Rattle.fx_plan.specs.Plans.{IsCycle, IsResolved, ReadsPlan}
+use Rattle.fx_plan.specs.Networks.{network_faults, network_of}
 use Rattle.fx_plan.specs.Ranks.{IsStuck}
+use Rattle.fx_plan.specs.declared.network.Network.{Network}
 use Rattle.fx_plan.specs.declared.limits.TheConstants.{LAYOUTS}
 use Rattle.fx_layout.specs.Keys.{Layout}
 use Rattle.fx_plan.specs.Tables.{net_of}
@@ -12,6 +18,16 @@ use Rattle.fx_plan.proofs.Matching.{network_entries}
 use Rattle.fx_plan.proofs.Resolution.{resolved}
 use Rattle.fx_plan.proofs.Stalling.{none_are_stuck}
 use Rattle.fx_plan.proofs.plan.read_plan.Goals as goal
+
+-- the exit where there are no ranks
+no_ranks : (d : Data) (network : Network) (r : Result Network Fault) (e : Fault) → IsErr r × IsErrAnd r (λ x. x ≡ e) → network_faults [] d ≡ [] → network ≡ network_of d → length (layouts_of (net_of network)) ≤ LAYOUTS → (e ≡ fault_at 900 places.None) ⊎ IsCycle network e → ReadsPlan d r
+no_ranks d network (Ok x) e h none is few why = absurd h.1
+no_ranks d network (Err x) e h none is few why =
+    rw h.1
+    (elim why [
+      | inl m ↦ inl (rw m refl)
+      | inr cycle ↦ inr (none, inr (subst (λ (n : Network). length (layouts_of (net_of n)) ≤ LAYOUTS) is few, subst (λ (n : Network). IsCycle n e) is cycle))
+    ])
 
 pub ranks_of-requires-clause-resolved : goal.ranks_of-requires-clause-resolved
 ranks_of-requires-clause-resolved c =
@@ -33,6 +49,11 @@ invariant_of-result c =
       few = c.in_ok-numbering.ensures.few;
       numbers_are = c.in_ok-numbering.ensures.numbers;
     }
+
+pub returns-in_err-ranks : goal.returns-in_err-ranks
+returns-in_err-ranks c =
+    let few : length (layouts_of (net_of c.in_ok-network.network)) ≤ LAYOUTS = subst (λ (n : Net). length (layouts_of n) ≤ LAYOUTS) c.in_ok-net.ensures (subst (λ (l : List Layout). length l ≤ LAYOUTS) c.in_ok-numbering.ensures.layouts c.in_ok-numbering.ensures.few) in
+    no_ranks (view c.args.value.now) c.in_ok-network.network _ _ c.from_residual-in_err-ranks.ensures c.in_ok-network.ensures.0 c.in_ok-network.ensures.1 few c.in_err-ranks.ensures.err
 
 pub returns : goal.returns
 returns c =
