@@ -1,6 +1,6 @@
 -- Which collecting processes feed which: a process feeds those to which what it sends, and what its aggregations
 -- send, can be carried.
-use Rattle.std.specs.Prelude.{ℕ, ◌==◌, Bool, false, not, ◌||◌, List, length, map, zip, Option, Some, None, slice_get}
+use Rattle.std.specs.Prelude.{ℕ, ◌==◌, Bool, true, false, not, ◌||◌, List, length, map, zip, Option, Some, None, slice_get, slice_set}
 use Rattle.std.specs.List.{list_any, list_all, range_with_len}
 use Rattle.fx_machine.specs.Network.{Net, Exporter, Process, at_places, exporters_of}
 
@@ -17,6 +17,19 @@ leads_to net process (Some link) = is_place process (slice_get net.links link)
 abbrev pub leads_at : Net → ℕ → Option Exporter → Bool
 leads_at net process None = false
 leads_at net process (Some exporter) = list_any (leads_to net process) exporter.destinations
+
+-- where a destination leads to
+abbrev pub end_of : Net → Option ℕ → Option ℕ
+end_of net None = None
+end_of net (Some link) = slice_get net.links link
+
+-- for each process whether an exporting process has a destination that leads there
+abbrev pub targets : Net → Exporter → List Bool
+targets net exporter = map (λ to. list_any (leads_to net to) exporter.destinations) (range_with_len 0 (length net.processes))
+
+abbrev pub with_flag : List Bool → Option ℕ → List Bool
+with_flag flags None = flags
+with_flag flags (Some place) = slice_set flags place true
 
 abbrev pub lead_to : Net → ℕ → List Exporter → Bool
 lead_to net process exporters = list_any (λ e. list_any (leads_to net process) e.destinations) exporters

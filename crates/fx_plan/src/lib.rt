@@ -24,6 +24,7 @@ mod ranks;
 mod refuse;
 mod report;
 mod required_list;
+mod targets;
 
 pub use link::Link;
 pub use link_table::Links;
