@@ -1,6 +1,7 @@
 #!/bin/sh
-# Times the reading of large and hostile device documents: the parse by serde_json alone, and the parse and the walk.
-# Fails where the walk takes more than three times as long as the parse.
+# Times the reading of large and hostile documents of devices and of networks: the parse by serde_json alone, and the
+# parse and the rest (the walk, and of a network its tables and ranks too). Fails where the rest takes more than three
+# times as long as the parse.
 #
 # It needs rt (the Rattle kit) and python3. The program is proved and built in a folder of its own, which is removed.
 set -eu
@@ -11,13 +12,13 @@ work=$(mktemp -d)
 trap 'rm -rf "$work"' EXIT
 
 mkdir -p "$work/crates" "$work/documents"
-for name in fx_base fx_elements fx_boxes fx_layout fx_config; do
+for name in fx_base fx_elements fx_boxes fx_layout fx_machine fx_config fx_selectors fx_plan; do
     cp -a "$top/crates/$name" "$work/crates/$name"
     grep "^$name:" "$top/crates.txt" >> "$work/crates.txt"
 done
 mkdir -p "$work/crates/documents_bench/src"
 cp "$here/documents/main.rt.txt" "$work/crates/documents_bench/src/main.rt"
-echo "documents_bench: fx_config fx_layout fx_boxes fx_elements fx_base itoa thiserror arrayvec indexmap serde_json anyhow" >> "$work/crates.txt"
+echo "documents_bench: fx_plan fx_selectors fx_config fx_machine fx_layout fx_boxes fx_elements fx_base itoa thiserror arrayvec indexmap serde_json anyhow" >> "$work/crates.txt"
 
 python3 "$here/make_documents.py" "$work/documents"
 (cd "$work/crates/documents_bench" && rt run --jobs 1 -- "$work/documents/long-text.json" > "$work/build.txt" 2>&1) || {
@@ -47,9 +48,9 @@ failed = False
 for name in sorted(os.listdir(folder)):
     path = os.path.join(folder, name)
     parse, _ = seconds([program, path])
-    both, said = seconds([program, path, "walk"])
+    both, said = seconds([program, path, "network" if name.startswith("network") else "device"])
     walk = max(both - parse, 0)
-    print("%-20s %9d octets   parse %.3f s   walk %.3f s (%.2f times)   %s" % (name, os.path.getsize(path), parse, walk, walk / parse, said))
+    print("%-28s %9d octets   parse %.3f s   walk %.3f s (%.2f times)   %s" % (name, os.path.getsize(path), parse, walk, walk / parse, said))
     failed = failed or walk > 3 * parse
 sys.exit(1 if failed else 0)
 PYTHON
