@@ -7,32 +7,7 @@ use crate::key::{LastLayout, address_part, whole_part};
 use crate::seen::{PLACES, Seen};
 use fx_base::Counts;
 use fx_elements::Axis;
-use fx_layout::Key;
 use fx_machine::Record;
-
-/// The key of what is noted.
-///
-/// Fails with 620 where a prefix that is read has a length above 32.
-fn noted_key(last: &mut LastLayout, numbers: &[Option<u128>; PLACES]) -> Result<Key, u16>
-    ensures { result ≡ flows.key_in (λ place. slice_index_or numbers.now place None) }
-{
-    let source = match address_part(numbers[0], numbers[8], numbers[10]) {
-        Ok(source) => source,
-        Err(number) => return Err(number),
-    };
-    let destination = match address_part(numbers[1], numbers[9], numbers[11]) {
-        Ok(destination) => destination,
-        Err(number) => return Err(number),
-    };
-    Ok(last.key_of(
-        source,
-        destination,
-        whole_part(Axis::Protocol, numbers[2]),
-        whole_part(Axis::SourcePort, numbers[3]),
-        whole_part(Axis::DestinationPort, numbers[4]),
-        whole_part(Axis::ClassOfService, numbers[5]),
-    ))
-}
 
 /// The flow record of what is noted, None without both counters.
 ///
@@ -50,16 +25,28 @@ fn noted_flow(
     let Some(packets) = numbers[7] else {
         return Ok(None);
     };
-    match noted_key(last, numbers) {
-        Ok(key) => Ok(Some(Record {
-            key,
-            counts: Counts {
-                packets: (packets % (1u128 << 64)) as u64,
-                octets: (octets % (1u128 << 64)) as u64,
-            },
-        })),
-        Err(number) => Err(number),
-    }
+    let source = match address_part(numbers[0], numbers[8], numbers[10]) {
+        Ok(source) => source,
+        Err(number) => return Err(number),
+    };
+    let destination = match address_part(numbers[1], numbers[9], numbers[11]) {
+        Ok(destination) => destination,
+        Err(number) => return Err(number),
+    };
+    Ok(Some(Record {
+        key: last.key_of(
+            source,
+            destination,
+            whole_part(Axis::Protocol, numbers[2]),
+            whole_part(Axis::SourcePort, numbers[3]),
+            whole_part(Axis::DestinationPort, numbers[4]),
+            whole_part(Axis::ClassOfService, numbers[5]),
+        ),
+        counts: Counts {
+            packets: (packets % (1u128 << 64)) as u64,
+            octets: (octets % (1u128 << 64)) as u64,
+        },
+    }))
 }
 
 /// The flow record of a data record of which this is noted, None without both counters.
