@@ -124,7 +124,7 @@ impl Known {
             Ok(()) => Ok(()),
             Err(fault) => {
                 self.taken.cut_back(waiting, skipped);
-                self.domains.clear();
+                self.forget();
                 Err(fault)
             }
         }

@@ -61,7 +61,7 @@ impl Taken {
             }
             None => self.skipped = self.skipped.wrapping_add(1),
         }
-        self.count = self.count.wrapping_add(1);
+        self.pass();
         Ok(())
     }
 
