@@ -62,7 +62,7 @@ def many_templates(times):
 
 def many_domains(times):
     """A template and a record in each of many domains, in no order."""
-    sets, count = a_set(2, template(256, 1, PROTOCOL)) + a_set(256, b"\6"), 25_000 * times
+    sets, count = a_set(2, template(256, 1, PROTOCOL)) + a_set(256, b"\6"), 40_000 * times
     for domain in random.Random(7011).sample(range(2**32), count):
         yield message(sets, 0, domain)
     yield NOTHING % (0, count)
