@@ -21,9 +21,11 @@ once: kit
 replay: once
 	./once < crates/once/stdin
 
-# Runs the program over the worked rows.
+# Runs the program over the worked rows, then over long certificates, then with growths of its memory refused.
 rows: once
 	python3 tests/rows.py ./once
+	python3 tests/long_certificates.py ./once
+	python3 tests/refused_growth.py ./once
 
 # Replays the runs of the examples and checks their certificates, and compares with what they should print.
 examples: once

@@ -1,0 +1,122 @@
+#!/usr/bin/env python3
+"""refused_growth.py PROGRAM: runs the program with growths of its memory refused, by refused_growth.c, which `cc` builds.
+
+Of each row the first growth is refused with all behind it, then the second with all behind it, and so on until a run
+meets no refusal: each must print `memory 900` alone and end with status 4, but the last, which prints what the row does.
+Then each growth is refused alone. That must come to the same, but where the program makes up for the growth by a smaller
+one: std's `collect` asks for as many elements as it expects, and where that is refused for one. Then the row's own
+answer must be printed; how many growths are made up for is told. Last, of certificates of one leaf and of 1,000,000
+lines: as many growths are asked for; none is asked for from the first read of the certificate on; and where all from
+there on would be refused the answer is the same. Prints a line for each run and ends with 1 where one fails.
+"""
+import os
+import shutil
+import subprocess
+import sys
+import tempfile
+
+from long_certificates import ROW, write_certificate
+
+HERE = os.path.dirname(os.path.abspath(__file__))
+ROWS = os.path.dirname(ROW)
+
+# Rows that take memory in each of the program's ways.
+SWEPT = (
+    "certificate-split-between-two-filters",
+    "certificate-of-one-leaf-as-bundle",
+    "two-packets-in-one-record",
+    "two-packets-in-one-record-as-bundle",
+    "stream-of-two-messages",
+)
+
+
+def octets_of(row, name, default=b""):
+    path = os.path.join(ROWS, row, name)
+    if not os.path.exists(path):
+        return default
+    with open(path, "rb") as file:
+        return file.read()
+
+
+class Shim:
+    """The program with growths refused."""
+
+    def __init__(self, program, folder):
+        self.program, self.told = program, os.path.join(folder, "growths.txt")
+        self.library = os.path.join(folder, "refused_growth.so")
+        source = os.path.join(HERE, "refused_growth.c")
+        subprocess.run(["cc", "-O2", "-Wall", "-shared", "-fPIC", "-o", self.library, source], check=True)
+
+    def run(self, words, given=b"", folder=None, refused=0, behind=False, watched=""):
+        """What is printed, the status, and the numbers that the shim tells: growths, those after the first read of the
+        watched file, and whether it was read."""
+        asked = {"LD_PRELOAD": self.library, "GROWTHS": self.told, "GROWTH_REFUSED": str(refused)}
+        if behind:
+            asked["GROWTHS_REFUSED"] = "1"
+        if watched:
+            asked["GROWTH_WATCHED"] = watched
+        if os.path.exists(self.told):
+            os.remove(self.told)
+        done = subprocess.run([self.program] + words, input=given, capture_output=True, cwd=folder, env={**os.environ, **asked}, timeout=120)
+        try:
+            with open(self.told) as file:
+                told = list(map(int, file.read().split()))
+        except FileNotFoundError:
+            sys.exit("refused_growth.so wasn't loaded, or the program didn't end by itself: %r" % done)
+        return done.stdout + done.stderr, done.returncode, told
+
+
+def sweep(shim, row, behind):
+    """Whether each growth of a row that is refused is answered 900, and what to say of it."""
+    words, given, folder = octets_of(row, "words").decode().split(), octets_of(row, "stdin"), os.path.join(ROWS, row)
+    wanted, number, made_up = (octets_of(row, "stdout"), int(octets_of(row, "status"))), 1, []
+    while True:
+        said, status, told = shim.run(words, given, folder, refused=number, behind=behind)
+        if told[0] < number:
+            return number > 1 and (said, status) == wanted, "%d growths, made up for: %s" % (told[0], made_up or "none")
+        if (said, status) == wanted and not behind:
+            made_up.append(number)
+        elif (said, status) != (b"memory 900\n", 4):
+            return False, "growth %d refused: status %d, printed %r" % (number, status, said[:200])
+        number += 1
+
+
+def lengths(shim, folder):
+    """Whether growths stand before the first read of the certificate, whatever its length, and what to say of it."""
+    counts = []
+    for splits in (0, 499_999):
+        path = os.path.join(folder, "certificate-%d.txt" % splits)
+        write_certificate(path, splits)
+        words = ["check", os.path.join(ROW, "network.json"), os.path.join(ROW, "traffic.json"), path]
+        for watched in ("", path):
+            said, status, told = shim.run(words, watched=watched)
+            if (said, status, told[1], told[2]) != (b"yes\n", 0, 0, int(watched == path)):
+                return False, "%d splits: status %d, printed %r, told %r" % (splits, status, said[:200], told)
+            counts.append(told[0])
+    return len(set(counts)) == 1 and counts[0] > 0, "%s growths, none once it is read" % " and ".join(map(str, sorted(set(counts))))
+
+
+def main(program):
+    if not shutil.which("cc"):
+        print("cc is missing: it builds refused_growth.c")
+        return 1
+    failed = 0
+    with tempfile.TemporaryDirectory() as folder:
+        shim = Shim(os.path.abspath(program), folder)
+        runs = [
+            (row + end, lambda row=row, behind=behind: sweep(shim, row, behind))
+            for row in SWEPT
+            for behind, end in ((True, ", and all behind"), (False, ", alone"))
+        ]
+        runs.append(("certificates of one leaf and of 1,000,000 lines", lambda: lengths(shim, folder)))
+        for name, way in runs:
+            right, said = way()
+            failed += not right
+            print("%-56s %s%s" % (name, said, "" if right else "   FAILED"))
+    return 1 if failed else 0
+
+
+if __name__ == "__main__":
+    if len(sys.argv) != 2:
+        sys.exit(__doc__)
+    sys.exit(main(sys.argv[1]))
