@@ -157,7 +157,7 @@ def memory(checker):
 def per_line(checker):
     checks = lambda splits: lambda: checked(checker.of(splits))[1]
     figures = []
-    for lines, rounds in ((1_000, 1_000), (10_000, 200), (100_000, 30), (1_000_000, 10)):
+    for lines, rounds in ((1_000, 1_000), (10_000, 300), (100_000, 60), (1_000_000, 15)):
         splits = lines // 2 - 1
         start, whole = least_in_turns(rounds, [checks(0), checks(splits)])
         figures.append((whole - start) / (2 * splits))
