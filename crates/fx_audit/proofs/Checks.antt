@@ -1,13 +1,20 @@
 -- What checking a certificate over octets comes to.
-use Rattle.std.proofs.Common.{◌≡◌, ◌⊎◌, ℕ, List, Option, Result, Ok, Err, IfSome, IfOk, IfErr, inl, inr}
+use Rattle.std.proofs.Common.{◌≡◌, ◌⊎◌, ℕ, ◌≤◌, List, Option, Some, Result, Ok, Err, IfSome, IfOk, IfErr, inl, inr, refl, ap, sym, subst, arith, None}
 use Rattle.fx_base.specs.declared.fault.Fault.{Fault}
 use Rattle.fx_base.specs.declared.fault.Place.TheVariants as places
 use Rattle.fx_base.specs.Fault.{fault_at}
 use Rattle.fx_base.specs.Lines.{Lines}
+use Rattle.fx_check.specs.Outcomes.{refusal_of, IsRefusal, IsCheckFault, IsToldBy}
+use Rattle.fx_check.specs.Outcomes as of_check
+use Rattle.fx_check.specs.Targets.{targets_of}
+use Rattle.fx_check.specs.Verdict.{Refusal}
 use Rattle.fx_machine.specs.Classes.{Class}
+use Rattle.fx_machine.specs.RunReading.{Fails}
 use Rattle.fx_plan.specs.declared.network.Network.{Network}
+use Rattle.fx_plan.specs.Tables.{net_of}
 use Rattle.fx_audit.specs.declared.answer.Answer.{Answer}
-use Rattle.fx_audit.specs.Checks.{IsAnswered, IsRefusedCertificate}
+use Rattle.fx_audit.specs.declared.answer.Answer.TheVariants.{No}
+use Rattle.fx_audit.specs.Checks.{IsAnswered, IsNo, IsFaultOf, IsRefusedCertificate, no_line, IsNoAnswer, memory, read_failed, write_failed, too_long, IsUnanswered, MeansNo}
 use Rattle.fx_audit.specs.Commands.{IsChecked, IsRefusedCheck}
 use Rattle.fx_audit.specs.Documents.{IsNetwork, IsRefusedByDocuments, IsTraffic}
 use Rattle.fx_audit.proofs.Documents.{both_mapped, both_told}
@@ -44,3 +51,78 @@ check_unread left_n left_t lines e M N T F W h =
       | inr (inr (inl t)) ↦ inr (inr (inl t))
       | inr (inr (inr f)) ↦ inr (inr (inr (inr (inr (both_mapped left_n left_t (λ n t. IsRefusedByDocuments n t e) (λ n t. IsRefusedCheck n t lines e) (λ n t p. inl p) f)))))
     ]
+
+-- ---- numbers
+
+-- what isn't answered no
+unanswered : (lines : Lines) (fault : Fault) → IsToldBy lines fault → (MeansNo fault.number → ⊥) → IsUnanswered lines fault
+unanswered lines fault (inl stopped) other = inl stopped
+unanswered lines fault (inr kind) other = inr (go fault kind other) where
+  go : (f : Fault) → IsCheckFault f → (MeansNo f.number → ⊥) → IsNoAnswer f
+  go f of_check.memory other = memory
+  go f of_check.device other = read_failed
+  go f (of_check.too_long line) other = too_long line
+  go f (of_check.wrong number line is) other = absurd (other is)
+
+-- what is answered no stands at a line
+place_of_no : (lines : Lines) (fault : Fault) → IsToldBy lines fault → MeansNo fault.number → (lines.stopped ≡ Some fault) ⊎ ((line : ℕ) × (fault.place ≡ places.Line line))
+place_of_no lines fault (inl stopped) means = inl stopped
+place_of_no lines fault (inr kind) means = inr (go fault kind means) where
+  go : (f : Fault) → IsCheckFault f → MeansNo f.number → (line : ℕ) × (f.place ≡ places.Line line)
+  go f of_check.memory means = absurd (omega (arith, means.1))
+  go f of_check.device means = absurd (omega (arith, means.1))
+  go f (of_check.too_long line) means = (line, refl)
+  go f (of_check.wrong number line is) means = (line, refl)
+
+pub from_write : (lines : Lines) (e : Fault) → e ≡ fault_at 902 places.None → IsUnanswered lines e
+from_write lines e is = inr (subst IsNoAnswer (sym is) write_failed)
+
+-- ---- the answer to a refusal
+
+-- why a certificate is refused, of which all refusals are told
+abbrev IsRefusedWhy : Option (Option Refusal) → Lines → Lines → Fault → Type 0
+IsRefusedWhy all old new fault = ((fault ≡ fault_at 900 places.None) × (new ≡ old)) ⊎ (Fails old new fault ⊎ IfSome all (IsRefusal fault new))
+
+-- what becomes of a fault that isn't answered no, or of a write that failed
+abbrev IsPassedOn : Fault → Type 0 → Fault → Type 0
+IsPassedOn fault W e = ((e ≡ fault) × (MeansNo fault.number → ⊥)) ⊎ ((e ≡ fault_at 902 places.None) × W)
+
+is_fault_of : (all : Option (Option Refusal)) (new : Lines) (fault : Fault) → IfSome all (IsRefusal fault new) → IfSome all (IsFaultOf fault)
+is_fault_of None new fault h = tt
+is_fault_of (Some None) new fault h = absurd h
+is_fault_of (Some (Some r)) new fault h = h.0
+
+refused_by : (all : Option (Option Refusal)) (old new : Lines) (fault : Fault) → IsRefusedWhy all old new fault → MeansNo fault.number → (old.stopped ≡ Some fault) ⊎ IfSome all (IsFaultOf fault)
+refused_by all old new fault (inl m) means = absurd (omega (arith, ap (λ (f : Fault). f.number) m.0, means.1))
+refused_by all old new fault (inr (inl (inl stopped))) means = inl stopped
+refused_by all old new fault (inr (inl (inr d))) means = absurd (omega (arith, ap (λ (f : Fault). f.number) d.0, means.1))
+refused_by all old new fault (inr (inr r)) means = inr (is_fault_of all new fault r)
+
+pub answered_no : (network : Network) (classes : List Class) (old new : Lines) (fault : Fault) (W : List ℕ → Type 0) (result : Result Answer Fault) → IsRefusedWhy (refusal_of (net_of network) (targets_of classes) old) old new fault → IsToldBy old fault
+    → IfOk result (λ a. (a ≡ No) × MeansNo fault.number × W (no_line fault)) → IfOk result (λ a. (text : List ℕ) × IsAnswered network classes old a text × W text)
+answered_no network classes old new fault W (Err e) why told h = tt
+answered_no network classes old new fault W (Ok a) why told h =
+    let answer : IsNo network classes old (no_line fault) = record {
+      fault = fault;
+      means_no = h.1;
+      place = place_of_no old fault told h.1;
+      refused = refused_by (refusal_of (net_of network) (targets_of classes) old) old new fault why h.1;
+      text_is = refl;
+    } in
+    (no_line fault, subst (λ (x : Answer). IsAnswered network classes old x (no_line fault)) (sym h.0) answer, h.2)
+
+pub refused_otherwise : (network : Network) (classes : List Class) (old new : Lines) (fault : Fault) (W : Type 0) (result : Result Answer Fault) → IsRefusedWhy (refusal_of (net_of network) (targets_of classes) old) old new fault → IfErr result (IsPassedOn fault W)
+    → IfErr result (λ e. (e ≡ fault_at 900 places.None) ⊎ (Fails old new e ⊎ (((e ≡ fault_at 902 places.None) × W) ⊎ IsRefusedCertificate network classes old e)))
+refused_otherwise network classes old new fault W (Ok a) why h = tt
+refused_otherwise network classes old new fault W (Err e) why (inr w) = inr (inr (inl w))
+refused_otherwise network classes old new fault W (Err e) why (inl k) =
+    subst (λ (f : Fault). (f ≡ fault_at 900 places.None) ⊎ (Fails old new f ⊎ (((f ≡ fault_at 902 places.None) × W) ⊎ IsRefusedCertificate network classes old f))) (sym k.0) (go why) where
+      go : IsRefusedWhy (refusal_of (net_of network) (targets_of classes) old) old new fault → (fault ≡ fault_at 900 places.None) ⊎ (Fails old new fault ⊎ (((fault ≡ fault_at 902 places.None) × W) ⊎ IsRefusedCertificate network classes old fault))
+      go (inl m) = inl m.0
+      go (inr (inl f)) = inr (inl f)
+      go (inr (inr r)) = inr (inr (inr (is_fault_of (refusal_of (net_of network) (targets_of classes) old) new fault r, k.1)))
+
+pub passed_unanswered : (lines : Lines) (fault : Fault) (W : Type 0) (result : Result Answer Fault) → IsToldBy lines fault → IfErr result (IsPassedOn fault W) → IfErr result (IsUnanswered lines)
+passed_unanswered lines fault W (Ok a) told h = tt
+passed_unanswered lines fault W (Err e) told (inr w) = from_write lines e w.0
+passed_unanswered lines fault W (Err e) told (inl k) = subst (IsUnanswered lines) (sym k.0) (unanswered lines fault told k.1)

@@ -3,7 +3,7 @@ use Rattle.std.specs.Prelude.{◌≡◌, ◌⊎◌, ℕ, ◌≤◌, List, [], �
 use Rattle.fx_base.specs.declared.fault.Fault.{Fault}
 use Rattle.fx_base.specs.declared.fault.Place.{Place}
 use Rattle.fx_base.specs.declared.fault.Place.TheVariants as places
-use Rattle.fx_base.specs.Fault.{place_text}
+use Rattle.fx_base.specs.Fault.{fault_at, place_text}
 use Rattle.fx_base.specs.Lines.{Lines, text_lines}
 use Rattle.fx_machine.specs.Claim.{ExactlyOnce}
 use Rattle.fx_machine.specs.Classes.{Class}
@@ -52,10 +52,11 @@ pub record IsYes (network : Network) (classes : List Class) (lines : Lines) (tex
   pub accepted : IfSome (refusal_of (net_of network) (targets_of classes) lines) (λ r. r ≡ None)
   pub text_is : text ≡ yes_line
 
--- the certificate is refused, by a number that makes the answer no; or so was what the reader had read before
+-- the certificate is refused at a line, by a number that makes the answer no; or so was what the reader had read before
 pub record IsNo (network : Network) (classes : List Class) (lines : Lines) (text : List ℕ) : Type 0 where
   pub fault : Fault
   pub means_no : MeansNo fault.number
+  pub place : (lines.stopped ≡ Some fault) ⊎ ((line : ℕ) × (fault.place ≡ places.Line line))
   pub refused : (lines.stopped ≡ Some fault) ⊎ IsRefusedText network classes lines fault
   pub text_is : text ≡ no_line fault
 
@@ -68,3 +69,15 @@ IsAnswered network classes lines Unknown text = ⊥
 -- the certificate is refused otherwise
 abbrev pub IsRefusedCertificate : Network → List Class → Lines → Fault → Type 0
 IsRefusedCertificate network classes lines e = IsRefusedText network classes lines e × (MeansNo e.number → ⊥)
+
+-- what a check ends with that isn't answered, once a line of the certificate is asked for: want of memory, a read or a
+-- write that failed, or a line that is too long
+pub data IsNoAnswer : Fault → Type 0 where
+  memory : IsNoAnswer (fault_at 900 places.None)
+  read_failed : IsNoAnswer (fault_at 901 places.None)
+  write_failed : IsNoAnswer (fault_at 902 places.None)
+  too_long : (line : ℕ) → IsNoAnswer (fault_at 903 (places.Line line))
+
+-- such a fault, or the one that the reader had answered before
+abbrev pub IsUnanswered : Lines → Fault → Type 0
+IsUnanswered lines e = (lines.stopped ≡ Some e) ⊎ IsNoAnswer e

@@ -5,7 +5,7 @@ ghost use Rattle.fx_base.specs.Fault.{fault_at};
 ghost use Rattle.fx_base.specs.declared.fault.Fault.{Fault};
 ghost use Rattle.fx_base.specs.declared.fault.Place.TheVariants as places;
 ghost use Rattle.fx_machine.specs.RunReading.{Fails};
-ghost use Rattle.fx_audit.specs.Checks.{IsAnswered, IsRefusedCertificate, MeansNo, no_line, place_behind};
+ghost use Rattle.fx_audit.specs.Checks.{IsAnswered, IsRefusedCertificate, IsUnanswered, MeansNo, no_line, place_behind};
 ghost use Rattle.fx_audit.specs.Commands.{IsChecked, IsRefusedCheck};
 ghost use Rattle.fx_audit.specs.Documents.{IsRefusedByDocuments, ReadFails};
 ghost use Rattle.fx_audit.specs.declared.answer.Answer.TheVariants.{Yes, No};
@@ -68,6 +68,7 @@ fn check_lines<C: Source, S: Sink>(
         ⊎ (Fails certificate.old certificate.new e
         ⊎ (((e ≡ fault_at 902 places.None) × (S.failed sink.new ≡ true))
         ⊎ IsRefusedCertificate documents.now.plan documents.now.traffic certificate.old e))) }
+    ensures numbers { IfErr result (IsUnanswered certificate.old) }
     ensures quiet { IfErr result (λ e. (e ≡ fault_at 902 places.None) ⊎ (S.taken sink.new ≡ S.taken sink.old)) }
 {
     match check(alloc, &documents.plan, &documents.traffic, certificate) {
@@ -105,6 +106,8 @@ pub fn check_bytes<N: Source, T: Source, C: Source, S: Sink>(
         ⊎ (Fails certificate.old certificate.new e
         ⊎ (((e ≡ fault_at 902 places.None) × (S.failed sink.new ≡ true))
         ⊎ IfSome (N.left network.old) (λ n. IfSome (T.left traffic.old) (λ t. IsRefusedCheck n t certificate.old e))))))) }
+    // 401 to 414, with the line, are answered no. Once the certificate is read, what isn't answered is 900 to 903.
+    ensures numbers { IfErr result (λ e. (certificate.new ≡ certificate.old) ⊎ IsUnanswered certificate.old e) }
     ensures untouched { IfSome (N.left network.old) (λ n. IfSome (T.left traffic.old) (λ t.
         (e : Fault) → IsRefusedByDocuments n t e → certificate.new ≡ certificate.old)) }
     ensures quiet { IfErr result (λ e. (e ≡ fault_at 902 places.None) ⊎ (S.taken sink.new ≡ S.taken sink.old)) }

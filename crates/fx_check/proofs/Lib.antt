@@ -6,3 +6,4 @@ pub mod Trees
 pub mod Sounding
 pub mod Accepting
 pub mod Calling
+pub mod Numbers

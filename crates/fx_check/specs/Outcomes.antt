@@ -1,6 +1,8 @@
 -- What checking comes to, beside what its reader of lines itself answers.
-use Rattle.std.specs.Prelude.{◌≡◌, ℕ, ◌⊎◌, List, Option, Some, None}
+use Rattle.std.specs.Prelude.{◌≡◌, ℕ, ◌≤◌, ◌⊎◌, List, Option, Some, None}
 use Rattle.fx_base.specs.declared.fault.Fault.{Fault}
+use Rattle.fx_base.specs.declared.fault.Place.TheVariants as places
+use Rattle.fx_base.specs.Fault.{fault_at}
 use Rattle.fx_base.specs.Lines.{Lines, text_lines}
 use Rattle.fx_machine.specs.Network.{Net}
 use Rattle.fx_traffic.specs.Targets.{Target}
@@ -25,3 +27,20 @@ pub record Accepted (net : Net) (targets : List Target) : Type 0 where
   pub before : ℕ
   pub lines : List Line
   pub none : first_refusal (judge_of net) before 0 (whole targets) lines ≡ None
+
+-- ---- numbers
+
+-- the numbers of what can be wrong with a certificate
+abbrev pub IsCertificateNumber : ℕ → Type 0
+IsCertificateNumber number = (401 ≤ number) × (number ≤ 414)
+
+-- want of memory, a source that failed, a line that is too long, or what is wrong with the certificate at a line
+pub data IsCheckFault : Fault → Type 0 where
+  memory : IsCheckFault (fault_at 900 places.None)
+  device : IsCheckFault (fault_at 901 places.None)
+  too_long : (line : ℕ) → IsCheckFault (fault_at 903 (places.Line line))
+  wrong : (number line : ℕ) → IsCertificateNumber number → IsCheckFault (fault_at number (places.Line line))
+
+-- such a fault, or the one that the reader had answered before
+abbrev pub IsToldBy : Lines → Fault → Type 0
+IsToldBy lines e = (lines.stopped ≡ Some e) ⊎ IsCheckFault e

@@ -8,7 +8,7 @@ ghost use Rattle.fx_machine.specs.Claim.{ExactlyOnce};
 ghost use Rattle.fx_machine.specs.RunReading.{Fails};
 ghost use Rattle.fx_plan.specs.Tables.{net_of};
 ghost use Rattle.fx_check.specs.Certificates.{IsCertificate};
-ghost use Rattle.fx_check.specs.Outcomes.{refusal_of, IsRefusal, Accepted};
+ghost use Rattle.fx_check.specs.Outcomes.{refusal_of, IsRefusal, IsToldBy, Accepted};
 ghost use Rattle.fx_check.specs.Standing.{goals, IsStanding};
 ghost use Rattle.fx_traffic.specs.Targets.{AreRegions, targets_of};
 ghost use Rattle.fx_check.specs.Verdict.{whole};
@@ -37,6 +37,7 @@ fn take_lines<R: Source>(
     ensures ok { OnOk result (IfSome (refusal_of tables.now.net targets.now lines.old) (λ r. r ≡ None)) }
     ensures accepted { OnOk result (Accepted tables.now.net targets.now) }
     ensures err { IfErr result (λ e. Fails lines.old lines.new e ⊎ IfSome (refusal_of tables.now.net targets.now lines.old) (IsRefusal e lines.new)) }
+    ensures numbers { IfErr result (IsToldBy lines.old) }
 {
     'lines: loop {
         if !lines.advance()? {
@@ -60,6 +61,7 @@ fn check_classes<R: Source>(
     ensures accepted { OnOk result (Accepted tables.now.net (targets_of traffic.now)) }
     ensures regions { OnOk result (AreRegions (targets_of traffic.now)) }
     ensures err { IfErr result (λ e. ((e ≡ fault_at 900 places.None) × (lines.new ≡ lines.old)) ⊎ (Fails lines.old lines.new e ⊎ IfSome (refusal_of tables.now.net (targets_of traffic.now) lines.old) (IsRefusal e lines.new))) }
+    ensures numbers { IfErr result (IsToldBy lines.old) }
 {
     let targets = traffic.targets(alloc)?;
     let mut scratch = Scratch::new(alloc, tables)?;
@@ -94,6 +96,8 @@ pub fn check<R: Source>(
     ensures certificate { OnOk result (IfSome lines.old.left (λ text. IsCertificate (net_of plan.now) traffic.now (text_lines text))) }
     ensures ok { OnOk result (IfSome (refusal_of (net_of plan.now) (targets_of traffic.now) lines.old) (λ r. r ≡ None)) }
     ensures err { IfErr result (λ e. ((e ≡ fault_at 900 places.None) × (lines.new ≡ lines.old)) ⊎ (Fails lines.old lines.new e ⊎ IfSome (refusal_of (net_of plan.now) (targets_of traffic.now) lines.old) (IsRefusal e lines.new))) }
+    // Whatever the reader tells of its bytes: 900 or 901, 903 at a line, or 401 to 414 at a line.
+    ensures numbers { IfErr result (IsToldBy lines.old) }
 {
     let tables = tables_of(plan);
     check_classes(alloc, &tables, traffic, lines)

@@ -1,11 +1,25 @@
 use Rattle.std.proofs.Common.{List, ◌∙◌, IfSome, inr, subst, ◌⊎◌}
+use Rattle.std.proofs.lemmas.Result.{err_from_is_err_and}
 use Rattle.fx_machine.specs.RunReading.{Fails}
 use Rattle.fx_check.specs.Outcomes.{refusal_of, IsRefusal}
 use Rattle.fx_traffic.specs.Targets.{Target}
 use Rattle.fx_check.proofs.Going.{err_gives}
+use Rattle.fx_check.proofs.Numbers.{from_memory}
 use Rattle.fx_check.proofs.checking.check_classes.Goals as goal
 
 pub returns-clause-err : goal.returns-clause-err
 returns-clause-err g c =
     let same = c.as_slice.ensures.value ∙ c.in_ok-targets.ensures.items in
     err_gives c.take_lines.result c.take_lines.ensures.err (λ e. λ h. inr (subst (λ (ts : List Target). Fails c.args.lines.now c.take_lines.new.lines e ⊎ IfSome (refusal_of c.args.tables.now.net ts c.args.lines.now) (IsRefusal e c.take_lines.new.lines)) same h))
+
+pub returns-in_err-targets-clause-numbers : goal.returns-in_err-targets-clause-numbers
+returns-in_err-targets-clause-numbers g c =
+    let p = err_from_is_err_and c.from_residual.result c.from_residual.ensures.1 in rw p.1 (from_memory c.args.lines.now _ p.2)
+
+pub returns-in_err-scratch-clause-numbers : goal.returns-in_err-scratch-clause-numbers
+returns-in_err-scratch-clause-numbers g c =
+    let p = err_from_is_err_and c.from_residual-in_err-scratch.result c.from_residual-in_err-scratch.ensures.1 in rw (p.1, p.2) (from_memory c.args.lines.now _ c.in_err-scratch.ensures.err)
+
+pub returns-in_err-course-clause-numbers : goal.returns-in_err-course-clause-numbers
+returns-in_err-course-clause-numbers g c =
+    let p = err_from_is_err_and c.from_residual-in_err-course.result c.from_residual-in_err-course.ensures.1 in rw p.1 (from_memory c.args.lines.now _ p.2)

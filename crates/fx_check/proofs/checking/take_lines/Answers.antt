@@ -1,16 +1,30 @@
-use Rattle.std.proofs.Common.{[], sym, ◌∙◌}
+use Rattle.std.proofs.Common.{[], sym, ◌∙◌, inr}
 use Rattle.std.proofs.lemmas.Result.{err_from_is_err_and}
 use Rattle.fx_check.specs.Judging.{judge_of}
 use Rattle.fx_check.specs.Outcomes.{Accepted}
 use Rattle.fx_check.specs.Standing.{goals}
 use Rattle.fx_check.specs.Verdict.{after_reading, made_after, reading_of}
-use Rattle.fx_check.proofs.Going.{reads_on, accepts_on, reader_refuses_all, ok_gives, at_line_of, lent_line}
+use Rattle.fx_check.proofs.Going.{reads_on, accepts_on, reader_refuses_all, ok_gives, err_gives, at_line_of, lent_line}
+use Rattle.fx_check.proofs.Numbers.{line_fault, end_fault, reader_fault}
 use Rattle.fx_check.proofs.checking.take_lines.Goals as goal
 
 pub returns-in_err-advance-clause-err : goal.returns-in_err-advance-clause-err
 returns-in_err-advance-clause-err g c =
     let p = err_from_is_err_and c.from_residual.result c.from_residual.ensures.1 in
     rw (p.1, p.2) (reader_refuses_all (judge_of c.args.tables.now.net) c.args.lines.now c.lines.lines c.advance.new.self c.lines.course.made (goals c.args.targets.now c.lines.course) _ _ c.lines.invariant.stopped c.lines.invariant.told c.in_err-advance.ensures)
+
+pub returns-in_err-advance-clause-numbers : goal.returns-in_err-advance-clause-numbers
+returns-in_err-advance-clause-numbers g c =
+    let p = err_from_is_err_and c.from_residual.result c.from_residual.ensures.1 in
+    rw (p.1, p.2) (reader_fault c.args.lines.now c.lines.lines c.advance.new.self _ c.lines.invariant.stopped c.in_err-advance.ensures)
+
+pub returns-then-not-branch-clause-numbers : goal.returns-then-not-branch-clause-numbers
+returns-then-not-branch-clause-numbers g c =
+    err_gives c.end.result c.end.ensures.err (λ e h. inr (end_fault _ (goals c.args.targets.now c.lines.course) e _ h))
+
+pub returns-in-Err-clause-numbers : goal.returns-in-Err-clause-numbers
+returns-in-Err-clause-numbers g c =
+    inr (rw c.at_line.ensures (line_fault c.args.tables.now.net c.lines.course.made (goals c.args.targets.now c.lines.course) (reading_of (c.line.result.bytes.now, c.line.result.ended)) c.in-Err.number _ c.in-Err.ensures.after))
 
 pub returns-then-not-branch-clause-accepted : goal.returns-then-not-branch-clause-accepted
 returns-then-not-branch-clause-accepted g c = ok_gives c.end.result c.end.ensures.ok (λ h. c.lines.invariant.accepted [] (h c.lines.lines.number))

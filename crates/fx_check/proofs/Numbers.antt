@@ -1,0 +1,140 @@
+-- The numbers with which a certificate is refused.
+use Rattle.std.proofs.Common.{◌≡◌, ℕ, ◌≤◌, ◌⊎◌, Bool, true, false, List, [], ◌∷◌, Option, Some, None, Result, Ok, Err, IfSome, refl, ap, sym, subst, ◌∙◌, inl, inr, arith, if◌then◌else◌, ◌&&◌, ◌==◌, nat_le, nat_lt, slice_index}
+use Rattle.fx_base.specs.declared.fault.Fault.{Fault}
+use Rattle.fx_base.specs.declared.fault.Place.TheVariants as places
+use Rattle.fx_base.specs.Fault.{fault_at}
+use Rattle.fx_base.specs.Lines.{Lines, Refuses, Stops, next_number}
+use Rattle.fx_boxes.specs.Boxes.{Bounds}
+use Rattle.fx_cert.specs.declared.item.Item.{Item}
+use Rattle.fx_cert.specs.declared.item.Item.TheVariants as item
+use Rattle.fx_elements.specs.Axes.{axis_index}
+use Rattle.fx_machine.specs.Network.{Net}
+use Rattle.fx_leaf.specs.declared.leaf.Counted.{Counted}
+use Rattle.fx_leaf.specs.declared.verdict.Fate.TheVariants.{Never, Once, Many, Differing, Unassigned}
+use Rattle.fx_leaf.specs.Leaves.{leaf_of, named}
+use Rattle.fx_leaf.specs.Verdicts.{Verdict, path_verdict, counted}
+use Rattle.fx_check.specs.Judging.{judge_of, same_leaf, unless_same}
+use Rattle.fx_check.specs.Outcomes.{IsCertificateNumber, IsCheckFault, memory, device, too_long, wrong, IsToldBy}
+use Rattle.fx_check.specs.Targets.{Target}
+use Rattle.fx_check.specs.Verdict.{Goal, header, opening, tree, close, Reading, long, cut, malformed, says, Refusal, at_line, at_end, after, after_reading, form_fault, leaf_answer, split_answer, unless_wrong, parts}
+
+-- the number of a fault, if there is one
+abbrev number_or : ℕ → Result (List Goal) ℕ → ℕ
+number_or n (Ok gs) = n
+number_or n (Err k) = k
+
+abbrev option_or : ℕ → Option ℕ → ℕ
+option_or n None = n
+option_or n (Some k) = k
+
+abbrev refuses_with : ℕ → Result (List Goal) ℕ
+refuses_with n = Err n
+
+is_number : (n k : ℕ) → IsCertificateNumber n → refuses_with n ≡ Err k → IsCertificateNumber k
+is_number n k h e = subst IsCertificateNumber (ap (number_or 0) e) h
+
+is_some_number : (n k : ℕ) → IsCertificateNumber n → Some n ≡ Some k → IsCertificateNumber k
+is_some_number n k h e = subst IsCertificateNumber (ap (option_or 0) e) h
+
+-- ---- a leaf
+
+unless_same_number : (leaf : Counted) (v : Verdict) (c : Option Counted) (k : ℕ) → unless_same leaf (leaf_of v c) ≡ Some k → IsCertificateNumber k
+unless_same_number leaf None c k e = is_some_number 406 k (omega arith, omega arith) e
+unless_same_number leaf (Some Unassigned) c k e = is_some_number 413 k (omega arith, omega arith) e
+unless_same_number leaf (Some Differing) c k e = is_some_number 409 k (omega arith, omega arith) e
+unless_same_number leaf (Some Many) c k e = is_some_number 408 k (omega arith, omega arith) e
+unless_same_number leaf (Some Never) c k e = is_some_number 407 k (omega arith, omega arith) e
+unless_same_number leaf (Some Once) None k e = is_some_number 407 k (omega arith, omega arith) e
+unless_same_number leaf (Some Once) (Some c) k e = go (same_leaf c leaf) e where
+  go : (b : Bool) → (if b then None else Some 410) ≡ Some k → IsCertificateNumber k
+  go true e = absurd cc
+  go false e = is_some_number 410 k (omega arith, omega arith) e
+
+judge_number : (net : Net) (t : Target) (b : Bounds) (leaf : Counted) (k : ℕ) → judge_of net t b leaf ≡ Some k → IsCertificateNumber k
+judge_number net t b leaf k e = unless_same_number leaf (path_verdict net b t.crossings) (named (counted net b t.crossings)) k e
+
+leaf_number : (made : ℕ) (found : Option ℕ) (gs : List Goal) (k : ℕ) → ((n : ℕ) → found ≡ Some n → IsCertificateNumber n) → leaf_answer made found gs ≡ Err k → IsCertificateNumber k
+leaf_number made found gs k h e = go (nat_le 1000000 made) found h e where
+  go : (b : Bool) (found : Option ℕ) → ((n : ℕ) → found ≡ Some n → IsCertificateNumber n) → (if b then Err 414 else unless_wrong found gs) ≡ Err k → IsCertificateNumber k
+  go true found h e = is_number 414 k (omega arith, omega arith) e
+  go false None h e = absurd cc
+  go false (Some n) h e = is_number n k (h n refl) e
+
+-- ---- a split
+
+split_number : (made : ℕ) (b : Bounds) (d j at : ℕ) (gs : List Goal) (k : ℕ) → split_answer made b d j at gs ≡ Err k → IsCertificateNumber k
+split_number made b d j at gs k e = go (nat_le 1000000 made) (nat_le 512 d) (nat_lt (slice_index b.low j) at && nat_le at (slice_index b.high j)) e where
+  go : (many deep inside : Bool) → (if many then Err 414 else if deep then Err 412 else if inside then Ok gs else Err 404) ≡ Err k → IsCertificateNumber k
+  go true deep inside e = is_number 414 k (omega arith, omega arith) e
+  go false true inside e = is_number 412 k (omega arith, omega arith) e
+  go false false true e = absurd cc
+  go false false false e = is_number 404 k (omega arith, omega arith) e
+
+-- ---- an item
+
+opening_number : (t : Target) (gs : List Goal) (c m k : ℕ) (b : Bool) → (if b then Ok gs else Err 403) ≡ Err k → IsCertificateNumber k
+opening_number t gs c m k true e = absurd cc
+opening_number t gs c m k false e = is_number 403 k (omega arith, omega arith) e
+
+after_number : (net : Net) (made : ℕ) (gs : List Goal) (i : Item) (k : ℕ) → after (judge_of net) made gs i ≡ Err k → IsCertificateNumber k
+after_number net made [] i k e = is_number 411 k (omega arith, omega arith) e
+after_number net made (header ∷ gs) item.Header k e = absurd cc
+after_number net made (header ∷ gs) (item.Class c m) k e = is_number 401 k (omega arith, omega arith) e
+after_number net made (header ∷ gs) (item.Leaf crossing point process) k e = is_number 401 k (omega arith, omega arith) e
+after_number net made (header ∷ gs) (item.Split a at) k e = is_number 401 k (omega arith, omega arith) e
+after_number net made (header ∷ gs) item.End k e = is_number 401 k (omega arith, omega arith) e
+after_number net made (opening t ∷ gs) item.Header k e = is_number 403 k (omega arith, omega arith) e
+after_number net made (opening t ∷ gs) (item.Class c m) k e = opening_number t gs c m k (c == t.class && m == t.path) e
+after_number net made (opening t ∷ gs) (item.Leaf crossing point process) k e = is_number 403 k (omega arith, omega arith) e
+after_number net made (opening t ∷ gs) (item.Split a at) k e = is_number 403 k (omega arith, omega arith) e
+after_number net made (opening t ∷ gs) item.End k e = is_number 403 k (omega arith, omega arith) e
+after_number net made (tree t b d ∷ gs) item.Header k e = is_number 403 k (omega arith, omega arith) e
+after_number net made (tree t b d ∷ gs) (item.Class c m) k e = is_number 403 k (omega arith, omega arith) e
+after_number net made (tree t b d ∷ gs) (item.Leaf crossing point process) k e =
+    leaf_number made (judge_of net t b (record { crossing = crossing; point = point; process = process })) gs k (judge_number net t b (record { crossing = crossing; point = point; process = process })) e
+after_number net made (tree t b d ∷ gs) (item.Split a at) k e = split_number made b d (axis_index a) at (parts t b d (axis_index a) at gs) k e
+after_number net made (tree t b d ∷ gs) item.End k e = is_number 403 k (omega arith, omega arith) e
+after_number net made (close ∷ gs) item.Header k e = is_number 403 k (omega arith, omega arith) e
+after_number net made (close ∷ gs) (item.Class c m) k e = is_number 403 k (omega arith, omega arith) e
+after_number net made (close ∷ gs) (item.Leaf crossing point process) k e = is_number 403 k (omega arith, omega arith) e
+after_number net made (close ∷ gs) (item.Split a at) k e = is_number 403 k (omega arith, omega arith) e
+after_number net made (close ∷ gs) item.End k e = absurd cc
+
+-- ---- a line
+
+form_number : (gs : List Goal) → IsCertificateNumber (form_fault gs)
+form_number [] = (omega arith, omega arith)
+form_number (header ∷ gs) = (omega arith, omega arith)
+form_number (opening t ∷ gs) = (omega arith, omega arith)
+form_number (tree t b d ∷ gs) = (omega arith, omega arith)
+form_number (close ∷ gs) = (omega arith, omega arith)
+
+-- a line was refused
+pub line_fault : (net : Net) (made : ℕ) (gs : List Goal) (r : Reading) (k n : ℕ) → after_reading (judge_of net) made gs r ≡ Err k → IsCheckFault (at_line k n)
+line_fault net made gs long k n e = subst (λ m. IsCheckFault (at_line m n)) (ap (number_or 0) e) (too_long n)
+line_fault net made gs cut k n e = wrong k n (is_number 405 k (omega arith, omega arith) e)
+line_fault net made gs malformed k n e = wrong k n (is_number (form_fault gs) k (form_number gs) e)
+line_fault net made gs (says i) k n e = wrong k n (after_number net made gs i k e)
+
+-- the text has ended too early
+pub end_fault : (n : ℕ) (gs : List Goal) (e : Fault) (last : ℕ) → at_end n gs ≡ Some (record { fault = e; last = last; behind = [] }) → IsCheckFault e
+end_fault n [] e last h = absurd cc
+end_fault n (g ∷ gs) e last h = subst IsCheckFault (ap fault_or h) (wrong 405 (next_number n) (omega arith, omega arith)) where
+  fault_or : Option Refusal → Fault
+  fault_or None = e
+  fault_or (Some r) = r.fault
+
+-- the reader itself has refused, which it hadn't before unless it had at first
+pub reader_fault : (first old new : Lines) (e : Fault) → ((f : Fault) → old.stopped ≡ Some f → first.stopped ≡ Some f) → Refuses old new e → IsToldBy first e
+reader_fault first old new e before h = by_stopped old.stopped refl h.again h.first where
+  by_stops : Stops old new e → IsToldBy first e
+  by_stops (inl k) = inr (subst IsCheckFault (sym k.0) device)
+  by_stops (inr k) = inr (subst IsCheckFault (sym k.0) (too_long (next_number old.number)))
+
+  by_stopped : (s : Option Fault) → old.stopped ≡ s → IfSome s (λ f. e ≡ f) → (s ≡ None → Stops old new e) → IsToldBy first e
+  by_stopped (Some f) is again stops = inl (before e (is ∙ ap (λ (x : Fault). Some x) (sym again)))
+  by_stopped None is again stops = by_stops (stops refl)
+
+-- memory is wanting
+pub from_memory : (lines : Lines) (e : Fault) → e ≡ fault_at 900 places.None → IsToldBy lines e
+from_memory lines e is = inr (subst IsCheckFault (sym is) memory)
