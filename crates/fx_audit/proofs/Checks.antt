@@ -6,7 +6,7 @@ use Rattle.fx_base.specs.Fault.{fault_at}
 use Rattle.fx_base.specs.Lines.{Lines}
 use Rattle.fx_check.specs.Outcomes.{refusal_of, IsRefusal, IsCheckFault, IsToldBy}
 use Rattle.fx_check.specs.Outcomes as of_check
-use Rattle.fx_check.specs.Targets.{targets_of}
+use Rattle.fx_traffic.specs.Targets.{targets_of}
 use Rattle.fx_check.specs.Verdict.{Refusal}
 use Rattle.fx_machine.specs.Classes.{Class}
 use Rattle.fx_machine.specs.RunReading.{Fails}

@@ -15,7 +15,7 @@ use Rattle.fx_leaf.specs.Leaves.{leaf_of, named}
 use Rattle.fx_leaf.specs.Verdicts.{Verdict, path_verdict, counted}
 use Rattle.fx_check.specs.Judging.{judge_of, same_leaf, unless_same}
 use Rattle.fx_check.specs.Outcomes.{IsCertificateNumber, IsCheckFault, memory, device, too_long, wrong, IsToldBy}
-use Rattle.fx_check.specs.Targets.{Target}
+use Rattle.fx_traffic.specs.Targets.{Target}
 use Rattle.fx_check.specs.Verdict.{Goal, header, opening, tree, close, Reading, long, cut, malformed, says, Refusal, at_line, at_end, after, after_reading, form_fault, leaf_answer, split_answer, unless_wrong, parts}
 
 -- the number of a fault, if there is one

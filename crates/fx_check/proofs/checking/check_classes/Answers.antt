@@ -14,7 +14,7 @@ returns-clause-err g c =
 
 pub returns-in_err-targets-clause-numbers : goal.returns-in_err-targets-clause-numbers
 returns-in_err-targets-clause-numbers g c =
-    let p = err_from_is_err_and c.from_residual.result c.from_residual.ensures.1 in rw p.1 (from_memory c.args.lines.now _ p.2)
+    let p = err_from_is_err_and c.from_residual.result c.from_residual.ensures.1 in rw (p.1, p.2) (from_memory c.args.lines.now _ c.in_err-targets.ensures.err)
 
 pub returns-in_err-scratch-clause-numbers : goal.returns-in_err-scratch-clause-numbers
 returns-in_err-scratch-clause-numbers g c =
