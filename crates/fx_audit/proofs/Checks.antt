@@ -126,3 +126,7 @@ pub passed_unanswered : (lines : Lines) (fault : Fault) (W : Type 0) (result : R
 passed_unanswered lines fault W (Ok a) told h = tt
 passed_unanswered lines fault W (Err e) told (inr w) = from_write lines e w.0
 passed_unanswered lines fault W (Err e) told (inl k) = subst (IsUnanswered lines) (sym k.0) (unanswered lines fault told k.1)
+
+pub or_unanswered : (P : Type 0) (lines : Lines) (result : Result Answer Fault) → IfErr result (IsUnanswered lines) → IfErr result (λ e. P ⊎ IsUnanswered lines e)
+or_unanswered P lines (Ok a) h = tt
+or_unanswered P lines (Err e) h = inr h

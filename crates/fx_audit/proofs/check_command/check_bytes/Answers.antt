@@ -1,4 +1,4 @@
-use Rattle.fx_audit.proofs.Checks.{check_done, check_refused, check_unread}
+use Rattle.fx_audit.proofs.Checks.{check_done, check_refused, check_unread, or_unanswered}
 use Rattle.fx_audit.proofs.Collects.{documents_faultless}
 use Rattle.fx_audit.proofs.Documents.{exit_with}
 use Rattle.fx_audit.proofs.check_command.check_bytes.Goals as goal
@@ -10,6 +10,9 @@ returns-clause-ok g c =
 pub returns-clause-err : goal.returns-clause-err
 returns-clause-err g c =
     check_refused (g.N.Source.left c.args.network.now) (g.T.Source.left c.args.traffic.now) c.in_ok-documents.documents.plan c.in_ok-documents.documents.traffic c.args.certificate.now _ _ _ _ c.check_lines.result c.in_ok-documents.ensures.network c.in_ok-documents.ensures.traffic c.check_lines.ensures.err
+
+pub returns-clause-numbers : goal.returns-clause-numbers
+returns-clause-numbers g c = or_unanswered _ c.args.certificate.now c.check_lines.result c.check_lines.ensures.numbers
 
 pub returns-clause-untouched : goal.returns-clause-untouched
 returns-clause-untouched g c =
