@@ -1,6 +1,5 @@
-use Rattle.std.proofs.Common.{◌≡◌, List, [], ◌∷◌, ◌++◌, not, true, false, sym, ap, ◌∙◌, subst, cond}
+use Rattle.std.proofs.Common.{◌≡◌, List, [], ◌∷◌, ◌++◌, not, true, false, sym, ap, ◌∙◌, subst}
 use Rattle.std.proofs.lemmas.Bool.{cond-true, cond-false, not-true, not-false}
-use Rattle.std.specs.List.{list_any}
 use Rattle.fx_plan.specs.declared.link.Link.{Link}
 use Rattle.fx_plan.specs.Links.{starts_there}
 use Rattle.fx_plan.specs.Starts.{AreStarts}

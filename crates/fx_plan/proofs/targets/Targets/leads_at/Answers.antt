@@ -1,4 +1,4 @@
-use Rattle.std.proofs.Common.{◌≡◌, ◌≤◌, List, Bool, false, Vec, Global, Option, Some, None, length, map, slice_get, sym, ap, ◌∙◌, refl, subst, get_or}
+use Rattle.std.proofs.Common.{◌≡◌, List, Bool, false, Vec, Global, Some, None, length, map, slice_get, sym, ap, ◌∙◌, refl, subst, get_or}
 use Rattle.std.proofs.lemmas.Option.{slice_get_read, slice_get_past}
 use Rattle.fx_machine.specs.Network.{Net}
 use Rattle.fx_plan.specs.Feeding.{targets}
