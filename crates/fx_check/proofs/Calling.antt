@@ -27,29 +27,25 @@ abbrev IsFault : Net → List Class → Lines → Lines → Fault → Type 0
 IsFault net classes old new e =
     ((e ≡ fault_at 900 places.None) × (new ≡ old)) ⊎ (Fails old new e ⊎ IfSome (refusal_of net (targets_of classes) old) (IsRefusal e new))
 
--- what is said of a network and classes is said of those that are the same
-moved : (P : Net → List Class → Type 0) (net n : Net) (classes cs : List Class) → net ≡ n → classes ≡ cs → P net classes → P n cs
-moved P net n classes cs e f h = subst (λ m. P m cs) e (subst (λ xs. P net xs) f h)
-
 certified : (net : Net) (classes : List Class) (lines : Lines) → IsNetwork net → AreRegions (targets_of classes) → Unrefused net classes lines → Certified net classes lines
 certified net classes lines is_net rs h = go lines.left h where
   go : (o : Option (List ℕ)) → IfSome (option_map (λ text. first_refusal (judge_of net) lines.number 0 (whole (targets_of classes)) (text_lines text)) o) (λ r. r ≡ None) → IfSome o (λ text. IsCertificate net classes (text_lines text))
   go None h = tt
   go (Some text) h = certificate_only net classes lines.number (text_lines text) is_net rs h
 
-module _ {X : Type 0} (net n : Net) (classes cs : List Class) (same_net : net ≡ n) (same_classes : classes ≡ cs) where
-  pub once : (r : Result X Fault) → IsNetwork net → OnOk r (AreRegions (targets_of classes)) → OnOk r (Accepted net (targets_of classes)) → OnOk r (ExactlyOnce n cs)
-  once (Ok x) is_net rs h = moved ExactlyOnce net n classes cs same_net same_classes (accepted_once net classes is_net rs h)
+module _ {X : Type 0} (net n : Net) (classes : List Class) (same_net : net ≡ n) where
+  pub once : (r : Result X Fault) → IsNetwork net → OnOk r (AreRegions (targets_of classes)) → OnOk r (Accepted net (targets_of classes)) → OnOk r (ExactlyOnce n classes)
+  once (Ok x) is_net rs h = subst (λ m. ExactlyOnce m classes) same_net (accepted_once net classes is_net rs h)
   once (Err e) is_net rs h = tt
 
-  pub certificate : (r : Result X Fault) (lines : Lines) → IsNetwork net → OnOk r (AreRegions (targets_of classes)) → OnOk r (Unrefused net classes lines) → OnOk r (Certified n cs lines)
-  certificate (Ok x) lines is_net rs h = moved (λ m. λ xs. Certified m xs lines) net n classes cs same_net same_classes (certified net classes lines is_net rs h)
+  pub certificate : (r : Result X Fault) (lines : Lines) → IsNetwork net → OnOk r (AreRegions (targets_of classes)) → OnOk r (Unrefused net classes lines) → OnOk r (Certified n classes lines)
+  certificate (Ok x) lines is_net rs h = subst (λ m. Certified m classes lines) same_net (certified net classes lines is_net rs h)
   certificate (Err e) lines is_net rs h = tt
 
-  pub unrefused : (r : Result X Fault) (lines : Lines) → OnOk r (Unrefused net classes lines) → OnOk r (Unrefused n cs lines)
-  unrefused (Ok x) lines h = moved (λ m. λ xs. Unrefused m xs lines) net n classes cs same_net same_classes h
+  pub unrefused : (r : Result X Fault) (lines : Lines) → OnOk r (Unrefused net classes lines) → OnOk r (Unrefused n classes lines)
+  unrefused (Ok x) lines h = subst (λ m. Unrefused m classes lines) same_net h
   unrefused (Err e) lines h = tt
 
-  pub faults : (r : Result X Fault) (old new : Lines) → IfErr r (IsFault net classes old new) → IfErr r (IsFault n cs old new)
+  pub faults : (r : Result X Fault) (old new : Lines) → IfErr r (IsFault net classes old new) → IfErr r (IsFault n classes old new)
   faults (Ok x) old new h = tt
-  faults (Err e) old new h = moved (λ m. λ xs. IsFault m xs old new e) net n classes cs same_net same_classes h
+  faults (Err e) old new h = subst (λ m. IsFault m classes old new e) same_net h
