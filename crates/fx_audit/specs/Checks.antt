@@ -1,9 +1,8 @@
 -- What a checked certificate is answered with, and what is printed.
-use Rattle.std.specs.Prelude.{◌≡◌, ◌⊎◌, ℕ, ◌≤◌, List, [], ◌∷◌, ◌++◌, codes, decimal, Option, Some, None, IfSome}
+use Rattle.std.specs.Prelude.{◌≡◌, ◌⊎◌, ℕ, ◌≤◌, List, [], ◌∷◌, ◌++◌, codes, Option, Some, None, IfSome}
 use Rattle.fx_base.specs.declared.fault.Fault.{Fault}
-use Rattle.fx_base.specs.declared.fault.Place.{Place}
 use Rattle.fx_base.specs.declared.fault.Place.TheVariants as places
-use Rattle.fx_base.specs.Fault.{fault_at, place_text}
+use Rattle.fx_base.specs.Fault.{fault_at, fault_text}
 use Rattle.fx_base.specs.Lines.{Lines, text_lines}
 use Rattle.fx_machine.specs.Claim.{ExactlyOnce}
 use Rattle.fx_machine.specs.Classes.{Class}
@@ -21,15 +20,8 @@ use Rattle.fx_audit.specs.declared.answer.Answer.TheVariants.{Yes, No, Unknown}
 abbrev pub yes_line : List ℕ
 yes_line = codes "yes" ++ 10 ∷ []
 
--- a place behind a number; nothing where there is none
-abbrev pub place_behind : Place → List ℕ
-place_behind places.None = []
-place_behind (places.Line n) = 32 ∷ place_text (places.Line n)
-place_behind (places.Octet n) = 32 ∷ place_text (places.Octet n)
-place_behind (places.Text text) = 32 ∷ place_text (places.Text text)
-
 abbrev pub no_line : Fault → List ℕ
-no_line e = codes "no " ++ (decimal e.number ++ (place_behind e.place ++ 10 ∷ []))
+no_line e = codes "no " ++ (fault_text e ++ 10 ∷ [])
 
 -- ---- what is answered
 

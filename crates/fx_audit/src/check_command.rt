@@ -5,30 +5,16 @@ ghost use Rattle.fx_base.specs.Fault.{fault_at};
 ghost use Rattle.fx_base.specs.declared.fault.Fault.{Fault};
 ghost use Rattle.fx_base.specs.declared.fault.Place.TheVariants as places;
 ghost use Rattle.fx_machine.specs.RunReading.{Fails};
-ghost use Rattle.fx_audit.specs.Checks.{IsAnswered, IsRefusedCertificate, IsUnanswered, MeansNo, no_line, place_behind};
+ghost use Rattle.fx_audit.specs.Checks.{IsAnswered, IsRefusedCertificate, IsUnanswered, MeansNo, no_line};
 ghost use Rattle.fx_audit.specs.Commands.{IsChecked, IsRefusedCheck};
 ghost use Rattle.fx_audit.specs.Documents.{IsRefusedByDocuments, ReadFails};
 ghost use Rattle.fx_audit.specs.declared.answer.Answer.TheVariants.{Yes, No};
 
 use crate::answer::Answer;
 use crate::document::{Documents, read_documents};
-use fx_base::{Fault, LineReader, Place, Sink, Source, put_number, put_place, put_text};
+use fx_base::{Fault, LineReader, Sink, Source, put_fault, put_text};
 use fx_check::check;
 use std::alloc::Global;
-
-/// Writes a place behind a number.
-fn put_behind<S: Sink>(sink: &mut S, place: &Place) -> Result<(), Fault>
-    ensures ok { OnOk result (Writes (S.taken sink.old) (S.taken sink.new) (place_behind place.now)) }
-    ensures err { IfErr result (λ e. (e ≡ fault_at 902 places.None) × (S.failed sink.new ≡ true)) }
-{
-    match place {
-        Place::None => put_text(sink, b""),
-        Place::Line(_) | Place::Octet(_) | Place::Text(_) => {
-            put_text(sink, b" ")?;
-            put_place(sink, place)
-        }
-    }
-}
 
 /// Writes the line of an answer of no: the number of the refusal and its place.
 fn put_no<S: Sink>(sink: &mut S, fault: &Fault) -> Result<(), Fault>
@@ -36,8 +22,7 @@ fn put_no<S: Sink>(sink: &mut S, fault: &Fault) -> Result<(), Fault>
     ensures err { IfErr result (λ e. (e ≡ fault_at 902 places.None) × (S.failed sink.new ≡ true)) }
 {
     put_text(sink, b"no ")?;
-    put_number(sink, u64::from(fault.number))?;
-    put_behind(sink, &fault.place)?;
+    put_fault(sink, fault)?;
     put_text(sink, b"\n")
 }
 

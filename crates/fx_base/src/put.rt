@@ -1,7 +1,7 @@
 //! Texts and numbers written into a sink. Nothing here takes memory.
 ghost use Rattle.std.specs.Prelude.{◌≡◌, true, false, OnOk, IfErr, decimal, map};
 ghost use Rattle.fx_base.specs.Device.{Writes};
-ghost use Rattle.fx_base.specs.Fault.{fault_at, place_text, shown};
+ghost use Rattle.fx_base.specs.Fault.{fault_at, fault_text, place_behind, place_text, shown};
 ghost use Rattle.fx_base.specs.declared.fault.Place.TheVariants as places;
 
 use crate::fault::{Fault, Place, shown_octet};
@@ -78,4 +78,31 @@ pub fn put_place<S: Sink>(sink: &mut S, place: &Place) -> Result<(), Fault>
         }
         Place::Text(text) => put_shown(sink, text.as_bytes()),
     }
+}
+
+/// Writes a space and a place behind what stands before it, or nothing where there is no place.
+fn put_behind<S: Sink>(sink: &mut S, place: &Place) -> Result<(), Fault>
+    ensures ok { OnOk result (Writes (S.taken sink.old) (S.taken sink.new) (place_behind place.now)) }
+    ensures going { OnOk result (S.failed sink.old ≡ false → S.failed sink.new ≡ false) }
+    ensures err { IfErr result (λ e. (e ≡ fault_at 902 places.None) × (S.failed sink.new ≡ true)) }
+{
+    match place {
+        Place::None => Ok(()),
+        Place::Line(_) | Place::Octet(_) | Place::Text(_) => {
+            put_text(sink, b" ")?;
+            put_place(sink, place)
+        }
+    }
+}
+
+/// Writes a refusal as it is printed: its number in decimal and, behind a space, its place.
+///
+/// Fails as [`put_text`].
+pub fn put_fault<S: Sink>(sink: &mut S, fault: &Fault) -> Result<(), Fault>
+    ensures ok { OnOk result (Writes (S.taken sink.old) (S.taken sink.new) (fault_text fault.now)) }
+    ensures going { OnOk result (S.failed sink.old ≡ false → S.failed sink.new ≡ false) }
+    ensures err { IfErr result (λ e. (e ≡ fault_at 902 places.None) × (S.failed sink.new ≡ true)) }
+{
+    put_number(sink, u64::from(fault.number))?;
+    put_behind(sink, &fault.place)
 }

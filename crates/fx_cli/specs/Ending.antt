@@ -2,18 +2,9 @@
 use Rattle.std.specs.Prelude.{ℕ, ◌≤◌, ◌==◌, ◌||◌, List, [], ◌∷◌, ◌++◌, codes, if◌then◌else◌, Result, Ok, Err, Bool}
 use Rattle.std.specs.Fmt.{decimal}
 use Rattle.fx_base.specs.declared.fault.Fault.{Fault}
-use Rattle.fx_base.specs.declared.fault.Place.{Place}
-use Rattle.fx_base.specs.declared.fault.Place.TheVariants.{None, Line, Octet, Text}
-use Rattle.fx_base.specs.Fault.{place_text}
+use Rattle.fx_base.specs.Fault.{fault_text}
 use Rattle.fx_audit.specs.declared.answer.Answer.{Answer}
 use Rattle.fx_audit.specs.declared.answer.Answer.TheVariants.{Yes, No, Unknown}
-
--- a place behind a number; nothing where there is none
-abbrev pub behind : Place → List ℕ
-behind None = []
-behind (Line n) = 32 ∷ place_text (Line n)
-behind (Octet n) = 32 ∷ place_text (Octet n)
-behind (Text text) = 32 ∷ place_text (Text text)
 
 abbrev pub is_device : ℕ → Bool
 is_device number = number == 901 || number == 902
@@ -23,7 +14,7 @@ abbrev pub refusal_line : Fault → List ℕ
 refusal_line fault =
     if fault.number == 900 then codes "memory 900" ++ 10 ∷ []
     else (if is_device fault.number then codes "device " ++ (decimal fault.number ++ 10 ∷ [])
-    else codes "refused " ++ (decimal fault.number ++ (behind fault.place ++ 10 ∷ [])))
+    else codes "refused " ++ (fault_text fault ++ 10 ∷ []))
 
 abbrev pub refusal_status : Fault → ℕ
 refusal_status fault = if fault.number == 900 then 4 else (if is_device fault.number then 5 else 2)

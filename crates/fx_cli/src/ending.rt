@@ -3,27 +3,13 @@ ghost use Rattle.std.specs.Prelude.{◌≡◌, ◌⊎◌, true, false, OnOk, IfE
 ghost use Rattle.fx_base.specs.Device.{Writes};
 ghost use Rattle.fx_base.specs.Fault.{fault_at};
 ghost use Rattle.fx_base.specs.declared.fault.Place.TheVariants as places;
-ghost use Rattle.fx_cli.specs.Ending.{IsExitStatus, behind, refusal_line, refusal_status, status, last_words};
+ghost use Rattle.fx_cli.specs.Ending.{IsExitStatus, refusal_line, refusal_status, status, last_words};
 
 use fx_audit::Answer;
-use fx_base::{Fault, Place, Sink, put_number, put_place, put_text};
+use fx_base::{Fault, Sink, put_fault, put_number, put_text};
 
 /// The exit status of a write that failed.
 const WRITE_FAILED: u8 = 5;
-
-/// Writes a place behind a number.
-fn put_behind<S: Sink>(sink: &mut S, place: &Place) -> Result<(), Fault>
-    ensures ok { OnOk result (Writes (S.taken sink.old) (S.taken sink.new) (behind place.now)) }
-    ensures err { IfErr result (λ e. (e ≡ fault_at 902 places.None) × (S.failed sink.new ≡ true)) }
-{
-    match place {
-        Place::None => put_text(sink, b""),
-        Place::Line(_) | Place::Octet(_) | Place::Text(_) => {
-            put_text(sink, b" ")?;
-            put_place(sink, place)
-        }
-    }
-}
 
 /// Writes the line of a refusal.
 fn put_refusal<S: Sink>(sink: &mut S, fault: &Fault) -> Result<(), Fault>
@@ -39,8 +25,7 @@ fn put_refusal<S: Sink>(sink: &mut S, fault: &Fault) -> Result<(), Fault>
         }
         _ => {
             put_text(sink, b"refused ")?;
-            put_number(sink, u64::from(fault.number))?;
-            put_behind(sink, &fault.place)?;
+            put_fault(sink, fault)?;
             put_text(sink, b"\n")
         }
     }
