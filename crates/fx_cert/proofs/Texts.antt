@@ -7,20 +7,17 @@ use Rattle.std.proofs.lemmas.Slice.Eq.{bytes_eq-Decides}
 use Rattle.fx_elements.specs.Axes.{axis_index, tops}
 use Rattle.fx_elements.specs.declared.axis.Axis.{Axis}
 use Rattle.fx_elements.specs.declared.axis.Axis.TheVariants as axis
-use Rattle.fx_elements.specs.Spelling.{cut_at, number_of}
+use Rattle.fx_elements.specs.Spelling.{cut_at, largest, number_of}
 use Rattle.fx_elements.proofs.Cuts.{cut_text, cut_parts, chosen}
-use Rattle.fx_elements.proofs.Decimals.{number_text, number_found}
+use Rattle.fx_elements.proofs.Decimals.{number_64, number_text, number_found}
 use Rattle.fx_elements.proofs.Addresses.{decimal_avoids, by_some, some_is}
 use Rattle.fx_cert.specs.declared.item.Item.{Item}
 use Rattle.fx_cert.specs.declared.item.Item.TheVariants as item
-use Rattle.fx_cert.specs.ItemText.{axis_word, largest, item_text, IsItem, IsText}
+use Rattle.fx_cert.specs.ItemText.{axis_word, item_text, IsItem, IsText}
 use Rattle.fx_cert.specs.ItemReading.{axis_of, class_of, split_of, leaf_of, item_of}
 
 same_is : (a b : List ℕ) → bytes_eq a b ≡ true → a ≡ b
 same_is a b e = (bytes_eq-Decides a b).0 e
-
-number_64 : (n : ℕ) → n ≤ largest → number_of largest (decimal n) ≡ Some n
-number_64 n le = number_text largest n (omega arith) le
 
 cut_number : (n : ℕ) (rest : List ℕ) → n ≤ largest → cut_at 32 (decimal n ++ 32 ∷ rest) ≡ Some (decimal n, rest)
 cut_number n rest le = cut_text 32 (decimal n) rest (decimal_avoids 32 n (omega arith) (omega arith))

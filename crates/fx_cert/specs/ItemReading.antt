@@ -4,10 +4,9 @@ use Rattle.std.specs.Str.{bytes_eq}
 use Rattle.fx_elements.specs.Axes.{axis_index, tops}
 use Rattle.fx_elements.specs.declared.axis.Axis.{Axis}
 use Rattle.fx_elements.specs.declared.axis.Axis.TheVariants.{Source, Destination, Protocol, SourcePort, DestinationPort, ClassOfService}
-use Rattle.fx_elements.specs.Spelling.{◌>>=◌, cut_at, number_of}
+use Rattle.fx_elements.specs.Spelling.{◌>>=◌, cut_at, largest, number_of}
 use Rattle.fx_cert.specs.declared.item.Item.{Item}
 use Rattle.fx_cert.specs.declared.item.Item.TheVariants.{Header, Class, Split, Leaf, End}
-use Rattle.fx_cert.specs.ItemText.{largest}
 
 -- the axis with this word
 abbrev pub axis_of : List ℕ → Option Axis

@@ -4,6 +4,7 @@ use Rattle.std.specs.List.{join_with_byte}
 use Rattle.fx_elements.specs.declared.axis.Axis.{Axis}
 use Rattle.fx_elements.specs.declared.axis.Axis.TheVariants.{Source, Destination, Protocol, SourcePort, DestinationPort, ClassOfService}
 use Rattle.fx_elements.specs.Axes.{axis_index, tops}
+use Rattle.fx_elements.specs.Spelling.{largest}
 use Rattle.fx_cert.specs.declared.item.Item.{Item}
 use Rattle.fx_cert.specs.declared.item.Item.TheVariants.{Header, Class, Split, Leaf, End}
 
@@ -27,10 +28,6 @@ item_words End = codes "end" ∷ []
 -- one space stands between two words
 abbrev pub item_text : Item → List ℕ
 item_text item = join_with_byte 32 (item_words item)
-
--- below 2 to the 64
-abbrev pub largest : ℕ
-largest = 18446744073709551615
 
 -- numbers are below 2 to the 64, a split's value is on its axis
 abbrev pub IsItem : Item → Type 0

@@ -3,9 +3,9 @@ ghost use Rattle.std.specs.Prelude.{◌≡◌, IfOk, IfErr};
 ghost use Rattle.std.specs.Str.{bytes_eq};
 ghost use Rattle.fx_base.specs.Fault.{fault_at};
 ghost use Rattle.fx_base.specs.declared.fault.Place.TheVariants as places;
-ghost use Rattle.fx_elements.specs.Spelling.{number_of};
+ghost use Rattle.fx_elements.specs.Spelling.{largest, number_of};
 ghost use Rattle.fx_cert.specs.declared.item.Item as of_item;
-ghost use Rattle.fx_cert.specs.ItemText.{IsText, largest};
+ghost use Rattle.fx_cert.specs.ItemText.{IsText};
 ghost use Rattle.fx_cert.specs.ItemReading.{axis_of, class_of, split_of, leaf_of, item_of};
 
 use crate::item::Item;

@@ -11,19 +11,11 @@ use Rattle.fx_base.specs.declared.counts.Counts.{Counts}
 use Rattle.fx_base.specs.Counts.{add_counts}
 use Rattle.fx_elements.specs.Axes.{axis_index}
 use Rattle.fx_layout.specs.Keys.{Layout, Key, HasBits, same_layout, same_key}
-use Rattle.fx_layout.proofs.Projections.{and_both}
+use Rattle.fx_layout.proofs.Projections.{layout_same}
 use Rattle.fx_machine.specs.declared.record.Record.{Record}
 use Rattle.fx_machine.specs.States.{add_at}
 use Rattle.fx_machine.specs.Sums.{total_at}
 use Rattle.fx_collect.specs.Totals.{added, record_of, records_of, AllHaveBits}
-
-eqb_same : (n : ℕ) → (n == n) ≡ true
-eqb_same n = eq-eqb n n refl
-
--- a layout is the same as itself
-pub layout_same : (layout : Layout) → same_layout layout layout ≡ true
-layout_same [] = refl
-layout_same (part ∷ parts) = and_both _ _ (and_both _ _ (eqb_same (axis_index part.axis)) (eqb_same part.bits)) (layout_same parts)
 
 from_iff : (a b : Bool) → (a ≡ true → b ≡ true) → (b ≡ true → a ≡ true) → a ≡ b
 from_iff true true f g = refl

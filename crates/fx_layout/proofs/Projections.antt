@@ -1,5 +1,5 @@
 -- Projections compose.
-use Rattle.std.proofs.Common.{◌≡◌, ◌≢◌, ℕ, zero, suc, ◌+◌, ◌-◌, ◌*◌, ◌/◌, ◌^◌, ◌<◌, ◌≤◌, Bool, true, false, cond, ◌&&◌, ◌==◌, nat_le, if◌then◌else◌, List, [], ◌∷◌, map, Option, Some, None, refl, sym, ap, ap₂, ◌∙◌, subst, true≢false, arith, eqb-true, leb-true, le-leb, pow-add, bytes_eq}
+use Rattle.std.proofs.Common.{◌≡◌, ◌≢◌, ℕ, zero, suc, ◌+◌, ◌-◌, ◌*◌, ◌/◌, ◌^◌, ◌<◌, ◌≤◌, Bool, true, false, cond, ◌&&◌, ◌==◌, nat_le, if◌then◌else◌, List, [], ◌∷◌, map, Option, Some, None, refl, sym, ap, ap₂, ◌∙◌, subst, true≢false, arith, eqb-true, eq-eqb, leb-true, le-leb, pow-add, bytes_eq}
 use Rattle.std.specs.List.{list_all}
 use Rattle.std.proofs.Math.Nat.{div-div-eq-div-mul, zero-div}
 use Rattle.std.proofs.lemmas.Slice.Eq.{bytes_eq-Decides}
@@ -19,6 +19,12 @@ pub and_both : (a b : Bool) → a ≡ true → b ≡ true → (a && b) ≡ true
 and_both true true h k = refl
 and_both true false h k = absurd (cc)
 and_both false b h k = absurd (cc)
+
+-- a layout is the same as itself
+pub layout_same : (layout : Layout) → same_layout layout layout ≡ true
+layout_same [] = refl
+layout_same (part ∷ parts) =
+    and_both _ _ (and_both _ _ (eq-eqb (axis_index part.axis) (axis_index part.axis) refl) (eq-eqb part.bits part.bits refl)) (layout_same parts)
 
 -- an axis is told by its number
 abbrev axis_at : ℕ → Axis

@@ -5,20 +5,15 @@ use Rattle.fx_base.specs.declared.counts.Counts.{Counts}
 use Rattle.fx_base.specs.Counts.{add_counts}
 use Rattle.fx_elements.specs.Axes.{axis_index}
 use Rattle.fx_layout.specs.Keys.{Key, Layout, same_key, same_layout}
-use Rattle.fx_layout.proofs.Projections.{same_key_is, and_both}
+use Rattle.fx_layout.proofs.Projections.{same_key_is, and_both, layout_same}
 use Rattle.fx_machine.specs.declared.record.Record.{Record}
 use Rattle.fx_machine.specs.States.{add_at}
 use Rattle.fx_machine.specs.Sums.{total_at}
 use Rattle.fx_leaf.specs.Quantity.{Weight, Nothing, Counted, plus, total_weight}
 use Rattle.fx_leaf.proofs.Weights.{plus_nothing}
 
-same_layout_refl : (layout : Layout) → same_layout layout layout ≡ true
-same_layout_refl [] = refl
-same_layout_refl (p ∷ ps) =
-    and_both _ _ (and_both _ _ (eq-eqb (axis_index p.axis) (axis_index p.axis) refl) (eq-eqb p.bits p.bits refl)) (same_layout_refl ps)
-
 pub same_key_refl : (key : Key) → same_key key key ≡ true
-same_key_refl key = and_both _ _ (same_layout_refl key.layout) ((bytes_eq-Decides key.values key.values).1 refl)
+same_key_refl key = and_both _ _ (layout_same key.layout) ((bytes_eq-Decides key.values key.values).1 refl)
 
 abbrev if_key : Key → Key → Counts → Weight
 if_key key total counts = if same_key key total then Counted counts else Nothing

@@ -116,11 +116,6 @@ weigh_put_last f (rs ∷ rss) zero r w lt e =
 weigh_put_last f (rs ∷ rss) (suc n) r w lt e =
     ap (plus (f 0 rs)) (weigh_put_last (λ k. f (suc k)) rss n r w (le_of_suc-le-suc lt) e) ∙ behind (f 0 rs) (weigh_each (λ k. f (suc k)) rss) w
 
-pub put_last_past : (rss : List (List Record)) (n : ℕ) (r : Record) → length rss ≤ n → put_last rss n r ≡ rss
-put_last_past [] n r le = refl
-put_last_past (rs ∷ rss) zero r le = absurd (omega arith)
-put_last_past (rs ∷ rss) (suc n) r le = ap (λ xss. rs ∷ xss) (put_last_past rss n r (le_of_suc-le-suc le))
-
 pub length_put_last : (rss : List (List Record)) (n : ℕ) (r : Record) → length (put_last rss n r) ≡ length rss
 length_put_last [] n r = refl
 length_put_last (rs ∷ rss) zero r = refl

@@ -3,9 +3,9 @@ use Rattle.std.proofs.Common.{◌≡◌, ℕ, List, [], ◌∷◌, ◌++◌, map
 use Rattle.std.specs.Prelude.{codes}
 use Rattle.std.specs.Fmt.{decimal}
 use Rattle.std.specs.Str.{bytes_eq}
-use Rattle.fx_elements.specs.Spelling.{number_of}
+use Rattle.fx_elements.specs.Spelling.{largest, number_of}
 use Rattle.fx_elements.proofs.Cuts.{chosen}
-use Rattle.fx_elements.proofs.Decimals.{number_text}
+use Rattle.fx_elements.proofs.Decimals.{number_64}
 use Rattle.fx_elements.proofs.Addresses.{by_some, some_is}
 use Rattle.fx_machine.specs.declared.step.HolderName.{HolderName}
 use Rattle.fx_machine.specs.declared.step.HolderName.TheVariants.{Cache, Aggregation}
@@ -13,12 +13,9 @@ use Rattle.fx_machine.specs.declared.step.Step.{Step}
 use Rattle.fx_machine.specs.declared.step.Step.TheVariants as step
 use Rattle.fx_machine.specs.declared.run_line.Action.{Action}
 use Rattle.fx_machine.specs.declared.run_line.Action.TheVariants.{Cross, Expire, Arrive}
-use Rattle.fx_machine.specs.RunText.{choice_word, holder_words, step_words, largest, IsNumber, AreChoices, IsHolderName, IsStep}
+use Rattle.fx_machine.specs.RunText.{choice_word, holder_words, step_words, IsNumber, AreChoices, IsHolderName, IsStep}
 use Rattle.fx_machine.specs.RunReading.{Words, first_word, number_first, cache_first, aggregation_first, holder_first, cross_first, expire_first, arrive_first, action_of, choices_behind, step_with, step_of}
 use Rattle.fx_machine.proofs.RunWordTexts.{word_found, number_word, same_word, choices_text, choices_found}
-
-number_64 : (n : ℕ) → n ≤ largest → number_of largest (decimal n) ≡ Some n
-number_64 n le = number_text largest n (omega arith) le
 
 -- ---- a step is read
 

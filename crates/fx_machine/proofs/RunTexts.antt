@@ -11,7 +11,7 @@ use Rattle.std.proofs.lemmas.Bool.{cases_lt, lt-ltb, eqb-false}
 use Rattle.fx_base.specs.declared.fault.Fault.{Fault}
 use Rattle.fx_base.specs.Lines.{text_lines, begin_line, next_number}
 use Rattle.fx_elements.specs.Axes.{Fields}
-use Rattle.fx_elements.specs.Spelling.{quad}
+use Rattle.fx_elements.specs.Spelling.{largest, quad}
 use Rattle.fx_elements.proofs.Cuts.{chosen}
 use Rattle.fx_elements.proofs.Numbers.{both}
 use Rattle.fx_elements.proofs.Addresses.{by_some, some_is, decimal_avoids}
@@ -25,7 +25,7 @@ use Rattle.fx_machine.specs.declared.run_line.RunLine.{RunLine}
 use Rattle.fx_machine.specs.declared.run_line.RunLine.TheVariants as line
 use Rattle.fx_machine.specs.Network.{numbered}
 use Rattle.fx_machine.specs.Classes.{Class, IsOf}
-use Rattle.fx_machine.specs.RunText.{Run, choice_word, field_words, packet_words, holder_words, step_words, first_words, last_words, run_lines, lines_text, run_text, largest, AreChoices, IsHolderName, IsStep, IsPacket, IsPacketOf, IsRun, AreShort}
+use Rattle.fx_machine.specs.RunText.{Run, choice_word, field_words, packet_words, holder_words, step_words, first_words, last_words, run_lines, lines_text, run_text, AreChoices, IsHolderName, IsStep, IsPacket, IsPacketOf, IsRun, AreShort}
 use Rattle.fx_machine.specs.RunReading.{Words, words, first_word, at_end, packet_of, step_of, line_of_kind, line_of, Line, at_line, well_formed, said, is_of, no_run, with_packet, with_step, packet_fault, unless, from_line, ended, behind, reading}
 use Rattle.fx_machine.proofs.RunWordTexts.{word_found, same_word, end_found, packet_text, packet_found}
 use Rattle.fx_machine.proofs.RunStepTexts.{step_text, step_found}

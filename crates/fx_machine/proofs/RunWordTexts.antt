@@ -8,21 +8,18 @@ use Rattle.std.proofs.lemmas.Slice.Eq.{bytes_eq-Decides}
 use Rattle.fx_elements.specs.declared.axis.Axis.{Axis}
 use Rattle.fx_elements.specs.declared.axis.Axis.TheVariants as axis
 use Rattle.fx_elements.specs.Axes.{Fields, axis_index, axis_count, tops}
-use Rattle.fx_elements.specs.Spelling.{◌>>=◌, number_of, quad}
+use Rattle.fx_elements.specs.Spelling.{◌>>=◌, largest, number_of, quad}
 use Rattle.fx_elements.specs.Values.{value_on, value_text}
 use Rattle.fx_elements.proofs.Cuts.{chosen}
-use Rattle.fx_elements.proofs.Decimals.{number_text, number_found}
+use Rattle.fx_elements.proofs.Decimals.{number_64, number_text, number_found}
 use Rattle.fx_elements.proofs.Addresses.{quad_text, quad_found, by_some, some_is}
 use Rattle.fx_boxes.specs.Boxes.{IsFields}
 use Rattle.fx_machine.specs.declared.packet.Packet.{Packet}
-use Rattle.fx_machine.specs.RunText.{choice_word, field_words, packet_words, largest, IsNumber, AreChoices, IsPacket}
+use Rattle.fx_machine.specs.RunText.{choice_word, field_words, packet_words, IsNumber, AreChoices, IsPacket}
 use Rattle.fx_machine.specs.RunReading.{Words, in_first, first_word, number_first, value_first, at_end, fields_first, packet_of, choice_of, choices_behind}
 use Rattle.fx_machine.proofs.RunWords.{value_bound, all_on_axes}
 
 -- ---- words
-
-number_64 : (n : ℕ) → n ≤ largest → number_of largest (decimal n) ≡ Some n
-number_64 n le = number_text largest n (omega arith) le
 
 -- what was read in the first word
 pub first_found : {A : Type 0} (read : List ℕ → Option A) (ws : Words) (r : A × Words) → in_first read ws ≡ Some r → (w : List ℕ) × (ws ≡ w ∷ r.1) × (read w ≡ Some r.0)

@@ -10,7 +10,7 @@ use Rattle.fx_base.specs.Lines.{Lines, text_lines, next_number}
 use Rattle.fx_elements.specs.declared.axis.Axis.{Axis}
 use Rattle.fx_elements.specs.declared.axis.Axis.TheVariants.{Source, Destination, Protocol, SourcePort, DestinationPort, ClassOfService}
 use Rattle.fx_elements.specs.Axes.{Fields}
-use Rattle.fx_elements.specs.Spelling.{◌>>=◌, number_of}
+use Rattle.fx_elements.specs.Spelling.{◌>>=◌, largest, number_of}
 use Rattle.fx_elements.specs.Values.{value_on}
 use Rattle.fx_boxes.specs.Boxes.{holds}
 use Rattle.fx_machine.specs.declared.packet.Packet.{Packet}
@@ -24,7 +24,7 @@ use Rattle.fx_machine.specs.declared.run_line.RunLine.{RunLine}
 use Rattle.fx_machine.specs.declared.run_line.RunLine.TheVariants as line
 use Rattle.fx_machine.specs.Network.{numbered}
 use Rattle.fx_machine.specs.Classes.{Class}
-use Rattle.fx_machine.specs.RunText.{Run, largest}
+use Rattle.fx_machine.specs.RunText.{Run}
 
 -- ---- words
 

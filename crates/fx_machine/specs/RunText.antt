@@ -3,6 +3,7 @@ use Rattle.std.specs.Prelude.{◌≡◌, ℕ, ◌≤◌, List, [], ◌∷◌, �
 use Rattle.std.specs.List.{AllByRecursion, join_with_byte}
 use Rattle.fx_elements.specs.Axes.{Fields, field, axes, axis_count}
 use Rattle.fx_elements.specs.Values.{value_text}
+use Rattle.fx_elements.specs.Spelling.{largest}
 use Rattle.fx_boxes.specs.Boxes.{IsFields}
 use Rattle.fx_machine.specs.declared.packet.Packet.{Packet}
 use Rattle.fx_machine.specs.declared.step.HolderName.{HolderName}
@@ -60,10 +61,6 @@ abbrev pub run_text : Run → List ℕ
 run_text run = lines_text (run_lines run)
 
 -- ---- what has a text
-
--- below 2 to the 64
-abbrev pub largest : ℕ
-largest = 18446744073709551615
 
 abbrev pub IsNumber : ℕ → Type 0
 IsNumber n = n ≤ largest

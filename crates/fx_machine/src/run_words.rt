@@ -2,8 +2,7 @@
 ghost use Rattle.std.specs.Prelude.{◌≡◌, ◌≤◌, slice_index, IfSome, option_map};
 ghost use Rattle.std.specs.Str.{bytes_eq};
 ghost use Rattle.fx_elements.specs.Axes.{axis_index, tops};
-ghost use Rattle.fx_elements.specs.Spelling.{number_of};
-ghost use Rattle.fx_machine.specs.RunText.{largest};
+ghost use Rattle.fx_elements.specs.Spelling.{largest, number_of};
 ghost use Rattle.fx_machine.specs.RunReading.{words, none_left, first_word, number_first, value_first};
 
 use fx_elements::{Axis, cut, read_number, read_on};
