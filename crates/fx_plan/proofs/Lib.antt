@@ -9,4 +9,4 @@ pub mod Matching
 pub mod Stalling
 pub mod Grouping
 pub mod Starting
-pub mod Targeting
+pub mod LinkedProcesses

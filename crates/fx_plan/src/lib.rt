@@ -12,6 +12,7 @@ mod layouts;
 mod limits;
 mod link;
 mod link_table;
+mod linked_processes;
 mod links;
 mod network;
 mod network_device;
@@ -24,7 +25,6 @@ mod ranks;
 mod refuse;
 mod report;
 mod required_list;
-mod targets;
 
 pub use link::Link;
 pub use link_table::Links;

@@ -4,4 +4,4 @@ use Rattle.fx_plan.specs.Feeding.{feeds}
 use Rattle.fx_plan.proofs.feeders.feeders_of.Given as goal
 
 abbrev pub invariant-loop-from : goal.invariant-loop-from
-invariant-loop-from l = l.feeders.items ≡ map (λ from. feeds l.targets from l.process) (range_with_len 0 l.from)
+invariant-loop-from l = l.feeders.items ≡ map (λ from. feeds l.linked from l.process) (range_with_len 0 l.from)

@@ -13,4 +13,4 @@ all_lead net process [] = refl
 all_lead net process (place ∷ places) = rw (before_leads net process (slice_get net.exporters place) (at_places net.exporters places), all_lead net process places) refl
 
 pub returns : goal.returns
-returns c = c.any_leads.ensures ∙ all_lead c.args.targets.now c.args.process c.args.places.now
+returns c = c.any_leads.ensures ∙ all_lead c.args.linked.now c.args.process c.args.places.now

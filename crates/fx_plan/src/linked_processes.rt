@@ -37,8 +37,12 @@ fn flag_at(flags: &[bool], place: usize) -> bool
 }
 
 /// For each process whether the exporting process has a destination that is linked to it.
-fn targets_of(alloc: Global, net: &Net, exporter: &Exporter) -> Result<Vec<bool>, AllocError>
-    ensures { IfOk result (λ v. v.items ≡ feeding.targets net.now exporter.now) }
+fn linked_processes_of(
+    alloc: Global,
+    net: &Net,
+    exporter: &Exporter,
+) -> Result<Vec<bool>, AllocError>
+    ensures { IfOk result (λ v. v.items ≡ feeding.linked_processes net.now exporter.now) }
 {
     let mut flags = vec![in alloc; false; net.processes().len()]?;
     for destination in exporter.destinations() {
@@ -48,24 +52,24 @@ fn targets_of(alloc: Global, net: &Net, exporter: &Exporter) -> Result<Vec<bool>
 }
 
 /// The same of all exporting processes.
-fn all_targets(alloc: Global, net: &Net) -> Result<Vec<Vec<bool>>, AllocError>
-    ensures { IfOk result (λ v. map (λ row. row.items) v.items ≡ map (feeding.targets net.now) net.now.exporters) }
+fn all_linked_processes(alloc: Global, net: &Net) -> Result<Vec<Vec<bool>>, AllocError>
+    ensures { IfOk result (λ v. map (λ row. row.items) v.items ≡ map (feeding.linked_processes net.now) net.now.exporters) }
 {
     let mut rows = Vec::new(alloc);
     for exporter in net.exporters() {
-        rows.push(targets_of(alloc, net, exporter)?)?;
+        rows.push(linked_processes_of(alloc, net, exporter)?)?;
     }
     Ok(rows)
 }
 
 /// A network with the collecting processes to which each of its exporting processes sends. Contracts see the network.
 #[derive(Drop)]
-pub struct Targets<'n> {
+pub struct LinkedProcesses<'n> {
     net: &'n Net,
     rows: Vec<Vec<bool>>,
 }
 
-impl<'n> Model for Targets<'n> {
+impl<'n> Model for LinkedProcesses<'n> {
     ghost use Rattle.std.specs.Prelude.{◌≡◌, map};
     ghost use Rattle.fx_machine.specs.Network as machine;
     ghost use Rattle.fx_plan.specs.Feeding as feeding;
@@ -74,16 +78,16 @@ impl<'n> Model for Targets<'n> {
 
     ghost view = { λ t. t.net.now };
 
-    ghost invariant = { λ t. map (λ row. row.items) t.rows.items ≡ map (feeding.targets t.net.now) t.net.now.exporters };
+    ghost invariant = { λ t. map (λ row. row.items) t.rows.items ≡ map (feeding.linked_processes t.net.now) t.net.now.exporters };
 }
 
-impl<'n> Targets<'n> {
+impl<'n> LinkedProcesses<'n> {
     /// Of the processes of this network.
-    pub fn of(alloc: Global, net: &'n Net) -> Result<Targets<'n>, AllocError>
-        ensures { IfOk result (λ targets. targets ≡ net.now) }
+    pub fn of(alloc: Global, net: &'n Net) -> Result<LinkedProcesses<'n>, AllocError>
+        ensures { IfOk result (λ linked. linked ≡ net.now) }
     {
-        let rows = all_targets(alloc, net)?;
-        Ok(Targets { net, rows })
+        let rows = all_linked_processes(alloc, net)?;
+        Ok(LinkedProcesses { net, rows })
     }
 
     /// The network.

@@ -1,14 +1,14 @@
 use Rattle.std.proofs.Common.{◌≡◌, List, Bool, false, Vec, Global, Some, None, length, map, slice_get, sym, ap, ◌∙◌, refl, subst, get_or}
 use Rattle.std.proofs.lemmas.Option.{slice_get_read, slice_get_past}
 use Rattle.fx_machine.specs.Network.{Net}
-use Rattle.fx_plan.specs.Feeding.{targets}
-use Rattle.fx_plan.proofs.Targeting.{leads_in_row}
-use Rattle.fx_plan.proofs.targets.Targets.leads_at.Goals as goal
+use Rattle.fx_plan.specs.Feeding.{linked_processes}
+use Rattle.fx_plan.proofs.LinkedProcesses.{leads_in_row}
+use Rattle.fx_plan.proofs.linked_processes.LinkedProcesses.leads_at.Goals as goal
 
 pub returns-in-Some : goal.returns-in-Some
 returns-in-Some c =
     let all = c.self.inside.rows.items in
-    let rows : map (λ (row : Vec Bool Global). row.items) all ≡ map (targets c.args.self.now) c.args.self.now.exporters = subst (λ (n : Net). map (λ (row : Vec Bool Global). row.items) c.self.inside.rows.items ≡ map (targets n) n.exporters) c.self.view_is c.self.invariant in
+    let rows : map (λ (row : Vec Bool Global). row.items) all ≡ map (linked_processes c.args.self.now) c.args.self.now.exporters = subst (λ (n : Net). map (λ (row : Vec Bool Global). row.items) c.self.inside.rows.items ≡ map (linked_processes n) n.exporters) c.self.view_is c.self.invariant in
     let found = rw c.as_slice.ensures.value at c.in-Some.ensures.lookup in
     let here : slice_get all c.args.place ≡ Some c.in-Some.row.now = slice_get_read all (length all) c.args.place c.in-Some.row.now refl found.3.0 found.1 in
     c.flag_at.ensures
@@ -18,6 +18,6 @@ returns-in-Some c =
 pub returns-in-None : goal.returns-in-None
 returns-in-None c =
     let all = c.self.inside.rows.items in
-    let rows : map (λ (row : Vec Bool Global). row.items) all ≡ map (targets c.args.self.now) c.args.self.now.exporters = subst (λ (n : Net). map (λ (row : Vec Bool Global). row.items) c.self.inside.rows.items ≡ map (targets n) n.exporters) c.self.view_is c.self.invariant in
+    let rows : map (λ (row : Vec Bool Global). row.items) all ≡ map (linked_processes c.args.self.now) c.args.self.now.exporters = subst (λ (n : Net). map (λ (row : Vec Bool Global). row.items) c.self.inside.rows.items ≡ map (linked_processes n) n.exporters) c.self.view_is c.self.invariant in
     let past = rw c.as_slice.ensures.value at c.in-None.ensures.lookup in
     leads_in_row c.args.self.now (λ (row : Vec Bool Global). row.items) all c.args.process c.args.place None (sym (slice_get_past all c.args.place past.3)) rows c.requires

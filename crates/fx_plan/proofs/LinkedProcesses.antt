@@ -7,7 +7,7 @@ use Rattle.std.proofs.lemmas.List.Folds.{list_any-append}
 use Rattle.std.proofs.lemmas.Option.{slice_get-map}
 use Rattle.std.proofs.lemmas.List.FromFn.{get_or-map-range_with_len, length-map-range_with_len}
 use Rattle.fx_machine.specs.Network.{Net, Exporter}
-use Rattle.fx_plan.specs.Feeding.{end_of, is_place, leads_at, leads_to, targets, with_flag}
+use Rattle.fx_plan.specs.Feeding.{end_of, is_place, leads_at, leads_to, linked_processes, with_flag}
 use Rattle.fx_plan.proofs.Ranges.{flags_set}
 
 map_same : {X : Type 0} (f g : ℕ → X) (a n : ℕ) → ((k : ℕ) → a ≤ k → k < a + n → f k ≡ g k) → map f (range_with_len a n) ≡ map g (range_with_len a n)
@@ -44,8 +44,8 @@ leads_to_end net process None = refl
 leads_to_end net process (Some link) = refl
 
 -- one destination more
-pub one_target_more : (net : Net) (before after : List (Option ℕ)) (d : Option ℕ) (n : ℕ) (flags : List Bool) → after ≡ before ++ d ∷ [] → flags ≡ map (λ to. list_any (leads_to net to) before) (range_with_len 0 n) → with_flag flags (end_of net d) ≡ map (λ to. list_any (leads_to net to) after) (range_with_len 0 n)
-one_target_more net before after d n flags is e =
+pub one_destination_more : (net : Net) (before after : List (Option ℕ)) (d : Option ℕ) (n : ℕ) (flags : List Bool) → after ≡ before ++ d ∷ [] → flags ≡ map (λ to. list_any (leads_to net to) before) (range_with_len 0 n) → with_flag flags (end_of net d) ≡ map (λ to. list_any (leads_to net to) after) (range_with_len 0 n)
+one_destination_more net before after d n flags is e =
     with_flag_is (λ to. list_any (leads_to net to) before) n flags (end_of net d) e
     ∙ map_same (λ k. list_any (leads_to net k) before || is_place k (end_of net d)) (λ k. list_any (leads_to net k) after) 0 n (λ k low high.
     sym (ap (list_any (leads_to net k)) is ∙ (list_any-append (leads_to net k) before (d ∷ []) ∙ ap (λ (b : Bool). list_any (leads_to net k) before || b) (or_false (leads_to net k d) ∙ leads_to_end net k d))))
@@ -56,12 +56,12 @@ abbrev pub flag_in : ℕ → Option (List Bool) → Bool
 flag_in process None = false
 flag_in process (Some row) = get_or row process false
 
-row_leads : (net : Net) (process : ℕ) (o : Option Exporter) → process < length net.processes → flag_in process (option_map (targets net) o) ≡ leads_at net process o
+row_leads : (net : Net) (process : ℕ) (o : Option Exporter) → process < length net.processes → flag_in process (option_map (linked_processes net) o) ≡ leads_at net process o
 row_leads net process None low = refl
 row_leads net process (Some exporter) low = get_or-map-range_with_len (λ to. list_any (leads_to net to) exporter.destinations) 0 (length net.processes) process process false low (omega arith)
 
-pub leads_in_row : {X : Type 0} (net : Net) (v : X → List Bool) (rows : List X) (process place : ℕ) (o : Option X) → o ≡ slice_get rows place → map v rows ≡ map (targets net) net.exporters → process < length net.processes → flag_in process (option_map v o) ≡ leads_at net process (slice_get net.exporters place)
+pub leads_in_row : {X : Type 0} (net : Net) (v : X → List Bool) (rows : List X) (process place : ℕ) (o : Option X) → o ≡ slice_get rows place → map v rows ≡ map (linked_processes net) net.exporters → process < length net.processes → flag_in process (option_map v o) ≡ leads_at net process (slice_get net.exporters place)
 leads_in_row net v rows process place o is e low =
     ap (λ x. flag_in process (option_map v x)) is
-    ∙ (ap (flag_in process) (sym (slice_get-map v rows place) ∙ (ap (λ (r : List (List Bool)). slice_get r place) e ∙ slice_get-map (targets net) net.exporters place))
+    ∙ (ap (flag_in process) (sym (slice_get-map v rows place) ∙ (ap (λ (r : List (List Bool)). slice_get r place) e ∙ slice_get-map (linked_processes net) net.exporters place))
     ∙ row_leads net process (slice_get net.exporters place) low)

@@ -3,8 +3,8 @@ use Rattle.std.proofs.Math.Seq.{take-append_seam}
 use Rattle.std.proofs.lemmas.List.{take_more}
 use Rattle.fx_plan.specs.Feeding.{end_of, with_flag}
 use Rattle.fx_plan.proofs.Ranges.{flags_none}
-use Rattle.fx_plan.proofs.Targeting.{one_target_more}
-use Rattle.fx_plan.proofs.targets.targets_of.Goals as goal
+use Rattle.fx_plan.proofs.LinkedProcesses.{one_destination_more}
+use Rattle.fx_plan.proofs.linked_processes.linked_processes_of.Goals as goal
 
 pub loop-destination-init : goal.loop-destination-init
 loop-destination-init c =
@@ -20,4 +20,4 @@ loop-destination-preserved c =
     let long : c.loop-destination.flags.len ≡ length flags = omega (arith, c.as_mut_slice.ensures.len, c.set_flag.auto.flags) in
     let set : flags ≡ with_flag c.loop-destination.flags.items (end_of c.args.net.now (get_or xs n None)) = c.set_flag.ensures ∙ rw (c.as_mut_slice.ensures.value, c.end_of.ensures) refl in
     rw (long, take-append_seam flags (drop (length flags) c.loop-destination.flags.items))
-    (set ∙ one_target_more c.args.net.now (take n xs) (take (n + 1) xs) (get_or xs n None) (length c.args.net.now.processes) c.loop-destination.flags.items (take_more xs n None c.loop-destination-test.true) i)
+    (set ∙ one_destination_more c.args.net.now (take n xs) (take (n + 1) xs) (get_or xs n None) (length c.args.net.now.processes) c.loop-destination.flags.items (take_more xs n None c.loop-destination-test.true) i)
