@@ -2,7 +2,7 @@ use crate::answer::Answer;
 use crate::bundle_command::bundle_bytes;
 use crate::check_command::check_bytes;
 use crate::tests::{NETWORK, TRAFFIC};
-use fx_base::{Fault, LineReader, Octets, Room};
+use fx_base::{Fault, Fuse, LineReader, Octets, Room};
 use std::alloc::Global;
 use std::test::Fail;
 
@@ -37,6 +37,28 @@ fn refuses_another_selection_process(rt: HostRuntime) -> Result<(), Fail> {
     let (outcome, written) = checked(rt.alloc(), other, b"no 410 line 3\n")?;
     assert_eq!(rt; outcome?, Answer::No);
     assert!(rt; written);
+    Ok(())
+}
+
+#[test]
+fn answers_a_reader_that_fails(rt: HostRuntime) -> Result<(), Fail> {
+    for call in [1, 2] {
+        let mut network = Octets::new(NETWORK);
+        let mut traffic = Octets::new(TRAFFIC);
+        let source = Fuse::new(Octets::new(CERTIFICATE), call);
+        let mut lines = LineReader::new(rt.alloc(), source)?;
+        let mut octets = [0u8; 64];
+        let mut room = Room::new(&mut octets);
+        let outcome = check_bytes(
+            rt.alloc(),
+            &mut network,
+            &mut traffic,
+            &mut lines,
+            &mut room,
+        );
+        assert_eq!(rt; outcome.err().map(|fault| fault.number), Some(901));
+        assert!(rt; room.octets().is_empty());
+    }
     Ok(())
 }
 
