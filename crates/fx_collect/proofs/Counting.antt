@@ -1,5 +1,5 @@
 -- Counting into a map from values to counts is counting into a list of records.
-use Rattle.std.proofs.Common.{◌≡◌, ℕ, suc, Bool, true, false, cond, ◌&&◌, List, [], ◌∷◌, map, Option, Some, None, refl, sym, ap, ◌∙◌, arith, bytes_eq, ◌==◌, eq-eqb, position, is_some}
+use Rattle.std.proofs.Common.{◌≡◌, ℕ, suc, Bool, true, false, cond, ◌&&◌, List, [], ◌∷◌, map, Option, Some, None, refl, sym, ap, ◌∙◌, arith, bytes_eq, position, is_some}
 use Rattle.std.specs.List.{All}
 use Rattle.std.specs.Map.{lookup, keys_of}
 use Rattle.std.proofs.lemmas.List.Elements.{All-cons}
@@ -9,7 +9,6 @@ use Rattle.indexmap.specs.Layout.{set_value_at}
 use Rattle.indexmap.proofs.MapLemmas.{Found-position, insert_entry-first}
 use Rattle.fx_base.specs.declared.counts.Counts.{Counts}
 use Rattle.fx_base.specs.Counts.{add_counts}
-use Rattle.fx_elements.specs.Axes.{axis_index}
 use Rattle.fx_layout.specs.Keys.{Layout, Key, HasBits, same_layout, same_key}
 use Rattle.fx_layout.proofs.Projections.{layout_same}
 use Rattle.fx_machine.specs.declared.record.Record.{Record}

@@ -5,7 +5,7 @@ ghost use Rattle.fx_elements.specs.Axes.{axis_index, axis_width, axis_count, is_
 /// How many axes there are.
 pub const AXES: usize = 6;
 
-/// An information element that a packet carries and that flows are told apart by (RFC 7012, section 3).
+/// An information element that a packet carries and that flows are told apart by (RFC 7012, sections 5.4 and 5.5).
 /// The variants stand in the order in which keys are written and compared.
 #[derive(Clone, Copy, Debug, Default, PartialEq, Eq)]
 pub enum Axis {

@@ -1,10 +1,9 @@
 -- What a tally adds to the totals.
-use Rattle.std.proofs.Common.{◌≡◌, Bool, true, false, cond, List, [], ◌∷◌, Some, None, refl, sym, ◌∙◌, subst, true≢false, eq-eqb, if◌then◌else◌}
+use Rattle.std.proofs.Common.{◌≡◌, Bool, true, false, cond, List, [], ◌∷◌, Some, None, refl, sym, ◌∙◌, subst, true≢false, if◌then◌else◌}
 use Rattle.std.proofs.lemmas.Slice.Eq.{bytes_eq-Decides}
 use Rattle.fx_base.specs.declared.counts.Counts.{Counts}
 use Rattle.fx_base.specs.Counts.{add_counts}
-use Rattle.fx_elements.specs.Axes.{axis_index}
-use Rattle.fx_layout.specs.Keys.{Key, Layout, same_key, same_layout}
+use Rattle.fx_layout.specs.Keys.{Key, same_key}
 use Rattle.fx_layout.proofs.Projections.{same_key_is, and_both, layout_same}
 use Rattle.fx_machine.specs.declared.record.Record.{Record}
 use Rattle.fx_machine.specs.States.{add_at}

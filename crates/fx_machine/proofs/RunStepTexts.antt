@@ -1,9 +1,8 @@
 -- The words of a step are read as it, and no others are.
-use Rattle.std.proofs.Common.{◌≡◌, ℕ, List, [], ◌∷◌, ◌++◌, map, Option, Some, None, refl, ap, sym, ◌∙◌, subst, ◌≤◌, arith, inl, inr}
+use Rattle.std.proofs.Common.{◌≡◌, ℕ, List, [], ◌∷◌, ◌++◌, map, Option, Some, None, refl, ap, sym, ◌∙◌, subst, inl, inr}
 use Rattle.std.specs.Prelude.{codes}
 use Rattle.std.specs.Fmt.{decimal}
 use Rattle.std.specs.Str.{bytes_eq}
-use Rattle.fx_elements.specs.Spelling.{largest, number_of}
 use Rattle.fx_elements.proofs.Cuts.{chosen}
 use Rattle.fx_elements.proofs.Decimals.{number_64}
 use Rattle.fx_elements.proofs.Addresses.{by_some, some_is}

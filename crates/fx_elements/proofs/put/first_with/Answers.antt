@@ -1,4 +1,4 @@
-use Rattle.std.proofs.Common.{◌^◌, ◌-◌, ◌*◌, ◌%◌, ◌<◌, ◌≤◌, arith, ◌≡◌, rules}
+use Rattle.std.proofs.Common.{◌^◌, ◌-◌, ◌*◌, ◌%◌, ◌<◌, arith, ◌≡◌}
 use Rattle.fx_elements.specs.Axes.{axis_width}
 use Rattle.fx_elements.proofs.Widening.{widened_fits}
 use Rattle.fx_elements.proofs.put.first_with.Goals as goal

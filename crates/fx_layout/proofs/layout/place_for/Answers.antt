@@ -1,4 +1,4 @@
-use Rattle.std.proofs.Common.{◌∙◌, sym, nat_lt}
+use Rattle.std.proofs.Common.{sym, nat_lt}
 use Rattle.fx_elements.specs.Axes.{axis_index}
 use Rattle.fx_layout.proofs.Layouts.{none_passes}
 use Rattle.fx_layout.proofs.layout.place_for.Goals as goal

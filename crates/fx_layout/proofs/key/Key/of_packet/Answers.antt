@@ -1,7 +1,7 @@
 -- There are no more values than axes, and each has the bits of its part.
-use Rattle.std.proofs.Common.{◌≡◌, ℕ, ◌≤◌, List, map, length, arith, subst, sym, ap, ◌∙◌, true}
+use Rattle.std.proofs.Common.{◌≡◌, ℕ, List, map, arith, subst, sym, ap, ◌∙◌, true}
 use Rattle.std.specs.List.{list_all}
-use Rattle.fx_elements.specs.Axes.{Fields, field, axis_width}
+use Rattle.fx_elements.specs.Axes.{field, axis_width}
 use Rattle.fx_boxes.specs.Boxes.{IsFields}
 use Rattle.fx_layout.specs.declared.layout.Part.{Part}
 use Rattle.fx_layout.specs.Keys.{Layout, HasBits, can_stand, leading}

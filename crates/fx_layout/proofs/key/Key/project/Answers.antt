@@ -1,5 +1,5 @@
 -- There are no more values than axes, and each has the bits of its part.
-use Rattle.std.proofs.Common.{◌≡◌, ℕ, ◌≤◌, List, map, length, arith, subst, sym, ap, ◌∙◌, true}
+use Rattle.std.proofs.Common.{◌≡◌, ℕ, List, map, arith, subst, sym, ap, ◌∙◌, true}
 use Rattle.std.specs.List.{list_all}
 use Rattle.fx_layout.specs.declared.layout.Part.{Part}
 use Rattle.fx_layout.specs.Keys.{Layout, Key, HasBits, can_stand, cut}

@@ -1,9 +1,9 @@
 -- The new part stands before the first part of a later axis, and there is room for it.
-use Rattle.std.proofs.Common.{◌≡◌, ℕ, ◌<◌, List, false, true, length, arith, subst, sym, ap, ◌∙◌, None, nat_lt}
+use Rattle.std.proofs.Common.{◌≡◌, ℕ, ◌<◌, false, length, arith, subst, sym, ap, ◌∙◌, nat_lt}
 use Rattle.std.specs.List.{insert, position_or_len}
 use Rattle.fx_elements.specs.Axes.{axis_count, axis_index}
 use Rattle.fx_layout.specs.declared.layout.Part.{Part}
-use Rattle.fx_layout.specs.Keys.{Layout, IsLayout, reads, part_at, with_part}
+use Rattle.fx_layout.specs.Keys.{Layout, IsLayout, reads, with_part}
 use Rattle.fx_layout.proofs.Layouts.{not_there, room_for, stays_layout, with_part_is}
 use Rattle.fx_layout.proofs.layout.Layout.with.Goals as goal
 
