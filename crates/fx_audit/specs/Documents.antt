@@ -34,9 +34,7 @@ pub record IsDocument {X : Type 0} (faults : Data → List Found) (meaning : Dat
 
 abbrev pub is_found : ℕ → Place → List Found → Type 0
 is_found n (places.Text s) fs = first fs ≡ Some (n, string_bytes s)
-is_found n places.None fs = ⊥
-is_found n (places.Line l) fs = ⊥
-is_found n (places.Octet o) fs = ⊥
+is_found n _ fs = ⊥
 
 -- the first fault of a document: 101 where the octets are no JSON text
 abbrev pub IsFirstFault : (Data → List Found) → List ℕ → Fault → Type 0

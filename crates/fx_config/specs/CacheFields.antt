@@ -8,7 +8,7 @@ use Rattle.fx_config.specs.Choice.{one_of}
 use Rattle.fx_config.specs.Lists.{entries, name_once}
 use Rattle.fx_config.specs.Scalars.{text_of, number_of, text_faults, whole_faults, empty_faults}
 use Rattle.fx_elements.specs.declared.element.Element.{Element}
-use Rattle.fx_elements.specs.declared.element.Element.TheVariants.{OnAxis, OctetDeltaCount, PacketDeltaCount, OctetTotalCount, PacketTotalCount, SourcePrefix, DestinationPrefix, SourcePrefixLength, DestinationPrefixLength, IpVersion, Other}
+use Rattle.fx_elements.specs.declared.element.Element.TheVariants.{OnAxis, OctetDeltaCount, PacketDeltaCount, OctetTotalCount, PacketTotalCount}
 use Rattle.fx_config.specs.GivenElements.{element_in}
 use Rattle.fx_elements.specs.Axes.{axis_width}
 use Rattle.fx_config.specs.declared.limits.TheConstants.{FIELDS}
@@ -18,56 +18,22 @@ use Rattle.fx_config.specs.declared.cache_field.CacheField.{CacheField}
 abbrev pub is_total_count : Element → Bool
 is_total_count OctetTotalCount = true
 is_total_count PacketTotalCount = true
-is_total_count (OnAxis axis) = false
-is_total_count OctetDeltaCount = false
-is_total_count PacketDeltaCount = false
-is_total_count SourcePrefix = false
-is_total_count DestinationPrefix = false
-is_total_count SourcePrefixLength = false
-is_total_count DestinationPrefixLength = false
-is_total_count IpVersion = false
-is_total_count Other = false
+is_total_count _ = false
 
 abbrev pub is_on_axis : Element → Bool
 is_on_axis (OnAxis axis) = true
-is_on_axis OctetTotalCount = false
-is_on_axis PacketTotalCount = false
-is_on_axis OctetDeltaCount = false
-is_on_axis PacketDeltaCount = false
-is_on_axis SourcePrefix = false
-is_on_axis DestinationPrefix = false
-is_on_axis SourcePrefixLength = false
-is_on_axis DestinationPrefixLength = false
-is_on_axis IpVersion = false
-is_on_axis Other = false
+is_on_axis _ = false
 
 -- it counts since the last report
 abbrev pub is_delta_count : Element → Bool
 is_delta_count OctetDeltaCount = true
 is_delta_count PacketDeltaCount = true
-is_delta_count (OnAxis axis) = false
-is_delta_count OctetTotalCount = false
-is_delta_count PacketTotalCount = false
-is_delta_count SourcePrefix = false
-is_delta_count DestinationPrefix = false
-is_delta_count SourcePrefixLength = false
-is_delta_count DestinationPrefixLength = false
-is_delta_count IpVersion = false
-is_delta_count Other = false
+is_delta_count _ = false
 
 -- values on its axis have another number of octets
 abbrev pub has_other_octets : Element → ℕ → Bool
 has_other_octets (OnAxis axis) octets = not (octets == axis_width axis / 8)
-has_other_octets OctetTotalCount octets = false
-has_other_octets PacketTotalCount octets = false
-has_other_octets OctetDeltaCount octets = false
-has_other_octets PacketDeltaCount octets = false
-has_other_octets SourcePrefix octets = false
-has_other_octets DestinationPrefix octets = false
-has_other_octets SourcePrefixLength octets = false
-has_other_octets DestinationPrefixLength octets = false
-has_other_octets IpVersion octets = false
-has_other_octets Other octets = false
+has_other_octets _ octets = false
 
 -- records are told apart by the fields that are marked as flow keys, those of an immediate cache by all on an axis
 abbrev pub is_key : Bool → Element → Bool → Bool

@@ -8,34 +8,16 @@ use Rattle.fx_config.specs.CacheFields.{cache_field_of, fields_row}
 use Rattle.fx_config.specs.declared.cache_field.CacheField.{CacheField}
 use Rattle.fx_elements.specs.Axes.{axis_width}
 use Rattle.fx_elements.specs.declared.element.Element.{Element}
-use Rattle.fx_elements.specs.declared.element.Element.TheVariants.{OnAxis, OctetDeltaCount, PacketDeltaCount, OctetTotalCount, PacketTotalCount, SourcePrefix, DestinationPrefix, SourcePrefixLength, DestinationPrefixLength, IpVersion, Other}
+use Rattle.fx_elements.specs.declared.element.Element.TheVariants.{OnAxis, OctetDeltaCount, PacketDeltaCount}
 use Rattle.fx_layout.specs.Keys.{Layout, part_at, with_part}
 
 abbrev pub is_octet_count : Element → Bool
 is_octet_count OctetDeltaCount = true
-is_octet_count (OnAxis axis) = false
-is_octet_count PacketDeltaCount = false
-is_octet_count OctetTotalCount = false
-is_octet_count PacketTotalCount = false
-is_octet_count SourcePrefix = false
-is_octet_count DestinationPrefix = false
-is_octet_count SourcePrefixLength = false
-is_octet_count DestinationPrefixLength = false
-is_octet_count IpVersion = false
-is_octet_count Other = false
+is_octet_count _ = false
 
 abbrev pub is_packet_count : Element → Bool
 is_packet_count PacketDeltaCount = true
-is_packet_count (OnAxis axis) = false
-is_packet_count OctetDeltaCount = false
-is_packet_count OctetTotalCount = false
-is_packet_count PacketTotalCount = false
-is_packet_count SourcePrefix = false
-is_packet_count DestinationPrefix = false
-is_packet_count SourcePrefixLength = false
-is_packet_count DestinationPrefixLength = false
-is_packet_count IpVersion = false
-is_packet_count Other = false
+is_packet_count _ = false
 
 abbrev pub counts_octets : List CacheField → Bool
 counts_octets fields = list_any (λ field. is_octet_count field.element) fields
@@ -51,16 +33,7 @@ counter_faults fields up = fault_if (not (counts_octets fields && counts_packets
 abbrev pub add_axis : Layout → Element → Layout
 add_axis layout (OnAxis axis) =
     if is_some (part_at layout axis) then layout else with_part layout (record { axis = axis; bits = axis_width axis })
-add_axis layout OctetDeltaCount = layout
-add_axis layout PacketDeltaCount = layout
-add_axis layout OctetTotalCount = layout
-add_axis layout PacketTotalCount = layout
-add_axis layout SourcePrefix = layout
-add_axis layout DestinationPrefix = layout
-add_axis layout SourcePrefixLength = layout
-add_axis layout DestinationPrefixLength = layout
-add_axis layout IpVersion = layout
-add_axis layout Other = layout
+add_axis layout _ = layout
 
 abbrev pub add_key : Layout → CacheField → Layout
 add_key layout field = if field.is_flow_key then add_axis layout field.element else layout

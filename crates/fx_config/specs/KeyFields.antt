@@ -10,7 +10,7 @@ use Rattle.fx_elements.specs.Axes.{axis_width}
 use Rattle.fx_elements.specs.declared.axis.Axis.{Axis}
 use Rattle.fx_elements.specs.declared.axis.Axis.TheVariants.{Source, Destination}
 use Rattle.fx_elements.specs.declared.element.Element.{Element}
-use Rattle.fx_elements.specs.declared.element.Element.TheVariants.{OnAxis, OctetDeltaCount, PacketDeltaCount, OctetTotalCount, PacketTotalCount, SourcePrefix, DestinationPrefix, SourcePrefixLength, DestinationPrefixLength, IpVersion, Other}
+use Rattle.fx_elements.specs.declared.element.Element.TheVariants.{OnAxis, SourcePrefix, DestinationPrefix}
 use Rattle.fx_layout.specs.declared.layout.Part.{Part}
 use Rattle.fx_config.specs.declared.key_field.KeyField.{KeyField}
 
@@ -18,15 +18,7 @@ use Rattle.fx_config.specs.declared.key_field.KeyField.{KeyField}
 abbrev pub is_prefix : Element → Bool
 is_prefix SourcePrefix = true
 is_prefix DestinationPrefix = true
-is_prefix (OnAxis axis) = false
-is_prefix OctetDeltaCount = false
-is_prefix PacketDeltaCount = false
-is_prefix OctetTotalCount = false
-is_prefix PacketTotalCount = false
-is_prefix SourcePrefixLength = false
-is_prefix DestinationPrefixLength = false
-is_prefix IpVersion = false
-is_prefix Other = false
+is_prefix _ = false
 
 -- a prefix without its length
 abbrev pub prefix_check : Element → Option ℕ → List ℕ → List Found
@@ -72,14 +64,7 @@ abbrev pub part_given : Element → Option ℕ → Option Part
 part_given (OnAxis axis) prefix_length = whole_part axis prefix_length
 part_given SourcePrefix prefix_length = prefix_part Source prefix_length
 part_given DestinationPrefix prefix_length = prefix_part Destination prefix_length
-part_given OctetDeltaCount prefix_length = None
-part_given PacketDeltaCount prefix_length = None
-part_given OctetTotalCount prefix_length = None
-part_given PacketTotalCount prefix_length = None
-part_given SourcePrefixLength prefix_length = None
-part_given DestinationPrefixLength prefix_length = None
-part_given IpVersion prefix_length = None
-part_given Other prefix_length = None
+part_given _ prefix_length = None
 
 abbrev pub part_of : KeyField → Option Part
 part_of field = part_given field.element field.prefix_length

@@ -4,7 +4,7 @@ use Rattle.std.specs.List.{list_any, position}
 use Rattle.std.specs.Option.{unwrap_or}
 use Rattle.std.specs.Str.{bytes_eq}
 use Rattle.std.specs.Borrow.{Bor}
-use Rattle.serde_json.specs.Data.{Data, null, boolean, number, string, array, object, Items, no_items, item}
+use Rattle.serde_json.specs.Data.{Data, array, Items, no_items, item}
 use Rattle.serde_json.specs.Find.{get}
 use Rattle.serde_json.specs.View.{view}
 use Rattle.serde_json.specs.declared.value.Value.{Value}
@@ -19,12 +19,8 @@ list_of no_items = []
 list_of (item d ds) = d ∷ list_of ds
 
 abbrev pub items_in : Data → Option (List Data)
-items_in null = None
-items_in (boolean b) = None
-items_in (number n) = None
-items_in (string s) = None
 items_in (array ds) = Some (list_of ds)
-items_in (object ms) = None
+items_in _ = None
 
 -- the items of a list; another value has none
 abbrev pub items_of : Data → List Data

@@ -9,7 +9,7 @@ use Rattle.fx_config.specs.GivenElements.{element_in}
 use Rattle.fx_elements.specs.declared.axis.Axis.{Axis}
 use Rattle.fx_elements.specs.declared.axis.Axis.TheVariants.{Source, Destination}
 use Rattle.fx_elements.specs.declared.element.Element.{Element}
-use Rattle.fx_elements.specs.declared.element.Element.TheVariants.{OnAxis, OctetDeltaCount, PacketDeltaCount, OctetTotalCount, PacketTotalCount, SourcePrefix, DestinationPrefix, SourcePrefixLength, DestinationPrefixLength, IpVersion, Other}
+use Rattle.fx_elements.specs.declared.element.Element.TheVariants.{OnAxis, SourcePrefix, DestinationPrefix}
 use Rattle.fx_elements.specs.Values.{values_of}
 use Rattle.fx_config.specs.declared.property_match.PropertyMatch.{PropertyMatch}
 
@@ -18,14 +18,7 @@ abbrev pub axis_matched : Element → Option Axis
 axis_matched (OnAxis axis) = Some axis
 axis_matched SourcePrefix = Some Source
 axis_matched DestinationPrefix = Some Destination
-axis_matched OctetDeltaCount = None
-axis_matched PacketDeltaCount = None
-axis_matched OctetTotalCount = None
-axis_matched PacketTotalCount = None
-axis_matched SourcePrefixLength = None
-axis_matched DestinationPrefixLength = None
-axis_matched IpVersion = None
-axis_matched Other = None
+axis_matched _ = None
 
 -- what an element and the text of its value stand for
 abbrev pub property_given : Element → List ℕ → Option PropertyMatch

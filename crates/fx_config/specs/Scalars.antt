@@ -1,7 +1,7 @@
 -- Values without parts: their faults, and what they mean.
 use Rattle.std.specs.Prelude.{ℕ, List, [], ◌∷◌, ◌||◌, nat_lt, Bool, false, not, Option, Some, None, is_some}
 use Rattle.std.specs.Option.{unwrap_or}
-use Rattle.serde_json.specs.Data.{Data, null, boolean, number, string, array, object, Items, no_items, item, Num}
+use Rattle.serde_json.specs.Data.{Data, boolean, array, Items, no_items, item, Num}
 use Rattle.serde_json.specs.Find.{as_null, as_str, as_number, as_u64}
 use Rattle.fx_base.specs.Name.{is_name}
 use Rattle.fx_config.specs.Walk.{Found, of_kind, fault_if}
@@ -54,12 +54,9 @@ is_one_null (item d (item e ds)) = false
 
 -- `[null]`, or `true` as many writers have it
 abbrev pub is_empty_type : Data → Bool
-is_empty_type null = false
 is_empty_type (boolean b) = b
-is_empty_type (number n) = false
-is_empty_type (string s) = false
 is_empty_type (array ds) = is_one_null ds
-is_empty_type (object ms) = false
+is_empty_type _ = false
 
 abbrev pub empty_faults : List ℕ → Data → List Found
 empty_faults up d = fault_if (not (is_empty_type d)) 104 up

@@ -1,6 +1,6 @@
 -- Selectors (RFC 6728, section 4.2.1).
 use Rattle.std.specs.Prelude.{ℕ, List, [], ◌∷◌, codes, Bool, true, false, not, Option, Some, None, option_map}
-use Rattle.serde_json.specs.Data.{Data, null, boolean, number, string, array, object, Members, no_members, member}
+use Rattle.serde_json.specs.Data.{Data, object, Members, no_members, member}
 use Rattle.serde_json.specs.Find.{get}
 use Rattle.fx_config.specs.Walk.{Found, Row, object_faults, required, optional, member_of, fault_if}
 use Rattle.fx_config.specs.Choice.{none_of, one_of}
@@ -19,11 +19,7 @@ has_no_member (member k d ms) = false
 -- the container selectAll, which has no members, or an empty type
 abbrev pub is_all : Data → Bool
 is_all (object ms) = has_no_member ms
-is_all null = is_empty_type null
-is_all (boolean b) = is_empty_type (boolean b)
-is_all (number n) = is_empty_type (number n)
-is_all (string s) = is_empty_type (string s)
-is_all (array ds) = is_empty_type (array ds)
+is_all d = is_empty_type d
 
 abbrev pub all_faults : List ℕ → Data → List Found
 all_faults up d = fault_if (not (is_all d)) 104 up

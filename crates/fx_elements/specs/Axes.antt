@@ -37,10 +37,7 @@ axis_width ClassOfService = 8
 abbrev pub is_address : Axis → Bool
 is_address Source = true
 is_address Destination = true
-is_address Protocol = false
-is_address SourcePort = false
-is_address DestinationPort = false
-is_address ClassOfService = false
+is_address _ = false
 
 abbrev pub same_axis : Axis → Axis → Bool
 same_axis a b = axis_index a == axis_index b

@@ -4,7 +4,7 @@ use Rattle.std.specs.Fmt.{decimal}
 use Rattle.fx_elements.specs.declared.axis.Axis.{Axis}
 use Rattle.fx_elements.specs.declared.values.Range.{Range}
 use Rattle.fx_elements.specs.declared.element.Element.{Element}
-use Rattle.fx_elements.specs.declared.element.Element.TheVariants.{OnAxis, OctetDeltaCount, PacketDeltaCount, OctetTotalCount, PacketTotalCount, SourcePrefix, DestinationPrefix, SourcePrefixLength, DestinationPrefixLength, IpVersion, Other}
+use Rattle.fx_elements.specs.declared.element.Element.TheVariants.{OnAxis, SourcePrefix, DestinationPrefix}
 use Rattle.fx_elements.specs.Axes.{axis_index, axis_width, is_address, tops}
 use Rattle.fx_elements.specs.Spelling.{number_of, quad_of, prefix_of, quad}
 
@@ -26,14 +26,7 @@ abbrev pub values_of : Element → List ℕ → Option Range
 values_of (OnAxis axis) text = option_map (single (axis_width axis)) (value_on axis text)
 values_of SourcePrefix text = option_map with_prefix (prefix_of text)
 values_of DestinationPrefix text = option_map with_prefix (prefix_of text)
-values_of OctetDeltaCount text = None
-values_of PacketDeltaCount text = None
-values_of OctetTotalCount text = None
-values_of PacketTotalCount text = None
-values_of SourcePrefixLength text = None
-values_of DestinationPrefixLength text = None
-values_of IpVersion text = None
-values_of Other text = None
+values_of _ text = None
 
 abbrev pub axis_of : Element → Option Axis
 axis_of (OnAxis axis) = Some axis

@@ -8,7 +8,7 @@ use Rattle.fx_machine.specs.declared.traffic.Crossing.{Crossing}
 use Rattle.fx_machine.specs.Network.{Net, Point, Exporter, Aggregation, Process, numbered, points_of, at_places, exporters_of, layout_of}
 use Rattle.fx_machine.specs.Occurrences.{watches}
 use Rattle.fx_leaf.specs.declared.verdict.Fate.{Fate}
-use Rattle.fx_leaf.specs.declared.verdict.Fate.TheVariants.{Never, Once, Many, Differing, Unassigned}
+use Rattle.fx_leaf.specs.declared.verdict.Fate.TheVariants.{Never, Once, Unassigned}
 use Rattle.fx_leaf.specs.Fates.{both, either}
 use Rattle.fx_leaf.specs.Standings.{standing, standing_to, match_fields}
 
@@ -140,12 +140,8 @@ abbrev pub path_verdict : Net → Bounds → List Crossing → Verdict
 path_verdict net region path = all_judged (map (λ s. s.verdict) (seen_along (verdict net region) net region 1 path))
 
 abbrev pub is_once : Verdict → Bool
-is_once None = false
-is_once (Some Never) = false
 is_once (Some Once) = true
-is_once (Some Many) = false
-is_once (Some Differing) = false
-is_once (Some Unassigned) = false
+is_once _ = false
 
 -- the last of them that is counted once, or else this
 abbrev pub counted_from : Option Seen → List Seen → Option Seen

@@ -2,7 +2,7 @@
 use Rattle.std.specs.Prelude.{ℕ, zero, suc, ◌-◌, ◌/◌, Bool, ◌&&◌, ◌==◌, nat_lt, nat_le, if◌then◌else◌, List, [], ◌∷◌, ◌++◌, length, drop, Option, Some, None, Result, Ok, Err}
 use Rattle.std.specs.Int.{w16, w32}
 use Rattle.fx_elements.specs.declared.element.Element.{Element}
-use Rattle.fx_elements.specs.declared.element.Element.TheVariants.{OnAxis, OctetDeltaCount, PacketDeltaCount, OctetTotalCount, PacketTotalCount, SourcePrefix, DestinationPrefix, SourcePrefixLength, DestinationPrefixLength, IpVersion, Other}
+use Rattle.fx_elements.specs.declared.element.Element.TheVariants.{OnAxis, SourcePrefix, DestinationPrefix, SourcePrefixLength, DestinationPrefixLength}
 use Rattle.fx_elements.specs.Axes.{is_address, axis_width}
 use Rattle.fx_elements.specs.Elements.{element_numbered}
 use Rattle.fx_wire.specs.Numbers.{number_at}
@@ -32,12 +32,7 @@ can_have SourcePrefix n = n == 4
 can_have DestinationPrefix n = n == 4
 can_have SourcePrefixLength n = n == 1
 can_have DestinationPrefixLength n = n == 1
-can_have OctetDeltaCount n = nat_le 1 n
-can_have PacketDeltaCount n = nat_le 1 n
-can_have OctetTotalCount n = nat_le 1 n
-can_have PacketTotalCount n = nat_le 1 n
-can_have IpVersion n = nat_le 1 n
-can_have Other n = nat_le 1 n
+can_have _ n = nat_le 1 n
 
 abbrev pub stands : FieldSpecifier → Bool
 stands f = can_have (element_of f) f.field_length
