@@ -6,7 +6,7 @@ ghost use Rattle.fx_machine.specs.Ranks.{IsNetwork};
 ghost use Rattle.fx_machine.specs.Views.{now_of};
 ghost use Rattle.fx_plan.specs.Layouts.{AreNumbers, layouts_of};
 ghost use Rattle.fx_plan.specs.Networks.{device_numbered};
-ghost use Rattle.fx_plan.specs.Plans.{ReadsPlan};
+ghost use Rattle.fx_plan.specs.Plans.{IsPlan, ReadsPlan};
 ghost use Rattle.fx_plan.specs.Ranks.{IsDescending, IsRank, IsRankOrder, IsWhole};
 ghost use Rattle.fx_plan.specs.Tables as tables;
 
@@ -69,6 +69,12 @@ fn net_of(alloc: Global, network: &Network) -> Result<Net, AllocError>
 /// Each link leads to a collecting process of higher rank than each process that feeds it.
 #[derive(Debug, Drop)]
 pub struct Plan {
+    parts: Box<Parts>,
+}
+
+/// What a plan is made of: behind a box, so that a function that holds a plan lets it go by one call.
+#[derive(Debug, Drop)]
+struct Parts {
     network: Network,
     net: Net,
     ranks: Ranks,
@@ -81,9 +87,9 @@ impl Model for Plan {
 
     ghost Value = { of_network.Network };
 
-    ghost view = { λ p. p.network };
+    ghost view = { λ p. p.parts.value.network };
 
-    ghost invariant = { λ p. IsPlan p.network p.net p.ranks.ranked.items p.ranks.order.items p.numbering.layouts.items p.numbering.numbers.items };
+    ghost invariant = { λ p. IsPlan p.parts.value.network p.parts.value.net p.parts.value.ranks.ranked.items p.parts.value.ranks.order.items p.parts.value.numbering.layouts.items p.parts.value.numbering.numbers.items };
 }
 
 impl Plan {
@@ -94,14 +100,14 @@ impl Plan {
         ensures report { result.now.report < length result.now.processes }
         ensures entries { AreEntries result.now }
     {
-        &self.net
+        &self.parts.net
     }
 
     /// What the document says.
     pub fn network(&self) -> &Network
         ensures { result.now ≡ self.now }
     {
-        &self.network
+        &self.parts.network
     }
 
     /// The configuration of the device of this number, from 1 in document order, or None where there is no
@@ -113,7 +119,7 @@ impl Plan {
             return None;
         }
         let place = (number - 1) as usize;
-        let device = self.network.devices.as_slice().get(place)?;
+        let device = self.parts.network.devices.as_slice().get(place)?;
         Some(&device.config)
     }
 
@@ -123,7 +129,7 @@ impl Plan {
         ensures order { IsRankOrder (tables.net_of self.now) result.now }
         ensures whole { IsWhole (tables.net_of self.now) result.now }
     {
-        self.ranks.ranked.as_slice()
+        self.parts.ranks.ranked.as_slice()
     }
 
     /// The rank of the collecting process at this place, from 0: its place in the order of ranks. None where there
@@ -131,14 +137,14 @@ impl Plan {
     pub fn rank(&self, process: usize) -> Option<usize>
         ensures { IsRank (tables.net_of self.now) process result }
     {
-        rank_in(self.ranks.ranked.as_slice(), process)
+        rank_in(self.parts.ranks.ranked.as_slice(), process)
     }
 
     /// The places of all collecting processes, each behind all of higher rank.
     pub fn order(&self) -> &[usize]
         ensures { IsDescending (tables.net_of self.now) result.now }
     {
-        self.ranks.order.as_slice()
+        self.parts.ranks.order.as_slice()
     }
 
     /// The layouts of the network, each once: those of its caches, of its aggregations and of the report, in that
@@ -147,15 +153,38 @@ impl Plan {
         ensures value { result.now ≡ layouts_of (tables.net_of self.now) }
         ensures few { length result.now ≤ LAYOUTS }
     {
-        self.numbering.layouts.as_slice()
+        self.parts.numbering.layouts.as_slice()
     }
 
     /// For each cache and aggregation of the network the number of its layout, from 0.
     pub fn layout_numbers(&self) -> &[usize]
         ensures { AreNumbers (layouts_of (tables.net_of self.now)) (tables.net_of self.now).holders result.now }
     {
-        self.numbering.numbers.as_slice()
+        self.parts.numbering.numbers.as_slice()
     }
+}
+
+/// A plan of these parts.
+fn planned(
+    alloc: Global,
+    network: Network,
+    net: Net,
+    ranks: Ranks,
+    numbering: Numbering,
+) -> Result<Plan, AllocError>
+    requires { IsPlan network net ranks.ranked.items ranks.order.items numbering.layouts.items numbering.numbers.items }
+    ensures { IfOk result (λ plan. plan ≡ network) }
+{
+    let parts = Box::new(
+        alloc,
+        Parts {
+            network,
+            net,
+            ranks,
+            numbering,
+        },
+    )?;
+    Ok(Plan { parts })
 }
 
 fn rank_in(ranked: &[usize], process: usize) -> Option<usize>
@@ -177,10 +206,6 @@ pub fn read_plan(alloc: Global, value: &Value) -> Result<Plan, Fault>
     let net = net_of(alloc, &network)?;
     let numbering = numbering_of(alloc, &net)?;
     let ranks = ranks_of(alloc, &network, &net)?;
-    Ok(Plan {
-        network,
-        net,
-        ranks,
-        numbering,
-    })
+    let plan = planned(alloc, network, net, ranks, numbering)?;
+    Ok(plan)
 }

@@ -34,8 +34,8 @@ ranks_of-requires-clause-resolved c =
     let is = c.in_ok-net.ensures ∙ ap net_of c.in_ok-network.ensures.1 in
     subst (λ (n : Net). IsResolved n) (sym is) (resolved (view c.args.value.now) c.in_ok-network.ensures.0)
 
-pub invariant_of-result : goal.invariant_of-result
-invariant_of-result c =
+pub planned-requires : goal.planned-requires
+planned-requires c =
     let is = c.in_ok-net.ensures ∙ ap net_of c.in_ok-network.ensures.1 in
     let there : IsResolved c.in_ok-net.net = subst (λ (n : Net). IsResolved n) (sym is) (resolved (view c.args.value.now) c.in_ok-network.ensures.0) in
     record {
@@ -58,10 +58,11 @@ returns-in_err-ranks c =
 pub returns : goal.returns
 returns c =
     let is = c.in_ok-net.ensures in
+    let same = c.in_ok-plan.ensures in
     let few : length (layouts_of (net_of c.in_ok-network.network)) ≤ LAYOUTS = subst (λ (n : Net). length (layouts_of n) ≤ LAYOUTS) is (subst (λ (l : List Layout). length l ≤ LAYOUTS) c.in_ok-numbering.ensures.layouts c.in_ok-numbering.ensures.few) in (
       c.in_ok-network.ensures.0,
-      c.in_ok-network.ensures.1,
-      few,
+      same ∙ c.in_ok-network.ensures.1,
+      subst (λ (n : Network). length (layouts_of (net_of n)) ≤ LAYOUTS) (sym same) few,
       λ process stuck.
-          none_are_stuck c.in_ok-net.net c.in_ok-ranks.ranks.ranked.items c.in_ok-ranks.ensures.whole process (subst (λ (n : Net). IsStuck n process) (sym is) stuck),
+          none_are_stuck c.in_ok-net.net c.in_ok-ranks.ranks.ranked.items c.in_ok-ranks.ensures.whole process (subst (λ (n : Net). IsStuck n process) (sym is) (subst (λ (n : Network). IsStuck (net_of n) process) same stuck)),
     )

@@ -2,4 +2,4 @@ use Rattle.fx_plan.proofs.Ranked.{network}
 use Rattle.fx_plan.proofs.plan.Plan.net.Goals as goal
 
 pub returns-clause-network : goal.returns-clause-network
-returns-clause-network c = network c.self.inside.net c.self.inside.ranks.ranked.items c.self.invariant.whole c.self.invariant.fits
+returns-clause-network c = rw c.deref.ensures (network c.self.inside.parts.value.net c.self.inside.parts.value.ranks.ranked.items c.self.invariant.whole c.self.invariant.fits)

@@ -1,5 +1,6 @@
-use Rattle.std.proofs.Common.{ℕ, List, reverse, sym, ◌∙◌, subst}
+use Rattle.std.proofs.Common.{ℕ, List, ap, reverse, sym, ◌∙◌, subst}
 use Rattle.fx_machine.specs.Network.{Net}
+use Rattle.fx_plan.specs.declared.plan.Parts.{Parts}
 use Rattle.fx_plan.specs.Ranks.{IsDescending}
 use Rattle.fx_plan.specs.Tables.{net_of}
 use Rattle.fx_plan.proofs.Ranked.{turned}
@@ -9,8 +10,8 @@ pub returns : goal.returns
 returns c =
     let i = c.self.invariant in
     let v = c.self.view_is in
-    let ranked = c.self.inside.ranks.ranked.items in
-    let down : IsDescending c.self.inside.net (reverse ranked) = turned c.self.inside.net ranked i.whole in
-    let there : IsDescending (net_of c.self.inside.network) (reverse ranked) = subst (λ (n : Net). IsDescending n (reverse ranked)) i.net_is down in
-    let here : IsDescending (net_of c.self.inside.network) c.as_slice.result.now = subst (λ (l : List ℕ). IsDescending (net_of c.self.inside.network) l) (sym (c.as_slice.ensures.value ∙ i.order_is)) there in
+    let ranked = c.self.inside.parts.value.ranks.ranked.items in
+    let down : IsDescending c.self.inside.parts.value.net (reverse ranked) = turned c.self.inside.parts.value.net ranked i.whole in
+    let there : IsDescending (net_of c.self.inside.parts.value.network) (reverse ranked) = subst (λ (n : Net). IsDescending n (reverse ranked)) i.net_is down in
+    let here : IsDescending (net_of c.self.inside.parts.value.network) c.as_slice.result.now = subst (λ (l : List ℕ). IsDescending (net_of c.self.inside.parts.value.network) l) (sym (c.as_slice.ensures.value ∙ (ap (λ (p : Parts). p.ranks.order.items) c.deref.ensures ∙ i.order_is))) there in
     rw (← v) here
