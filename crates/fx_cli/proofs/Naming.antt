@@ -3,25 +3,27 @@ use Rattle.std.proofs.Common.{◌≡◌, ◌∙◌, ◌≤◌, ◌⊎◌, ℕ, t
 use Rattle.std.specs.List.{fold}
 use Rattle.std.specs.Str.{bytes_eq}
 use Rattle.std.specs.Prelude.{unwrap_or, is_some, option_map}
-use Rattle.clap.specs.Words.{first_of, first_value, rows_of, HasMatchesOf, is_simple, is_simple_and_free, subcommand_rows_of, HasKind, kind_of, subcommand_name_of}
+use Rattle.clap.specs.Words.{AddsInTurn, AddsSubcommand, app_of, first_of, first_value, rows_of, HasMatchesOf, is_simple, is_simple_and_free, subcommand_rows_of, HasKind, kind_of, subcommand_name_of}
 use Rattle.clap.specs.Walk.{Held, Names, Row, Step, Text, Walk, after_step, walked, idle, nothing_held, value, word_met, walk, walk_from, subcommand_met, subcommand_or_other, finished, settled, rows_after}
-use Rattle.clap.specs.Simple.{subcommand_rows, App, Shape, built, entered, names_of, subcommand_of}
+use Rattle.clap.specs.Simple.{new_app, on_top, with_subcommand, subcommand_rows, App, Shape, built, entered, names_of, subcommand_of}
 use Rattle.clap.specs.Kinds.{Kinds, or_else}
 use Rattle.clap.specs.Faults.{check_fault, entered_fault, defaults_fault, other_fault, fault_of, settle_fault, turn_fault, walk_fault, word_fault, step_fault}
+use Rattle.clap.specs.declared.builder.command.Command.{Command}
+use Rattle.clap.specs.declared.builder.command.Command.TheViews.{out-Command}
 use Rattle.clap.specs.declared.parser.matches.ArgMatches.{ArgMatches}
 use Rattle.clap.specs.declared.parser.matches.ArgMatches.TheViews.{out-ArgMatches, out-SubCommand}
 use Rattle.clap.specs.declared.parser.matches.SubCommand.{SubCommand}
 use Rattle.clap.specs.declared.parser.matches.Found.{Found}
 use Rattle.clap.specs.declared.error.Error.{Error}
 use Rattle.clap.specs.declared.error.kind.ErrorKind.TheVariants.{OutOfMemory}
-use Rattle.std.specs.Prelude.{Box, IfSome, IsSome, Result, Ok, Err, MatchResult, IsErrAnd, string_bytes}
+use Rattle.std.specs.Prelude.{Box, IfErr, IfOk, IfSome, IsSome, Result, Ok, Err, MatchResult, IsErrAnd, string_bytes}
 use Rattle.std.specs.Box.{box_value}
 use Rattle.fx_cli.specs.declared.words.Call.TheVariants.{Check, Collect, Replay}
 use Rattle.clap.proofs.WalkLemmas.{first_value-rows, walk_stopped}
 use Rattle.clap.proofs.FaultLemmas.{stopped_fault}
 use Rattle.std.proofs.lemmas.Slice.Eq.{bytes_eq-Decides}
 use Rattle.fx_cli.specs.Words.{NamesFiles, NamesNoCall, file_names, is_double_hyphen, is_flag}
-use Rattle.fx_cli.specs.CommandLine.{once_app}
+use Rattle.fx_cli.specs.CommandLine.{AreMatchesOf, file_rule, once_app, over_documents, over_network, wants_command}
 use Rattle.fx_cli.proofs.SingleWords.{Fails, fails_first, or_none, top, top_knows, bool_cases, plain_word, flag_word}
 use Rattle.fx_cli.proofs.SingleWords as shapes
 use Rattle.fx_cli.proofs.FileWords.{CommandFails, CommandPasses, command_fault}
@@ -347,6 +349,13 @@ pub passed_on : {T : Type 0} (r : Result T Error) (e : Error) (P : T → Type 0)
 passed_on (Ok x) e P Q is h = absurd is
 passed_on (Err y) e P Q is h = subst Q (sym is) h
 
+pub passed_kinds : {T : Type 0} (r : Result T Error) (e : Error) (Q : Error → Type 0) → IsErrAnd r (λ y. y ≡ e) → Q e → IfErr r Q
+passed_kinds (Ok x) e Q is h = absurd is
+passed_kinds (Err y) e Q is h = subst Q (sym is) h
+
+pub its_kind : (a : App) (words : List Text) (e : Error) → a ≡ once_app → (is_simple_and_free a ≡ true → HasKind (fault_of a words) e) → HasKind (fault_of once_app words) e
+its_kind a words e same kinds = subst (λ (x : App). is_simple_and_free x ≡ true → HasKind (fault_of x words) e) same kinds once_is_free
+
 name_of_rows : (m : ArgMatches) → subcommand_name_of m ≡ option_map (λ p. p.0) (subcommand_rows_of m)
 name_of_rows m = go (out-ArgMatches m).subcommand
   where
@@ -466,6 +475,24 @@ has_check words m found t e = documents_of (codes "check") (codes "CERTIFICATE")
 pub has_collect : (words : List Text) (m : ArgMatches) (found : Found) → IsCollect words m → option_map (λ p. p.1) (subcommand_rows_of m) ≡ Some (rows_of found) → HasCollect words found
 has_collect words m found t e = collect_of words found t.files t.count_is t.named (same_rows (codes "collect") 2 collect_rows words m found t e)
 
+-- ---- what the matches of words that were taken hold
+
+pub are_matches : (a : App) (words : List Text) (m : ArgMatches) → a ≡ once_app → HasMatchesOf a words m → (is_simple_and_free a ≡ true → fault_of a words ≡ []) → AreMatchesOf words m
+are_matches a words m same matches kinds = record {
+  matches = subst (λ (x : App). HasMatchesOf x words m) same matches;
+  fine = subst (λ (x : App). is_simple_and_free x ≡ true → fault_of x words ≡ []) same kinds once_is_free;
+}
+
+pub collect_files : (words : List Text) (m : ArgMatches) (found : Found) → AreMatchesOf words m → subcommand_name_of m ≡ Some (codes "collect") → option_map (λ p. p.1) (subcommand_rows_of m) ≡ Some (rows_of found) → HasCollect words found
+collect_files words m found are name rows = has_collect words m found (taken_collect once_app words m refl are.matches (λ _. are.fine) name) rows
+
+pub check_files : (words : List Text) (m : ArgMatches) (found : Found) → AreMatchesOf words m → subcommand_name_of m ≡ Some (codes "check") → option_map (λ p. p.1) (subcommand_rows_of m) ≡ Some (rows_of found) → HasCheck words found
+check_files words m found are name rows = has_check words m found (taken_check once_app words m refl are.matches (λ _. are.fine) name) rows
+
+-- neither of the others was found
+pub is_replay : (words : List Text) (m : ArgMatches) → AreMatchesOf words m → (subcommand_name_of m ≡ Some (codes "collect") → false ≡ true) → (subcommand_name_of m ≡ Some (codes "check") → false ≡ true) → IsReplay words m
+is_replay words m are collect check = taken_replay once_app words m refl are.matches (λ _. are.fine) (λ e. true≢false (sym (collect e))) (λ e. true≢false (sym (check e)))
+
 pub has_first : (found : Found) (id name : Text) → first_value found id ≡ Some name → IsSome (first_value found id)
 has_first found id name is = subst (λ (o : Option Text). IsSome o) (sym is) refl
 
@@ -493,3 +520,24 @@ with_collect words found f network stream n t =
     (λ i. same_file found (codes "NETWORK") network f.network f.network_is n i
     ∷ same_file found (codes "STREAM") stream f.stream f.stream_is t i ∷ [])
     f.named
+
+-- ---- the command line
+
+with_three : (once replay collect check whole : Command) → AddsInTurn AddsSubcommand once (replay ∷ collect ∷ check ∷ []) whole → app_of once ≡ on_top wants_command (new_app (codes "once"))
+    → app_of replay ≡ over_documents (codes "replay") (file_rule (codes "RUN")) → (out-Command replay).has_globals ≡ false
+    → app_of collect ≡ over_network (codes "collect") (file_rule (codes "STREAM")) → (out-Command collect).has_globals ≡ false
+    → app_of check ≡ over_documents (codes "check") (file_rule (codes "CERTIFICATE")) → (out-Command check).has_globals ≡ false
+    → app_of whole ≡ once_app
+with_three once replay collect check whole (one, adds, (two, more, (three, last, is))) o r r_local l l_local k k_local =
+    let step = λ (a b : App). with_subcommand a b.top in
+    ap app_of (sym is) ∙ last.shape k_local ∙ ap₂ step (more.shape l_local ∙ ap₂ step (adds.shape r_local ∙ ap₂ step o r) l) k
+
+pub three_commands : {Z : Type 0} (once replay collect check : Command) (items : List Command) (r : Result Command Z) → IfOk r (λ whole. AddsInTurn AddsSubcommand once items whole) → items ≡ replay ∷ collect ∷ check ∷ []
+    → app_of once ≡ on_top wants_command (new_app (codes "once"))
+    → app_of replay ≡ over_documents (codes "replay") (file_rule (codes "RUN")) → (out-Command replay).has_globals ≡ false
+    → app_of collect ≡ over_network (codes "collect") (file_rule (codes "STREAM")) → (out-Command collect).has_globals ≡ false
+    → app_of check ≡ over_documents (codes "check") (file_rule (codes "CERTIFICATE")) → (out-Command check).has_globals ≡ false
+    → IfOk r (λ whole. app_of whole ≡ once_app)
+three_commands once replay collect check items (Ok whole) adds are o r r_local l l_local k k_local =
+    with_three once replay collect check whole (subst (λ (xs : List Command). AddsInTurn AddsSubcommand once xs whole) are adds) o r r_local l l_local k k_local
+three_commands once replay collect check items (Err error) adds are o r r_local l l_local k k_local = tt

@@ -1,7 +1,8 @@
 -- The command line as the crate that parses it sees it.
-use Rattle.std.specs.Prelude.{true, codes}
-use Rattle.clap.specs.Words.{App, Rule, Shape, Text, new_app, new_rule, with_rule, with_subcommand}
+use Rattle.std.specs.Prelude.{◌≡◌, true, List, [], codes}
+use Rattle.clap.specs.Words.{App, HasMatchesOf, Rule, Shape, Text, fault_of, new_app, new_rule, with_rule, with_subcommand}
 use Rattle.clap.specs.Simple.{on_top}
+use Rattle.clap.specs.declared.parser.matches.ArgMatches.{ArgMatches}
 
 abbrev pub file_rule : Text → Rule
 file_rule name = record (new_rule name) { required = true }
@@ -23,3 +24,8 @@ once_app =
     let collect = over_network (codes "collect") (file_rule (codes "STREAM")) in
     let check = over_documents (codes "check") (file_rule (codes "CERTIFICATE")) in
     with_subcommand (with_subcommand (with_subcommand (on_top wants_command (new_app (codes "once"))) replay.top) collect.top) check.top
+
+-- what the program's command line makes of these words, which have no fault
+pub record AreMatchesOf (words : List Text) (m : ArgMatches) : Type 0 where
+  pub matches : HasMatchesOf once_app words m
+  pub fine : fault_of once_app words ≡ []

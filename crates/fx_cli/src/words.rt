@@ -1,9 +1,9 @@
 //! The words of the command line.
-ghost use Rattle.std.specs.Prelude.{◌≡◌, ◌⊎◌, IfErr, IfOk, IsSome, MatchResult, codes, false, map, Some, string_bytes};
+ghost use Rattle.std.specs.Prelude.{◌≡◌, ◌⊎◌, IfErr, IfOk, IsSome, List, MatchResult, codes, false, map, Some, string_bytes};
 ghost use Rattle.clap.specs.Simple.{on_top};
-ghost use Rattle.clap.specs.Words.{app_of, fault_of, first_value, found_of, HasKind, kind_of, new_app, rule_of};
+ghost use Rattle.clap.specs.Words.{app_of, fault_of, first_value, found_of, HasKind, kind_of, new_app, rule_of, Text, with_rule};
 ghost use Rattle.clap.specs.declared.builder.command.Command.TheViews.{out-Command};
-ghost use Rattle.fx_cli.specs.CommandLine.{file_rule, once_app, over_documents, over_network, wants_command};
+ghost use Rattle.fx_cli.specs.CommandLine.{AreMatchesOf, file_rule, once_app, over_documents, over_network, wants_command};
 ghost use Rattle.fx_cli.specs.Words.{Names, NamesNoCall};
 
 use clap::error::ErrorKind;
@@ -48,42 +48,47 @@ fn file<'a>(alloc: Global, name: &'a str, help: &'a str) -> Arg<'a>
     Arg::new(alloc, name).required(true).help(help)
 }
 
+/// This command, which now wants one more file.
+fn with_file<'a>(
+    alloc: Global,
+    command: Command<'a>,
+    name: &'a str,
+    help: &'a str,
+) -> Result<Command<'a>, AllocError>
+    requires { (out-Command command).has_globals ≡ false }
+    ensures app { IfOk result (λ c. app_of c ≡ with_rule (app_of command.entry) (file_rule name.entry.now)) }
+    ensures local { IfOk result (λ c. (out-Command c).has_globals ≡ false) }
+{
+    command.arg(file(alloc, name, help))
+}
+
+/// A command that wants a network.
+fn network_command<'a>(
+    alloc: Global,
+    name: &'a str,
+    about: &'a str,
+) -> Result<Command<'a>, AllocError>
+    ensures app { IfOk result (λ c. app_of c ≡ with_rule (new_app name.entry.now) (file_rule (codes "NETWORK"))) }
+    ensures local { IfOk result (λ c. (out-Command c).has_globals ≡ false) }
+{
+    let command = Command::new(alloc, name).about(about);
+    with_file(alloc, command, "NETWORK", "The network document (JSON)")
+}
+
 /// A command over a network, traffic and a third file.
 fn over_documents<'a>(
     alloc: Global,
     name: &'a str,
     about: &'a str,
-    third: Arg<'a>,
+    third: &'a str,
+    help: &'a str,
 ) -> Result<Command<'a>, AllocError>
-    requires { third.global ≡ false }
-    ensures app { IfOk result (λ c. app_of c ≡ over_documents name.entry.now (rule_of third.entry)) }
+    ensures app { IfOk result (λ c. app_of c ≡ over_documents name.entry.now (file_rule third.entry.now)) }
     ensures local { IfOk result (λ c. (out-Command c).has_globals ≡ false) }
 {
-    let network = file(alloc, "NETWORK", "The network document (JSON)");
-    let traffic = file(alloc, "TRAFFIC", "The traffic declaration (JSON)");
-    Command::new(alloc, name)
-        .about(about)
-        .arg(network)?
-        .arg(traffic)?
-        .arg(third)
-}
-
-/// A command over a network and another file.
-fn over_network<'a>(
-    alloc: Global,
-    name: &'a str,
-    about: &'a str,
-    second: Arg<'a>,
-) -> Result<Command<'a>, AllocError>
-    requires { second.global ≡ false }
-    ensures app { IfOk result (λ c. app_of c ≡ over_network name.entry.now (rule_of second.entry)) }
-    ensures local { IfOk result (λ c. (out-Command c).has_globals ≡ false) }
-{
-    let network = file(alloc, "NETWORK", "The network document (JSON)");
-    Command::new(alloc, name)
-        .about(about)
-        .arg(network)?
-        .arg(second)
+    let command = network_command(alloc, name, about)?;
+    let command = with_file(alloc, command, "TRAFFIC", "The traffic declaration (JSON)")?;
+    with_file(alloc, command, third, help)
 }
 
 /// The command `replay`.
@@ -91,12 +96,12 @@ fn replay_command<'a>(alloc: Global) -> Result<Command<'a>, AllocError>
     ensures app { IfOk result (λ c. app_of c ≡ over_documents (codes "replay") (file_rule (codes "RUN"))) }
     ensures local { IfOk result (λ c. (out-Command c).has_globals ≡ false) }
 {
-    let run = file(alloc, "RUN", "The text of a run");
     over_documents(
         alloc,
         "replay",
         "Replays a run, and prints the collector's totals in its last state",
-        run,
+        "RUN",
+        "The text of a run",
     )
 }
 
@@ -105,12 +110,16 @@ fn collect_command<'a>(alloc: Global) -> Result<Command<'a>, AllocError>
     ensures app { IfOk result (λ c. app_of c ≡ over_network (codes "collect") (file_rule (codes "STREAM"))) }
     ensures local { IfOk result (λ c. (out-Command c).has_globals ≡ false) }
 {
-    let stream = file(alloc, "STREAM", "The IPFIX stream (messages in octets)");
-    over_network(
+    let command = network_command(
         alloc,
         "collect",
         "Collects an IPFIX stream, and prints the totals of its flow records",
-        stream,
+    )?;
+    with_file(
+        alloc,
+        command,
+        "STREAM",
+        "The IPFIX stream (messages in octets)",
     )
 }
 
@@ -119,12 +128,12 @@ fn check_command<'a>(alloc: Global) -> Result<Command<'a>, AllocError>
     ensures app { IfOk result (λ c. app_of c ≡ over_documents (codes "check") (file_rule (codes "CERTIFICATE"))) }
     ensures local { IfOk result (λ c. (out-Command c).has_globals ≡ false) }
 {
-    let certificate = file(alloc, "CERTIFICATE", "The text of a certificate");
     over_documents(
         alloc,
         "check",
         "Checks a certificate that the collector's totals count every packet exactly once",
-        certificate,
+        "CERTIFICATE",
+        "The text of a certificate",
     )
 }
 
@@ -144,13 +153,11 @@ fn program<'a>(alloc: Global) -> Command<'a>
 fn command_line<'a>(alloc: Global) -> Result<Command<'a>, AllocError>
     ensures { IfOk result (λ c. app_of c ≡ once_app) }
 {
-    let replay = replay_command(alloc)?;
-    let collect = collect_command(alloc)?;
-    let check = check_command(alloc)?;
-    program(alloc)
-        .subcommand(replay)?
-        .subcommand(collect)?
-        .subcommand(check)
+    let mut commands = Vec::new(alloc);
+    commands.push(replay_command(alloc)?)?;
+    commands.push(collect_command(alloc)?)?;
+    commands.push(check_command(alloc)?)?;
+    program(alloc).subcommands(commands)
 }
 
 /// The name of a file that the words give.
@@ -161,16 +168,11 @@ fn file_name(alloc: Global, matches: &ArgMatches<'_>, id: &str) -> Result<String
     String::from_str(alloc, matches.get_str(id).unwrap())
 }
 
-/// The call that the words name. The first word is the program's own name.
-///
-/// The error is clap's: its text is for the user, also where help is asked for. Where the words name a call, only want
-/// of memory is an error (`ErrorKind::OutOfMemory`).
-pub fn read_words(alloc: Global, words: &[String]) -> Result<Call, Error>
-    ensures call { MatchResult result (Names (map string_bytes words.now)) (λ e. (kind_of e ≡ ErrorKind.OutOfMemory)
-        ⊎ NamesNoCall (map string_bytes words.now)) }
-    ensures kinds { IfErr result (HasKind (fault_of once_app (map string_bytes words.now))) }
+/// The call that these matches of the program's words name.
+fn call_of(alloc: Global, matches: &ArgMatches<'_>) -> Result<Call, AllocError>
+    requires { (words : List Text) × AreMatchesOf words matches.now }
+    ensures { (words : List Text) → AreMatchesOf words matches.now → IfOk result (Names words) }
 {
-    let matches = command_line(alloc)?.try_get_matches_from(words)?;
     if let Some(collect) = matches.subcommand_matches("collect") {
         return Ok(Call::Collect {
             network: file_name(alloc, collect, "NETWORK")?,
@@ -190,4 +192,20 @@ pub fn read_words(alloc: Global, words: &[String]) -> Result<Call, Error>
         traffic: file_name(alloc, replay, "TRAFFIC")?,
         run: file_name(alloc, replay, "RUN")?,
     })
+}
+
+/// The call that the words name. The first word is the program's own name.
+///
+/// The error is clap's: its text is for the user, also where help is asked for. Where the words name a call, only want
+/// of memory is an error (`ErrorKind::OutOfMemory`).
+pub fn read_words(alloc: Global, words: &[String]) -> Result<Call, Error>
+    ensures call { MatchResult result (Names (map string_bytes words.now)) (λ e. (kind_of e ≡ ErrorKind.OutOfMemory)
+        ⊎ NamesNoCall (map string_bytes words.now)) }
+    ensures kinds { IfErr result (HasKind (fault_of once_app (map string_bytes words.now))) }
+{
+    let call = {
+        let matches = command_line(alloc)?.try_get_matches_from(words)?;
+        call_of(alloc, &matches)
+    };
+    Ok(call?)
 }
