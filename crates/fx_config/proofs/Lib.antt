@@ -1,4 +1,5 @@
 pub mod Faults
+pub mod Items
 pub mod Choices
 pub mod Lists
 pub mod Lookups

@@ -25,6 +25,9 @@ next_entry faults name earlier up i vs v h = rw h refl
 pub next_value : {X : Type 0} (meaning : Data → X) (done : List X) (i : ℕ) (vs : List Value) (v : Value) → drop i vs ≡ v ∷ drop (i + 1) vs → done ++ map meaning (map view (drop i vs)) ≡ (done ++ meaning (view v) ∷ []) ++ map meaning (map view (drop (i + 1) vs))
 next_value meaning done i vs v h = rw (h, append_assoc) refl
 
+pub next_name : {X : Type 0} (name : X → List ℕ) (meaning : Data → X) (done : List (List ℕ)) (i : ℕ) (vs : List Value) (v : Value) → drop i vs ≡ v ∷ drop (i + 1) vs → done ++ map name (map meaning (map view (drop i vs))) ≡ (done ++ name (meaning (view v)) ∷ []) ++ map name (map meaning (map view (drop (i + 1) vs)))
+next_name name meaning done i vs v h = rw (h, append_assoc) refl
+
 -- a name more at the end
 pub names_more : {X : Type 0} (name : X → List ℕ) (xs : List X) (x : X) → map name (xs ++ x ∷ []) ≡ map name xs ++ name x ∷ []
 names_more name [] x = refl

@@ -11,7 +11,7 @@ use crate::limits::ENTRIES;
 use crate::observation_point::ObservationPoint;
 use crate::references::{all_collecting_refer, caches_refer, points_refer, processes_refer};
 use crate::selection_process::SelectionProcess;
-use crate::walk::{FromValue, Names, Path, Sequence, entries_member, named_member, object_of};
+use crate::walk::{EntryNames, FromValue, Path, Sequence, entries_member, named_member, object_of};
 use fx_base::Fault;
 use serde_json::Value;
 use std::alloc::Global;
@@ -34,9 +34,9 @@ pub struct Device {
 /// The names of a device's things to which others refer.
 #[derive(Drop)]
 struct Known {
-    selecting: Names,
-    caches: Names,
-    exporting: Names,
+    selecting: EntryNames,
+    caches: EntryNames,
+    exporting: EntryNames,
 }
 
 /// Refuses a name that stands for nothing of the device, whose container `ipfix` is at the path (107).
@@ -51,25 +51,25 @@ fn refers(alloc: Global, path: &Path<'_>, device: &Device, known: &Known) -> Res
         alloc,
         &Path::Member(&*path, "observationPoint"),
         points,
-        &known.selecting,
+        known.selecting.get(),
     )?;
     processes_refer(
         alloc,
         &Path::Member(&*path, "selectionProcess"),
         selecting,
-        &known.caches,
+        known.caches.get(),
     )?;
     caches_refer(
         alloc,
         &Path::Member(&*path, "cache"),
         caches,
-        &known.exporting,
+        known.exporting.get(),
     )?;
     all_collecting_refer(
         alloc,
         &Path::Member(&*path, "collectingProcess"),
         collecting,
-        &known.exporting,
+        known.exporting.get(),
     )
 }
 

@@ -1,5 +1,5 @@
 //! Lists whose entries have names that differ.
-ghost use Rattle.std.specs.Prelude.{◌≡◌, ℕ, List, [], ◌∷◌, ◌++◌, map, codes, OnOk};
+ghost use Rattle.std.specs.Prelude.{◌≡◌, ℕ, List, [], ◌∷◌, ◌++◌, map, codes, IfOk, OnOk};
 ghost use Rattle.serde_json.specs.Data.{Data};
 ghost use Rattle.serde_json.specs.View.{view};
 ghost use Rattle.fx_config.specs.Pointer.{pointer};
@@ -15,7 +15,8 @@ use crate::walk::scalar::read_name;
 use crate::walk::sequence::Sequence;
 use fx_base::{Fault, Name};
 use serde_json::Value;
-use std::alloc::Global;
+use std::alloc::{AllocError, Global};
+use std::marker::Model;
 
 /// What has a name.
 pub trait Named: Drop {
@@ -120,13 +121,45 @@ impl Entry for Name {
     }
 }
 
+/// The names of a list's entries: behind a box, so that a function that holds them lets them go by one call.
+#[derive(Drop)]
+pub struct EntryNames {
+    names: Box<Names>,
+}
+
+impl Model for EntryNames {
+    ghost use Rattle.std.specs.Prelude.{List, ℕ};
+
+    ghost Value = { List (List ℕ) };
+
+    ghost view = { λ n. n.names.value };
+}
+
+impl EntryNames {
+    /// These names.
+    fn new(alloc: Global, names: Names) -> Result<EntryNames, AllocError>
+        ensures { IfOk result (λ kept. kept ≡ names) }
+    {
+        Ok(EntryNames {
+            names: Box::new(alloc, names)?,
+        })
+    }
+
+    /// The names.
+    pub fn get(&self) -> &Names
+        ensures { result.now ≡ self.now }
+    {
+        &self.names
+    }
+}
+
 /// A list's entries in order, with their names, which differ.
 #[derive(Drop)]
 pub struct Entries<T> {
     /// The entries.
     pub items: Sequence<T>,
     /// The name of each.
-    pub names: Names,
+    pub names: EntryNames,
 }
 
 /// What the entries of the list at the path mean, in order.
@@ -144,6 +177,7 @@ fn entries_of<T: Entry>(
         values.push(T::from_entry(alloc, &Path::Item(&*path, place), item, &mut names)?)?;
         place += 1;
     }
+    let names = EntryNames::new(alloc, names)?;
     Ok(Entries {
         items: Sequence::from_vec(values),
         names,
@@ -169,10 +203,13 @@ pub fn named_member<T: Entry>(
             entries_of(alloc, &path, items)
         }
         None if least > 0 => Err(refusal(alloc, 103, path)),
-        None => Ok(Entries {
-            items: Sequence::from_vec(Vec::new(alloc)),
-            names: Names::new(alloc),
-        }),
+        None => {
+            let names = EntryNames::new(alloc, Names::new(alloc))?;
+            Ok(Entries {
+                items: Sequence::from_vec(Vec::new(alloc)),
+                names,
+            })
+        }
     }
 }
 
