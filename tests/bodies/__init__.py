@@ -1,0 +1,1 @@
+"""Tries wrong bodies of a Rattle crate, many in one check: texts, edits, verdicts, trials."""

@@ -1,0 +1,58 @@
+#!/usr/bin/env python3
+"""Shows that wrong_bodies.py gives each edit its verdict, and spoils no other's by it.
+
+usage: wrong_bodies_test.py [--kept | --as-built]
+
+The edits tests/wrong-bodies/NAME/*.edit are edits of the crate NAME, with a line `wants:`, which is REFUSED, NOT REFUSED
+(harmless ones) or BAD EDIT (those that can't be read, that change a contract, that don't compile). All of a crate are
+judged together. Prints a line for each edit with another verdict, and last `N passed, N failed`.
+"""
+import os
+import re
+import sys
+import tempfile
+
+sys.dont_write_bytecode = True
+import wrong_bodies
+from bodies.edits import Edit, read
+from bodies.trials import Trial
+
+EDITS = os.path.join(os.path.dirname(os.path.realpath(__file__)), "wrong-bodies")
+
+
+def kind_of(verdict):
+    is_refused, said = verdict
+    return "REFUSED" if is_refused else said.partition(":")[0]
+
+
+def try_crate(rt, crate):
+    """Returns how many of the crate's edits got the verdict that they want, and how many another."""
+    at = f"{EDITS}/{crate.name}"
+    files = [f"{at}/{it}" for it in sorted(os.listdir(at))]
+    edits = [Edit(crate.folder, it) for it in files]
+    with tempfile.TemporaryDirectory(prefix="wrong-bodies-test-") as kept:
+        Trial(rt.rtlib, crate, kept).judge(edits)
+    failed = 0
+    for edit, file in zip(edits, files):
+        wanted = re.search(r"(?m)^wants: (.*)$", read(file))[1]
+        if kind_of(edit.verdict) != wanted:
+            failed += 1
+            print(f"{crate.name}/{edit.name}: wants {wanted}, and got {edit.verdict[1]}", flush=True)
+    return len(edits) - failed, failed
+
+
+def main(words):
+    rt = wrong_bodies.load_rt()
+    rt.rtlib.guarded()
+    words = wrong_bodies.words_of(words)
+    crates = [it for it in rt.rtlib.crates_below(os.getcwd()) if os.path.isdir(f"{EDITS}/{it.name}")]
+    if not wrong_bodies.build_below(crates, words):
+        return 1
+    given = rt.in_lanes({(it.name, "edits"): ([], 1, rt.need(it), lambda _, jobs, it=it: try_crate(rt, it)) for it in crates})
+    passed, failed = (sum(it[at] for it in given.values()) for at in range(2))
+    print(f"{passed} passed, {failed} failed")
+    return 1 if failed or not passed else 0
+
+
+if __name__ == "__main__":
+    sys.exit(main(sys.argv[1:]))
