@@ -1,26 +1,64 @@
-# The gate and the program. All of it needs the Rattle kit's command `rt` on the PATH; the rows and examples need python3.
+# The gate and the program. All of it needs the Rattle kit's command `rt` on the PATH; wrong bodies, rows and examples
+# need python3.
 
-.DEFAULT_GOAL := test
-.PHONY: test replay rows examples run-rows run-examples clean kit once
+SHELL := /bin/bash
+.DEFAULT_GOAL := help
+.PHONY: help kit replay once test proofs run-wrong wrong rows examples run-rows run-examples clean
+
+# The libraries that the program stands on, lowest first.
+LIBRARIES = $(shell sed -n 's/^once: //p' crates.txt | tr ' ' '\n' | grep '^fx_' | tac)
+
+# Prints what the part took when it ends.
+part = TIMEFORMAT='part $(1): %0R s, %0U and %0S s of processor time'; time
+
+help:
+	@echo 'make replay            a first answer: replays the stored run, with nothing proved yet (about a minute)'
+	@echo 'make once              proves and builds the program, ./once'
+	@echo 'make test              the gate: all proofs from nothing, all wrong bodies, tests, rows and examples'
+	@echo 'make wrong NAME=CRATE  tries the wrong bodies of one crate; NAME=CRATE/WORD those with WORD in their names'
+	@echo 'make rows              proves and builds the program, and runs it over the worked rows'
+	@echo 'make examples          the same over the examples'
+	@echo 'make clean             removes what was built'
 
 kit:
 	@command -v rt >/dev/null || { echo "rt not found: install the Rattle kit (rattle-kit-13b) and put its bin/ folder on the PATH"; exit 2; }
 
-# Proves every crate from nothing, tries the wrong bodies, runs the tests and the programs; then the rows and the
-# examples over the program that was built there (`make once` would prove every crate again).
+# Runs the program on the stored bundle, a run of two packets through one meter and one collector, before any proof.
+replay: kit
+	@cd crates/once && rt try < stdin
+	@echo 'This ran without proof. `make once` proves the program and builds it as ./once.'
+
+# The program, proved and built; each library keeps what it said in its out/said.
+once: kit
+	@for crate in $(LIBRARIES); do \
+	  mkdir -p crates/$$crate/out; \
+	  (cd crates/$$crate && rt lib > out/said 2>&1) || { cat crates/$$crate/out/said; echo "$$crate: NOT PROVED"; exit 1; }; \
+	  echo "$$crate: proved"; \
+	done
+	@mkdir -p crates/once/out; cd crates/once && rt run < stdin > out/said 2>&1 || { cat out/said; exit 1; }
+	@ln -sf crates/once/out/once once
+	@echo 'once: proved and built as ./once'
+
+# The gate. Libraries that earlier checks left go first, so that the wrong bodies are tried over those that are proved here.
 test: kit
+	rm -rf crates/*/out/rlib
+	@$(call part,proofs and tests) $(MAKE) --no-print-directory proofs
+	@$(call part,wrong bodies) $(MAKE) --no-print-directory run-wrong
+	@$(call part,rows and examples) $(MAKE) --no-print-directory run-rows run-examples
+
+# Proves every crate and its tests from nothing, and runs the tests and the program, which two compilers build.
+proofs:
 	rt ci
 	ln -sf crates/once/out/once once
-	$(MAKE) run-rows run-examples
 
-# The program, proved and built: ./once.
-once: kit
-	cd crates/once && rt run < stdin > /dev/null
-	ln -sf crates/once/out/once once
+# Tries each wrong body, over the libraries as `rt ci` has built them.
+run-wrong:
+	python3 tests/wrong_bodies_test.py --as-built
+	python3 tests/wrong_bodies.py --as-built
 
-# Builds the program and runs the stored bundle: a run of two packets through one meter and one collector.
-replay: once
-	./once < crates/once/stdin
+# Tries wrong bodies over the work that checks have kept.
+wrong: kit
+	python3 tests/wrong_bodies.py --kept $(NAME)
 
 # Runs the program over the worked rows, then over long certificates, then with growths of its memory refused.
 rows: once run-rows
