@@ -16,10 +16,3 @@ pub use bundle_command::bundle_bytes;
 pub use check_command::check_bytes;
 pub use collect_command::collect_bytes;
 pub use replay_command::replay_bytes;
-
-#[cfg(test)]
-mod check_tests;
-#[cfg(test)]
-mod collect_tests;
-#[cfg(test)]
-mod tests;

@@ -10,6 +10,3 @@ pub use item::Item;
 pub use laws::one_text;
 pub use put::put_item;
 pub use reading::read_item;
-
-#[cfg(test)]
-mod tests;

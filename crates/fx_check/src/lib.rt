@@ -10,6 +10,3 @@ mod tables;
 
 pub use checking::check;
 pub use laws::{certificates_are_accepted, certificates_count_once, wrong_leaves_are_told};
-
-#[cfg(test)]
-mod tests;

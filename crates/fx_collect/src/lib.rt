@@ -8,6 +8,3 @@ mod totals;
 pub use laws::totals_of_runs;
 pub use report::put_number_line;
 pub use totals::Totals;
-
-#[cfg(test)]
-mod tests;

@@ -33,10 +33,3 @@ pub use observation_point::{Direction, ObservationPoint};
 pub use property_match::PropertyMatch;
 pub use selection_process::SelectionProcess;
 pub use selector::{Method, Selector};
-
-#[cfg(test)]
-mod cache_tests;
-#[cfg(test)]
-mod refusal_tests;
-#[cfg(test)]
-mod tests;

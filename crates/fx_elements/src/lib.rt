@@ -12,6 +12,3 @@ pub use element::{Element, by_id, by_name};
 pub use put::put_value;
 pub use spelling::{cut, one_spelling, read_number, read_prefix, read_quad};
 pub use values::{Range, read_on, read_value};
-
-#[cfg(test)]
-mod tests;

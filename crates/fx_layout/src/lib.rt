@@ -8,6 +8,3 @@ mod values;
 pub use key::Key;
 pub use layout::{Layout, Part};
 pub use values::Values;
-
-#[cfg(test)]
-mod tests;

@@ -18,8 +18,6 @@ pub mod Filling
 pub mod Rowing
 pub mod Seeing
 pub mod Deciding
-pub mod TwoMeters
-pub mod Chain
 pub mod Bounding
 pub mod Losing
 pub mod Following

@@ -23,10 +23,3 @@ pub use regions::{standing, standing_to, standing_to_match};
 pub use split::cut;
 pub use table::{LAYOUTS, Scratch};
 pub use verdict::{Fate, both_judged, either_judged, where_passed};
-
-#[cfg(test)]
-mod chain_tests;
-#[cfg(test)]
-mod leaf_tests;
-#[cfg(test)]
-mod tests;

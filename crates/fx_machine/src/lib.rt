@@ -43,8 +43,3 @@ pub use run_reading::{read_run, run_texts};
 pub use state::State;
 pub use step::{Choices, HolderName, Step};
 pub use traffic::{Class, Classes, Crossing, Path};
-
-#[cfg(test)]
-mod run_tests;
-#[cfg(test)]
-mod tests;

@@ -16,6 +16,3 @@ mod window;
 pub use capture::Capture;
 pub use frame::Frame;
 pub use skipped::Skipped;
-
-#[cfg(test)]
-mod tests;

@@ -32,8 +32,3 @@ pub use network::{Network, read_network};
 pub use network_device::NetworkDevice;
 pub use plan::{Plan, read_plan};
 pub use report::Report;
-
-#[cfg(test)]
-mod plan_tests;
-#[cfg(test)]
-mod tests;

@@ -6,6 +6,3 @@ mod region;
 
 pub use feeding::{FedPairs, feeds};
 pub use region::region_of;
-
-#[cfg(test)]
-mod tests;

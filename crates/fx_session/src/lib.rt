@@ -16,8 +16,3 @@ mod template_set;
 mod templates;
 
 pub use session::{Session, pieces, waiting};
-
-#[cfg(test)]
-mod hostile_tests;
-#[cfg(test)]
-mod tests;

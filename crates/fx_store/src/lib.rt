@@ -9,6 +9,3 @@ mod store;
 pub use bounded::BoundedStore;
 pub use list::ListStore;
 pub use store::FlowStore;
-
-#[cfg(test)]
-mod tests;

@@ -12,9 +12,4 @@ mod text;
 mod traffic;
 
 pub use targets::Target;
-#[cfg(test)]
-use traffic::read_classes;
 pub use traffic::{Traffic, read_traffic};
-
-#[cfg(test)]
-mod tests;

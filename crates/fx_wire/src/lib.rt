@@ -18,6 +18,3 @@ pub use put::{message_length, messages_are_read, put_message};
 pub use set::{Set, Sets};
 pub use template::{NewTemplate, TemplateHeading, TemplateKind, read_heading};
 pub use value::{VARIABLE, cut_record, cut_value, shortest_record};
-
-#[cfg(test)]
-mod tests;

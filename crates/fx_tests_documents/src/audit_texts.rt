@@ -1,0 +1,47 @@
+//! Documents of a meter at one interface, which exports to the collector that reports; and the numbers of refusals.
+use fx_audit::Answer;
+use fx_base::Fault;
+
+/// The network.
+pub(crate) const NETWORK: &[u8] = br#"{"devices":[{"name":"m1","config":{"ietf-ipfix-psamp:ipfix":{
+"observationPoint":[{"name":"op","observationDomainId":0,"ifName":["eth0"],"selectionProcess":["sp"]}],
+"selectionProcess":[{"name":"sp","selector":[{"name":"a","selectAll":[null]}],"cache":"ca"}],
+"cache":[{"name":"ca","timeoutCache":{"cacheLayout":{"cacheField":[
+{"name":"s","ieName":"sourceIPv4Address","isFlowKey":[null]},
+{"name":"o","ieId":1},{"name":"p","ieId":2}]}},"exportingProcess":["ex"]}],
+"exportingProcess":[{"name":"ex","destination":[{"name":"d","tcpExporter":{}}]}]}}},
+{"name":"c1","config":{"ietf-ipfix-psamp:ipfix":{"collectingProcess":[{"name":"cp"}]}}}],
+"links":[{"device":"m1","exportingProcess":"ex","destination":"d","toDevice":"c1","toProcess":"cp"}],
+"report":{"device":"c1","collectingProcess":"cp","key":[{"ieName":"sourceIPv4Address"}]}}
+"#;
+
+/// The traffic: one class, whose packets come into the meter.
+pub(crate) const TRAFFIC: &[u8] =
+    br#"{"classes":[{"name":"web","region":{"sourceIPv4Address":"10.0.0.0/8"},"paths":[[{"device":"m1","interface":"eth0","direction":"ingress"}]]}]}
+"#;
+
+/// A run of two packets: they are counted in one flow record, which arrives.
+pub(crate) const RUN: &[u8] = b"once-run 1
+packet 1 1 10.0.0.1 192.0.2.1 6 1000 80 0 18446744073709551614
+packet 1 1 10.0.0.1 192.0.2.1 6 1000 80 0 1
+cross 1 1 n
+cross 2 1 1
+expire cache 1 1 1
+arrive 1 1
+end
+";
+
+/// What is collected from that run.
+pub(crate) const TOTALS: &[u8] =
+    b"keys 1\n10.0.0.1 packets 2 octets 18446744073709551615\nunassigned 0\ncomplete yes\n";
+
+/// A certificate that the packets of the class are counted exactly once.
+pub(crate) const CERTIFICATE: &[u8] = b"once-certificate 1\nclass 1 path 1\nL 1 1 1\nend\n";
+
+/// The number of the fault that a command ends with, or 0.
+pub(crate) fn number(outcome: Result<Answer, Fault>) -> u16 {
+    match outcome {
+        Ok(_) => 0,
+        Err(fault) => fault.number,
+    }
+}

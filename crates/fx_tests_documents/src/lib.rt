@@ -1,0 +1,29 @@
+//! Tests of what documents say, and of the commands over them.
+#![tactic(auto)]
+
+#[cfg(test)]
+mod audit_bundles;
+#[cfg(test)]
+mod audit_checks;
+#[cfg(test)]
+mod audit_collects;
+#[cfg(test)]
+mod audit_replays;
+#[cfg(test)]
+mod audit_texts;
+#[cfg(test)]
+mod check;
+#[cfg(test)]
+mod config;
+#[cfg(test)]
+mod config_caches;
+#[cfg(test)]
+mod config_refusals;
+#[cfg(test)]
+mod networks;
+#[cfg(test)]
+mod plan;
+#[cfg(test)]
+mod selectors;
+#[cfg(test)]
+mod traffic;

@@ -1,0 +1,2 @@
+mod TwoMeters
+mod Chain

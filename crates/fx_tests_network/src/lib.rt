@@ -1,0 +1,21 @@
+//! Tests of the abstract network and of what is collected from it.
+#![tactic(auto)]
+
+#[cfg(test)]
+mod collect;
+#[cfg(test)]
+mod leaf;
+#[cfg(test)]
+mod leaf_chain;
+#[cfg(test)]
+mod leaf_filters;
+#[cfg(test)]
+mod machine;
+#[cfg(test)]
+mod machine_runs;
+#[cfg(test)]
+mod meters;
+#[cfg(test)]
+mod session;
+#[cfg(test)]
+mod session_hostile;

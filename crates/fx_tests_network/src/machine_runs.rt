@@ -1,0 +1,201 @@
+//! Runs' texts read, and refused at the line.
+use crate::meters::sources;
+use fx_base::{Fault, LineReader, Octets};
+use fx_machine::{
+    Class, Classes, HolderName, Packet, Path, Run, RunLine, Step, read_run, read_run_line,
+    run_texts,
+};
+use std::alloc::Global;
+use std::test::Fail;
+
+/// One class of the packets from 10.0.0.0/8, with one path.
+fn web(alloc: Global) -> Result<Classes, Fail> {
+    let region = sources(0x0a00_0000, 0x0aff_ffff)?;
+    let paths = vec![in alloc; Path::new(Vec::new(alloc))]?;
+    Ok(Classes::new(vec![in alloc; Class::new(region, paths)]?))
+}
+
+fn read(alloc: Global, classes: &Classes, text: &[u8]) -> Result<Run, Fault> {
+    let mut lines = LineReader::new(alloc, Octets::new(text))?;
+    read_run(alloc, classes, &mut lines)
+}
+
+fn choices(step: &Step) -> &[Option<u64>] {
+    match step {
+        Step::Cross { choices, .. } => choices.as_slice(),
+        Step::Expire { choices, .. } => choices.as_slice(),
+        Step::Arrive { choices, .. } => choices.as_slice(),
+    }
+}
+
+/// Whether a step takes a record out of a holder at this position, and what is chosen then.
+fn is_expiry(step: &Step, name: HolderName, at: u64, chosen: &[Option<u64>]) -> bool {
+    match step {
+        Step::Expire {
+            holder,
+            position,
+            choices,
+        } => *holder == name && *position == at && choices.as_slice() == chosen,
+        _ => false,
+    }
+}
+
+const TWO_PACKETS: &[u8] = b"once-run 1\n\
+packet 1 1 10.0.0.1 192.0.2.1 6 1000 80 0 18446744073709551614\n\
+packet 1 1 10.0.0.1 192.0.2.1 6 1000 80 0 1\n\
+cross 1 1 n\n\
+cross 2 1 1\n\
+expire cache 1 1 1\n\
+arrive 1 1\n\
+end\n";
+
+/// Whether these are its packets.
+fn are_the_packets(packets: &[Packet]) -> bool {
+    let [first, second] = packets else {
+        return false;
+    };
+    first.octets == 18446744073709551614
+        && second.octets == 1
+        && first.fields.array() == [0x0a00_0001, 0xc000_0201, 6, 1000, 80, 0]
+        && first.class == 1
+        && first.path == 1
+}
+
+/// Whether these are its steps: what is chosen in each.
+fn are_the_steps(steps: &[Step]) -> bool {
+    let [cross, join, _, arrive] = steps else {
+        return false;
+    };
+    choices(cross) == [None].as_slice()
+        && choices(join) == [Some(1)].as_slice()
+        && choices(arrive).is_empty()
+}
+
+#[test]
+fn reads_packets_and_steps(rt: HostRuntime) -> Result<(), Fail> {
+    let run = read(rt.alloc(), &web(rt.alloc())?, TWO_PACKETS)?;
+    assert!(rt; are_the_packets(run.packets()));
+    assert!(rt; are_the_steps(run.steps()));
+    let (packets, steps) = run.into_parts();
+    assert!(rt; packets.len() == 2 && steps.len() == 4);
+    Ok(())
+}
+
+#[test]
+fn reads_each_form_of_step(rt: HostRuntime) -> Result<(), Fail> {
+    let text =
+        b"once-run 1\ncross 0 2\nexpire cache 3 4 5 n 6\nexpire aggregation 7 8 9 10 n\narrive 11 12 13\nend\n";
+    let run = read(rt.alloc(), &web(rt.alloc())?, text)?;
+    let [cross, from_cache, from_aggregation, arrive] = run.steps() else {
+        return Err(Fail::from("four steps"));
+    };
+    assert!(rt;
+        matches!(
+            cross,
+            Step::Cross {
+                packet: 0,
+                crossing: 2,
+                ..
+            }
+        )
+    );
+    let cache = HolderName::Cache {
+        device: 3,
+        cache: 4,
+    };
+    assert!(rt; is_expiry(from_cache, cache, 5, &[None, Some(6)]));
+    let aggregation = HolderName::Aggregation {
+        device: 7,
+        process: 8,
+        aggregation: 9,
+    };
+    assert!(rt; is_expiry(from_aggregation, aggregation, 10, &[None]));
+    assert!(rt;
+        matches!(
+            arrive,
+            Step::Arrive {
+                link: 11,
+                position: 12,
+                ..
+            }
+        )
+    );
+    assert_eq!(rt; choices(arrive), [Some(13)].as_slice());
+    Ok(())
+}
+
+#[test]
+fn reads_a_line(rt: HostRuntime) -> Result<(), Fail> {
+    run_texts();
+    assert!(rt; matches!(read_run_line(rt.alloc(), b"end")?, Some(RunLine::End)));
+    assert!(rt; read_run_line(rt.alloc(), b"end ")?.is_none());
+    Ok(())
+}
+
+/// Whether a text is refused with this number at this line.
+fn is_refused(alloc: Global, classes: &Classes, text: &[u8], number: u16, line: u64) -> bool {
+    match read(alloc, classes, text) {
+        Ok(_) => false,
+        Err(fault) => fault == Fault::at_line(number, line),
+    }
+}
+
+#[test]
+fn refuses_at_the_line(rt: HostRuntime) -> Result<(), Fail> {
+    let classes = web(rt.alloc())?;
+    let refused: [(&[u8], u16, u64); 18] = [
+        (b"", 855, 1),
+        (b"once-run 2\nend\n", 854, 1),
+        (b"once-run 1", 854, 1),
+        (b"once-run 1\n", 855, 2),
+        (b"once-run 1\nend", 855, 2),
+        (b"once-run 1\nend\nend\n", 855, 3),
+        (
+            b"once-run 1\ncross 1 1\npacket 1 1 10.0.0.1 192.0.2.1 6 1000 80 0 1\nend\n",
+            855,
+            3,
+        ),
+        (
+            b"once-run 1\npacket 0 1 10.0.0.1 192.0.2.1 6 1000 80 0 1\nend\n",
+            856,
+            2,
+        ),
+        (
+            b"once-run 1\npacket 2 1 10.0.0.1 192.0.2.1 6 1000 80 0 1\nend\n",
+            856,
+            2,
+        ),
+        (
+            b"once-run 1\npacket 1 2 10.0.0.1 192.0.2.1 6 1000 80 0 1\nend\n",
+            856,
+            2,
+        ),
+        (
+            b"once-run 1\npacket 1 1 11.0.0.1 192.0.2.1 6 1000 80 0 1\nend\n",
+            856,
+            2,
+        ),
+        (
+            b"once-run 1\npacket 1 1 10.0.0.1 192.0.2.1 256 1000 80 0 1\nend\n",
+            855,
+            2,
+        ),
+        (
+            b"once-run 1\npacket 1 1 10.0.0.1 192.0.2.1 6 1000 80 0 1 1\nend\n",
+            855,
+            2,
+        ),
+        (b"once-run 1\ncross 01 1\nend\n", 855, 2),
+        (b"once-run 1\ncross 1 18446744073709551616\nend\n", 855, 2),
+        (b"once-run 1\ncross 1 1 \nend\n", 855, 2),
+        (b"once-run 1\nexpire 1 1 1\nend\n", 855, 2),
+        (b"once-run 1\ncross 1 1\n\nend\n", 855, 3),
+    ];
+    for (text, number, line) in refused {
+        assert!(rt;
+            is_refused(rt.alloc(), &classes, text, number, line),
+            "{number} at {line}"
+        );
+    }
+    Ok(())
+}

@@ -1,0 +1,48 @@
+//! A meter at one interface, and the packets that come into it.
+use fx_base::Name;
+use fx_boxes::{Fields, Region};
+use fx_machine::{Crossing, Device, Point, Selection};
+use std::alloc::Global;
+use std::test::Fail;
+
+/// The packets with sources from one to another.
+pub(crate) fn sources(low: u128, high: u128) -> Result<Region, Fail> {
+    let low = Fields::new([low, 0, 0, 0, 0, 0]).ok_or("low")?;
+    let high = Fields::new([high, 0xffff_ffff, 255, 65535, 65535, 255]).ok_or("high")?;
+    Ok(Region::between(&low, &high).ok_or("region")?)
+}
+
+/// The point at `eth0`, which selects the packets of a region into the cache at this place; also those that go out,
+/// or only those that come in.
+fn point(alloc: Global, region: Region, cache: usize, outwards: bool) -> Result<Point, Fail> {
+    let selection = Selection {
+        region: Some(region),
+        holder: Some(cache),
+    };
+    let names = vec![in alloc; Name::read(alloc, "eth0")?]?;
+    Ok(Point::new(names, true, outwards, vec![in alloc; selection]?))
+}
+
+/// A meter of that point and that cache alone.
+pub(crate) fn meter(
+    alloc: Global,
+    region: Region,
+    cache: usize,
+    outwards: bool,
+) -> Result<Device, Fail> {
+    let point = point(alloc, region, cache, outwards)?;
+    Ok(Device::new(
+        vec![in alloc; point]?,
+        vec![in alloc; cache]?,
+        vec![in alloc]?,
+    ))
+}
+
+/// Into the meter that is the device of this number.
+pub(crate) fn into(alloc: Global, device: u64) -> Result<Crossing, Fail> {
+    Ok(Crossing {
+        device,
+        interface: Name::read(alloc, "eth0")?,
+        inwards: true,
+    })
+}

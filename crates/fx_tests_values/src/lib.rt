@@ -1,0 +1,19 @@
+//! Tests of the crates of values: what they read, write, hold and refuse.
+#![tactic(auto)]
+
+#[cfg(test)]
+mod base;
+#[cfg(test)]
+mod boxes;
+#[cfg(test)]
+mod cert;
+#[cfg(test)]
+mod elements;
+#[cfg(test)]
+mod layout;
+#[cfg(test)]
+mod pcap;
+#[cfg(test)]
+mod store;
+#[cfg(test)]
+mod wire;
