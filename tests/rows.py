@@ -4,10 +4,12 @@
   words    the program's words, in one line; the files that they name stand beside it (no file: no words)
   stdin    what it gets on standard input (no file: nothing)
   stdout   what it must print, octet for octet (no file: not looked at)
+  output   the file that its standard output is, as /dev/full (no file: it is read)
   status   its exit status
 
 Prints a line for each row that fails, and last `N passed, M failed`. The exit status is 1 where a row failed.
 """
+import contextlib
 import os
 import shlex
 import subprocess
@@ -26,7 +28,11 @@ def octets_of(row, name, default=b""):
 
 def faults(program, row):
     words = shlex.split(octets_of(row, "words").decode())
-    run = subprocess.run([program] + words, cwd=row, input=octets_of(row, "stdin"), capture_output=True, timeout=120)
+    output = octets_of(row, "output").decode().strip()
+    with contextlib.ExitStack() as files:
+        to = files.enter_context(open(output, "wb")) if output else subprocess.PIPE
+        how = {"stdout": to, "stderr": subprocess.PIPE, "timeout": 120}
+        run = subprocess.run([program] + words, cwd=row, input=octets_of(row, "stdin"), **how)
     wanted, status = octets_of(row, "stdout", None), int(octets_of(row, "status"))
     if wanted is not None and run.stdout != wanted:
         yield "printed %r in place of %r" % (run.stdout[:300], wanted[:300])

@@ -35,6 +35,8 @@ class Edit:
         self.texts, why = edited(read(file), folder)
         for path, text in self.texts.items():
             why = why or self.compare(path, read(f"{folder}/{path}"), text)
+        if self.parts and self.constants:
+            why = why or "it changes bodies and constants"
         if why or not (self.parts or self.constants):
             self.kind, self.verdict = BAD, (False, f"BAD EDIT: {why or 'no function gets another body'}")
 

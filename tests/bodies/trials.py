@@ -17,7 +17,7 @@ class Trial:
 
     def __init__(self, rtlib, crate, kept, jobs=1, shown=None):
         self.rtlib, self.crate, self.kept, self.jobs, self.shown = rtlib, crate, kept, jobs, shown
-        self.seconds, self.checks, self.peak, self.reached = 0.0, 0, 0, None
+        self.seconds, self.checks, self.peak, self.called = 0.0, 0, 0, None
 
     def judge(self, edits):
         """Gives each edit its verdict."""
@@ -132,25 +132,29 @@ class Trial:
     def meets(self, one, other):
         """Returns whether a function that one of the edits changes may call one that the other changes, or is the same."""
         names = lambda edit: {it.function.name for it in edit.parts}
-        calls = lambda edit: {name for it in names(edit) for name in self.names_reached().get(it, ())}
         same = {(it.path, it.function.key) for it in one.parts} & {(it.path, it.function.key) for it in other.parts}
-        return bool(same or calls(one) & names(other) or calls(other) & names(one))
+        return bool(same or self.names_called(one) & names(other) or self.names_called(other) & names(one))
 
-    def names_reached(self):
-        """Returns the names that the functions of each name mention with a bracket, and those mention: more than what they call."""
-        if self.reached is None:
-            said = {}
+    def names_called(self, edit):
+        """Returns the names that the functions of the edit mention with a bracket, before it and by it, and those that functions
+        of these names mention, and so on: more than what they call."""
+        left, found = set(), set()
+        for it in edit.parts:
+            text = read(f"{self.crate.folder}/{it.path}")
+            left |= called_in(text[it.function.opens : it.function.end]) | called_in(it.body)
+        while left:
+            name = left.pop()
+            found.add(name)
+            left |= self.calls().get(name, set()) - found
+        return found
+
+    def calls(self):
+        """Returns for each name what functions of that name mention with a bracket."""
+        if self.called is None:
+            self.called = {}
             for it, text in self.functions():
-                called = re.findall(r"\b[a-z_]\w*(?=\s*(?:::<[^>]*>)?\()", text[it.opens : it.end])
-                said.setdefault(it.name, set()).update(called)
-            for name in said:
-                left = list(said[name])
-                while left:
-                    more = said.get(left.pop(), set()) - said[name]
-                    said[name] |= more
-                    left += more
-            self.reached = said
-        return self.reached
+                self.called.setdefault(it.name, set()).update(called_in(text[it.opens : it.end]))
+        return self.called
 
     def functions(self):
         """Returns the functions of the crate, each with the text of its file."""
@@ -217,6 +221,10 @@ class Trial:
             naming = [it for it in there if re.search(rf"\b{name}\b", text[it.opens : it.end])]
             found += [(path, it) for it in naming or there]
         return found
+
+
+def called_in(text):
+    return set(re.findall(r"\b[a-z_]\w*(?=\s*(?:::<[^>]*>)?\()", text))
 
 
 def copy_proofs(room, crate, part):

@@ -11,8 +11,3 @@ pub use ending::finish;
 pub use running::run;
 pub use words::{Call, read_words};
 pub use words_ending::{finish_unread, finish_words};
-
-#[cfg(test)]
-mod tests;
-#[cfg(test)]
-mod words_tests;

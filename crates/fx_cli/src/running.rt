@@ -24,7 +24,7 @@ const WRITE_FAILED: u8 = 5;
 /// Opens the files that a call names, in the order of its words, and only then reads them and answers.
 ///
 /// Fails with 901 where a file can't be opened, with 900 for want of memory, else as the command does.
-pub(crate) fn answer_call<R: AllocGlobal + Files, S: Sink>(
+fn answer_call<R: AllocGlobal + Files, S: Sink>(
     rt: &R,
     call: &Call,
     sink: &mut S,
@@ -104,7 +104,7 @@ fn answer<R: AllocGlobal + Env + Files + Input, S: Sink>(rt: &R, sink: &mut S) -
 }
 
 /// Hands on what a writer still holds. Gives this exit status, or 5 where that fails.
-pub(crate) fn flush<W: Write + Drop>(mut writer: W, code: u8) -> u8
+fn flush<W: Write + Drop>(mut writer: W, code: u8) -> u8
     ensures { (result ≡ code) ⊎ (result ≡ 5) }
 {
     match writer.flush() {

@@ -1,0 +1,89 @@
+//! Words that name a call, and words that name none.
+use fx_base::Room;
+use fx_cli::{Call, finish_words, read_words};
+use std::alloc::{AllocError, Global};
+use std::test::Fail;
+
+/// The words of a command line, parted by spaces.
+fn words(alloc: Global, line: &str) -> Result<Vec<String>, AllocError> {
+    let mut words = Vec::new(alloc);
+    for word in line.split(' ') {
+        words.push(String::from_str(alloc, word)?)?;
+    }
+    Ok(words)
+}
+
+/// The command of the call that the words name, and its files, each behind a bar.
+fn call(alloc: Global, line: &str) -> Result<String, AllocError> {
+    let words = words(alloc, line)?;
+    let Ok(call) = read_words(alloc, words.as_slice()) else {
+        return Ok(String::new(alloc));
+    };
+    match call {
+        Call::Replay {
+            network,
+            traffic,
+            run,
+        } => format!(in alloc; "replay|{network}|{traffic}|{run}"),
+        Call::Collect { network, stream } => format!(in alloc; "collect|{network}|{stream}"),
+        Call::Check {
+            network,
+            traffic,
+            certificate,
+        } => format!(in alloc; "check|{network}|{traffic}|{certificate}"),
+    }
+}
+
+#[test]
+fn reads_words(rt: HostRuntime) -> Result<(), Fail> {
+    for (line, wanted) in [
+        (
+            "once replay net.json traffic.json run.txt",
+            "replay|net.json|traffic.json|run.txt",
+        ),
+        ("./a/b replay - -- -x --", "replay|-|-x|--"),
+        (
+            "once collect net.json stream.ipfix",
+            "collect|net.json|stream.ipfix",
+        ),
+        (
+            "once check net.json traffic.json cert.txt",
+            "check|net.json|traffic.json|cert.txt",
+        ),
+    ] {
+        assert!(rt; call(rt.alloc(), line)?.as_str() == wanted);
+    }
+    Ok(())
+}
+
+/// The exit status of words that name no call, with whether a text was written.
+fn ends_words(alloc: Global, line: &str) -> Result<Option<(u8, bool)>, AllocError> {
+    let words = words(alloc, line)?;
+    let mut octets = [0u8; 2048];
+    let mut room = Room::new(&mut octets);
+    Ok(match read_words(alloc, words.as_slice()) {
+        Ok(_) => None,
+        Err(error) => {
+            let status = finish_words(alloc, &error, &mut room);
+            Some((status, !room.octets().is_empty()))
+        }
+    })
+}
+
+#[test]
+fn ends_words_that_name_no_call(rt: HostRuntime) -> Result<(), Fail> {
+    for (line, status) in [
+        ("once --help", 0),
+        ("once replay -h", 0),
+        ("once help", 0),
+        ("once repaly a b c", 6),
+        ("once replay a b", 6),
+        ("once replay a b c d", 6),
+        ("once replay a -x c", 6),
+        ("once collect a b c", 6),
+        ("once check a b", 6),
+    ] {
+        assert!(rt; ends_words(rt.alloc(), line)? == Some((status, true)));
+    }
+    Ok(())
+}
