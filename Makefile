@@ -12,7 +12,7 @@ LIBRARIES = $(shell sed -n 's/^once: //p' crates.txt | tr ' ' '\n' | grep '^fx_'
 part = TIMEFORMAT='part $(1): %0R s, %0U and %0S s of processor time'; time
 
 help:
-	@echo 'make replay            a first answer: replays the stored run, with nothing proved yet (about a minute)'
+	@echo 'make replay            a first answer: replays the stored run, with nothing proved yet (a minute and a half)'
 	@echo 'make once              proves and builds the program, ./once'
 	@echo 'make test              the gate: all proofs from nothing, all wrong bodies, tests, rows and examples'
 	@echo 'make wrong NAME=CRATE  tries the wrong bodies of one crate; NAME=CRATE/WORD those with WORD in their names'
@@ -58,7 +58,7 @@ run-wrong:
 
 # Tries wrong bodies over the work that checks have kept.
 wrong: kit
-	python3 tests/wrong_bodies.py --kept $(NAME)
+	python3 tests/wrong_bodies.py --kept --jobs 2 $(NAME)
 
 # Runs the program over the worked rows, then over long certificates, then with growths of its memory refused.
 rows: once run-rows
