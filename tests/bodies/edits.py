@@ -20,10 +20,14 @@ class Part:
         self.number, self.twin, self.lines, self.verdict = next(Part.numbers), None, (0, 0), None
 
     def folders(self):
-        """Returns the folders below proofs/ that may hold the function's own proof files, as lists of names."""
+        """Returns the folders below proofs/ that may hold the function's own proof files, as lists of names: a method's stand
+        where its type is declared."""
         at, block = module_of(self.path), self.function.block
-        own = [type_name(block.own_type)] if block is not None else []
-        return [[*at, *own, self.function.name], [*at, "fn", self.function.name]]
+        if block is None:
+            return [[*at, self.function.name], [*at, "fn", self.function.name]]
+        own = type_name(block.own_type)
+        homes = [at, *(it for it in modules_declaring(self.edit.folder, own) if it != at)]
+        return [[*home, own, self.function.name] for home in homes] + [[*at, "fn", self.function.name]]
 
 
 class Edit:
@@ -87,6 +91,14 @@ def module_of(path):
     """Returns the module of a file of src/, as a list of names."""
     inside = re.sub(r"(^|/)(lib|main|mod)$", "", path[len("src/") : -len(".rt")])
     return inside.split("/") if inside else []
+
+
+def modules_declaring(folder, name):
+    """Returns the modules of the crate that declare a type of this name."""
+    for at, _, files in sorted(os.walk(f"{folder}/src")):
+        for file in sorted(it for it in files if it.endswith(".rt")):
+            if re.search(rf"(?m)^\s*(?:pub(?:\([^)]*\))?\s+)?(?:struct|enum)\s+{re.escape(name)}\b", read(f"{at}/{file}")):
+                yield module_of(os.path.relpath(f"{at}/{file}", folder))
 
 
 def edited(text, folder):
