@@ -1,60 +1,39 @@
 //! Certificates checked over documents, and a reader of one that fails.
-use crate::audit_texts::{CERTIFICATE, NETWORK, TRAFFIC, number};
+use crate::audit_texts::{CERTIFICATE, NETWORK, TRAFFIC, ending};
 use fx_audit::{Answer, check_bytes};
 use fx_base::{Fault, Fuse, LineReader, Octets, Room};
 use std::alloc::Global;
 use std::test::Fail;
 
-/// What comes of checking this certificate in the network, and whether this was written.
-fn checked(
+/// Whether checking a certificate in the network ends like this, with this written, where the certificate's reader
+/// fails at a call, or at none for 0.
+fn ends(
     alloc: Global,
     certificate: &[u8],
+    call: u64,
+    wanted: Result<Answer, u16>,
     text: &[u8],
-) -> Result<(Result<Answer, Fault>, bool), Fail> {
-    let mut network = Octets::new(NETWORK);
-    let mut traffic = Octets::new(TRAFFIC);
-    let mut lines = LineReader::new(alloc, Octets::new(certificate))?;
+) -> Result<bool, Fault> {
+    let mut network = Octets::new(NETWORK.as_bytes());
+    let mut traffic = Octets::new(TRAFFIC.as_bytes());
+    let mut lines = LineReader::new(alloc, Fuse::new(Octets::new(certificate), call))?;
     let mut octets = [0u8; 64];
     let mut room = Room::new(&mut octets);
     let outcome = check_bytes(alloc, &mut network, &mut traffic, &mut lines, &mut room);
-    Ok((outcome, room.octets() == text))
+    Ok(ending(outcome) == wanted && room.octets() == text)
 }
 
 #[test]
-fn accepts_a_certificate(rt: HostRuntime) -> Result<(), Fail> {
-    let (outcome, written) = checked(rt.alloc(), CERTIFICATE, b"yes\n")?;
-    assert_eq!(rt; outcome?, Answer::Yes);
-    assert!(rt; written);
-    Ok(())
-}
-
-#[test]
-fn refuses_another_selection_process(rt: HostRuntime) -> Result<(), Fail> {
-    let other = b"once-certificate 1\nclass 1 path 1\nL 1 1 2\nend\n";
-    let (outcome, written) = checked(rt.alloc(), other, b"no 410 line 3\n")?;
-    assert_eq!(rt; outcome?, Answer::No);
-    assert!(rt; written);
-    Ok(())
-}
-
-#[test]
-fn answers_a_reader_that_fails(rt: HostRuntime) -> Result<(), Fail> {
-    for call in [1, 2] {
-        let mut network = Octets::new(NETWORK);
-        let mut traffic = Octets::new(TRAFFIC);
-        let source = Fuse::new(Octets::new(CERTIFICATE), call);
-        let mut lines = LineReader::new(rt.alloc(), source)?;
-        let mut octets = [0u8; 64];
-        let mut room = Room::new(&mut octets);
-        let outcome = check_bytes(
-            rt.alloc(),
-            &mut network,
-            &mut traffic,
-            &mut lines,
-            &mut room,
-        );
-        assert_eq!(rt; number(outcome), 901);
-        assert!(rt; room.octets().is_empty());
+fn checks_a_certificate(rt: HostRuntime) -> Result<(), Fail> {
+    // It names another selection process.
+    let other = b"once-certificate 1\nclass 1 path 1\nL 1 1 2\nend\n".as_slice();
+    for (certificate, call, wanted, text) in [
+        (CERTIFICATE, 0, Ok(Answer::Yes), b"yes\n".as_slice()),
+        (other, 0, Ok(Answer::No), b"no 410 line 3\n"),
+        (CERTIFICATE, 1, Err(901), b""),
+        (CERTIFICATE, 2, Err(901), b""),
+    ] {
+        assert!(rt; ends(rt.alloc(), certificate, call, wanted, text)?);
     }
     Ok(())
 }

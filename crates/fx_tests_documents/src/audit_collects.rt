@@ -1,5 +1,5 @@
 //! Streams collected at the network's report, and devices that fail.
-use crate::audit_texts::{NETWORK, number};
+use crate::audit_texts::{NETWORK, ending};
 use fx_audit::{Answer, collect_bytes};
 use fx_base::{Fault, Fuse, Octets, Room};
 use std::alloc::Global;
@@ -19,82 +19,80 @@ const SECOND: [u8; 40] = [
     0x01, 0x00, 0x00, 0x18, 10, 0, 0, 1, 0, 0, 0, 0, 0, 0, 0x01, 0x2c, 0, 0, 0, 0, 0, 0, 0, 1,
 ];
 
-/// What comes of collecting these octets, and whether this was written.
-fn collected(
+/// Whether collecting a stream ends like this, with this written, where the stream fails at a call, or at none for 0.
+fn ends(
     alloc: Global,
     network: &[u8],
     stream: &[u8],
+    call: u64,
+    wanted: &Result<Answer, Fault>,
     text: &[u8],
-) -> (Result<Answer, Fault>, bool) {
+) -> bool {
     let mut network = Octets::new(network);
-    let mut stream = Octets::new(stream);
+    let mut stream = Fuse::new(Octets::new(stream), call);
     let mut octets = [0u8; 256];
     let mut room = Room::new(&mut octets);
     let outcome = collect_bytes(alloc, &mut network, &mut stream, &mut room);
-    (outcome, room.octets() == text)
-}
-
-/// Whether collecting these octets is refused with this fault, and nothing is written.
-fn is_refused(alloc: Global, network: &[u8], stream: &[u8], fault: &Fault) -> bool {
-    match collected(alloc, network, stream, b"") {
-        (Err(found), true) => found == *fault,
-        _ => false,
-    }
-}
-
-#[test]
-fn collects_a_stream(rt: HostRuntime) -> Result<(), Fail> {
-    let mut stream = Vec::from_slice(rt.alloc(), &FIRST)?;
-    stream.extend_from_slice(&SECOND)?;
-    let text = b"keys 1\n10.0.0.1 packets 3 octets 600\nunassigned 0\ngaps 0\nskipped 0\n";
-    let (outcome, written) = collected(rt.alloc(), NETWORK, stream.as_slice(), text);
-    assert_eq!(rt; outcome?, Answer::Yes);
-    assert!(rt; written);
-    Ok(())
+    outcome == *wanted && room.octets() == text
 }
 
 /// A message that comes a hundred times has a gap before each but the first.
 #[test]
-fn collects_a_stream_of_several_pieces(rt: HostRuntime) -> Result<(), Fail> {
-    let mut stream = Vec::new(rt.alloc());
-    for _time in 0..100u8 {
-        stream.extend_from_slice(&FIRST)?;
+fn collects_streams(rt: HostRuntime) -> Result<(), Fail> {
+    let short = [FIRST.as_slice(), SECOND.as_slice()].concat(rt.alloc())?;
+    let long = FIRST.repeat(rt.alloc(), 100)?;
+    for (stream, text) in [
+        (
+            short.as_slice(),
+            b"keys 1\n10.0.0.1 packets 3 octets 600\nunassigned 0\ngaps 0\nskipped 0\n".as_slice(),
+        ),
+        (
+            long.as_slice(),
+            b"keys 1\n10.0.0.1 packets 200 octets 30000\nunassigned 0\ngaps 99\nskipped 0\n",
+        ),
+    ] {
+        assert!(rt;
+            ends(
+                rt.alloc(),
+                NETWORK.as_bytes(),
+                stream,
+                0,
+                &Ok(Answer::Yes),
+                text
+            )
+        );
     }
-    let text = b"keys 1\n10.0.0.1 packets 200 octets 30000\nunassigned 0\ngaps 99\nskipped 0\n";
-    let (outcome, written) = collected(rt.alloc(), NETWORK, stream.as_slice(), text);
-    assert_eq!(rt; outcome?, Answer::Yes);
-    assert!(rt; written);
     Ok(())
 }
 
-#[test]
-fn refuses_the_network_before_the_stream(rt: HostRuntime) {
-    let alloc = rt.alloc();
-    assert!(rt; is_refused(alloc, b"{", &SECOND, &Fault::bare(101)));
-    assert!(rt; is_refused(alloc, NETWORK, &SECOND, &Fault::at_octet(617, 0)));
-    assert!(rt; is_refused(alloc, NETWORK, &FIRST[..59], &Fault::at_octet(612, 0)));
+/// The fault with this number, at this octet if there is one.
+fn fault(number: u16, octet: Option<u64>) -> Fault {
+    match octet {
+        Some(octet) => Fault::at_octet(number, octet),
+        None => Fault::bare(number),
+    }
 }
 
-/// The stream's first piece is read, and then a read fails.
+/// The network is refused before the stream. Last a read fails behind the stream's first piece.
 #[test]
-fn fails_with_its_devices(rt: HostRuntime) -> Result<(), Fail> {
-    let mut network = Octets::new(NETWORK);
-    let mut stream = Fuse::new(Octets::new(&FIRST), 2);
-    let mut octets = [0u8; 256];
-    let mut room = Room::new(&mut octets);
-    let outcome = collect_bytes(rt.alloc(), &mut network, &mut stream, &mut room);
-    assert_eq!(rt; number(outcome), 901);
-    assert!(rt; room.octets().is_empty());
-    Ok(())
+fn refuses_what_is_wrong_first(rt: HostRuntime) {
+    for (network, stream, call, number, octet) in [
+        (b"{".as_slice(), SECOND.as_slice(), 0, 101, None),
+        (NETWORK.as_bytes(), SECOND.as_slice(), 0, 617, Some(0)),
+        (NETWORK.as_bytes(), &FIRST[..59], 0, 612, Some(0)),
+        (NETWORK.as_bytes(), FIRST.as_slice(), 2, 901, None),
+    ] {
+        let wanted = Err(fault(number, octet));
+        assert!(rt; ends(rt.alloc(), network, stream, call, &wanted, b""));
+    }
 }
 
 #[test]
-fn fails_without_room(rt: HostRuntime) -> Result<(), Fail> {
-    let mut network = Octets::new(NETWORK);
+fn fails_without_room(rt: HostRuntime) {
+    let mut network = Octets::new(NETWORK.as_bytes());
     let mut stream = Octets::new(&FIRST);
     let mut octets = [0u8; 8];
     let mut room = Room::new(&mut octets);
     let outcome = collect_bytes(rt.alloc(), &mut network, &mut stream, &mut room);
-    assert_eq!(rt; number(outcome), 902);
-    Ok(())
+    assert!(rt; ending(outcome) == Err(902));
 }

@@ -1,9 +1,9 @@
-//! Documents of a meter at one interface, which exports to the collector that reports; and the numbers of refusals.
+//! Documents of a meter at one interface, which exports to the collector that reports; and how commands end.
 use fx_audit::Answer;
 use fx_base::Fault;
 
 /// The network.
-pub(crate) const NETWORK: &[u8] = br#"{"devices":[{"name":"m1","config":{"ietf-ipfix-psamp:ipfix":{
+pub(crate) const NETWORK: &str = r#"{"devices":[{"name":"m1","config":{"ietf-ipfix-psamp:ipfix":{
 "observationPoint":[{"name":"op","observationDomainId":0,"ifName":["eth0"],"selectionProcess":["sp"]}],
 "selectionProcess":[{"name":"sp","selector":[{"name":"a","selectAll":[null]}],"cache":"ca"}],
 "cache":[{"name":"ca","timeoutCache":{"cacheLayout":{"cacheField":[
@@ -16,8 +16,8 @@ pub(crate) const NETWORK: &[u8] = br#"{"devices":[{"name":"m1","config":{"ietf-i
 "#;
 
 /// The traffic: one class, whose packets come into the meter.
-pub(crate) const TRAFFIC: &[u8] =
-    br#"{"classes":[{"name":"web","region":{"sourceIPv4Address":"10.0.0.0/8"},"paths":[[{"device":"m1","interface":"eth0","direction":"ingress"}]]}]}
+pub(crate) const TRAFFIC: &str =
+    r#"{"classes":[{"name":"web","region":{"sourceIPv4Address":"10.0.0.0/8"},"paths":[[{"device":"m1","interface":"eth0","direction":"ingress"}]]}]}
 "#;
 
 /// A run of two packets: they are counted in one flow record, which arrives.
@@ -38,10 +38,10 @@ pub(crate) const TOTALS: &[u8] =
 /// A certificate that the packets of the class are counted exactly once.
 pub(crate) const CERTIFICATE: &[u8] = b"once-certificate 1\nclass 1 path 1\nL 1 1 1\nend\n";
 
-/// The number of the fault that a command ends with, or 0.
-pub(crate) fn number(outcome: Result<Answer, Fault>) -> u16 {
+/// How a command ended: its answer, or the number of its fault.
+pub(crate) fn ending(outcome: Result<Answer, Fault>) -> Result<Answer, u16> {
     match outcome {
-        Ok(_) => 0,
-        Err(fault) => fault.number,
+        Ok(answer) => Ok(answer),
+        Err(fault) => Err(fault.number),
     }
 }

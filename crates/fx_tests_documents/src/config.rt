@@ -5,7 +5,6 @@ use fx_elements::Axis;
 use fx_layout::Part;
 use serde_json::Value;
 use std::alloc::Global;
-use std::process::Abort;
 use std::test::Fail;
 
 const METER: &str = r#"{"ietf-ipfix-psamp:ipfix":{
@@ -16,85 +15,103 @@ const METER: &str = r#"{"ietf-ipfix-psamp:ipfix":{
             {"name":"o","ieId":1},{"name":"p","ieId":2}]}},"exportingProcess":["ex"]}],
         "exportingProcess":[{"name":"ex","destination":[{"name":"d","tcpExporter":{}}]}]}}"#;
 
+const COLLECTOR: &str = r#"{"ietf-ipfix-psamp:ipfix":{"collectingProcess":[{"name":"cp"}]}}"#;
+
 /// The device that a document means.
 fn device_of(alloc: Global, text: &str) -> Result<Device, Fail> {
     Ok(read_device(alloc, &Value::from_str(alloc, text)?)?)
 }
 
-/// Looks at the observation point of the metering device.
-fn look_at_point<R: Abort>(rt: &R, device: &Device) -> Result<(), Fail> {
+/// Whether the metering device observes at its interface, for its selection process.
+fn observes(device: &Device) -> bool {
     let [point] = device.observation_points.as_slice() else {
-        return Err(Fail::from("one point"));
+        return false;
     };
-    assert_eq!(rt; point.name.as_str(), "op");
-    assert_eq!(rt; point.observation_domain_id, 0);
     let ([interface], [selecting]) = (
         point.interfaces.as_slice(),
         point.selection_processes.as_slice(),
     ) else {
-        return Err(Fail::from("one interface and one selection process"));
+        return false;
     };
-    assert_eq!(rt; interface.as_str(), "eth0");
-    assert_eq!(rt;
-        walk::place_of(device.selection_processes.as_slice(), selecting),
-        Some(0)
-    );
-    Ok(())
+    point.name.as_str() == "op"
+        && point.observation_domain_id == 0
+        && interface.as_str() == "eth0"
+        && walk::place_of(device.selection_processes.as_slice(), selecting) == Some(0)
 }
 
-/// Looks at what packets and records come to in it.
-fn look_at_processes<R: Abort>(rt: &R, device: &Device) -> Result<(), Fail> {
+/// Whether it selects by one selector, into its cache.
+fn selects(device: &Device) -> bool {
     let [process] = device.selection_processes.as_slice() else {
-        return Err(Fail::from("one selection process"));
+        return false;
     };
-    assert_eq!(rt; process.selectors.as_slice().len(), 1);
-    let Some(name) = &process.cache else {
-        return Err(Fail::from("the name of a cache"));
+    let Some(cache) = &process.cache else {
+        return false;
     };
-    assert_eq!(rt; name.as_str(), "ca");
-    let [cache] = device.caches.as_slice() else {
-        return Err(Fail::from("one cache"));
+    process.selectors.as_slice().len() == 1 && cache.as_str() == "ca"
+}
+
+/// Whether it counts by sources, sends to one destination and collects nothing.
+fn counts_and_exports(device: &Device) -> bool {
+    let ([cache], [exporting]) = (
+        device.caches.as_slice(),
+        device.exporting_processes.as_slice(),
+    ) else {
+        return false;
     };
     let key = Part {
         axis: Axis::Source,
         bits: 32,
     };
-    assert_eq!(rt; cache.layout.parts(), [key].as_slice());
-    let [exporting] = device.exporting_processes.as_slice() else {
-        return Err(Fail::from("one exporting process"));
-    };
-    assert_eq!(rt; exporting.destinations.as_slice().len(), 1);
-    assert!(rt; device.collecting_processes.as_slice().is_empty());
-    Ok(())
+    cache.layout.parts() == [key].as_slice()
+        && exporting.destinations.as_slice().len() == 1
+        && device.collecting_processes.as_slice().is_empty()
 }
 
 #[test]
 fn reads_a_metering_device(rt: HostRuntime) -> Result<(), Fail> {
     let device = device_of(rt.alloc(), METER)?;
-    look_at_point(&rt, &device)?;
-    look_at_processes(&rt, &device)
+    assert!(rt; observes(&device) && selects(&device) && counts_and_exports(&device));
+    Ok(())
+}
+
+/// Whether a device collects by the process `cp`, and observes nothing.
+fn collects(device: &Device) -> bool {
+    let [process] = device.collecting_processes.as_slice() else {
+        return false;
+    };
+    process.name.as_str() == "cp" && device.observation_points.as_slice().is_empty()
 }
 
 #[test]
 fn reads_a_collector(rt: HostRuntime) -> Result<(), Fail> {
-    let text = r#"{"ietf-ipfix-psamp:ipfix":{"collectingProcess":[{"name":"cp"}]}}"#;
-    let device = device_of(rt.alloc(), text)?;
-    let [process] = device.collecting_processes.as_slice() else {
-        return Err(Fail::from("one collecting process"));
-    };
-    assert_eq!(rt; process.name.as_str(), "cp");
-    assert!(rt; device.observation_points.as_slice().is_empty());
+    assert!(rt; collects(&device_of(rt.alloc(), COLLECTOR)?));
     Ok(())
+}
+
+/// Whether a name is new to the names kept, which keep it from then on.
+fn adds(alloc: Global, names: &mut walk::Names, name: &str) -> Result<bool, Fail> {
+    Ok(names.add(&Name::read(alloc, name)?)?)
+}
+
+/// Whether the names kept hold this one at this place, or nowhere for `None`.
+fn keeps(
+    alloc: Global,
+    names: &walk::Names,
+    name: &str,
+    place: Option<usize>,
+) -> Result<bool, Fail> {
+    let name = Name::read(alloc, name)?;
+    Ok(names.place_of(&name) == place && names.contains(&name) == place.is_some())
 }
 
 #[test]
 fn keeps_names(rt: HostRuntime) -> Result<(), Fail> {
-    let alloc = rt.alloc();
-    let first = Name::read(alloc, "a")?;
-    let second = Name::read(alloc, "b")?;
-    let mut names = walk::Names::new(alloc);
-    assert!(rt; names.add(&first)? && names.add(&second)? && !names.add(&first)?);
-    assert_eq!(rt; names.place_of(&second), Some(1));
-    assert!(rt; names.contains(&first) && !names.contains(&Name::read(alloc, "c")?));
+    let mut names = walk::Names::new(rt.alloc());
+    for (name, is_new) in [("a", true), ("b", true), ("a", false)] {
+        assert!(rt; adds(rt.alloc(), &mut names, name)? == is_new);
+    }
+    for (name, place) in [("a", Some(0)), ("b", Some(1)), ("c", None)] {
+        assert!(rt; keeps(rt.alloc(), &names, name, place)?);
+    }
     Ok(())
 }

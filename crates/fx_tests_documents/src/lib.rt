@@ -20,6 +20,8 @@ mod config_caches;
 #[cfg(test)]
 mod config_refusals;
 #[cfg(test)]
+mod documents;
+#[cfg(test)]
 mod networks;
 #[cfg(test)]
 mod plan;
@@ -27,3 +29,5 @@ mod plan;
 mod selectors;
 #[cfg(test)]
 mod traffic;
+#[cfg(test)]
+mod traffic_refusals;

@@ -27,32 +27,27 @@ fn region(alloc: Global, selectors: &str) -> Result<Option<Region>, Fail> {
 }
 
 #[test]
-fn halves_of_the_sources(rt: HostRuntime) -> Result<(), Fail> {
+fn regions_of_filters(rt: HostRuntime) -> Result<(), Fail> {
     let Some((below, above)) = Region::whole().split(Axis::Source, 0x8000_0000) else {
         return Err(Fail::from("two halves"));
     };
-    let low = region(
-        rt.alloc(),
-        r#"{"name":"a","filterMatch":{"ieName":"sourceIPv4Prefix","value":"0.0.0.0/1"}}"#,
-    )?;
-    assert!(rt; low == Some(below));
-    let high = region(
-        rt.alloc(),
-        r#"{"name":"a","filterMatch":{"ieName":"sourceIPv4Prefix","value":"128.0.0.0/1"}}"#,
-    )?;
-    assert!(rt; high == Some(above));
-    Ok(())
-}
-
-#[test]
-fn two_filters_on_one_axis(rt: HostRuntime) -> Result<(), Fail> {
-    let none = region(
-        rt.alloc(),
-        r#"{"name":"a","filterMatch":{"ieId":4,"value":"6"}},{"name":"b","filterMatch":{"ieId":4,"value":"17"}}"#,
-    )?;
-    assert!(rt; none.is_none());
-    let all = region(rt.alloc(), r#"{"name":"a","selectAll":[null]}"#)?;
-    assert!(rt; all == Some(Region::whole()));
+    for (selectors, wanted) in [
+        (
+            r#"{"name":"a","filterMatch":{"ieName":"sourceIPv4Prefix","value":"0.0.0.0/1"}}"#,
+            Some(below),
+        ),
+        (
+            r#"{"name":"a","filterMatch":{"ieName":"sourceIPv4Prefix","value":"128.0.0.0/1"}}"#,
+            Some(above),
+        ),
+        (
+            r#"{"name":"a","filterMatch":{"ieId":4,"value":"6"}},{"name":"b","filterMatch":{"ieId":4,"value":"17"}}"#,
+            None,
+        ),
+        (r#"{"name":"a","selectAll":[null]}"#, Some(Region::whole())),
+    ] {
+        assert!(rt; region(rt.alloc(), selectors)? == wanted);
+    }
     Ok(())
 }
 
@@ -79,6 +74,6 @@ fn pairs_in_order(rt: HostRuntime) -> Result<(), Fail> {
             {"name":"none","selector":[{"name":"a","filterMatch":{"ieId":4,"value":"6"}},{"name":"b","filterMatch":{"ieId":4,"value":"17"}}],"cache":"ca"}],
         "cache":[{"name":"ca","timeoutCache":{"cacheLayout":{"cacheField":[{"name":"o","ieId":1},{"name":"p","ieId":2}]}}}]}"#,
     )?;
-    assert_eq!(rt; found.as_str(), "2.1 2.3 3.2 ");
+    assert!(rt; found.as_str() == "2.1 2.3 3.2 ");
     Ok(())
 }

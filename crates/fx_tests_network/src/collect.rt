@@ -6,7 +6,6 @@ use fx_elements::Axis;
 use fx_layout::{Key, Layout};
 use fx_machine::Record;
 use std::alloc::Global;
-use std::process::Abort;
 use std::test::Fail;
 
 fn layout() -> Result<Layout, Fail> {
@@ -19,80 +18,85 @@ fn key(source: u128, protocol: u128) -> Result<Key, Fail> {
     Ok(layout()?.key_of(&fields))
 }
 
-fn filled(alloc: Global) -> Result<Totals, Fail> {
-    let mut totals = Totals::new(alloc, layout()?)?;
-    for (source, protocol, octets) in [
-        (0x0a01_0203, 6, 100u64),
-        (0x0a01_0103, 17, u64::MAX),
-        (0x0a01_02ff, 6, 1),
-    ] {
-        totals.tally(&Record {
-            key: key(source, protocol)?,
-            counts: Counts { packets: 1, octets },
-        })?;
-    }
-    totals.tally(&Record {
-        key: Layout::new().key_of(&Fields::of([0; 6])),
-        counts: Counts {
-            packets: 1,
-            octets: 1,
-        },
-    })?;
-    Ok(totals)
+/// The source and the protocol of a record, or none where it is of all packets; its packets and octets.
+type Flow = (Option<(u128, u128)>, u64, u64);
+
+fn record(flow: &Flow) -> Result<Record, Fail> {
+    let key = match flow.0 {
+        Some((source, protocol)) => key(source, protocol)?,
+        None => Layout::new().key_of(&Fields::of([0; 6])),
+    };
+    let counts = Counts {
+        packets: flow.1,
+        octets: flow.2,
+    };
+    Ok(Record { key, counts })
 }
 
-fn is_text(totals: &mut Totals, text: &[u8]) -> Result<bool, Fault> {
+fn tally(totals: &mut Totals, flows: &[Flow]) -> Result<(), Fail> {
+    for flow in flows {
+        let tallied = totals.tally(&record(flow)?);
+        tallied?;
+    }
+    Ok(())
+}
+
+/// What is counted under a key.
+fn counts_of(totals: &Totals, source: u128, protocol: u128) -> Result<Option<Counts>, Fail> {
+    let key = key(source, protocol)?;
+    Ok(totals.get(&key))
+}
+
+fn report(totals: &mut Totals, room: &mut Room<'_>) -> Result<(), Fault> {
+    totals.sort()?;
+    totals.put_report(room)
+}
+
+fn is_text(totals: &mut Totals, text: &[u8]) -> Result<bool, Fail> {
     let mut octets = [0u8; 256];
     let mut room = Room::new(&mut octets);
-    totals.sort()?;
-    totals.put_report(&mut room)?;
+    report(totals, &mut room)?;
     Ok(room.octets() == text)
 }
 
-/// Looks at what is counted under the keys.
-fn look_at_counts<R: Abort>(rt: &R, totals: &Totals) -> Result<(), Fail> {
-    assert_eq!(rt; totals.len(), 2);
-    assert_eq!(rt; totals.unassigned(), 1);
-    assert_eq!(rt;
-        totals.get(&key(0x0a01_0200, 6)?),
-        Some(Counts {
-            packets: 2,
-            octets: 101
-        })
-    );
-    assert_eq!(rt; totals.get(&key(0x0a01_0200, 7)?), None);
-    Ok(())
+/// Whether records by source and protocol are counted, found and told.
+fn tells_keys(totals: &mut Totals) -> Result<bool, Fail> {
+    let flows = [
+        (Some((0x0a01_0203, 6)), 1, 100),
+        (Some((0x0a01_0103, 17)), 1, u64::MAX),
+        (Some((0x0a01_02ff, 6)), 1, 1),
+        (None, 1, 1),
+    ];
+    tally(totals, &flows)?;
+    let found = counts_of(totals, 0x0a01_0200, 6)?;
+    let missing = counts_of(totals, 0x0a01_0200, 7)?;
+    let counts = Counts {
+        packets: 2,
+        octets: 101,
+    };
+    let counted = totals.len() == 2 && totals.unassigned() == 1;
+    let text =
+        b"keys 2\n10.1.1.0/24 17 packets 1 octets 18446744073709551615\n10.1.2.0/24 6 packets 2 octets 101\nunassigned 1\n";
+    Ok(counted && found == Some(counts) && missing == None && is_text(totals, text)?)
+}
+
+/// Whether records of all packets are told.
+fn tells_one(totals: &mut Totals) -> Result<bool, Fail> {
+    tally(totals, &[(Some((0x0a01_0203, 6)), 3, 9)])?;
+    is_text(totals, b"keys 1\nall packets 3 octets 9\nunassigned 0\n")
 }
 
 #[test]
 fn tells_totals(rt: HostRuntime) -> Result<(), Fail> {
-    let mut totals = filled(rt.alloc())?;
-    look_at_counts(&rt, &totals)?;
-    assert!(rt;
-        is_text(
-            &mut totals,
-            b"keys 2\n10.1.1.0/24 17 packets 1 octets 18446744073709551615\n10.1.2.0/24 6 packets 2 octets 101\nunassigned 1\n"
-        )?
-    );
+    let mut totals = Totals::new(rt.alloc(), layout()?)?;
+    assert!(rt; tells_keys(&mut totals)?);
     Ok(())
 }
 
 #[test]
 fn tells_all(rt: HostRuntime) -> Result<(), Fail> {
     let mut totals = Totals::new(rt.alloc(), Layout::new())?;
-    totals.tally(&Record {
-        key: key(0x0a01_0203, 6)?,
-        counts: Counts {
-            packets: 3,
-            octets: 9,
-        },
-    })?;
-    assert!(rt;
-        is_text(
-            &mut totals,
-            b"keys 1\nall packets 3 octets 9\nunassigned 0\n"
-        )?
-    );
+    assert!(rt; tells_one(&mut totals)?);
     Ok(())
 }
 
@@ -101,6 +105,6 @@ fn tells_a_number(rt: HostRuntime) -> Result<(), Fail> {
     let mut octets = [0u8; 256];
     let mut room = Room::new(&mut octets);
     put_number_line(&mut room, b"gaps ", 10)?;
-    assert_eq!(rt; room.octets(), b"gaps 10\n".as_slice());
+    assert!(rt; room.octets() == b"gaps 10\n".as_slice());
     Ok(())
 }

@@ -18,50 +18,58 @@ fn the_laws() {
 
 #[test]
 fn joins_fates(rt: HostRuntime) {
-    assert_eq!(rt; Fate::Once.both(Fate::Once), Fate::Many);
-    assert_eq!(rt; Fate::Once.both(Fate::Never), Fate::Once);
-    assert_eq!(rt; Fate::Once.either(Fate::Never), Fate::Differing);
-    assert_eq!(rt; both_judged(Some(Fate::Never), None), None);
-    assert_eq!(rt;
-        where_passed(Some(false), Some(Fate::Once)),
-        Some(Fate::Never)
+    assert!(rt;
+        Fate::Once.both(Fate::Once) == Fate::Many
+            && Fate::Once.both(Fate::Never) == Fate::Once
+            && Fate::Once.either(Fate::Never) == Fate::Differing
     );
-    assert_eq!(rt;
-        either_judged(Some(Fate::Once), Some(Fate::Once)),
-        Some(Fate::Once)
+    assert!(rt;
+        both_judged(Some(Fate::Never), None) == None
+            && where_passed(Some(false), Some(Fate::Once)) == Some(Fate::Never)
+            && either_judged(Some(Fate::Once), Some(Fate::Once)) == Some(Fate::Once)
     );
 }
 
-#[test]
-fn stands_to_selections(rt: HostRuntime) -> Result<(), Fail> {
+/// Whether the sources from one to another stand like this to the sources below 128.0.0.0.
+fn stand(low: u128, high: u128, expected: Option<bool>) -> Result<bool, Fail> {
+    let region = sources(low, high)?;
     let half = sources(0, 0x7fff_ffff)?;
-    assert_eq!(rt; standing_to(&sources(5, 6)?, Some(half)), Some(true));
-    assert_eq!(rt;
-        standing_to(&sources(0x7fff_ffff, 0x8000_0000)?, Some(half)),
-        None
-    );
-    assert_eq!(rt;
-        standing(&sources(0x8000_0000, 0x8000_0001)?, &half),
-        Some(false)
-    );
-    assert_eq!(rt; standing_to(&half, None), Some(false));
-    Ok(())
+    Ok(standing(&region, &half) == expected && standing_to(&region, Some(half)) == expected)
 }
 
-#[test]
-fn stands_to_matches(rt: HostRuntime) -> Result<(), Fail> {
+/// How the sources from one to another stand to the match of those from 10.1.2.0/24.
+fn stand_to_match(low: u128, high: u128) -> Result<Option<bool>, Fail> {
     let entries = [MatchEntry {
         axis: Axis::Source,
         bits: 24,
         value: 0x0a_0102,
     }];
-    assert_eq!(rt;
-        standing_to_match(&sources(0x0a01_0200, 0x0a01_02ff)?, entries.as_slice()),
-        Some(true)
-    );
-    assert_eq!(rt;
-        standing_to_match(&sources(0x0a01_0200, 0x0a01_0300)?, entries.as_slice()),
-        None
-    );
+    Ok(standing_to_match(&sources(low, high)?, entries.as_slice()))
+}
+
+#[test]
+fn stands_to_selections(rt: HostRuntime) -> Result<(), Fail> {
+    for (low, high, expected) in [
+        (5, 6, Some(true)),
+        (0x7fff_ffff, 0x8000_0000, None),
+        (0x8000_0000, 0x8000_0001, Some(false)),
+    ] {
+        assert!(rt; stand(low, high, expected)?, "from {low} to {high}");
+    }
+    assert!(rt; standing_to(&sources(0, 0x7fff_ffff)?, None) == Some(false));
+    Ok(())
+}
+
+#[test]
+fn stands_to_matches(rt: HostRuntime) -> Result<(), Fail> {
+    for (low, high, expected) in [
+        (0x0a01_0200, 0x0a01_02ff, Some(true)),
+        (0x0a01_0200, 0x0a01_0300, None),
+    ] {
+        assert!(rt;
+            stand_to_match(low, high)? == expected,
+            "from {low} to {high}"
+        );
+    }
     Ok(())
 }

@@ -3,8 +3,8 @@ ghost use Rattle.std.specs.Prelude.{◌≡◌, ◌≤◌, [], ◌∷◌, true, S
 ghost use Rattle.fx_leaf.specs.Tables as by_table;
 ghost use Rattle.fx_elements.specs.declared.axis.Axis.TheVariants as axis;
 
-use crate::meters::{into, meter, sources};
-use fx_base::Fault;
+use crate::meters::{bare, into, meter, sources};
+use crate::parts::{by_source, exporter, holder, process};
 use fx_boxes::Region;
 use fx_elements::Axis;
 use fx_layout::Layout;
@@ -12,20 +12,6 @@ use fx_leaf::{Counted, Scratch, Tables, cut, fate};
 use fx_machine::{Aggregation, Crossing, Device, Exporter, Holder, MatchEntry, Net, Process};
 use std::alloc::Global;
 use std::test::Fail;
-
-/// The layout of the leading bits of the source.
-fn by_source(bits: u32) -> Result<Layout, Fail>
-    ensures { IfOk result (λ l. l ≡ record { axis = axis.Source; bits = bits } ∷ []) }
-{
-    Ok(Layout::new().with(Axis::Source, bits).ok_or("layout")?)
-}
-
-/// Sends to all of one destination.
-fn exporter(alloc: Global, link: usize) -> Result<Exporter, Fail>
-    ensures { IfOk result (λ e. e ≡ record { parallel = true; destinations = Some link ∷ [] }) }
-{
-    Ok(Exporter::new(true, vec![in alloc; Some(link)]?))
-}
 
 fn exporters(alloc: Global) -> Result<Vec<Exporter>, Fail>
     ensures { IfOk result (λ es. es.items ≡ record { parallel = true; destinations = Some 0 ∷ [] } ∷ record { parallel = true; destinations = Some 1 ∷ [] } ∷ record { parallel = true; destinations = Some 2 ∷ [] } ∷ []) }
@@ -35,12 +21,6 @@ fn exporters(alloc: Global) -> Result<Vec<Exporter>, Fail>
         exporter(alloc, 1)?,
         exporter(alloc, 2)?,
     ]?)
-}
-
-fn holder(alloc: Global, layout: &Layout, exporter: usize) -> Result<Holder, Fail>
-    ensures { IfOk result (λ h. h ≡ record { layout = layout.now; exporters = exporter ∷ [] }) }
-{
-    Ok(Holder::new(layout.copy(), vec![in alloc; exporter]?))
 }
 
 fn holders(alloc: Global, own: &Layout, middle: &Layout, last: &Layout) -> Result<Vec<Holder>, Fail>
@@ -56,8 +36,8 @@ fn holders(alloc: Global, own: &Layout, middle: &Layout, last: &Layout) -> Resul
 fn first(alloc: Global) -> Result<Process, Fail>
     ensures { IfOk result (λ p. p ≡ record { exporters = []; aggregations = record { holder = 1; matches = [] } ∷ [] }) }
 {
-    let aggregation = Aggregation::new(1, vec![in alloc]?);
-    Ok(Process::new(vec![in alloc]?, vec![in alloc; aggregation]?))
+    let aggregation = Aggregation::new(1, Vec::new(alloc));
+    Ok(Process::new(Vec::new(alloc), vec![in alloc; aggregation]?))
 }
 
 /// Aggregates those from 10.1.2.0/24.
@@ -70,7 +50,7 @@ fn second(alloc: Global) -> Result<Process, Fail>
         value: 0x0a0102,
     };
     let aggregation = Aggregation::new(2, vec![in alloc; entry]?);
-    Ok(Process::new(vec![in alloc]?, vec![in alloc; aggregation]?))
+    Ok(Process::new(Vec::new(alloc), vec![in alloc; aggregation]?))
 }
 
 fn processes(alloc: Global) -> Result<Vec<Process>, Fail>
@@ -78,8 +58,7 @@ fn processes(alloc: Global) -> Result<Vec<Process>, Fail>
         ∷ record { exporters = []; aggregations = record { holder = 2; matches = record { axis = axis.Source; bits = 24; value = 0x0a0102 } ∷ [] } ∷ [] }
         ∷ record { exporters = []; aggregations = [] } ∷ []) }
 {
-    let third = Process::new(vec![in alloc]?, vec![in alloc]?);
-    Ok(vec![in alloc; first(alloc)?, second(alloc)?, third]?)
+    Ok(vec![in alloc; first(alloc)?, second(alloc)?, process(alloc)]?)
 }
 
 /// One meter of all packets.
@@ -111,7 +90,8 @@ fn path(alloc: Global) -> Result<Vec<Crossing>, Fail> {
     Ok(vec![in alloc; into(alloc, 1)?]?)
 }
 
-type Answers = (Result<Counted, Fault>, Option<(Axis, u128)>);
+/// The leaf, or the number of the fault; and the split.
+type Answers = (Result<Counted, u16>, Option<(Axis, u128)>);
 
 /// What is answered for sources from one to another: the leaf, and the split.
 fn asked(
@@ -123,11 +103,11 @@ fn asked(
 ) -> Result<Answers, Fail>
     requires { by_table.AreTables (record { net = net.now; order = 2 ∷ 1 ∷ 0 ∷ []; numbering = record { layouts = layouts.now; numbers = 0 ∷ 1 ∷ 2 ∷ [] } }) }
 {
+    let region = sources(low, high)?;
+    let path = path(alloc)?;
     let tables = Tables::new(net, &[2, 1, 0], layouts, &[0, 1, 2]);
     let mut scratch = Scratch::new(alloc, &tables)?;
-    let path = path(alloc)?;
-    let region = sources(low, high)?;
-    let leaf = fate(&mut scratch, &tables, path.as_slice(), &region);
+    let leaf = bare(fate(&mut scratch, &tables, path.as_slice(), &region));
     let split = cut(&mut scratch, &tables, path.as_slice(), &region);
     Ok((leaf, split))
 }
@@ -144,26 +124,23 @@ fn answers(alloc: Global, kept: u32, low: u128, high: u128) -> Result<Answers, F
     asked(alloc, &net, layouts.as_slice(), low, high)
 }
 
-#[test]
-fn a_match_that_is_read_counts_or_cuts(rt: HostRuntime) -> Result<(), Fail> {
-    let counted = Counted {
-        crossing: 1,
-        point: 1,
-        process: 1,
-    };
-    let inside = answers(rt.alloc(), 24, 0x0a01_0200, 0x0a01_02ff)?;
-    assert_eq!(rt; inside.0, Ok(counted));
-    assert_eq!(rt; inside.1, None);
-    let across = answers(rt.alloc(), 24, 0x0a01_0200, 0x0a01_03ff)?;
-    assert_eq!(rt; across.0, Err(Fault::bare(406)));
-    assert_eq!(rt; across.1, Some((Axis::Source, 0x0a01_0300)));
-    Ok(())
-}
+/// Counted at the one crossing.
+const ONCE: Counted = Counted {
+    crossing: 1,
+    point: 1,
+    process: 1,
+};
 
 #[test]
-fn a_match_that_cannot_be_read_takes_nothing(rt: HostRuntime) -> Result<(), Fail> {
-    let unread = answers(rt.alloc(), 16, 0x0a01_0200, 0x0a01_02ff)?;
-    assert_eq!(rt; unread.0, Err(Fault::bare(407)));
-    assert_eq!(rt; unread.1, None);
+fn a_match_that_is_read_counts_or_cuts_and_another_takes_nothing(
+    rt: HostRuntime,
+) -> Result<(), Fail> {
+    for (kept, high, leaf, split) in [
+        (24, 0x0a01_02ff, Ok(ONCE), None), // inside the match
+        (24, 0x0a01_03ff, Err(406), Some((Axis::Source, 0x0a01_0300))), // across its end
+        (16, 0x0a01_02ff, Err(407), None), // unread
+    ] {
+        assert!(rt; answers(rt.alloc(), kept, 0x0a01_0200, high)? == (leaf, split));
+    }
     Ok(())
 }

@@ -1,55 +1,58 @@
 //! Two meters on one path, each with a filter of its own.
 ghost use Rattle.std.specs.Prelude.{◌≡◌, [], ◌∷◌, IfOk};
 
-use crate::meters::{into, meter, sources};
-use fx_base::Fault;
+use crate::meters::{bare, into, meter, sources};
+use crate::parts::{by_source, collector, exporter, holder, process};
 use fx_elements::Axis;
 use fx_layout::Layout;
 use fx_leaf::{Counted, Scratch, Tables, cut, fate};
-use fx_machine::{Crossing, Device, Exporter, Holder, Net, Process};
+use fx_machine::{Crossing, Device, Exporter, Holder, Net};
 use std::alloc::Global;
 use std::test::Fail;
+
+/// A meter of the sources from one to another, into the cache at this place.
+fn half(alloc: Global, low: u128, high: u128, cache: usize) -> Result<Device, Fail> {
+    meter(alloc, sources(low, high)?, cache, false)
+}
 
 /// A meter of the sources below 128.0.0.0, another of those from there on, and a collector that tallies what both
 /// send.
 fn devices(alloc: Global) -> Result<Vec<Device>, Fail> {
-    let low = meter(alloc, sources(0, 0x7fff_ffff)?, 0, false)?;
-    let high = meter(alloc, sources(0x8000_0000, 0xffff_ffff)?, 1, false)?;
-    let collector = Device::new(vec![in alloc]?, vec![in alloc]?, vec![in alloc; 0]?);
-    Ok(vec![in alloc; low, collector, high]?)
-}
-
-/// A cache whose records are sent by the exporting process at this place.
-fn cache(alloc: Global, exporter: usize) -> Result<Holder, Fail>
-    ensures { IfOk result (λ h. h ≡ record { layout = []; exporters = exporter ∷ [] }) }
-{
-    Ok(Holder::new(Layout::new(), vec![in alloc; exporter]?))
+    Ok(vec![in alloc;
+        half(alloc, 0, 0x7fff_ffff, 0)?,
+        collector(alloc)?,
+        half(alloc, 0x8000_0000, 0xffff_ffff, 1)?,
+    ]?)
 }
 
 fn caches(alloc: Global) -> Result<Vec<Holder>, Fail>
     ensures { IfOk result (λ hs. hs.items ≡ record { layout = []; exporters = 0 ∷ [] } ∷ record { layout = []; exporters = 1 ∷ [] } ∷ []) }
 {
-    Ok(vec![in alloc; cache(alloc, 0)?, cache(alloc, 1)?]?)
+    let layout = Layout::new();
+    Ok(vec![in alloc; holder(alloc, &layout, 0)?, holder(alloc, &layout, 1)?]?)
 }
 
-/// An exporting process that sends to these destinations.
-fn exporter(alloc: Global, parallel: bool, links: &[Option<usize>]) -> Result<Exporter, Fail> {
-    Ok(Exporter::new(parallel, links.to_vec(alloc)?))
+/// An exporting process that sends to the first destination, and another that sends to these.
+fn exporters(
+    alloc: Global,
+    parallel: bool,
+    links: &[Option<usize>],
+) -> Result<Vec<Exporter>, Fail> {
+    let second = Exporter::new(parallel, links.to_vec(alloc)?);
+    Ok(vec![in alloc; exporter(alloc, 0)?, second]?)
 }
 
-/// The network, in which the second meter has this exporting process and the report this layout.
-fn network(alloc: Global, second: Exporter, report: Layout) -> Result<Net, Fail>
+/// The network of those, in which the report has this layout.
+fn network(alloc: Global, exporters: Vec<Exporter>, report: Layout) -> Result<Net, Fail>
     ensures holders { IfOk result (λ n. n.holders ≡ record { layout = []; exporters = 0 ∷ [] } ∷ record { layout = []; exporters = 1 ∷ [] } ∷ []) }
     ensures processes { IfOk result (λ n. n.processes ≡ record { exporters = []; aggregations = [] } ∷ []) }
     ensures report { IfOk result (λ n. n.report ≡ 0) }
 {
-    let first = exporter(alloc, true, &[Some(0)])?;
-    let collecting = Process::new(vec![in alloc]?, vec![in alloc]?);
     Ok(Net::new(
         devices(alloc)?,
-        vec![in alloc; first, second]?,
+        exporters,
         caches(alloc)?,
-        vec![in alloc; collecting]?,
+        vec![in alloc; process(alloc)]?,
         vec![in alloc; 0, 0]?,
         0,
         report,
@@ -58,124 +61,95 @@ fn network(alloc: Global, second: Exporter, report: Layout) -> Result<Net, Fail>
 
 /// Into the one meter, then into the other.
 fn path(alloc: Global) -> Result<Vec<Crossing>, Fail> {
-    Ok(vec![in alloc; into(alloc, 1)?, into(alloc, 3)?]?)
+    let first = into(alloc, 1)?;
+    Ok(vec![in alloc; first, into(alloc, 3)?]?)
 }
 
-/// What `fate` answers for the sources from one to another.
-fn leaf(alloc: Global, net: &Net, low: u128, high: u128) -> Result<Result<Counted, Fault>, Fail>
+/// The leaf, or the number of the fault; and the split.
+type Answers = (Result<Counted, u16>, Option<(Axis, u128)>);
+
+/// What is answered for the sources from one to another.
+fn asked(alloc: Global, net: &Net, low: u128, high: u128) -> Result<Answers, Fail>
     requires holders { net.now.holders ≡ record { layout = []; exporters = 0 ∷ [] } ∷ record { layout = []; exporters = 1 ∷ [] } ∷ [] }
     requires processes { net.now.processes ≡ record { exporters = []; aggregations = [] } ∷ [] }
     requires report { net.now.report ≡ 0 }
 {
+    let region = sources(low, high)?;
+    let path = path(alloc)?;
     let layouts = vec![in alloc; Layout::new()]?;
     let tables = Tables::new(net, &[0], layouts.as_slice(), &[0, 0]);
     let mut scratch = Scratch::new(alloc, &tables)?;
-    let path = path(alloc)?;
-    let region = sources(low, high)?;
-    Ok(fate(&mut scratch, &tables, path.as_slice(), &region))
+    let leaf = bare(fate(&mut scratch, &tables, path.as_slice(), &region));
+    let split = cut(&mut scratch, &tables, path.as_slice(), &region);
+    Ok((leaf, split))
 }
 
-/// What `cut` answers for them.
-fn split(alloc: Global, net: &Net, low: u128, high: u128) -> Result<Option<(Axis, u128)>, Fail>
-    requires holders { net.now.holders ≡ record { layout = []; exporters = 0 ∷ [] } ∷ record { layout = []; exporters = 1 ∷ [] } ∷ [] }
-    requires processes { net.now.processes ≡ record { exporters = []; aggregations = [] } ∷ [] }
-    requires report { net.now.report ≡ 0 }
-{
-    let layouts = vec![in alloc; Layout::new()]?;
-    let tables = Tables::new(net, &[0], layouts.as_slice(), &[0, 0]);
-    let mut scratch = Scratch::new(alloc, &tables)?;
-    let path = path(alloc)?;
-    let region = sources(low, high)?;
-    Ok(cut(&mut scratch, &tables, path.as_slice(), &region))
-}
-
-/// What `fate` answers where the second meter has this exporting process and the report this layout.
-fn answer(
+/// The same where the second exporting process sends to these destinations, and the report has this layout.
+fn answers(
     alloc: Global,
-    second: Exporter,
+    sent: (bool, &[Option<usize>]),
     report: Layout,
     low: u128,
     high: u128,
-) -> Result<Result<Counted, Fault>, Fail> {
-    let net = network(alloc, second, report)?;
-    leaf(alloc, &net, low, high)
+) -> Result<Answers, Fail> {
+    let net = network(alloc, exporters(alloc, sent.0, sent.1)?, report)?;
+    asked(alloc, &net, low, high)
 }
 
-/// What `cut` answers where the second meter sends as the first.
-fn parted(alloc: Global, low: u128, high: u128) -> Result<Option<(Axis, u128)>, Fail> {
-    let net = network(alloc, plain(alloc)?, Layout::new())?;
-    split(alloc, &net, low, high)
-}
-
-/// The exporting process that sends all to the one destination.
-fn plain(alloc: Global) -> Result<Exporter, Fail> {
-    exporter(alloc, true, &[Some(1)])
+/// Counted at the crossing of this number.
+fn counted(crossing: u64) -> Counted {
+    Counted {
+        crossing,
+        point: 1,
+        process: 1,
+    }
 }
 
 #[test]
-fn each_filter_counts_its_half(rt: HostRuntime) -> Result<(), Fail> {
-    let alloc = rt.alloc();
-    let below = Counted {
-        crossing: 1,
-        point: 1,
-        process: 1,
-    };
-    let lower = answer(alloc, plain(alloc)?, Layout::new(), 0, 0x7fff_ffff)?;
-    assert!(rt; lower == Ok(below));
-    let above = Counted {
-        crossing: 2,
-        point: 1,
-        process: 1,
-    };
-    let upper = answer(
-        alloc,
-        plain(alloc)?,
-        Layout::new(),
-        0x8000_0000,
-        0xffff_ffff,
-    )?;
-    assert!(rt; upper == Ok(above));
-    assert_eq!(rt; parted(alloc, 0x8000_0000, 0xffff_ffff)?, None);
+fn each_filter_counts_its_half_and_cuts_a_region(rt: HostRuntime) -> Result<(), Fail> {
+    for (low, high, leaf, split) in [
+        (0, 0x7fff_ffff, Ok(counted(1)), None),
+        (0x8000_0000, 0xffff_ffff, Ok(counted(2)), None),
+        (
+            0x7fff_ffff,
+            0xffff_ffff,
+            Err(406),
+            Some((Axis::Source, 0x8000_0000)),
+        ),
+    ] {
+        let sent = (true, [Some(1)].as_slice());
+        assert!(rt; answers(rt.alloc(), sent, Layout::new(), low, high)? == (leaf, split));
+    }
     Ok(())
 }
 
-#[test]
-fn a_filter_cuts_a_region(rt: HostRuntime) -> Result<(), Fail> {
-    let alloc = rt.alloc();
-    let across = answer(
-        alloc,
-        plain(alloc)?,
-        Layout::new(),
-        0x7fff_ffff,
-        0xffff_ffff,
-    )?;
-    assert!(rt; across == Err(Fault::bare(406)));
-    let at = parted(alloc, 0x7fff_ffff, 0xffff_ffff)?;
-    assert_eq!(rt; at, Some((Axis::Source, 0x8000_0000)));
-    Ok(())
-}
-
-/// Whether the second meter's half is refused with this number.
-fn is_refused(alloc: Global, second: Exporter, report: Layout, number: u16) -> Result<bool, Fail> {
-    let answer = answer(alloc, second, report, 0x8000_0000, 0xffff_ffff)?;
-    Ok(answer == Err(Fault::bare(number)))
+/// The leaf of the second meter's half where the report tells the whole source or nothing.
+fn leaf(
+    alloc: Global,
+    sent: (bool, &[Option<usize>]),
+    tells_source: bool,
+) -> Result<Result<Counted, u16>, Fail> {
+    let report = if tells_source {
+        by_source(32)?
+    } else {
+        Layout::new()
+    };
+    let (leaf, _) = answers(alloc, sent, report, 0x8000_0000, 0xffff_ffff)?;
+    Ok(leaf)
 }
 
 #[test]
 fn tells_why_no_leaf_is_sound(rt: HostRuntime) -> Result<(), Fail> {
-    let alloc = rt.alloc();
-    for (parallel, links, number) in [
-        (true, [None].as_slice(), 407),
-        (true, &[Some(0), Some(1)], 408),
-        (false, &[Some(0), None], 409),
+    for (parallel, links, tells_source, number) in [
+        (true, [None].as_slice(), false, 407),
+        (true, &[Some(0), Some(1)], false, 408),
+        (false, &[Some(0), None], false, 409),
+        (true, &[Some(1)], true, 413),
     ] {
-        let second = exporter(alloc, parallel, links)?;
         assert!(rt;
-            is_refused(alloc, second, Layout::new(), number)?,
+            leaf(rt.alloc(), (parallel, links), tells_source)? == Err(number),
             "not {number}"
         );
     }
-    let by_source = Layout::new().with(Axis::Source, 32).ok_or("no layout")?;
-    assert!(rt; is_refused(alloc, plain(alloc)?, by_source, 413)?);
     Ok(())
 }

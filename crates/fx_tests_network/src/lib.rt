@@ -16,6 +16,8 @@ mod machine_runs;
 #[cfg(test)]
 mod meters;
 #[cfg(test)]
+mod parts;
+#[cfg(test)]
 mod session;
 #[cfg(test)]
 mod session_hostile;

@@ -1,15 +1,12 @@
 //! A run of two packets through one meter and one collector, and what a network is asked for.
 use crate::meters::{into, meter};
+use crate::parts::{by_source, collector, exporter, holder, process};
 use fx_base::Fault;
 use fx_boxes::{Fields, Region};
-use fx_elements::Axis;
-use fx_layout::Layout;
 use fx_machine::{
-    Choices, Class, Classes, Device, Exporter, Holder, HolderName, Net, Packet, Path, Process,
-    State, Step, choices_are_free,
+    Choices, Class, Classes, Device, HolderName, Net, Packet, Path, State, Step, choices_are_free,
 };
 use std::alloc::Global;
-use std::process::Abort;
 use std::test::Fail;
 
 /// The meter's cache.
@@ -18,26 +15,19 @@ const CACHE: HolderName = HolderName::Cache {
     cache: 1,
 };
 
-/// The layout of the whole source address.
-fn by_source(layout: &Layout) -> Result<Layout, &'static str> {
-    layout.with(Axis::Source, 32).ok_or("no layout")
-}
-
 /// A meter at one interface, and a collector.
 fn devices(alloc: Global) -> Result<Vec<Device>, Fail> {
-    let meter = meter(alloc, Region::whole(), 0, true)?;
-    let collector = Device::new(vec![in alloc]?, vec![in alloc]?, vec![in alloc; 0]?);
-    Ok(vec![in alloc; meter, collector]?)
+    Ok(vec![in alloc; meter(alloc, Region::whole(), 0, true)?, collector(alloc)?]?)
 }
 
 /// The meter's cache exports to the collector, which tallies.
 fn net(alloc: Global) -> Result<Net, Fail> {
-    let layout = by_source(&Layout::new())?;
+    let layout = by_source(32)?;
     Ok(Net::new(
         devices(alloc)?,
-        vec![in alloc; Exporter::new(true, vec![in alloc; Some(0)]?)]?,
-        vec![in alloc; Holder::new(layout.copy(), vec![in alloc; 0]?)]?,
-        vec![in alloc; Process::new(vec![in alloc]?, vec![in alloc]?)]?,
+        vec![in alloc; exporter(alloc, 0)?]?,
+        vec![in alloc; holder(alloc, &layout, 0)?]?,
+        vec![in alloc; process(alloc)]?,
         vec![in alloc; 0]?,
         0,
         layout,
@@ -71,26 +61,39 @@ fn cross(alloc: Global, packet: u64, chosen: Option<u64>) -> Result<Step, Fail> 
     })
 }
 
-/// The steps of a run over two packets.
-fn steps(alloc: Global) -> Result<Vec<Step>, Fail> {
-    let mut steps = vec![in alloc; cross(alloc, 1, None)?]?;
-    steps.push(cross(alloc, 2, Some(1))?)?;
-    steps.push(Step::Expire {
+/// A record leaves the meter's cache.
+fn expire(alloc: Global) -> Step {
+    Step::Expire {
         holder: CACHE,
         position: 1,
         choices: Choices::new(Vec::new(alloc)),
-    })?;
-    steps.push(Step::Arrive {
+    }
+}
+
+/// A record comes to the collector.
+fn arrive(alloc: Global) -> Step {
+    Step::Arrive {
         link: 1,
         position: 1,
         choices: Choices::new(Vec::new(alloc)),
-    })?;
-    Ok(steps)
+    }
+}
+
+/// The steps of a run over two packets.
+fn steps(alloc: Global) -> Result<Vec<Step>, Fail> {
+    Ok(vec![in alloc;
+        cross(alloc, 1, None)?,
+        cross(alloc, 2, Some(1))?,
+        expire(alloc),
+        arrive(alloc),
+    ]?)
 }
 
 /// The two packets of a run.
 fn packets(alloc: Global) -> Result<Vec<Packet>, Fail> {
-    Ok(vec![in alloc; packet(18_446_744_073_709_551_614, 1)?, packet(1, 1)?]?)
+    let first = packet(18_446_744_073_709_551_614, 1)?;
+    let second = packet(1, 1)?;
+    Ok(vec![in alloc; first, second]?)
 }
 
 /// The number of a fault, or 0.
@@ -101,14 +104,16 @@ fn number(answer: Result<(), Fault>) -> u16 {
     }
 }
 
-/// Makes each step of a run that isn't complete; none can be made twice.
-fn make_steps<R: Abort>(rt: &R, state: &mut State<'_>, steps: &[Step]) {
+/// Makes each step of a run: whether it wasn't complete before any, and none can be made twice.
+fn are_made(state: &mut State<'_>, steps: &[Step]) -> bool {
+    let mut made = true;
     for step in steps {
-        assert!(rt; !state.complete());
-        assert_eq!(rt; number(state.step(step)), 0);
+        let complete = state.complete();
+        let first = number(state.step(step));
         let again = number(state.step(step));
-        assert!(rt; again == 851 || again == 852 || again == 853);
+        made = made && !complete && first == 0 && matches!(again, 851..=853);
     }
+    made
 }
 
 /// Whether the complete run has counted both packets in one total.
@@ -124,53 +129,41 @@ fn is_counted(state: &State<'_>) -> bool {
         && total.key.values() == [0x0a00_0001u128].as_slice()
 }
 
-#[test]
-fn runs(rt: HostRuntime) -> Result<(), Fail> {
-    let alloc = rt.alloc();
+/// Whether the run of the steps over the packets counts them.
+fn is_run(net: &Net, classes: &Classes, alloc: Global) -> Result<bool, Fail> {
     let steps = steps(alloc)?;
-    let packets = packets(alloc)?;
-    let classes = classes(alloc)?;
-    let net = net(alloc)?;
-    let mut state = State::open(alloc, &net, &classes, packets)?;
-    make_steps(&rt, &mut state, steps.as_slice());
-    assert!(rt; is_counted(&state));
-    Ok(())
+    are_run(net, classes, alloc, steps.as_slice())
 }
 
-/// The number of the fault that a run of these packets is refused with, or 0.
-fn opening(alloc: Global, net: &Net, classes: &Classes, packets: Vec<Packet>) -> u16 {
-    match State::open(alloc, net, classes, packets) {
+/// Whether these steps can be made over the packets, and count them.
+fn are_run(net: &Net, classes: &Classes, alloc: Global, steps: &[Step]) -> Result<bool, Fail> {
+    let packets = packets(alloc)?;
+    let mut state = State::open(alloc, net, classes, packets)?;
+    Ok(are_made(&mut state, steps) && is_counted(&state))
+}
+
+/// The number of the fault that a run of one packet, of a class that isn't there, is refused with, or 0.
+fn opening(net: &Net, classes: &Classes, alloc: Global) -> Result<u16, Fail> {
+    let packets = vec![in alloc; packet(1, 2)?]?;
+    Ok(match State::open(alloc, net, classes, packets) {
         Ok(_) => 0,
         Err(fault) => fault.number,
-    }
+    })
 }
 
-#[test]
-fn refuses_packets_of_no_class(rt: HostRuntime) -> Result<(), Fail> {
-    let alloc = rt.alloc();
-    let packets = vec![in alloc; packet(1, 2)?]?;
-    let classes = classes(alloc)?;
-    let net = net(alloc)?;
-    assert_eq!(rt; opening(alloc, &net, &classes, packets), 856);
-    Ok(())
-}
-
-/// Looks up what the network has.
-fn look_up<R: Abort>(rt: &R, net: &Net) {
+/// Whether the network has what it was made of.
+fn is_looked_up(net: &Net) -> bool {
     let nowhere = HolderName::Aggregation {
         device: 2,
         process: 1,
         aggregation: 1,
     };
-    assert_eq!(rt; net.holder_place(CACHE), Some(0));
-    assert_eq!(rt; net.holder_place(nowhere), None);
-    assert_eq!(rt; net.devices().len(), 2);
-    assert_eq!(rt;
-        net.exporters().len() + net.holders().len() + net.processes().len(),
-        3
-    );
-    assert_eq!(rt; net.links(), [net.report()].as_slice());
-    assert_eq!(rt; net.layout_at(0).parts().len() + net.named_by(0).len(), 2);
+    net.holder_place(CACHE) == Some(0)
+        && net.holder_place(nowhere).is_none()
+        && net.devices().len() == 2
+        && net.exporters().len() + net.holders().len() + net.processes().len() == 3
+        && net.links() == [net.report()].as_slice()
+        && net.layout_at(0).parts().len() + net.named_by(0).len() == 2
 }
 
 /// Whether the class's one crossing is watched at the one point, which selects into the first cache.
@@ -187,12 +180,18 @@ fn is_watched(net: &Net, classes: &Classes) -> bool {
     selection.holder == Some(0) && point.watches(crossing) && net.points_of(2).is_empty()
 }
 
+/// Whether a run over the network counts both packets, and one of a packet of no class isn't opened.
+fn runs(net: &Net, classes: &Classes, alloc: Global) -> Result<bool, Fail> {
+    let refused = opening(net, classes, alloc)? == 856;
+    Ok(refused && is_run(net, classes, alloc)?)
+}
+
 #[test]
-fn looks_up(rt: HostRuntime) -> Result<(), Fail> {
+fn looks_up_and_runs_and_refuses_packets_of_no_class(rt: HostRuntime) -> Result<(), Fail> {
+    choices_are_free();
     let classes = classes(rt.alloc())?;
     let net = net(rt.alloc())?;
-    look_up(&rt, &net);
-    assert!(rt; is_watched(&net, &classes));
-    choices_are_free();
+    let found = is_looked_up(&net) && is_watched(&net, &classes);
+    assert!(rt; found && runs(&net, &classes, rt.alloc())?);
     Ok(())
 }

@@ -15,6 +15,12 @@ fn web(alloc: Global) -> Result<Classes, Fail> {
     Ok(Classes::new(vec![in alloc; Class::new(region, paths)]?))
 }
 
+/// The run that is read from a text, where those are the classes.
+fn web_run(alloc: Global, text: &[u8]) -> Result<Run, Fail> {
+    let classes = web(alloc)?;
+    Ok(read(alloc, &classes, text)?)
+}
+
 fn read(alloc: Global, classes: &Classes, text: &[u8]) -> Result<Run, Fault> {
     let mut lines = LineReader::new(alloc, Octets::new(text))?;
     read_run(alloc, classes, &mut lines)
@@ -71,129 +77,153 @@ fn are_the_steps(steps: &[Step]) -> bool {
         && choices(arrive).is_empty()
 }
 
+/// Whether a run has these packets and steps.
+fn is_the_run(run: Run) -> bool {
+    let same = are_the_packets(run.packets()) && are_the_steps(run.steps());
+    let (packets, steps) = run.into_parts();
+    same && packets.len() == 2 && steps.len() == 4
+}
+
 #[test]
 fn reads_packets_and_steps(rt: HostRuntime) -> Result<(), Fail> {
-    let run = read(rt.alloc(), &web(rt.alloc())?, TWO_PACKETS)?;
-    assert!(rt; are_the_packets(run.packets()));
-    assert!(rt; are_the_steps(run.steps()));
-    let (packets, steps) = run.into_parts();
-    assert!(rt; packets.len() == 2 && steps.len() == 4);
+    assert!(rt; is_the_run(web_run(rt.alloc(), TWO_PACKETS)?));
     Ok(())
+}
+
+/// Whether a step is a packet's crossing of this number.
+fn is_crossing(step: &Step, of: u64, number: u64) -> bool {
+    match step {
+        Step::Cross {
+            packet,
+            crossing,
+            ..
+        } => *packet == of && *crossing == number,
+        _ => false,
+    }
+}
+
+/// Whether a step takes a record off a link at this position, and what is chosen then.
+fn is_arrival(step: &Step, from: u64, at: u64, chosen: &[Option<u64>]) -> bool {
+    match step {
+        Step::Arrive {
+            link,
+            position,
+            choices,
+        } => *link == from && *position == at && choices.as_slice() == chosen,
+        _ => false,
+    }
+}
+
+/// Whether the steps are one of each form, with numbers in ascending order.
+fn are_each_form(steps: &[Step]) -> bool {
+    let [cross, from_cache, from_aggregation, arrive] = steps else {
+        return false;
+    };
+    let cache = HolderName::Cache {
+        device: 3,
+        cache: 4,
+    };
+    let aggregation = HolderName::Aggregation {
+        device: 7,
+        process: 8,
+        aggregation: 9,
+    };
+    is_crossing(cross, 0, 2)
+        && is_expiry(from_cache, cache, 5, &[None, Some(6)])
+        && is_expiry(from_aggregation, aggregation, 10, &[None])
+        && is_arrival(arrive, 11, 12, &[Some(13)])
 }
 
 #[test]
 fn reads_each_form_of_step(rt: HostRuntime) -> Result<(), Fail> {
     let text =
         b"once-run 1\ncross 0 2\nexpire cache 3 4 5 n 6\nexpire aggregation 7 8 9 10 n\narrive 11 12 13\nend\n";
-    let run = read(rt.alloc(), &web(rt.alloc())?, text)?;
-    let [cross, from_cache, from_aggregation, arrive] = run.steps() else {
-        return Err(Fail::from("four steps"));
-    };
-    assert!(rt;
-        matches!(
-            cross,
-            Step::Cross {
-                packet: 0,
-                crossing: 2,
-                ..
-            }
-        )
-    );
-    let cache = HolderName::Cache {
-        device: 3,
-        cache: 4,
-    };
-    assert!(rt; is_expiry(from_cache, cache, 5, &[None, Some(6)]));
-    let aggregation = HolderName::Aggregation {
-        device: 7,
-        process: 8,
-        aggregation: 9,
-    };
-    assert!(rt; is_expiry(from_aggregation, aggregation, 10, &[None]));
-    assert!(rt;
-        matches!(
-            arrive,
-            Step::Arrive {
-                link: 11,
-                position: 12,
-                ..
-            }
-        )
-    );
-    assert_eq!(rt; choices(arrive), [Some(13)].as_slice());
+    let run = web_run(rt.alloc(), text)?;
+    assert!(rt; are_each_form(run.steps()));
     Ok(())
+}
+
+/// Whether a line is the end of a run, if it can be read.
+fn is_end(alloc: Global, line: &[u8]) -> Result<Option<bool>, Fail> {
+    Ok(match read_run_line(alloc, line)? {
+        Some(RunLine::End) => Some(true),
+        Some(_) => Some(false),
+        None => None,
+    })
 }
 
 #[test]
 fn reads_a_line(rt: HostRuntime) -> Result<(), Fail> {
     run_texts();
-    assert!(rt; matches!(read_run_line(rt.alloc(), b"end")?, Some(RunLine::End)));
-    assert!(rt; read_run_line(rt.alloc(), b"end ")?.is_none());
+    assert!(rt; is_end(rt.alloc(), b"end")? == Some(true));
+    assert!(rt; is_end(rt.alloc(), b"end ")? == None);
     Ok(())
 }
 
 /// Whether a text is refused with this number at this line.
-fn is_refused(alloc: Global, classes: &Classes, text: &[u8], number: u16, line: u64) -> bool {
-    match read(alloc, classes, text) {
-        Ok(_) => false,
-        Err(fault) => fault == Fault::at_line(number, line),
+fn is_refused(alloc: Global, text: &[u8], number: u16, line: u64) -> Result<bool, Fail> {
+    let classes = web(alloc)?;
+    match read(alloc, &classes, text) {
+        Ok(_) => Ok(false),
+        Err(fault) => Ok(fault == Fault::at_line(number, line)),
     }
 }
 
+/// Texts, the number that each is refused with, and the line.
+const REFUSED: [(&[u8], u16, u64); 18] = [
+    (b"", 855, 1),
+    (b"once-run 2\nend\n", 854, 1),
+    (b"once-run 1", 854, 1),
+    (b"once-run 1\n", 855, 2),
+    (b"once-run 1\nend", 855, 2),
+    (b"once-run 1\nend\nend\n", 855, 3),
+    (
+        b"once-run 1\ncross 1 1\npacket 1 1 10.0.0.1 192.0.2.1 6 1000 80 0 1\nend\n",
+        855,
+        3,
+    ),
+    (
+        b"once-run 1\npacket 0 1 10.0.0.1 192.0.2.1 6 1000 80 0 1\nend\n",
+        856,
+        2,
+    ),
+    (
+        b"once-run 1\npacket 2 1 10.0.0.1 192.0.2.1 6 1000 80 0 1\nend\n",
+        856,
+        2,
+    ),
+    (
+        b"once-run 1\npacket 1 2 10.0.0.1 192.0.2.1 6 1000 80 0 1\nend\n",
+        856,
+        2,
+    ),
+    (
+        b"once-run 1\npacket 1 1 11.0.0.1 192.0.2.1 6 1000 80 0 1\nend\n",
+        856,
+        2,
+    ),
+    (
+        b"once-run 1\npacket 1 1 10.0.0.1 192.0.2.1 256 1000 80 0 1\nend\n",
+        855,
+        2,
+    ),
+    (
+        b"once-run 1\npacket 1 1 10.0.0.1 192.0.2.1 6 1000 80 0 1 1\nend\n",
+        855,
+        2,
+    ),
+    (b"once-run 1\ncross 01 1\nend\n", 855, 2),
+    (b"once-run 1\ncross 1 18446744073709551616\nend\n", 855, 2),
+    (b"once-run 1\ncross 1 1 \nend\n", 855, 2),
+    (b"once-run 1\nexpire 1 1 1\nend\n", 855, 2),
+    (b"once-run 1\ncross 1 1\n\nend\n", 855, 3),
+];
+
 #[test]
 fn refuses_at_the_line(rt: HostRuntime) -> Result<(), Fail> {
-    let classes = web(rt.alloc())?;
-    let refused: [(&[u8], u16, u64); 18] = [
-        (b"", 855, 1),
-        (b"once-run 2\nend\n", 854, 1),
-        (b"once-run 1", 854, 1),
-        (b"once-run 1\n", 855, 2),
-        (b"once-run 1\nend", 855, 2),
-        (b"once-run 1\nend\nend\n", 855, 3),
-        (
-            b"once-run 1\ncross 1 1\npacket 1 1 10.0.0.1 192.0.2.1 6 1000 80 0 1\nend\n",
-            855,
-            3,
-        ),
-        (
-            b"once-run 1\npacket 0 1 10.0.0.1 192.0.2.1 6 1000 80 0 1\nend\n",
-            856,
-            2,
-        ),
-        (
-            b"once-run 1\npacket 2 1 10.0.0.1 192.0.2.1 6 1000 80 0 1\nend\n",
-            856,
-            2,
-        ),
-        (
-            b"once-run 1\npacket 1 2 10.0.0.1 192.0.2.1 6 1000 80 0 1\nend\n",
-            856,
-            2,
-        ),
-        (
-            b"once-run 1\npacket 1 1 11.0.0.1 192.0.2.1 6 1000 80 0 1\nend\n",
-            856,
-            2,
-        ),
-        (
-            b"once-run 1\npacket 1 1 10.0.0.1 192.0.2.1 256 1000 80 0 1\nend\n",
-            855,
-            2,
-        ),
-        (
-            b"once-run 1\npacket 1 1 10.0.0.1 192.0.2.1 6 1000 80 0 1 1\nend\n",
-            855,
-            2,
-        ),
-        (b"once-run 1\ncross 01 1\nend\n", 855, 2),
-        (b"once-run 1\ncross 1 18446744073709551616\nend\n", 855, 2),
-        (b"once-run 1\ncross 1 1 \nend\n", 855, 2),
-        (b"once-run 1\nexpire 1 1 1\nend\n", 855, 2),
-        (b"once-run 1\ncross 1 1\n\nend\n", 855, 3),
-    ];
-    for (text, number, line) in refused {
+    for (text, number, line) in REFUSED {
         assert!(rt;
-            is_refused(rt.alloc(), &classes, text, number, line),
+            is_refused(rt.alloc(), text, number, line)?,
             "{number} at {line}"
         );
     }

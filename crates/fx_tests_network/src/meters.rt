@@ -1,6 +1,7 @@
 //! A meter at one interface, and the packets that come into it.
-use fx_base::Name;
+use fx_base::{Fault, Name};
 use fx_boxes::{Fields, Region};
+use fx_leaf::Counted;
 use fx_machine::{Crossing, Device, Point, Selection};
 use std::alloc::Global;
 use std::test::Fail;
@@ -31,11 +32,9 @@ pub(crate) fn meter(
     outwards: bool,
 ) -> Result<Device, Fail> {
     let point = point(alloc, region, cache, outwards)?;
-    Ok(Device::new(
-        vec![in alloc; point]?,
-        vec![in alloc; cache]?,
-        vec![in alloc]?,
-    ))
+    let points = vec![in alloc; point]?;
+    let caches = vec![in alloc; cache]?;
+    Ok(Device::new(points, caches, Vec::new(alloc)))
 }
 
 /// Into the meter that is the device of this number.
@@ -45,4 +44,16 @@ pub(crate) fn into(alloc: Global, device: u64) -> Result<Crossing, Fail> {
         interface: Name::read(alloc, "eth0")?,
         inwards: true,
     })
+}
+
+/// The leaf, or the number of the fault; 0 where this isn't bare.
+pub(crate) fn bare(leaf: Result<Counted, Fault>) -> Result<Counted, u16> {
+    match leaf {
+        Ok(counted) => Ok(counted),
+        Err(fault) => Err(if fault == Fault::bare(fault.number) {
+            fault.number
+        } else {
+            0
+        }),
+    }
 }

@@ -1,5 +1,5 @@
 //! Streams of messages in whatever pieces they come.
-use fx_base::{Fault, Place};
+use fx_base::Fault;
 use fx_elements::Axis;
 use fx_machine::Record;
 use fx_session::{Session, pieces, waiting};
@@ -80,16 +80,21 @@ fn waits_alone(session: &mut Session, source: u128, packets: u64, octets: u64) -
 }
 
 /// Whether a stream that is fed at once is refused with this number at this octet.
-fn is_refused(alloc: Global, stream: &[u8], number: u16, octet: u64) -> Result<bool, Fault> {
+pub(crate) fn is_refused(
+    alloc: Global,
+    stream: &[u8],
+    number: u16,
+    octet: u64,
+) -> Result<bool, Fault> {
     let mut session = Session::new(alloc)?;
-    match session.feed(stream) {
-        Ok(()) => Ok(false),
-        Err(fault) => Ok(fault.number == number && fault.place == Place::Octet(octet)),
-    }
+    Ok(session.feed(stream) == Err(Fault::at_octet(number, octet)))
 }
 
+/// The number of records, their packets and octets, and the gaps.
+type Sums = (u64, u64, u64, u64);
+
 /// The records, packets and octets that wait, and the gaps.
-fn sums_of(session: &mut Session) -> (u64, u64, u64, u64) {
+fn sums_of(session: &mut Session) -> Sums {
     let mut records = 0u64;
     let mut packets = 0u64;
     let mut octets = 0u64;
@@ -103,12 +108,59 @@ fn sums_of(session: &mut Session) -> (u64, u64, u64, u64) {
     (records, packets, octets, session.gaps())
 }
 
-/// The records, packets and octets of two pieces of a stream, and its gaps.
-fn sums(alloc: Global, first: &[u8], second: &[u8]) -> Result<(u64, u64, u64, u64), Fault> {
+/// Feeds octets, one at a time.
+fn feed_by_octet(session: &mut Session, octets: &[u8]) -> Result<(), Fault> {
+    for octet in octets {
+        session.feed(&[*octet])?;
+    }
+    Ok(())
+}
+
+/// What a stream in two pieces comes to.
+fn sums(alloc: Global, first: &[u8], second: &[u8]) -> Result<Sums, Fault> {
     let mut session = Session::new(alloc)?;
     session.feed(first)?;
     session.feed(second)?;
     Ok(sums_of(&mut session))
+}
+
+/// What a stream comes to that comes one octet at a time.
+fn sums_by_octet(alloc: Global, stream: &[u8]) -> Result<Sums, Fault> {
+    let mut session = Session::new(alloc)?;
+    feed_by_octet(&mut session, stream)?;
+    Ok(sums_of(&mut session))
+}
+
+/// Whether a stream comes to this, cut at each place, and one octet at a time.
+fn comes_to(alloc: Global, stream: &[u8], expected: Sums) -> Result<bool, Fault> {
+    let mut all = sums_by_octet(alloc, stream)? == expected;
+    for cut in 0..stream.len() {
+        let (first, second) = stream.split_at(cut);
+        all = all && sums(alloc, first, second)? == expected;
+    }
+    Ok(all)
+}
+
+/// Whether two messages come to this.
+fn come_to(alloc: Global, first: &[u8], second: &[u8], expected: Sums) -> Result<bool, Fail> {
+    let mut stream = Vec::from_slice(alloc, first)?;
+    stream.extend_from_slice(second)?;
+    Ok(comes_to(alloc, stream.as_slice(), expected)?)
+}
+
+#[test]
+fn reads_two_messages_in_whatever_pieces(rt: HostRuntime) -> Result<(), Fail> {
+    let streams: [(&[u8], &[u8], Sums); 3] = [
+        (&OPTIONS, &WITHDRAWN, (2, 3, 300, 1)),
+        (&FIRST, &SECOND, (2, 3, 600, 0)),
+        (&FIRST, &FIRST, (2, 4, 600, 1)), // a gap
+    ];
+    for (first, second, expected) in streams {
+        assert!(rt; come_to(rt.alloc(), first, second, expected)?);
+    }
+    pieces();
+    waiting();
+    Ok(())
 }
 
 /// Feeds a message and all but an octet of the next one: whether the first one's record waits, and the rest is left.
@@ -126,99 +178,54 @@ fn reads_the_rest(session: &mut Session) -> Result<bool, Fault> {
     Ok(waits && session.left() == 0 && session.gaps() == 0 && session.skipped() == 0)
 }
 
+/// Whether a record waits when its message is there, and another when the rest of its own has come.
+fn reads_as_they_come(alloc: Global) -> Result<bool, Fault> {
+    let mut session = Session::new(alloc)?;
+    let first = reads_one_and_a_part(&mut session)?;
+    Ok(first && reads_the_rest(&mut session)?)
+}
+
+/// Whether the record of a message waits that came one octet at a time.
+fn reads_by_octet(alloc: Global) -> Result<bool, Fault> {
+    let mut session = Session::new(alloc)?;
+    feed_by_octet(&mut session, &OPTIONS)?;
+    Ok(waits_alone(&mut session, 0x0a00_0001, 1, 100))
+}
+
 #[test]
 fn reads_records(rt: HostRuntime) -> Result<(), Fail> {
-    let mut session = Session::new(rt.alloc())?;
-    assert!(rt; reads_one_and_a_part(&mut session)?);
-    assert!(rt; reads_the_rest(&mut session)?);
+    assert!(rt; reads_as_they_come(rt.alloc())?);
+    assert!(rt; reads_by_octet(rt.alloc())?);
     Ok(())
 }
 
-#[test]
-fn reads_each_cut(rt: HostRuntime) -> Result<(), Fail> {
-    let mut stream = Vec::from_slice(rt.alloc(), &OPTIONS)?;
-    stream.extend_from_slice(&WITHDRAWN)?;
-    let whole = stream.as_slice();
-    for cut in 0..whole.len() {
-        let (first, second) = whole.split_at(cut);
-        assert_eq!(rt; sums(rt.alloc(), first, second)?, (2, 3, 300, 1));
-    }
-    pieces();
-    waiting();
-    Ok(())
-}
-
-#[test]
-fn reads_each_cut_of_two_messages(rt: HostRuntime) -> Result<(), Fail> {
-    let mut stream = Vec::from_slice(rt.alloc(), &FIRST)?;
-    stream.extend_from_slice(&SECOND)?;
-    let whole = stream.as_slice();
-    for cut in 0..whole.len() {
-        let (first, second) = whole.split_at(cut);
-        assert_eq!(rt; sums(rt.alloc(), first, second)?, (2, 3, 600, 0));
-    }
-    Ok(())
-}
-
-#[test]
-fn reads_octet_by_octet(rt: HostRuntime) -> Result<(), Fail> {
-    let mut session = Session::new(rt.alloc())?;
-    for octet in &OPTIONS {
-        session.feed(&[*octet])?;
-    }
-    assert!(rt; waits_alone(&mut session, 0x0a00_0001, 1, 100));
-    Ok(())
-}
-
-/// The records, packets, octets and gaps of two messages that come one octet at a time.
-fn sums_by_octet(
-    alloc: Global,
-    first: &[u8],
-    second: &[u8],
-) -> Result<(u64, u64, u64, u64), Fault> {
-    let mut session = Session::new(alloc)?;
-    for octet in first {
-        session.feed(&[*octet])?;
-    }
-    for octet in second {
-        session.feed(&[*octet])?;
-    }
-    Ok(sums_of(&mut session))
-}
-
-#[test]
-fn reads_two_messages_octet_by_octet(rt: HostRuntime) -> Result<(), Fail> {
-    assert_eq!(rt; sums_by_octet(rt.alloc(), &FIRST, &SECOND)?, (2, 3, 600, 0));
-    assert_eq!(rt;
-        sums_by_octet(rt.alloc(), &OPTIONS, &WITHDRAWN)?,
-        (2, 3, 300, 1)
-    );
-    Ok(())
-}
-
-#[test]
-fn counts_a_gap(rt: HostRuntime) -> Result<(), Fail> {
-    assert_eq!(rt; sums(rt.alloc(), &FIRST, &FIRST)?, (2, 4, 600, 1));
-    Ok(())
+/// Whether the record of a message waits behind which a refused one came, and nothing is read from then on.
+fn keeps_before_a_fault(session: &mut Session) -> Result<bool, Fault> {
+    session.feed(&FIRST)?;
+    let refused = session.feed(&CHANGED) == Err(Fault::at_octet(616, 60));
+    let again = session.feed(&SECOND) == Err(Fault::at_octet(616, 60));
+    Ok(refused && again && waits_alone(session, 0x0a00_0001, 2, 300))
 }
 
 #[test]
 fn keeps_records_before_a_fault(rt: HostRuntime) -> Result<(), Fail> {
     let mut session = Session::new(rt.alloc())?;
-    session.feed(&FIRST)?;
-    assert!(rt; session.feed(&CHANGED) == Err(Fault::at_octet(616, 60)));
-    assert!(rt; session.feed(&SECOND) == Err(Fault::at_octet(616, 60)));
-    assert!(rt; waits_alone(&mut session, 0x0a00_0001, 2, 300));
+    assert!(rt; keeps_before_a_fault(&mut session)?);
     Ok(())
 }
 
 #[test]
 fn refuses(rt: HostRuntime) -> Result<(), Fail> {
-    assert!(rt; is_refused(rt.alloc(), &SECOND, 617, 0)?);
-    assert!(rt; is_refused(rt.alloc(), &LONG_PREFIX, 620, 0)?);
-    assert!(rt; is_refused(rt.alloc(), &UNKNOWN, 617, 0)?);
     let mut cut = OPTIONS;
     cut[68] = 0x14;
-    assert!(rt; is_refused(rt.alloc(), &cut, 619, 0)?);
+    let refused: [(&[u8], u16); 4] = [
+        (&SECOND, 617),
+        (&LONG_PREFIX, 620),
+        (&UNKNOWN, 617),
+        (&cut, 619),
+    ];
+    for (stream, number) in refused {
+        assert!(rt; is_refused(rt.alloc(), stream, number, 0)?, "not {number}");
+    }
     Ok(())
 }

@@ -1,137 +1,190 @@
 //! Streams that are malformed, or made to cost much.
-use fx_base::{Fault, Place};
+ghost use Rattle.std.specs.Prelude.{◌<◌};
+
+use crate::session;
+use fx_base::Fault;
 use fx_elements::Axis;
+use fx_machine::Record;
 use fx_session::Session;
 use std::alloc::{AllocError, Global};
+use std::ops::Range;
 use std::test::Fail;
 
-/// A number in two octets, behind the others.
-fn push_number(octets: &mut Vec<u8>, number: u16) -> Result<(), AllocError> {
-    octets.extend_from_slice(&number.to_be_bytes())
-}
-
-/// A message with this length, sequence number, domain and content.
-fn message_of(
-    alloc: Global,
+/// Puts a message with this length, sequence number, domain and content behind what is there.
+fn put_message(
+    stream: &mut Vec<u8>,
     length: u16,
     sequence: u32,
     domain: u32,
     content: &[u8],
-) -> Result<Vec<u8>, AllocError> {
-    let mut octets = Vec::from_slice(alloc, &[0x00, 0x0a])?;
-    push_number(&mut octets, length)?;
-    octets.extend_from_slice(&[0; 4])?;
-    octets.extend_from_slice(&sequence.to_be_bytes())?;
-    octets.extend_from_slice(&domain.to_be_bytes())?;
-    octets.extend_from_slice(content)?;
-    Ok(octets)
+) -> Result<(), AllocError> {
+    stream.extend_from_slice(&[0x00, 0x0a])?;
+    stream.extend_from_slice(&length.to_be_bytes())?;
+    stream.extend_from_slice(&[0; 4])?;
+    stream.extend_from_slice(&sequence.to_be_bytes())?;
+    stream.extend_from_slice(&domain.to_be_bytes())?;
+    stream.extend_from_slice(content)
 }
 
 /// A message with this length and content: the first one of domain 0.
 fn message(alloc: Global, length: u16, content: &[u8]) -> Result<Vec<u8>, AllocError> {
-    message_of(alloc, length, 0, 0, content)
+    let mut stream = Vec::new(alloc);
+    put_message(&mut stream, length, 0, 0, content)?;
+    Ok(stream)
 }
 
 /// Whether a message is refused with this number.
 fn is_refused(alloc: Global, length: u16, content: &[u8], number: u16) -> Result<bool, Fault> {
-    let octets = message(alloc, length, content)?;
+    let stream = message(alloc, length, content)?;
+    session::is_refused(alloc, stream.as_slice(), number, 0)
+}
+
+/// A template with octets in 4 octets.
+const NARROW: &[u8] = &[0, 2, 0, 20, 1, 0, 0, 3, 0, 8, 0, 4, 0, 1, 0, 4, 0, 2, 0, 8];
+
+#[test]
+fn refuses_malformed_messages(rt: HostRuntime) -> Result<(), Fail> {
+    let refused: [(u16, &[u8], u16); 6] = [
+        (15, &[], 612),
+        (20, &[1, 0, 0, 3], 613),
+        (20, &[0, 5, 0, 4], 615),
+        (20, &[1, 0, 0, 4], 617),
+        (24, &[0, 2, 0, 8, 1, 0, 0xff, 0xff], 614), // 65,535 fields, cut by the set
+        (36, NARROW, 618),
+    ];
+    for (length, content, number) in refused {
+        assert!(rt;
+            is_refused(rt.alloc(), length, content, number)?,
+            "not {number}"
+        );
+    }
+    Ok(())
+}
+
+/// A template of a prefix and its length, and a record of 10.9.0.0/16.
+const PREFIX: &[u8] = &[
+    0, 2, 0, 24, 1, 0, 0, 4, 0, 44, 0, 4, 0, 9, 0, 1, 0, 1, 0, 8, 0, 2, 0, 8, // the template
+    1, 0, 0, 25, 10, 9, 8, 7, 16, 0, 0, 0, 0, 0, 0, 0, 100, 0, 0, 0, 0, 0, 0, 0, 1,
+];
+
+/// The first record of a stream.
+fn first_record(alloc: Global, stream: &[u8]) -> Result<Option<Record>, Fault> {
     let mut session = Session::new(alloc)?;
-    match session.feed(octets.as_slice()) {
-        Ok(()) => Ok(false),
-        Err(fault) => Ok(fault.number == number && fault.place == Place::Octet(0)),
+    session.feed(stream)?;
+    Ok(session.next_record())
+}
+
+/// Whether the record is there, and tells 16 bits of the source and no more.
+fn is_prefix(found: Option<Record>) -> bool {
+    match found {
+        None => false,
+        Some(entry) => {
+            entry.layout().reads(Axis::Source, 16)
+                && !entry.layout().reads(Axis::Source, 17)
+                && entry.key.cut(Axis::Source, 16) == 0x0a09
+        }
     }
 }
 
 #[test]
-fn refuses_malformed_messages(rt: HostRuntime) -> Result<(), Fail> {
-    assert!(rt; is_refused(rt.alloc(), 15, &[], 612)?);
-    assert!(rt; is_refused(rt.alloc(), 20, &[1, 0, 0, 3], 613)?);
-    assert!(rt; is_refused(rt.alloc(), 20, &[0, 5, 0, 4], 615)?);
-    assert!(rt; is_refused(rt.alloc(), 20, &[1, 0, 0, 4], 617)?);
-    // 65,535 fields, cut by the set
-    assert!(rt; is_refused(rt.alloc(), 24, &[0, 2, 0, 8, 1, 0, 0xff, 0xff], 614)?);
-    Ok(())
-}
-
-#[test]
-fn refuses_a_narrow_counter(rt: HostRuntime) -> Result<(), Fail> {
-    let content = [
-        0, 2, 0, 20, 1, 0, 0, 3, 0, 8, 0, 4, 0, 1, 0, 4, 0, 2, 0, 8, // octets in 4 octets
-    ];
-    assert!(rt; is_refused(rt.alloc(), 36, &content, 618)?);
-    Ok(())
-}
-
-#[test]
 fn reads_a_prefix(rt: HostRuntime) -> Result<(), Fail> {
-    let content = [
-        0, 2, 0, 24, 1, 0, 0, 4, 0, 44, 0, 4, 0, 9, 0, 1, 0, 1, 0, 8, 0, 2, 0, 8, // the template
-        1, 0, 0, 25, 10, 9, 8, 7, 16, 0, 0, 0, 0, 0, 0, 0, 100, 0, 0, 0, 0, 0, 0, 0, 1,
-    ];
-    let octets = message(rt.alloc(), 65, &content)?;
-    let mut session = Session::new(rt.alloc())?;
-    session.feed(octets.as_slice())?;
-    let found = session.next_record().ok_or("a record")?;
-    assert!(rt; found.layout().reads(Axis::Source, 16));
-    assert!(rt; !found.layout().reads(Axis::Source, 17));
-    assert_eq!(rt; found.key.cut(Axis::Source, 16), 0x0a09);
+    let stream = message(rt.alloc(), 65, PREFIX)?;
+    assert!(rt; is_prefix(first_record(rt.alloc(), stream.as_slice())?));
+    Ok(())
+}
+
+/// What is left of a stream that comes in pieces of this length, its gaps, and how many records were skipped.
+fn counts(alloc: Global, stream: &[u8], length: usize) -> Result<(usize, u64, u64), Fault>
+    requires { 0 < length }
+{
+    let mut session = Session::new(alloc)?;
+    feed_in_pieces(&mut session, stream, length)?;
+    Ok((session.left(), session.gaps(), session.skipped()))
+}
+
+/// Feeds a stream in pieces of this length.
+fn feed_in_pieces(session: &mut Session, stream: &[u8], length: usize) -> Result<(), Fault>
+    requires { 0 < length }
+{
+    for piece in stream.chunks(length) {
+        session.feed(piece)?;
+    }
     Ok(())
 }
 
 #[test]
 fn passes_withdrawals_of_nothing(rt: HostRuntime) -> Result<(), Fail> {
     let content = [0, 2, 0, 12, 1, 44, 0, 0, 0, 2, 0, 0, 0, 3, 0, 8, 0, 3, 0, 0];
-    let octets = message(rt.alloc(), 36, &content)?;
-    let mut session = Session::new(rt.alloc())?;
-    session.feed(octets.as_slice())?;
-    assert_eq!(rt; session.left(), 0);
+    let stream = message(rt.alloc(), 36, &content)?;
+    assert!(rt; counts(rt.alloc(), stream.as_slice(), 36)? == (0, 0, 0));
     Ok(())
 }
 
-#[test]
-fn wraps_sequence_numbers(rt: HostRuntime) -> Result<(), Fail> {
+/// A message with the last sequence number that has two records, and the next one. Its number is 2 to the 32 less 1
+/// and 2 more: 1.
+fn wrapping(alloc: Global) -> Result<Vec<u8>, AllocError> {
     let content = [
         0, 2, 0, 12, 1, 0, 0, 1, 0, 4, 0, 1, // a template of a protocol
         1, 0, 0, 6, 6, 17, // two records of one octet
     ];
-    let first = message_of(rt.alloc(), 34, u32::MAX, 0, &content)?;
-    // The next number is 2 to the 32 less 1 and 2 more: 1.
-    let next = message_of(rt.alloc(), 16, 1, 0, &[])?;
-    let mut session = Session::new(rt.alloc())?;
-    session.feed(first.as_slice())?;
-    session.feed(next.as_slice())?;
-    assert_eq!(rt; (session.gaps(), session.skipped()), (0, 2));
+    let mut stream = Vec::new(alloc);
+    put_message(&mut stream, 34, u32::MAX, 0, &content)?;
+    put_message(&mut stream, 16, 1, 0, &[])?;
+    Ok(stream)
+}
+
+#[test]
+fn wraps_sequence_numbers(rt: HostRuntime) -> Result<(), Fail> {
+    let stream = wrapping(rt.alloc())?;
+    assert!(rt; counts(rt.alloc(), stream.as_slice(), 34)? == (0, 0, 2));
+    Ok(())
+}
+
+/// A template and a record of it in each of 256 domains.
+fn put_domains(stream: &mut Vec<u8>) -> Result<(), AllocError> {
+    for domain in 0..=255u32 {
+        let content = [0, 2, 0, 12, 1, 0, 0, 1, 0, 4, 0, 1, 1, 0, 0, 5, 6];
+        put_message(stream, 33, 0, domain, &content)?;
+    }
     Ok(())
 }
 
 #[test]
 fn keeps_templates_by_domain(rt: HostRuntime) -> Result<(), Fail> {
-    let content = [0, 2, 0, 12, 1, 0, 0, 1, 0, 4, 0, 1, 1, 0, 0, 5, 6];
-    let mut session = Session::new(rt.alloc())?;
-    for domain in 0..=255u32 {
-        let octets = message_of(rt.alloc(), 33, 0, domain, &content)?;
-        session.feed(octets.as_slice())?;
-    }
-    assert_eq!(rt; (session.gaps(), session.skipped()), (0, 256));
+    let mut stream = Vec::new(rt.alloc());
+    put_domains(&mut stream)?;
+    assert!(rt; counts(rt.alloc(), stream.as_slice(), 33)? == (0, 0, 256));
     Ok(())
+}
+
+/// A set of 5,000 templates with these ids.
+fn put_templates(content: &mut Vec<u8>, ids: Range<u16>) -> Result<(), AllocError> {
+    content.extend_from_slice(&[0, 2, 0x9c, 0x44])?; // of 40,004 octets
+    for id in ids {
+        let [high, low] = id.to_be_bytes();
+        content.extend_from_slice(&[high, low, 0, 1, 0, 4, 0, 1])?;
+    }
+    Ok(())
+}
+
+/// The message of that set.
+fn put_set(stream: &mut Vec<u8>, alloc: Global, ids: Range<u16>) -> Result<(), AllocError> {
+    let mut content = Vec::new(alloc);
+    put_templates(&mut content, ids)?;
+    put_message(stream, 40_020, 0, 0, content.as_slice())
+}
+
+/// Two such messages, and a record of the last template: its id is 10,255.
+fn put_ten_thousand(stream: &mut Vec<u8>, alloc: Global) -> Result<(), AllocError> {
+    put_set(stream, alloc, 256..5_256)?;
+    put_set(stream, alloc, 5_256..10_256)?;
+    put_message(stream, 21, 0, 0, &[0x28, 0x0f, 0, 5, 6])
 }
 
 #[test]
 fn keeps_ten_thousand_templates(rt: HostRuntime) -> Result<(), Fail> {
-    let mut session = Session::new(rt.alloc())?;
-    for turn in 0..2u16 {
-        let mut content = Vec::from_slice(rt.alloc(), &[0, 2])?;
-        push_number(&mut content, 40_004)?;
-        for count in 0..5_000u16 {
-            push_number(&mut content, 256 + turn * 5_000 + count)?;
-            content.extend_from_slice(&[0, 1, 0, 4, 0, 1])?;
-        }
-        let octets = message(rt.alloc(), 40_020, content.as_slice())?;
-        session.feed(octets.as_slice())?;
-    }
-    // The last one has the id 10,255.
-    let octets = message(rt.alloc(), 21, &[0x28, 0x0f, 0, 5, 6])?;
-    session.feed(octets.as_slice())?;
-    assert_eq!(rt; session.skipped(), 1);
+    let mut stream = Vec::new(rt.alloc());
+    put_ten_thousand(&mut stream, rt.alloc())?;
+    assert!(rt; counts(rt.alloc(), stream.as_slice(), 40_020)? == (0, 0, 1));
     Ok(())
 }

@@ -1,7 +1,7 @@
 //! Lines, names, places, numbers and texts written out, and devices that fail.
 use fx_base::{
-    Counts, Fault, Fuse, LineReader, Name, Octets, Outside, Room, Source, put_fault, put_number,
-    put_number_wide, put_place, put_text, read_whole,
+    Counts, Fault, Fuse, Line, LineReader, Name, Octets, Outside, Room, Sink, Source, put_fault,
+    put_number, put_number_wide, put_place, put_text, read_whole,
 };
 use std::alloc::{AllocError, Global};
 use std::test::Fail;
@@ -9,55 +9,86 @@ use std::test::Fail;
 /// A text of one character, more often than a line may have it.
 const LONG: [u8; 4097] = [b'x'; 4097];
 
-#[test]
-fn lends_lines(rt: HostRuntime) -> Result<(), Fail> {
-    let mut reader = LineReader::new(rt.alloc(), Octets::new(b"one\n\nthree"))?;
-    for (want, number, ended) in [("one", 1u64, true), ("", 2, true), ("three", 3, false)] {
-        match reader.next_line()? {
-            Some(line) => {
-                assert_eq!(rt; line.bytes, want.as_bytes());
-                assert_eq!(rt; line.number, number);
-                assert_eq!(rt; line.ended, ended);
-            }
-            None => assert!(rt; false),
+/// A line's bytes, its number, and whether a line feed ended it.
+fn told<'a>(line: &Line<'a>) -> (&'a [u8], u64, bool) {
+    (line.bytes, line.number, line.ended)
+}
+
+/// Whether this line comes next in a reader.
+fn is_next<S: Source>(reader: &mut LineReader<S>, want: (&[u8], u64, bool)) -> Result<bool, Fault> {
+    let is_lent = match reader.next_line()? {
+        Some(line) => told(&line) == want,
+        None => false,
+    };
+    Ok(is_lent && told(&reader.line()) == want && reader.number() == want.1)
+}
+
+/// Whether a reader has no further line, after so many.
+fn is_at_end<S: Source>(reader: &mut LineReader<S>, number: u64) -> Result<bool, Fault> {
+    let is_none = reader.next_line()?.is_none();
+    let is_over = !reader.advance()?;
+    Ok(is_none && is_over && reader.number() == number)
+}
+
+/// Whether the lines of a text are these.
+fn has_lines(alloc: Global, text: &[u8], lines: &[(&[u8], u64, bool)]) -> Result<bool, Fault> {
+    let mut reader = LineReader::new(alloc, Octets::new(text))?;
+    for line in lines {
+        if !is_next(&mut reader, *line)? {
+            return Ok(false);
         }
-        assert_eq!(rt; reader.number(), number);
     }
-    assert!(rt; reader.next_line()?.is_none());
-    assert_eq!(rt; reader.number(), 3);
-    Ok(())
+    is_at_end(&mut reader, lines.len() as u64)
 }
 
 #[test]
-fn ends_with_the_last_line_feed(rt: HostRuntime) -> Result<(), Fail> {
-    let mut reader = LineReader::new(rt.alloc(), Octets::new(b"one\n"))?;
-    assert!(rt; reader.advance()?);
-    let line = reader.line();
-    assert!(rt; line.bytes == b"one".as_slice() && line.ended);
-    assert!(rt; !reader.advance()? && !reader.advance()?);
+fn lends_lines_of_up_to_4096_bytes(rt: HostRuntime) -> Result<(), Fail> {
+    let three = [
+        (b"one".as_slice(), 1, true),
+        (b"", 2, true),
+        (b"three", 3, false),
+    ];
+    let one = [(b"one".as_slice(), 1, true)];
+    let longest = [(&LONG[1..], 1, false)];
+    for (text, lines) in [
+        (b"one\n\nthree".as_slice(), three.as_slice()),
+        (b"one\n", &one),
+        (&LONG[1..], &longest),
+    ] {
+        assert!(rt; has_lines(rt.alloc(), text, lines)?);
+    }
     Ok(())
+}
+
+/// Whether an answer is this fault.
+fn is_refused<T: Drop>(answer: Result<T, Fault>, fault: &Fault) -> bool {
+    match answer {
+        Ok(_) => false,
+        Err(found) => found == *fault,
+    }
+}
+
+/// Whether a reader lends so many lines, and answers this fault from then on.
+fn fails_behind<S: Source>(reader: &mut LineReader<S>, lines: u8, fault: &Fault) -> bool {
+    let mut lent = 0u8;
+    for _ in 0..lines {
+        if matches!(reader.next_line(), Ok(Some(_))) {
+            lent = lent.wrapping_add(1);
+        }
+    }
+    let mut refused = 0u8;
+    for _ in 0..3u8 {
+        if is_refused(reader.next_line(), fault) && is_refused(reader.advance(), fault) {
+            refused = refused.wrapping_add(1);
+        }
+    }
+    lent == lines && refused == 3
 }
 
 #[test]
 fn repeats_a_fault(rt: HostRuntime) -> Result<(), Fail> {
     let mut reader = LineReader::new(rt.alloc(), Fuse::new(Octets::new(b"one\ntwo\n"), 2))?;
-    let mut count = 0u8;
-    for _ in 0..5u8 {
-        if let Err(fault) = reader.next_line() {
-            assert_eq!(rt; fault.number, 901);
-            count = count.wrapping_add(1);
-        }
-    }
-    assert_eq!(rt; count, 3);
-    Ok(())
-}
-
-#[test]
-fn lends_a_line_of_4096_bytes(rt: HostRuntime) -> Result<(), Fail> {
-    let mut reader = LineReader::new(rt.alloc(), Octets::new(&LONG[1..]))?;
-    assert!(rt; reader.advance()?);
-    assert_eq!(rt; reader.line().bytes.len(), 4096);
-    assert!(rt; !reader.advance()?);
+    assert!(rt; fails_behind(&mut reader, 2, &Fault::bare(901)));
     Ok(())
 }
 
@@ -73,23 +104,32 @@ fn two_lines(alloc: Global) -> Result<Vec<u8>, AllocError> {
 fn refuses_a_line_of_4097_bytes(rt: HostRuntime) -> Result<(), Fail> {
     let text = two_lines(rt.alloc())?;
     let mut reader = LineReader::new(rt.alloc(), Octets::new(text.as_slice()))?;
-    assert!(rt; reader.advance()?);
-    for _ in 0..3u8 {
-        assert_eq!(rt; reader.advance(), Err(Fault::at_line(903, 2)));
-    }
+    assert!(rt; fails_behind(&mut reader, 1, &Fault::at_line(903, 2)));
     Ok(())
+}
+
+/// Whether a text is a name.
+fn is_name(alloc: Global, text: &str) -> Result<bool, Fault> {
+    Ok(Name::read(alloc, text)?.as_str() == text)
+}
+
+/// Whether two texts are the same name.
+fn are_same(alloc: Global, text: &str, other: &str) -> Result<bool, Fault> {
+    let name = Name::read(alloc, text)?;
+    Ok(name.same(&Name::read(alloc, other)?))
 }
 
 #[test]
 fn reads_names(rt: HostRuntime) -> Result<(), Fail> {
-    let name = Name::read(rt.alloc(), "a b")?;
-    assert_eq!(rt; name.as_str(), "a b");
-    assert!(rt; name.same(&Name::read(rt.alloc(), "a b")?));
-    assert!(rt; !name.same(&Name::read(rt.alloc(), "a c")?));
-    assert_eq!(rt;
-        Name::read(rt.alloc(), "\u{200B}x\u{200B}")?.as_str(),
-        "\u{200B}x\u{200B}"
-    );
+    for text in ["a b", "\u{200B}x\u{200B}"] {
+        assert!(rt; is_name(rt.alloc(), text)?);
+    }
+    assert!(rt; are_same(rt.alloc(), "a b", "a b")? && !are_same(rt.alloc(), "a b", "a c")?);
+    Ok(())
+}
+
+#[test]
+fn refuses_names(rt: HostRuntime) {
     for text in [
         "",
         " ",
@@ -100,9 +140,8 @@ fn reads_names(rt: HostRuntime) -> Result<(), Fail> {
         "\u{3000}x",
         "x\u{3000}",
     ] {
-        assert_eq!(rt; Name::read(rt.alloc(), text), Err(Fault::bare(105)));
+        assert!(rt; is_refused(Name::read(rt.alloc(), text), &Fault::bare(105)));
     }
-    Ok(())
 }
 
 #[test]
@@ -111,9 +150,9 @@ fn reads_names_of_up_to_255_bytes(rt: HostRuntime) -> Result<(), Fail> {
     for _ in 0..255u8 {
         text.push('x')?;
     }
-    assert!(rt; Name::read(rt.alloc(), text.as_str())?.as_str() == text.as_str());
+    assert!(rt; is_name(rt.alloc(), text.as_str())?);
     text.push('x')?;
-    assert!(rt; Name::read(rt.alloc(), text.as_str()) == Err(Fault::bare(105)));
+    assert!(rt; is_refused(Name::read(rt.alloc(), text.as_str()), &Fault::bare(105)));
     Ok(())
 }
 
@@ -126,60 +165,74 @@ fn is_placed(alloc: Global, fault: Fault, want: &str) -> Result<bool, Fail> {
     Ok(room.octets() == want.as_bytes() && place.to_string(alloc)?.as_str() == want)
 }
 
+/// Whether a text with control characters is put and printed with question marks.
+fn is_text_placed(alloc: Global) -> Result<bool, Fail> {
+    let text = String::from_str(alloc, "/a\tb\u{7F}\u{1F} \u{80}\u{E9}/0")?;
+    is_placed(alloc, Fault::at_text(102, text), "/a?b?? \u{80}\u{E9}/0")
+}
+
 #[test]
 fn prints_places(rt: HostRuntime) -> Result<(), Fail> {
     let alloc = rt.alloc();
-    assert!(rt; is_placed(alloc, Fault::bare(105), "")?);
-    assert!(rt; is_placed(alloc, Fault::at_line(903, 3), "line 3")?);
-    assert!(rt; is_placed(alloc, Fault::at_octet(611, 0), "octet 0")?);
-    let text = String::from_str(alloc, "/a\tb\u{7F}\u{1F} \u{80}\u{E9}/0")?;
-    assert!(rt; is_placed(alloc, Fault::at_text(102, text), "/a?b?? \u{80}\u{E9}/0")?);
+    let none = is_placed(alloc, Fault::bare(105), "")?;
+    let line = is_placed(alloc, Fault::at_line(903, 3), "line 3")?;
+    let octet = is_placed(alloc, Fault::at_octet(611, 0), "octet 0")?;
+    let text = is_text_placed(alloc)?;
+    assert!(rt; none && line && octet && text);
     Ok(())
 }
 
-#[test]
-fn puts_numbers(rt: HostRuntime) -> Result<(), Fail> {
-    let mut octets = [0u8; 64];
-    let mut room = Room::new(&mut octets);
-    put_number(&mut room, 0)?;
-    put_text(&mut room, b" ")?;
-    put_number(&mut room, u64::MAX)?;
-    put_text(&mut room, b" ")?;
-    put_number_wide(&mut room, u128::MAX)?;
-    let want = "0 18446744073709551615 340282366920938463463374607431768211455";
-    assert_eq!(rt; room.octets(), want.as_bytes());
-    Ok(())
+/// Puts the least and the greatest numbers, and a fault with a place and one without.
+fn put_all<S: Sink>(sink: &mut S) -> Result<(), Fault> {
+    put_number(sink, 0)?;
+    put_text(sink, b" ")?;
+    put_number(sink, u64::MAX)?;
+    put_text(sink, b" ")?;
+    put_number_wide(sink, u128::MAX)?;
+    put_text(sink, b"\n")?;
+    put_fault(sink, &Fault::at_line(406, 7))?;
+    put_text(sink, b"\n")?;
+    put_fault(sink, &Fault::bare(101))
 }
 
 #[test]
-fn puts_faults(rt: HostRuntime) -> Result<(), Fail> {
-    let mut octets = [0u8; 64];
+fn puts_numbers_and_faults(rt: HostRuntime) -> Result<(), Fail> {
+    let mut octets = [0u8; 96];
     let mut room = Room::new(&mut octets);
-    put_fault(&mut room, &Fault::at_line(406, 7))?;
-    put_text(&mut room, b"\n")?;
-    put_fault(&mut room, &Fault::bare(101))?;
-    assert_eq!(rt; room.octets(), b"406 line 7\n101".as_slice());
+    put_all(&mut room)?;
+    let want = "0 18446744073709551615 340282366920938463463374607431768211455\n406 line 7\n101";
+    assert!(rt; room.octets() == want.as_bytes());
     Ok(())
+}
+
+/// Whether a text is refused for want of room.
+fn is_full<S: Sink>(sink: &mut S, text: &[u8]) -> bool {
+    is_refused(put_text(sink, text), &Fault::bare(902))
 }
 
 #[test]
 fn fills_room(rt: HostRuntime) {
     let mut octets = [0u8; 4];
     let mut room = Room::new(&mut octets);
-    assert!(rt; put_text(&mut room, b"12345") == Err(Fault::bare(902)));
-    assert!(rt; room.octets() == b"1234".as_slice());
+    assert!(rt; is_full(&mut room, b"12345") && room.octets() == b"1234".as_slice());
     assert!(rt; put_text(&mut room, b"").is_ok());
-    assert!(rt; put_number(&mut room, 5) == Err(Fault::bare(902)));
+    assert!(rt; is_refused(put_number(&mut room, 5), &Fault::bare(902)));
+}
+
+/// Puts three texts: whether the second alone is refused.
+fn fails_at_second<S: Sink>(sink: &mut S) -> Result<bool, Fault> {
+    put_text(sink, b"1")?;
+    let is_refused = is_full(sink, b"2");
+    put_text(sink, b"3")?;
+    Ok(is_refused)
 }
 
 #[test]
 fn fails_at_the_call_that_a_fuse_names(rt: HostRuntime) -> Result<(), Fail> {
     let mut octets = [0u8; 8];
     let mut sink = Fuse::new(Room::new(&mut octets), 2);
-    put_text(&mut sink, b"1")?;
-    assert!(rt; put_text(&mut sink, b"2") == Err(Fault::bare(902)));
-    put_text(&mut sink, b"3")?;
-    assert!(rt; sink.into_inner().octets() == b"13".as_slice());
+    let fails = fails_at_second(&mut sink)?;
+    assert!(rt; fails && sink.into_inner().octets() == b"13".as_slice());
     Ok(())
 }
 
@@ -189,15 +242,19 @@ fn is_next_line<S: Source>(alloc: Global, source: &mut S, want: &[u8]) -> Result
     Ok(reader.advance()? && reader.line().bytes == want)
 }
 
+/// Puts three octets in two calls, and tells whether the next call fails.
+fn fails_after_three<S: Sink>(sink: &mut S) -> Result<bool, Fault> {
+    put_text(sink, b"12")?;
+    put_number(sink, 3)?;
+    Ok(is_full(sink, b"4"))
+}
+
 #[test]
 fn lends_devices(rt: HostRuntime) -> Result<(), Fail> {
     let mut octets = [0u8; 8];
     let mut room = Room::new(&mut octets);
-    let mut sink = Fuse::new(&mut room, 3);
-    put_text(&mut sink, b"12")?;
-    put_number(&mut sink, 3)?;
-    assert!(rt; put_text(&mut sink, b"4") == Err(Fault::bare(902)));
-    assert!(rt; room.octets() == b"123".as_slice());
+    let fails = fails_after_three(&mut Fuse::new(&mut room, 3))?;
+    assert!(rt; fails && room.octets() == b"123".as_slice());
     let mut source = Octets::new(b"one\ntwo");
     assert!(rt; is_next_line(rt.alloc(), &mut source, b"one")?);
     Ok(())
@@ -214,7 +271,7 @@ fn reads_a_source_whole(rt: HostRuntime) -> Result<(), Fail> {
     assert!(rt; is_left(rt.alloc(), &mut source, &LONG)?);
     assert!(rt; is_left(rt.alloc(), &mut source, b"")?);
     let mut source = Fuse::new(Octets::new(&LONG), 2);
-    assert!(rt; is_left(rt.alloc(), &mut source, b"") == Err(Fault::bare(901)));
+    assert!(rt; is_refused(is_left(rt.alloc(), &mut source, b""), &Fault::bare(901)));
     Ok(())
 }
 
@@ -226,8 +283,7 @@ fn reads_and_writes_outside(rt: HostRuntime) -> Result<(), Fail> {
     put_text(&mut sink, b"written")?;
     assert!(rt; sink.into_inner().as_slice() == b"written".as_slice());
     let mut octets = [0u8; 4];
-    let mut sink = Outside::new(octets.as_mut_slice());
-    assert!(rt; put_text(&mut sink, b"12345") == Err(Fault::bare(902)));
+    assert!(rt; is_full(&mut Outside::new(octets.as_mut_slice()), b"12345"));
     Ok(())
 }
 
@@ -241,9 +297,5 @@ fn adds_counts(rt: HostRuntime) {
         packets: 2,
         octets: 41,
     });
-    let want = Counts {
-        packets: 3,
-        octets: 40,
-    };
-    assert_eq!(rt; sum, want);
+    assert!(rt; sum.packets == 3 && sum.octets == 40);
 }

@@ -3,34 +3,69 @@ use fx_boxes::{Fields, Region};
 use fx_elements::Axis;
 use std::test::Fail;
 
+/// Whether two parts of a region lie in it and apart from each other.
+fn are_parts(below: &Region, above: &Region, whole: &Region) -> bool {
+    below.inside(whole)
+        && above.inside(whole)
+        && !whole.inside(below)
+        && below.disjoint(above)
+        && !below.disjoint(whole)
+        && below.meet(above).is_none()
+        && whole.meet(above).is_some_and(|both| both.inside(above))
+}
+
+/// Whether the corners of two parts are on either side of the middle of the source addresses.
+fn are_halves(below: &Region, above: &Region) -> bool {
+    let corner = above.corner();
+    corner.get(Axis::Source) == 0x8000_0000
+        && above.holds(&corner)
+        && !below.holds(&corner)
+        && below.far_corner().get(Axis::Source) == 0x7fff_ffff
+}
+
 #[test]
 fn splits_and_meets(rt: HostRuntime) -> Result<(), Fail> {
     let whole = Region::whole();
     let (below, above) = whole.split(Axis::Source, 0x8000_0000).ok_or("split")?;
-    assert!(rt; below.inside(&whole) && above.inside(&whole) && !whole.inside(&below));
-    assert!(rt; below.disjoint(&above) && !below.disjoint(&whole));
-    assert!(rt; below.meet(&above).is_none());
-    assert!(rt; whole.meet(&above).ok_or("meet")?.inside(&above));
-    assert!(rt; whole.split(Axis::Protocol, 0).is_none());
-    assert!(rt; whole.split(Axis::Protocol, 256).is_none());
-    let corner = above.corner();
-    assert_eq!(rt; corner.get(Axis::Source), 0x8000_0000);
-    assert!(rt; above.holds(&corner) && !below.holds(&corner));
-    assert_eq!(rt; below.far_corner().get(Axis::Source), 0x7fff_ffff);
+    assert!(rt; are_parts(&below, &above, &whole) && are_halves(&below, &above));
+    for at in [0, 256] {
+        assert!(rt; whole.split(Axis::Protocol, at).is_none());
+    }
     Ok(())
+}
+
+/// The least fields of 10.0.0.0/8.
+fn low() -> Option<Fields> {
+    Fields::new([0x0a00_0000, 0, 0, 0, 0, 0])
+}
+
+/// The greatest fields of 10.0.0.0/8.
+fn high() -> Option<Fields> {
+    Fields::new([0x0aff_ffff, 0xffff_ffff, 255, 65535, 65535, 255])
+}
+
+/// Whether the region between two fields holds both and not the fields behind it.
+fn is_bounded(low: &Fields, high: &Fields, behind: &Fields) -> bool {
+    match Region::between(low, high) {
+        Some(region) => region.holds(low) && region.holds(high) && !region.holds(behind),
+        None => false,
+    }
 }
 
 #[test]
 fn bounds_a_region(rt: HostRuntime) -> Result<(), Fail> {
-    let low = Fields::new([0x0a00_0000, 0, 0, 0, 0, 0]).ok_or("low")?;
-    let high = Fields::new([0x0aff_ffff, 0xffff_ffff, 255, 65535, 65535, 255]).ok_or("high")?;
-    let region = Region::between(&low, &high).ok_or("region")?;
-    assert!(rt; region.holds(&low) && region.holds(&high));
-    assert!(rt; Region::between(&high, &low).is_none());
-    assert!(rt; !region.holds(&Fields::new([0x0b00_0000, 0, 0, 0, 0, 0]).ok_or("fields")?));
+    let low = low().ok_or("low")?;
+    let high = high().ok_or("high")?;
+    let behind = Fields::new([0x0b00_0000, 0, 0, 0, 0, 0]).ok_or("fields")?;
+    assert!(rt; is_bounded(&low, &high, &behind) && Region::between(&high, &low).is_none());
+    Ok(())
+}
+
+#[test]
+fn holds_values_that_fit(rt: HostRuntime) -> Result<(), Fail> {
+    let low = low().ok_or("low")?;
+    assert!(rt; low.value_at(0) == 0x0a00_0000 && low.values().len() == 6);
     assert!(rt; Fields::new([0, 0, 256, 0, 0, 0]).is_none());
-    assert_eq!(rt; low.value_at(0), 0x0a00_0000);
-    assert_eq!(rt; low.values().len(), 6);
-    assert_eq!(rt; Fields::of([0; 6]).get(Axis::DestinationPort), 0);
+    assert!(rt; Fields::of([0; 6]).get(Axis::DestinationPort) == 0);
     Ok(())
 }

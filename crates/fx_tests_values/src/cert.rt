@@ -16,53 +16,52 @@ fn is_refused(text: &[u8]) -> bool {
     read(text) == Err(Fault::at_line(402, 7))
 }
 
-fn is_read(text: &[u8], item: Item) -> bool {
-    read(text) == Ok(item)
-}
-
-fn is_written(line: &[u8], item: Item) -> Result<bool, Fault> {
+/// Whether this text is read as the item, and the item is written as the text and a line feed.
+fn is_spelled(text: &str, item: Item) -> Result<bool, Fault> {
     let mut octets = [0u8; 64];
     let mut room = Room::new(&mut octets);
     put_item(&mut room, &item)?;
-    Ok(room.octets() == line)
+    let is_written = match room.octets() {
+        [line @ .., b'\n'] => line == text.as_bytes(),
+        _ => false,
+    };
+    Ok(is_written && read(text.as_bytes())? == item)
 }
 
 #[test]
 fn reads_and_writes(rt: HostRuntime) -> Result<(), Fail> {
     one_text();
-    assert!(rt; is_read(b"once-certificate 1", Item::Header));
-    assert!(rt; is_written(b"once-certificate 1\n", Item::Header)?);
-    assert!(rt; is_read(b"end", Item::End));
-    assert!(rt; is_written(b"end\n", Item::End)?);
     let class = Item::Class { class: 1, path: 12 };
-    assert!(rt; is_read(b"class 1 path 12", class));
-    assert!(rt; is_written(b"class 1 path 12\n", class)?);
-    Ok(())
-}
-
-#[test]
-fn reads_and_writes_trees(rt: HostRuntime) -> Result<(), Fail> {
     let split = Item::Split {
         axis: Axis::Source,
         at: 167772161,
     };
-    assert!(rt; is_read(b"S source 167772161", split));
-    assert!(rt; is_written(b"S source 167772161\n", split)?);
     let leaf = Item::Leaf {
         crossing: 0,
         point: 18446744073709551615,
         process: 3,
     };
-    assert!(rt; is_read(b"L 0 18446744073709551615 3", leaf));
-    assert!(rt; is_written(b"L 0 18446744073709551615 3\n", leaf)?);
+    for (text, item) in [
+        ("once-certificate 1", Item::Header),
+        ("end", Item::End),
+        ("class 1 path 12", class),
+        ("S source 167772161", split),
+        ("L 0 18446744073709551615 3", leaf),
+    ] {
+        assert!(rt; is_spelled(text, item)?);
+    }
     Ok(())
 }
 
 #[test]
 fn refuses(rt: HostRuntime) {
-    assert!(rt; is_refused(b"class 01 path 1"));
-    assert!(rt; is_refused(b"once-certificate 3"));
-    assert!(rt; is_refused(b"S source 4294967296"));
-    assert!(rt; is_refused(b"L 1 18446744073709551616 1"));
-    assert!(rt; is_refused(b"L 1  1 1"));
+    for text in [
+        "class 01 path 1",
+        "once-certificate 3",
+        "S source 4294967296",
+        "L 1 18446744073709551616 1",
+        "L 1  1 1",
+    ] {
+        assert!(rt; is_refused(text.as_bytes()));
+    }
 }

@@ -6,82 +6,96 @@ use fx_elements::{
 };
 use std::test::Fail;
 
-fn is_written(axis: Axis, bits: u32, value: u128, text: &[u8]) -> Result<bool, Fault> {
+fn is_written(axis: Axis, bits: u32, value: u128, text: &str) -> Result<bool, Fault> {
     if bits > width(axis) || bits > 32 || value >= 1u128 << bits {
         return Ok(false);
     }
     let mut octets = [0u8; 32];
     let mut room = Room::new(&mut octets);
     put_value(&mut room, axis, bits, value)?;
-    Ok(room.octets() == text)
+    Ok(room.octets() == text.as_bytes())
 }
 
 #[test]
 fn writes_values(rt: HostRuntime) -> Result<(), Fail> {
-    assert!(rt; is_written(Axis::Source, 32, 0xc000_0201, b"192.0.2.1")?);
-    assert!(rt; is_written(Axis::Destination, 16, 0x0a01, b"10.1.0.0/16")?);
-    assert!(rt; is_written(Axis::SourcePort, 16, 443, b"443")?);
+    for (axis, bits, value, text) in [
+        (Axis::Source, 32u32, 0xc000_0201u128, "192.0.2.1"),
+        (Axis::Destination, 16, 0x0a01, "10.1.0.0/16"),
+        (Axis::SourcePort, 16, 443, "443"),
+    ] {
+        assert!(rt; is_written(axis, bits, value, text)?);
+    }
     Ok(())
 }
 
 #[test]
-fn reads_values(rt: HostRuntime) -> Result<(), Fail> {
-    let range = read_value(Element::SourcePrefix, "10.1.2.3/16").ok_or("prefix")?;
-    assert_eq!(rt;
-        range,
-        Range {
-            low: 0x0a01_0000,
-            high: 0x0a01_ffff,
-            bits: 16
-        }
-    );
-    let range = read_value(Element::OnAxis(Axis::Source), "255.255.255.255").ok_or("address")?;
-    assert_eq!(rt;
-        range,
-        Range {
-            low: 0xffff_ffff,
-            high: 0xffff_ffff,
-            bits: 32
-        }
-    );
-    for text in ["", "01", "256", "+1", " 1", "1 ", "0x1", "-0"] {
-        assert!(rt;
-            read_value(Element::OnAxis(Axis::Protocol), text).is_none(),
-            "read {text}"
-        );
-    }
-    for text in [
-        "1.2.3",
-        "1.2.3.4.5",
-        "1.2.3.256",
-        "01.2.3.4",
-        "1.2.3.4/0",
-        "1.2.3.4/33",
-        "1.2.3.4",
+fn reads_values(rt: HostRuntime) {
+    let prefix = Range {
+        low: 0x0a01_0000,
+        high: 0x0a01_ffff,
+        bits: 16,
+    };
+    let address = Range {
+        low: 0xffff_ffff,
+        high: 0xffff_ffff,
+        bits: 32,
+    };
+    for (element, text, range) in [
+        (Element::SourcePrefix, "10.1.2.3/16", prefix),
+        (Element::OnAxis(Axis::Source), "255.255.255.255", address),
     ] {
-        assert!(rt;
-            read_value(Element::DestinationPrefix, text).is_none(),
-            "read {text}"
-        );
+        assert!(rt; read_value(element, text) == Some(range));
     }
-    assert!(rt; read_value(Element::OctetDeltaCount, "1").is_none());
-    assert_eq!(rt; read_on(Axis::DestinationPort, b"65535"), Some(65535));
-    assert_eq!(rt; read_on(Axis::DestinationPort, b"65536"), None);
-    Ok(())
+    let port = Axis::DestinationPort;
+    assert!(rt; read_on(port, b"65535") == Some(65535) && read_on(port, b"65536").is_none());
+}
+
+#[test]
+fn refuses_values(rt: HostRuntime) {
+    let protocol = Element::OnAxis(Axis::Protocol);
+    let prefix = Element::DestinationPrefix;
+    for (element, text) in [
+        (protocol, ""),
+        (protocol, "01"),
+        (protocol, "256"),
+        (protocol, "+1"),
+        (protocol, " 1"),
+        (protocol, "1 "),
+        (protocol, "0x1"),
+        (protocol, "-0"),
+        (prefix, "1.2.3"),
+        (prefix, "1.2.3.4.5"),
+        (prefix, "1.2.3.256"),
+        (prefix, "01.2.3.4"),
+        (prefix, "1.2.3.4/0"),
+        (prefix, "1.2.3.4/33"),
+        (prefix, "1.2.3.4"),
+        (Element::OctetDeltaCount, "1"),
+    ] {
+        assert!(rt; read_value(element, text).is_none());
+    }
 }
 
 #[test]
 fn knows_elements(rt: HostRuntime) {
-    assert_eq!(rt; by_name("sourceIPv4Address"), Element::OnAxis(Axis::Source));
-    assert_eq!(rt; by_name("sourceIPv4address"), Element::Other);
-    assert_eq!(rt; by_id(2, 0), Element::PacketDeltaCount);
-    assert_eq!(rt; by_id(2, 9), Element::Other);
-    assert_eq!(rt; by_id(45, 0), Element::DestinationPrefix);
-    assert_eq!(rt; top(Axis::Protocol), 255);
-    assert_eq!(rt;
-        read_number(b"340282366920938463463374607431768211455", u128::MAX),
-        Some(u128::MAX)
-    );
-    assert_eq!(rt; read_quad(b"0.0.1.0"), Some(256));
-    assert_eq!(rt; read_prefix(b"0.0.1.0/8"), Some((256, 8)));
+    for (name, element) in [
+        ("sourceIPv4Address", Element::OnAxis(Axis::Source)),
+        ("sourceIPv4address", Element::Other),
+    ] {
+        assert!(rt; by_name(name) == element);
+    }
+    for (number, enterprise, element) in [
+        (2u16, 0u32, Element::PacketDeltaCount),
+        (2, 9, Element::Other),
+        (45, 0, Element::DestinationPrefix),
+    ] {
+        assert!(rt; by_id(number, enterprise) == element);
+    }
+}
+
+#[test]
+fn reads_numbers_and_addresses(rt: HostRuntime) {
+    let text = b"340282366920938463463374607431768211455";
+    assert!(rt; read_number(text, u128::MAX) == Some(u128::MAX) && top(Axis::Protocol) == 255);
+    assert!(rt; read_quad(b"0.0.1.0") == Some(256) && read_prefix(b"0.0.1.0/8") == Some((256, 8)));
 }

@@ -1,19 +1,25 @@
 //! Layouts in the order of the axes, and keys that are projected.
 use fx_boxes::Fields;
 use fx_elements::Axis;
-use fx_layout::Layout;
+use fx_layout::{Key, Layout};
 use std::test::Fail;
 
-fn web_packet() -> Result<Fields, Fail> {
-    Ok(Fields::new([0x0a01_0203, 0xc000_0201, 6, 1000, 80, 0]).ok_or("fields")?)
+fn web_packet() -> Option<Fields> {
+    Fields::new([0x0a01_0203, 0xc000_0201, 6, 1000, 80, 0])
+}
+
+/// Whether a layout has two parts, the first of the source address.
+fn begins_with_source(layout: &Layout) -> bool {
+    match layout.parts() {
+        [first, _] => first.axis == Axis::Source,
+        _ => false,
+    }
 }
 
 #[test]
 fn lays_out_in_axis_order(rt: HostRuntime) -> Result<(), Fail> {
     let layout = Layout::new().with(Axis::Protocol, 8).ok_or("protocol")?;
     let layout = layout.with(Axis::Source, 24).ok_or("source")?;
-    assert_eq!(rt; layout.parts().len(), 2);
-    assert_eq!(rt; layout.parts()[0].axis, Axis::Source);
     for (axis, bits) in [
         (Axis::Source, 16),
         (Axis::Protocol, 7),
@@ -22,24 +28,50 @@ fn lays_out_in_axis_order(rt: HostRuntime) -> Result<(), Fail> {
     ] {
         assert!(rt; layout.with(axis, bits).is_none());
     }
-    assert!(rt; layout.reads(Axis::Source, 24) && !layout.reads(Axis::Source, 25));
-    assert!(rt; layout.same(&layout.copy()));
+    assert!(rt;
+        begins_with_source(&layout)
+            && layout.reads(Axis::Source, 24)
+            && !layout.reads(Axis::Source, 25)
+            && layout.same(&layout.copy())
+    );
     Ok(())
+}
+
+/// The layout of so many leading bits of the source address.
+fn source_layout(bits: u32) -> Option<Layout> {
+    Layout::new().with(Axis::Source, bits)
+}
+
+/// Whether a key is that of the web packet under a layout, and has no finer one.
+fn is_coarse_key(key: &Key, coarse: &Layout, fine: &Layout) -> bool {
+    let Some(fields) = web_packet() else {
+        return false;
+    };
+    key.same(&coarse.key_of(&fields))
+        && key.layout().same(coarse)
+        && key.copy().project(fine).is_none()
+        && key.values() == [0x0a01].as_slice()
+}
+
+/// Whether a key of the web packet gives its first octet, is not before itself, and is projected.
+fn is_projected(key: &Key, coarse: &Layout, fine: &Layout) -> bool {
+    key.cut(Axis::Source, 8) == 10
+        && !key.comes_before(&key.copy())
+        && match key.project(coarse) {
+            Some(projected) => is_coarse_key(&projected, coarse, fine),
+            None => false,
+        }
 }
 
 #[test]
 fn projects_a_key(rt: HostRuntime) -> Result<(), Fail> {
-    let fine = Layout::new().with(Axis::Source, 24).ok_or("fine")?;
-    let coarse = Layout::new().with(Axis::Source, 16).ok_or("coarse")?;
-    let key = fine.key_of(&web_packet()?);
-    assert!(rt; fine.refines(&coarse) && !coarse.refines(&fine));
-    let projected = key.project(&coarse).ok_or("projected")?;
-    assert!(rt; projected.same(&coarse.key_of(&web_packet()?)));
-    assert!(rt; projected.layout().same(&coarse));
-    assert!(rt; projected.copy().project(&fine).is_none());
-    assert_eq!(rt; projected.values().len(), 1);
-    assert_eq!(rt; projected.values()[0], 0x0a01);
-    assert_eq!(rt; key.cut(Axis::Source, 8), 10);
-    assert!(rt; !key.comes_before(&key.copy()));
+    let fields = web_packet().ok_or("fields")?;
+    let fine = source_layout(24).ok_or("fine")?;
+    let coarse = source_layout(16).ok_or("coarse")?;
+    assert!(rt;
+        fine.refines(&coarse)
+            && !coarse.refines(&fine)
+            && is_projected(&fine.key_of(&fields), &coarse, &fine)
+    );
     Ok(())
 }

@@ -12,6 +12,8 @@ mod elements;
 #[cfg(test)]
 mod layout;
 #[cfg(test)]
+mod packets;
+#[cfg(test)]
 mod pcap;
 #[cfg(test)]
 mod store;

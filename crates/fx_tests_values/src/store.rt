@@ -4,7 +4,6 @@ use fx_boxes::Fields;
 use fx_elements::Axis;
 use fx_layout::{Key, Layout};
 use fx_store::{BoundedStore, FlowStore, ListStore};
-use std::process::Abort;
 use std::test::Fail;
 
 /// The counts of one packet.
@@ -35,56 +34,60 @@ fn least<S: FlowStore>(store: &mut S) -> Option<(u128, u64, u64)> {
     Some((key.cut(Axis::Source, 32), counts.packets, counts.octets))
 }
 
-/// Adds at three keys, one of them twice, and empties the store in order.
-fn assert_filled_and_emptied<R: Abort, S: FlowStore>(rt: &R, store: &mut S) -> Result<(), Fail> {
+/// Adds at three keys, one of them twice, and empties the store in order: whether it held them.
+fn is_filled_and_emptied<S: FlowStore>(store: &mut S) -> Result<bool, Fail> {
     for source in [0x0a00_0002, 0x0a00_0001, 0x0a00_0002] {
-        assert_eq!(rt; add(store, source)?, None);
+        if add(store, source)?.is_some() {
+            return Ok(false);
+        }
     }
-    assert_eq!(rt; store.len(), 2);
-    assert_eq!(rt; least(store), Some((0x0a00_0001, 1, 10)));
-    assert_eq!(rt; least(store), Some((0x0a00_0002, 2, 20)));
-    assert_eq!(rt; least(store), None);
-    Ok(())
+    Ok(
+        store.len() == 2
+            && least(store) == Some((0x0a00_0001, 1, 10))
+            && least(store) == Some((0x0a00_0002, 2, 20))
+            && least(store).is_none(),
+    )
 }
 
 #[test]
 fn fills_and_empties_a_list(rt: HostRuntime) -> Result<(), Fail> {
-    assert_filled_and_emptied(&rt, &mut ListStore::new(rt.alloc()))
+    assert!(rt; is_filled_and_emptied(&mut ListStore::new(rt.alloc()))?);
+    Ok(())
 }
 
 #[test]
 fn fills_and_empties_a_bounded_store(rt: HostRuntime) -> Result<(), Fail> {
-    assert_filled_and_emptied(&rt, &mut BoundedStore::new(rt.alloc(), 2)?)
+    assert!(rt; is_filled_and_emptied(&mut BoundedStore::new(rt.alloc(), 2)?)?);
+    Ok(())
 }
 
 #[test]
 fn lets_the_least_recently_added_to_leave(rt: HostRuntime) -> Result<(), Fail> {
     let mut store = BoundedStore::new(rt.alloc(), 2)?;
-    assert_eq!(rt; add(&mut store, 1)?, None);
-    assert_eq!(rt; add(&mut store, 2)?, None);
-    assert_eq!(rt; add(&mut store, 1)?, None);
-    assert_eq!(rt; add(&mut store, 3)?, Some(2));
-    assert_eq!(rt; store.len(), 2);
-    assert_eq!(rt; least(&mut store), Some((1, 2, 20)));
-    assert_eq!(rt; least(&mut store), Some((3, 1, 10)));
+    for (source, left) in [(1, None), (2, None), (1, None), (3, Some(2))] {
+        assert!(rt; add(&mut store, source)? == left);
+    }
+    assert!(rt;
+        store.len() == 2
+            && least(&mut store) == Some((1, 2, 20))
+            && least(&mut store) == Some((3, 1, 10))
+    );
     Ok(())
 }
 
-/// Adds at a key, looks for another and takes the first one out.
-fn assert_taken<R: Abort, S: FlowStore>(rt: &R, store: &mut S) -> Result<(), Fail> {
-    assert_eq!(rt; add(store, 7)?, None);
-    assert_eq!(rt; store.take(&from(8)?), None);
-    assert_eq!(rt; store.take(&from(7)?), Some(COUNTS));
-    assert_eq!(rt; store.len(), 0);
-    Ok(())
+/// Adds at a key, looks for another and takes the first one out: whether it was there alone.
+fn is_taken<S: FlowStore>(store: &mut S) -> Result<bool, Fail> {
+    let left = add(store, 7)?;
+    let other = store.take(&from(8)?);
+    let taken = store.take(&from(7)?);
+    Ok(left.is_none() && other.is_none() && taken == Some(COUNTS) && store.len() == 0)
 }
 
 #[test]
 fn takes_a_key_out(rt: HostRuntime) -> Result<(), Fail> {
-    assert_taken(&rt, &mut ListStore::new(rt.alloc()))?;
+    assert!(rt; is_taken(&mut ListStore::new(rt.alloc()))?);
     let mut bounded = BoundedStore::new(rt.alloc(), 1)?;
-    assert_taken(&rt, &mut bounded)?;
-    assert_eq!(rt; add(&mut bounded, 8)?, None);
+    assert!(rt; is_taken(&mut bounded)? && add(&mut bounded, 8)?.is_none());
     Ok(())
 }
 
@@ -96,21 +99,24 @@ fn is_least_of<S: FlowStore>(store: &mut S, layout: &Layout) -> bool {
     }
 }
 
+/// Adds at keys of two layouts that have the same value: whether both are held, this layout's first.
+fn are_apart<S: FlowStore>(store: &mut S, wide: &Layout) -> Result<bool, Fail> {
+    let fields = Fields::new([0x0a00_0000, 0, 0, 0, 0, 0]).ok_or("fields")?;
+    let left = add(store, 10)?;
+    store.add(wide.key_of(&fields), COUNTS)?;
+    Ok(left.is_none() && store.len() == 2 && is_least_of(store, wide))
+}
+
 #[test]
 fn tells_layouts_apart(rt: HostRuntime) -> Result<(), Fail> {
     let wide = Layout::new().with(Axis::Source, 8).ok_or("layout")?;
-    let fields = Fields::new([0x0a00_0000, 0, 0, 0, 0, 0]).ok_or("fields")?;
-    let mut store = ListStore::new(rt.alloc());
-    assert!(rt; add(&mut store, 10)?.is_none());
-    store.add(wide.key_of(&fields), COUNTS)?;
-    assert_eq!(rt; store.len(), 2);
-    assert!(rt; is_least_of(&mut store, &wide));
+    assert!(rt; are_apart(&mut ListStore::new(rt.alloc()), &wide)?);
     Ok(())
 }
 
 #[test]
 fn makes_a_large_store(rt: HostRuntime) -> Result<(), Fault> {
     let store = BoundedStore::new(rt.alloc(), 65_536)?;
-    assert_eq!(rt; store.len(), 0);
+    assert!(rt; store.len() == 0);
     Ok(())
 }

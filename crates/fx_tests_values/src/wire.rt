@@ -2,9 +2,9 @@
 use fx_base::Room;
 use fx_elements::{Axis, Element};
 use fx_wire::{
-    FieldSpecifier, FieldSpecifiers, Header, Parsed, Set, TemplateHeading, TemplateKind, VARIABLE,
-    can_have, cut_record, cut_value, message_length, messages_are_read, parse, put_message,
-    read_heading, shortest_record,
+    FieldSpecifier, FieldSpecifiers, Header, Parsed, Set, Sets, TemplateHeading, TemplateKind,
+    VARIABLE, can_have, cut_record, cut_value, message_length, messages_are_read, parse,
+    put_message, read_heading, shortest_record,
 };
 use std::test::Fail;
 
@@ -29,29 +29,24 @@ const HEADER: Header = Header {
     observation_domain: 0,
 };
 
-/// Whether a message is refused with this number.
-fn is_refused(octets: &[u8], number: u16) -> bool {
-    match parse(octets) {
-        Parsed::Refused(found) => found == number,
-        _ => false,
-    }
+/// Whether the sets are those of the first message: a template set and a data set.
+fn are_first(mut sets: Sets<'_>) -> bool {
+    let (Some(first), Some(second)) = (sets.next(), sets.next()) else {
+        return false;
+    };
+    first.id == 2 && second.id == 256 && second.content == &FIRST[40..] && sets.next().is_none()
 }
 
 #[test]
-fn reads_a_message(rt: HostRuntime) -> Result<(), Fail> {
-    let Parsed::Message(message) = parse(&FIRST) else {
-        return Err(Fail::from("no message"));
+fn reads_a_message(rt: HostRuntime) {
+    let held = match parse(&FIRST) {
+        Parsed::Message(message) => {
+            let header = message.header();
+            header.export_time == 2 && header.sequence_number == 0 && are_first(message.sets())
+        }
+        _ => false,
     };
-    assert_eq!(rt; message.header().export_time, 2);
-    assert_eq!(rt; message.header().sequence_number, 0);
-    let mut sets = message.sets();
-    let first = sets.next().ok_or("template set")?;
-    assert_eq!(rt; first.id, 2);
-    let second = sets.next().ok_or("data set")?;
-    assert_eq!(rt; second.id, 256);
-    assert_eq!(rt; second.content, &FIRST[40..]);
-    assert!(rt; sets.next().is_none());
-    Ok(())
+    assert!(rt; held);
 }
 
 #[test]
@@ -61,36 +56,46 @@ fn needs_all_octets(rt: HostRuntime) {
     }
 }
 
+/// The number with which a message is refused; 0 where it isn't.
+fn refusal(octets: &[u8]) -> u16 {
+    match parse(octets) {
+        Parsed::Refused(number) => number,
+        _ => 0,
+    }
+}
+
 #[test]
 fn refuses_in_order(rt: HostRuntime) {
-    assert!(rt; is_refused(&[0, 9, 0, 16, 0, 0, 0, 0, 0, 0, 0, 0, 0, 0, 0, 0], 611));
-    assert!(rt; is_refused(&[0, 10, 0, 15, 0, 0, 0, 0, 0, 0, 0, 0, 0, 0, 0, 0], 612));
-    assert!(rt;
-        is_refused(
+    for (octets, number) in [
+        (
+            [0, 9, 0, 16, 0, 0, 0, 0, 0, 0, 0, 0, 0, 0, 0, 0].as_slice(),
+            611,
+        ),
+        (&[0, 10, 0, 15, 0, 0, 0, 0, 0, 0, 0, 0, 0, 0, 0, 0], 612),
+        (
             &[0, 10, 0, 20, 0, 0, 0, 0, 0, 0, 0, 0, 0, 0, 0, 0, 1, 0, 0, 3],
-            613
-        )
-    );
-    assert!(rt;
-        is_refused(
+            613,
+        ),
+        (
             &[0, 10, 0, 20, 0, 0, 0, 0, 0, 0, 0, 0, 0, 0, 0, 0, 0, 5, 0, 4],
-            615
-        )
-    );
+            615,
+        ),
+    ] {
+        assert!(rt; refusal(octets) == number);
+    }
 }
 
 #[test]
 fn writes_a_message(rt: HostRuntime) -> Result<(), Fail> {
+    messages_are_read();
     let sets = [Set {
         id: 256,
         content: &SECOND[20..],
     }];
-    assert_eq!(rt; message_length(&sets), 40);
     let mut room = [0u8; 64];
     let mut sink = Room::new(&mut room);
     put_message(&mut sink, &HEADER, &sets)?;
-    assert!(rt; sink.octets() == SECOND.as_slice());
-    messages_are_read();
+    assert!(rt; message_length(&sets) == 40 && sink.octets() == SECOND.as_slice());
     Ok(())
 }
 
@@ -101,31 +106,35 @@ fn refuses_to_write_past_the_room(rt: HostRuntime) {
     assert!(rt; put_message(&mut sink, &HEADER, &[]).is_err());
 }
 
+/// Whether there are three fields, the first the source address, and no octets behind them.
+fn begin_with_source(mut fields: FieldSpecifiers<'_>) -> bool {
+    let Some(Ok(first)) = fields.next() else {
+        return false;
+    };
+    first.element() == Element::OnAxis(Axis::Source)
+        && fields.next().is_some()
+        && fields.next().is_some()
+        && fields.next().is_none()
+        && fields.rest().is_empty()
+}
+
 #[test]
-fn reads_a_template(rt: HostRuntime) -> Result<(), Fail> {
-    let (heading, rest) = match read_heading(TemplateKind::Plain, &FIRST[20..36]) {
-        Ok(read) => read,
-        Err(_) => return Err(Fail::from("no heading")),
+fn reads_a_template(rt: HostRuntime) {
+    let held = match read_heading(TemplateKind::Plain, &FIRST[20..36]) {
+        Ok((TemplateHeading::Declaration(new), rest)) => {
+            new.id == 256 && begin_with_source(FieldSpecifiers::new(new.count, rest))
+        }
+        _ => false,
     };
-    let TemplateHeading::Declaration(new) = heading else {
-        return Err(Fail::from("no template"));
-    };
-    assert_eq!(rt; new.id, 256);
-    let mut fields = FieldSpecifiers::new(new.count, rest);
-    let first = fields.next().ok_or("a field")?.ok().ok_or("a right field")?;
-    assert_eq!(rt; first.element(), Element::OnAxis(Axis::Source));
-    assert!(rt; fields.next().is_some());
-    assert!(rt; fields.next().is_some());
-    assert!(rt; fields.next().is_none());
-    assert!(rt; fields.rest().is_empty());
-    Ok(())
+    assert!(rt; held);
 }
 
 #[test]
 fn refuses_a_short_address(rt: HostRuntime) {
     let mut fields = FieldSpecifiers::new(1, &[0, 8, 0, 3]);
-    assert_eq!(rt; fields.next(), Some(Err(614)));
-    assert!(rt; !can_have(Element::OnAxis(Axis::Source), VARIABLE));
+    assert!(rt;
+        fields.next() == Some(Err(614)) && !can_have(Element::OnAxis(Axis::Source), VARIABLE)
+    );
 }
 
 /// A source address, and an interface name of variable length.
@@ -148,8 +157,10 @@ const RECORD: [u8; 9] = [10, 0, 0, 1, 3, b'e', b't', b'h', 9];
 #[test]
 fn cuts_a_record(rt: HostRuntime) {
     let behind = [9].as_slice();
-    assert_eq!(rt; shortest_record(&FIELDS), 5);
-    assert!(rt; cut_record(&FIELDS, &RECORD) == Some(behind));
-    assert!(rt; cut_record(&FIELDS, &RECORD[..7]).is_none());
-    assert!(rt; cut_value(VARIABLE, &RECORD[4..]) == Some((b"eth".as_slice(), behind)));
+    assert!(rt;
+        shortest_record(&FIELDS) == 5
+            && cut_record(&FIELDS, &RECORD) == Some(behind)
+            && cut_record(&FIELDS, &RECORD[..7]).is_none()
+            && cut_value(VARIABLE, &RECORD[4..]) == Some((b"eth".as_slice(), behind))
+    );
 }
