@@ -12,17 +12,18 @@ Run at the top of the repository. The edits are crates/NAME/wrong-bodies/*.edit,
 
 An edit of functions that stand free or in an impl of their type is tried on twins: beside each function stands a second
 one with the same attributes, signature and clauses, a name of its own, the wrong body, and a copy of the function's
-proof files. So one check judges all twins of a crate, several of one function too, against the contracts of functions
-that nothing changed. Methods of traits' impls and functions that call themselves are changed in place, in rounds of
-edits that don't meet; a constant in place, with the functions that name it.
+proof files. Methods of traits' impls and functions that call themselves are changed in place. So one check judges all
+twins of a crate, several of one function too, and one edit of each function in place; it judges what calls a refused
+function over that function's contract. A constant is changed in place, with the functions that name it. Where the crate's own
+library is built of the same text, its functions that no edit changes stand by their contracts, and aren't proved again.
 
 An edit passes if each function that it changes (of a constant: one that names it) is refused by a goal or an answer of
 its own: a goal that the tactics don't prove, in the function's lines, or an error in its own proof files that isn't
 that they name what the edit took away. One line an edit; the last line is `N passed, N failed`.
 
   --kept      begin over a copy of what `rt check` kept of the crate
-  --as-built  take the libraries below as they lie in out/rlib: right after `rt ci` in a fresh clone
-  --control   try each twin with its function's own body: all must be proved
+  --as-built  take the libraries as they lie in out/rlib: right after `rt ci` in a fresh clone
+  --control   try each function that an edit changes, on a twin or in place, with its own body: all must be proved
   --jobs N    jobs of each check
   --show FILE write all that the checks print to the file
   NAME/WORD   of this crate the edits alone whose name contains WORD
@@ -38,7 +39,8 @@ import time
 
 sys.dont_write_bytecode = True
 sys.path.insert(0, os.path.dirname(os.path.realpath(__file__)))
-from bodies.edits import BAD, TWIN, Edit
+from bodies.copies import proved_in
+from bodies.edits import TWIN, Edit
 from bodies.trials import Trial
 
 FOLDER = "wrong-bodies"
@@ -92,12 +94,9 @@ def try_crate(rt, crate, files, others, words):
         if words.kept and crate.has_kept():
             shutil.copytree(f"{crate.folder}/out/incremental", f"{room}/kept")
         os.makedirs(f"{room}/kept", exist_ok=True)
-        trial = Trial(rt.rtlib, crate, f"{room}/kept", words.jobs, words.show)
-        if words.control:
-            edits = [it for it in edits if it.kind in (TWIN, BAD)]
-            trial.control(edits)
-        else:
-            trial.judge(edits)
+        proved = proved_in(crate) if words.as_built or crate.is_built() else []
+        trial = Trial(rt.rtlib, crate, f"{room}/kept", proved, words.jobs, words.show)
+        (trial.control if words.control else trial.judge)(edits)
     rows = [f"{crate.name}/{it.name}: {it.verdict[1]}" for it in edits]
     rows += [f"{crate.name}/{it}: BAD EDIT: its name doesn't end in .edit" for it in others]
     twins = sum(it.kind == TWIN for it in edits)

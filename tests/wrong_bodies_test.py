@@ -14,6 +14,7 @@ import tempfile
 
 sys.dont_write_bytecode = True
 import wrong_bodies
+from bodies.copies import proved_in
 from bodies.edits import Edit, read
 from bodies.trials import Trial
 
@@ -25,13 +26,13 @@ def kind_of(verdict):
     return "REFUSED" if is_refused else said.partition(":")[0]
 
 
-def try_crate(rt, crate):
+def try_crate(rt, crate, as_built):
     """Returns how many of the crate's edits got the verdict that they want, and how many another."""
     at = f"{EDITS}/{crate.name}"
     files = [f"{at}/{it}" for it in sorted(os.listdir(at))]
     edits = [Edit(crate.folder, it) for it in files]
     with tempfile.TemporaryDirectory(prefix="wrong-bodies-test-") as kept:
-        Trial(rt.rtlib, crate, kept).judge(edits)
+        Trial(rt.rtlib, crate, kept, proved_in(crate) if as_built else []).judge(edits)
     failed = 0
     for edit, file in zip(edits, files):
         wanted = re.search(r"(?m)^wants: (.*)$", read(file))[1]
@@ -48,7 +49,7 @@ def main(words):
     crates = [it for it in rt.rtlib.crates_below(os.getcwd()) if os.path.isdir(f"{EDITS}/{it.name}")]
     if not wrong_bodies.build_below(crates, words):
         return 1
-    given = rt.in_lanes({(it.name, "edits"): ([], 1, rt.need(it), lambda _, jobs, it=it: try_crate(rt, it)) for it in crates})
+    given = rt.in_lanes({(it.name, "edits"): ([], 1, rt.need(it), lambda _, jobs, it=it: try_crate(rt, it, words.as_built)) for it in crates})
     passed, failed = (sum(it[at] for it in given.values()) for at in range(2))
     print(f"{passed} passed, {failed} failed")
     return 1 if failed or not passed else 0

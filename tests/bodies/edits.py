@@ -1,4 +1,5 @@
 """Reads edits: which functions each gives a wrong body, or which constant another value."""
+import functools
 import itertools
 import os
 import re
@@ -17,17 +18,18 @@ class Part:
     def __init__(self, edit, path, function, body):
         self.edit, self.path, self.function, self.body = edit, path, function, body
         # (no two twins have one name)
-        self.number, self.twin, self.lines, self.verdict = next(Part.numbers), None, (0, 0), None
+        self.number, self.lines, self.verdict = next(Part.numbers), (0, 0), None
+
+    def has_twin(self):
+        return self.edit.kind == TWIN
+
+    def twin_name(self, mark):
+        return f"{self.function.name}{mark}{self.number}"
 
     def folders(self):
-        """Returns the folders below proofs/ that may hold the function's own proof files, as lists of names: a method's stand
-        where its type is declared."""
-        at, block = module_of(self.path), self.function.block
-        if block is None:
-            return [[*at, self.function.name], [*at, "fn", self.function.name]]
-        own = type_name(block.own_type)
-        homes = [at, *(it for it in modules_declaring(self.edit.folder, own) if it != at)]
-        return [[*home, own, self.function.name] for home in homes] + [[*at, "fn", self.function.name]]
+        """Returns the folders below proofs/ that may hold proof files of the function and of its closures, as lists of names."""
+        closures = [*module_of(self.path), "fn", self.function.name]
+        return [*proof_paths(self.edit.folder, self.path, self.function), closures]
 
 
 class Edit:
@@ -63,13 +65,13 @@ class Edit:
 
     def compare_constants(self, path, old, new):
         was, now = constants(old), constants(new)
-        changed = [it for it in was if was[it] != now.get(it)]
+        changed = [it for it in was if it in now and was[it] != now[it]]
         for it in changed:
-            new = new.replace(now.get(it, was[it]), was[it])
+            new = new.replace(now[it], was[it])
         if not changed or new != old:
             return "it changes more than bodies, or more than constants"
         self.kind = CONSTANT
-        self.constants += [(path, it) for it in changed]
+        self.constants += [(path, it, was[it], now[it]) for it in changed]
         return None
 
     def is_recursive(self, part, text):
@@ -93,12 +95,30 @@ def module_of(path):
     return inside.split("/") if inside else []
 
 
+def proof_paths(folder, path, function):
+    """Returns the paths below proofs/, as lists of names, where the function's own proof files may stand: a method's stand
+    where its type is declared."""
+    at, block = module_of(path), function.block
+    if block is None:
+        return [[*at, function.name]]
+    homes = [at, *(it for it in modules_declaring(folder, type_name(block.own_type)) if it != at)]
+    return [[*home, block.name(), function.name] for home in homes]
+
+
+@functools.cache
 def modules_declaring(folder, name):
     """Returns the modules of the crate that declare a type of this name."""
-    for at, _, files in sorted(os.walk(f"{folder}/src")):
-        for file in sorted(it for it in files if it.endswith(".rt")):
-            if re.search(rf"(?m)^\s*(?:pub(?:\([^)]*\))?\s+)?(?:struct|enum)\s+{re.escape(name)}\b", read(f"{at}/{file}")):
-                yield module_of(os.path.relpath(f"{at}/{file}", folder))
+    found = []
+    for path in sources(folder):
+        if re.search(rf"(?m)^\s*(?:pub(?:\([^)]*\))?\s+)?(?:struct|enum)\s+{re.escape(name)}\b", read(f"{folder}/{path}")):
+            found.append(module_of(path))
+    return found
+
+
+def sources(folder):
+    """Returns the files of the crate's src/, by their paths below the crate."""
+    files = (os.path.relpath(f"{at}/{it}", folder) for at, _, names in os.walk(f"{folder}/src") for it in names)
+    return sorted(it for it in files if it.endswith(".rt"))
 
 
 def edited(text, folder):

@@ -74,6 +74,12 @@ class Block:
         self.own_type = own.strip() if is_of_trait else self.of.strip()
         self.is_inherent = word == "impl" and not is_of_trait
 
+    def name(self):
+        """Returns the name that a check gives the type, with that of the trait and its types behind it."""
+        given = re.search(r"<(.*)>", self.trait)
+        types = [type_name(it) for it in given[1].split(",") if not it.strip().startswith("'")] if given else []
+        return "".join([type_name(self.own_type), type_name(self.trait), *types])
+
 
 class Function:
     """A function with a body: its head begins at `start`, its name at `named`, its body at `opens`, and it ends at `end`."""
@@ -90,6 +96,13 @@ class Function:
     def calls_itself(self, text):
         front = r"(?<![.:\w])" if self.block is None else r"\b(?:self\s*\.|Self\s*::)\s*"
         return bool(re.search(rf"{front}{self.name}\s*(?:::<[^>]*>)?\(", blanked(text[self.opens : self.end])))
+
+    def can_be_emptied(self, text):
+        """Returns whether a body that never returns may stand in place of its own: it has no closures, which have names of
+        their own, its result's type is named, and it isn't for constants."""
+        head, body = text[self.start : self.opens], blanked(text[self.opens : self.end])
+        is_plain = not re.search(r"->[^{]*\bimpl\b|\bconst\s+(?:unsafe\s+)?fn\b", head)
+        return is_plain and not re.search(r"(?:[(,=&]|\bmove|\breturn)\s*\|", body)
 
     def stands_free(self):
         """Returns whether it stands free or in an impl of its type, so that another may stand beside it."""

@@ -20,7 +20,8 @@ class Line:
 
     def __init__(self, symbol, words, notes):
         self.symbol, self.words, self.notes = symbol, words, notes
-        self.is_proved = words.startswith("proved")
+        # (what rests on a function that is taken by its statement)
+        self.is_proved = words.startswith(("proved", "no holes", "depends on a hole in"))
 
     def is_inside(self, path, lines):
         """Returns whether a goal of it lies in these lines of the file."""
