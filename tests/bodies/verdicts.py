@@ -63,10 +63,10 @@ def judged(said, own, inner=(), path=None, lines=None):
     name = own.symbol.partition("::")[2]
     if goals:
         return True, f"refused at {name}: {goals[0][:170]}"
-    if WAITS.search(own.words):
-        return None
     if gone:
         return False, f"BAD EDIT: {name} is refused only because its proof file names what the edit took away: {gone[0][:160]}"
+    if WAITS.search(own.words):
+        return None
     return False, f"BAD EDIT: {name} is refused by no goal of its own: {own.words[:200]}"
 
 
