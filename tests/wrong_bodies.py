@@ -9,13 +9,15 @@ Run at the top of the repository. The edits are crates/NAME/wrong-bodies/*.edit,
   in: FUNCTION           or TYPE::FUNCTION: where `old` stands more than once in the file (may be left out)
   old: TEXT              a text that stands there once
   new: TEXT              what stands in its place
+  refused: FUNCTION      of a constant that functions of other files name: the function that is to be refused
 
 An edit of functions that stand free or in an impl of their type is tried on twins: beside each function stands a second
 one with the same attributes, signature and clauses, a name of its own, the wrong body, and a copy of the function's
 proof files. Methods of traits' impls and functions that call themselves are changed in place. So one check judges all
 twins of a crate, several of one function too, and one edit of each function in place; it judges what calls a refused
-function over that function's contract. A constant is changed in place, with the functions that name it. Where the crate's own
-library is built of the same text, its functions that no edit changes stand by their contracts, and aren't proved again.
+function over that function's contract. Constants are changed in place, several in one check, with the functions that
+name them. Where the crate's own library is built of the same text, its functions that no edit changes stand by their
+contracts, and aren't proved again.
 
 An edit passes if each function that it changes (of a constant: one that names it) is refused by a goal or an answer of
 its own: a goal that the tactics don't prove, in the function's lines, or an error in its own proof files that isn't

@@ -38,6 +38,7 @@ class Edit:
     def __init__(self, folder, file):
         self.folder, self.name = folder, os.path.basename(file)
         self.kind, self.parts, self.constants, self.verdict = TWIN, [], [], None
+        self.refused = re.findall(r"(?m)^refused: *(\S+)", read(file))
         self.texts, why = edited(read(file), folder)
         for path, text in self.texts.items():
             why = why or self.compare(path, read(f"{folder}/{path}"), text)

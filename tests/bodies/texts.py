@@ -86,7 +86,11 @@ class Function:
 
     def __init__(self, name, start, named, opens, end, block):
         self.name, self.start, self.named, self.opens, self.end, self.block = name, start, named, opens, end, block
-        self.key = None
+        self.key, self.body = None, ""
+
+    def names(self, name):
+        """Returns whether this name stands in the body."""
+        return bool(re.search(rf"\b{name}\b", self.body))
 
     def is_in(self, of_type, name):
         """Returns whether this is the function of this name, of this type where one is given."""
@@ -132,7 +136,7 @@ def functions(text):
         made = Function(head[1], start, head.start(1), opens, closing(bare, opens), block)
         key = (block.head if block else "", head[1])
         counts[key] = counts.get(key, 0) + 1
-        made.key = (*key, counts[key])
+        made.key, made.body = (*key, counts[key]), bare[opens : made.end]
         found.append(made)
         at = made.end
     return found

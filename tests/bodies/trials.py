@@ -1,11 +1,10 @@
 """Tries the edits of one crate on copies of it, over the work that its checks keep."""
 import os
-import re
 import subprocess
 import tempfile
 
 from bodies.copies import MARK, Copies
-from bodies.edits import BAD, CONSTANT, IN_PLACE, TWIN, proof_paths, read
+from bodies.edits import BAD, CONSTANT, IN_PLACE, TWIN, proof_paths, read, sources
 from bodies.texts import functions
 from bodies.verdicts import ENDED, FRONT, first_lines, judged, lines_of
 
@@ -22,16 +21,16 @@ class Trial:
     def judge(self, edits, with_own_bodies=False):
         """Gives each edit its verdict: those on twins in one check, which those in place share as far as each function has but one."""
         twins = [part for it in edits if it.kind == TWIN for part in it.parts]
-        first, *others = rounds([it for it in edits if it.kind == IN_PLACE]) or [[]]
-        self.judge_parts([*twins, *first], with_own_bodies)
+        first, *others = apart([it for it in edits if it.kind == IN_PLACE], functions_of) or [[]]
+        self.judge_parts([*twins, *parts_of(first)], with_own_bodies)
         for it in others:
-            self.judge_parts(it, with_own_bodies)
+            self.judge_parts(parts_of(it), with_own_bodies)
         for it in edits:
             if it.kind in (TWIN, IN_PLACE):
                 lost = [part.verdict for part in it.parts if not part.verdict[0]]
                 it.verdict = lost[0] if lost else it.parts[0].verdict
-            elif it.kind == CONSTANT and not with_own_bodies:
-                self.judge_constant(it)
+        if not with_own_bodies:
+            self.judge_constants([it for it in edits if it.kind == CONSTANT])
 
     def control(self, edits):
         """Checks each function that an edit changes, on its twin or in place, with its own body, which is to be proved."""
@@ -96,47 +95,78 @@ class Trial:
         at = next((it for it in paths if it in self.copies.proved), paths[0])
         return "::".join([self.crate.name, *at])
 
-    def judge_constant(self, edit):
-        """Judges an edit of constants: one of the functions that name them is to be refused."""
-        naming = self.functions_naming(edit.constants)
-        symbols = [self.symbol(path, it) for path, it in naming]
-        with tempfile.TemporaryDirectory(prefix="wrong-bodies-") as room:
-            self.copies.write(room, [], [(path, it.key) for path, it in naming])
-            for path, _, was, now in edit.constants:
-                text = read(f"{room}/{path}").replace(was, now)
-                with open(f"{room}/{path}", "w", encoding="utf-8") as it:
-                    it.write(text)
-            said, status = self.check(room, symbols) if symbols else ("", 0)
-        if not ENDED.search(said):
-            edit.verdict = False, f"BAD EDIT: the check ended with status {status}: {first_lines(said)}"
-            return
-        verdicts = [judged(said, it) for it in lines_of(said) if not it.is_proved]
-        refused = [it for it in verdicts if it and it[0]]
-        edit.verdict = refused[0] if refused else (False, "NOT REFUSED: each function that names the constant is proved")
+    def judge_constants(self, edits):
+        """Judges edits of constants, as many in one check as no function that is asked for names constants of two: of each
+        edit one function is to be refused."""
+        changed = {(path, name) for it in edits for path, name, _, _ in it.constants}
+        for together in apart(edits, lambda it: self.constants_met(it, changed)):
+            found = {it: self.functions_asked(it) for it in together}
+            asked = [it for there in found.values() for it in there]
+            with tempfile.TemporaryDirectory(prefix="wrong-bodies-") as room:
+                self.copies.write(room, [], [(path, it.key) for path, it in asked])
+                for it in together:
+                    change_constants(room, it)
+                said, status = self.check(room, [self.symbol(*it) for it in asked]) if asked else ("", 0)
+            for it in together:
+                it.verdict = self.verdict_on_constant(said, status, found[it])
 
-    def functions_naming(self, constants):
-        """Returns the functions of the constants' files that name them, with those files; where none does, all of the files."""
-        found = []
-        for path, name, _, _ in constants:
-            text = read(f"{self.crate.folder}/{path}")
-            there = functions(text)
-            naming = [it for it in there if re.search(rf"\b{name}\b", text[it.opens : it.end])]
-            found += [(path, it) for it in naming or there]
+    def verdict_on_constant(self, said, status, asked):
+        if not ENDED.search(said):
+            return False, f"BAD EDIT: the check ended with status {status}: {first_lines(said)}"
+        symbols = {self.symbol(*it) for it in asked}
+        verdicts = [judged(said, it) for it in lines_of(said) if it.symbol in symbols and not it.is_proved]
+        refused = [it for it in verdicts if it and it[0]]
+        return refused[0] if refused else (False, "NOT REFUSED: each function that was asked for is proved")
+
+    def functions_asked(self, edit):
+        """Returns the functions of which an edit of constants wants one to be refused, with their files: those that it tells,
+        and else those of the constants' files that name them."""
+        if edit.refused:
+            names = [it.rpartition("::") for it in edit.refused]
+            return [found for found in self.all_functions() if any(found[1].is_in(it[0], it[2]) for it in names)]
+        named = {(path, name) for path, name, _, _ in edit.constants}
+        return [(path, it) for path, it in self.all_functions() if any(at == path and it.names(name) for at, name in named)]
+
+    def constants_met(self, edit, changed):
+        """Returns the constants that the edit changes, and those of the changed ones that its functions name."""
+        found = {(path, name) for path, name, _, _ in edit.constants}
+        for path, it in self.functions_asked(edit):
+            found |= {(at, name) for at, name in changed if it.names(name) and (at == path or (path, name) not in changed)}
         return found
 
+    def all_functions(self):
+        folder = self.crate.folder
+        return [(path, it) for path in sources(folder) for it in functions(read(f"{folder}/{path}"))]
 
-def rounds(edits):
-    """Returns the edits' parts in as few lists as one function has edits."""
+
+def change_constants(room, edit):
+    for path, _, was, now in edit.constants:
+        text = read(f"{room}/{path}").replace(was, now)
+        with open(f"{room}/{path}", "w", encoding="utf-8") as it:
+            it.write(text)
+
+
+def functions_of(edit):
+    return {(it.path, it.function.key) for it in edit.parts}
+
+
+def parts_of(edits):
+    return [part for it in edits for part in it.parts]
+
+
+def apart(edits, keys_of):
+    """Returns the edits in as few lists as no two of one list have a key in common."""
     found = []
     for edit in edits:
-        of = {(it.path, it.function.key) for it in edit.parts}
-        for there in found:
-            if not of & {(it.path, it.function.key) for it in there}:
-                there += edit.parts
+        keys = keys_of(edit)
+        for there, taken in found:
+            if not keys & taken:
+                there.append(edit)
+                taken |= keys
                 break
         else:
-            found.append([*edit.parts])
-    return found
+            found.append(([edit], set(keys)))
+    return [there for there, _ in found]
 
 
 def verdict_on(said, found, part, symbol):

@@ -9,7 +9,7 @@ use Rattle.fx_base.specs.Fault.{fault_at}
 use Rattle.fx_config.specs.Walk.{Found, first}
 use Rattle.fx_machine.specs.Classes.{Class}
 use Rattle.fx_plan.specs.declared.network.Network.{Network}
-use Rattle.fx_plan.specs.declared.limits.TheConstants.{LAYOUTS}
+use Rattle.fx_plan.specs.Limits.{layout_limit}
 use Rattle.fx_plan.specs.Layouts.{layouts_of}
 use Rattle.fx_plan.specs.Networks.{device_names, network_faults, network_of}
 use Rattle.fx_plan.specs.Plans.{RefusesNetwork}
@@ -44,7 +44,7 @@ IsFirstFault faults octets e =
 
 -- a network has few enough layouts, and its links form no cycle
 abbrev pub IsPlannable : Network → Type 0
-IsPlannable network = (length (layouts_of (net_of network)) ≤ LAYOUTS) × ((process : ℕ) → IsStuck (net_of network) process → ⊥)
+IsPlannable network = (length (layouts_of (net_of network)) ≤ layout_limit) × ((process : ℕ) → IsStuck (net_of network) process → ⊥)
 
 -- the octets are the document of a network
 pub record IsNetwork (octets : List ℕ) (network : Network) : Type 0 where

@@ -6,15 +6,15 @@ use Rattle.fx_config.specs.Lists.{entries, items, items_of, name_once}
 use Rattle.fx_config.specs.Scalars.{text_of}
 use Rattle.fx_config.specs.PropertyMatches.{property_match_faults, property_match_of}
 use Rattle.fx_config.specs.Keys.{key_row, with_fields}
-use Rattle.fx_config.specs.declared.limits.TheConstants.{ENTRIES}
+use Rattle.fx_config.specs.Limits.{entry_limit}
 use Rattle.fx_config.specs.declared.aggregation.Aggregation.{Aggregation}
 
 abbrev pub aggregation_rows : List (List ℕ) → List Row
 aggregation_rows earlier =
     required (codes "name") (name_once earlier)
     ∷ key_row
-    ∷ items 0 ENTRIES (codes "match") property_match_faults
-    ∷ entries 0 ENTRIES (codes "exportingProcess") name_once text_of
+    ∷ items 0 entry_limit (codes "match") property_match_faults
+    ∷ entries 0 entry_limit (codes "exportingProcess") name_once text_of
     ∷ []
 
 abbrev pub aggregation_faults : List (List ℕ) → List ℕ → Data → List Found

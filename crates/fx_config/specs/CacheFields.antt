@@ -11,7 +11,7 @@ use Rattle.fx_elements.specs.declared.element.Element.{Element}
 use Rattle.fx_elements.specs.declared.element.Element.TheVariants.{OnAxis, OctetDeltaCount, PacketDeltaCount, OctetTotalCount, PacketTotalCount}
 use Rattle.fx_config.specs.GivenElements.{element_in}
 use Rattle.fx_elements.specs.Axes.{axis_width}
-use Rattle.fx_config.specs.declared.limits.TheConstants.{FIELDS}
+use Rattle.fx_config.specs.Limits.{field_limit}
 use Rattle.fx_config.specs.declared.cache_field.CacheField.{CacheField}
 
 -- it counts since the observation began, and not since the last report
@@ -85,4 +85,4 @@ cache_field_of immediate d = record {
 
 -- a layout's fields
 abbrev pub fields_row : Bool → Row
-fields_row immediate = entries 1 FIELDS (codes "cacheField") (cache_field_faults immediate) (λ d. (cache_field_of immediate d).name)
+fields_row immediate = entries 1 field_limit (codes "cacheField") (cache_field_faults immediate) (λ d. (cache_field_of immediate d).name)

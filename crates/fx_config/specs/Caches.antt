@@ -8,7 +8,7 @@ use Rattle.fx_config.specs.Choice.{one_of}
 use Rattle.fx_config.specs.Lists.{entries, items_of, name_once}
 use Rattle.fx_config.specs.Scalars.{text_of, number_of, whole_faults}
 use Rattle.fx_config.specs.CacheLayouts.{cache_layout_faults, cache_layout_of}
-use Rattle.fx_config.specs.declared.limits.TheConstants.{ENTRIES}
+use Rattle.fx_config.specs.Limits.{entry_limit}
 use Rattle.fx_config.specs.declared.cache.CacheKind.{CacheKind}
 use Rattle.fx_config.specs.declared.cache.CacheKind.TheVariants.{Immediate, Timeout, Natural, Permanent}
 use Rattle.fx_config.specs.declared.cache.Settings.{Settings}
@@ -67,7 +67,7 @@ cache_rows earlier =
     ∷ optional (codes "timeoutCache") (settings_faults false)
     ∷ optional (codes "naturalCache") (settings_faults false)
     ∷ optional (codes "permanentCache") (settings_faults false)
-    ∷ entries 0 ENTRIES (codes "exportingProcess") name_once text_of
+    ∷ entries 0 entry_limit (codes "exportingProcess") name_once text_of
     ∷ []
 
 abbrev pub cache_faults : List (List ℕ) → List ℕ → Data → List Found

@@ -6,7 +6,7 @@ use Rattle.fx_config.specs.Choice.{none_of}
 use Rattle.fx_config.specs.Lists.{entries, items_of, name_once}
 use Rattle.fx_config.specs.Scalars.{text_of}
 use Rattle.fx_config.specs.Aggregations.{aggregation_faults, aggregation_of}
-use Rattle.fx_config.specs.declared.limits.TheConstants.{ENTRIES}
+use Rattle.fx_config.specs.Limits.{entry_limit}
 use Rattle.fx_config.specs.declared.collecting_process.CollectingProcess.{CollectingProcess}
 
 -- files are refused, and the collectors left unread
@@ -15,8 +15,8 @@ collecting_process_rows earlier =
     required (codes "name") (name_once earlier)
     ∷ none_of ((codes "fileReader", 113) ∷ [])
     ∷ unread (codes "tcpCollector" ∷ codes "sctpCollector" ∷ codes "udpCollector" ∷ [])
-    ∷ entries 0 ENTRIES (codes "exportingProcess") name_once text_of
-    ∷ entries 0 ENTRIES (codes "once-audit:aggregation") aggregation_faults (λ d. (aggregation_of d).name)
+    ∷ entries 0 entry_limit (codes "exportingProcess") name_once text_of
+    ∷ entries 0 entry_limit (codes "once-audit:aggregation") aggregation_faults (λ d. (aggregation_of d).name)
     ∷ []
 
 abbrev pub collecting_process_faults : List (List ℕ) → List ℕ → Data → List Found

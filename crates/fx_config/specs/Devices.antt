@@ -9,7 +9,7 @@ use Rattle.fx_config.specs.Caches.{cache_faults, cache_of}
 use Rattle.fx_config.specs.ExportingProcesses.{exporting_process_faults, exporting_process_of}
 use Rattle.fx_config.specs.CollectingProcesses.{collecting_process_faults, collecting_process_of}
 use Rattle.fx_config.specs.References.{reference_faults}
-use Rattle.fx_config.specs.declared.limits.TheConstants.{ENTRIES}
+use Rattle.fx_config.specs.Limits.{entry_limit}
 use Rattle.fx_config.specs.declared.ipfix.Device.{Device}
 use Rattle.fx_config.specs.declared.ipfix.Ipfix.{Ipfix}
 
@@ -26,11 +26,11 @@ lists_of d = record {
 
 abbrev pub ipfix_rows : List Row
 ipfix_rows =
-    entries 0 ENTRIES (codes "observationPoint") observation_point_faults (λ d. (observation_point_of d).name)
-    ∷ entries 0 ENTRIES (codes "selectionProcess") selection_process_faults (λ d. (selection_process_of d).name)
-    ∷ entries 0 ENTRIES (codes "cache") cache_faults (λ d. (cache_of d).name)
-    ∷ entries 0 ENTRIES (codes "exportingProcess") exporting_process_faults (λ d. (exporting_process_of d).name)
-    ∷ entries 0 ENTRIES (codes "collectingProcess") collecting_process_faults (λ d. (collecting_process_of d).name)
+    entries 0 entry_limit (codes "observationPoint") observation_point_faults (λ d. (observation_point_of d).name)
+    ∷ entries 0 entry_limit (codes "selectionProcess") selection_process_faults (λ d. (selection_process_of d).name)
+    ∷ entries 0 entry_limit (codes "cache") cache_faults (λ d. (cache_of d).name)
+    ∷ entries 0 entry_limit (codes "exportingProcess") exporting_process_faults (λ d. (exporting_process_of d).name)
+    ∷ entries 0 entry_limit (codes "collectingProcess") collecting_process_faults (λ d. (collecting_process_of d).name)
     ∷ then_check (λ up d. reference_faults up (lists_of d))
     ∷ []
 

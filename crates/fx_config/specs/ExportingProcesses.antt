@@ -8,7 +8,7 @@ use Rattle.fx_config.specs.Walk.{Found, Row, object_faults, required, optional, 
 use Rattle.fx_config.specs.Lists.{entries, items_of, name_once}
 use Rattle.fx_config.specs.Scalars.{text_of, word_faults}
 use Rattle.fx_config.specs.Destinations.{destination_faults, destination_of}
-use Rattle.fx_config.specs.declared.limits.TheConstants.{ENTRIES}
+use Rattle.fx_config.specs.Limits.{entry_limit}
 use Rattle.fx_config.specs.declared.exporting_process.ExportingProcess.{ExportingProcess}
 use Rattle.fx_config.specs.declared.exporting_process.ExportMode.{ExportMode}
 use Rattle.fx_config.specs.declared.exporting_process.ExportMode.TheVariants.{Parallel, LoadBalancing, Fallback}
@@ -36,7 +36,7 @@ abbrev pub exporting_process_rows : List (List ℕ) → List Row
 exporting_process_rows earlier =
     required (codes "name") (name_once earlier)
     ∷ optional (codes "exportMode") export_mode_faults
-    ∷ entries 1 ENTRIES (codes "destination") destination_faults (λ d. (destination_of d).name)
+    ∷ entries 1 entry_limit (codes "destination") destination_faults (λ d. (destination_of d).name)
     ∷ unread (codes "options" ∷ [])
     ∷ []
 

@@ -6,7 +6,7 @@ use Rattle.fx_config.specs.Pointer.{nth}
 use Rattle.fx_config.specs.Walk.{Found, Row, fault_if}
 use Rattle.fx_config.specs.Lists.{list_row}
 use Rattle.fx_config.specs.KeyFields.{key_field_faults, key_field_of, part_of}
-use Rattle.fx_config.specs.declared.limits.TheConstants.{FIELDS}
+use Rattle.fx_config.specs.Limits.{field_limit}
 use Rattle.fx_config.specs.declared.key_field.KeyField.{KeyField}
 use Rattle.fx_layout.specs.declared.layout.Part.{Part}
 use Rattle.fx_layout.specs.Keys.{Layout, can_stand, part_at, with_part}
@@ -38,4 +38,4 @@ with_fields layout [] = layout
 with_fields layout (d ∷ ds) = with_fields (add_field layout (key_field_of d)) ds
 
 abbrev pub key_row : Row
-key_row = list_row 0 FIELDS (codes "key") (λ up ds. fields_faults [] up 0 ds)
+key_row = list_row 0 field_limit (codes "key") (λ up ds. fields_faults [] up 0 ds)

@@ -1,3 +1,4 @@
+pub mod Limits
 pub mod Pointer
 pub mod Walk
 pub mod Scalars

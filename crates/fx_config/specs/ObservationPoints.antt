@@ -7,7 +7,7 @@ use Rattle.serde_json.specs.Find.{get}
 use Rattle.fx_config.specs.Walk.{Found, Row, object_faults, required, optional, member_of}
 use Rattle.fx_config.specs.Lists.{entries, items_of, name_once}
 use Rattle.fx_config.specs.Scalars.{text_of, number_of, whole_faults, word_faults}
-use Rattle.fx_config.specs.declared.limits.TheConstants.{ENTRIES}
+use Rattle.fx_config.specs.Limits.{entry_limit}
 use Rattle.fx_config.specs.declared.observation_point.ObservationPoint.{ObservationPoint}
 use Rattle.fx_config.specs.declared.observation_point.Direction.{Direction}
 use Rattle.fx_config.specs.declared.observation_point.Direction.TheVariants.{Ingress, Egress, Both}
@@ -35,9 +35,9 @@ abbrev pub observation_point_rows : List (List ℕ) → List Row
 observation_point_rows earlier =
     required (codes "name") (name_once earlier)
     ∷ required (codes "observationDomainId") (whole_faults 0 0xffff_ffff)
-    ∷ entries 1 ENTRIES (codes "ifName") name_once text_of
+    ∷ entries 1 entry_limit (codes "ifName") name_once text_of
     ∷ optional (codes "direction") direction_faults
-    ∷ entries 0 ENTRIES (codes "selectionProcess") name_once text_of
+    ∷ entries 0 entry_limit (codes "selectionProcess") name_once text_of
     ∷ []
 
 abbrev pub observation_point_faults : List (List ℕ) → List ℕ → Data → List Found

@@ -6,13 +6,13 @@ use Rattle.fx_config.specs.Walk.{Found, Row, object_faults, required, optional, 
 use Rattle.fx_config.specs.Lists.{entries, items_of, name_once}
 use Rattle.fx_config.specs.Scalars.{text_of, name_faults}
 use Rattle.fx_config.specs.Selectors.{selector_faults, selector_of}
-use Rattle.fx_config.specs.declared.limits.TheConstants.{SELECTORS}
+use Rattle.fx_config.specs.Limits.{selector_limit}
 use Rattle.fx_config.specs.declared.selection_process.SelectionProcess.{SelectionProcess}
 
 abbrev pub selection_process_rows : List (List ℕ) → List Row
 selection_process_rows earlier =
     required (codes "name") (name_once earlier)
-    ∷ entries 1 SELECTORS (codes "selector") selector_faults (λ d. (selector_of d).name)
+    ∷ entries 1 selector_limit (codes "selector") selector_faults (λ d. (selector_of d).name)
     ∷ optional (codes "cache") name_faults
     ∷ []
 

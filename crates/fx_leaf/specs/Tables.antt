@@ -7,7 +7,6 @@ use Rattle.fx_machine.specs.Network.{Net, Holder, Aggregation, Process, at_place
 use Rattle.fx_machine.specs.Ranks.{IsNetwork}
 use Rattle.fx_machine.specs.Orders.{Descends}
 use Rattle.fx_machine.specs.Matches.{HasEntries}
-use Rattle.fx_leaf.specs.declared.table.TheConstants.{LAYOUTS}
 use Rattle.fx_leaf.specs.declared.verdict.Fate.TheVariants.{Never}
 use Rattle.fx_leaf.specs.Standings.{standing, match_fields}
 use Rattle.fx_leaf.specs.Verdicts.{Verdict, both_judged, all_judged, where_passed, sent_verdict, layout_reads, tally_verdict, verdict}
@@ -84,6 +83,10 @@ HasVerdicts net n region table process =
 
 -- ---- what a plan lends
 
+-- The most different layouts of a network's records.
+abbrev pub layout_limit : ℕ
+layout_limit = 64
+
 pub record Tables : Type 0 where
   pub net : Net
   pub order : List ℕ  -- its collecting processes, in the order in which their rows are filled
@@ -96,5 +99,5 @@ pub record AreTables (t : Tables) : Type 0 where
   pub whole : (process : ℕ) → process < length t.net.processes → Contains t.order process
   pub reports : t.net.report < length t.net.processes
   pub numbers : Numbers t.net t.numbering
-  pub few : length t.numbering.layouts ≤ LAYOUTS
+  pub few : length t.numbering.layouts ≤ layout_limit
   pub entries : (process : ℕ) → AllByRecursion HasEntries (aggregations_of (slice_get t.net.processes process))

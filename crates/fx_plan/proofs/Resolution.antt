@@ -15,7 +15,7 @@ use Rattle.fx_config.specs.Lists.{by_length, is_among, items_in, items_of, list_
 use Rattle.fx_config.specs.declared.collecting_process.CollectingProcess.{CollectingProcess}
 use Rattle.fx_config.specs.declared.ipfix.Device.{Device}
 use Rattle.fx_config.proofs.Resolved.{none_before, none_behind}
-use Rattle.fx_plan.specs.declared.limits.TheConstants.{LINKS}
+use Rattle.fx_plan.specs.Limits.{link_limit}
 use Rattle.fx_plan.specs.declared.link.Link.{Link}
 use Rattle.fx_plan.specs.declared.network_device.NetworkDevice.{NetworkDevice}
 use Rattle.fx_plan.specs.Labels.{Label, collecting_labels, exporting_labels, device_labels, is_label, place}
@@ -142,7 +142,7 @@ resolved d h =
     let links = none_before _ (row_faults (drop 3 (network_rows devices)) [] d) (rows_behind 2 (network_rows devices) [] d rows) in
     let report = none_before _ (row_faults (drop 4 (network_rows devices)) [] d) (rows_behind 3 (network_rows devices) [] d rows) in
     let count : length (processes_of devices) ≡ length (collecting_labels devices) = so_many_in (exporting_labels devices) (length (cache_holders (exporting_labels devices) devices)) devices in
-    let all = list_none 0 LINKS (λ up ds. links_faults devices [] up 0 ds) [] (codes "links") (get (codes "links") d) links in
+    let all = list_none 0 link_limit (λ up ds. links_faults devices [] up 0 ds) [] (codes "links") (get (codes "links") d) links in
     let there = report_there devices [] (codes "report") (get (codes "report") d) report in
     record {
       leads = λ link p e. rw count (links_lead devices [] (below [] (codes "links")) 0 (items_of (member_of (codes "links") d)) all link p e);

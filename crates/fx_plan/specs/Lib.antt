@@ -1,3 +1,4 @@
+pub mod Limits
 pub mod RequiredLists
 pub mod NetworkDevices
 pub mod Links

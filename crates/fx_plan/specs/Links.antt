@@ -9,7 +9,7 @@ use Rattle.fx_config.specs.Lists.{is_among, list_faults}
 use Rattle.fx_config.specs.Scalars.{name_faults, text_of}
 use Rattle.fx_config.specs.declared.ipfix.Device.{Device}
 use Rattle.fx_config.specs.declared.exporting_process.ExportingProcess.{ExportingProcess}
-use Rattle.fx_plan.specs.declared.limits.TheConstants.{LINKS}
+use Rattle.fx_plan.specs.Limits.{link_limit}
 use Rattle.fx_plan.specs.declared.link.Link.{Link}
 use Rattle.fx_plan.specs.declared.network_device.NetworkDevice.{NetworkDevice}
 
@@ -79,4 +79,4 @@ links_faults devices earlier up i (d ∷ ds) = link_faults devices earlier (nth 
 
 -- the list of links, which may be empty but must be there
 abbrev pub links_row : List NetworkDevice → Row
-links_row devices = required (codes "links") (list_faults 0 LINKS (λ up ds. links_faults devices [] up 0 ds))
+links_row devices = required (codes "links") (list_faults 0 link_limit (λ up ds. links_faults devices [] up 0 ds))

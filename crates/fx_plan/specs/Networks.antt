@@ -7,7 +7,7 @@ use Rattle.fx_config.specs.declared.ipfix.Device.{Device}
 use Rattle.fx_config.specs.Pointer.{below}
 use Rattle.fx_config.specs.Walk.{Found, Row, object_faults, required, then_check, fault_if, member_of}
 use Rattle.fx_config.specs.Lists.{items_of}
-use Rattle.fx_plan.specs.declared.limits.TheConstants.{DEVICES, PROCESSES}
+use Rattle.fx_plan.specs.Limits.{device_limit, process_limit}
 use Rattle.fx_plan.specs.declared.network.Network.{Network}
 use Rattle.fx_plan.specs.declared.network_device.NetworkDevice.{NetworkDevice}
 use Rattle.fx_plan.specs.RequiredLists.{required_entries}
@@ -21,8 +21,8 @@ devices_of d = map network_device_of (items_of (member_of (codes "devices") d))
 -- links and the report name things of the devices
 abbrev pub network_rows : List NetworkDevice → List Row
 network_rows devices =
-    required_entries DEVICES (codes "devices") network_device_faults (λ d. (network_device_of d).name)
-    ∷ then_check (λ up d. fault_if (nat_lt PROCESSES (process_count devices)) 115 (below up (codes "devices")))
+    required_entries device_limit (codes "devices") network_device_faults (λ d. (network_device_of d).name)
+    ∷ then_check (λ up d. fault_if (nat_lt process_limit (process_count devices)) 115 (below up (codes "devices")))
     ∷ links_row devices
     ∷ required (codes "report") (report_faults devices)
     ∷ []

@@ -9,7 +9,7 @@ use Rattle.fx_layout.specs.Keys.{Fits, Layout}
 use Rattle.fx_machine.specs.Network.{Net, layout_of}
 use Rattle.fx_machine.specs.Matches.{AreEntries}
 use Rattle.fx_machine.specs.Ranks.{IsRanked}
-use Rattle.fx_plan.specs.declared.limits.TheConstants.{LAYOUTS}
+use Rattle.fx_plan.specs.Limits.{layout_limit}
 use Rattle.fx_plan.specs.declared.network.Network.{Network}
 use Rattle.fx_plan.specs.Cycles.{IsText, stuck_text}
 use Rattle.fx_plan.specs.Layouts.{AreNumbers, layouts_of}
@@ -25,7 +25,7 @@ pub record IsResolved (net : Net) : Type 0 where
 -- ---- what refuses it
 
 abbrev pub HasTooManyLayouts : Net → Type 0
-HasTooManyLayouts net = LAYOUTS < length (layouts_of net)
+HasTooManyLayouts net = layout_limit < length (layouts_of net)
 
 -- some processes are stuck, so there are no ranks, and the fault tells them all
 pub record IsCycle (network : Network) (e : Fault) : Type 0 where
@@ -40,13 +40,13 @@ pub record IsCycle (network : Network) (e : Fault) : Type 0 where
 abbrev pub RefusesNetwork : Network → Fault → Type 0
 RefusesNetwork network e =
     ((e ≡ fault_at 207 places.None) × HasTooManyLayouts (net_of network))
-    ⊎ ((length (layouts_of (net_of network)) ≤ LAYOUTS) × IsCycle network e)
+    ⊎ ((length (layouts_of (net_of network)) ≤ layout_limit) × IsCycle network e)
 
 -- what reading a plan comes to: the network that the document means, if it has no fault at all, and else its first
 -- fault; or want of memory
 abbrev pub ReadsPlan : Data → Result Network Fault → Type 0
 ReadsPlan d (Ok network) =
-    (network_faults [] d ≡ []) × (network ≡ network_of d) × (length (layouts_of (net_of network)) ≤ LAYOUTS) × ((process : ℕ) → IsStuck (net_of network) process → ⊥)
+    (network_faults [] d ≡ []) × (network ≡ network_of d) × (length (layouts_of (net_of network)) ≤ layout_limit) × ((process : ℕ) → IsStuck (net_of network) process → ⊥)
 ReadsPlan d (Err e) = Refuses e (network_faults [] d) ⊎ ((network_faults [] d ≡ []) × RefusesNetwork (network_of d) e)
 
 -- ---- what it keeps
@@ -59,5 +59,5 @@ pub record IsPlan (network : Network) (net : Net) (ranked order : List ℕ) (lay
   pub fits : (holder : ℕ) → Fits (layout_of (slice_get net.holders holder))
   pub entries : AreEntries net
   pub layouts_are : layouts ≡ layouts_of net
-  pub few : length layouts ≤ LAYOUTS
+  pub few : length layouts ≤ layout_limit
   pub numbers_are : AreNumbers layouts net.holders numbers

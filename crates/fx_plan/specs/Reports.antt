@@ -8,7 +8,7 @@ use Rattle.fx_config.specs.Lists.{items_of}
 use Rattle.fx_config.specs.KeyFields.{key_field_faults, key_field_of}
 use Rattle.fx_config.specs.Keys.{with_field}
 use Rattle.fx_config.specs.declared.key_field.KeyField.{KeyField}
-use Rattle.fx_plan.specs.declared.limits.TheConstants.{KEY_FIELDS}
+use Rattle.fx_plan.specs.Limits.{key_field_limit}
 use Rattle.fx_plan.specs.declared.report.Report.{Report}
 use Rattle.fx_plan.specs.declared.network_device.NetworkDevice.{NetworkDevice}
 use Rattle.fx_plan.specs.RequiredLists.{required_items}
@@ -41,7 +41,7 @@ abbrev pub report_rows : List NetworkDevice → List Row
 report_rows devices =
     required (codes "device") name_faults
     ∷ required (codes "collectingProcess") name_faults
-    ∷ required_items KEY_FIELDS (codes "key") key_field_faults
+    ∷ required_items key_field_limit (codes "key") key_field_faults
     ∷ then_check (λ up d. fault_if (not (has_place devices (report_of d))) 205 up)
     ∷ then_check (λ up d. fault_if (not (is_some (key_layout (report_of d).key))) 206 up)
     ∷ []

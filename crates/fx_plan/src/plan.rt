@@ -5,6 +5,7 @@ ghost use Rattle.fx_machine.specs.Matches.{AreEntries};
 ghost use Rattle.fx_machine.specs.Ranks.{IsNetwork};
 ghost use Rattle.fx_machine.specs.Views.{now_of};
 ghost use Rattle.fx_plan.specs.Layouts.{AreNumbers, layouts_of};
+ghost use Rattle.fx_plan.specs.Limits.{layout_limit};
 ghost use Rattle.fx_plan.specs.Networks.{device_numbered};
 ghost use Rattle.fx_plan.specs.Plans.{IsPlan, ReadsPlan};
 ghost use Rattle.fx_plan.specs.Ranks.{IsDescending, IsRank, IsRankOrder, IsWhole};
@@ -15,7 +16,6 @@ use crate::holders::cache_holders;
 use crate::key_layout::layout_of;
 use crate::labels::{cache_labels, collecting_labels, exporting_labels, place};
 use crate::layouts::{Numbering, numbering_of};
-use crate::limits::LAYOUTS;
 use crate::network::{Network, read_network};
 use crate::points::tables_of;
 use crate::processes::{link_ends, processes_in};
@@ -151,7 +151,7 @@ impl Plan {
     /// order. There are at most 64.
     pub fn layouts(&self) -> &[Layout]
         ensures value { result.now ≡ layouts_of (tables.net_of self.now) }
-        ensures few { length result.now ≤ LAYOUTS }
+        ensures few { length result.now ≤ layout_limit }
     {
         self.parts.numbering.layouts.as_slice()
     }

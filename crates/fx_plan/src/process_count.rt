@@ -2,6 +2,7 @@
 ghost use Rattle.std.specs.Prelude.{◌≡◌, nat_lt, codes};
 ghost use Rattle.fx_config.specs.Pointer.{below, pointer};
 ghost use Rattle.fx_config.specs.Walk.{Reads, fault_if};
+ghost use Rattle.fx_plan.specs.Limits.{process_limit};
 ghost use Rattle.fx_plan.specs.NetworkDevices.{process_count};
 
 use crate::limits::PROCESSES;
@@ -13,7 +14,7 @@ use std::alloc::Global;
 
 /// Whether the devices have more collecting processes than a network may have.
 fn are_too_many(devices: &[NetworkDevice]) -> bool
-    ensures { result ≡ nat_lt PROCESSES (process_count devices.now) }
+    ensures { result ≡ nat_lt process_limit (process_count devices.now) }
 {
     let mut room = PROCESSES;
     for device in devices {
@@ -33,7 +34,7 @@ pub fn processes_are_few(
     path: &Path<'_>,
     devices: &[NetworkDevice],
 ) -> Result<(), Fault>
-    ensures { Reads (fault_if (nat_lt PROCESSES (process_count devices.now)) 115 (below (pointer path.now) (codes "devices"))) tt result }
+    ensures { Reads (fault_if (nat_lt process_limit (process_count devices.now)) 115 (below (pointer path.now) (codes "devices"))) tt result }
 {
     let path = Path::Member(path, "devices");
     refuse_if(alloc, &path, 115, are_too_many(devices))

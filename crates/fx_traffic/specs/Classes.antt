@@ -10,12 +10,12 @@ use Rattle.fx_traffic.specs.Texts.{name_once}
 use Rattle.fx_traffic.specs.Lists.{list_faults}
 use Rattle.fx_traffic.specs.Regions.{region_faults, region_given}
 use Rattle.fx_traffic.specs.Crossings.{path_faults, path_of}
-use Rattle.fx_traffic.specs.declared.limits.TheConstants.{CLASSES, PATHS}
+use Rattle.fx_traffic.specs.Limits.{class_limit, path_limit}
 
 -- ---- a class, in a network whose devices have these names
 
 abbrev pub paths_faults : List (List ℕ) → List ℕ → Data → List Found
-paths_faults devices = list_faults 1 PATHS (λ up ds. items_faults (path_faults devices) up 0 ds)
+paths_faults devices = list_faults 1 path_limit (λ up ds. items_faults (path_faults devices) up 0 ds)
 
 abbrev pub class_rows : List (List ℕ) → List (List ℕ) → List Row
 class_rows devices earlier =
@@ -39,7 +39,7 @@ class_of devices d = record {
 -- ---- the document, of which crates above speak by these two words
 
 abbrev pub list_of_classes_faults : List (List ℕ) → List ℕ → Data → List Found
-list_of_classes_faults devices = list_faults 0 CLASSES (λ up ds. entries_faults (class_faults devices) class_name [] up 0 ds)
+list_of_classes_faults devices = list_faults 0 class_limit (λ up ds. entries_faults (class_faults devices) class_name [] up 0 ds)
 
 abbrev pub traffic_rows : List (List ℕ) → List Row
 traffic_rows devices =

@@ -9,7 +9,7 @@ use Rattle.fx_config.specs.Scalars.{text_of}
 use Rattle.fx_machine.specs.declared.traffic.Crossing.{Crossing}
 use Rattle.fx_traffic.specs.Texts.{text_that, name_faults}
 use Rattle.fx_traffic.specs.Lists.{list_faults}
-use Rattle.fx_traffic.specs.declared.limits.TheConstants.{CROSSINGS}
+use Rattle.fx_traffic.specs.Limits.{crossing_limit}
 
 -- ---- a crossing's members
 
@@ -56,7 +56,7 @@ crossing_of devices d = record {
 -- ---- paths
 
 abbrev pub path_faults : List (List ℕ) → List ℕ → Data → List Found
-path_faults devices = list_faults 0 CROSSINGS (λ up ds. items_faults (crossing_faults devices) up 0 ds)
+path_faults devices = list_faults 0 crossing_limit (λ up ds. items_faults (crossing_faults devices) up 0 ds)
 
 abbrev pub path_of : List (List ℕ) → Data → List Crossing
 path_of devices d = map (crossing_of devices) (items_of d)

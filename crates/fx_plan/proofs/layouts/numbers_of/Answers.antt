@@ -5,7 +5,7 @@ use Rattle.std.proofs.lemmas.Bool.{cases_lt}
 use Rattle.fx_layout.specs.Keys.{Layout, Fits}
 use Rattle.fx_machine.specs.Network.{Holder, layout_of}
 use Rattle.fx_plan.specs.Layouts.{held_layouts, with_layout, with_layouts}
-use Rattle.fx_plan.specs.declared.limits.TheConstants.{LAYOUTS}
+use Rattle.fx_plan.specs.Limits.{layout_limit}
 use Rattle.fx_plan.proofs.Linking.{drop_item}
 use Rattle.fx_plan.proofs.Numberings.{all_longer, exit_with, numbers_grow, numbers_push}
 use Rattle.fx_plan.proofs.layouts.numbers_of.Goals as goal
@@ -22,7 +22,7 @@ returns-in_err-number-clause-err c =
     exit_with _ _ _ c.from_residual.ensures (elim c.in_err-number.ensures.err [
       | inl m ↦ inl m
       | inr f ↦
-          (let more : LAYOUTS < length (with_layout known c.layout-layout.result.now) = f.1 in
+          (let more : layout_limit < length (with_layout known c.layout-layout.result.now) = f.1 in
           let longer : length (with_layout known c.layout-layout.result.now) ≤ length (with_layouts (with_layout known c.layout-layout.result.now) (held_layouts (drop (n + 1) xs))) = all_longer (with_layout known c.layout-layout.result.now) (held_layouts (drop (n + 1) xs)) in
           let all : length (with_layouts (with_layout known c.layout-layout.result.now) (held_layouts (drop (n + 1) xs))) ≡ length (with_layouts c.args.known.now.items (held_layouts xs)) = ap length same in
           inr (f.0, omega (arith, more, longer, all)))

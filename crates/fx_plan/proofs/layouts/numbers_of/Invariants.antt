@@ -2,7 +2,7 @@ use Rattle.std.proofs.Common.{◌≡◌, ◌<◌, ◌≤◌, ℕ, take, drop, le
 use Rattle.fx_layout.specs.Keys.{Fits}
 use Rattle.fx_machine.specs.Network.{layout_of}
 use Rattle.fx_plan.specs.Layouts.{AreNumbers, held_layouts, with_layouts}
-use Rattle.fx_plan.specs.declared.limits.TheConstants.{LAYOUTS}
+use Rattle.fx_plan.specs.Limits.{layout_limit}
 use Rattle.fx_plan.proofs.layouts.numbers_of.Given as goal
 
 abbrev pub invariant-loop-holder : goal.invariant-loop-holder
@@ -11,5 +11,5 @@ invariant-loop-holder l =
       known : with_layouts l.known.items (held_layouts (drop l.holder-index l.holders)) ≡ with_layouts l.initial.known.items (held_layouts l.holders);
       numbers : AreNumbers l.known.items (take l.holder-index l.holders) l.numbers.items;
       fits : (k : ℕ) → k < l.holder-index → Fits (layout_of (slice_get l.holders k));
-      few : length l.known.items ≤ LAYOUTS;
+      few : length l.known.items ≤ layout_limit;
     }

@@ -11,7 +11,7 @@ use Rattle.fx_plan.specs.Plans.{IsCycle, IsResolved, ReadsPlan}
 use Rattle.fx_plan.specs.Networks.{network_faults, network_of}
 use Rattle.fx_plan.specs.Ranks.{IsStuck}
 use Rattle.fx_plan.specs.declared.network.Network.{Network}
-use Rattle.fx_plan.specs.declared.limits.TheConstants.{LAYOUTS}
+use Rattle.fx_plan.specs.Limits.{layout_limit}
 use Rattle.fx_layout.specs.Keys.{Layout}
 use Rattle.fx_plan.specs.Tables.{net_of}
 use Rattle.fx_plan.proofs.Matching.{network_entries}
@@ -20,13 +20,13 @@ use Rattle.fx_plan.proofs.Stalling.{none_are_stuck}
 use Rattle.fx_plan.proofs.plan.read_plan.Goals as goal
 
 -- the exit where there are no ranks
-no_ranks : (d : Data) (network : Network) (r : Result Network Fault) (e : Fault) → IsErr r × IsErrAnd r (λ x. x ≡ e) → network_faults [] d ≡ [] → network ≡ network_of d → length (layouts_of (net_of network)) ≤ LAYOUTS → (e ≡ fault_at 900 places.None) ⊎ IsCycle network e → ReadsPlan d r
+no_ranks : (d : Data) (network : Network) (r : Result Network Fault) (e : Fault) → IsErr r × IsErrAnd r (λ x. x ≡ e) → network_faults [] d ≡ [] → network ≡ network_of d → length (layouts_of (net_of network)) ≤ layout_limit → (e ≡ fault_at 900 places.None) ⊎ IsCycle network e → ReadsPlan d r
 no_ranks d network (Ok x) e h none is few why = absurd h.1
 no_ranks d network (Err x) e h none is few why =
     rw h.1
     (elim why [
       | inl m ↦ inl (rw m refl)
-      | inr cycle ↦ inr (none, inr (subst (λ (n : Network). length (layouts_of (net_of n)) ≤ LAYOUTS) is few, subst (λ (n : Network). IsCycle n e) is cycle))
+      | inr cycle ↦ inr (none, inr (subst (λ (n : Network). length (layouts_of (net_of n)) ≤ layout_limit) is few, subst (λ (n : Network). IsCycle n e) is cycle))
     ])
 
 pub ranks_of-requires-clause-resolved : goal.ranks_of-requires-clause-resolved
@@ -52,17 +52,17 @@ planned-requires c =
 
 pub returns-in_err-ranks : goal.returns-in_err-ranks
 returns-in_err-ranks c =
-    let few : length (layouts_of (net_of c.in_ok-network.network)) ≤ LAYOUTS = subst (λ (n : Net). length (layouts_of n) ≤ LAYOUTS) c.in_ok-net.ensures (subst (λ (l : List Layout). length l ≤ LAYOUTS) c.in_ok-numbering.ensures.layouts c.in_ok-numbering.ensures.few) in
+    let few : length (layouts_of (net_of c.in_ok-network.network)) ≤ layout_limit = subst (λ (n : Net). length (layouts_of n) ≤ layout_limit) c.in_ok-net.ensures (subst (λ (l : List Layout). length l ≤ layout_limit) c.in_ok-numbering.ensures.layouts c.in_ok-numbering.ensures.few) in
     no_ranks (view c.args.value.now) c.in_ok-network.network _ _ c.from_residual-in_err-ranks.ensures c.in_ok-network.ensures.0 c.in_ok-network.ensures.1 few c.in_err-ranks.ensures.err
 
 pub returns : goal.returns
 returns c =
     let is = c.in_ok-net.ensures in
     let same = c.in_ok-plan.ensures in
-    let few : length (layouts_of (net_of c.in_ok-network.network)) ≤ LAYOUTS = subst (λ (n : Net). length (layouts_of n) ≤ LAYOUTS) is (subst (λ (l : List Layout). length l ≤ LAYOUTS) c.in_ok-numbering.ensures.layouts c.in_ok-numbering.ensures.few) in (
+    let few : length (layouts_of (net_of c.in_ok-network.network)) ≤ layout_limit = subst (λ (n : Net). length (layouts_of n) ≤ layout_limit) is (subst (λ (l : List Layout). length l ≤ layout_limit) c.in_ok-numbering.ensures.layouts c.in_ok-numbering.ensures.few) in (
       c.in_ok-network.ensures.0,
       same ∙ c.in_ok-network.ensures.1,
-      subst (λ (n : Network). length (layouts_of (net_of n)) ≤ LAYOUTS) (sym same) few,
+      subst (λ (n : Network). length (layouts_of (net_of n)) ≤ layout_limit) (sym same) few,
       λ process stuck.
           none_are_stuck c.in_ok-net.net c.in_ok-ranks.ranks.ranked.items c.in_ok-ranks.ensures.whole process (subst (λ (n : Net). IsStuck n process) (sym is) (subst (λ (n : Network). IsStuck (net_of n) process) same stuck)),
     )

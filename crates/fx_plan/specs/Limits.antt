@@ -1,0 +1,22 @@
+-- How much a network document may have.
+use Rattle.std.specs.Prelude.{ℕ}
+
+-- The most devices.
+abbrev pub device_limit : ℕ
+device_limit = 64
+
+-- The most links.
+abbrev pub link_limit : ℕ
+link_limit = 1024
+
+-- The most collecting processes, of all devices together.
+abbrev pub process_limit : ℕ
+process_limit = 256
+
+-- The most fields of the report's key.
+abbrev pub key_field_limit : ℕ
+key_field_limit = 32
+
+-- The most different layouts.
+abbrev pub layout_limit : ℕ
+layout_limit = 64

@@ -1,0 +1,14 @@
+-- How much a traffic declaration may have.
+use Rattle.std.specs.Prelude.{ℕ}
+
+-- The most classes.
+abbrev pub class_limit : ℕ
+class_limit = 256
+
+-- The most paths of a class.
+abbrev pub path_limit : ℕ
+path_limit = 16
+
+-- The most crossings of a path.
+abbrev pub crossing_limit : ℕ
+crossing_limit = 32
