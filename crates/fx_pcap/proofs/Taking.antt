@@ -1,7 +1,8 @@
 -- A record that is held is the first ahead.
-use Rattle.std.proofs.Common.{◌≡◌, ℕ, ◌+◌, ◌-◌, ◌*◌, ◌^◌, ◌≤◌, ◌<◌, Bool, true, false, nat_lt, List, ◌∷◌, ◌++◌, length, take, drop, Option, Some, None, IfSome, MatchOption, Ok, refl, sym, ap, ◌∙◌, subst, arith, slice_range, if◌then◌else◌}
+use Rattle.std.proofs.Common.{◌≡◌, ℕ, ◌+◌, ◌-◌, ◌*◌, ◌^◌, ◌≤◌, ◌<◌, Bool, true, false, nat_lt, List, ◌∷◌, ◌++◌, length, take, drop, Option, Some, None, IfSome, MatchOption, min, refl, sym, ap, ◌∙◌, subst, arith, slice_range, if◌then◌else◌}
 use Rattle.std.specs.Option.{option_map}
 use Rattle.std.specs.Io.KnownBytes.{prepend_known}
+use Rattle.std.proofs.Math.Nat.{min-eq_left}
 use Rattle.std.proofs.lemmas.Bool.{le-ltb}
 use Rattle.std.proofs.lemmas.List.{drop-append-le, take-append-le, length-append, length-drop}
 use Rattle.fx_pcap.specs.declared.order.Order.{Order}
@@ -12,7 +13,7 @@ use Rattle.fx_pcap.specs.Numbers.{number_in}
 use Rattle.fx_pcap.specs.Frames.{content_of}
 use Rattle.fx_pcap.specs.Records.{captured_length, second_of, record_fault, item_of, Records, place_after, with_item, records_of}
 use Rattle.fx_pcap.specs.Captures.{Seen, counted, with_frame, frames_in, skipped_in, Ahead, ahead_in, Reading, ahead, with_first}
-use Rattle.fx_pcap.specs.Captures.{AtFrame, Advances, budget}
+use Rattle.fx_pcap.specs.Captures.{AtFrame, budget}
 use Rattle.fx_pcap.specs.Window.{Held, octets_of, HasRecord}
 use Rattle.fx_pcap.specs.Kept.{Kept, fault_of, reading_of, Passes}
 use Rattle.fx_pcap.specs.declared.content.Content.TheVariants.{Packet, Other, Malformed}
@@ -21,9 +22,9 @@ use Rattle.fx_pcap.proofs.Whole.{number_whole}
 use Rattle.fx_pcap.proofs.Passing.{first_record}
 
 -- what is ahead where this comes before the rest
-abbrev pub ahead_with : Content → ℕ → Skipped → Records → Ahead
-ahead_with content second s r = record {
-  frames = with_frame content second s (frames_in (counted s content) r.items);
+abbrev pub ahead_with : Content → List ℕ → ℕ → Skipped → Records → Ahead
+ahead_with content captured second s r = record {
+  frames = with_frame content captured second s (frames_in (counted s content) r.items);
   skipped = skipped_in (counted s content) r.items;
   fault = r.fault;
 }
@@ -41,24 +42,24 @@ no_fault order n held rest h =
     λ i. if long i then Some 703 else (if short i then Some 704 else (if fits i then Some 703 else None))
 
 -- what is held of a record is what it is
-item_whole : (format : Format) (n : ℕ) (held rest : List ℕ) → HasRecord format.order n held → item_of format (held ++ rest) ≡ record { content = content_of format.link (slice_range held 16 n); second = second_of format.order held }
+item_whole : (format : Format) (n : ℕ) (held rest : List ℕ) → HasRecord format.order n held → item_of format (held ++ rest) ≡ record { captured = slice_range held 16 n; content = content_of format.link (slice_range held 16 n); second = second_of format.order held }
 item_whole format n held rest h =
     let size : n ≡ 16 + captured_length format.order held = h.size in
     let whole : n ≤ length held = h.whole in
     let same : captured_length format.order (held ++ rest) ≡ n - 16 = number_whole format.order 4 8 held rest (omega (arith, size, whole)) ∙ omega (arith, size) in
     let second = number_whole format.order 4 0 held rest (omega (arith, size, whole)) in
     let octets : take (captured_length format.order (held ++ rest)) (drop 16 (held ++ rest)) ≡ take (n - 16) (drop 16 held) = ap (λ (k : ℕ). take k (drop 16 (held ++ rest))) same ∙ ap (take (n - 16)) (drop-append-le 16 held rest (omega (arith, size, whole))) ∙ take-append-le (n - 16) (drop 16 held) rest (omega (arith, size, whole, length-drop 16 held)) in
-    λ i. record { content = content_of format.link (octets i); second = second i }
+    λ i. record { captured = octets i; content = content_of format.link (octets i); second = second i }
 
 -- the record that is held, and what is ahead behind it
-pub taken : (held : List ℕ) (left : Option (List ℕ)) (format : Format) (n place place' second : ℕ) (content : Content) (s : Skipped) → HasRecord format.order n held → place ≤ 2 ^ 64 - 1 → place' ≡ place_after place n → content ≡ content_of format.link (slice_range held 16 n) → second ≡ second_of format.order held → option_map (λ octets. ahead_in s (records_of format place octets)) (prepend_known held left) ≡ option_map (λ octets. ahead_with content second s (records_of format place' octets)) (prepend_known (drop n held) left)
-taken held None format n place place' second content s h fits at is when = refl
-taken held (Some rest) format n place place' second content s h fits at is when =
+pub taken : (held : List ℕ) (left : Option (List ℕ)) (format : Format) (n place place' second : ℕ) (content : Content) (captured : List ℕ) (s : Skipped) → HasRecord format.order n held → place ≤ 2 ^ 64 - 1 → place' ≡ place_after place n → content ≡ content_of format.link (slice_range held 16 n) → captured ≡ slice_range held 16 n → second ≡ second_of format.order held → option_map (λ octets. ahead_in s (records_of format place octets)) (prepend_known held left) ≡ option_map (λ octets. ahead_with content captured second s (records_of format place' octets)) (prepend_known (drop n held) left)
+taken held None format n place place' second content captured s h fits at is lent when = refl
+taken held (Some rest) format n place place' second content captured s h fits at is lent when =
     let size : n ≡ 16 + captured_length format.order held = h.size in
     let whole : n ≤ length held = h.whole in
     let count : n ≡ 16 + captured_length format.order (held ++ rest) = size ∙ ap (λ (k : ℕ). 16 + k) (sym (number_whole format.order 4 8 held rest (omega (arith, size, whole)))) in
     let first = first_record format place n (held ++ rest) fits (omega (arith, length-append held rest, size, whole)) (no_fault format.order n held rest h) count in
-    let item : item_of format (held ++ rest) ≡ record { content = content; second = second } = item_whole format n held rest h ∙ (λ i. record { content = sym is i; second = sym when i }) in
+    let item : item_of format (held ++ rest) ≡ record { captured = captured; content = content; second = second } = item_whole format n held rest h ∙ (λ i. record { captured = sym lent i; content = sym is i; second = sym when i }) in
     let behind : records_of format (place_after place n) (drop n (held ++ rest)) ≡ records_of format place' (drop n held ++ rest) = λ i. records_of format (sym at i) (drop-append-le n held rest whole i) in
     ap (λ (r : Records). Some (ahead_in s r)) (first ∙ (λ i. with_item None place (item i) (behind i)))
 
@@ -75,13 +76,13 @@ pub so_small : (o : Option ℕ) (n : ℕ) (Q : ℕ → Type 0) → o ≡ Some n 
 so_small o n Q e h = subst (λ (x : Option ℕ). IfSome x Q) e h
 
 -- the reader behind a record
-abbrev pub behind : Kept → ℕ → ℕ → Skipped → Seen → Kept
-behind k n place s seen = record k { place = place; taken = n; skipped = s; seen = seen }
+abbrev pub behind : Kept → ℕ → ℕ → Skipped → List ℕ → ℕ → ℕ → Kept
+behind k n place s fields octets second = record k { place = place; taken = n; skipped = s; fields = fields; octets = octets; second = second }
 
 -- a record was taken: this came before what is ahead now
 pub record After (old new : Reading) (content : Content) (s : Skipped) : Type 0 where
   pub going : (old.stopped ≡ None) × (new.stopped ≡ None)
-  pub frames : ahead old ≡ option_map (λ octets. ahead_with content new.seen.second s (records_of new.format new.place octets)) new.left
+  pub frames : ahead old ≡ option_map (λ octets. ahead_with content new.seen.captured new.seen.second s (records_of new.format new.place octets)) new.left
   pub format : new.format ≡ old.format
   pub smaller : budget new < budget old
 
@@ -89,52 +90,44 @@ no_stop : (place place' : ℕ) (o : Option Stop) → option_map (fault_of place)
 no_stop place place' None h = refl
 no_stop place place' (Some stop) h = absurd (cc)
 
-pub after_record : (w w1 w2 : Held) (k : Kept) (n place : ℕ) (s : Skipped) (seen : Seen) (content : Content) (octets : List ℕ) → w1 ≡ record w { held = drop k.taken w.held } → octets_of w2 ≡ octets_of w1 → HasRecord k.format.order n w2.held → (2 ^ 32 - w2.calls) * 524289 + (length w2.held - n) < (2 ^ 32 - w1.calls) * 524289 + length w1.held → octets ≡ w2.held → content ≡ content_of k.format.link (slice_range octets 16 n) → seen.second ≡ number_in k.format.order 4 0 octets → k.place ≤ 2 ^ 64 - 1 → place ≡ place_after k.place n → (reading_of w k).stopped ≡ None → After (reading_of w k) (reading_of w2 (behind k n place s seen)) content k.skipped
-after_record w w1 w2 k n place s seen content octets passed same has smaller held is when fits at going =
+pub after_record : (w w1 w2 : Held) (k : Kept) (n place : ℕ) (s : Skipped) (fields : List ℕ) (size second : ℕ) (content : Content) (octets : List ℕ) → w1 ≡ record w { held = drop k.taken w.held } → octets_of w2 ≡ octets_of w1 → HasRecord k.format.order n w2.held → (2 ^ 32 - w2.calls) * 524289 + (length w2.held - n) < (2 ^ 32 - w1.calls) * 524289 + length w1.held → octets ≡ w2.held → content ≡ content_of k.format.link (slice_range octets 16 n) → second ≡ number_in k.format.order 4 0 octets → k.place ≤ 2 ^ 64 - 1 → place ≡ place_after k.place n → (reading_of w k).stopped ≡ None → After (reading_of w k) (reading_of w2 (behind k n place s fields size second)) content k.skipped
+after_record w w1 w2 k n place s fields size second content octets passed same has smaller held is when fits at going =
     let all : octets_of w2 ≡ prepend_known (drop k.taken w.held) w.left = same ∙ ap octets_of passed in
     let here : content ≡ content_of k.format.link (slice_range w2.held 16 n) = is ∙ ap (λ (l : List ℕ). content_of k.format.link (slice_range l 16 n)) held in
-    let stamp : seen.second ≡ second_of k.format.order w2.held = when ∙ ap (λ (l : List ℕ). second_of k.format.order l) held in
+    let from : min 16 n ≡ 16 = min-eq_left (omega (arith, has.size)) in
+    let lent : slice_range w2.held (min 16 n) n ≡ slice_range w2.held 16 n = ap (λ (m : ℕ). slice_range w2.held m n) from in
+    let stamp : second ≡ second_of k.format.order w2.held = when ∙ ap (λ (l : List ℕ). second_of k.format.order l) held in
     let calls : w1.calls ≡ w.calls = ap (λ (x : Held). x.calls) passed in
     let long : length w1.held ≡ length w.held - k.taken = ap (λ (x : Held). length x.held) passed ∙ length-drop k.taken w.held in
     record {
       going = (going, no_stop k.place place k.stopped going);
-      frames = ap (option_map (λ os. ahead_in k.skipped (records_of k.format k.place os))) (sym all) ∙ taken w2.held w2.left k.format n k.place place seen.second content k.skipped has fits at here stamp;
+      frames = ap (option_map (λ os. ahead_in k.skipped (records_of k.format k.place os))) (sym all) ∙ taken w2.held w2.left k.format n k.place place second content (slice_range w2.held (min 16 n) n) k.skipped has fits at here lent stamp;
       format = refl;
       smaller = subst (λ (m : ℕ). (2 ^ 32 - w2.calls) * 524289 + (length w2.held - n) < m) ((λ i. (2 ^ 32 - calls i) * 524289 + long i)) smaller;
     }
 
-frame_first : (content : Content) (fields : List ℕ) (octets : ℕ) (seen : Seen) (s : Skipped) (r : Records) → content ≡ Packet fields octets → seen.fields ≡ fields → seen.octets ≡ octets → ahead_with content seen.second s r ≡ with_first seen s (ahead_in s r)
+frame_first : (content : Content) (fields : List ℕ) (octets : ℕ) (seen : Seen) (s : Skipped) (r : Records) → content ≡ Packet fields octets → seen.fields ≡ fields → seen.octets ≡ octets → ahead_with content seen.captured seen.second s r ≡ with_first seen s (ahead_in s r)
 frame_first content fields octets seen s r is f o =
-    (λ i. ahead_with (is i) seen.second s r) ∙ (λ i. with_first (record { fields = sym f i; octets = sym o i; second = seen.second }) s (ahead_in s r))
+    (λ i. ahead_with (is i) seen.captured seen.second s r) ∙ (λ i. with_first (record { captured = seen.captured; fields = sym f i; octets = sym o i; second = seen.second }) s (ahead_in s r))
 
 pub at_frame : (old new : Reading) (content : Content) (fields : List ℕ) (octets : ℕ) → After old new content new.skipped → content ≡ Packet fields octets → new.seen.fields ≡ fields → new.seen.octets ≡ octets → AtFrame old new
 at_frame old new content fields octets a is f o = record {
   going = a.going;
-  frames = a.frames ∙ told_twice (with_first new.seen new.skipped) (λ os. ahead_in new.skipped (records_of new.format new.place os)) (λ os. ahead_with content new.seen.second new.skipped (records_of new.format new.place os)) new.left (λ os. frame_first content fields octets new.seen new.skipped (records_of new.format new.place os) is f o);
+  frames = a.frames ∙ told_twice (with_first new.seen new.skipped) (λ os. ahead_in new.skipped (records_of new.format new.place os)) (λ os. ahead_with content new.seen.captured new.seen.second new.skipped (records_of new.format new.place os)) new.left (λ os. frame_first content fields octets new.seen new.skipped (records_of new.format new.place os) is f o);
   format = a.format;
   smaller = a.smaller;
 }
 
-passes : (old new : Reading) (content : Content) (s : Skipped) → After old new content s → ((second : ℕ) (r : Records) → ahead_with content second s r ≡ ahead_in new.skipped r) → Passes old new
+passes : (old new : Reading) (content : Content) (s : Skipped) → After old new content s → ((captured : List ℕ) (second : ℕ) (r : Records) → ahead_with content captured second s r ≡ ahead_in new.skipped r) → Passes old new
 passes old new content s a same = record {
   going = a.going.1;
-  frames = a.frames ∙ (λ i. option_map (λ os. same new.seen.second (records_of new.format new.place os) i) new.left);
+  frames = a.frames ∙ (λ i. option_map (λ os. same new.seen.captured new.seen.second (records_of new.format new.place os) i) new.left);
   format = a.format;
   smaller = a.smaller;
 }
 
 pub passes_other : (old new : Reading) (content : Content) (s : Skipped) → After old new content s → content ≡ Other → new.skipped ≡ counted s Other → Passes old new
-passes_other old new content s a is count = passes old new content s a (λ second r. (λ i. ahead_with (is i) second s r) ∙ (λ i. ahead_in (sym count i) r))
+passes_other old new content s a is count = passes old new content s a (λ captured second r. (λ i. ahead_with (is i) captured second s r) ∙ (λ i. ahead_in (sym count i) r))
 
 pub passes_malformed : (old new : Reading) (content : Content) (s : Skipped) → After old new content s → content ≡ Malformed → new.skipped ≡ counted s Malformed → Passes old new
-passes_malformed old new content s a is count = passes old new content s a (λ second r. (λ i. ahead_with (is i) second s r) ∙ (λ i. ahead_in (sym count i) r))
-
-first_of : (o p : Option Ahead) (seen : Seen) (s : Skipped) → o ≡ option_map (with_first seen s) p → IfSome o (λ a. (t : Skipped) × (rest : List (Seen × Skipped)) × (a.frames ≡ (seen, t) ∷ rest))
-first_of o None seen s e = subst (λ (x : Option Ahead). IfSome x (λ a. (t : Skipped) × (rest : List (Seen × Skipped)) × (a.frames ≡ (seen, t) ∷ rest))) (sym e) tt
-first_of o (Some a) seen s e = subst (λ (x : Option Ahead). IfSome x (λ a. (t : Skipped) × (rest : List (Seen × Skipped)) × (a.frames ≡ (seen, t) ∷ rest))) (sym e) (s, a.frames, refl)
-
--- the frame that a reader is at was the first ahead
-pub frame_was_first : (old new : Reading) (there : Bool) (seen : Seen) → there ≡ true → Advances old new (Ok there) → seen ≡ new.seen → IfSome (ahead old) (λ a. (t : Skipped) × (rest : List (Seen × Skipped)) × (a.frames ≡ (seen, t) ∷ rest))
-frame_was_first old new there seen is h same =
-    let at : AtFrame old new = subst (λ (b : Bool). Advances old new (Ok b)) is h in
-    subst (λ (x : Seen). IfSome (ahead old) (λ a. (t : Skipped) × (rest : List (Seen × Skipped)) × (a.frames ≡ (x, t) ∷ rest))) (sym same) (first_of (ahead old) (ahead new) new.seen new.skipped at.frames)
+passes_malformed old new content s a is count = passes old new content s a (λ captured second r. (λ i. ahead_with (is i) captured second s r) ∙ (λ i. ahead_in (sym count i) r))

@@ -1,6 +1,6 @@
 -- A worked example: three packets on Ethernet, one behind a tag, one a later
 -- fragment and one without ports, and a record that is cut.
-use Rattle.std.proofs.Common.{◌≡◌, ℕ, List, [], ◌∷◌, drop, Some, Ok, refl}
+use Rattle.std.proofs.Common.{◌≡◌, ℕ, List, [], ◌∷◌, drop, take, Some, Ok, refl}
 use Rattle.fx_base.specs.declared.fault.Place.TheVariants as places
 use Rattle.fx_base.specs.Fault.{fault_at}
 use Rattle.fx_pcap.specs.declared.order.Order.TheVariants.{Little}
@@ -36,12 +36,12 @@ pub opens : format_of capture ≡ Ok format
 unfolding capture
 opens = refl
 
--- source, destination, protocol, ports and class of service; octets; second
+-- captured octets; source, destination, protocol, ports and class of service; octets; second
 pub frames : ahead_in none_skipped (records_of format 24 (drop 24 capture)) ≡ record {
   frames =
-      (record { fields = 167772161 ∷ 3221225985 ∷ 6 ∷ 1000 ∷ 443 ∷ 0 ∷ []; octets = 40; second = 1 }, none_skipped) ∷
-      (record { fields = 167772161 ∷ 3221225985 ∷ 17 ∷ 0 ∷ 0 ∷ 0 ∷ []; octets = 520; second = 2 }, none_skipped) ∷
-      (record { fields = 167772161 ∷ 3221225985 ∷ 1 ∷ 0 ∷ 0 ∷ 0 ∷ []; octets = 84; second = 3 }, none_skipped) ∷ [];
+      (record { captured = take 42 (drop 40 capture); fields = 167772161 ∷ 3221225985 ∷ 6 ∷ 1000 ∷ 443 ∷ 0 ∷ []; octets = 40; second = 1 }, none_skipped) ∷
+      (record { captured = take 34 (drop 98 capture); fields = 167772161 ∷ 3221225985 ∷ 17 ∷ 0 ∷ 0 ∷ 0 ∷ []; octets = 520; second = 2 }, none_skipped) ∷
+      (record { captured = take 34 (drop 148 capture); fields = 167772161 ∷ 3221225985 ∷ 1 ∷ 0 ∷ 0 ∷ 0 ∷ []; octets = 84; second = 3 }, none_skipped) ∷ [];
   skipped = none_skipped;
   fault = Some (fault_at 703 (places.Octet 182));
 }

@@ -11,13 +11,18 @@ use Rattle.fx_pcap.specs.declared.skipped.Skipped.{Skipped}
 use Rattle.fx_pcap.specs.declared.frame.Frame.{Frame}
 use Rattle.fx_pcap.specs.Records.{Item, Records, records_of, format_of}
 
--- what a frame says of its packet
+-- what a frame lends, and what it says of its packet
 pub record Seen : Type 0 where
+  -- the octets that were captured
+  pub captured : List ℕ
   -- the value on each axis
   pub fields : List ℕ
   -- how many octets the packet has
   pub octets : ℕ
   pub second : ℕ
+
+abbrev pub seen_of : Frame → Seen
+seen_of frame = record { captured = frame.captured.now; fields = frame.fields; octets = frame.octets; second = frame.second }
 
 -- the numbers of skipped frames, with one more where this is skipped
 abbrev pub counted : Skipped → Content → Skipped
@@ -25,15 +30,15 @@ counted s (Packet fields octets) = s
 counted s Other = record s { other = (s.other + 1) % 2 ^ 64 }
 counted s Malformed = record s { malformed = (s.malformed + 1) % 2 ^ 64 }
 
-abbrev pub with_frame : Content → ℕ → Skipped → List (Seen × Skipped) → List (Seen × Skipped)
-with_frame (Packet fields octets) second s rest = (record { fields = fields; octets = octets; second = second }, s) ∷ rest
-with_frame Other second s rest = rest
-with_frame Malformed second s rest = rest
+abbrev pub with_frame : Content → List ℕ → ℕ → Skipped → List (Seen × Skipped) → List (Seen × Skipped)
+with_frame (Packet fields octets) captured second s rest = (record { captured = captured; fields = fields; octets = octets; second = second }, s) ∷ rest
+with_frame Other captured second s rest = rest
+with_frame Malformed captured second s rest = rest
 
 -- the frames among some records, each with the numbers of frames skipped before it
 abbrev pub frames_in : Skipped → List Item → List (Seen × Skipped)
 frames_in s [] = []
-frames_in s (item ∷ items) = with_frame item.content item.second s (frames_in (counted s item.content) items)
+frames_in s (item ∷ items) = with_frame item.content item.captured item.second s (frames_in (counted s item.content) items)
 
 -- the numbers of skipped frames in the end
 abbrev pub skipped_in : Skipped → List Item → Skipped
@@ -57,9 +62,8 @@ pub record Reading : Type 0 where
   -- the number of the first of them
   pub place : ℕ
   pub skipped : Skipped
-  -- the frame that it is at, and its captured octets
+  -- the frame that it is at
   pub seen : Seen
-  pub captured : List ℕ
   -- the fault that it answers from now on
   pub stopped : Option Fault
   -- whether its source's last call failed
@@ -115,11 +119,11 @@ Advances old new (Ok true) = AtFrame old new
 Advances old new (Ok false) = AtEnd old new
 Advances old new (Err e) = Refuses old new e
 
--- what a reader in this state may answer: it lends the first frame ahead, and none where none is
+-- what a reader in this state may answer: it goes on to the frame that it lends, or stays at the end, or answers a fault
 abbrev pub NextFrameIs : Reading → Result (Option Frame) Fault → Type 0
-NextFrameIs old (Ok (Some frame)) = IfSome (ahead old) (λ a. (s : Skipped) × (rest : List (Seen × Skipped)) × (a.frames ≡ (record { fields = frame.fields; octets = frame.octets; second = frame.second }, s) ∷ rest))
-NextFrameIs old (Ok None) = IfSome (ahead old) (λ a. (a.frames ≡ []) × (a.fault ≡ None))
-NextFrameIs old (Err e) = IfSome old.stopped (λ f. e ≡ f)
+NextFrameIs old (Ok (Some frame)) = (new : Reading) × AtFrame old new × (seen_of frame ≡ new.seen)
+NextFrameIs old (Ok None) = (new : Reading) × AtEnd old new
+NextFrameIs old (Err e) = (new : Reading) × Refuses old new e
 
 -- a reader of a source that has these octets left, behind the file header
 pub record IsOpened (left : Option (List ℕ)) (new : Reading) : Type 0 where

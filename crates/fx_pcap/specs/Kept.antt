@@ -1,5 +1,5 @@
 -- A reader of a capture by what it keeps.
-use Rattle.std.specs.Prelude.{◌≡◌, ℕ, ◌-◌, ◌<◌, Bool, true, false, length, drop, min, Option, None, slice_range, Result, Ok, Err}
+use Rattle.std.specs.Prelude.{◌≡◌, ℕ, ◌-◌, ◌<◌, Bool, true, false, List, length, drop, min, Option, None, slice_range, Result, Ok, Err}
 use Rattle.std.specs.Option.{option_map}
 use Rattle.std.specs.Io.KnownBytes.{prepend_known}
 use Rattle.fx_base.specs.declared.fault.Fault.{Fault}
@@ -11,7 +11,7 @@ use Rattle.fx_pcap.specs.declared.stop.Stop.{Stop}
 use Rattle.fx_pcap.specs.declared.stop.Stop.TheVariants.{Device, Cut, TooLong}
 use Rattle.fx_pcap.specs.declared.capture.Taken.{Taken}
 use Rattle.fx_pcap.specs.declared.capture.Taken.TheVariants as taken
-use Rattle.fx_pcap.specs.Captures.{Seen, Reading, ahead, budget, Stops, AtFrame, AtEnd}
+use Rattle.fx_pcap.specs.Captures.{Reading, ahead, budget, Stops, AtFrame, AtEnd}
 use Rattle.fx_pcap.specs.Window.{Held}
 
 pub record Kept : Type 0 where
@@ -19,7 +19,9 @@ pub record Kept : Type 0 where
   pub place : ℕ
   pub taken : ℕ
   pub skipped : Skipped
-  pub seen : Seen
+  pub fields : List ℕ
+  pub octets : ℕ
+  pub second : ℕ
   pub stopped : Option Stop
 
 abbrev pub fault_of : ℕ → Stop → Fault
@@ -34,8 +36,7 @@ reading_of w k =
       format = k.format;
       place = k.place;
       skipped = k.skipped;
-      seen = k.seen;
-      captured = slice_range w.held (min 16 k.taken) k.taken;
+      seen = record { captured = slice_range w.held (min 16 k.taken) k.taken; fields = k.fields; octets = k.octets; second = k.second };
       stopped = option_map (fault_of k.place) k.stopped;
       failed = w.failed;
       calls = w.calls;

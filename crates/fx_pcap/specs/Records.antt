@@ -58,14 +58,19 @@ record_fault order octets =
     else (if nat_lt 262144 (captured_length order octets) then Some 704
     else (if nat_lt (length octets) (16 + captured_length order octets) then Some 703 else None))
 
--- what a record holds, and when it was captured
+-- what a record holds: its captured octets, what they are, and when they were captured
 pub record Item : Type 0 where
+  pub captured : List ℕ
   pub content : Content
   pub second : ℕ
 
+abbrev pub captured_in : Order → List ℕ → List ℕ
+captured_in order octets = take (captured_length order octets) (drop 16 octets)
+
 abbrev pub item_of : Format → List ℕ → Item
 item_of format octets = record {
-  content = content_of format.link (take (captured_length format.order octets) (drop 16 octets));
+  captured = captured_in format.order octets;
+  content = content_of format.link (captured_in format.order octets);
   second = second_of format.order octets;
 }
 

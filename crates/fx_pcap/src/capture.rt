@@ -60,7 +60,7 @@ impl<R: Source> Model for Capture<R> {
 
     ghost Value = { Reading };
 
-    ghost view = { λ c. reading_of c.window (record { format = c.format; place = c.place; taken = c.taken; skipped = c.skipped; seen = record { fields = c.fields; octets = c.octets; second = c.second }; stopped = c.stopped }) };
+    ghost view = { λ c. reading_of c.window (record { format = c.format; place = c.place; taken = c.taken; skipped = c.skipped; fields = c.fields; octets = c.octets; second = c.second; stopped = c.stopped }) };
 
     ghost invariant = { λ c. c.taken ≤ length c.window.held };
 }
@@ -162,7 +162,7 @@ impl<R: Source> Capture<R> {
 
     /// The frame that it is at, after [`advance`](Capture::advance) answered that there is one.
     pub fn frame(&self) -> Frame<'_>
-        ensures captured { result.captured.now ≡ self.now.captured }
+        ensures captured { result.captured.now ≡ self.now.seen.captured }
         ensures fields { result.fields ≡ self.now.seen.fields }
         ensures octets { result.octets ≡ self.now.seen.octets }
         ensures second { result.second ≡ self.now.seen.second }
