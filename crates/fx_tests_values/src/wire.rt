@@ -95,7 +95,22 @@ fn writes_a_message(rt: HostRuntime) -> Result<(), Fail> {
     let mut room = [0u8; 64];
     let mut sink = Room::new(&mut room);
     put_message(&mut sink, &HEADER, &sets)?;
-    assert!(rt; message_length(&sets) == 40 && sink.octets() == SECOND.as_slice());
+    assert!(rt; message_length(&sets) == Some(40) && sink.octets() == SECOND.as_slice());
+    Ok(())
+}
+
+#[test]
+fn tells_lengths_up_to_65535(rt: HostRuntime) -> Result<(), Fail> {
+    let content = vec![in rt.alloc(); 0; 65_516]?;
+    let longest = [Set {
+        id: 256,
+        content: &content[1..],
+    }];
+    let longer = [Set {
+        id: 256,
+        content: content.as_slice(),
+    }];
+    assert!(rt; message_length(&longest) == Some(65_535) && message_length(&longer).is_none());
     Ok(())
 }
 

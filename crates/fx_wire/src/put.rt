@@ -1,5 +1,5 @@
 //! Messages written into a sink.
-ghost use Rattle.std.specs.Prelude.{◌≡◌, ◌≤◌, true, false, List, map, OnOk, IfErr};
+ghost use Rattle.std.specs.Prelude.{◌≡◌, ◌≤◌, ◌<◌, true, false, List, map, OnOk, IfErr, IfSome, IfNone};
 ghost use Rattle.fx_base.specs.Device.{Writes};
 ghost use Rattle.fx_base.specs.Fault.{fault_at};
 ghost use Rattle.fx_base.specs.declared.fault.Place.TheVariants as places;
@@ -13,16 +13,18 @@ use crate::header::Header;
 use crate::set::Set;
 use fx_base::{Fault, Sink, put_text};
 
-/// How many octets a message with these sets has.
-pub fn message_length(sets: &[Set<'_>]) -> usize
-    requires { writing.message_length sets.now ≤ 65535 }
-    ensures { result ≡ writing.message_length sets.now }
+/// How many octets a message with these sets has, or none where they are more than its length can tell: 65,535
+/// (RFC 7011, section 3.1).
+pub fn message_length(sets: &[Set<'_>]) -> Option<u16>
+    ensures some { IfSome result (λ n. n ≡ writing.message_length sets.now) }
+    ensures none { IfNone result (65535 < writing.message_length sets.now) }
 {
-    let mut sum: usize = 16;
+    let mut sum: u16 = 16;
     for set in sets {
-        sum += 4 + set.content.len();
+        let content = u16::try_from(set.content.len()).ok()?;
+        sum = sum.checked_add(4)?.checked_add(content)?;
     }
-    sum
+    Some(sum)
 }
 
 /// Writes a version and the length of the whole message.
@@ -75,8 +77,8 @@ fn put_sets<S: Sink>(sink: &mut S, sets: &[Set<'_>]) -> Result<(), Fault>
     Ok(())
 }
 
-/// Writes a message with this header and these sets. That it has no more octets than a message's length can tell is
-/// the caller's condition.
+/// Writes a message with this header and these sets. That its length can be told, as [`message_length`] answers, is the
+/// caller's condition.
 ///
 /// Fails with 902, at no place, where a write fails. How much the sink has taken then is open.
 pub fn put_message<S: Sink>(sink: &mut S, header: &Header, sets: &[Set<'_>]) -> Result<(), Fault>
@@ -85,7 +87,10 @@ pub fn put_message<S: Sink>(sink: &mut S, header: &Header, sets: &[Set<'_>]) -> 
     ensures going { OnOk result (S.failed sink.old ≡ false → S.failed sink.new ≡ false) }
     ensures err { IfErr result (λ e. (e ≡ fault_at 902 places.None) × (S.failed sink.new ≡ true)) }
 {
-    put_version(sink, message_length(sets) as u16)?;
+    let Some(length) = message_length(sets) else {
+        unreachable!()
+    };
+    put_version(sink, length)?;
     put_origin(sink, header)?;
     put_sets(sink, sets)
 }
