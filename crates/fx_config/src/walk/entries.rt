@@ -1,5 +1,5 @@
 //! Lists whose entries have names that differ.
-ghost use Rattle.std.specs.Prelude.{◌≡◌, ℕ, List, [], ◌∷◌, ◌++◌, map, codes, IfOk, OnOk};
+ghost use Rattle.std.specs.Prelude.{◌≡◌, ℕ, List, [], ◌∷◌, ◌++◌, map, codes, IfOk, OnErr, OnOk};
 ghost use Rattle.serde_json.specs.Data.{Data};
 ghost use Rattle.serde_json.specs.View.{view};
 ghost use Rattle.fx_config.specs.Pointer.{pointer};
@@ -60,6 +60,7 @@ pub fn unique_name_by(
 ) -> Result<Name, Fault>
     ensures reads { Reads (name_once_by wrong twice earlier.old (pointer path.now) (view value.now)) (text_of (view value.now)) result }
     ensures names { OnOk result (earlier.new ≡ earlier.old ++ text_of (view value.now) ∷ []) }
+    ensures same { OnErr result (earlier.new ≡ earlier.old) }
 {
     let name = read_name(alloc, path, value, wrong)?;
     if !earlier.add(&name)? {
@@ -77,6 +78,7 @@ pub fn unique_name(
 ) -> Result<Name, Fault>
     ensures reads { Reads (name_once earlier.old (pointer path.now) (view value.now)) (text_of (view value.now)) result }
     ensures names { OnOk result (earlier.new ≡ earlier.old ++ text_of (view value.now) ∷ []) }
+    ensures same { OnErr result (earlier.new ≡ earlier.old) }
 {
     unique_name_by(alloc, path, value, earlier, 105, 106)
 }
@@ -90,6 +92,7 @@ pub fn name_member(
 ) -> Result<Name, Fault>
     ensures reads { Reads ((required (codes "name") (name_once earlier.old)).faults (pointer path.now) (view object.now)) (text_of (member_of (codes "name") (view object.now))) result }
     ensures names { OnOk result (earlier.new ≡ earlier.old ++ text_of (member_of (codes "name") (view object.now)) ∷ []) }
+    ensures same { OnErr result (earlier.new ≡ earlier.old) }
 {
     match object.get("name") {
         Some(value) => unique_name(alloc, &Path::Member(path, "name"), value, earlier),

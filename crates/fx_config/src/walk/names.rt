@@ -1,5 +1,5 @@
 //! Names that are looked up at once.
-ghost use Rattle.std.specs.Prelude.{◌≡◌, ◌∷◌, ◌++◌, [], List, ℕ, not, if◌then◌else◌, OnOk, IfOk, IfErr};
+ghost use Rattle.std.specs.Prelude.{◌≡◌, ◌∷◌, ◌++◌, [], List, ℕ, not, if◌then◌else◌, OnOk, OnErr, IfOk, IfErr};
 ghost use Rattle.fx_base.specs.Fault.{fault_at};
 ghost use Rattle.fx_base.specs.declared.fault.Place.TheVariants as places;
 ghost use Rattle.fx_config.specs.Lists.{is_among, place_in};
@@ -56,6 +56,7 @@ impl Names {
         ensures answer { IfOk result (λ new. new ≡ not (is_among self.old name.now)) }
         ensures err { IfErr result (λ e. e ≡ fault_at 900 places.None) }
         ensures names { OnOk result (self.new ≡ (if is_among self.old name.now then self.old else self.old ++ name.now ∷ [])) }
+        ensures same { OnErr result (self.new ≡ self.old) }
     {
         let text = String::from_str(self.alloc, name.as_str())?;
         Ok(self.texts.insert(text)?)
