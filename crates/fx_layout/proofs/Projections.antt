@@ -1,5 +1,6 @@
 -- Projections compose.
 use Rattle.std.proofs.Common.{◌≡◌, ℕ, ◌+◌, ◌-◌, ◌/◌, ◌^◌, ◌≤◌, Bool, true, false, cond, ◌&&◌, ◌==◌, if◌then◌else◌, List, [], ◌∷◌, map, Option, Some, None, refl, sym, ap, ap₂, ◌∙◌, subst, arith, eqb-true, eq-eqb, leb-true, le-leb, pow-add, bytes_eq}
+use Rattle.std.specs.Bool.{Decides}
 use Rattle.std.proofs.Math.Nat.{div-div-eq-div-mul, zero-div}
 use Rattle.std.proofs.lemmas.Slice.Eq.{bytes_eq-Decides}
 use Rattle.fx_elements.specs.declared.axis.Axis.{Axis}
@@ -178,3 +179,10 @@ pub same_key_is : (a b : Key) → same_key a b ≡ true → a ≡ b
 same_key_is a b h =
     let both = and_true (same_layout a.layout b.layout) (bytes_eq a.values b.values) h in
     ap₂ (λ (x : Layout) (y : List ℕ). record { layout = x; values = y }) (same_layout_is a.layout b.layout both.0) ((bytes_eq-Decides a.values b.values).0 both.1)
+
+-- equal keys pass it
+pub key_same : (k : Key) → same_key k k ≡ true
+key_same k = and_both _ _ (layout_same k.layout) ((bytes_eq-Decides k.values k.values).1 refl)
+
+pub same_key_decides : (a b : Key) → Decides (same_key a b) (a ≡ b)
+same_key_decides a b = (same_key_is a b, λ e. subst (λ (k : Key). same_key a k ≡ true) e (key_same a))

@@ -1,5 +1,5 @@
 //! The values that packets have under a layout.
-ghost use Rattle.std.specs.Prelude.{◌≡◌, ℕ, ◌-◌, ◌/◌, ◌^◌, ◌<◌, ◌≤◌, ◌&&◌, Bool, true, IfSome, is_some, length, bytes_eq};
+ghost use Rattle.std.specs.Prelude.{◌≡◌, ◌↔◌, ℕ, ◌-◌, ◌/◌, ◌^◌, ◌<◌, ◌≤◌, ◌&&◌, Bool, true, IfSome, is_some, length, bytes_eq};
 ghost use Rattle.fx_layout.specs.Keys as keys;
 ghost use Rattle.fx_elements.specs.Axes as axes;
 
@@ -169,5 +169,5 @@ impl Key {
 pub fn keys_project()
     ensures packet { (layout : keys.Layout) (other : keys.Layout) (fields : axes.Fields) → keys.Fits layout → keys.refines layout other ≡ true → keys.project (keys.key_of layout fields) other ≡ keys.key_of other fields }
     ensures again { (key : keys.Key) (layout : keys.Layout) (other : keys.Layout) → keys.refines key.layout layout ≡ true → keys.refines layout other ≡ true → keys.project (keys.project key layout) other ≡ keys.project key other }
-    ensures same { (a : keys.Key) (b : keys.Key) → keys.same_key a b ≡ true → a ≡ b }
+    ensures same { (a : keys.Key) (b : keys.Key) → (keys.same_key a b ≡ true) ↔ (a ≡ b) }
 {}

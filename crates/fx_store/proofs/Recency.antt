@@ -10,9 +10,9 @@ use Rattle.std.proofs.lemmas.List.{take_all}
 use Rattle.fx_base.specs.declared.counts.Counts.{Counts}
 use Rattle.fx_base.specs.declared.fault.Fault.{Fault}
 use Rattle.fx_layout.specs.Keys.{Key, same_key}
-use Rattle.fx_layout.proofs.Projections.{same_key_is}
+use Rattle.fx_layout.proofs.Projections.{same_key_is, key_same}
 use Rattle.fx_store.specs.Order.{key_cmp}
-use Rattle.fx_store.specs.KeyOrder.{key_cmp_total, key_cmp_apart, key_same, same_key_ties, same_key_equiv}
+use Rattle.fx_store.specs.KeyOrder.{key_cmp_total, key_cmp_apart, same_key_ties, same_key_equiv}
 use Rattle.fx_store.specs.Flows.{Entry, Flows, flows_of, added, with_more, Adds}
 use Rattle.fx_store.specs.Recent.{Recent, counts_at, without_key, with_latest, after_add, pushed_out}
 use Rattle.fx_store.proofs.FlowMaps.{found, remove_is}

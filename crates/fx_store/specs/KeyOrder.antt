@@ -1,18 +1,17 @@
 -- The order of keys is total and tells all keys apart.
-use Rattle.std.proofs.Common.{◌≡◌, ℕ, true, List, [], ◌∷◌, refl, ap, ap₂, subst, eq-eqb, ◌==◌}
+use Rattle.std.proofs.Common.{◌≡◌, ℕ, true, List, ap, ap₂, subst, eq-eqb}
 use Rattle.std.specs.Bool.{Decides, one_answer}
 use Rattle.std.specs.Ordering.{nat_cmp, is_eq, eq_by_cmp}
 use Rattle.std.specs.Cmp.{IsTotalOrder, IsEquivalence, nat_cmp_total, on_total, then_total, decided, Equal-is, tied_itself}
 use Rattle.std.specs.Cmp.Lexicographic.{slice_cmp, nat_list_cmp_total, lists_total}
 use Rattle.std.specs.FinMap.{IsAntisymmetric, slice_cmp-IsAntisymmetric}
 use Rattle.std.specs.Hash.{HashWrites, slice, u128}
-use Rattle.std.proofs.lemmas.Slice.Eq.{bytes_eq-Decides}
 use Rattle.std.proofs.lemmas.Map.Lookups.{exact_pairs, exact_unsigned, exact_bytes}
 use Rattle.fx_elements.specs.declared.axis.Axis.{Axis}
 use Rattle.fx_elements.specs.Axes.{axis_index}
 use Rattle.fx_layout.specs.declared.layout.Part.{Part}
-use Rattle.fx_layout.specs.Keys.{Layout, Key, same_layout, same_key}
-use Rattle.fx_layout.proofs.Projections.{and_both, axis_is, same_key_is}
+use Rattle.fx_layout.specs.Keys.{Layout, Key, same_key}
+use Rattle.fx_layout.proofs.Projections.{axis_is, same_key_is, same_key_decides}
 use Rattle.fx_store.specs.Order.{part_cmp, layout_cmp, key_cmp}
 
 -- ---- total
@@ -37,19 +36,6 @@ key_cmp_apart a b e =
     ap₂ (λ (x : Layout) (y : List ℕ). record { layout = x; values = y }) (ap (λ (u : List ℕ × Layout). u.1) two) (ap (λ (u : List ℕ × Layout). u.0) two)
 
 -- ---- the test for the same key
-
-same_number : (n : ℕ) → (n == n) ≡ true
-same_number n = eq-eqb n n refl
-
-layout_same : (layout : Layout) → same_layout layout layout ≡ true
-layout_same [] = refl
-layout_same (part ∷ parts) = and_both _ _ (and_both _ _ (same_number (axis_index part.axis)) (same_number part.bits)) (layout_same parts)
-
-pub key_same : (k : Key) → same_key k k ≡ true
-key_same k = and_both _ _ (layout_same k.layout) ((bytes_eq-Decides k.values k.values).1 refl)
-
-pub same_key_decides : (a b : Key) → Decides (same_key a b) (a ≡ b)
-same_key_decides a b = (same_key_is a b, λ e. subst (λ (k : Key). same_key a k ≡ true) e (key_same a))
 
 pub same_key_equiv : IsEquivalence same_key
 same_key_equiv = decided same_key same_key_decides
