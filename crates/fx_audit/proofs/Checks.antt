@@ -1,5 +1,5 @@
 -- What checking a certificate over octets comes to.
-use Rattle.std.proofs.Common.{◌≡◌, ◌⊎◌, ℕ, ◌≤◌, List, Option, Some, Result, Ok, Err, IfSome, IfOk, IfErr, inl, inr, refl, ap, sym, subst, arith, None}
+use Rattle.std.proofs.Common.{◌≡◌, ◌⊎◌, ℕ, List, Option, Some, Result, Ok, Err, IfSome, IfOk, IfErr, inl, inr, refl, ap, sym, subst, arith, None}
 use Rattle.fx_base.specs.declared.fault.Fault.{Fault}
 use Rattle.fx_base.specs.declared.fault.Place.TheVariants as places
 use Rattle.fx_base.specs.Fault.{fault_at}

@@ -13,6 +13,7 @@ use Rattle.fx_plan.specs.Tables.{net_of}
 use Rattle.fx_audit.specs.declared.answer.Answer.{Answer}
 use Rattle.fx_audit.specs.declared.answer.Answer.TheVariants.{Yes}
 use Rattle.fx_audit.specs.declared.bundle.Command.{Command}
+use Rattle.fx_audit.specs.declared.bundle.Command.TheVariants.{Replay}
 use Rattle.fx_audit.specs.Bundle.{IsBundle}
 use Rattle.fx_audit.specs.Documents.{IsNetwork, IsRefusedByDocuments, IsTraffic, ReadFails}
 use Rattle.fx_audit.proofs.Documents.{both_mapped}
@@ -83,6 +84,14 @@ there_refused command actual left_n left_t n t third failed_n failed_t old new W
       | inr (inr (inr (inr (inl w)))) ↦ inr (inl w)
       | inr (inr (inr (inr (inr r)))) ↦ inr (inr (inl (subst (λ (k : Command). IsRefusedBy k n t (new_lines (Some third) false) e) (sym same) (subst (λ (l : Lines). IsRefusedBy command n t l e) is (of_told left_n left_t n t (λ x y. IsRefusedBy command x y old e) en et r)))))
     ]
+
+-- what a replay has done, a bundle's replay has done
+pub replay_there : (actual : Command) (left_n left_t : Option (List ℕ)) (n t : List ℕ) (old new : Lines) (W : List ℕ → Type 0) (result : Result Answer Fault) → actual ≡ Replay → left_n ≡ Some n → left_t ≡ Some t → old ≡ new → IfOk result (λ a. (a ≡ Yes) × IfSome left_n (λ x. IfSome left_t (λ y. (text : List ℕ) × IsReplayed x y old text × W text))) → IfOk result (λ a. (text : List ℕ) × IsDone actual n t new a text × W text)
+replay_there actual left_n left_t n t old new W (Err e) same en et is h = tt
+replay_there actual left_n left_t n t old new W (Ok a) same en et is h =
+    let there = of_told left_n left_t n t (λ x y. (text : List ℕ) × IsReplayed x y old text × W text) en et h.1 in
+    let replayed : IsReplayed n t new there.0 = subst (λ (l : Lines). IsReplayed n t l there.0) is there.1 in
+    (there.0, subst (λ (k : Command). IsDone k n t new a there.0) (sym same) (h.0, replayed), there.2)
 
 pub bundle_done : (left : Option (List ℕ)) (octets text : List ℕ) (command : Command) (n t third : List ℕ) (W : List ℕ → Type 0) (result : Result Answer Fault) → IfSome left (λ l. octets ≡ l) → text ≡ octets → IsBundle text command n t third → IfOk result (λ a. (out : List ℕ) × IsDone command n t (new_lines (Some third) false) a out × W out) → IfOk result (λ a. IfSome left (λ o. (command' : Command) × (network : List ℕ) × (traffic : List ℕ) × (last : List ℕ) × (out : List ℕ) × IsBundle o command' network traffic last × IsDone command' network traffic (new_lines (Some last) false) a out × W out))
 bundle_done left octets text command n t third W (Err e) same is b h = cc

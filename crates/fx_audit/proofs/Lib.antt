@@ -5,3 +5,4 @@ pub mod Replays
 pub mod Streams
 pub mod Collects
 pub mod Checks
+pub mod Texts

@@ -4,3 +4,4 @@ pub mod Commands
 pub mod Documents
 pub mod Replay
 pub mod Streams
+pub mod Texts

@@ -1,5 +1,5 @@
 //! Bundles read from octets, and what their commands do.
-ghost use Rattle.std.specs.Prelude.{◌≡◌, ◌⊎◌, ℕ, List, Some, IfOk, IfErr, IfSome, true, false};
+ghost use Rattle.std.specs.Prelude.{◌≡◌, ◌⊎◌, ℕ, List, Some, OnOk, IfOk, IfErr, IfSome, true, false};
 ghost use Rattle.fx_base.specs.Device.{Writes};
 ghost use Rattle.fx_base.specs.Fault.{fault_at};
 ghost use Rattle.fx_base.specs.Lines.{new_lines};
@@ -7,6 +7,7 @@ ghost use Rattle.fx_base.specs.declared.fault.Place.TheVariants as places;
 ghost use Rattle.fx_audit.specs.Bundle.{IsBundle};
 ghost use Rattle.fx_audit.specs.Commands.{IsDone, IsRefusedBundle, IsRefusedThere};
 ghost use Rattle.fx_audit.specs.Documents.{ReadFails};
+ghost use Rattle.fx_audit.specs.Texts.{IsBundleText};
 ghost use Rattle.fx_audit.specs.declared.answer.Answer.TheVariants.{Yes, No};
 ghost use Rattle.fx_audit.specs.declared.bundle.Command.{Command};
 
@@ -22,10 +23,12 @@ fn answer_bundle<S: Sink>(alloc: Global, bundle: &Bundle<'_>, sink: &mut S) -> R
     ensures answer { IfOk result (λ answer. (answer ≡ Yes) ⊎ (answer ≡ No)) }
     ensures ok { IfOk result (λ answer. (text : List ℕ)
         × IsDone bundle.now.command bundle.now.network.now bundle.now.traffic.now (new_lines (Some bundle.now.third.now) false) answer text × Writes (S.taken sink.old) (S.taken sink.new) text) }
+    ensures going { OnOk result (S.failed sink.old ≡ false → S.failed sink.new ≡ false) }
     ensures err { IfErr result (λ e. (e ≡ fault_at 900 places.None)
         ⊎ (((e ≡ fault_at 902 places.None) × (S.failed sink.new ≡ true))
         ⊎ IsRefusedThere bundle.now.command bundle.now.network.now bundle.now.traffic.now bundle.now.third.now e)) }
-    ensures quiet { IfErr result (λ e. (e ≡ fault_at 902 places.None) ⊎ (S.taken sink.new ≡ S.taken sink.old)) }
+    ensures told { IfOk result (λ answer. (text : List ℕ) × IsBundleText answer text × Writes (S.taken sink.old) (S.taken sink.new) text) }
+    ensures quiet { IfErr result (λ e. ((e ≡ fault_at 902 places.None) × (S.failed sink.new ≡ true)) ⊎ (sink.new ≡ sink.old)) }
 {
     let mut network = Octets::new(bundle.network);
     let mut traffic = Octets::new(bundle.traffic);
@@ -50,11 +53,13 @@ pub fn bundle_bytes<B: Source, S: Sink>(
     ensures ok { IfOk result (λ answer. IfSome (B.left bundle.old) (λ octets.
         (command : Command) × (network : List ℕ) × (traffic : List ℕ) × (third : List ℕ) × (text : List ℕ) × IsBundle octets command network traffic third
         × IsDone command network traffic (new_lines (Some third) false) answer text × Writes (S.taken sink.old) (S.taken sink.new) text)) }
+    ensures going { OnOk result (S.failed sink.old ≡ false → S.failed sink.new ≡ false) }
     ensures err { IfErr result (λ e. (e ≡ fault_at 900 places.None)
         ⊎ (ReadFails (B.left bundle.old) (B.failed bundle.new) e
         ⊎ (((e ≡ fault_at 902 places.None) × (S.failed sink.new ≡ true))
         ⊎ IfSome (B.left bundle.old) (λ octets. IsRefusedBundle octets e)))) }
-    ensures quiet { IfErr result (λ e. (e ≡ fault_at 902 places.None) ⊎ (S.taken sink.new ≡ S.taken sink.old)) }
+    ensures told { IfOk result (λ answer. (text : List ℕ) × IsBundleText answer text × Writes (S.taken sink.old) (S.taken sink.new) text) }
+    ensures quiet { IfErr result (λ e. ((e ≡ fault_at 902 places.None) × (S.failed sink.new ≡ true)) ⊎ (sink.new ≡ sink.old)) }
 {
     let octets = read_whole(alloc, bundle)?;
     let Some(bundle) = read_bundle(octets.as_slice()) else {

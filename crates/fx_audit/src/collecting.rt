@@ -1,5 +1,5 @@
 //! A stream's records, tallied as they come.
-ghost use Rattle.std.specs.Prelude.{◌≡◌, ◌⊎◌, ℕ, List, true, None, Err, OnOk, IfOk, IfErr, IfSome};
+ghost use Rattle.std.specs.Prelude.{◌≡◌, ◌⊎◌, ℕ, List, true, false, None, Err, OnOk, IfOk, IfErr, IfSome};
 ghost use Rattle.fx_base.specs.Device.{Writes};
 ghost use Rattle.fx_base.specs.Fault.{fault_at};
 ghost use Rattle.fx_base.specs.declared.fault.Place.TheVariants as places;
@@ -7,6 +7,7 @@ ghost use Rattle.fx_collect.specs.Totals.{with_records};
 ghost use Rattle.fx_session.specs.Streams as streams;
 ghost use Rattle.fx_audit.specs.Documents.{ReadFails};
 ghost use Rattle.fx_audit.specs.Streams.{drained, stream_read, IsRefusedStream, IsStreamText, IsTallied, IsTotalsText, IsWhole};
+ghost use Rattle.fx_audit.specs.Texts.{IsCollectText};
 ghost use Rattle.fx_audit.specs.declared.answer.Answer.TheVariants.{Yes};
 
 use crate::answer::Answer;
@@ -75,8 +76,9 @@ fn tally_stream<R: Source>(
 /// Fails with 900 for want of memory and with 902 where a write fails, each at no place.
 fn put_collected<S: Sink>(session: &Session, totals: &mut Totals, sink: &mut S) -> Result<(), Fault>
     ensures ok { OnOk result ((text : List ℕ) × IsTotalsText totals.old session.now.known.gaps session.now.known.skipped text × Writes (S.taken sink.old) (S.taken sink.new) text) }
+    ensures going { OnOk result (S.failed sink.old ≡ false → S.failed sink.new ≡ false) }
     ensures err { IfErr result (λ e. (e ≡ fault_at 900 places.None) ⊎ ((e ≡ fault_at 902 places.None) × (S.failed sink.new ≡ true))) }
-    ensures quiet { IfErr result (λ e. (e ≡ fault_at 902 places.None) ⊎ (S.taken sink.new ≡ S.taken sink.old)) }
+    ensures quiet { IfErr result (λ e. ((e ≡ fault_at 902 places.None) × (S.failed sink.new ≡ true)) ⊎ (sink.new ≡ sink.old)) }
 {
     totals.sort()?;
     totals.put_report(sink)?;
@@ -100,11 +102,13 @@ pub fn collect<R: Source, S: Sink>(
 ) -> Result<Answer, Fault>
     ensures ok { IfOk result (λ answer. (answer ≡ Yes) × IfSome (R.left stream.old) (λ octets. IsWhole (stream_read octets)
         × ((text : List ℕ) × IsStreamText net.now.report_layout (stream_read octets).known text × Writes (S.taken sink.old) (S.taken sink.new) text))) }
+    ensures going { OnOk result (S.failed sink.old ≡ false → S.failed sink.new ≡ false) }
     ensures err { IfErr result (λ e. (e ≡ fault_at 900 places.None)
         ⊎ (ReadFails (R.left stream.old) (R.failed stream.new) e
         ⊎ (((e ≡ fault_at 902 places.None) × (S.failed sink.new ≡ true))
         ⊎ IfSome (R.left stream.old) (λ octets. IsRefusedStream (stream_read octets) e)))) }
-    ensures quiet { IfErr result (λ e. (e ≡ fault_at 902 places.None) ⊎ (S.taken sink.new ≡ S.taken sink.old)) }
+    ensures told { IfOk result (λ answer. (text : List ℕ) × IsCollectText answer text × Writes (S.taken sink.old) (S.taken sink.new) text) }
+    ensures quiet { IfErr result (λ e. ((e ≡ fault_at 902 places.None) × (S.failed sink.new ≡ true)) ⊎ (sink.new ≡ sink.old)) }
 {
     let mut session = Session::new(alloc)?;
     let mut totals = Totals::new(alloc, net.report_layout().copy())?;

@@ -3,6 +3,7 @@ ghost use Rattle.std.specs.Prelude.{◌≡◌, ◌⊎◌, [], IfOk, IfErr, IfSom
 ghost use Rattle.serde_json.specs.View.{view};
 ghost use Rattle.serde_json.specs.Data.{Data};
 ghost use Rattle.fx_base.specs.Fault.{fault_at};
+ghost use Rattle.fx_base.specs.declared.fault.Fault.{Fault};
 ghost use Rattle.fx_base.specs.declared.fault.Place.TheVariants as places;
 ghost use Rattle.fx_plan.specs.Networks.{device_names};
 ghost use Rattle.fx_traffic.specs.Classes.{traffic_faults};
@@ -68,7 +69,7 @@ fn traffic_from<R: Source>(alloc: Global, source: &mut R, plan: &Plan) -> Result
     read_traffic(alloc, &value, plan)
 }
 
-/// Reads the network's document and then the declaration of its traffic.
+/// Reads the network's document and then, where it is accepted, the declaration of its traffic.
 ///
 /// Fails, at the first fault, with 101 at no place, or as [`read_plan`] and [`read_traffic`] do; with 901, at no
 /// place, where a read fails or a source hasn't ended after 4,294,967,296 calls; and with 900 for want of memory.
@@ -83,6 +84,7 @@ pub fn read_documents<N: Source, T: Source>(
         ⊎ (ReadFails (N.left network.old) (N.failed network.new) e
         ⊎ (ReadFails (T.left traffic.old) (T.failed traffic.new) e
         ⊎ IfSome (N.left network.old) (λ n. IfSome (T.left traffic.old) (λ t. IsRefusedByDocuments n t e))))) }
+    ensures order { IfSome (N.left network.old) (λ n. (e : Fault) → IsRefusedNetwork n e → traffic.new ≡ traffic.old) }
 {
     let plan = network_from(alloc, network)?;
     let traffic = traffic_from(alloc, traffic, &plan)?;

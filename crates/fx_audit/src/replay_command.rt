@@ -1,11 +1,13 @@
 //! The command that replays a run, from octets to octets.
-ghost use Rattle.std.specs.Prelude.{◌≡◌, ◌⊎◌, ℕ, List, IfOk, IfErr, IfSome, true};
+ghost use Rattle.std.specs.Prelude.{◌≡◌, ◌⊎◌, ℕ, List, OnOk, IfOk, IfErr, IfSome, true, false};
 ghost use Rattle.fx_base.specs.Device.{Writes};
 ghost use Rattle.fx_base.specs.Fault.{fault_at};
+ghost use Rattle.fx_base.specs.declared.fault.Fault.{Fault};
 ghost use Rattle.fx_base.specs.declared.fault.Place.TheVariants as places;
 ghost use Rattle.fx_machine.specs.RunReading.{Fails};
 ghost use Rattle.fx_audit.specs.Commands.{IsRefusedReplay, IsRefusedRun, IsReplayed, IsReplayedIn};
-ghost use Rattle.fx_audit.specs.Documents.{ReadFails};
+ghost use Rattle.fx_audit.specs.Documents.{IsRefusedByDocuments, IsRefusedNetwork, ReadFails};
+ghost use Rattle.fx_audit.specs.Texts.{IsReplayText};
 ghost use Rattle.fx_audit.specs.declared.answer.Answer.TheVariants.{Yes};
 
 use crate::answer::Answer;
@@ -24,11 +26,12 @@ fn replay_lines<R: Source, S: Sink>(
 ) -> Result<Answer, Fault>
     ensures ok { IfOk result (λ answer. (answer ≡ Yes) × ((text : List ℕ)
         × IsReplayedIn documents.now.plan documents.now.traffic run.old text × Writes (S.taken sink.old) (S.taken sink.new) text)) }
+    ensures going { OnOk result (S.failed sink.old ≡ false → S.failed sink.new ≡ false) }
     ensures err { IfErr result (λ e. (e ≡ fault_at 900 places.None)
         ⊎ (Fails run.old run.new e
         ⊎ (((e ≡ fault_at 902 places.None) × (S.failed sink.new ≡ true))
         ⊎ IsRefusedRun documents.now.plan documents.now.traffic run.old e))) }
-    ensures quiet { IfErr result (λ e. (e ≡ fault_at 902 places.None) ⊎ (S.taken sink.new ≡ S.taken sink.old)) }
+    ensures quiet { IfErr result (λ e. ((e ≡ fault_at 902 places.None) × (S.failed sink.new ≡ true)) ⊎ (sink.new ≡ sink.old)) }
 {
     let classes = documents.traffic.classes();
     let run = read_run(alloc, classes, run)?;
@@ -38,8 +41,8 @@ fn replay_lines<R: Source, S: Sink>(
 /// Reads a network document, a traffic declaration and the text of a run, replays the run and writes the
 /// collector's totals in its last state, then whether the run is complete.
 ///
-/// Fails with the first refusal: 101 and those of [`fx_plan::read_plan`] for the network; 101 and those of
-/// [`fx_traffic::read_traffic`] for the traffic; then, with nothing of the run's text read before, those of
+/// Fails with the first refusal: 101 and those of [`fx_plan::read_plan`] for the network, with nothing of the traffic
+/// read before; 101 and those of [`fx_traffic::read_traffic`] for the traffic; then, with nothing of the run's text read before, those of
 /// [`fx_machine::read_run`] and of [`replay`]. 901 comes where a read fails or a reader hasn't ended after
 /// 4,294,967,296 calls, 900 for want of memory, 902 where a write fails. Nothing is written for a fault other
 /// than 902.
@@ -52,13 +55,18 @@ pub fn replay_bytes<N: Source, T: Source, R: Source, S: Sink>(
 ) -> Result<Answer, Fault>
     ensures ok { IfOk result (λ answer. (answer ≡ Yes) × IfSome (N.left network.old) (λ n. IfSome (T.left traffic.old) (λ t.
         (text : List ℕ) × IsReplayed n t run.old text × Writes (S.taken sink.old) (S.taken sink.new) text))) }
+    ensures going { OnOk result (S.failed sink.old ≡ false → S.failed sink.new ≡ false) }
     ensures err { IfErr result (λ e. (e ≡ fault_at 900 places.None)
         ⊎ (ReadFails (N.left network.old) (N.failed network.new) e
         ⊎ (ReadFails (T.left traffic.old) (T.failed traffic.new) e
         ⊎ (Fails run.old run.new e
         ⊎ (((e ≡ fault_at 902 places.None) × (S.failed sink.new ≡ true))
         ⊎ IfSome (N.left network.old) (λ n. IfSome (T.left traffic.old) (λ t. IsRefusedReplay n t run.old e))))))) }
-    ensures quiet { IfErr result (λ e. (e ≡ fault_at 902 places.None) ⊎ (S.taken sink.new ≡ S.taken sink.old)) }
+    ensures told { IfOk result (λ answer. (text : List ℕ) × IsReplayText answer text × Writes (S.taken sink.old) (S.taken sink.new) text) }
+    ensures order { IfSome (N.left network.old) (λ n. (e : Fault) → IsRefusedNetwork n e → traffic.new ≡ traffic.old) }
+    ensures untouched { IfSome (N.left network.old) (λ n. IfSome (T.left traffic.old) (λ t.
+        (e : Fault) → IsRefusedByDocuments n t e → run.new ≡ run.old)) }
+    ensures quiet { IfErr result (λ e. ((e ≡ fault_at 902 places.None) × (S.failed sink.new ≡ true)) ⊎ (sink.new ≡ sink.old)) }
 {
     let documents = read_documents(alloc, network, traffic)?;
     replay_lines(alloc, &documents, run, sink)

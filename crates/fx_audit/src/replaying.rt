@@ -35,6 +35,7 @@ fn make_steps(state: &mut State<'_>, steps: &[Step]) -> Result<(), Fault>
 /// Writes the line that says whether a run is complete.
 fn put_complete<S: Sink>(sink: &mut S, complete: bool) -> Result<(), Fault>
     ensures ok { OnOk result (Writes (S.taken sink.old) (S.taken sink.new) (complete_line complete)) }
+    ensures going { OnOk result (S.failed sink.old ≡ false → S.failed sink.new ≡ false) }
     ensures err { IfErr result (λ e. (e ≡ fault_at 902 places.None) × (S.failed sink.new ≡ true)) }
 {
     if complete {
@@ -58,8 +59,9 @@ fn has_layout(net: &Net)
 fn put_state<S: Sink>(alloc: Global, state: &State<'_>, sink: &mut S) -> Result<(), Fault>
     requires own { totals_of state.now.net.report_layout state.now.state ≡ totals_in state.now.net.report_layout state.now.state }
     ensures ok { OnOk result ((text : List ℕ) × IsTextOf state.now.net.report_layout state.now.state text × Writes (S.taken sink.old) (S.taken sink.new) text) }
+    ensures going { OnOk result (S.failed sink.old ≡ false → S.failed sink.new ≡ false) }
     ensures err { IfErr result (λ e. (e ≡ fault_at 900 places.None) ⊎ ((e ≡ fault_at 902 places.None) × (S.failed sink.new ≡ true))) }
-    ensures quiet { IfErr result (λ e. (e ≡ fault_at 902 places.None) ⊎ (S.taken sink.new ≡ S.taken sink.old)) }
+    ensures quiet { IfErr result (λ e. ((e ≡ fault_at 902 places.None) × (S.failed sink.new ≡ true)) ⊎ (sink.new ≡ sink.old)) }
 {
     let mut totals = Totals::of(alloc, state)?;
     totals.sort()?;
@@ -83,8 +85,9 @@ pub fn replay<S: Sink>(
     ensures ok { IfOk result (λ answer. (answer ≡ Yes) × ((last : states.State) × (text : List ℕ)
         × (stepping.run net.now classes.now run.packets run.steps (states.opening net.now classes.now run.packets) ≡ Ok last)
         × IsTextOf net.now.report_layout (states.told last) text × Writes (S.taken sink.old) (S.taken sink.new) text)) }
+    ensures going { OnOk result (S.failed sink.old ≡ false → S.failed sink.new ≡ false) }
     ensures err { IfErr result (λ e. IsRefused net.now classes.now run e ⊎ ((e ≡ fault_at 900 places.None) ⊎ ((e ≡ fault_at 902 places.None) × (S.failed sink.new ≡ true)))) }
-    ensures quiet { IfErr result (λ e. (e ≡ fault_at 902 places.None) ⊎ (S.taken sink.new ≡ S.taken sink.old)) }
+    ensures quiet { IfErr result (λ e. ((e ≡ fault_at 902 places.None) × (S.failed sink.new ≡ true)) ⊎ (sink.new ≡ sink.old)) }
 {
     let (packets, steps) = run.into_parts();
     let mut state = State::open(alloc, net, classes, packets)?;

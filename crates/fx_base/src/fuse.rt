@@ -88,6 +88,8 @@ impl<D: Sink> Sink for Fuse<D> {
 
     ghost failed = { λ s. s.failed };
 
+    ghost holds_back = { λ s. D.holds_back s.device };
+
     fn write(&mut self, octets: &[u8]) -> Result<usize, Fault>
         ensures count { IfOk result (λ n. n ≤ length octets.now) }
         ensures some { IfOk result (λ n. n ≡ 0 → octets.now ≡ []) }
@@ -105,6 +107,25 @@ impl<D: Sink> Sink for Fuse<D> {
             return Err(Fault::bare(902));
         }
         let answer = self.device.write(octets);
+        self.failed = answer.is_err();
+        answer
+    }
+
+    fn flush(&mut self) -> Result<(), Fault>
+        ensures ok { OnOk result ((self.new.failed ≡ false) × (D.holds_back self.new.device ≡ false)) }
+        ensures octets { OnOk result (D.taken self.new.device ≡ D.taken self.old.device) }
+        ensures err { IfErr result (λ e. (e ≡ fault_at 902 places.None) × (self.new.failed ≡ true)) }
+
+        // The call that it names fails, and a call that fails otherwise is one where the device failed.
+        ensures burns { self.old.calls ≡ 1 → IsErr result }
+        ensures device { OnErr result (self.old.calls ≢ 1 → D.failed self.new.device ≡ true) }
+        ensures calls { self.new.calls ≡ self.old.calls - 1 }
+    {
+        if self.burns() {
+            self.failed = true;
+            return Err(Fault::bare(902));
+        }
+        let answer = self.device.flush();
         self.failed = answer.is_err();
         answer
     }

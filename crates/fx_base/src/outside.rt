@@ -6,7 +6,8 @@ use crate::sink::Sink;
 use crate::source::Source;
 use std::io;
 
-/// Any reader or writer of std. It tells no octets.
+/// Any reader or writer of std. It tells no octets. A writer may hold back what it has taken until
+/// it is flushed.
 ///
 /// A call fails where the reader's or writer's own call does, or where a write takes none of some
 /// octets.
@@ -14,6 +15,7 @@ use std::io;
 pub struct Outside<D> {
     device: D,
     failed: bool,
+    holds_back: bool,
 }
 
 impl<D> Outside<D> {
@@ -25,14 +27,19 @@ impl<D> Outside<D> {
         Outside {
             device,
             failed: false,
+            holds_back: false,
         }
     }
 
-    /// The reader or writer, as to flush it.
+    /// The reader or writer.
     pub fn into_inner(self) -> D
         ensures { result ≡ self.device }
     {
-        let Outside { device, failed: _ } = self;
+        let Outside {
+            device,
+            failed: _,
+            holds_back: _,
+        } = self;
         device
     }
 }
@@ -61,13 +68,30 @@ impl<D: io::Write + Drop> Sink for Outside<D> {
 
     ghost failed = { λ s. s.failed };
 
+    ghost holds_back = { λ s. s.holds_back };
+
     fn write(&mut self, octets: &[u8]) -> Result<usize, Fault> {
+        self.holds_back = true;
         match self.device.write(octets) {
             Ok(n) if n > 0 || octets.is_empty() => {
                 self.failed = false;
                 Ok(n)
             }
             _ => {
+                self.failed = true;
+                Err(Fault::bare(902))
+            }
+        }
+    }
+
+    fn flush(&mut self) -> Result<(), Fault> {
+        match self.device.flush() {
+            Ok(()) => {
+                self.failed = false;
+                self.holds_back = false;
+                Ok(())
+            }
+            Err(_) => {
                 self.failed = true;
                 Err(Fault::bare(902))
             }

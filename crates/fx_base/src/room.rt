@@ -47,6 +47,8 @@ impl Sink for Room<'_> {
 
     ghost failed = { λ s. s.failed };
 
+    ghost holds_back = { λ _. false };
+
     fn write(&mut self, octets: &[u8]) -> Result<usize, Fault>
         ensures count { IfOk result (λ n. n ≤ length octets.now) }
         ensures some { IfOk result (λ n. n ≡ 0 → octets.now ≡ []) }
@@ -69,5 +71,10 @@ impl Sink for Room<'_> {
         self.len = end;
         self.failed = false;
         Ok(n)
+    }
+
+    fn flush(&mut self) -> Result<(), Fault> {
+        self.failed = false;
+        Ok(())
     }
 }

@@ -6,14 +6,17 @@ ghost use Rattle.fx_base.specs.declared.fault.Place.TheVariants as places;
 
 use crate::fault::Fault;
 
-/// What octets go to, seen as the octets that it has taken, where it tells them, and as whether
-/// its last call failed.
+/// What octets go to, seen as the octets that it has taken, where it tells them, as whether its
+/// last call failed, and as whether it may hold back octets that it has taken.
 pub trait Sink: Drop {
     /// The octets taken, where it tells them.
     ghost taken: { Self → Option (List ℕ) };
 
     /// Whether the last call failed.
     ghost failed: { Self → Bool };
+
+    /// Whether it may hold back octets that it has taken, up to the next flush.
+    ghost holds_back: { Self → Bool };
 
     /// Takes some of the octets, from their front, and answers their number, which is 0 only
     /// where there are none.
@@ -25,6 +28,14 @@ pub trait Sink: Drop {
         ensures ok { OnOk result (failed self.new ≡ false) }
         ensures octets { IfOk result (λ n. Writes (taken self.old) (taken self.new) (take n octets.now)) }
         ensures err { IfErr result (λ e. (e ≡ fault_at 902 places.None) × (failed self.new ≡ true)) };
+
+    /// Hands on what it holds back.
+    ///
+    /// Fails with 902, at no place. What it holds back then is open.
+    fn flush(&mut self) -> Result<(), Fault>
+        ensures ok { OnOk result ((failed self.new ≡ false) × (holds_back self.new ≡ false)) }
+        ensures octets { OnOk result (taken self.new ≡ taken self.old) }
+        ensures err { IfErr result (λ e. (e ≡ fault_at 902 places.None) × (failed self.new ≡ true)) };
 }
 
 /// A sink that is lent.
@@ -33,7 +44,13 @@ impl<S: Sink> Sink for &mut S {
 
     ghost failed = { λ s. S.failed s.now };
 
+    ghost holds_back = { λ s. S.holds_back s.now };
+
     fn write(&mut self, octets: &[u8]) -> Result<usize, Fault> {
         (**self).write(octets)
+    }
+
+    fn flush(&mut self) -> Result<(), Fault> {
+        (**self).flush()
     }
 }

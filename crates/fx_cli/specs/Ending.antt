@@ -25,11 +25,6 @@ status (Ok No) = 1
 status (Ok Unknown) = 3
 status (Err fault) = refusal_status fault
 
--- what is written at the end: an answer has written its text before
-abbrev pub last_words : Result Answer Fault → List ℕ
-last_words (Ok answer) = []
-last_words (Err fault) = refusal_line fault
-
 -- the statuses with which the program ends
 abbrev pub IsExitStatus : ℕ → Type 0
 IsExitStatus code = code ≤ 6

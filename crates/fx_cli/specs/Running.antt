@@ -1,21 +1,29 @@
--- What a call may answer, and the status with which it may end.
-use Rattle.std.specs.Prelude.{◌≡◌, ◌⊎◌, ℕ}
+-- What the program answers: the text that it prints with an answer, and the status with which it ends.
+use Rattle.std.specs.Prelude.{◌≡◌, ◌⊎◌, true, ℕ, Bool, List, Ok, Option}
+use Rattle.fx_base.specs.Device.{Writes}
+use Rattle.fx_base.specs.Fault.{fault_at}
+use Rattle.fx_base.specs.declared.fault.Fault.{Fault}
+use Rattle.fx_base.specs.declared.fault.Place.TheVariants as places
 use Rattle.fx_audit.specs.declared.answer.Answer.{Answer}
-use Rattle.fx_audit.specs.declared.answer.Answer.TheVariants.{No, Yes}
+use Rattle.fx_audit.specs.Texts.{IsCheckText, IsCollectText, IsReplayText}
+use Rattle.fx_cli.specs.Ending.{refusal_line, refusal_status, status}
 use Rattle.fx_cli.specs.declared.words.Call.{Call}
 use Rattle.fx_cli.specs.declared.words.Call.TheVariants.{Check, Collect, Replay}
 
--- a certificate is accepted or not; the others do what they are asked
-abbrev pub IsAnswerOf : Call → Answer → Type 0
-IsAnswerOf (Replay network traffic run) answer = answer ≡ Yes
-IsAnswerOf (Collect network stream) answer = answer ≡ Yes
-IsAnswerOf (Check network traffic certificate) answer = (answer ≡ Yes) ⊎ (answer ≡ No)
+-- the text that a call prints with its answer
+abbrev pub IsCallText : Call → Answer → List ℕ → Type 0
+IsCallText (Replay network traffic run) answer text = IsReplayText answer text
+IsCallText (Collect network stream) answer text = IsCollectText answer text
+IsCallText (Check network traffic certificate) answer text = IsCheckText answer text
 
--- it is done, or refused
-abbrev pub IsDoneOrRefused : ℕ → Type 0
-IsDoneOrRefused code = (code ≡ 0) ⊎ ((code ≡ 2) ⊎ ((code ≡ 4) ⊎ (code ≡ 5)))
+-- Of what octets go to, in the end: its last call failed, or one failed and then the line that says so was taken.
+abbrev pub HasFailedToWrite : {S : Type 0} → (S → Option (List ℕ)) → (S → Bool) → S → Type 0
+HasFailedToWrite {S} taken failed new = (failed new ≡ true) ⊎ ((then : S) × (failed then ≡ true) × Writes (taken then) (taken new) (refusal_line (fault_at 902 places.None)))
 
-abbrev pub IsCallStatus : Call → ℕ → Type 0
-IsCallStatus (Replay network traffic run) code = IsDoneOrRefused code
-IsCallStatus (Collect network stream) code = IsDoneOrRefused code
-IsCallStatus (Check network traffic certificate) code = (code ≡ 1) ⊎ IsDoneOrRefused code
+-- How the program ends: with the text of an answer and that answer's status; with the line of a refusal, and nothing
+-- else, and that refusal's status; or with 5 where a write failed. `Going` says that in the first two no write failed.
+abbrev pub EndsAs : (Answer → List ℕ → Type 0) → Option (List ℕ) → Option (List ℕ) → Type 0 → Type 0 → ℕ → Type 0
+EndsAs IsText old new Going Failed code =
+    (Going × ((answer : Answer) × (text : List ℕ) × IsText answer text × Writes old new text × (code ≡ status (Ok answer))))
+    ⊎ ((Going × ((e : Fault) × Writes old new (refusal_line e) × (code ≡ refusal_status e)))
+    ⊎ ((code ≡ 5) × Failed))

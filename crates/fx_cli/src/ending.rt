@@ -3,7 +3,7 @@ ghost use Rattle.std.specs.Prelude.{◌≡◌, ◌⊎◌, true, false, OnOk, IfE
 ghost use Rattle.fx_base.specs.Device.{Writes};
 ghost use Rattle.fx_base.specs.Fault.{fault_at};
 ghost use Rattle.fx_base.specs.declared.fault.Place.TheVariants as places;
-ghost use Rattle.fx_cli.specs.Ending.{IsExitStatus, refusal_line, refusal_status, status, last_words};
+ghost use Rattle.fx_cli.specs.Ending.{IsExitStatus, refusal_line, refusal_status, status};
 
 use fx_audit::Answer;
 use fx_base::{Fault, Sink, put_fault, put_number, put_text};
@@ -14,6 +14,7 @@ const WRITE_FAILED: u8 = 5;
 /// Writes the line of a refusal.
 fn put_refusal<S: Sink>(sink: &mut S, fault: &Fault) -> Result<(), Fault>
     ensures ok { OnOk result (Writes (S.taken sink.old) (S.taken sink.new) (refusal_line fault.now)) }
+    ensures going { OnOk result (S.failed sink.old ≡ false → S.failed sink.new ≡ false) }
     ensures err { IfErr result (λ e. (e ≡ fault_at 902 places.None) × (S.failed sink.new ≡ true)) }
 {
     match fault.number {
@@ -50,8 +51,9 @@ fn status_of_refusal(fault: &Fault) -> u8
 /// 0 an answer of yes, 1 of no, 3 of unknown; 2 a refusal (`refused N PLACE`), 4 want of memory (`memory 900`),
 /// 5 a device that failed (`device 901`, `device 902`), also where the line can't be written.
 pub fn finish<S: Sink>(outcome: &Result<Answer, Fault>, sink: &mut S) -> u8
-    ensures status { (result ≡ status outcome.now) ⊎ ((result ≡ 5) × (S.failed sink.new ≡ true)) }
-    ensures written { S.failed sink.new ≡ false → Writes (S.taken sink.old) (S.taken sink.new) (last_words outcome.now) }
+    ensures answered { IfOk outcome.now (λ _. (result ≡ status outcome.now) × (sink.new ≡ sink.old)) }
+    ensures refused { IfErr outcome.now (λ e. ((result ≡ refusal_status e) × Writes (S.taken sink.old) (S.taken sink.new) (refusal_line e) × (S.failed sink.old ≡ false → S.failed sink.new ≡ false))
+        ⊎ ((result ≡ 5) × (S.failed sink.new ≡ true))) }
     ensures exit { IsExitStatus result }
 {
     match outcome {

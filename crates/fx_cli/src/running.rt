@@ -1,9 +1,11 @@
 //! A command, from its words to its exit status.
-ghost use Rattle.std.specs.Prelude.{◌≡◌, ◌⊎◌, ℕ, ◌≤◌, IfErr, IfOk, length, map, string_bytes, false};
+ghost use Rattle.std.specs.Prelude.{◌≡◌, ◌⊎◌, ℕ, ◌≤◌, ◌<◌, IfErr, IfOk, List, OnOk, length, map, string_bytes, true, false};
+ghost use Rattle.fx_base.specs.Device.{Writes};
 ghost use Rattle.fx_base.specs.Fault.{fault_at};
 ghost use Rattle.fx_base.specs.declared.fault.Place.TheVariants as places;
 ghost use Rattle.fx_cli.specs.Ending.{IsExitStatus};
-ghost use Rattle.fx_cli.specs.Running.{IsAnswerOf, IsCallStatus};
+ghost use Rattle.fx_audit.specs.Texts.{IsBundleText};
+ghost use Rattle.fx_cli.specs.Running.{EndsAs, HasFailedToWrite, IsCallText};
 ghost use Rattle.fx_cli.specs.Words.{Names, NamesNoCall};
 ghost use Rattle.fx_cli.specs.declared.words.Call.{Call};
 ghost use Rattle.fx_cli.specs.WordsEnding.{IsWordsStatus};
@@ -15,7 +17,7 @@ use crate::words_ending::{finish_unread, finish_words};
 use fx_audit::{Answer, bundle_bytes, check_bytes, collect_bytes, replay_bytes};
 use fx_base::{Fault, LineReader, Outside, Sink};
 use std::env;
-use std::io::{self, BufWriter, Write};
+use std::io::{self, BufWriter};
 use std::rt::{Env, Files};
 
 /// The exit status of a write that failed.
@@ -29,8 +31,9 @@ fn answer_call<R: AllocGlobal + Files, S: Sink>(
     call: &Call,
     sink: &mut S,
 ) -> Result<Answer, Fault>
-    ensures ok { IfOk result (IsAnswerOf call.now) }
-    ensures quiet { IfErr result (λ e. (e ≡ fault_at 902 places.None) ⊎ (S.taken sink.new ≡ S.taken sink.old)) }
+    ensures told { IfOk result (λ answer. (text : List ℕ) × IsCallText call.now answer text × Writes (S.taken sink.old) (S.taken sink.new) text) }
+    ensures going { OnOk result (S.failed sink.old ≡ false → S.failed sink.new ≡ false) }
+    ensures quiet { IfErr result (λ e. ((e ≡ fault_at 902 places.None) × (S.failed sink.new ≡ true)) ⊎ (sink.new ≡ sink.old)) }
 {
     match call {
         Call::Replay {
@@ -64,13 +67,16 @@ fn answer_call<R: AllocGlobal + Files, S: Sink>(
 }
 
 /// Answers words, of which the first is the program's own name: the call that they name, or, where there is no
-/// other, the bundle on standard input. Gives the exit status.
+/// other, the bundle on standard input. Gives the exit status: with an answer's text that of the answer, with the line
+/// of a refusal that of the refusal, and 5 where a write failed.
 fn answer_words<R: AllocGlobal + Files + Input, S: Sink>(
     rt: &R,
     words: &[String],
     sink: &mut S,
 ) -> u8
-    ensures call { (call : Call) → Names (map string_bytes words.now) call → IsCallStatus call result }
+    ensures bundle { length words.now < 2 → EndsAs IsBundleText (S.taken sink.old) (S.taken sink.new) (S.failed sink.old ≡ false → S.failed sink.new ≡ false) (HasFailedToWrite S.taken S.failed sink.new) result }
+    ensures call { (call : Call) → Names (map string_bytes words.now) call
+        → EndsAs (IsCallText call) (S.taken sink.old) (S.taken sink.new) (S.failed sink.old ≡ false → S.failed sink.new ≡ false) (HasFailedToWrite S.taken S.failed sink.new) result }
     ensures no_call { 2 ≤ length words.now → NamesNoCall (map string_bytes words.now) → IsWordsStatus (map string_bytes words.now) (S.failed sink.new) result }
     ensures exit { IsExitStatus result }
 {
@@ -93,21 +99,24 @@ fn all_words<R: AllocGlobal + Env>(rt: &R) -> io::Result<Vec<String>> {
     Ok(env::args(rt)?.collect(rt.alloc())?)
 }
 
-/// Reads the words and answers them. Gives the exit status.
+/// Reads the words, answers them and hands on all that was written. Gives the exit status.
 fn answer<R: AllocGlobal + Env + Files + Input, S: Sink>(rt: &R, sink: &mut S) -> u8
-    ensures { IsExitStatus result }
+    ensures handed_on { (result ≡ 5) ⊎ ((S.failed sink.new ≡ false) × (S.holds_back sink.new ≡ false)) }
+    ensures exit { IsExitStatus result }
 {
-    match all_words(rt) {
+    let code = match all_words(rt) {
         Ok(words) => answer_words(rt, words.as_slice(), sink),
         Err(error) => finish_unread(error.kind(), sink),
-    }
+    };
+    flush(sink, code)
 }
 
-/// Hands on what a writer still holds. Gives this exit status, or 5 where that fails.
-fn flush<W: Write + Drop>(mut writer: W, code: u8) -> u8
-    ensures { (result ≡ code) ⊎ (result ≡ 5) }
+/// Hands on what a sink still holds. Gives this exit status, or 5 where that fails.
+fn flush<S: Sink>(sink: &mut S, code: u8) -> u8
+    ensures { ((result ≡ code) × (S.failed sink.new ≡ false) × (S.holds_back sink.new ≡ false) × (S.taken sink.new ≡ S.taken sink.old))
+        ⊎ ((result ≡ 5) × (S.failed sink.new ≡ true)) }
 {
-    match writer.flush() {
+    match sink.flush() {
         Ok(()) => code,
         Err(_) => WRITE_FAILED,
     }
@@ -121,11 +130,7 @@ pub fn run<R: AllocGlobal + Env + Files + Input + Print>(rt: &R) -> u8
     ensures { IsExitStatus result }
 {
     match BufWriter::new(rt.alloc(), io::writer(rt)) {
-        Ok(writer) => {
-            let mut sink = Outside::new(writer);
-            let code = answer(rt, &mut sink);
-            flush(sink.into_inner(), code)
-        }
+        Ok(writer) => answer(rt, &mut Outside::new(writer)),
         Err(_) => finish(&Err(Fault::bare(900)), &mut Outside::new(io::writer(rt))),
     }
 }

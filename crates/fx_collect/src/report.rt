@@ -16,6 +16,7 @@ fn put_parts<S: Sink>(sink: &mut S, parts: &[Part], values: &[u128]) -> Result<(
     requires fits { Fits parts.now }
     requires bits { HasBits parts.now values.now }
     ensures ok { OnOk result (Writes (S.taken sink.old) (S.taken sink.new) (parts_text parts.now values.now)) }
+    ensures going { OnOk result (S.failed sink.old ≡ false → S.failed sink.new ≡ false) }
     ensures err { IfErr result (λ e. (e ≡ fault_at 902 places.None) × (S.failed sink.new ≡ true)) }
 {
     match parts {
@@ -37,6 +38,7 @@ fn put_parts<S: Sink>(sink: &mut S, parts: &[Part], values: &[u128]) -> Result<(
 fn put_fields<S: Sink>(sink: &mut S, layout: &Layout, values: &[u128]) -> Result<(), Fault>
     requires { HasBits layout.now values.now }
     ensures ok { OnOk result (Writes (S.taken sink.old) (S.taken sink.new) (fields_text layout.now values.now)) }
+    ensures going { OnOk result (S.failed sink.old ≡ false → S.failed sink.new ≡ false) }
     ensures err { IfErr result (λ e. (e ≡ fault_at 902 places.None) × (S.failed sink.new ≡ true)) }
 {
     let parts = layout.parts();
@@ -55,6 +57,7 @@ fn put_line<S: Sink>(
 ) -> Result<(), Fault>
     requires { HasBits layout.now values.now }
     ensures ok { OnOk result (Writes (S.taken sink.old) (S.taken sink.new) (record_line (record { key = record { layout = layout.now; values = values.now }; counts = counts.now }))) }
+    ensures going { OnOk result (S.failed sink.old ≡ false → S.failed sink.new ≡ false) }
     ensures err { IfErr result (λ e. (e ≡ fault_at 902 places.None) × (S.failed sink.new ≡ true)) }
 {
     put_fields(sink, layout, values.as_slice())?;
@@ -70,6 +73,7 @@ fn put_line<S: Sink>(
 /// Fails with 902, at no place, where a write fails; how much the sink has taken then is open.
 pub fn put_number_line<S: Sink>(sink: &mut S, word: &[u8], number: u64) -> Result<(), Fault>
     ensures ok { OnOk result (Writes (S.taken sink.old) (S.taken sink.new) (number_line word.now number)) }
+    ensures going { OnOk result (S.failed sink.old ≡ false → S.failed sink.new ≡ false) }
     ensures err { IfErr result (λ e. (e ≡ fault_at 902 places.None) × (S.failed sink.new ≡ true)) }
 {
     put_text(sink, word)?;
@@ -81,6 +85,7 @@ impl Totals {
     /// Writes the line of each key.
     fn put_lines<S: Sink>(&self, sink: &mut S) -> Result<(), Fault>
         ensures ok { OnOk result (Writes (S.taken sink.old) (S.taken sink.new) (record_lines self.now.entries)) }
+        ensures going { OnOk result (S.failed sink.old ≡ false → S.failed sink.new ≡ false) }
         ensures err { IfErr result (λ e. (e ≡ fault_at 902 places.None) × (S.failed sink.new ≡ true)) }
     {
         for (values, counts) in self.counts.iter() {
@@ -98,6 +103,7 @@ impl Totals {
     pub fn put_report<S: Sink>(&self, sink: &mut S) -> Result<(), Fault>
         requires { Ascends self.now.entries }
         ensures ok { OnOk result (Writes (S.taken sink.old) (S.taken sink.new) (totals_text self.now)) }
+        ensures going { OnOk result (S.failed sink.old ≡ false → S.failed sink.new ≡ false) }
         ensures err { IfErr result (λ e. (e ≡ fault_at 902 places.None) × (S.failed sink.new ≡ true)) }
     {
         put_number_line(sink, b"keys ", self.len() as u64)?;

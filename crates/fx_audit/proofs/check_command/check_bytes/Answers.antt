@@ -1,6 +1,7 @@
 use Rattle.fx_audit.proofs.Checks.{check_done, check_refused, check_unread, or_unanswered}
-use Rattle.fx_audit.proofs.Collects.{documents_faultless}
+use Rattle.fx_audit.proofs.Collects.{documents_faultless, network_faultless}
 use Rattle.fx_audit.proofs.Documents.{exit_with}
+use Rattle.fx_audit.proofs.Texts.{check_told}
 use Rattle.fx_audit.proofs.check_command.check_bytes.Goals as goal
 
 pub returns-clause-ok : goal.returns-clause-ok
@@ -21,3 +22,9 @@ returns-clause-untouched g c =
 pub returns-in_err-documents-clause-err : goal.returns-in_err-documents-clause-err
 returns-in_err-documents-clause-err g c =
     exit_with _ _ _ c.from_residual.ensures (check_unread (g.N.Source.left c.args.network.now) (g.T.Source.left c.args.traffic.now) c.args.certificate.now _ _ _ _ _ _ c.in_err-documents.ensures.err)
+
+pub returns-clause-told : goal.returns-clause-told
+returns-clause-told g c = check_told c.in_ok-documents.documents.plan c.in_ok-documents.documents.traffic c.args.certificate.now _ c.check_lines.result c.check_lines.ensures.ok
+
+pub returns-clause-order : goal.returns-clause-order
+returns-clause-order g c = network_faultless (g.N.Source.left c.args.network.now) c.in_ok-documents.documents.plan _ c.in_ok-documents.ensures.network

@@ -1,0 +1,29 @@
+-- What an answer prints, whatever it was asked of.
+use Rattle.std.specs.Prelude.{◌≡◌, ◌⊎◌, ℕ, List}
+use Rattle.fx_base.specs.declared.fault.Fault.{Fault}
+use Rattle.fx_layout.specs.Keys.{Layout}
+use Rattle.fx_machine.specs.States.{State}
+use Rattle.fx_collect.specs.Totals.{Totals}
+use Rattle.fx_audit.specs.declared.answer.Answer.{Answer}
+use Rattle.fx_audit.specs.declared.answer.Answer.TheVariants.{Yes, No, Unknown}
+use Rattle.fx_audit.specs.Checks.{MeansNo, no_line, yes_line}
+use Rattle.fx_audit.specs.Replay.{IsTextOf}
+use Rattle.fx_audit.specs.Streams.{IsTotalsText}
+
+-- a replay prints the totals of a state
+abbrev pub IsReplayText : Answer → List ℕ → Type 0
+IsReplayText answer text = (answer ≡ Yes) × ((layout : Layout) × (s : State) × IsTextOf layout s text)
+
+-- a stream's totals, and how many gaps and skipped records it had
+abbrev pub IsCollectText : Answer → List ℕ → Type 0
+IsCollectText answer text = (answer ≡ Yes) × ((totals : Totals) × (gaps : ℕ) × (skipped : ℕ) × IsTotalsText totals gaps skipped text)
+
+-- a check prints `yes` or `no`, as it answers
+abbrev pub IsCheckText : Answer → List ℕ → Type 0
+IsCheckText Yes text = text ≡ yes_line
+IsCheckText No text = (e : Fault) × MeansNo e.number × (text ≡ no_line e)
+IsCheckText Unknown text = ⊥
+
+-- a bundle's command is a replay or a check
+abbrev pub IsBundleText : Answer → List ℕ → Type 0
+IsBundleText answer text = IsReplayText answer text ⊎ IsCheckText answer text
