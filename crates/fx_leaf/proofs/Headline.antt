@@ -1,5 +1,5 @@
 -- Each packet is counted once.
-use Rattle.std.proofs.Common.{◌≡◌, ◌≢◌, ℕ, zero, suc, true, List, [], ◌∷◌, All, Option, Some, None, Ok, refl, sym, ap, ap₂, ◌∙◌, subst, arith}
+use Rattle.std.proofs.Common.{◌≡◌, ◌≢◌, ℕ, zero, suc, true, List, [], ◌∷◌, All, Option, Some, None, option_map, Ok, refl, sym, ap, ap₂, ◌∙◌, subst, arith}
 use Rattle.fx_base.specs.declared.counts.Counts.{Counts}
 use Rattle.fx_boxes.specs.Boxes.{holds}
 use Rattle.fx_layout.specs.Keys.{Key}
@@ -11,20 +11,21 @@ use Rattle.fx_machine.specs.Classes.{paths_of, path, IsOf, Class}
 use Rattle.fx_machine.specs.States.{State, opening, Complete}
 use Rattle.fx_machine.specs.Steps.{run}
 use Rattle.fx_machine.specs.Sums.{plain_sum, total_at, SumsFit}
-use Rattle.fx_machine.specs.Claim.{CountsEachOnce}
+use Rattle.fx_machine.proofs.Running.{steps_of}
+use Rattle.fx_machine.specs.Claim.{CountsEachOnce, wrapped, CountsEachModulo}
 use Rattle.fx_machine.specs.Ranks.{IsNetwork}
 use Rattle.fx_leaf.specs.declared.verdict.Fate.TheVariants.{Once}
 use Rattle.fx_leaf.specs.Fates.{fate, packet_fate}
 use Rattle.fx_leaf.specs.Certificates.{AllOnce}
-use Rattle.fx_leaf.specs.Quantity.{Weight, Wrong, Nothing, plus, weigh_all, total_weight, unassigned_weight, held_weight, carried_weight, coming_weight, quantity}
-use Rattle.fx_leaf.specs.Laws.{Opens, Kept, Ends, Theorem}
+use Rattle.fx_leaf.specs.Quantity.{Weight, Wrong, Nothing, plus, weigh_all, total_weight, unassigned_weight, held_weight, carried_weight, coming_weight, wrapped_weight, quantity}
+use Rattle.fx_leaf.specs.Laws.{Opens, OpensModulo, Kept, Ends, Theorem, TheoremModulo}
 use Rattle.fx_leaf.proofs.Weights.{plus_nothing}
 use Rattle.fx_leaf.proofs.FateLaws.{Every}
 use Rattle.fx_leaf.proofs.Acts.{IsSized}
 use Rattle.fx_leaf.proofs.Steps.{run_keeps, step_keeps}
 use Rattle.fx_leaf.proofs.Ranks.{is_fate}
 use Rattle.fx_leaf.proofs.Trees.{sound_once}
-use Rattle.fx_leaf.proofs.Opening.{opens, empty_weighs, length_nothing, plain_weighs}
+use Rattle.fx_leaf.proofs.Opening.{opens, empty_weighs, length_nothing, plain_weight, plain_weighs, plain_modulo, total_modulo, plain_not_wrong}
 
 all_once : (net : Net) (classes : List Class) (packets : List Packet) → AllOnce net classes → All (λ p. IsOf p (numbered classes p.class)) packets → Every (λ p. packet_fate net p.fields (path classes p) ≡ Once) packets
 all_once net classes [] sound h = tt
@@ -39,10 +40,6 @@ all_once net classes (p ∷ ps) sound h =
     by_class None c of = absurd of
     by_class (Some class) c of = by_path class (numbered class.paths p.path) c refl of.0 of.1
 
-total_not_wrong : (o : Option Counts) → total_weight o ≢ Wrong
-total_not_wrong None e = absurd (cc)
-total_not_wrong (Some c) e = absurd (cc)
-
 same_total : (a b : Option Counts) → total_weight a ≡ total_weight b → a ≡ b
 same_total None None h = refl
 same_total None (Some b) h = absurd (cc)
@@ -56,6 +53,10 @@ none_unassigned (suc n) w h = absurd (h refl)
 pub opens_law : (net : Net) (classes : List Class) → IsNetwork net → AllOnce net classes → Opens net classes
 opens_law net classes is_net sound packets of fit total =
     opens net is_net classes packets total (all_once net classes packets sound of) ∙ plain_weighs net.report_layout total packets (fit total)
+
+pub opens_modulo_law : (net : Net) (classes : List Class) → IsNetwork net → AllOnce net classes → OpensModulo net classes
+opens_modulo_law net classes is_net sound packets of total =
+    ap wrapped_weight (opens net is_net classes packets total (all_once net classes packets sound of)) ∙ plain_modulo net.report_layout total packets
 
 pub kept_law : (net : Net) (classes : List Class) (step : Step) → IsNetwork net → Kept net classes step
 kept_law net classes step is_net packets total s new sized good h =
@@ -74,28 +75,45 @@ ends_law net classes packets total s complete =
     let t = total_weight (total_at s.totals total) in
     ap (plus (unassigned_weight s.unassigned)) (ap (plus t) (ap₂ plus h (ap₂ plus c k)) ∙ plus_nothing t)
 
-module _ (net : Net) (is_net : IsNetwork net) (classes : List Class) (sound : AllOnce net classes) (packets : List Packet) (of : All (λ p. IsOf p (numbered classes p.class)) packets) (fit : SumsFit net.report_layout packets) (steps : List Step) (final : State) (ran : run net classes packets steps (opening net classes packets) ≡ Ok final) (complete : Complete final) where
-  opening_is : (total : Key) → quantity net classes packets total (opening net classes packets) ≡ total_weight (plain_sum net.report_layout total packets)
-  opening_is = opens_law net classes is_net sound packets of fit
+module _ (net : Net) (is_net : IsNetwork net) (classes : List Class) (sound : AllOnce net classes) (packets : List Packet) (of : All (λ p. IsOf p (numbered classes p.class)) packets) (steps : List Step) (final : State) (ran : run net classes packets steps (opening net classes packets) ≡ Ok final) (complete : Complete final) where
+  opening_is : (total : Key) → quantity net classes packets total (opening net classes packets) ≡ plain_weight net.report_layout total packets
+  opening_is total = opens net is_net classes packets total (all_once net classes packets sound of)
 
-  kept : (total : Key) → plus (unassigned_weight final.unassigned) (total_weight (total_at final.totals total)) ≡ total_weight (plain_sum net.report_layout total packets)
+  kept : (total : Key) → plus (unassigned_weight final.unassigned) (total_weight (total_at final.totals total)) ≡ plain_weight net.report_layout total packets
   kept total =
-      let good : quantity net classes packets total (opening net classes packets) ≢ Wrong = subst (λ q. q ≢ Wrong) (sym (opening_is total)) (total_not_wrong (plain_sum net.report_layout total packets)) in
+      let good : quantity net classes packets total (opening net classes packets) ≢ Wrong = subst (λ q. q ≢ Wrong) (sym (opening_is total)) (plain_not_wrong net.report_layout total packets) in
       let sized = sized_law net classes packets in
       sym (ends_law net classes packets total final complete) ∙ (run_keeps (fate net) net (is_fate net is_net.ranked) classes packets total steps (opening net classes packets) final good sized ran).kept ∙ opening_is total
 
   assigned : final.unassigned ≡ 0
   assigned =
       let total : Key = record { layout = []; values = [] } in
-      none_unassigned final.unassigned (total_weight (total_at final.totals total)) (subst (λ q. q ≢ Wrong) (sym (kept total)) (total_not_wrong (plain_sum net.report_layout total packets)))
+      none_unassigned final.unassigned (total_weight (total_at final.totals total)) (subst (λ q. q ≢ Wrong) (sym (kept total)) (plain_not_wrong net.report_layout total packets))
 
-  pub counts_each_once : CountsEachOnce net packets final
-  counts_each_once = record {
-    totals = λ key. same_total (total_at final.totals key) (plain_sum net.report_layout key packets) (sym (ap (λ n. plus (unassigned_weight n) (total_weight (total_at final.totals key))) assigned) ∙ kept key);
+  totals_weigh : (key : Key) → total_weight (total_at final.totals key) ≡ plain_weight net.report_layout key packets
+  totals_weigh key =
+      sym (ap (λ n. plus (unassigned_weight n) (total_weight (total_at final.totals key))) assigned) ∙ kept key
+
+  pub counts_each_once : SumsFit net.report_layout packets → CountsEachOnce net packets final
+  counts_each_once fit = record {
+    totals = λ key. same_total (total_at final.totals key) (plain_sum net.report_layout key packets) (totals_weigh key ∙ plain_weighs net.report_layout key packets (fit key));
+    assigned = assigned;
+  }
+
+  pub counts_each_modulo : CountsEachModulo net packets final
+  counts_each_modulo = record {
+    totals = λ key. same_total (option_map wrapped (total_at final.totals key)) (option_map wrapped (plain_sum net.report_layout key packets)) (total_modulo (total_at final.totals key) ∙ ap wrapped_weight (totals_weigh key) ∙ plain_modulo net.report_layout key packets);
     assigned = assigned;
   }
 
 -- the headline
 pub exactly_once : Theorem
-exactly_once net classes trees is_net certified packets of fit steps final ran complete =
-    counts_each_once net is_net classes (sound_once net classes trees certified) packets of fit steps final ran complete
+exactly_once net classes trees is_net certified packets of fit final ran complete =
+    let steps = steps_of net classes packets (opening net classes packets) final ran in
+    counts_each_once net is_net classes (sound_once net classes trees certified) packets of steps.0 final steps.1 complete fit
+
+-- and without a bound on the plain sums
+pub once_modulo : TheoremModulo
+once_modulo net classes trees is_net certified packets of final ran complete =
+    let steps = steps_of net classes packets (opening net classes packets) final ran in
+    counts_each_modulo net is_net classes (sound_once net classes trees certified) packets of steps.0 final steps.1 complete

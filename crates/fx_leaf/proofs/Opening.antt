@@ -1,5 +1,6 @@
 -- The quantity at the opening is the plain sums.
-use Rattle.std.proofs.Common.{◌≡◌, ℕ, suc, true, false, cond, if◌then◌else◌, List, [], ◌∷◌, length, Option, Some, None, refl, sym, ap, ap₂, ◌∙◌, subst, arith, slice_get, mod-eq_of_lt, IfSome}
+use Rattle.std.proofs.Common.{◌≡◌, ◌≢◌, ℕ, suc, ◌+◌, ◌%◌, ◌^◌, true, false, cond, if◌then◌else◌, List, [], ◌∷◌, length, Option, Some, None, option_map, refl, sym, ap, ap₂, ◌∙◌, subst, arith, slice_get, mod-eq_of_lt, IfSome}
+use Rattle.std.proofs.Math.Nat.{mod-mod, add-mod-mod}
 use Rattle.fx_base.specs.declared.counts.Counts.{Counts}
 use Rattle.fx_layout.specs.Keys.{Key, Layout, key_of, same_key}
 use Rattle.fx_layout.proofs.Projections.{project_key}
@@ -14,10 +15,11 @@ use Rattle.fx_machine.specs.States.{crossings_from, coming_from, nothing_at, ope
 use Rattle.fx_machine.specs.Acts.{Act}
 use Rattle.fx_machine.specs.Steps.{crossing_acts, one_packet, meet}
 use Rattle.fx_machine.specs.Sums.{plain_sum, one_more, IsBelow}
+use Rattle.fx_machine.specs.Claim.{wrapped}
 use Rattle.fx_machine.specs.Ranks.{IsNetwork}
 use Rattle.fx_leaf.specs.declared.verdict.Fate.TheVariants.{Once}
 use Rattle.fx_leaf.specs.Fates.{FateAt, act_fate, fate, acts_along, packet_fate}
-use Rattle.fx_leaf.specs.Quantity.{Weight, Nothing, Counted, plus, weigh_all, weigh_each, part_of, by_fate, key_of_act, act_weight, held_weight, carried_weight, coming_weight, packet_weight, total_weight, quantity}
+use Rattle.fx_leaf.specs.Quantity.{Weight, Wrong, Nothing, Counted, plus, weigh_all, weigh_each, part_of, by_fate, key_of_act, act_weight, held_weight, carried_weight, coming_weight, packet_weight, total_weight, wrapped_weight, quantity}
 use Rattle.fx_leaf.proofs.Weights.{weigh_append}
 use Rattle.fx_leaf.proofs.FateLaws.{Every, every_append, all_weighed, IsGood}
 use Rattle.fx_leaf.proofs.Steps.{IsFate, every_map, held_once}
@@ -100,6 +102,10 @@ module _ (net : Net) (is_net : IsNetwork net) (classes : List Class) (packets : 
       let k = packets_weigh 0 packets (stands packets) once in
       ap₂ plus h (ap₂ plus c k)
 
+-- what packets add to the total of one report key
+abbrev pub plain_weight : Layout → Key → List Packet → Weight
+plain_weight layout total = weigh_all (λ p. if same_key (key_of layout p.fields) total then Counted (one_packet p) else Nothing)
+
 -- the plain sum of the rest fits too
 rest_below : (octets : ℕ) (o : Option Counts) → IsBelow (one_more octets o) → IfSome o IsBelow
 rest_below octets None h = tt
@@ -110,11 +116,47 @@ add_one octets None h = refl
 add_one octets (Some c) h =
     ap Counted (ap₂ (λ (p q : ℕ). record { packets = p; octets = q }) (mod-eq_of_lt h.0) (mod-eq_of_lt h.1))
 
-pub plain_weighs : (layout : Layout) (total : Key) (packets : List Packet) → IfSome (plain_sum layout total packets) IsBelow → weigh_all (λ p. if same_key (key_of layout p.fields) total then Counted (one_packet p) else Nothing) packets ≡ total_weight (plain_sum layout total packets)
+pub plain_weighs : (layout : Layout) (total : Key) (packets : List Packet) → IfSome (plain_sum layout total packets) IsBelow → plain_weight layout total packets ≡ total_weight (plain_sum layout total packets)
 plain_weighs layout total [] fits = refl
 plain_weighs layout total (p ∷ ps) fits =
     let rest = plain_sum layout total ps in
-    elim (same_key (key_of layout p.fields) total) as (λ b. IfSome (cond b (Some (one_more p.octets rest)) rest) IsBelow → plus (cond b (Counted (one_packet p)) Nothing) (weigh_all (λ q. if same_key (key_of layout q.fields) total then Counted (one_packet q) else Nothing) ps) ≡ total_weight (cond b (Some (one_more p.octets rest)) rest)) [
+    elim (same_key (key_of layout p.fields) total) as (λ b. IfSome (cond b (Some (one_more p.octets rest)) rest) IsBelow → plus (cond b (Counted (one_packet p)) Nothing) (plain_weight layout total ps) ≡ total_weight (cond b (Some (one_more p.octets rest)) rest)) [
       | true ↦ λ f. ap (plus (Counted (one_packet p))) (plain_weighs layout total ps (rest_below p.octets rest f)) ∙ add_one p.octets rest f
       | false ↦ λ f. plain_weighs layout total ps f
     ] fits
+
+sum_modulo : (m n a b : ℕ) → a % m ≡ b % m → (n + a) % m % m ≡ (n + b) % m
+sum_modulo m n a b h =
+    mod-mod (n + a) m ∙ sym (add-mod-mod n a m) ∙ ap (λ k. (n + k) % m) h ∙ add-mod-mod n b m
+
+add_modulo : (octets : ℕ) (w : Weight) (o : Option Counts) → wrapped_weight w ≡ total_weight (option_map wrapped o) → wrapped_weight (plus (Counted (record { packets = 1; octets = octets })) w) ≡ Counted (wrapped (one_more octets o))
+add_modulo octets Wrong None h = absurd (cc)
+add_modulo octets Wrong (Some c) h = absurd (cc)
+add_modulo octets Nothing None h = refl
+add_modulo octets Nothing (Some c) h = absurd (cc)
+add_modulo octets (Counted b) None h = absurd (cc)
+add_modulo octets (Counted b) (Some c) h =
+    let same : wrapped b ≡ wrapped c = cc in
+    ap Counted (ap₂ (λ (p q : ℕ). record { packets = p; octets = q }) (sum_modulo (2 ^ 64) 1 b.packets c.packets (ap (λ x. x.packets) same)) (sum_modulo (2 ^ 64) octets b.octets c.octets (ap (λ x. x.octets) same)))
+
+-- modulo 2 to the 64 the packets weigh their plain sum, however large it is
+pub plain_modulo : (layout : Layout) (total : Key) (packets : List Packet) → wrapped_weight (plain_weight layout total packets) ≡ total_weight (option_map wrapped (plain_sum layout total packets))
+plain_modulo layout total [] = refl
+plain_modulo layout total (p ∷ ps) =
+    let rest = plain_sum layout total ps in
+    elim (same_key (key_of layout p.fields) total) as (λ b. wrapped_weight (plus (cond b (Counted (one_packet p)) Nothing) (plain_weight layout total ps)) ≡ total_weight (option_map wrapped (cond b (Some (one_more p.octets rest)) rest))) [
+      | true ↦ add_modulo p.octets (plain_weight layout total ps) rest (plain_modulo layout total ps)
+      | false ↦ plain_modulo layout total ps
+    ]
+
+pub total_modulo : (o : Option Counts) → total_weight (option_map wrapped o) ≡ wrapped_weight (total_weight o)
+total_modulo None = refl
+total_modulo (Some c) = refl
+
+pub total_not_wrong : (o : Option Counts) → total_weight o ≢ Wrong
+total_not_wrong None e = absurd (cc)
+total_not_wrong (Some c) e = absurd (cc)
+
+pub plain_not_wrong : (layout : Layout) (total : Key) (packets : List Packet) → plain_weight layout total packets ≢ Wrong
+plain_not_wrong layout total packets e =
+    total_not_wrong (option_map wrapped (plain_sum layout total packets)) (sym (plain_modulo layout total packets) ∙ ap wrapped_weight e)

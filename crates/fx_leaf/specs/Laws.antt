@@ -1,5 +1,6 @@
 -- The laws of the quantity, and the theorem.
 use Rattle.std.specs.Prelude.{◌≡◌, ◌≢◌, List, All, Ok, length}
+use Rattle.std.specs.Option.{option_map}
 use Rattle.fx_layout.specs.Keys.{Key}
 use Rattle.fx_machine.specs.declared.packet.Packet.{Packet}
 use Rattle.fx_machine.specs.declared.step.Step.{Step}
@@ -8,10 +9,10 @@ use Rattle.fx_machine.specs.Classes.{IsOf, Class}
 use Rattle.fx_machine.specs.States.{State, opening, Complete}
 use Rattle.fx_machine.specs.Steps.{after}
 use Rattle.fx_machine.specs.Sums.{plain_sum, total_at, SumsFit}
-use Rattle.fx_machine.specs.Claim.{ExactlyOnce}
+use Rattle.fx_machine.specs.Claim.{ExactlyOnce, OnceModulo, wrapped}
 use Rattle.fx_machine.specs.Ranks.{IsNetwork}
 use Rattle.fx_leaf.specs.Certificates.{Tree, Sound}
-use Rattle.fx_leaf.specs.Quantity.{Wrong, quantity, total_weight, unassigned_weight, plus}
+use Rattle.fx_leaf.specs.Quantity.{Wrong, quantity, total_weight, wrapped_weight, unassigned_weight, plus}
 
 -- a place for each holder and each link
 pub record IsSized (net : Net) (s : State) : Type 0 where
@@ -22,6 +23,11 @@ pub record IsSized (net : Net) (s : State) : Type 0 where
 abbrev pub Opens : Net → List Class → Type 0
 Opens net classes =
     (packets : List Packet) → All (λ p. IsOf p (numbered classes p.class)) packets → SumsFit net.report_layout packets → (total : Key) → quantity net classes packets total (opening net classes packets) ≡ total_weight (plain_sum net.report_layout total packets)
+
+-- modulo 2 to the 64, however large they are
+abbrev pub OpensModulo : Net → List Class → Type 0
+OpensModulo net classes =
+    (packets : List Packet) → All (λ p. IsOf p (numbered classes p.class)) packets → (total : Key) → wrapped_weight (quantity net classes packets total (opening net classes packets)) ≡ total_weight (option_map wrapped (plain_sum net.report_layout total packets))
 
 -- a step keeps it, where nothing has gone wrong before
 abbrev pub Kept : Net → List Class → Step → Type 0
@@ -36,3 +42,7 @@ Ends net classes =
 -- where a certificate is sound, each packet is counted once
 abbrev pub Theorem : Type 0
 Theorem = (net : Net) (classes : List Class) (trees : List (List Tree)) → IsNetwork net → Sound net classes trees → ExactlyOnce net classes
+
+-- and however large the sums are, modulo 2 to the 64
+abbrev pub TheoremModulo : Type 0
+TheoremModulo = (net : Net) (classes : List Class) (trees : List (List Tree)) → IsNetwork net → Sound net classes trees → OnceModulo net classes

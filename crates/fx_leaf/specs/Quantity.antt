@@ -5,6 +5,7 @@ use Rattle.fx_base.specs.Counts.{add_counts}
 use Rattle.fx_layout.specs.Keys.{Key, project, same_key}
 use Rattle.fx_machine.specs.declared.record.Record.{Record}
 use Rattle.fx_machine.specs.declared.packet.Packet.{Packet}
+use Rattle.fx_machine.specs.Claim.{wrapped}
 use Rattle.fx_machine.specs.Network.{numbered, Net}
 use Rattle.fx_machine.specs.Classes.{Class, path}
 use Rattle.fx_machine.specs.States.{State, Coming}
@@ -77,6 +78,12 @@ coming_weight at net classes packets total c = packet_weight at net classes tota
 abbrev pub total_weight : Option Counts → Weight
 total_weight None = Nothing
 total_weight (Some counts) = Counted counts
+
+-- modulo 2 to the 64
+abbrev pub wrapped_weight : Weight → Weight
+wrapped_weight Wrong = Wrong
+wrapped_weight Nothing = Nothing
+wrapped_weight (Counted counts) = Counted (wrapped counts)
 
 abbrev pub unassigned_weight : ℕ → Weight
 unassigned_weight zero = Nothing

@@ -4,9 +4,14 @@ pub mod Meterings
 pub mod Crossings
 pub mod Stepping
 pub mod Choosing
+pub mod Running
 pub mod Rows
 pub mod RunWords
 pub mod RunWordTexts
 pub mod RunLines
 pub mod RunStepTexts
 pub mod RunTexts
+mod SumExamples
+pub mod ClaimExamples
+mod ChoiceExamples
+mod MeterExamples

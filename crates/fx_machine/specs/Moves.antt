@@ -38,3 +38,8 @@ pub data Moves (net : Net) (classes : List Class) (packets : List Packet) (s new
   crosses : (packet crossing n : ℕ) (p : Packet) → numbered packets packet ≡ Some p → place s.coming packet crossing ≡ Some n → MayDoAll net (one_packet p) (crossing_acts net p.fields (numbered (path classes p) crossing)) (record s { coming = remove s.coming n }) new → Moves net classes packets s new
   expires : (name : HolderName) (holder number : ℕ) (rs : List Record) (r : Record) → holder_place net name ≡ Some holder → slice_get s.held holder ≡ Some rs → numbered rs number ≡ Some r → MayDoAll net r.counts (leaving net holder r.key) (record s { held = slice_set s.held holder (without rs number) }) new → Moves net classes packets s new
   arrives : (link number : ℕ) (rs : List Record) (r : Record) → slice_get s.carried link ≡ Some rs → numbered rs number ≡ Some r → MayDoAll net r.counts (arriving net r.key (slice_get net.links link)) (record s { carried = slice_set s.carried link (without rs number) }) new → Moves net classes packets s new
+
+-- any number of moves, one after another
+pub data Runs (net : Net) (classes : List Class) (packets : List Packet) : State → State → Type 0 where
+  ended : (s final : State) → s ≡ final → Runs net classes packets s final
+  moved : (s next final : State) → Moves net classes packets s next → Runs net classes packets next final → Runs net classes packets s final

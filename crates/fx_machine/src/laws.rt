@@ -18,4 +18,12 @@ pub fn choices_are_free()
         (s : states.State) (new : states.State)
         → moves.Moves net classes packets s new
         → (step : of_step.Step) × (steps.after net classes packets step s ≡ Ok new) }
+    // So runs are.
+    ensures steps_are_moves { (net : network.Net) (classes : List traffic.Class) (packets : List of_packet.Packet)
+        (written : List of_step.Step) (s : states.State) (last : states.State)
+        → steps.run net classes packets written s ≡ Ok last → moves.Runs net classes packets s last }
+    ensures moves_are_steps { (net : network.Net) (classes : List traffic.Class) (packets : List of_packet.Packet)
+        (s : states.State) (last : states.State)
+        → moves.Runs net classes packets s last
+        → (written : List of_step.Step) × (steps.run net classes packets written s ≡ Ok last) }
 {}

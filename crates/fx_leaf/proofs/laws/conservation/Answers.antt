@@ -1,9 +1,12 @@
 use Rattle.fx_machine.specs.declared.step.Step.TheVariants.{Cross, Expire, Arrive}
-use Rattle.fx_leaf.proofs.Headline.{opens_law, sized_law, kept_law, ends_law}
+use Rattle.fx_leaf.proofs.Headline.{opens_law, opens_modulo_law, sized_law, kept_law, ends_law}
 use Rattle.fx_leaf.proofs.laws.conservation.Goals as goal
 
 pub returns-clause-opens : goal.returns-clause-opens
 returns-clause-opens c = opens_law
+
+pub returns-clause-opens_modulo : goal.returns-clause-opens_modulo
+returns-clause-opens_modulo c = opens_modulo_law
 
 pub returns-clause-sized : goal.returns-clause-sized
 returns-clause-sized c = sized_law
