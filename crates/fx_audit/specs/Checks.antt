@@ -4,7 +4,7 @@ use Rattle.fx_base.specs.declared.fault.Fault.{Fault}
 use Rattle.fx_base.specs.declared.fault.Place.TheVariants as places
 use Rattle.fx_base.specs.Fault.{fault_at, fault_text}
 use Rattle.fx_base.specs.Lines.{Lines, text_lines}
-use Rattle.fx_machine.specs.Claim.{ExactlyOnce}
+use Rattle.fx_machine.specs.Claim.{ExactlyOnce, OnceModulo}
 use Rattle.fx_machine.specs.Classes.{Class}
 use Rattle.fx_plan.specs.declared.network.Network.{Network}
 use Rattle.fx_plan.specs.Tables.{net_of}
@@ -37,9 +37,11 @@ IsFaultOf e (Some r) = e ≡ r.fault
 abbrev pub IsRefusedText : Network → List Class → Lines → Fault → Type 0
 IsRefusedText network classes lines e = IfSome (refusal_of (net_of network) (targets_of classes) lines) (IsFaultOf e)
 
--- each packet is counted once; the certificate shows it, and nothing in it is refused, where the reader tells its text
+-- each packet is counted once, modulo 2 to the 64 however large the sums are; the certificate shows it, and nothing in
+-- it is refused, where the reader tells its text
 pub record IsYes (network : Network) (classes : List Class) (lines : Lines) (text : List ℕ) : Type 0 where
   pub once : ExactlyOnce (net_of network) classes
+  pub modulo : OnceModulo (net_of network) classes
   pub certificate : IfSome lines.left (λ octets. IsCertificate (net_of network) classes (text_lines octets))
   pub accepted : IfSome (refusal_of (net_of network) (targets_of classes) lines) (λ r. r ≡ None)
   pub text_is : text ≡ yes_line

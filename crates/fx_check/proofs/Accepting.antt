@@ -8,7 +8,7 @@ use Rattle.fx_cert.specs.ItemText.{IsText, item_text}
 use Rattle.fx_cert.specs.ItemReading.{item_of}
 use Rattle.fx_cert.proofs.Texts.{item_found}
 use Rattle.fx_machine.specs.Classes.{Class}
-use Rattle.fx_machine.specs.Claim.{ExactlyOnce}
+use Rattle.fx_machine.specs.Claim.{ExactlyOnce, OnceModulo}
 use Rattle.fx_machine.specs.Network.{Net}
 use Rattle.fx_machine.specs.Ranks.{IsNetwork}
 use Rattle.fx_leaf.proofs.Headline as headline
@@ -106,3 +106,9 @@ certified_once net classes ls is_net c = headline.exactly_once net classes c.tre
 
 pub accepted_once : (net : Net) (classes : List Class) → IsNetwork net → AreRegions (targets_of classes) → Accepted net (targets_of classes) → ExactlyOnce net classes
 accepted_once net classes is_net rs a = certified_once net classes a.lines is_net (certificate_only net classes a.before a.lines is_net rs a.none)
+
+pub certified_modulo : (net : Net) (classes : List Class) (ls : List Line) → IsNetwork net → IsCertificate net classes ls → OnceModulo net classes
+certified_modulo net classes ls is_net c = headline.once_modulo net classes c.trees is_net c.sound
+
+pub accepted_modulo : (net : Net) (classes : List Class) → IsNetwork net → AreRegions (targets_of classes) → Accepted net (targets_of classes) → OnceModulo net classes
+accepted_modulo net classes is_net rs a = certified_modulo net classes a.lines is_net (certificate_only net classes a.before a.lines is_net rs a.none)

@@ -4,8 +4,11 @@ use Rattle.fx_base.specs.declared.fault.Fault.{Fault}
 use Rattle.fx_base.specs.declared.fault.Place.TheVariants as places
 use Rattle.fx_base.specs.Fault.{fault_at}
 use Rattle.fx_base.specs.Lines.{Lines, text_lines}
+use Rattle.fx_machine.specs.Classes.{Class}
 use Rattle.fx_machine.specs.Network.{Net}
+use Rattle.fx_machine.specs.RunReading.{Fails}
 use Rattle.fx_traffic.specs.Targets.{Target}
+use Rattle.fx_check.specs.Certificates.{IsCertificate}
 use Rattle.fx_check.specs.Judging.{judge_of}
 use Rattle.fx_check.specs.Verdict.{Line, Refusal, whole, first_refusal, refusal_in}
 
@@ -27,6 +30,11 @@ pub record Accepted (net : Net) (targets : List Target) : Type 0 where
   pub before : ℕ
   pub lines : List Line
   pub none : first_refusal (judge_of net) before 0 (whole targets) lines ≡ None
+
+-- where a certificate's text is told, it fails for want of memory, before a line is read, or as its reader does
+abbrev pub Accepts : Net → List Class → Lines → Lines → Fault → Type 0
+Accepts net classes old new e =
+    (text : List ℕ) → old.left ≡ Some text → IsCertificate net classes (text_lines text) → ((e ≡ fault_at 900 places.None) × (new ≡ old)) ⊎ Fails old new e
 
 -- ---- numbers
 

@@ -4,11 +4,11 @@ ghost use Rattle.fx_base.specs.Fault.{fault_at};
 ghost use Rattle.fx_base.specs.Lines.{text_lines};
 ghost use Rattle.fx_base.specs.declared.fault.Place.TheVariants as places;
 ghost use Rattle.fx_leaf.specs.Tables.{AreTables};
-ghost use Rattle.fx_machine.specs.Claim.{ExactlyOnce};
+ghost use Rattle.fx_machine.specs.Claim.{ExactlyOnce, OnceModulo};
 ghost use Rattle.fx_machine.specs.RunReading.{Fails};
 ghost use Rattle.fx_plan.specs.Tables.{net_of};
 ghost use Rattle.fx_check.specs.Certificates.{IsCertificate};
-ghost use Rattle.fx_check.specs.Outcomes.{refusal_of, IsRefusal, IsToldBy, Accepted};
+ghost use Rattle.fx_check.specs.Outcomes.{refusal_of, IsRefusal, IsToldBy, Accepted, Accepts};
 ghost use Rattle.fx_check.specs.Standing.{goals, IsStanding};
 ghost use Rattle.fx_traffic.specs.Targets.{AreRegions, targets_of};
 ghost use Rattle.fx_check.specs.Verdict.{whole};
@@ -61,6 +61,7 @@ fn check_classes<R: Source>(
     ensures accepted { OnOk result (Accepted tables.now.net (targets_of traffic.now)) }
     ensures regions { OnOk result (AreRegions (targets_of traffic.now)) }
     ensures err { IfErr result (λ e. ((e ≡ fault_at 900 places.None) × (lines.new ≡ lines.old)) ⊎ (Fails lines.old lines.new e ⊎ IfSome (refusal_of tables.now.net (targets_of traffic.now) lines.old) (IsRefusal e lines.new))) }
+    ensures accepts { IfErr result (Accepts tables.now.net traffic.now lines.old lines.new) }
     ensures numbers { IfErr result (IsToldBy lines.old) }
 {
     let targets = traffic.targets(alloc)?;
@@ -92,10 +93,14 @@ pub fn check<R: Source>(
 ) -> Result<(), Fault>
     // Each packet is counted once.
     ensures once { OnOk result (ExactlyOnce (net_of plan.now) traffic.now) }
-    // The text is that of a sound certificate, and none such is refused.
+    // However large the sums are, the totals are the plain sums modulo 2 to the 64.
+    ensures modulo { OnOk result (OnceModulo (net_of plan.now) traffic.now) }
+    // The text is that of a sound certificate.
     ensures certificate { OnOk result (IfSome lines.old.left (λ text. IsCertificate (net_of plan.now) traffic.now (text_lines text))) }
     ensures ok { OnOk result (IfSome (refusal_of (net_of plan.now) (targets_of traffic.now) lines.old) (λ r. r ≡ None)) }
     ensures err { IfErr result (λ e. ((e ≡ fault_at 900 places.None) × (lines.new ≡ lines.old)) ⊎ (Fails lines.old lines.new e ⊎ IfSome (refusal_of (net_of plan.now) (targets_of traffic.now) lines.old) (IsRefusal e lines.new))) }
+    // No such certificate is refused: where its text is told, only want of memory or a read that failed stops it.
+    ensures accepts { IfErr result (Accepts (net_of plan.now) traffic.now lines.old lines.new) }
     // Whatever the reader tells of its bytes: 900 or 901, 903 at a line, or 401 to 414 at a line.
     ensures numbers { IfErr result (IsToldBy lines.old) }
 {

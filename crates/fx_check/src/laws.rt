@@ -2,7 +2,7 @@
 ghost use Rattle.std.specs.Prelude.{◌≡◌, ℕ, List, None, Some};
 ghost use Rattle.fx_boxes.specs.Boxes.{Bounds, IsRegion};
 ghost use Rattle.fx_leaf.specs.declared.leaf.Counted.{Counted};
-ghost use Rattle.fx_machine.specs.Claim.{ExactlyOnce};
+ghost use Rattle.fx_machine.specs.Claim.{ExactlyOnce, OnceModulo};
 ghost use Rattle.fx_machine.specs.Classes as traffic;
 ghost use Rattle.fx_machine.specs.Network as network;
 ghost use Rattle.fx_machine.specs.Ranks.{IsNetwork};
@@ -20,7 +20,9 @@ pub fn certificates_are_accepted()
 
 /// Where there is a certificate, each packet of the classes is counted exactly once by every complete run.
 pub fn certificates_count_once()
-    ensures { (net : network.Net) (classes : List traffic.Class) (lines : List Line) → IsNetwork net → IsCertificate net classes lines → ExactlyOnce net classes }
+    ensures once { (net : network.Net) (classes : List traffic.Class) (lines : List Line) → IsNetwork net → IsCertificate net classes lines → ExactlyOnce net classes }
+    // However large the sums are, the totals are the plain sums modulo 2 to the 64.
+    ensures modulo { (net : network.Net) (classes : List traffic.Class) (lines : List Line) → IsNetwork net → IsCertificate net classes lines → OnceModulo net classes }
 {}
 
 /// Where something is wrong with a leaf for a region, its number says why no leaf is sound there, or is 410 where

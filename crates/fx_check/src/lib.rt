@@ -10,3 +10,4 @@ mod tables;
 
 pub use checking::check;
 pub use laws::{certificates_are_accepted, certificates_count_once, wrong_leaves_are_told};
+pub use tables::tables_of;

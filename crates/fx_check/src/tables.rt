@@ -6,8 +6,9 @@ ghost use Rattle.fx_plan.specs.Tables.{net_of};
 use fx_leaf::Tables;
 use fx_plan::Plan;
 
-/// The network of a plan, with its layouts by number and the order in which its collecting processes are judged.
-pub(crate) fn tables_of(plan: &Plan) -> Tables<'_>
+/// The network of a plan, with its layouts by number and the order in which its collecting processes are judged:
+/// what [`fate`](fx_leaf::fate) and [`cut`](fx_leaf::cut) ask for.
+pub fn tables_of(plan: &Plan) -> Tables<'_>
     ensures tables { AreTables result }
     ensures net { result.net ≡ net_of plan.now }
 {

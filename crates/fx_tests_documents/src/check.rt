@@ -60,7 +60,7 @@ fn wrong_among(
 }
 
 /// The traffic that a declaration means.
-fn traffic_of(alloc: Global, text: &str, plan: &Plan) -> Result<Traffic, Fail> {
+pub(crate) fn traffic_of(alloc: Global, text: &str, plan: &Plan) -> Result<Traffic, Fail> {
     Ok(read_traffic(alloc, &Value::from_str(alloc, text)?, plan)?)
 }
 

@@ -22,6 +22,8 @@ mod config_refusals;
 #[cfg(test)]
 mod documents;
 #[cfg(test)]
+mod judging;
+#[cfg(test)]
 mod networks;
 #[cfg(test)]
 mod plan;

@@ -1,10 +1,14 @@
 use Rattle.fx_plan.specs.Tables.{net_of}
-use Rattle.fx_check.proofs.Calling.{once, certificate, unrefused, faults}
+use Rattle.fx_check.proofs.Calling.{accepted, once, modulo, certificate, unrefused, faults}
 use Rattle.fx_check.proofs.checking.check.Goals as goal
 
 pub returns-clause-once : goal.returns-clause-once
 returns-clause-once g c =
     once c.tables_of-tables.result.net (net_of c.args.plan.now) c.args.traffic.now c.tables_of-tables.ensures.net c.check_classes.result c.tables_of-tables.ensures.tables.network c.check_classes.ensures.regions c.check_classes.ensures.accepted
+
+pub returns-clause-modulo : goal.returns-clause-modulo
+returns-clause-modulo g c =
+    modulo c.tables_of-tables.result.net (net_of c.args.plan.now) c.args.traffic.now c.tables_of-tables.ensures.net c.check_classes.result c.tables_of-tables.ensures.tables.network c.check_classes.ensures.regions c.check_classes.ensures.accepted
 
 pub returns-clause-certificate : goal.returns-clause-certificate
 returns-clause-certificate g c =
@@ -17,3 +21,7 @@ returns-clause-ok g c =
 pub returns-clause-err : goal.returns-clause-err
 returns-clause-err g c =
     faults c.tables_of-tables.result.net (net_of c.args.plan.now) c.args.traffic.now c.tables_of-tables.ensures.net c.check_classes.result c.args.lines.now c.check_classes.new.lines c.check_classes.ensures.err
+
+pub returns-clause-accepts : goal.returns-clause-accepts
+returns-clause-accepts g c =
+    accepted c.tables_of-tables.result.net (net_of c.args.plan.now) c.args.traffic.now c.tables_of-tables.ensures.net c.check_classes.result c.args.lines.now c.check_classes.new.lines c.check_classes.ensures.accepts

@@ -2,7 +2,8 @@ use Rattle.std.proofs.Common.{List, ◌∙◌, IfSome, inr, subst, ◌⊎◌}
 use Rattle.std.proofs.lemmas.Result.{err_from_is_err_and}
 use Rattle.fx_machine.specs.RunReading.{Fails}
 use Rattle.fx_check.specs.Outcomes.{refusal_of, IsRefusal}
-use Rattle.fx_traffic.specs.Targets.{Target}
+use Rattle.fx_traffic.specs.Targets.{AreRegions, Target}
+use Rattle.fx_check.proofs.Calling.{accepts}
 use Rattle.fx_check.proofs.Going.{err_gives}
 use Rattle.fx_check.proofs.Numbers.{from_memory}
 use Rattle.fx_check.proofs.checking.check_classes.Goals as goal
@@ -23,3 +24,7 @@ returns-in_err-scratch-clause-numbers g c =
 pub returns-in_err-course-clause-numbers : goal.returns-in_err-course-clause-numbers
 returns-in_err-course-clause-numbers g c =
     let p = err_from_is_err_and c.from_residual-in_err-course.result c.from_residual-in_err-course.ensures.1 in rw p.1 (from_memory c.args.lines.now _ p.2)
+
+pub returns-clause-accepts : goal.returns-clause-accepts
+returns-clause-accepts g c =
+    accepts c.args.tables.now.net c.args.traffic.now _ c.args.lines.now c.take_lines.new.lines c.take_lines.result c.requires.tables.network (c.as_slice.ensures.value ∙ c.in_ok-targets.ensures.items) (subst AreRegions c.in_ok-targets.ensures.items c.in_ok-targets.ensures.regions) c.take_lines.ensures.err

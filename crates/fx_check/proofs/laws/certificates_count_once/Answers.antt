@@ -1,5 +1,8 @@
-use Rattle.fx_check.proofs.Accepting.{certified_once}
+use Rattle.fx_check.proofs.Accepting.{certified_once, certified_modulo}
 use Rattle.fx_check.proofs.laws.certificates_count_once.Goals as goal
 
-pub returns : goal.returns
-returns c = certified_once
+pub returns-clause-once : goal.returns-clause-once
+returns-clause-once c = certified_once
+
+pub returns-clause-modulo : goal.returns-clause-modulo
+returns-clause-modulo c = certified_modulo
