@@ -1,2 +1,3 @@
 pub mod Projections
 pub mod Layouts
+mod Examples

@@ -8,6 +8,7 @@ pub mod Opening
 pub mod Trees
 pub mod Headline
 pub mod Examples
+mod FateExamples
 pub mod Standings
 pub mod Verdicts
 pub mod Joins

@@ -10,3 +10,5 @@ pub mod Stalling
 pub mod Grouping
 pub mod Starting
 pub mod LinkedProcesses
+mod Examples
+mod TableExamples

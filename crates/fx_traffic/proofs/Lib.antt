@@ -1,2 +1,3 @@
 mod Regions
 pub mod Listing
+mod Examples
