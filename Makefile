@@ -60,10 +60,11 @@ run-wrong:
 wrong: kit
 	python3 tests/wrong_bodies.py --kept --jobs 2 $(NAME)
 
-# Runs the program over the worked rows, then over long certificates, then with growths of its memory refused.
+# Compares the lists of definitions to believe, runs the program over the worked rows, then over long certificates, then with growths of its memory refused.
 rows: once run-rows
 
 run-rows:
+	python3 tests/definitions.py --compare
 	python3 tests/rows.py ./once
 	python3 tests/long_certificates.py ./once
 	python3 tests/refused_growth.py ./once
