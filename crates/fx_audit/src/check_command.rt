@@ -74,10 +74,10 @@ fn check_lines<C: Source, S: Sink>(
 /// of the network. Where it is refused by a number from 401 to 414, `no` is written with that number and its place.
 ///
 /// Fails with the first other refusal: 101 and those of [`fx_plan::read_plan`] for the network, with nothing of the
-/// traffic read before; 101 and those of [`fx_traffic::read_traffic`] for the traffic; then, with nothing of the certificate's text read before, 903 at a line
-/// of the certificate that has more than 4,096 octets. 901 comes where a read fails or a reader hasn't ended after
-/// 4,294,967,296 calls, 900 for want of memory, 902 where a write fails. Nothing is written for a fault other than 902,
-/// nor before the answer is known.
+/// traffic read before; 101 and those of [`fx_traffic::read_traffic`] for the traffic; then, with nothing of the
+/// certificate's text read before, 903 at a line of the certificate that has more than 4,096 octets. 901 comes where a
+/// read fails or a reader hasn't ended after 4,294,967,296 calls, 900 for want of memory, 902 where a write fails.
+/// Nothing is written for a fault other than 902, nor before the answer is known.
 pub fn check_bytes<N: Source, T: Source, C: Source, S: Sink>(
     alloc: Global,
     network: &mut N,
