@@ -60,7 +60,8 @@ run-wrong:
 wrong: kit
 	python3 tests/wrong_bodies.py --kept --jobs 2 $(NAME)
 
-# Compares the lists of definitions to believe, runs the program over the worked rows, then over long certificates, then with growths of its memory refused.
+# Compares the lists of definitions to believe, then runs the program over the worked rows, over long certificates, and
+# with growths of its memory refused.
 rows: once run-rows
 
 run-rows:

@@ -27,8 +27,10 @@ fn answer_bundle<S: Sink>(alloc: Global, bundle: &Bundle<'_>, sink: &mut S) -> R
     ensures err { IfErr result (λ e. (e ≡ fault_at 900 places.None)
         ⊎ (((e ≡ fault_at 902 places.None) × (S.failed sink.new ≡ true))
         ⊎ IsRefusedThere bundle.now.command bundle.now.network.now bundle.now.traffic.now bundle.now.third.now e)) }
-    ensures told { IfOk result (λ answer. (text : List ℕ) × IsBundleText answer text × Writes (S.taken sink.old) (S.taken sink.new) text) }
-    ensures quiet { IfErr result (λ e. ((e ≡ fault_at 902 places.None) × (S.failed sink.new ≡ true)) ⊎ (sink.new ≡ sink.old)) }
+    ensures told { IfOk result (λ answer. (text : List ℕ)
+        × IsBundleText answer text × Writes (S.taken sink.old) (S.taken sink.new) text) }
+    ensures quiet { IfErr result (λ e. ((e ≡ fault_at 902 places.None) × (S.failed sink.new ≡ true))
+        ⊎ (sink.new ≡ sink.old)) }
 {
     let mut network = Octets::new(bundle.network);
     let mut traffic = Octets::new(bundle.traffic);
@@ -58,8 +60,10 @@ pub fn bundle_bytes<B: Source, S: Sink>(
         ⊎ (ReadFails (B.left bundle.old) (B.failed bundle.new) e
         ⊎ (((e ≡ fault_at 902 places.None) × (S.failed sink.new ≡ true))
         ⊎ IfSome (B.left bundle.old) (λ octets. IsRefusedBundle octets e)))) }
-    ensures told { IfOk result (λ answer. (text : List ℕ) × IsBundleText answer text × Writes (S.taken sink.old) (S.taken sink.new) text) }
-    ensures quiet { IfErr result (λ e. ((e ≡ fault_at 902 places.None) × (S.failed sink.new ≡ true)) ⊎ (sink.new ≡ sink.old)) }
+    ensures told { IfOk result (λ answer. (text : List ℕ)
+        × IsBundleText answer text × Writes (S.taken sink.old) (S.taken sink.new) text) }
+    ensures quiet { IfErr result (λ e. ((e ≡ fault_at 902 places.None) × (S.failed sink.new ≡ true))
+        ⊎ (sink.new ≡ sink.old)) }
 {
     let octets = read_whole(alloc, bundle)?;
     let Some(bundle) = read_bundle(octets.as_slice()) else {

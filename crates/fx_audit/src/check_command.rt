@@ -33,7 +33,8 @@ fn answer_refusal<S: Sink>(sink: &mut S, fault: Fault) -> Result<Answer, Fault>
     ensures ok { IfOk result (λ answer. (answer ≡ No) × MeansNo fault.number × Writes (S.taken sink.old) (S.taken sink.new) (no_line fault)) }
     ensures going { OnOk result (S.failed sink.old ≡ false → S.failed sink.new ≡ false) }
     ensures err { IfErr result (λ e. ((e ≡ fault) × (MeansNo fault.number → ⊥)) ⊎ ((e ≡ fault_at 902 places.None) × (S.failed sink.new ≡ true))) }
-    ensures quiet { IfErr result (λ e. ((e ≡ fault_at 902 places.None) × (S.failed sink.new ≡ true)) ⊎ (sink.new ≡ sink.old)) }
+    ensures quiet { IfErr result (λ e. ((e ≡ fault_at 902 places.None) × (S.failed sink.new ≡ true))
+        ⊎ (sink.new ≡ sink.old)) }
 {
     if !(401..=414).contains(&fault.number) {
         return Err(fault);
@@ -58,7 +59,8 @@ fn check_lines<C: Source, S: Sink>(
         ⊎ (((e ≡ fault_at 902 places.None) × (S.failed sink.new ≡ true))
         ⊎ IsRefusedCertificate documents.now.plan documents.now.traffic certificate.old e))) }
     ensures numbers { IfErr result (IsUnanswered certificate.old) }
-    ensures quiet { IfErr result (λ e. ((e ≡ fault_at 902 places.None) × (S.failed sink.new ≡ true)) ⊎ (sink.new ≡ sink.old)) }
+    ensures quiet { IfErr result (λ e. ((e ≡ fault_at 902 places.None) × (S.failed sink.new ≡ true))
+        ⊎ (sink.new ≡ sink.old)) }
 {
     match check(alloc, &documents.plan, &documents.traffic, certificate) {
         Ok(()) => {
@@ -98,11 +100,14 @@ pub fn check_bytes<N: Source, T: Source, C: Source, S: Sink>(
         ⊎ IfSome (N.left network.old) (λ n. IfSome (T.left traffic.old) (λ t. IsRefusedCheck n t certificate.old e))))))) }
     // 401 to 414, with the line, are answered no. Once the certificate is read, what isn't answered is 900 to 903.
     ensures numbers { IfErr result (λ e. (certificate.new ≡ certificate.old) ⊎ IsUnanswered certificate.old e) }
-    ensures told { IfOk result (λ answer. (text : List ℕ) × IsCheckText answer text × Writes (S.taken sink.old) (S.taken sink.new) text) }
-    ensures order { IfSome (N.left network.old) (λ n. (e : Fault) → IsRefusedNetwork n e → traffic.new ≡ traffic.old) }
+    ensures told { IfOk result (λ answer. (text : List ℕ)
+        × IsCheckText answer text × Writes (S.taken sink.old) (S.taken sink.new) text) }
+    ensures order { IfSome (N.left network.old) (λ n. (e : Fault)
+        → IsRefusedNetwork n e → traffic.new ≡ traffic.old) }
     ensures untouched { IfSome (N.left network.old) (λ n. IfSome (T.left traffic.old) (λ t.
         (e : Fault) → IsRefusedByDocuments n t e → certificate.new ≡ certificate.old)) }
-    ensures quiet { IfErr result (λ e. ((e ≡ fault_at 902 places.None) × (S.failed sink.new ≡ true)) ⊎ (sink.new ≡ sink.old)) }
+    ensures quiet { IfErr result (λ e. ((e ≡ fault_at 902 places.None) × (S.failed sink.new ≡ true))
+        ⊎ (sink.new ≡ sink.old)) }
 {
     let documents = read_documents(alloc, network, traffic)?;
     check_lines(alloc, &documents, certificate, sink)

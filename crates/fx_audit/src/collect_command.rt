@@ -36,9 +36,11 @@ pub fn collect_bytes<N: Source, R: Source, S: Sink>(
         ⊎ (ReadFails (R.left stream.old) (R.failed stream.new) e
         ⊎ (((e ≡ fault_at 902 places.None) × (S.failed sink.new ≡ true))
         ⊎ IfSome (N.left network.old) (λ n. IfSome (R.left stream.old) (λ octets. IsRefusedCollect n octets e)))))) }
-    ensures told { IfOk result (λ answer. (text : List ℕ) × IsCollectText answer text × Writes (S.taken sink.old) (S.taken sink.new) text) }
+    ensures told { IfOk result (λ answer. (text : List ℕ)
+        × IsCollectText answer text × Writes (S.taken sink.old) (S.taken sink.new) text) }
     ensures untouched { IfSome (N.left network.old) (λ n. (e : Fault) → IsRefusedNetwork n e → stream.new ≡ stream.old) }
-    ensures quiet { IfErr result (λ e. ((e ≡ fault_at 902 places.None) × (S.failed sink.new ≡ true)) ⊎ (sink.new ≡ sink.old)) }
+    ensures quiet { IfErr result (λ e. ((e ≡ fault_at 902 places.None) × (S.failed sink.new ≡ true))
+        ⊎ (sink.new ≡ sink.old)) }
 {
     let plan = network_from(alloc, network)?;
     collect(alloc, plan.net(), stream, sink)

@@ -78,7 +78,8 @@ fn put_collected<S: Sink>(session: &Session, totals: &mut Totals, sink: &mut S) 
     ensures ok { OnOk result ((text : List ℕ) × IsTotalsText totals.old session.now.known.gaps session.now.known.skipped text × Writes (S.taken sink.old) (S.taken sink.new) text) }
     ensures going { OnOk result (S.failed sink.old ≡ false → S.failed sink.new ≡ false) }
     ensures err { IfErr result (λ e. (e ≡ fault_at 900 places.None) ⊎ ((e ≡ fault_at 902 places.None) × (S.failed sink.new ≡ true))) }
-    ensures quiet { IfErr result (λ e. ((e ≡ fault_at 902 places.None) × (S.failed sink.new ≡ true)) ⊎ (sink.new ≡ sink.old)) }
+    ensures quiet { IfErr result (λ e. ((e ≡ fault_at 902 places.None) × (S.failed sink.new ≡ true))
+        ⊎ (sink.new ≡ sink.old)) }
 {
     totals.sort()?;
     totals.put_report(sink)?;
@@ -107,8 +108,10 @@ pub fn collect<R: Source, S: Sink>(
         ⊎ (ReadFails (R.left stream.old) (R.failed stream.new) e
         ⊎ (((e ≡ fault_at 902 places.None) × (S.failed sink.new ≡ true))
         ⊎ IfSome (R.left stream.old) (λ octets. IsRefusedStream (stream_read octets) e)))) }
-    ensures told { IfOk result (λ answer. (text : List ℕ) × IsCollectText answer text × Writes (S.taken sink.old) (S.taken sink.new) text) }
-    ensures quiet { IfErr result (λ e. ((e ≡ fault_at 902 places.None) × (S.failed sink.new ≡ true)) ⊎ (sink.new ≡ sink.old)) }
+    ensures told { IfOk result (λ answer. (text : List ℕ)
+        × IsCollectText answer text × Writes (S.taken sink.old) (S.taken sink.new) text) }
+    ensures quiet { IfErr result (λ e. ((e ≡ fault_at 902 places.None) × (S.failed sink.new ≡ true))
+        ⊎ (sink.new ≡ sink.old)) }
 {
     let mut session = Session::new(alloc)?;
     let mut totals = Totals::new(alloc, net.report_layout().copy())?;

@@ -84,7 +84,8 @@ pub fn read_documents<N: Source, T: Source>(
         ⊎ (ReadFails (N.left network.old) (N.failed network.new) e
         ⊎ (ReadFails (T.left traffic.old) (T.failed traffic.new) e
         ⊎ IfSome (N.left network.old) (λ n. IfSome (T.left traffic.old) (λ t. IsRefusedByDocuments n t e))))) }
-    ensures order { IfSome (N.left network.old) (λ n. (e : Fault) → IsRefusedNetwork n e → traffic.new ≡ traffic.old) }
+    ensures order { IfSome (N.left network.old) (λ n. (e : Fault)
+        → IsRefusedNetwork n e → traffic.new ≡ traffic.old) }
 {
     let plan = network_from(alloc, network)?;
     let traffic = traffic_from(alloc, traffic, &plan)?;

@@ -31,7 +31,8 @@ fn replay_lines<R: Source, S: Sink>(
         ⊎ (Fails run.old run.new e
         ⊎ (((e ≡ fault_at 902 places.None) × (S.failed sink.new ≡ true))
         ⊎ IsRefusedRun documents.now.plan documents.now.traffic run.old e))) }
-    ensures quiet { IfErr result (λ e. ((e ≡ fault_at 902 places.None) × (S.failed sink.new ≡ true)) ⊎ (sink.new ≡ sink.old)) }
+    ensures quiet { IfErr result (λ e. ((e ≡ fault_at 902 places.None) × (S.failed sink.new ≡ true))
+        ⊎ (sink.new ≡ sink.old)) }
 {
     let classes = documents.traffic.classes();
     let run = read_run(alloc, classes, run)?;
@@ -62,11 +63,14 @@ pub fn replay_bytes<N: Source, T: Source, R: Source, S: Sink>(
         ⊎ (Fails run.old run.new e
         ⊎ (((e ≡ fault_at 902 places.None) × (S.failed sink.new ≡ true))
         ⊎ IfSome (N.left network.old) (λ n. IfSome (T.left traffic.old) (λ t. IsRefusedReplay n t run.old e))))))) }
-    ensures told { IfOk result (λ answer. (text : List ℕ) × IsReplayText answer text × Writes (S.taken sink.old) (S.taken sink.new) text) }
-    ensures order { IfSome (N.left network.old) (λ n. (e : Fault) → IsRefusedNetwork n e → traffic.new ≡ traffic.old) }
+    ensures told { IfOk result (λ answer. (text : List ℕ)
+        × IsReplayText answer text × Writes (S.taken sink.old) (S.taken sink.new) text) }
+    ensures order { IfSome (N.left network.old) (λ n. (e : Fault)
+        → IsRefusedNetwork n e → traffic.new ≡ traffic.old) }
     ensures untouched { IfSome (N.left network.old) (λ n. IfSome (T.left traffic.old) (λ t.
         (e : Fault) → IsRefusedByDocuments n t e → run.new ≡ run.old)) }
-    ensures quiet { IfErr result (λ e. ((e ≡ fault_at 902 places.None) × (S.failed sink.new ≡ true)) ⊎ (sink.new ≡ sink.old)) }
+    ensures quiet { IfErr result (λ e. ((e ≡ fault_at 902 places.None) × (S.failed sink.new ≡ true))
+        ⊎ (sink.new ≡ sink.old)) }
 {
     let documents = read_documents(alloc, network, traffic)?;
     replay_lines(alloc, &documents, run, sink)

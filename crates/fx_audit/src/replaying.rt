@@ -61,7 +61,8 @@ fn put_state<S: Sink>(alloc: Global, state: &State<'_>, sink: &mut S) -> Result<
     ensures ok { OnOk result ((text : List ℕ) × IsTextOf state.now.net.report_layout state.now.state text × Writes (S.taken sink.old) (S.taken sink.new) text) }
     ensures going { OnOk result (S.failed sink.old ≡ false → S.failed sink.new ≡ false) }
     ensures err { IfErr result (λ e. (e ≡ fault_at 900 places.None) ⊎ ((e ≡ fault_at 902 places.None) × (S.failed sink.new ≡ true))) }
-    ensures quiet { IfErr result (λ e. ((e ≡ fault_at 902 places.None) × (S.failed sink.new ≡ true)) ⊎ (sink.new ≡ sink.old)) }
+    ensures quiet { IfErr result (λ e. ((e ≡ fault_at 902 places.None) × (S.failed sink.new ≡ true))
+        ⊎ (sink.new ≡ sink.old)) }
 {
     let mut totals = Totals::of(alloc, state)?;
     totals.sort()?;
@@ -87,7 +88,8 @@ pub fn replay<S: Sink>(
         × IsTextOf net.now.report_layout (states.told last) text × Writes (S.taken sink.old) (S.taken sink.new) text)) }
     ensures going { OnOk result (S.failed sink.old ≡ false → S.failed sink.new ≡ false) }
     ensures err { IfErr result (λ e. IsRefused net.now classes.now run e ⊎ ((e ≡ fault_at 900 places.None) ⊎ ((e ≡ fault_at 902 places.None) × (S.failed sink.new ≡ true)))) }
-    ensures quiet { IfErr result (λ e. ((e ≡ fault_at 902 places.None) × (S.failed sink.new ≡ true)) ⊎ (sink.new ≡ sink.old)) }
+    ensures quiet { IfErr result (λ e. ((e ≡ fault_at 902 places.None) × (S.failed sink.new ≡ true))
+        ⊎ (sink.new ≡ sink.old)) }
 {
     let (packets, steps) = run.into_parts();
     let mut state = State::open(alloc, net, classes, packets)?;

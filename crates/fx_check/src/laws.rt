@@ -20,9 +20,11 @@ pub fn certificates_are_accepted()
 
 /// Where there is a certificate, each packet of the classes is counted exactly once by every complete run.
 pub fn certificates_count_once()
-    ensures once { (net : network.Net) (classes : List traffic.Class) (lines : List Line) → IsNetwork net → IsCertificate net classes lines → ExactlyOnce net classes }
+    ensures once { (net : network.Net) (classes : List traffic.Class) (lines : List Line)
+        → IsNetwork net → IsCertificate net classes lines → ExactlyOnce net classes }
     // However large the sums are, the totals are the plain sums modulo 2 to the 64.
-    ensures modulo { (net : network.Net) (classes : List traffic.Class) (lines : List Line) → IsNetwork net → IsCertificate net classes lines → OnceModulo net classes }
+    ensures modulo { (net : network.Net) (classes : List traffic.Class) (lines : List Line)
+        → IsNetwork net → IsCertificate net classes lines → OnceModulo net classes }
 {}
 
 /// Where something is wrong with a leaf for a region, its number says why no leaf is sound there, or is 410 where

@@ -51,8 +51,11 @@ fn status_of_refusal(fault: &Fault) -> u8
 /// 0 an answer of yes, 1 of no, 3 of unknown; 2 a refusal (`refused N PLACE`), 4 want of memory (`memory 900`),
 /// 5 a device that failed (`device 901`, `device 902`), also where the line can't be written.
 pub fn finish<S: Sink>(outcome: &Result<Answer, Fault>, sink: &mut S) -> u8
-    ensures answered { IfOk outcome.now (λ _. (result ≡ status outcome.now) × (sink.new ≡ sink.old)) }
-    ensures refused { IfErr outcome.now (λ e. ((result ≡ refusal_status e) × Writes (S.taken sink.old) (S.taken sink.new) (refusal_line e) × (S.failed sink.old ≡ false → S.failed sink.new ≡ false))
+    ensures answered { IfOk outcome.now (λ _. (result ≡ status outcome.now)
+        × (sink.new ≡ sink.old)) }
+    ensures refused { IfErr outcome.now (λ e. ((result ≡ refusal_status e)
+        × Writes (S.taken sink.old) (S.taken sink.new) (refusal_line e)
+        × (S.failed sink.old ≡ false → S.failed sink.new ≡ false))
         ⊎ ((result ≡ 5) × (S.failed sink.new ≡ true))) }
     ensures exit { IsExitStatus result }
 {

@@ -31,9 +31,11 @@ fn answer_call<R: AllocGlobal + Files, S: Sink>(
     call: &Call,
     sink: &mut S,
 ) -> Result<Answer, Fault>
-    ensures told { IfOk result (λ answer. (text : List ℕ) × IsCallText call.now answer text × Writes (S.taken sink.old) (S.taken sink.new) text) }
+    ensures told { IfOk result (λ answer. (text : List ℕ)
+        × IsCallText call.now answer text × Writes (S.taken sink.old) (S.taken sink.new) text) }
     ensures going { OnOk result (S.failed sink.old ≡ false → S.failed sink.new ≡ false) }
-    ensures quiet { IfErr result (λ e. ((e ≡ fault_at 902 places.None) × (S.failed sink.new ≡ true)) ⊎ (sink.new ≡ sink.old)) }
+    ensures quiet { IfErr result (λ e. ((e ≡ fault_at 902 places.None) × (S.failed sink.new ≡ true))
+        ⊎ (sink.new ≡ sink.old)) }
 {
     match call {
         Call::Replay {
@@ -74,9 +76,14 @@ fn answer_words<R: AllocGlobal + Files + Input, S: Sink>(
     words: &[String],
     sink: &mut S,
 ) -> u8
-    ensures bundle { length words.now < 2 → EndsAs IsBundleText (S.taken sink.old) (S.taken sink.new) (S.failed sink.old ≡ false → S.failed sink.new ≡ false) (HasFailedToWrite S.taken S.failed sink.new) result }
+    ensures bundle { length words.now < 2
+        → EndsAs IsBundleText (S.taken sink.old) (S.taken sink.new)
+        (S.failed sink.old ≡ false → S.failed sink.new ≡ false)
+        (HasFailedToWrite S.taken S.failed sink.new) result }
     ensures call { (call : Call) → Names (map string_bytes words.now) call
-        → EndsAs (IsCallText call) (S.taken sink.old) (S.taken sink.new) (S.failed sink.old ≡ false → S.failed sink.new ≡ false) (HasFailedToWrite S.taken S.failed sink.new) result }
+        → EndsAs (IsCallText call) (S.taken sink.old) (S.taken sink.new)
+        (S.failed sink.old ≡ false → S.failed sink.new ≡ false)
+        (HasFailedToWrite S.taken S.failed sink.new) result }
     ensures no_call { 2 ≤ length words.now → NamesNoCall (map string_bytes words.now) → IsWordsStatus (map string_bytes words.now) (S.failed sink.new) result }
     ensures exit { IsExitStatus result }
 {
@@ -101,7 +108,8 @@ fn all_words<R: AllocGlobal + Env>(rt: &R) -> io::Result<Vec<String>> {
 
 /// Reads the words, answers them and hands on all that was written. Gives the exit status.
 fn answer<R: AllocGlobal + Env + Files + Input, S: Sink>(rt: &R, sink: &mut S) -> u8
-    ensures handed_on { (result ≡ 5) ⊎ ((S.failed sink.new ≡ false) × (S.holds_back sink.new ≡ false)) }
+    ensures handed_on { (result ≡ 5)
+        ⊎ ((S.failed sink.new ≡ false) × (S.holds_back sink.new ≡ false)) }
     ensures exit { IsExitStatus result }
 {
     let code = match all_words(rt) {
@@ -113,7 +121,8 @@ fn answer<R: AllocGlobal + Env + Files + Input, S: Sink>(rt: &R, sink: &mut S) -
 
 /// Hands on what a sink still holds. Gives this exit status, or 5 where that fails.
 fn flush<S: Sink>(sink: &mut S, code: u8) -> u8
-    ensures { ((result ≡ code) × (S.failed sink.new ≡ false) × (S.holds_back sink.new ≡ false) × (S.taken sink.new ≡ S.taken sink.old))
+    ensures { ((result ≡ code) × (S.failed sink.new ≡ false)
+        × (S.holds_back sink.new ≡ false) × (S.taken sink.new ≡ S.taken sink.old))
         ⊎ ((result ≡ 5) × (S.failed sink.new ≡ true)) }
 {
     match sink.flush() {

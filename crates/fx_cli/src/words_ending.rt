@@ -20,7 +20,8 @@ const NO_CALL: u8 = 6;
 
 /// Writes a text, and gives this status, or 5 where it can't be written.
 fn put_and_end<S: Sink>(text: &[u8], code: u8, sink: &mut S) -> u8
-    ensures { ((result ≡ code) × Writes (S.taken sink.old) (S.taken sink.new) text.now × (S.failed sink.old ≡ false → S.failed sink.new ≡ false))
+    ensures { ((result ≡ code) × Writes (S.taken sink.old) (S.taken sink.new) text.now
+        × (S.failed sink.old ≡ false → S.failed sink.new ≡ false))
         ⊎ ((result ≡ 5) × (S.failed sink.new ≡ true)) }
 {
     match put_text(sink, text) {
@@ -46,10 +47,14 @@ fn status_of_words(kind: ErrorKind) -> u8
 /// 0 where the words ask for help, 6 where they don't parse; 4 for want of memory, also where the text can't be made
 /// for it (`memory 900` is written then); 5 where nothing can be written.
 pub fn finish_words<S: Sink>(alloc: Global, error: &Error, sink: &mut S) -> u8
-    ensures status { ((result ≡ words_status (kind_of error.now)) × (S.failed sink.old ≡ false → S.failed sink.new ≡ false))
-        ⊎ (((result ≡ 4) × Writes (S.taken sink.old) (S.taken sink.new) memory_line × (S.failed sink.old ≡ false → S.failed sink.new ≡ false))
+    ensures status { ((result ≡ words_status (kind_of error.now))
+        × (S.failed sink.old ≡ false → S.failed sink.new ≡ false))
+        ⊎ (((result ≡ 4) × Writes (S.taken sink.old) (S.taken sink.new) memory_line
+        × (S.failed sink.old ≡ false → S.failed sink.new ≡ false))
         ⊎ ((result ≡ 5) × (S.failed sink.new ≡ true))) }
-    ensures memory { kind_of error.now ≡ ErrorKind.OutOfMemory → ((result ≡ 4) × Writes (S.taken sink.old) (S.taken sink.new) memory_line × (S.failed sink.old ≡ false → S.failed sink.new ≡ false))
+    ensures memory { kind_of error.now ≡ ErrorKind.OutOfMemory
+        → ((result ≡ 4) × Writes (S.taken sink.old) (S.taken sink.new) memory_line
+        × (S.failed sink.old ≡ false → S.failed sink.new ≡ false))
         ⊎ ((result ≡ 5) × (S.failed sink.new ≡ true)) }
     ensures exit { IsExitStatus result }
 {
@@ -68,7 +73,9 @@ pub fn finish_words<S: Sink>(alloc: Global, error: &Error, sink: &mut S) -> u8
 /// 4 for want of memory, 6 where a word is no UTF-8 text, else 5 (`device 901`); 5 also where nothing can be
 /// written.
 pub fn finish_unread<S: Sink>(kind: io::ErrorKind, sink: &mut S) -> u8
-    ensures ended { ((result ≡ unread_status kind) × Writes (S.taken sink.old) (S.taken sink.new) (unread_text kind) × (S.failed sink.old ≡ false → S.failed sink.new ≡ false))
+    ensures ended { ((result ≡ unread_status kind)
+        × Writes (S.taken sink.old) (S.taken sink.new) (unread_text kind)
+        × (S.failed sink.old ≡ false → S.failed sink.new ≡ false))
         ⊎ ((result ≡ 5) × (S.failed sink.new ≡ true)) }
     ensures exit { IsExitStatus result }
 {

@@ -27,7 +27,8 @@ pub fn conservation()
     // At the opening it is the plain sums.
     ensures opens { (net : network.Net) (classes : List traffic.Class) → ranks.IsNetwork net → certificates.AllOnce net classes → the_laws.Opens net classes }
     // So it is modulo 2 to the 64, however large they are.
-    ensures opens_modulo { (net : network.Net) (classes : List traffic.Class) → ranks.IsNetwork net → certificates.AllOnce net classes → the_laws.OpensModulo net classes }
+    ensures opens_modulo { (net : network.Net) (classes : List traffic.Class) → ranks.IsNetwork net → certificates.AllOnce net classes
+        → the_laws.OpensModulo net classes }
     // There the machine's tables have their sizes, which each step keeps too.
     ensures sized { (net : network.Net) (classes : List traffic.Class) (packets : List of_packet.Packet) → the_laws.IsSized net (states.opening net classes packets) }
     ensures cross { (net : network.Net) (classes : List traffic.Class) (packet : ℕ) (crossing : ℕ) (choices : acts.Choices) → ranks.IsNetwork net → the_laws.Kept net classes (of_step.Cross packet crossing choices) }
