@@ -1,6 +1,7 @@
 -- A text's lines, one after another.
-use Rattle.std.proofs.Common.{◌≡◌, ℕ, suc, ◌+◌, ◌<◌, Bool, true, false, ◌==◌, nat_lt, List, [], ◌∷◌, length, Option, Some, None, IfSome, refl, arith, inl, inr}
+use Rattle.std.proofs.Common.{◌≡◌, ℕ, suc, ◌+◌, ◌<◌, Bool, true, false, ◌==◌, nat_lt, List, [], ◌∷◌, ◌++◌, length, Option, Some, None, IfSome, refl, arith, inl, inr}
 use Rattle.std.proofs.lemmas.Bool.{cases_lt, lt-ltb, le-ltb}
+use Rattle.fx_base.specs.Device.{MayBeLeft}
 use Rattle.fx_base.specs.Lines.{line_len, first_line, after_line, line_ends, text_lines}
 
 lt_suc : (n m : ℕ) → nat_lt (suc n) (suc m) ≡ nat_lt n m
@@ -39,7 +40,39 @@ lines_first (b ∷ (d ∷ ds)) some =
       | false ↦ λ e. at_byte b (d ∷ ds) e (lines_first (d ∷ ds) (omega arith))
     ] refl
 
--- the lines of what a reader had left, and of what it has left behind the line that it is at
-pub lines_told : (old new : Option (List ℕ)) (line : List ℕ) (ended : Bool) → IfSome old (λ text. (0 < length text) × (line ≡ first_line text) × (ended ≡ line_ends text) × (new ≡ Some (after_line text))) → IfSome old (λ text. IfSome new (λ rest. text_lines text ≡ (line, ended) ∷ text_lines rest))
-lines_told None new line ended h = tt
-lines_told (Some text) new line ended h = rw (h.3, h.1, h.2) (lines_first text h.0)
+-- a line without a line feed in it, and a line feed behind it
+line_and_feed : (line rest : List ℕ) → line_len line ≡ length line → text_lines (line ++ 10 ∷ rest) ≡ (line, true) ∷ text_lines rest
+line_and_feed [] rest one = refl
+line_and_feed (b ∷ bs) rest one =
+    elim (b == 10) as (λ t. (b == 10) ≡ t → text_lines ((b ∷ bs) ++ 10 ∷ rest) ≡ (b ∷ bs, true) ∷ text_lines rest) [
+      | true ↦ λ e. absurd (omega (arith, rw e at one))
+      | false ↦ λ e.
+          let len : line_len (b ∷ bs) ≡ suc (line_len bs) = rw e (omega arith) in
+          let inner : line_len bs ≡ length bs = omega (arith, one, len) in
+          rw (e, line_and_feed bs rest inner) refl
+    ] refl
+
+-- a line without a line feed in it or behind it
+line_alone : (b : ℕ) (line : List ℕ) → line_len (b ∷ line) ≡ length (b ∷ line) → text_lines (b ∷ line) ≡ (b ∷ line, false) ∷ []
+line_alone b [] one =
+    elim (b == 10) as (λ t. (b == 10) ≡ t → text_lines (b ∷ []) ≡ (b ∷ [], false) ∷ []) [
+      | true ↦ λ e. absurd (omega (arith, rw e at one))
+      | false ↦ λ e. rw e refl
+    ] refl
+line_alone b (c ∷ cs) one =
+    elim (b == 10) as (λ t. (b == 10) ≡ t → text_lines (b ∷ c ∷ cs) ≡ (b ∷ c ∷ cs, false) ∷ []) [
+      | true ↦ λ e. absurd (omega (arith, rw e at one))
+      | false ↦ λ e.
+          let len : line_len (b ∷ c ∷ cs) ≡ suc (line_len (c ∷ cs)) = rw e (omega arith) in
+          rw (e, line_alone c cs (omega (arith, one, len))) refl
+    ] refl
+
+-- whatever follows, the line that a reader is at and what follows are the lines of a text that it may have had left
+pub lines_behind : (old new : Option (List ℕ)) (line : List ℕ) (ended : Bool) → line_len line ≡ length line → (ended ≡ false → 0 < length line) → IfSome old (λ text. (0 < length text) × (line ≡ first_line text) × (ended ≡ line_ends text) × (new ≡ Some (after_line text)))
+    → (rest : List ℕ) → MayBeLeft new rest × (ended ≡ false → rest ≡ []) → (text : List ℕ) × MayBeLeft old text × (text_lines text ≡ (line, ended) ∷ text_lines rest)
+lines_behind (Some text) new line ended one some h rest follows =
+    let is : rest ≡ after_line text = rw h.3 at follows.0 in
+    (text, refl, rw (is, h.1, h.2) (lines_first text h.0))
+lines_behind None new line true one some h rest follows = (line ++ 10 ∷ rest, tt, line_and_feed line rest one)
+lines_behind None new [] false one some h rest follows = absurd (omega (arith, some refl))
+lines_behind None new (b ∷ bs) false one some h rest follows = (b ∷ bs, tt, rw (follows.1 refl) (line_alone b bs one))

@@ -1,5 +1,5 @@
 //! A device that fails at a call named beforehand.
-ghost use Rattle.std.specs.Prelude.{◌≡◌, ◌≢◌, ◌↔◌, ◌-◌, ◌≤◌, [], length, take, true, false, OnOk, OnErr, IfOk, IfErr, IsErr, IsTrue};
+ghost use Rattle.std.specs.Prelude.{◌≡◌, ◌≢◌, ◌↔◌, ◌+◌, ◌-◌, ◌%◌, ◌^◌, ◌≤◌, [], length, take, true, false, OnOk, OnErr, IfOk, IfErr, IsErr, IsTrue};
 ghost use Rattle.fx_base.specs.Device.{Reads, Writes};
 ghost use Rattle.fx_base.specs.Fault.{fault_at};
 ghost use Rattle.fx_base.specs.declared.fault.Place.TheVariants as places;
@@ -16,6 +16,8 @@ pub struct Fuse<D> {
     device: D,
     /// The number of calls up to the one that fails; with 0 none does.
     calls: u64,
+    /// The number of reads, modulo 2 to the 64.
+    reads: u64,
     failed: bool,
 }
 
@@ -29,6 +31,7 @@ impl<D> Fuse<D> {
         Fuse {
             device,
             calls: at,
+            reads: 0,
             failed: false,
         }
     }
@@ -40,6 +43,7 @@ impl<D> Fuse<D> {
         let Fuse {
             device,
             calls: _,
+            reads: _,
             failed: _,
         } = self;
         device
@@ -50,6 +54,7 @@ impl<D> Fuse<D> {
         ensures burns { IsTrue result ↔ (self.old.calls ≡ 1) }
         ensures calls { self.new.calls ≡ self.old.calls - 1 }
         ensures device { self.new.device ≡ self.old.device }
+        ensures reads { self.new.reads ≡ self.old.reads }
     {
         let burns = self.calls == 1;
         self.calls = self.calls.saturating_sub(1);
@@ -62,17 +67,21 @@ impl<D: Source> Source for Fuse<D> {
 
     ghost failed = { λ s. s.failed };
 
+    ghost calls = { λ s. s.reads };
+
     fn read(&mut self, buffer: &mut [u8]) -> Result<usize, Fault>
         ensures count { IfOk result (λ n. n ≤ length buffer.old) }
         ensures ok { OnOk result (self.new.failed ≡ false) }
         ensures octets { IfOk result (λ n. Reads (D.left self.old.device) (D.left self.new.device) (length buffer.old) (take n buffer.new) n) }
         ensures err { IfErr result (λ e. (e ≡ fault_at 901 places.None) × (self.new.failed ≡ true) × (D.left self.new.device ≡ D.left self.old.device)) }
+        ensures asked { self.new.reads ≡ (self.old.reads + 1) % 2 ^ 64 }
 
         // The call that it names fails, and a call that fails otherwise is one where the device failed.
         ensures burns { self.old.calls ≡ 1 → IsErr result }
         ensures device { OnErr result (self.old.calls ≢ 1 → D.failed self.new.device ≡ true) }
         ensures calls { self.new.calls ≡ self.old.calls - 1 }
     {
+        self.reads = self.reads.wrapping_add(1);
         if self.burns() {
             self.failed = true;
             return Err(Fault::bare(901));

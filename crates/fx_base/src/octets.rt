@@ -8,14 +8,19 @@ use crate::source::Source;
 #[derive(Drop)]
 pub struct Octets<'a> {
     rest: &'a [u8],
+    calls: u64,
 }
 
 impl<'a> Octets<'a> {
     /// A source of these octets.
     pub fn new(octets: &'a [u8]) -> Octets<'a>
-        ensures { result.rest.now ≡ octets.now }
+        ensures octets { result.rest.now ≡ octets.now }
+        ensures calls { result.calls ≡ 0 }
     {
-        Octets { rest: octets }
+        Octets {
+            rest: octets,
+            calls: 0,
+        }
     }
 }
 
@@ -24,7 +29,10 @@ impl Source for Octets<'_> {
 
     ghost failed = { λ _. false };
 
+    ghost calls = { λ s. s.calls };
+
     fn read(&mut self, buffer: &mut [u8]) -> Result<usize, Fault> {
+        self.calls = self.calls.wrapping_add(1);
         let n = buffer.len().min(self.rest.len());
         let (now, later) = self.rest.split_at(n);
         buffer[..n].copy_from_slice(now);

@@ -15,6 +15,7 @@ use std::io;
 pub struct Outside<D> {
     device: D,
     failed: bool,
+    reads: u64,
     holds_back: bool,
 }
 
@@ -27,6 +28,7 @@ impl<D> Outside<D> {
         Outside {
             device,
             failed: false,
+            reads: 0,
             holds_back: false,
         }
     }
@@ -38,6 +40,7 @@ impl<D> Outside<D> {
         let Outside {
             device,
             failed: _,
+            reads: _,
             holds_back: _,
         } = self;
         device
@@ -49,7 +52,10 @@ impl<D: io::Read + Drop> Source for Outside<D> {
 
     ghost failed = { λ s. s.failed };
 
+    ghost calls = { λ s. s.reads };
+
     fn read(&mut self, buffer: &mut [u8]) -> Result<usize, Fault> {
+        self.reads = self.reads.wrapping_add(1);
         match self.device.read(buffer) {
             Ok(n) => {
                 self.failed = false;

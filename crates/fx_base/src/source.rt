@@ -1,5 +1,5 @@
 //! What octets come from.
-ghost use Rattle.std.specs.Prelude.{◌≡◌, ℕ, ◌≤◌, List, length, take, Bool, true, false, Option, OnOk, IfOk, IfErr};
+ghost use Rattle.std.specs.Prelude.{◌≡◌, ℕ, ◌+◌, ◌%◌, ◌^◌, ◌≤◌, List, length, take, Bool, true, false, Option, OnOk, IfOk, IfErr};
 ghost use Rattle.fx_base.specs.Device.{Reads};
 ghost use Rattle.fx_base.specs.Fault.{fault_at};
 ghost use Rattle.fx_base.specs.declared.fault.Place.TheVariants as places;
@@ -9,14 +9,17 @@ use crate::fault::Fault;
 /// The number of calls after which a source that hasn't ended counts as failing.
 pub(crate) const MOST_CALLS: u64 = 4_294_967_296;
 
-/// What octets come from, seen as the octets that it has left, where it tells them, and as
-/// whether its last call failed.
+/// What octets come from, seen as the octets that it has left, where it tells them, as whether its
+/// last call failed, and as the number of its calls.
 pub trait Source: Drop {
     /// The octets left, where it tells them.
     ghost left: { Self → Option (List ℕ) };
 
     /// Whether the last call failed.
     ghost failed: { Self → Bool };
+
+    /// How many calls were made of it, modulo 2 to the 64.
+    ghost calls: { Self → ℕ };
 
     /// Puts the next octets at the buffer's front, and answers their number: none at the end, or
     /// where the buffer is empty.
@@ -26,7 +29,8 @@ pub trait Source: Drop {
         ensures count { IfOk result (λ n. n ≤ length buffer.old) }
         ensures ok { OnOk result (failed self.new ≡ false) }
         ensures octets { IfOk result (λ n. Reads (left self.old) (left self.new) (length buffer.old) (take n buffer.new) n) }
-        ensures err { IfErr result (λ e. (e ≡ fault_at 901 places.None) × (failed self.new ≡ true) × (left self.new ≡ left self.old)) };
+        ensures err { IfErr result (λ e. (e ≡ fault_at 901 places.None) × (failed self.new ≡ true) × (left self.new ≡ left self.old)) }
+        ensures asked { calls self.new ≡ (calls self.old + 1) % 2 ^ 64 };
 }
 
 /// A source that is lent.
@@ -34,6 +38,8 @@ impl<S: Source> Source for &mut S {
     ghost left = { λ s. S.left s.now };
 
     ghost failed = { λ s. S.failed s.now };
+
+    ghost calls = { λ s. S.calls s.now };
 
     fn read(&mut self, buffer: &mut [u8]) -> Result<usize, Fault> {
         (**self).read(buffer)

@@ -1,5 +1,6 @@
 //! A source read to its end.
-ghost use Rattle.std.specs.Prelude.{◌≡◌, ◌≤◌, ◌^◌, ◌⊎◌, [], length, true, None, Some, OnOk, IfOk, IfErr, IfSome};
+ghost use Rattle.std.specs.Prelude.{◌≡◌, ◌⊎◌, [], None, Some, OnOk, IfOk, IfErr, IfSome};
+ghost use Rattle.fx_base.specs.Device.{MayBeLeft, IsUnread};
 ghost use Rattle.fx_base.specs.Fault.{fault_at};
 ghost use Rattle.fx_base.specs.declared.fault.Place.TheVariants as places;
 
@@ -15,11 +16,12 @@ const PIECE: usize = 4096;
 /// Fails with 901 where a read fails, or where the source hasn't ended after 4,294,967,296 calls,
 /// and with 900 for want of memory, each at no place.
 pub fn read_whole<R: Source>(alloc: Global, source: &mut R) -> Result<Vec<u8>, Fault>
-    ensures all { IfOk result (λ octets. IfSome (R.left source.old) (λ left. octets.items ≡ left)) }
+    ensures all { IfOk result (λ octets. MayBeLeft (R.left source.old) octets.items) }
     ensures end { OnOk result (IfSome (R.left source.old) (λ _. R.left source.new ≡ Some [])) }
     ensures untold { R.left source.old ≡ None → R.left source.new ≡ None }
     ensures err { IfErr result (λ e. (e ≡ fault_at 900 places.None)
-        ⊎ ((e ≡ fault_at 901 places.None) × ((R.failed source.new ≡ true) ⊎ IfSome (R.left source.old) (λ left. 2 ^ 32 ≤ length left)))) }
+        ⊎ ((e ≡ fault_at 901 places.None)
+        × IsUnread (R.left source.old) (R.calls source.old) (R.calls source.new) (R.failed source.new))) }
 {
     let mut octets = Vec::new(alloc);
     let mut piece = [0u8; PIECE];

@@ -1,9 +1,10 @@
 //! A buffer of a text's bytes, and the next line in it.
-ghost use Rattle.std.specs.Prelude.{◌≡◌, ◌+◌, ◌≤◌, ◌<◌, ◌-◌, ◌*◌, ◌^◌, [], length, take, true, None, OnOk, OnErr, IfOk, IfErr, IfSome, IfNone, ◌==◌, slice_range};
+ghost use Rattle.std.specs.Prelude.{◌≡◌, ◌+◌, ◌≤◌, ◌<◌, ◌-◌, ◌*◌, ◌%◌, ◌^◌, [], length, take, true, None, OnOk, OnErr, IfOk, IfErr, IfSome, IfNone, ◌==◌, slice_range};
 ghost use Rattle.std.specs.List.{position};
 ghost use Rattle.std.specs.Io.KnownBytes.{prepend_known};
+ghost use Rattle.fx_base.specs.Device.{IsAsked};
 ghost use Rattle.fx_base.specs.Lines.{line_len};
-ghost use Rattle.fx_base.specs.Window.{Fits, HasLine, IsPart, IsStop};
+ghost use Rattle.fx_base.specs.Window.{Fits, HasLine, IsPart, IsSpent, IsStop, calls_at_end, calls_of_part};
 
 use crate::fault::Fault;
 use crate::source::{MOST_CALLS, Source};
@@ -29,6 +30,7 @@ fn read_behind<R: Source>(source: &mut R, bytes: &mut [u8], end: usize) -> Resul
     ensures count { IfOk result (λ n. end + n ≤ length bytes.old) }
     ensures end { IfOk result (λ n. n ≡ 0 → IfSome (R.left source.new) (λ text. text ≡ [])) }
     ensures err { OnErr result (R.failed source.new ≡ true) }
+    ensures asked { R.calls source.new ≡ (R.calls source.old + 1) % 2 ^ 64 }
 {
     source.read(&mut bytes[end..])
 }
@@ -62,8 +64,10 @@ fn gather<R: Source>(
     ensures text { IfOk result (λ x. prepend_known (take x.0 bytes.new) (R.left source.new) ≡ prepend_known (take held bytes.old) (R.left source.old)) }
     ensures line { IfOk result (λ x. HasLine (take x.0 bytes.new) x.1 (R.left source.new)) }
     ensures fits { IfOk result (λ x. (held ≤ x.0) × (x.0 ≤ 8192) × (held < x.0 → calls.old < calls.new)) }
+    ensures spent { IfOk result (λ x. calls.new + held ≤ calls.old + x.0 + calls_at_end x.1) }
     ensures calls { (calls.old ≤ calls.new) × (calls.new ≤ 2 ^ 32) }
-    ensures err { IfErr result (λ stop. IsStop stop (R.failed source.new) calls.new (prepend_known (take held bytes.old) (R.left source.old))) }
+    ensures asked { IsAsked (R.calls source.old) (calls.new - calls.old) (R.calls source.new) }
+    ensures err { IfErr result (λ stop. IsStop stop (R.failed source.new) calls.new calls.old held (prepend_known (take held bytes.old) (R.left source.old))) }
 {
     let mut end = held;
     'reading: loop {
@@ -120,8 +124,11 @@ pub(crate) fn find_line<R: Source>(
     ensures untold { OnOk result (R.left source.old ≡ None → R.left source.new ≡ None) }
     ensures fits { IfOk result (λ part. Fits part) }
     ensures smaller { IfOk result (λ part. part.from < part.next → (2 ^ 32 - calls.new) * 8193 + (part.end - part.next) < (2 ^ 32 - calls.old) * 8193 + (end - start)) }
-    ensures calls { calls.new ≤ 2 ^ 32 }
-    ensures err { IfErr result (λ stop. IsStop stop (R.failed source.new) calls.new (prepend_known (slice_range bytes.old start end) (R.left source.old))) }
+    ensures one { IfOk result (λ part. line_len (slice_range bytes.new part.from part.to) ≡ part.to - part.from) }
+    ensures spent { IfOk result (λ part. IsSpent (R.left source.old) (R.left source.new) calls.old calls.new (calls_of_part part)) }
+    ensures calls { (calls.old ≤ calls.new) × (calls.new ≤ 2 ^ 32) }
+    ensures asked { IsAsked (R.calls source.old) (calls.new - calls.old) (R.calls source.new) }
+    ensures err { IfErr result (λ stop. IsStop stop (R.failed source.new) calls.new calls.old (end - start) (prepend_known (slice_range bytes.old start end) (R.left source.old))) }
 {
     if let Some(n) = line_feed(&bytes[start..end]) {
         if n > LONGEST {

@@ -1,5 +1,6 @@
-use Rattle.std.proofs.Common.{rules, arith, take, ◌∙◌, inr}
+use Rattle.std.proofs.Common.{rules, ◌≡◌, ◌^◌, arith, take, ◌∙◌, inr}
 use Rattle.std.proofs.lemmas.List.{length-append, length-take}
+use Rattle.fx_base.proofs.Asked.{asked_then, asked_so_often}
 use Rattle.fx_base.proofs.Reading.{read_more, read_end, untold_left, untold_read, held_within}
 use Rattle.fx_base.proofs.whole.read_whole.Goals as goal
 
@@ -9,6 +10,7 @@ loop-call-preserved g c =
       text = read_more c.loop-call.octets.items _ (take c.in_ok-n.n c.read.new.buffer) _ c.in_ok-n.n _ _ (search rules) c.in_ok-n.ensures.octets ∙ c.loop-call.invariant.text;
       room = search rules;
       count = search (rules, length-append, length-take);
+      asked = asked_then _ _ _ _ 1 c.loop-call.invariant.asked c.read.ensures.asked;
     }
 
 pub returns-then-n-eq0-clause-all : goal.returns-then-n-eq0-clause-all
@@ -33,4 +35,5 @@ returns-clause-untold g c = λ none. untold_left c.loop-call.octets.items _ (c.l
 
 pub returns-clause-err : goal.returns-clause-err
 returns-clause-err g c =
-    inr (c.bare.ensures, inr (rw (← c.loop-call.invariant.text) (held_within c.loop-call.octets.items _ 4294967296 (omega (arith, c.loop-call.invariant.count)))))
+    let all : c.loop-call._call ≡ 2 ^ 32 = search rules in
+    inr (c.bare.ensures, inr (asked_so_often _ _ _ _ all c.loop-call.invariant.asked, rw (← c.loop-call.invariant.text) (held_within c.loop-call.octets.items _ 4294967296 (omega (arith, c.loop-call.invariant.count)))))
