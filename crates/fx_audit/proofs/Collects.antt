@@ -5,6 +5,7 @@ use Rattle.serde_json.specs.Read.{read}
 use Rattle.fx_base.specs.declared.fault.Fault.{Fault}
 use Rattle.fx_base.specs.declared.fault.Place.{Place}
 use Rattle.fx_base.specs.declared.fault.Place.TheVariants as places
+use Rattle.fx_base.specs.Device.{MayHaveLeft}
 use Rattle.fx_config.specs.Walk.{Found}
 use Rattle.fx_machine.specs.Classes.{Class}
 use Rattle.fx_machine.specs.Network.{Net}
@@ -25,8 +26,8 @@ use Rattle.fx_audit.proofs.Documents.{both_told, first_told}
 abbrev Collects : Net → (List ℕ → Type 0) → List ℕ → Type 0
 Collects net W octets = IsWhole (stream_read octets) × ((text : List ℕ) × IsStreamText net.report_layout (stream_read octets).known text × W text)
 
-pub collect_done : (left_n left_s : Option (List ℕ)) (network : Network) (net : Net) (W : List ℕ → Type 0) (result : Result Answer Fault) → net ≡ net_of network → IfSome left_n (λ n. IsNetwork n network)
-    → IfOk result (λ a. (a ≡ Yes) × IfSome left_s (λ octets. Collects net W octets)) → IfOk result (λ a. (a ≡ Yes) × IfSome left_n (λ n. IfSome left_s (λ octets. (text : List ℕ) × IsCollected n octets text × W text)))
+pub collect_done : (left_n left_s : Option (List ℕ)) (network : Network) (net : Net) (W : List ℕ → Type 0) (result : Result Answer Fault) → net ≡ net_of network → MayHaveLeft left_n (λ n. IsNetwork n network)
+    → IfOk result (λ a. (a ≡ Yes) × MayHaveLeft left_s (λ octets. Collects net W octets)) → IfOk result (λ a. (a ≡ Yes) × MayHaveLeft left_n (λ n. MayHaveLeft left_s (λ octets. (text : List ℕ) × IsCollected n octets text × W text)))
 collect_done left_n left_s network net W (Err e) is n h = cc
 collect_done left_n left_s network net W (Ok a) is n h =
     (h.0, both_told left_n left_s (λ o. IsNetwork o network) (Collects net W) (λ o octets. (text : List ℕ) × IsCollected o octets text × W text) n h.1 (λ o octets p c. told o octets p c)) where
@@ -38,9 +39,9 @@ collect_done left_n left_s network net W (Ok a) is n h =
           let written : W text = c.1.2 in
           (text, record { network = network; network_is = p; whole = c.0; text_is = here }, written)
 
-pub collect_refused : (left_n left_s : Option (List ℕ)) (network : Network) (N F W : Fault → Type 0) (M : Fault → Type 0) (result : Result Answer Fault) → IfSome left_n (λ n. IsNetwork n network)
-    → IfErr result (λ e. M e ⊎ (F e ⊎ (W e ⊎ IfSome left_s (λ octets. IsRefusedStream (stream_read octets) e))))
-    → IfErr result (λ e. M e ⊎ (N e ⊎ (F e ⊎ (W e ⊎ IfSome left_n (λ n. IfSome left_s (λ octets. IsRefusedCollect n octets e))))))
+pub collect_refused : (left_n left_s : Option (List ℕ)) (network : Network) (N F W : Fault → Type 0) (M : Fault → Type 0) (result : Result Answer Fault) → MayHaveLeft left_n (λ n. IsNetwork n network)
+    → IfErr result (λ e. M e ⊎ (F e ⊎ (W e ⊎ MayHaveLeft left_s (λ octets. IsRefusedStream (stream_read octets) e))))
+    → IfErr result (λ e. M e ⊎ (N e ⊎ (F e ⊎ (W e ⊎ MayHaveLeft left_n (λ n. MayHaveLeft left_s (λ octets. IsRefusedCollect n octets e))))))
 collect_refused left_n left_s network N F W M (Ok a) n h = cc
 collect_refused left_n left_s network N F W M (Err e) n h =
     elim h [
@@ -82,9 +83,9 @@ not_refused octets network e n (by_plan other document refuses) =
     unrefused network e n.plannable (subst (λ (x : Network). RefusesNetwork x e) (same_network octets network other n.document document) refuses)
 
 -- so what holds of a network that is refused holds where the network was read
-pub network_faultless : (left : Option (List ℕ)) (network : Network) (A : Type 0) → IfSome left (λ n. IsNetwork n network) → IfSome left (λ n. (e : Fault) → IsRefusedNetwork n e → A)
-network_faultless None network A h = h
-network_faultless (Some octets) network A h = λ e f. absurd (not_refused octets network e h f)
+pub network_faultless : (left : Option (List ℕ)) (network : Network) (A : Type 0) → MayHaveLeft left (λ n. IsNetwork n network) → IfSome left (λ n. (e : Fault) → IsRefusedNetwork n e → A)
+network_faultless None network A h = tt
+network_faultless (Some octets) network A h = λ e f. absurd (not_refused octets network e (subst (λ (n : List ℕ). IsNetwork n network) h.1 h.2) f)
 
 -- the same for two documents
 not_refused_by : (n t : List ℕ) (network : Network) (classes : List Class) (e : Fault) → IsNetwork n network → IsTraffic network t classes → IsRefusedByDocuments n t e → ⊥
@@ -93,12 +94,14 @@ not_refused_by n t network classes e is of (inr h) =
     let same = same_network n network h.0 is.document h.1.document in
     faultless (traffic_faults (device_names network) []) (traffic_of (device_names network)) t classes e of (subst (λ (x : Network). IsFirstFault (traffic_faults (device_names x) []) t e) same h.2)
 
-pub documents_faultless : (left_n left_t : Option (List ℕ)) (network : Network) (classes : List Class) (A : Type 0) → IfSome left_n (λ n. IsNetwork n network) → IfSome left_t (λ t. IsTraffic network t classes) → IfSome left_n (λ n. IfSome left_t (λ t. (e : Fault) → IsRefusedByDocuments n t e → A))
-documents_faultless left_n left_t network classes A n t =
-    both_told left_n left_t (λ o. IsNetwork o network) (λ o. IsTraffic network o classes) (λ x y. (e : Fault) → IsRefusedByDocuments x y e → A) n t (λ x y p q e f. absurd (not_refused_by x y network classes e p q f))
+pub documents_faultless : (left_n left_t : Option (List ℕ)) (network : Network) (classes : List Class) (A : Type 0) → MayHaveLeft left_n (λ n. IsNetwork n network) → MayHaveLeft left_t (λ t. IsTraffic network t classes) → IfSome left_n (λ n. IfSome left_t (λ t. (e : Fault) → IsRefusedByDocuments n t e → A))
+documents_faultless None left_t network classes A n t = tt
+documents_faultless (Some x) None network classes A n t = tt
+documents_faultless (Some x) (Some y) network classes A n t = λ e f.
+    absurd (not_refused_by x y network classes e (subst (λ (o : List ℕ). IsNetwork o network) n.1 n.2) (subst (λ (o : List ℕ). IsTraffic network o classes) t.1 t.2) f)
 
 -- the network's document is refused
-pub collect_unread : (left_n left_s : Option (List ℕ)) (e : Fault) (M N T W : Type 0) → M ⊎ (N ⊎ IfSome left_n (λ n. IsRefusedNetwork n e)) → M ⊎ (N ⊎ (T ⊎ (W ⊎ IfSome left_n (λ n. IfSome left_s (λ o. IsRefusedCollect n o e)))))
+pub collect_unread : (left_n left_s : Option (List ℕ)) (e : Fault) (M N T W : Type 0) → M ⊎ (N ⊎ MayHaveLeft left_n (λ n. IsRefusedNetwork n e)) → M ⊎ (N ⊎ (T ⊎ (W ⊎ MayHaveLeft left_n (λ n. MayHaveLeft left_s (λ o. IsRefusedCollect n o e)))))
 collect_unread left_n left_s e M N T W h =
     elim h [
       | inl m ↦ inl m

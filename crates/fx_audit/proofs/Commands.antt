@@ -1,32 +1,33 @@
 -- What commands over octets come to.
-use Rattle.std.proofs.Common.{◌≡◌, ◌⊎◌, ℕ, List, Option, Some, None, Result, Ok, Err, IfSome, IfOk, IfErr, Bool, false, sym, subst, inl, inr}
+use Rattle.std.proofs.Common.{◌≡◌, ◌⊎◌, ℕ, ◌^◌, ◌≤◌, List, length, Option, Some, Result, refl, Ok, Err, IfOk, IfErr, Bool, false, sym, ◌∙◌, subst, inl, inr, arith}
+use Rattle.std.proofs.lemmas.Bool.{false≢true}
 use Rattle.fx_base.specs.declared.fault.Fault.{Fault}
 use Rattle.fx_base.specs.declared.fault.Place.TheVariants as places
 use Rattle.fx_base.specs.Fault.{fault_at}
-use Rattle.fx_base.specs.Lines.{Lines, new_lines}
+use Rattle.fx_base.specs.Device.{MayBeLeft, MayHaveLeft}
+use Rattle.fx_base.specs.Lines.{Lines, lines_in, new_lines}
 use Rattle.fx_machine.specs.Network.{Net}
 use Rattle.fx_machine.specs.Classes.{Class}
 use Rattle.fx_machine.specs.RunText.{Run}
-use Rattle.fx_machine.specs.RunReading.{Fails, run_reading}
+use Rattle.fx_machine.specs.RunReading.{Fails, MayRead}
 use Rattle.fx_plan.specs.declared.network.Network.{Network}
 use Rattle.fx_plan.specs.Tables.{net_of}
 use Rattle.fx_audit.specs.declared.answer.Answer.{Answer}
 use Rattle.fx_audit.specs.declared.answer.Answer.TheVariants.{Yes}
 use Rattle.fx_audit.specs.declared.bundle.Command.{Command}
-use Rattle.fx_audit.specs.declared.bundle.Command.TheVariants.{Replay}
+use Rattle.fx_audit.specs.declared.bundle.Command.TheVariants.{Replay, Check}
 use Rattle.fx_audit.specs.Bundle.{IsBundle}
 use Rattle.fx_audit.specs.Documents.{IsNetwork, IsRefusedByDocuments, IsTraffic, ReadFails}
-use Rattle.fx_audit.proofs.Documents.{both_mapped}
-use Rattle.fx_audit.specs.Commands.{IsDone, IsRefusedBundle, IsRefusedBy, IsRefusedReplay, IsRefusedRun, IsRefusedThere, IsReplayed, IsReplayedIn}
+use Rattle.fx_audit.specs.Commands.{IsChecked, IsDone, IsRefusedBundle, IsRefusedBy, IsRefusedReplay, IsRefusedRun, IsRefusedThere, IsReplayed, IsReplayedIn}
 use Rattle.fx_audit.specs.Replay.{IsRefused}
-use Rattle.fx_audit.proofs.Documents.{told}
+use Rattle.fx_audit.proofs.Documents.{both_mapped, both_told, told}
 
 -- ---- a run in a network and traffic
 
-pub lines_refused : (network : Network) (classes known : List Class) (lines : Lines) (r : Run) (net : Net) (F W : Fault → Type 0) (result : Result Answer Fault) → net ≡ net_of network → known ≡ classes → IfSome (run_reading known lines) (λ x. x ≡ Ok r) → IfErr result (λ e. IsRefused net known r e ⊎ ((e ≡ fault_at 900 places.None) ⊎ W e)) → IfErr result (λ e. (e ≡ fault_at 900 places.None) ⊎ (F e ⊎ (W e ⊎ IsRefusedRun network classes lines e)))
+pub lines_refused : (network : Network) (classes known : List Class) (lines : Lines) (r : Run) (net : Net) (F W : Fault → Type 0) (result : Result Answer Fault) → net ≡ net_of network → known ≡ classes → MayRead known lines (Ok r) → IfErr result (λ e. IsRefused net known r e ⊎ ((e ≡ fault_at 900 places.None) ⊎ W e)) → IfErr result (λ e. (e ≡ fault_at 900 places.None) ⊎ (F e ⊎ (W e ⊎ IsRefusedRun network classes lines e)))
 lines_refused network classes known lines r net F W (Ok a) same of read h = cc
 lines_refused network classes known lines r net F W (Err e) same of read h =
-    let mine : IfSome (run_reading classes lines) (λ x. x ≡ Ok r) = subst (λ (cs : List Class). IfSome (run_reading cs lines) (λ x. x ≡ Ok r)) of read in
+    let mine : MayRead classes lines (Ok r) = subst (λ (cs : List Class). MayRead cs lines (Ok r)) of read in
     elim h [
       | inl refused ↦ inr (inr (inr (inr (r, mine, subst (λ (cs : List Class). IsRefused (net_of network) cs r e) of (subst (λ (n : Net). IsRefused n known r e) same refused)))))
       | inr (inl m) ↦ inl m
@@ -35,24 +36,19 @@ lines_refused network classes known lines r net F W (Err e) same of read h =
 
 -- ---- two documents and a run
 
-two_told : (left_n left_t : Option (List ℕ)) (P Q : List ℕ → Type 0) (R : List ℕ → List ℕ → Type 0) → IfSome left_n P → IfSome left_t Q → ((n t : List ℕ) → P n → Q t → R n t) → IfSome left_n (λ n. IfSome left_t (λ t. R n t))
-two_told None left_t P Q R p q h = cc
-two_told (Some n) None P Q R p q h = cc
-two_told (Some n) (Some t) P Q R p q h = h n t p q
-
-pub replay_done : (left_n left_t : Option (List ℕ)) (network : Network) (classes : List Class) (lines : Lines) (W : List ℕ → Type 0) (result : Result Answer Fault) → IfSome left_n (λ n. IsNetwork n network) → IfSome left_t (λ t. IsTraffic network t classes) → IfOk result (λ a. (a ≡ Yes) × ((text : List ℕ) × IsReplayedIn network classes lines text × W text)) → IfOk result (λ a. (a ≡ Yes) × IfSome left_n (λ n. IfSome left_t (λ t. (text : List ℕ) × IsReplayed n t lines text × W text)))
+pub replay_done : (left_n left_t : Option (List ℕ)) (network : Network) (classes : List Class) (lines : Lines) (W : List ℕ → Type 0) (result : Result Answer Fault) → MayHaveLeft left_n (λ n. IsNetwork n network) → MayHaveLeft left_t (λ t. IsTraffic network t classes) → IfOk result (λ a. (a ≡ Yes) × ((text : List ℕ) × IsReplayedIn network classes lines text × W text)) → IfOk result (λ a. (a ≡ Yes) × MayHaveLeft left_n (λ n. MayHaveLeft left_t (λ t. (text : List ℕ) × IsReplayed n t lines text × W text)))
 replay_done left_n left_t network classes lines W (Err e) n t h = cc
 replay_done left_n left_t network classes lines W (Ok a) n t h =
     let text = h.1.0 in
     let replayed : IsReplayedIn network classes lines text = h.1.1 in
     let written : W text = h.1.2 in
-    (h.0, two_told left_n left_t (λ o. IsNetwork o network) (λ o. IsTraffic network o classes) (λ x y. (text' : List ℕ) × IsReplayed x y lines text' × W text') n t (λ x y p q. (text, record { network = network; classes = classes; network_is = p; traffic_is = q; replayed = replayed }, written)))
+    (h.0, both_told left_n left_t (λ o. IsNetwork o network) (λ o. IsTraffic network o classes) (λ x y. (text' : List ℕ) × IsReplayed x y lines text' × W text') n t (λ x y p q. (text, record { network = network; classes = classes; network_is = p; traffic_is = q; replayed = replayed }, written)))
 
-run_refused : (left_n left_t : Option (List ℕ)) (network : Network) (classes : List Class) (lines : Lines) (e : Fault) → IfSome left_n (λ n. IsNetwork n network) → IfSome left_t (λ t. IsTraffic network t classes) → IsRefusedRun network classes lines e → IfSome left_n (λ n. IfSome left_t (λ t. IsRefusedReplay n t lines e))
+run_refused : (left_n left_t : Option (List ℕ)) (network : Network) (classes : List Class) (lines : Lines) (e : Fault) → MayHaveLeft left_n (λ n. IsNetwork n network) → MayHaveLeft left_t (λ t. IsTraffic network t classes) → IsRefusedRun network classes lines e → MayHaveLeft left_n (λ n. MayHaveLeft left_t (λ t. IsRefusedReplay n t lines e))
 run_refused left_n left_t network classes lines e n t h =
-    two_told left_n left_t (λ o. IsNetwork o network) (λ o. IsTraffic network o classes) (λ x y. IsRefusedReplay x y lines e) n t (λ x y p q. inr (network, classes, p, q, h))
+    both_told left_n left_t (λ o. IsNetwork o network) (λ o. IsTraffic network o classes) (λ x y. IsRefusedReplay x y lines e) n t (λ x y p q. inr (network, classes, p, q, h))
 
-pub replay_refused : (left_n left_t : Option (List ℕ)) (network : Network) (classes : List Class) (lines : Lines) (N T F W : Fault → Type 0) (result : Result Answer Fault) → IfSome left_n (λ n. IsNetwork n network) → IfSome left_t (λ t. IsTraffic network t classes) → IfErr result (λ e. (e ≡ fault_at 900 places.None) ⊎ (F e ⊎ (W e ⊎ IsRefusedRun network classes lines e))) → IfErr result (λ e. (e ≡ fault_at 900 places.None) ⊎ (N e ⊎ (T e ⊎ (F e ⊎ (W e ⊎ IfSome left_n (λ n. IfSome left_t (λ t. IsRefusedReplay n t lines e)))))))
+pub replay_refused : (left_n left_t : Option (List ℕ)) (network : Network) (classes : List Class) (lines : Lines) (N T F W : Fault → Type 0) (result : Result Answer Fault) → MayHaveLeft left_n (λ n. IsNetwork n network) → MayHaveLeft left_t (λ t. IsTraffic network t classes) → IfErr result (λ e. (e ≡ fault_at 900 places.None) ⊎ (F e ⊎ (W e ⊎ IsRefusedRun network classes lines e))) → IfErr result (λ e. (e ≡ fault_at 900 places.None) ⊎ (N e ⊎ (T e ⊎ (F e ⊎ (W e ⊎ MayHaveLeft left_n (λ n. MayHaveLeft left_t (λ t. IsRefusedReplay n t lines e)))))))
 replay_refused left_n left_t network classes lines N T F W (Ok a) n t h = cc
 replay_refused left_n left_t network classes lines N T F W (Err e) n t h =
     elim h [
@@ -64,49 +60,72 @@ replay_refused left_n left_t network classes lines N T F W (Err e) n t h =
 
 -- ---- a bundle
 
-of_told : (left_n left_t : Option (List ℕ)) (n t : List ℕ) (R : List ℕ → List ℕ → Type 0) → left_n ≡ Some n → left_t ≡ Some t → IfSome left_n (λ x. IfSome left_t (λ y. R x y)) → R n t
+of_told : (left_n left_t : Option (List ℕ)) (n t : List ℕ) (R : List ℕ → List ℕ → Type 0) → left_n ≡ Some n → left_t ≡ Some t → MayHaveLeft left_n (λ x. MayHaveLeft left_t (λ y. R x y)) → R n t
 of_told left_n left_t n t R en et h =
-    let first : IfSome (Some n) (λ x. IfSome left_t (λ y. R x y)) = subst (λ (o : Option (List ℕ)). IfSome o (λ x. IfSome left_t (λ y. R x y))) en h in
-    let second : IfSome (Some t) (λ y. R n y) = subst (λ (o : Option (List ℕ)). IfSome o (λ y. R n y)) et first in
-    second
+    let inner = h.2 in
+    let first : h.0 ≡ n = rw en at h.1 in
+    let second : inner.0 ≡ t = rw et at inner.1 in
+    subst (λ (x : List ℕ). R x t) first (subst (λ (y : List ℕ). R h.0 y) second inner.2)
 
-fails_there : (left : Option (List ℕ)) (octets : List ℕ) (failed : Bool) (e : Fault) → left ≡ Some octets → failed ≡ false → ReadFails left failed e → ReadFails (Some octets) false e
-fails_there left octets failed e same none h = subst (λ (b : Bool). ReadFails (Some octets) b e) none (subst (λ (o : Option (List ℕ)). ReadFails o failed e) same h)
+pub text_lines_in : (octets text : List ℕ) (calls : ℕ) → octets ≡ text → calls ≡ 0 → new_lines (Some octets) false calls ≡ lines_in text
+text_lines_in octets text calls same none = rw (same, none) refl
 
-pub there_refused : (command actual : Command) (left_n left_t : Option (List ℕ)) (n t third : List ℕ) (failed_n failed_t : Bool) (old new : Lines) (W : Fault → Type 0) (result : Result Answer Fault) → actual ≡ command → left_n ≡ Some n → left_t ≡ Some t → failed_n ≡ false → failed_t ≡ false → old ≡ new_lines (Some third) false → IfErr result (λ e. (e ≡ fault_at 900 places.None) ⊎ (ReadFails left_n failed_n e ⊎ (ReadFails left_t failed_t e ⊎ (Fails old new e ⊎ (W e ⊎ IfSome left_n (λ x. IfSome left_t (λ y. IsRefusedBy command x y old e))))))) → IfErr result (λ e. (e ≡ fault_at 900 places.None) ⊎ (W e ⊎ IsRefusedThere actual n t third e))
-there_refused command actual left_n left_t n t third failed_n failed_t old new W (Ok a) same en et fn ft is h = cc
-there_refused command actual left_n left_t n t third failed_n failed_t old new W (Err e) same en et fn ft is h =
+-- a text in memory isn't read to its end where it is too long
+too_long : (left : Option (List ℕ)) (octets : List ℕ) (before after : ℕ) (failed : Bool) (e : Fault) → left ≡ Some octets → failed ≡ false → ReadFails left before after failed e → (e ≡ fault_at 901 places.None) × (2 ^ 32 ≤ length octets)
+too_long left octets before after failed e same none (is, inl f) = absurd (false≢true (sym none ∙ f))
+too_long left octets before after failed e same none (is, inr endless) =
+    let long : 2 ^ 32 ≤ length octets = rw same at endless.1 in
+    (is, long)
+
+lines_too_long : (text : List ℕ) (new : Lines) (e : Fault) → new.failed ≡ false → Fails (lines_in text) new e → (e ≡ fault_at 901 places.None) × (2 ^ 32 ≤ length text)
+lines_too_long text new e none (inl stopped) = absurd (cc)
+lines_too_long text new e none (inr (is, inl f)) = absurd (false≢true (sym none ∙ f))
+lines_too_long text new e none (inr (is, inr (all, asks, long))) = (is, omega (arith, long))
+
+pub there_refused : (command actual : Command) (left_n left_t : Option (List ℕ)) (n t third : List ℕ) (before_n after_n before_t after_t : ℕ) (failed_n failed_t : Bool) (old new : Lines) (W : Fault → Type 0) (result : Result Answer Fault) → actual ≡ command → left_n ≡ Some n → left_t ≡ Some t → failed_n ≡ false → failed_t ≡ false → new.failed ≡ false → old ≡ lines_in third
+    → IfErr result (λ e. (e ≡ fault_at 900 places.None) ⊎ (ReadFails left_n before_n after_n failed_n e ⊎ (ReadFails left_t before_t after_t failed_t e ⊎ (Fails old new e ⊎ (W e ⊎ MayHaveLeft left_n (λ x. MayHaveLeft left_t (λ y. IsRefusedBy command x y old e)))))))
+    → IfErr result (λ e. (e ≡ fault_at 900 places.None) ⊎ (W e ⊎ IsRefusedThere actual n t third e))
+there_refused command actual left_n left_t n t third before_n after_n before_t after_t failed_n failed_t old new W (Ok a) same en et fn ft fl is h = cc
+there_refused command actual left_n left_t n t third before_n after_n before_t after_t failed_n failed_t old new W (Err e) same en et fn ft fl is h =
     elim h [
       | inl m ↦ inl m
-      | inr (inl f) ↦ inr (inr (inr (inl (fails_there left_n n failed_n e en fn f))))
-      | inr (inr (inl f)) ↦ inr (inr (inr (inr (inl (fails_there left_t t failed_t e et ft f)))))
-      | inr (inr (inr (inl f))) ↦ inr (inr (inr (inr (inr (new, subst (λ (l : Lines). Fails l new e) is f)))))
+      | inr (inl f) ↦ let k = too_long left_n n before_n after_n failed_n e en fn f in inr (inr (inr (k.0, inl k.1)))
+      | inr (inr (inl f)) ↦ let k = too_long left_t t before_t after_t failed_t e et ft f in inr (inr (inr (k.0, inr (inl k.1))))
+      | inr (inr (inr (inl f))) ↦ let k = lines_too_long third new e fl (subst (λ (l : Lines). Fails l new e) is f) in inr (inr (inr (k.0, inr (inr k.1))))
       | inr (inr (inr (inr (inl w)))) ↦ inr (inl w)
-      | inr (inr (inr (inr (inr r)))) ↦ inr (inr (inl (subst (λ (k : Command). IsRefusedBy k n t (new_lines (Some third) false) e) (sym same) (subst (λ (l : Lines). IsRefusedBy command n t l e) is (of_told left_n left_t n t (λ x y. IsRefusedBy command x y old e) en et r)))))
+      | inr (inr (inr (inr (inr r)))) ↦ inr (inr (inl (subst (λ (k : Command). IsRefusedBy k n t (lines_in third) e) (sym same) (subst (λ (l : Lines). IsRefusedBy command n t l e) is (of_told left_n left_t n t (λ x y. IsRefusedBy command x y old e) en et r)))))
     ]
 
 -- what a replay has done, a bundle's replay has done
-pub replay_there : (actual : Command) (left_n left_t : Option (List ℕ)) (n t : List ℕ) (old new : Lines) (W : List ℕ → Type 0) (result : Result Answer Fault) → actual ≡ Replay → left_n ≡ Some n → left_t ≡ Some t → old ≡ new → IfOk result (λ a. (a ≡ Yes) × IfSome left_n (λ x. IfSome left_t (λ y. (text : List ℕ) × IsReplayed x y old text × W text))) → IfOk result (λ a. (text : List ℕ) × IsDone actual n t new a text × W text)
+pub replay_there : (actual : Command) (left_n left_t : Option (List ℕ)) (n t : List ℕ) (old new : Lines) (W : List ℕ → Type 0) (result : Result Answer Fault) → actual ≡ Replay → left_n ≡ Some n → left_t ≡ Some t → old ≡ new → IfOk result (λ a. (a ≡ Yes) × MayHaveLeft left_n (λ x. MayHaveLeft left_t (λ y. (text : List ℕ) × IsReplayed x y old text × W text))) → IfOk result (λ a. (text : List ℕ) × IsDone actual n t new a text × W text)
 replay_there actual left_n left_t n t old new W (Err e) same en et is h = tt
 replay_there actual left_n left_t n t old new W (Ok a) same en et is h =
     let there = of_told left_n left_t n t (λ x y. (text : List ℕ) × IsReplayed x y old text × W text) en et h.1 in
     let replayed : IsReplayed n t new there.0 = subst (λ (l : Lines). IsReplayed n t l there.0) is there.1 in
     (there.0, subst (λ (k : Command). IsDone k n t new a there.0) (sym same) (h.0, replayed), there.2)
 
-pub bundle_done : (left : Option (List ℕ)) (octets text : List ℕ) (command : Command) (n t third : List ℕ) (W : List ℕ → Type 0) (result : Result Answer Fault) → IfSome left (λ l. octets ≡ l) → text ≡ octets → IsBundle text command n t third → IfOk result (λ a. (out : List ℕ) × IsDone command n t (new_lines (Some third) false) a out × W out) → IfOk result (λ a. IfSome left (λ o. (command' : Command) × (network : List ℕ) × (traffic : List ℕ) × (last : List ℕ) × (out : List ℕ) × IsBundle o command' network traffic last × IsDone command' network traffic (new_lines (Some last) false) a out × W out))
+-- so has its check
+pub check_there : (actual : Command) (left_n left_t : Option (List ℕ)) (n t : List ℕ) (old new : Lines) (W : List ℕ → Type 0) (result : Result Answer Fault) → actual ≡ Check → left_n ≡ Some n → left_t ≡ Some t → old ≡ new → IfOk result (λ a. MayHaveLeft left_n (λ x. MayHaveLeft left_t (λ y. (text : List ℕ) × IsChecked x y old a text × W text))) → IfOk result (λ a. (text : List ℕ) × IsDone actual n t new a text × W text)
+check_there actual left_n left_t n t old new W (Err e) same en et is h = tt
+check_there actual left_n left_t n t old new W (Ok a) same en et is h =
+    let there = of_told left_n left_t n t (λ x y. (text : List ℕ) × IsChecked x y old a text × W text) en et h in
+    let checked : IsChecked n t new a there.0 = subst (λ (l : Lines). IsChecked n t l a there.0) is there.1 in
+    (there.0, subst (λ (k : Command). IsDone k n t new a there.0) (sym same) checked, there.2)
+
+pub bundle_done : (left : Option (List ℕ)) (octets text : List ℕ) (command : Command) (n t third : List ℕ) (W : List ℕ → Type 0) (result : Result Answer Fault) → MayBeLeft left octets → text ≡ octets → IsBundle text command n t third → IfOk result (λ a. (out : List ℕ) × IsDone command n t (lines_in third) a out × W out) → IfOk result (λ a. MayHaveLeft left (λ o. (command' : Command) × (network : List ℕ) × (traffic : List ℕ) × (last : List ℕ) × (out : List ℕ) × IsBundle o command' network traffic last × IsDone command' network traffic (lines_in last) a out × W out))
 bundle_done left octets text command n t third W (Err e) same is b h = cc
 bundle_done left octets text command n t third W (Ok a) same is b h =
     let out = h.0 in
-    let done : IsDone command n t (new_lines (Some third) false) a out = h.1 in
+    let done : IsDone command n t (lines_in third) a out = h.1 in
     let written : W out = h.2 in
     let there : IsBundle octets command n t third = subst (λ (o : List ℕ). IsBundle o command n t third) is b in
-    told left octets (λ o. (command' : Command) × (network : List ℕ) × (traffic : List ℕ) × (last : List ℕ) × (out' : List ℕ) × IsBundle o command' network traffic last × IsDone command' network traffic (new_lines (Some last) false) a out' × W out') same (command, n, t, third, out, there, done, written)
+    told left octets (λ o. (command' : Command) × (network : List ℕ) × (traffic : List ℕ) × (last : List ℕ) × (out' : List ℕ) × IsBundle o command' network traffic last × IsDone command' network traffic (lines_in last) a out' × W out') same (command, n, t, third, out, there, done, written)
 
-there_in : (left : Option (List ℕ)) (octets text : List ℕ) (command : Command) (n t third : List ℕ) (e : Fault) → IfSome left (λ l. octets ≡ l) → text ≡ octets → IsBundle text command n t third → IsRefusedThere command n t third e → IfSome left (λ o. IsRefusedBundle o e)
+there_in : (left : Option (List ℕ)) (octets text : List ℕ) (command : Command) (n t third : List ℕ) (e : Fault) → MayBeLeft left octets → text ≡ octets → IsBundle text command n t third → IsRefusedThere command n t third e → MayHaveLeft left (λ o. IsRefusedBundle o e)
 there_in left octets text command n t third e same is b h =
     told left octets (λ o. IsRefusedBundle o e) same (inr (command, n, t, third, subst (λ (o : List ℕ). IsBundle o command n t third) is b, h))
 
-pub bundle_refused : (left : Option (List ℕ)) (octets text : List ℕ) (command : Command) (n t third : List ℕ) (R W : Fault → Type 0) (result : Result Answer Fault) → IfSome left (λ l. octets ≡ l) → text ≡ octets → IsBundle text command n t third → IfErr result (λ e. (e ≡ fault_at 900 places.None) ⊎ (W e ⊎ IsRefusedThere command n t third e)) → IfErr result (λ e. (e ≡ fault_at 900 places.None) ⊎ (R e ⊎ (W e ⊎ IfSome left (λ o. IsRefusedBundle o e))))
+pub bundle_refused : (left : Option (List ℕ)) (octets text : List ℕ) (command : Command) (n t third : List ℕ) (R W : Fault → Type 0) (result : Result Answer Fault) → MayBeLeft left octets → text ≡ octets → IsBundle text command n t third → IfErr result (λ e. (e ≡ fault_at 900 places.None) ⊎ (W e ⊎ IsRefusedThere command n t third e)) → IfErr result (λ e. (e ≡ fault_at 900 places.None) ⊎ (R e ⊎ (W e ⊎ MayHaveLeft left (λ o. IsRefusedBundle o e))))
 bundle_refused left octets text command n t third R W (Ok a) same is b h = cc
 bundle_refused left octets text command n t third R W (Err e) same is b h =
     elim h [
@@ -115,12 +134,12 @@ bundle_refused left octets text command n t third R W (Err e) same is b h =
       | inr (inr r) ↦ inr (inr (inr (there_in left octets text command n t third e same is b r)))
     ]
 
-pub no_bundle : (left : Option (List ℕ)) (octets text : List ℕ) (e : Fault) → IfSome left (λ l. octets ≡ l) → text ≡ octets → e ≡ fault_at 801 places.None → ((command : Command) (network : List ℕ) (traffic : List ℕ) (third : List ℕ) → IsBundle text command network traffic third → ⊥) → IfSome left (λ o. IsRefusedBundle o e)
+pub no_bundle : (left : Option (List ℕ)) (octets text : List ℕ) (e : Fault) → MayBeLeft left octets → text ≡ octets → e ≡ fault_at 801 places.None → ((command : Command) (network : List ℕ) (traffic : List ℕ) (third : List ℕ) → IsBundle text command network traffic third → ⊥) → MayHaveLeft left (λ o. IsRefusedBundle o e)
 no_bundle left octets text e same is number none =
     told left octets (λ o. IsRefusedBundle o e) same (inl (number, λ command network traffic third b. none command network traffic third (subst (λ (o : List ℕ). IsBundle o command network traffic third) (sym is) b)))
 
 -- a document is refused
-pub replay_unread : (left_n left_t : Option (List ℕ)) (lines : Lines) (e : Fault) (M N T F W : Type 0) → M ⊎ (N ⊎ (T ⊎ IfSome left_n (λ n. IfSome left_t (λ t. IsRefusedByDocuments n t e)))) → M ⊎ (N ⊎ (T ⊎ (F ⊎ (W ⊎ IfSome left_n (λ n. IfSome left_t (λ t. IsRefusedReplay n t lines e))))))
+pub replay_unread : (left_n left_t : Option (List ℕ)) (lines : Lines) (e : Fault) (M N T F W : Type 0) → M ⊎ (N ⊎ (T ⊎ MayHaveLeft left_n (λ n. MayHaveLeft left_t (λ t. IsRefusedByDocuments n t e)))) → M ⊎ (N ⊎ (T ⊎ (F ⊎ (W ⊎ MayHaveLeft left_n (λ n. MayHaveLeft left_t (λ t. IsRefusedReplay n t lines e))))))
 replay_unread left_n left_t lines e M N T F W h =
     elim h [
       | inl m ↦ inl m

@@ -1,11 +1,13 @@
 -- What reading a document comes to.
-use Rattle.std.proofs.Common.{◌≡◌, ◌⊎◌, ℕ, List, [], Option, Some, None, Result, Ok, Err, IfSome, refl, sym, ap, subst, inl, inr, IfOk, IfErr}
+use Rattle.std.proofs.Common.{◌≡◌, ◌⊎◌, ℕ, List, [], Option, Result, Ok, Err, refl, sym, ap, subst, inl, inr, IfOk, IfErr}
 use Rattle.std.specs.Result.{IsErr, IsErrAnd}
 use Rattle.serde_json.specs.Data.{Data}
 use Rattle.fx_base.specs.declared.fault.Fault.{Fault}
 use Rattle.fx_base.specs.declared.fault.Place.{Place}
 use Rattle.fx_base.specs.declared.fault.Place.TheVariants as places
+use Rattle.fx_base.specs.Device.{MayBeLeft, MayHaveLeft}
 use Rattle.fx_base.specs.Fault.{fault_at}
+use Rattle.fx_base.proofs.GoingOn.{something_left}
 use Rattle.fx_config.specs.Walk.{Found, Reads, refuses}
 use Rattle.fx_plan.specs.declared.network.Network.{Network}
 use Rattle.fx_plan.specs.Networks.{device_names, network_faults, network_of}
@@ -14,9 +16,8 @@ use Rattle.fx_traffic.specs.Classes.{traffic_faults}
 use Rattle.fx_audit.specs.Documents.{IsDocument, IsFirstFault, IsJson, IsNetwork, IsRefusedByDocuments, IsRefusedNetwork, by_walk, by_plan, is_found}
 
 -- what holds of the octets that were read holds of those that were left
-pub told : (left : Option (List ℕ)) (octets : List ℕ) (P : List ℕ → Type 0) → IfSome left (λ l. octets ≡ l) → P octets → IfSome left P
-told None octets P h p = cc
-told (Some l) octets P h p = subst P h p
+pub told : (left : Option (List ℕ)) (octets : List ℕ) (P : List ℕ → Type 0) → MayBeLeft left octets → P octets → MayHaveLeft left P
+told left octets P h p = (octets, h, p)
 
 found_or_memory : (n : ℕ) (p : Place) (fs : List Found) → refuses n p fs → (fault_at n p ≡ fault_at 900 places.None) ⊎ is_found n p fs
 found_or_memory n places.None fs h = inl (ap (λ (k : ℕ). fault_at k places.None) h)
@@ -26,20 +27,20 @@ found_or_memory n (places.Octet o) fs h = absurd h
 
 -- a source whose octets are a document that is read, and one whose octets are refused, for the first fault or for
 -- want of memory
-pub source_read : {X : Type 0} (faults : Data → List Found) (meaning : Data → X) (left : Option (List ℕ)) (octets text : List ℕ) (d : Data) → IfSome left (λ l. octets ≡ l) → text ≡ octets → IsJson text d → (r : Result X Fault) → Reads (faults d) (meaning d) r → IfOk r (λ x. IfSome left (λ l. IsDocument faults meaning l x))
+pub source_read : {X : Type 0} (faults : Data → List Found) (meaning : Data → X) (left : Option (List ℕ)) (octets text : List ℕ) (d : Data) → MayBeLeft left octets → text ≡ octets → IsJson text d → (r : Result X Fault) → Reads (faults d) (meaning d) r → IfOk r (λ x. MayHaveLeft left (λ l. IsDocument faults meaning l x))
 source_read faults meaning left octets text d same is json (Ok x) h = told left octets (λ l. IsDocument faults meaning l x) same (record { value = d; json = subst (λ (o : List ℕ). IsJson o d) is json; faultless = h.0; means = h.1 })
 source_read faults meaning left octets text d same is json (Err e) h = cc
 
-refused_first : (faults : Data → List Found) (left : Option (List ℕ)) (octets : List ℕ) (e : Fault) → IfSome left (λ l. octets ≡ l) → IsFirstFault faults octets e → IfSome left (λ l. IsFirstFault faults l e)
+refused_first : (faults : Data → List Found) (left : Option (List ℕ)) (octets : List ℕ) (e : Fault) → MayBeLeft left octets → IsFirstFault faults octets e → MayHaveLeft left (λ l. IsFirstFault faults l e)
 refused_first faults left octets e same f = told left octets (λ l. IsFirstFault faults l e) same f
 
-pub source_refused : {X : Type 0} (faults : Data → List Found) (meaning : Data → X) (left : Option (List ℕ)) (octets text : List ℕ) (d : Data) (Q : Fault → Type 0) → IfSome left (λ l. octets ≡ l) → text ≡ octets → IsJson text d → (r : Result X Fault) → Reads (faults d) (meaning d) r → IfErr r (λ e. (e ≡ fault_at 900 places.None) ⊎ (Q e ⊎ IfSome left (λ l. IsFirstFault faults l e)))
+pub source_refused : {X : Type 0} (faults : Data → List Found) (meaning : Data → X) (left : Option (List ℕ)) (octets text : List ℕ) (d : Data) (Q : Fault → Type 0) → MayBeLeft left octets → text ≡ octets → IsJson text d → (r : Result X Fault) → Reads (faults d) (meaning d) r → IfErr r (λ e. (e ≡ fault_at 900 places.None) ⊎ (Q e ⊎ MayHaveLeft left (λ l. IsFirstFault faults l e)))
 source_refused faults meaning left octets text d Q same is json (Ok x) h = cc
 source_refused faults meaning left octets text d Q same is json (Err e) h =
     elim (found_or_memory e.number e.place (faults d) h) [ inl m ↦ inl m | inr f ↦ inr (inr (refused_first faults left octets e same (inr (d, subst (λ (o : List ℕ). IsJson o d) is json, f)))) ]
 
 -- the same for the document of a network, which can be planned or is refused
-pub network_read : (left : Option (List ℕ)) (octets text : List ℕ) (d : Data) → IfSome left (λ l. octets ≡ l) → text ≡ octets → IsJson text d → (r : Result Network Fault) → ReadsPlan d r → IfOk r (λ x. IfSome left (λ l. IsNetwork l x))
+pub network_read : (left : Option (List ℕ)) (octets text : List ℕ) (d : Data) → MayBeLeft left octets → text ≡ octets → IsJson text d → (r : Result Network Fault) → ReadsPlan d r → IfOk r (λ x. MayHaveLeft left (λ l. IsNetwork l x))
 network_read left octets text d same is json (Ok x) h =
     told left octets (λ l. IsNetwork l x) same (record {
       document = record { value = d; json = subst (λ (o : List ℕ). IsJson o d) is json; faultless = h.0; means = h.1 };
@@ -47,7 +48,7 @@ network_read left octets text d same is json (Ok x) h =
     })
 network_read left octets text d same is json (Err e) h = cc
 
-pub network_refused : (left : Option (List ℕ)) (octets text : List ℕ) (d : Data) (Q : Fault → Type 0) → IfSome left (λ l. octets ≡ l) → text ≡ octets → IsJson text d → (r : Result Network Fault) → ReadsPlan d r → IfErr r (λ e. (e ≡ fault_at 900 places.None) ⊎ (Q e ⊎ IfSome left (λ l. IsRefusedNetwork l e)))
+pub network_refused : (left : Option (List ℕ)) (octets text : List ℕ) (d : Data) (Q : Fault → Type 0) → MayBeLeft left octets → text ≡ octets → IsJson text d → (r : Result Network Fault) → ReadsPlan d r → IfErr r (λ e. (e ≡ fault_at 900 places.None) ⊎ (Q e ⊎ MayHaveLeft left (λ l. IsRefusedNetwork l e)))
 network_refused left octets text d Q same is json (Ok x) h = cc
 network_refused left octets text d Q same is json (Err e) h =
     let own : IsJson octets d = subst (λ (o : List ℕ). IsJson o d) is json in
@@ -60,11 +61,11 @@ network_refused left octets text d Q same is json (Err e) h =
     ]
 
 -- octets that are no JSON text
-pub no_json : (faults : Data → List Found) (left : Option (List ℕ)) (octets text : List ℕ) (e : Fault) (Q : Type 0) → IfSome left (λ l. octets ≡ l) → text ≡ octets → (e ≡ fault_at 900 places.None) ⊎ ((e ≡ fault_at 101 places.None) × ((d : Data) → IsJson text d → ⊥)) → (e ≡ fault_at 900 places.None) ⊎ (Q ⊎ IfSome left (λ l. IsFirstFault faults l e))
+pub no_json : (faults : Data → List Found) (left : Option (List ℕ)) (octets text : List ℕ) (e : Fault) (Q : Type 0) → MayBeLeft left octets → text ≡ octets → (e ≡ fault_at 900 places.None) ⊎ ((e ≡ fault_at 101 places.None) × ((d : Data) → IsJson text d → ⊥)) → (e ≡ fault_at 900 places.None) ⊎ (Q ⊎ MayHaveLeft left (λ l. IsFirstFault faults l e))
 no_json faults left octets text e Q same is h =
     elim h [ inl m ↦ inl m | inr n ↦ inr (inr (refused_first faults left octets e same (inl (n.0, λ d j. n.1 d (subst (λ (o : List ℕ). IsJson o d) (sym is) j))))) ]
 
-pub no_network : (left : Option (List ℕ)) (octets text : List ℕ) (e : Fault) (Q : Type 0) → IfSome left (λ l. octets ≡ l) → text ≡ octets → (e ≡ fault_at 900 places.None) ⊎ ((e ≡ fault_at 101 places.None) × ((d : Data) → IsJson text d → ⊥)) → (e ≡ fault_at 900 places.None) ⊎ (Q ⊎ IfSome left (λ l. IsRefusedNetwork l e))
+pub no_network : (left : Option (List ℕ)) (octets text : List ℕ) (e : Fault) (Q : Type 0) → MayBeLeft left octets → text ≡ octets → (e ≡ fault_at 900 places.None) ⊎ ((e ≡ fault_at 101 places.None) × ((d : Data) → IsJson text d → ⊥)) → (e ≡ fault_at 900 places.None) ⊎ (Q ⊎ MayHaveLeft left (λ l. IsRefusedNetwork l e))
 no_network left octets text e Q same is h =
     elim h [ inl m ↦ inl m | inr n ↦ inr (inr (told left octets (λ l. IsRefusedNetwork l e) same (by_walk (inl (n.0, λ d j. n.1 d (subst (λ (o : List ℕ). IsJson o d) (sym is) j)))))) ]
 
@@ -75,23 +76,17 @@ pub exit_with : {X : Type 0} (r : Result X Fault) (e : Fault) (Q : Fault → Typ
 exit_with (Ok x) e Q h q = absurd h.1
 exit_with (Err d) e Q h q = subst Q (sym h.1) q
 
-pub both_told : (left_n left_t : Option (List ℕ)) (P Q : List ℕ → Type 0) (R : List ℕ → List ℕ → Type 0) → IfSome left_n P → IfSome left_t Q → ((n t : List ℕ) → P n → Q t → R n t) → IfSome left_n (λ n. IfSome left_t (λ t. R n t))
-both_told None left_t P Q R p q h = cc
-both_told (Some n) None P Q R p q h = cc
-both_told (Some n) (Some t) P Q R p q h = h n t p q
+pub both_told : (left_n left_t : Option (List ℕ)) (P Q : List ℕ → Type 0) (R : List ℕ → List ℕ → Type 0) → MayHaveLeft left_n P → MayHaveLeft left_t Q → ((n t : List ℕ) → P n → Q t → R n t) → MayHaveLeft left_n (λ n. MayHaveLeft left_t (λ t. R n t))
+both_told left_n left_t P Q R p q h = (p.0, p.1, (q.0, q.1, h p.0 q.0 p.2 q.2))
 
-pub first_told : (left_n left_t : Option (List ℕ)) (P : List ℕ → Type 0) (R : List ℕ → List ℕ → Type 0) → ((n t : List ℕ) → P n → R n t) → IfSome left_n P → IfSome left_n (λ n. IfSome left_t (λ t. R n t))
-first_told None left_t P R h p = cc
-first_told (Some n) None P R h p = cc
-first_told (Some n) (Some t) P R h p = h n t p
+pub first_told : (left_n left_t : Option (List ℕ)) (P : List ℕ → Type 0) (R : List ℕ → List ℕ → Type 0) → ((n t : List ℕ) → P n → R n t) → MayHaveLeft left_n P → MayHaveLeft left_n (λ n. MayHaveLeft left_t (λ t. R n t))
+first_told left_n left_t P R h p = let t = something_left left_t in (p.0, p.1, (t.0, t.1, h p.0 t.0 p.2))
 
-pub both_mapped : (left_n left_t : Option (List ℕ)) (P R : List ℕ → List ℕ → Type 0) → ((n t : List ℕ) → P n t → R n t) → IfSome left_n (λ n. IfSome left_t (λ t. P n t)) → IfSome left_n (λ n. IfSome left_t (λ t. R n t))
-both_mapped None left_t P R h p = cc
-both_mapped (Some n) None P R h p = cc
-both_mapped (Some n) (Some t) P R h p = h n t p
+pub both_mapped : (left_n left_t : Option (List ℕ)) (P R : List ℕ → List ℕ → Type 0) → ((n t : List ℕ) → P n t → R n t) → MayHaveLeft left_n (λ n. MayHaveLeft left_t (λ t. P n t)) → MayHaveLeft left_n (λ n. MayHaveLeft left_t (λ t. R n t))
+both_mapped left_n left_t P R h p = let t = p.2 in (p.0, p.1, (t.0, t.1, h p.0 t.0 t.2))
 
 -- the network's document is refused
-pub first_refused : (left_n left_t : Option (List ℕ)) (e : Fault) (M N T : Type 0) → M ⊎ (N ⊎ IfSome left_n (λ n. IsRefusedNetwork n e)) → M ⊎ (N ⊎ (T ⊎ IfSome left_n (λ n. IfSome left_t (λ t. IsRefusedByDocuments n t e))))
+pub first_refused : (left_n left_t : Option (List ℕ)) (e : Fault) (M N T : Type 0) → M ⊎ (N ⊎ MayHaveLeft left_n (λ n. IsRefusedNetwork n e)) → M ⊎ (N ⊎ (T ⊎ MayHaveLeft left_n (λ n. MayHaveLeft left_t (λ t. IsRefusedByDocuments n t e))))
 first_refused left_n left_t e M N T h =
     elim h [
       | inl m ↦ inl m
@@ -99,7 +94,7 @@ first_refused left_n left_t e M N T h =
       | inr (inr f) ↦ inr (inr (inr (first_told left_n left_t (λ n. IsRefusedNetwork n e) (λ n t. IsRefusedByDocuments n t e) (λ n t p. inl p) f)))
     ]
 
-pub traffic_refused : (left_n left_t : Option (List ℕ)) (network : Network) (e : Fault) (M N T : Type 0) → IfSome left_n (λ n. IsNetwork n network) → M ⊎ (T ⊎ IfSome left_t (λ t. IsFirstFault (traffic_faults (device_names network) []) t e)) → M ⊎ (N ⊎ (T ⊎ IfSome left_n (λ n. IfSome left_t (λ t. IsRefusedByDocuments n t e))))
+pub traffic_refused : (left_n left_t : Option (List ℕ)) (network : Network) (e : Fault) (M N T : Type 0) → MayHaveLeft left_n (λ n. IsNetwork n network) → M ⊎ (T ⊎ MayHaveLeft left_t (λ t. IsFirstFault (traffic_faults (device_names network) []) t e)) → M ⊎ (N ⊎ (T ⊎ MayHaveLeft left_n (λ n. MayHaveLeft left_t (λ t. IsRefusedByDocuments n t e))))
 traffic_refused left_n left_t network e M N T is h =
     elim h [
       | inl m ↦ inl m

@@ -2,9 +2,10 @@
 use Rattle.std.proofs.Common.{◌≡◌, ◌⊎◌, inl, inr, ℕ, ◌+◌, ◌<◌, ◌≤◌, List, [], ◌∷◌, ◌++◌, length, drop, refl, sym, ap, subst, ◌∙◌, arith, append_assoc, Option, Some, None, Err, IfSome, codes}
 use Rattle.std.proofs.lemmas.List.{append-nil, length-append, take-append-drop}
 use Rattle.std.specs.Io.KnownBytes.{prepend_known}
-use Rattle.fx_base.proofs.Reading.{read_more, held_within}
+use Rattle.fx_base.proofs.GoingOn.{something_left}
+use Rattle.fx_base.proofs.Reading.{read_more, read_end, held_within}
 use Rattle.fx_base.proofs.Writing.{writes_both}
-use Rattle.fx_base.specs.Device.{Reads, Writes}
+use Rattle.fx_base.specs.Device.{MayBeLeft, MayHaveLeft, Reads, Writes}
 use Rattle.fx_base.specs.declared.fault.Fault.{Fault}
 use Rattle.fx_machine.specs.declared.record.Record.{Record}
 use Rattle.fx_collect.specs.Report.{number_line}
@@ -96,12 +97,9 @@ read_further all left left' before totals totals' session session' calls room n 
 }
 
 pub read_out : (all left left' : Option (List ℕ)) (before totals : Totals) (session : Standing) (calls room : ℕ) (piece : List ℕ) → IsReadOn all left before session totals calls → 0 < room → Reads left left' room piece 0
-    → IfSome all (λ octets. IsTallied octets before session totals)
+    → MayHaveLeft all (λ octets. IsTallied octets before session totals)
 read_out all left left' before totals session calls room piece h some reads =
-    subst (λ (o : Option (List ℕ)). IfSome o (λ octets. IsTallied octets before session totals)) h.parts (ended left reads) where
-      ended : (o : Option (List ℕ)) → Reads o left' room piece 0 → IfSome (prepend_known h.seen o) (λ octets. IsTallied octets before session totals)
-      ended None r = tt
-      ended (Some old) r = subst (λ (xs : List ℕ). IsTallied xs before session totals) (sym (ap (λ (xs : List ℕ). h.seen ++ xs) (r.end refl some) ∙ append-nil h.seen)) h.tallied
+    (h.seen, subst (λ (o : Option (List ℕ)). MayBeLeft o h.seen) h.parts (read_end h.seen piece room left left' some reads).0, h.tallied)
 
 pub read_too_long : (all left : Option (List ℕ)) (before totals : Totals) (session : Standing) (calls limit : ℕ) → IsReadOn all left before session totals calls → limit ≤ calls → IfSome all (λ octets. limit ≤ length octets)
 read_too_long all left before totals session calls limit h most =
@@ -122,20 +120,21 @@ still_refused seen piece later before totals session e t h =
     ap (λ (s : Standing). answer_of s.place s.fault) (stays ∙ on) ∙ h
 
 pub read_refused : (all left left' : Option (List ℕ)) (before totals : Totals) (session : Standing) (calls room n : ℕ) (piece : List ℕ) (e : Fault) → IsReadOn all left before session totals calls → Reads left left' room piece n
-    → answer_of (fed session piece).place (fed session piece).fault ≡ Err e → IfSome all (λ octets. answer_of (stream_read octets).place (stream_read octets).fault ≡ Err e)
+    → answer_of (fed session piece).place (fed session piece).fault ≡ Err e → MayHaveLeft all (λ octets. answer_of (stream_read octets).place (stream_read octets).fault ≡ Err e)
 read_refused all left left' before totals session calls room n piece e h reads refused =
-    subst (λ (o : Option (List ℕ)). IfSome o (λ octets. answer_of (stream_read octets).place (stream_read octets).fault ≡ Err e)) h.parts (by left reads) where
-      by : (o : Option (List ℕ)) → Reads o left' room piece n → IfSome (prepend_known h.seen o) (λ octets. answer_of (stream_read octets).place (stream_read octets).fault ≡ Err e)
-      by None r = tt
-      by (Some old) r =
-          let parts : piece ++ drop n old ≡ old = ap (λ (xs : List ℕ). xs ++ drop n old) r.octets_are ∙ take-append-drop n old in
-          subst (λ (xs : List ℕ). answer_of (stream_read (h.seen ++ xs)).place (stream_read (h.seen ++ xs)).fault ≡ Err e) parts (still_refused h.seen piece (drop n old) before totals session e h.tallied refused)
+    let later = something_left left' in
+    (h.seen ++ (piece ++ later.0), subst (λ (o : Option (List ℕ)). MayBeLeft o (h.seen ++ (piece ++ later.0))) h.parts (by left later.0 reads later.1), still_refused h.seen piece later.0 before totals session e h.tallied refused) where
+      by : (o : Option (List ℕ)) (rest : List ℕ) → Reads o left' room piece n → MayBeLeft left' rest → MayBeLeft (prepend_known h.seen o) (h.seen ++ (piece ++ rest))
+      by None rest r is = tt
+      by (Some old) rest r is =
+          let rest_is : rest ≡ drop n old = rw r.rest at is in
+          ap (λ (xs : List ℕ). h.seen ++ (piece ++ xs)) rest_is ∙ ap (λ (xs : List ℕ). h.seen ++ xs) (ap (λ (xs : List ℕ). xs ++ drop n old) r.octets_are ∙ take-append-drop n old)
 
 pub still_faultless : (all left : Option (List ℕ)) (before totals : Totals) (session : Standing) (calls : ℕ) → IsReadOn all left before session totals calls → session.fault ≡ None
 still_faultless all left before totals session calls h = ap (λ (s : Standing). s.fault) h.tallied.session_is ∙ h.tallied.faultless
 
 pub piece_refused : (all left left' : Option (List ℕ)) (before totals : Totals) (session : Standing) (calls room n : ℕ) (piece : List ℕ) (e : Fault) (M F : Type 0) → IsReadOn all left before session totals calls → Reads left left' room piece n
-    → M ⊎ (answer_of (fed session piece).place (fed session piece).fault ≡ Err e) → M ⊎ (F ⊎ IfSome all (λ octets. answer_of (stream_read octets).place (stream_read octets).fault ≡ Err e))
+    → M ⊎ (answer_of (fed session piece).place (fed session piece).fault ≡ Err e) → M ⊎ (F ⊎ MayHaveLeft all (λ octets. answer_of (stream_read octets).place (stream_read octets).fault ≡ Err e))
 piece_refused all left left' before totals session calls room n piece e M F h reads refused =
     elim refused [ inl m ↦ inl m | inr r ↦ inr (inr (read_refused all left left' before totals session calls room n piece e h reads r)) ]
 

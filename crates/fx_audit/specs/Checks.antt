@@ -1,17 +1,18 @@
 -- What a checked certificate is answered with, and what is printed.
-use Rattle.std.specs.Prelude.{◌≡◌, ◌⊎◌, ℕ, ◌≤◌, List, [], ◌∷◌, ◌++◌, codes, Option, Some, None, IfSome}
+use Rattle.std.specs.Prelude.{◌≡◌, ◌⊎◌, ℕ, ◌≤◌, List, [], ◌∷◌, ◌++◌, codes, Option, Some, None}
 use Rattle.fx_base.specs.declared.fault.Fault.{Fault}
 use Rattle.fx_base.specs.declared.fault.Place.TheVariants as places
+use Rattle.fx_base.specs.Device.{MayHaveLeft}
 use Rattle.fx_base.specs.Fault.{fault_at, fault_text}
 use Rattle.fx_base.specs.Lines.{Lines, text_lines}
 use Rattle.fx_machine.specs.Claim.{ExactlyOnce, OnceModulo}
 use Rattle.fx_machine.specs.Classes.{Class}
 use Rattle.fx_plan.specs.declared.network.Network.{Network}
 use Rattle.fx_plan.specs.Tables.{net_of}
-use Rattle.fx_check.specs.Certificates.{IsCertificate}
-use Rattle.fx_check.specs.Outcomes.{refusal_of}
+use Rattle.fx_check.specs.Judging.{judge_of}
+use Rattle.fx_check.specs.Outcomes.{MayBeAccepted, MayBeCertificate}
 use Rattle.fx_traffic.specs.Targets.{targets_of}
-use Rattle.fx_check.specs.Verdict.{Refusal}
+use Rattle.fx_check.specs.Verdict.{Refusal, first_refusal, whole}
 use Rattle.fx_audit.specs.declared.answer.Answer.{Answer}
 use Rattle.fx_audit.specs.declared.answer.Answer.TheVariants.{Yes, No, Unknown}
 
@@ -33,17 +34,18 @@ abbrev pub IsFaultOf : Fault → Option Refusal → Type 0
 IsFaultOf e None = ⊥
 IsFaultOf e (Some r) = e ≡ r.fault
 
--- the first refusal of a certificate for these classes in a network, where the reader tells its text
+-- the first refusal of a certificate for these classes in a network, by a text that the reader may have left
 abbrev pub IsRefusedText : Network → List Class → Lines → Fault → Type 0
-IsRefusedText network classes lines e = IfSome (refusal_of (net_of network) (targets_of classes) lines) (IsFaultOf e)
+IsRefusedText network classes lines e =
+    MayHaveLeft lines.left (λ text. IsFaultOf e (first_refusal (judge_of (net_of network)) lines.number 0 (whole (targets_of classes)) (text_lines text)))
 
 -- each packet is counted once, modulo 2 to the 64 however large the sums are; the certificate shows it, and nothing in
--- it is refused, where the reader tells its text
+-- it is refused
 pub record IsYes (network : Network) (classes : List Class) (lines : Lines) (text : List ℕ) : Type 0 where
   pub once : ExactlyOnce (net_of network) classes
   pub modulo : OnceModulo (net_of network) classes
-  pub certificate : IfSome lines.left (λ octets. IsCertificate (net_of network) classes (text_lines octets))
-  pub accepted : IfSome (refusal_of (net_of network) (targets_of classes) lines) (λ r. r ≡ None)
+  pub certificate : MayBeCertificate (net_of network) classes lines
+  pub accepted : MayBeAccepted (net_of network) (targets_of classes) lines
   pub text_is : text ≡ yes_line
 
 -- the certificate is refused at a line, by a number that makes the answer no; or so was what the reader had read before

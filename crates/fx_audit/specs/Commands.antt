@@ -1,12 +1,12 @@
 -- What commands make of octets.
-use Rattle.std.specs.Prelude.{◌≡◌, ◌⊎◌, ℕ, List, Ok, Err, Some, IfSome, false}
+use Rattle.std.specs.Prelude.{◌≡◌, ◌⊎◌, ℕ, ◌≤◌, ◌^◌, List, length, Ok, Err}
 use Rattle.fx_base.specs.declared.fault.Fault.{Fault}
 use Rattle.fx_base.specs.declared.fault.Place.TheVariants as places
 use Rattle.fx_base.specs.Fault.{fault_at}
-use Rattle.fx_base.specs.Lines.{Lines, new_lines}
+use Rattle.fx_base.specs.Lines.{Lines, lines_in}
 use Rattle.fx_machine.specs.Classes.{Class}
 use Rattle.fx_machine.specs.RunText.{Run}
-use Rattle.fx_machine.specs.RunReading.{Fails, run_reading}
+use Rattle.fx_machine.specs.RunReading.{MayRead}
 use Rattle.fx_machine.specs.States.{State, opening, told}
 use Rattle.fx_machine.specs.Steps.{run}
 use Rattle.fx_plan.specs.declared.network.Network.{Network}
@@ -17,7 +17,7 @@ use Rattle.fx_audit.specs.Bundle.{IsBundle}
 use Rattle.fx_audit.specs.Checks.{IsAnswered, IsRefusedCertificate}
 use Rattle.fx_audit.specs.declared.bundle.Command.{Command}
 use Rattle.fx_audit.specs.declared.bundle.Command.TheVariants.{Replay, Check}
-use Rattle.fx_audit.specs.Documents.{IsNetwork, IsRefusedByDocuments, IsRefusedNetwork, IsTraffic, ReadFails}
+use Rattle.fx_audit.specs.Documents.{IsNetwork, IsRefusedByDocuments, IsRefusedNetwork, IsTraffic}
 use Rattle.fx_audit.specs.Replay.{IsRefused, IsTextOf}
 use Rattle.fx_audit.specs.Streams.{IsRefusedStream, IsStreamText, IsWhole, stream_read}
 
@@ -27,7 +27,7 @@ use Rattle.fx_audit.specs.Streams.{IsRefusedStream, IsStreamText, IsWhole, strea
 pub record IsReplayedIn (network : Network) (classes : List Class) (lines : Lines) (text : List ℕ) : Type 0 where
   pub run_read : Run
   pub last : State
-  pub run_is : IfSome (run_reading classes lines) (λ x. x ≡ Ok run_read)
+  pub run_is : MayRead classes lines (Ok run_read)
   pub steps : run (net_of network) classes run_read.packets run_read.steps (opening (net_of network) classes run_read.packets) ≡ Ok last
   pub text_is : IsTextOf (net_of network).report_layout (told last) text
 
@@ -42,8 +42,7 @@ pub record IsReplayed (network_octets traffic_octets : List ℕ) (lines : Lines)
 -- the run's text is refused, in this network and traffic, or the run
 abbrev pub IsRefusedRun : Network → List Class → Lines → Fault → Type 0
 IsRefusedRun network classes lines e =
-    IfSome (run_reading classes lines) (λ x. x ≡ Err e)
-    ⊎ ((r : Run) × IfSome (run_reading classes lines) (λ x. x ≡ Ok r) × IsRefused (net_of network) classes r e)
+    MayRead classes lines (Err e) ⊎ ((r : Run) × MayRead classes lines (Ok r) × IsRefused (net_of network) classes r e)
 
 -- the first refusal of a replay: that of the documents, then the run's
 abbrev pub IsRefusedReplay : List ℕ → List ℕ → Lines → Fault → Type 0
@@ -96,14 +95,14 @@ abbrev pub IsRefusedBy : Command → List ℕ → List ℕ → Lines → Fault �
 IsRefusedBy Replay network traffic lines e = IsRefusedReplay network traffic lines e
 IsRefusedBy Check network traffic lines e = IsRefusedCheck network traffic lines e
 
--- a text in memory that takes more than 2 to the 32 calls to read
+-- a text is so long that it isn't read in 2 to the 32 calls
 abbrev pub IsEndless : List ℕ → List ℕ → List ℕ → Fault → Type 0
 IsEndless network traffic third e =
-    ReadFails (Some network) false e ⊎ (ReadFails (Some traffic) false e ⊎ ((lines : Lines) × Fails (new_lines (Some third) false) lines e))
+    (e ≡ fault_at 901 places.None) × ((2 ^ 32 ≤ length network) ⊎ ((2 ^ 32 ≤ length traffic) ⊎ (2 ^ 32 ≤ length third)))
 
 -- what a bundle's command makes of its texts is refused
 abbrev pub IsRefusedThere : Command → List ℕ → List ℕ → List ℕ → Fault → Type 0
-IsRefusedThere command network traffic third e = IsRefusedBy command network traffic (new_lines (Some third) false) e ⊎ IsEndless network traffic third e
+IsRefusedThere command network traffic third e = IsRefusedBy command network traffic (lines_in third) e ⊎ IsEndless network traffic third e
 
 -- the octets are no bundle, or what its command makes of its texts is refused
 abbrev pub IsRefusedBundle : List ℕ → Fault → Type 0

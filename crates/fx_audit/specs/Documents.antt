@@ -1,10 +1,11 @@
 -- Documents as octets: JSON texts in UTF-8 (RFC 8259), and what a command's two documents say.
-use Rattle.std.specs.Prelude.{◌≡◌, ◌⊎◌, ℕ, ◌≤◌, ◌^◌, Bool, true, List, [], length, IsUtf8, Option, Some, IfSome, string_bytes}
+use Rattle.std.specs.Prelude.{◌≡◌, ◌⊎◌, ℕ, ◌≤◌, Bool, List, [], length, IsUtf8, Option, Some, string_bytes}
 use Rattle.serde_json.specs.Data.{Data}
 use Rattle.serde_json.specs.Read.{read}
 use Rattle.fx_base.specs.declared.fault.Fault.{Fault}
 use Rattle.fx_base.specs.declared.fault.Place.{Place}
 use Rattle.fx_base.specs.declared.fault.Place.TheVariants as places
+use Rattle.fx_base.specs.Device.{IsUnread}
 use Rattle.fx_base.specs.Fault.{fault_at}
 use Rattle.fx_config.specs.Walk.{Found, first}
 use Rattle.fx_machine.specs.Classes.{Class}
@@ -17,9 +18,9 @@ use Rattle.fx_plan.specs.Ranks.{IsStuck}
 use Rattle.fx_plan.specs.Tables.{net_of}
 use Rattle.fx_traffic.specs.Classes.{traffic_faults, traffic_of}
 
--- a source that is read to its end fails, or hasn't ended after 2 to the 32 calls
-abbrev pub ReadFails : Option (List ℕ) → Bool → Fault → Type 0
-ReadFails left failed e = (e ≡ fault_at 901 places.None) × ((failed ≡ true) ⊎ IfSome left (λ octets. 2 ^ 32 ≤ length octets))
+-- a source can't be read to its end: its last call failed, or it was called 2 to the 32 times and hasn't ended
+abbrev pub ReadFails : Option (List ℕ) → ℕ → ℕ → Bool → Fault → Type 0
+ReadFails left before after failed e = (e ≡ fault_at 901 places.None) × IsUnread left before after failed
 
 -- the octets are the text of this value
 abbrev pub IsJson : List ℕ → Data → Type 0

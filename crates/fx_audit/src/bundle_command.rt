@@ -1,8 +1,8 @@
 //! Bundles read from octets, and what their commands do.
 ghost use Rattle.std.specs.Prelude.{◌≡◌, ◌⊎◌, ℕ, List, Some, OnOk, IfOk, IfErr, IfSome, true, false};
-ghost use Rattle.fx_base.specs.Device.{Writes};
+ghost use Rattle.fx_base.specs.Device.{MayHaveLeft, Writes};
 ghost use Rattle.fx_base.specs.Fault.{fault_at};
-ghost use Rattle.fx_base.specs.Lines.{new_lines};
+ghost use Rattle.fx_base.specs.Lines.{lines_in};
 ghost use Rattle.fx_base.specs.declared.fault.Place.TheVariants as places;
 ghost use Rattle.fx_audit.specs.Bundle.{IsBundle};
 ghost use Rattle.fx_audit.specs.Commands.{IsDone, IsRefusedBundle, IsRefusedThere};
@@ -18,11 +18,18 @@ use crate::replay_command::replay_bytes;
 use fx_base::{Fault, LineReader, Octets, Sink, Source, read_whole};
 use std::alloc::Global;
 
+/// A text in memory doesn't fail.
+fn never_fails(lines: &LineReader<Octets<'_>>)
+    ensures { lines.now.failed ≡ false }
+{
+    let _text = lines.get_ref();
+}
+
 /// Does what a bundle's command does with its texts.
 fn answer_bundle<S: Sink>(alloc: Global, bundle: &Bundle<'_>, sink: &mut S) -> Result<Answer, Fault>
     ensures answer { IfOk result (λ answer. (answer ≡ Yes) ⊎ (answer ≡ No)) }
     ensures ok { IfOk result (λ answer. (text : List ℕ)
-        × IsDone bundle.now.command bundle.now.network.now bundle.now.traffic.now (new_lines (Some bundle.now.third.now) false) answer text × Writes (S.taken sink.old) (S.taken sink.new) text) }
+        × IsDone bundle.now.command bundle.now.network.now bundle.now.traffic.now (lines_in bundle.now.third.now) answer text × Writes (S.taken sink.old) (S.taken sink.new) text) }
     ensures going { OnOk result (S.failed sink.old ≡ false → S.failed sink.new ≡ false) }
     ensures err { IfErr result (λ e. (e ≡ fault_at 900 places.None)
         ⊎ (((e ≡ fault_at 902 places.None) × (S.failed sink.new ≡ true))
@@ -36,8 +43,16 @@ fn answer_bundle<S: Sink>(alloc: Global, bundle: &Bundle<'_>, sink: &mut S) -> R
     let mut traffic = Octets::new(bundle.traffic);
     let mut third = LineReader::new(alloc, Octets::new(bundle.third))?;
     match bundle.command {
-        Command::Replay => replay_bytes(alloc, &mut network, &mut traffic, &mut third, sink),
-        Command::Check => check_bytes(alloc, &mut network, &mut traffic, &mut third, sink),
+        Command::Replay => {
+            let answer = replay_bytes(alloc, &mut network, &mut traffic, &mut third, sink);
+            never_fails(&third);
+            answer
+        }
+        Command::Check => {
+            let answer = check_bytes(alloc, &mut network, &mut traffic, &mut third, sink);
+            never_fails(&third);
+            answer
+        }
     }
 }
 
@@ -52,14 +67,14 @@ pub fn bundle_bytes<B: Source, S: Sink>(
     sink: &mut S,
 ) -> Result<Answer, Fault>
     ensures answer { IfOk result (λ answer. (answer ≡ Yes) ⊎ (answer ≡ No)) }
-    ensures ok { IfOk result (λ answer. IfSome (B.left bundle.old) (λ octets.
+    ensures ok { IfOk result (λ answer. MayHaveLeft (B.left bundle.old) (λ octets.
         (command : Command) × (network : List ℕ) × (traffic : List ℕ) × (third : List ℕ) × (text : List ℕ) × IsBundle octets command network traffic third
-        × IsDone command network traffic (new_lines (Some third) false) answer text × Writes (S.taken sink.old) (S.taken sink.new) text)) }
+        × IsDone command network traffic (lines_in third) answer text × Writes (S.taken sink.old) (S.taken sink.new) text)) }
     ensures going { OnOk result (S.failed sink.old ≡ false → S.failed sink.new ≡ false) }
     ensures err { IfErr result (λ e. (e ≡ fault_at 900 places.None)
-        ⊎ (ReadFails (B.left bundle.old) (B.failed bundle.new) e
+        ⊎ (ReadFails (B.left bundle.old) (B.calls bundle.old) (B.calls bundle.new) (B.failed bundle.new) e
         ⊎ (((e ≡ fault_at 902 places.None) × (S.failed sink.new ≡ true))
-        ⊎ IfSome (B.left bundle.old) (λ octets. IsRefusedBundle octets e)))) }
+        ⊎ MayHaveLeft (B.left bundle.old) (λ octets. IsRefusedBundle octets e)))) }
     ensures told { IfOk result (λ answer. (text : List ℕ)
         × IsBundleText answer text × Writes (S.taken sink.old) (S.taken sink.new) text) }
     ensures quiet { IfErr result (λ e. ((e ≡ fault_at 902 places.None) × (S.failed sink.new ≡ true))

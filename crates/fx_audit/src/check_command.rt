@@ -1,6 +1,6 @@
 //! The command that checks a certificate, from octets to octets.
 ghost use Rattle.std.specs.Prelude.{◌≡◌, ◌⊎◌, ℕ, List, OnOk, IfOk, IfErr, IfSome, true, false};
-ghost use Rattle.fx_base.specs.Device.{Writes};
+ghost use Rattle.fx_base.specs.Device.{MayHaveLeft, Writes};
 ghost use Rattle.fx_base.specs.Fault.{fault_at};
 ghost use Rattle.fx_base.specs.declared.fault.Fault.{Fault};
 ghost use Rattle.fx_base.specs.declared.fault.Place.TheVariants as places;
@@ -89,15 +89,15 @@ pub fn check_bytes<N: Source, T: Source, C: Source, S: Sink>(
 ) -> Result<Answer, Fault>
     ensures answer { IfOk result (λ answer. (answer ≡ Yes) ⊎ (answer ≡ No)) }
     // Yes: each packet is counted once.
-    ensures ok { IfOk result (λ answer. IfSome (N.left network.old) (λ n. IfSome (T.left traffic.old) (λ t.
+    ensures ok { IfOk result (λ answer. MayHaveLeft (N.left network.old) (λ n. MayHaveLeft (T.left traffic.old) (λ t.
         (text : List ℕ) × IsChecked n t certificate.old answer text × Writes (S.taken sink.old) (S.taken sink.new) text))) }
     ensures going { OnOk result (S.failed sink.old ≡ false → S.failed sink.new ≡ false) }
     ensures err { IfErr result (λ e. (e ≡ fault_at 900 places.None)
-        ⊎ (ReadFails (N.left network.old) (N.failed network.new) e
-        ⊎ (ReadFails (T.left traffic.old) (T.failed traffic.new) e
+        ⊎ (ReadFails (N.left network.old) (N.calls network.old) (N.calls network.new) (N.failed network.new) e
+        ⊎ (ReadFails (T.left traffic.old) (T.calls traffic.old) (T.calls traffic.new) (T.failed traffic.new) e
         ⊎ (Fails certificate.old certificate.new e
         ⊎ (((e ≡ fault_at 902 places.None) × (S.failed sink.new ≡ true))
-        ⊎ IfSome (N.left network.old) (λ n. IfSome (T.left traffic.old) (λ t. IsRefusedCheck n t certificate.old e))))))) }
+        ⊎ MayHaveLeft (N.left network.old) (λ n. MayHaveLeft (T.left traffic.old) (λ t. IsRefusedCheck n t certificate.old e))))))) }
     // 401 to 414, with the line, are answered no. Once the certificate is read, what isn't answered is 900 to 903.
     ensures numbers { IfErr result (λ e. (certificate.new ≡ certificate.old) ⊎ IsUnanswered certificate.old e) }
     ensures told { IfOk result (λ answer. (text : List ℕ)

@@ -1,6 +1,6 @@
 //! The command that collects a stream, from octets to octets.
 ghost use Rattle.std.specs.Prelude.{◌≡◌, ◌⊎◌, ℕ, List, OnOk, IfOk, IfErr, IfSome, true, false};
-ghost use Rattle.fx_base.specs.Device.{Writes};
+ghost use Rattle.fx_base.specs.Device.{MayHaveLeft, Writes};
 ghost use Rattle.fx_base.specs.Fault.{fault_at};
 ghost use Rattle.fx_base.specs.declared.fault.Fault.{Fault};
 ghost use Rattle.fx_base.specs.declared.fault.Place.TheVariants as places;
@@ -28,14 +28,14 @@ pub fn collect_bytes<N: Source, R: Source, S: Sink>(
     stream: &mut R,
     sink: &mut S,
 ) -> Result<Answer, Fault>
-    ensures ok { IfOk result (λ answer. (answer ≡ Yes) × IfSome (N.left network.old) (λ n. IfSome (R.left stream.old) (λ octets.
+    ensures ok { IfOk result (λ answer. (answer ≡ Yes) × MayHaveLeft (N.left network.old) (λ n. MayHaveLeft (R.left stream.old) (λ octets.
         (text : List ℕ) × IsCollected n octets text × Writes (S.taken sink.old) (S.taken sink.new) text))) }
     ensures going { OnOk result (S.failed sink.old ≡ false → S.failed sink.new ≡ false) }
     ensures err { IfErr result (λ e. (e ≡ fault_at 900 places.None)
-        ⊎ (ReadFails (N.left network.old) (N.failed network.new) e
-        ⊎ (ReadFails (R.left stream.old) (R.failed stream.new) e
+        ⊎ (ReadFails (N.left network.old) (N.calls network.old) (N.calls network.new) (N.failed network.new) e
+        ⊎ (ReadFails (R.left stream.old) (R.calls stream.old) (R.calls stream.new) (R.failed stream.new) e
         ⊎ (((e ≡ fault_at 902 places.None) × (S.failed sink.new ≡ true))
-        ⊎ IfSome (N.left network.old) (λ n. IfSome (R.left stream.old) (λ octets. IsRefusedCollect n octets e)))))) }
+        ⊎ MayHaveLeft (N.left network.old) (λ n. MayHaveLeft (R.left stream.old) (λ octets. IsRefusedCollect n octets e)))))) }
     ensures told { IfOk result (λ answer. (text : List ℕ)
         × IsCollectText answer text × Writes (S.taken sink.old) (S.taken sink.new) text) }
     ensures untouched { IfSome (N.left network.old) (λ n. (e : Fault) → IsRefusedNetwork n e → stream.new ≡ stream.old) }

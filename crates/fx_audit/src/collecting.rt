@@ -1,6 +1,6 @@
 //! A stream's records, tallied as they come.
 ghost use Rattle.std.specs.Prelude.{◌≡◌, ◌⊎◌, ℕ, List, true, false, None, Err, OnOk, IfOk, IfErr, IfSome};
-ghost use Rattle.fx_base.specs.Device.{Writes};
+ghost use Rattle.fx_base.specs.Device.{MayHaveLeft, Writes};
 ghost use Rattle.fx_base.specs.Fault.{fault_at};
 ghost use Rattle.fx_base.specs.declared.fault.Place.TheVariants as places;
 ghost use Rattle.fx_collect.specs.Totals.{with_records};
@@ -55,9 +55,9 @@ fn tally_stream<R: Source>(
     stream: &mut R,
 ) -> Result<(), Fault>
     requires { session.old ≡ streams.start }
-    ensures ok { OnOk result (IfSome (R.left stream.old) (λ octets. IsTallied octets totals.old session.new totals.new)) }
-    ensures err { IfErr result (λ e. (e ≡ fault_at 900 places.None) ⊎ (ReadFails (R.left stream.old) (R.failed stream.new) e
-        ⊎ IfSome (R.left stream.old) (λ octets. streams.answer_of (stream_read octets).place (stream_read octets).fault ≡ Err e))) }
+    ensures ok { OnOk result (MayHaveLeft (R.left stream.old) (λ octets. IsTallied octets totals.old session.new totals.new)) }
+    ensures err { IfErr result (λ e. (e ≡ fault_at 900 places.None) ⊎ (ReadFails (R.left stream.old) (R.calls stream.old) (R.calls stream.new) (R.failed stream.new) e
+        ⊎ MayHaveLeft (R.left stream.old) (λ octets. streams.answer_of (stream_read octets).place (stream_read octets).fault ≡ Err e))) }
 {
     let mut piece = [0u8; PIECE];
     for _call in 0..MOST_CALLS {
@@ -101,13 +101,13 @@ pub fn collect<R: Source, S: Sink>(
     stream: &mut R,
     sink: &mut S,
 ) -> Result<Answer, Fault>
-    ensures ok { IfOk result (λ answer. (answer ≡ Yes) × IfSome (R.left stream.old) (λ octets. IsWhole (stream_read octets)
+    ensures ok { IfOk result (λ answer. (answer ≡ Yes) × MayHaveLeft (R.left stream.old) (λ octets. IsWhole (stream_read octets)
         × ((text : List ℕ) × IsStreamText net.now.report_layout (stream_read octets).known text × Writes (S.taken sink.old) (S.taken sink.new) text))) }
     ensures going { OnOk result (S.failed sink.old ≡ false → S.failed sink.new ≡ false) }
     ensures err { IfErr result (λ e. (e ≡ fault_at 900 places.None)
-        ⊎ (ReadFails (R.left stream.old) (R.failed stream.new) e
+        ⊎ (ReadFails (R.left stream.old) (R.calls stream.old) (R.calls stream.new) (R.failed stream.new) e
         ⊎ (((e ≡ fault_at 902 places.None) × (S.failed sink.new ≡ true))
-        ⊎ IfSome (R.left stream.old) (λ octets. IsRefusedStream (stream_read octets) e)))) }
+        ⊎ MayHaveLeft (R.left stream.old) (λ octets. IsRefusedStream (stream_read octets) e)))) }
     ensures told { IfOk result (λ answer. (text : List ℕ)
         × IsCollectText answer text × Writes (S.taken sink.old) (S.taken sink.new) text) }
     ensures quiet { IfErr result (λ e. ((e ≡ fault_at 902 places.None) × (S.failed sink.new ≡ true))

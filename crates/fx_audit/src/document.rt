@@ -2,6 +2,7 @@
 ghost use Rattle.std.specs.Prelude.{◌≡◌, ◌⊎◌, [], IfOk, IfErr, IfSome};
 ghost use Rattle.serde_json.specs.View.{view};
 ghost use Rattle.serde_json.specs.Data.{Data};
+ghost use Rattle.fx_base.specs.Device.{MayHaveLeft};
 ghost use Rattle.fx_base.specs.Fault.{fault_at};
 ghost use Rattle.fx_base.specs.declared.fault.Fault.{Fault};
 ghost use Rattle.fx_base.specs.declared.fault.Place.TheVariants as places;
@@ -47,9 +48,9 @@ pub struct Documents {
 /// Fails with 101, at no place, where they are no JSON text; as [`read_plan`] does; with 901, at no place, where
 /// a read fails or the source hasn't ended after 4,294,967,296 calls; and with 900 for want of memory.
 pub(crate) fn network_from<R: Source>(alloc: Global, source: &mut R) -> Result<Plan, Fault>
-    ensures ok { IfOk result (λ plan. IfSome (R.left source.old) (λ octets. IsNetwork octets plan)) }
-    ensures err { IfErr result (λ e. (e ≡ fault_at 900 places.None) ⊎ (ReadFails (R.left source.old) (R.failed source.new) e
-        ⊎ IfSome (R.left source.old) (λ octets. IsRefusedNetwork octets e))) }
+    ensures ok { IfOk result (λ plan. MayHaveLeft (R.left source.old) (λ octets. IsNetwork octets plan)) }
+    ensures err { IfErr result (λ e. (e ≡ fault_at 900 places.None) ⊎ (ReadFails (R.left source.old) (R.calls source.old) (R.calls source.new) (R.failed source.new) e
+        ⊎ MayHaveLeft (R.left source.old) (λ octets. IsRefusedNetwork octets e))) }
 {
     let octets = read_whole(alloc, source)?;
     let value = value_of(alloc, octets.as_slice())?;
@@ -60,9 +61,9 @@ pub(crate) fn network_from<R: Source>(alloc: Global, source: &mut R) -> Result<P
 ///
 /// Fails as [`network_from`] does, but as [`read_traffic`] in place of [`read_plan`].
 fn traffic_from<R: Source>(alloc: Global, source: &mut R, plan: &Plan) -> Result<Traffic, Fault>
-    ensures ok { IfOk result (λ traffic. IfSome (R.left source.old) (λ octets. IsTraffic plan.now octets traffic)) }
-    ensures err { IfErr result (λ e. (e ≡ fault_at 900 places.None) ⊎ (ReadFails (R.left source.old) (R.failed source.new) e
-        ⊎ IfSome (R.left source.old) (λ octets. IsFirstFault (traffic_faults (device_names plan.now) []) octets e))) }
+    ensures ok { IfOk result (λ traffic. MayHaveLeft (R.left source.old) (λ octets. IsTraffic plan.now octets traffic)) }
+    ensures err { IfErr result (λ e. (e ≡ fault_at 900 places.None) ⊎ (ReadFails (R.left source.old) (R.calls source.old) (R.calls source.new) (R.failed source.new) e
+        ⊎ MayHaveLeft (R.left source.old) (λ octets. IsFirstFault (traffic_faults (device_names plan.now) []) octets e))) }
 {
     let octets = read_whole(alloc, source)?;
     let value = value_of(alloc, octets.as_slice())?;
@@ -78,12 +79,12 @@ pub fn read_documents<N: Source, T: Source>(
     network: &mut N,
     traffic: &mut T,
 ) -> Result<Documents, Fault>
-    ensures network { IfOk result (λ documents. IfSome (N.left network.old) (λ octets. IsNetwork octets documents.plan)) }
-    ensures traffic { IfOk result (λ documents. IfSome (T.left traffic.old) (λ octets. IsTraffic documents.plan octets documents.traffic)) }
+    ensures network { IfOk result (λ documents. MayHaveLeft (N.left network.old) (λ octets. IsNetwork octets documents.plan)) }
+    ensures traffic { IfOk result (λ documents. MayHaveLeft (T.left traffic.old) (λ octets. IsTraffic documents.plan octets documents.traffic)) }
     ensures err { IfErr result (λ e. (e ≡ fault_at 900 places.None)
-        ⊎ (ReadFails (N.left network.old) (N.failed network.new) e
-        ⊎ (ReadFails (T.left traffic.old) (T.failed traffic.new) e
-        ⊎ IfSome (N.left network.old) (λ n. IfSome (T.left traffic.old) (λ t. IsRefusedByDocuments n t e))))) }
+        ⊎ (ReadFails (N.left network.old) (N.calls network.old) (N.calls network.new) (N.failed network.new) e
+        ⊎ (ReadFails (T.left traffic.old) (T.calls traffic.old) (T.calls traffic.new) (T.failed traffic.new) e
+        ⊎ MayHaveLeft (N.left network.old) (λ n. MayHaveLeft (T.left traffic.old) (λ t. IsRefusedByDocuments n t e))))) }
     ensures order { IfSome (N.left network.old) (λ n. (e : Fault)
         → IsRefusedNetwork n e → traffic.new ≡ traffic.old) }
 {

@@ -1,6 +1,6 @@
 //! The command that replays a run, from octets to octets.
 ghost use Rattle.std.specs.Prelude.{◌≡◌, ◌⊎◌, ℕ, List, OnOk, IfOk, IfErr, IfSome, true, false};
-ghost use Rattle.fx_base.specs.Device.{Writes};
+ghost use Rattle.fx_base.specs.Device.{MayHaveLeft, Writes};
 ghost use Rattle.fx_base.specs.Fault.{fault_at};
 ghost use Rattle.fx_base.specs.declared.fault.Fault.{Fault};
 ghost use Rattle.fx_base.specs.declared.fault.Place.TheVariants as places;
@@ -54,15 +54,15 @@ pub fn replay_bytes<N: Source, T: Source, R: Source, S: Sink>(
     run: &mut LineReader<R>,
     sink: &mut S,
 ) -> Result<Answer, Fault>
-    ensures ok { IfOk result (λ answer. (answer ≡ Yes) × IfSome (N.left network.old) (λ n. IfSome (T.left traffic.old) (λ t.
+    ensures ok { IfOk result (λ answer. (answer ≡ Yes) × MayHaveLeft (N.left network.old) (λ n. MayHaveLeft (T.left traffic.old) (λ t.
         (text : List ℕ) × IsReplayed n t run.old text × Writes (S.taken sink.old) (S.taken sink.new) text))) }
     ensures going { OnOk result (S.failed sink.old ≡ false → S.failed sink.new ≡ false) }
     ensures err { IfErr result (λ e. (e ≡ fault_at 900 places.None)
-        ⊎ (ReadFails (N.left network.old) (N.failed network.new) e
-        ⊎ (ReadFails (T.left traffic.old) (T.failed traffic.new) e
+        ⊎ (ReadFails (N.left network.old) (N.calls network.old) (N.calls network.new) (N.failed network.new) e
+        ⊎ (ReadFails (T.left traffic.old) (T.calls traffic.old) (T.calls traffic.new) (T.failed traffic.new) e
         ⊎ (Fails run.old run.new e
         ⊎ (((e ≡ fault_at 902 places.None) × (S.failed sink.new ≡ true))
-        ⊎ IfSome (N.left network.old) (λ n. IfSome (T.left traffic.old) (λ t. IsRefusedReplay n t run.old e))))))) }
+        ⊎ MayHaveLeft (N.left network.old) (λ n. MayHaveLeft (T.left traffic.old) (λ t. IsRefusedReplay n t run.old e))))))) }
     ensures told { IfOk result (λ answer. (text : List ℕ)
         × IsReplayText answer text × Writes (S.taken sink.old) (S.taken sink.new) text) }
     ensures order { IfSome (N.left network.old) (λ n. (e : Fault)

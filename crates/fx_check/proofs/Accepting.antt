@@ -13,7 +13,6 @@ use Rattle.fx_machine.specs.Network.{Net}
 use Rattle.fx_machine.specs.Ranks.{IsNetwork}
 use Rattle.fx_leaf.proofs.Headline as headline
 use Rattle.fx_check.specs.Judging.{Judge, judge_of}
-use Rattle.fx_check.specs.Outcomes.{Accepted}
 use Rattle.fx_traffic.specs.Targets.{targets_of, AreRegions}
 use Rattle.fx_check.specs.Verdict.{Goal, Line, Reading, long, cut, says, said, reading_of, after_reading, made_after, goes_on, first_refusal, whole, line_limit}
 use Rattle.fx_check.specs.Certificates.{IsCertificate, IsShallow, IsWritable, item_line, certificate_items, sizes, in_a_row}
@@ -104,11 +103,5 @@ certificate_all net classes n ls is_net rs c =
 pub certified_once : (net : Net) (classes : List Class) (ls : List Line) → IsNetwork net → IsCertificate net classes ls → ExactlyOnce net classes
 certified_once net classes ls is_net c = headline.exactly_once net classes c.trees is_net c.sound
 
-pub accepted_once : (net : Net) (classes : List Class) → IsNetwork net → AreRegions (targets_of classes) → Accepted net (targets_of classes) → ExactlyOnce net classes
-accepted_once net classes is_net rs a = certified_once net classes a.lines is_net (certificate_only net classes a.before a.lines is_net rs a.none)
-
 pub certified_modulo : (net : Net) (classes : List Class) (ls : List Line) → IsNetwork net → IsCertificate net classes ls → OnceModulo net classes
 certified_modulo net classes ls is_net c = headline.once_modulo net classes c.trees is_net c.sound
-
-pub accepted_modulo : (net : Net) (classes : List Class) → IsNetwork net → AreRegions (targets_of classes) → Accepted net (targets_of classes) → OnceModulo net classes
-accepted_modulo net classes is_net rs a = certified_modulo net classes a.lines is_net (certificate_only net classes a.before a.lines is_net rs a.none)

@@ -2,6 +2,7 @@
 use Rattle.std.specs.Prelude.{◌≡◌, ℕ, ◌≤◌, ◌⊎◌, List, Option, Some, None}
 use Rattle.fx_base.specs.declared.fault.Fault.{Fault}
 use Rattle.fx_base.specs.declared.fault.Place.TheVariants as places
+use Rattle.fx_base.specs.Device.{MayBeLeft, MayHaveLeft}
 use Rattle.fx_base.specs.Fault.{fault_at}
 use Rattle.fx_base.specs.Lines.{Lines, text_lines}
 use Rattle.fx_machine.specs.Classes.{Class}
@@ -9,32 +10,44 @@ use Rattle.fx_machine.specs.Network.{Net}
 use Rattle.fx_machine.specs.RunReading.{Fails}
 use Rattle.fx_traffic.specs.Targets.{Target}
 use Rattle.fx_check.specs.Certificates.{IsCertificate}
-use Rattle.fx_check.specs.Judging.{judge_of}
-use Rattle.fx_check.specs.Verdict.{Line, Refusal, whole, first_refusal, refusal_in}
-
--- the first refusal of a certificate for the targets, where the reader tells its bytes
-abbrev pub refusal_of : Net → List Target → Lines → Option (Option Refusal)
-refusal_of net targets lines = refusal_in (judge_of net) lines 0 (whole targets)
+use Rattle.fx_check.specs.Judging.{Judge, judge_of}
+use Rattle.fx_check.specs.Verdict.{Goal, Refusal, whole, first_refusal}
 
 -- the reader goes on behind the refused line, unless it was the reader that refused a line that is too long
 abbrev pub StandsBehind : Lines → Refusal → Type 0
 StandsBehind lines r =
-    ((r.fault.number ≡ 903) × (lines.stopped ≡ Some r.fault)) ⊎ ((lines.stopped ≡ None) × (lines.number ≡ r.last) × ((text : List ℕ) × (lines.left ≡ Some text) × (text_lines text ≡ r.behind)))
+    ((r.fault.number ≡ 903) × (lines.stopped ≡ Some r.fault)) ⊎ ((lines.stopped ≡ None) × (lines.number ≡ r.last) × MayHaveLeft lines.left (λ text. text_lines text ≡ r.behind))
 
 abbrev pub IsRefusal : Fault → Lines → Option Refusal → Type 0
 IsRefusal e lines None = ⊥
 IsRefusal e lines (Some r) = (e ≡ r.fault) × StandsBehind lines r
 
--- some lines were accepted
-pub record Accepted (net : Net) (targets : List Target) : Type 0 where
-  pub before : ℕ
-  pub lines : List Line
-  pub none : first_refusal (judge_of net) before 0 (whole targets) lines ≡ None
+-- a text that the reader may have left has no refusal, as a certificate for the targets
+abbrev pub MayBeAccepted : Net → List Target → Lines → Type 0
+MayBeAccepted net targets lines =
+    MayHaveLeft lines.left (λ text. first_refusal (judge_of net) lines.number 0 (whole targets) (text_lines text) ≡ None)
+
+-- a text that it may have left is that of a certificate for the classes
+abbrev pub MayBeCertificate : Net → List Class → Lines → Type 0
+MayBeCertificate net classes lines = MayHaveLeft lines.left (λ text. IsCertificate net classes (text_lines text))
+
+-- a text that it may have left has this fault as its first refusal, and the reader goes on from there
+abbrev pub MayBeRefused : Net → List Target → Lines → Lines → Fault → Type 0
+MayBeRefused net targets old new e =
+    MayHaveLeft old.left (λ text. IsRefusal e new (first_refusal (judge_of net) old.number 0 (whole targets) (text_lines text)))
 
 -- where a certificate's text is told, it fails for want of memory, before a line is read, or as its reader does
 abbrev pub Accepts : Net → List Class → Lines → Lines → Fault → Type 0
 Accepts net classes old new e =
     (text : List ℕ) → old.left ≡ Some text → IsCertificate net classes (text_lines text) → ((e ≡ fault_at 900 places.None) × (new ≡ old)) ⊎ Fails old new e
+
+-- ---- on the way
+
+-- whatever is left now, its first refusal, where this is still to say, is that of a text that may have been left at first
+abbrev pub Continues : Judge → Lines → List Goal → Lines → ℕ → List Goal → Type 0
+Continues judge first all now made gs =
+    (rest : List ℕ) → MayBeLeft now.left rest
+    → MayHaveLeft first.left (λ text. first_refusal judge first.number 0 all (text_lines text) ≡ first_refusal judge now.number made gs (text_lines rest))
 
 -- ---- numbers
 

@@ -1,10 +1,9 @@
 -- What a certificate still has to say, and the first of its lines that says something else.
 use Rattle.std.specs.Prelude.{ℕ, ◌+◌, ◌&&◌, ◌==◌, Bool, nat_lt, nat_le, if◌then◌else◌, List, [], ◌∷◌, length, Result, Ok, Err, Option, Some, None, slice_index}
-use Rattle.std.specs.Option.{option_map}
 use Rattle.fx_base.specs.declared.fault.Fault.{Fault}
 use Rattle.fx_base.specs.declared.fault.Place.TheVariants as places
 use Rattle.fx_base.specs.Fault.{fault_at}
-use Rattle.fx_base.specs.Lines.{Lines, text_lines, next_number}
+use Rattle.fx_base.specs.Lines.{next_number}
 use Rattle.fx_elements.specs.Axes.{axis_index}
 use Rattle.fx_boxes.specs.Boxes.{Bounds, below_part, above_part}
 use Rattle.fx_cert.specs.declared.item.Item.{Item}
@@ -151,7 +150,3 @@ abbrev pub first_refusal : Judge → ℕ → ℕ → List Goal → List Line →
 first_refusal judge n made gs [] = at_end n gs
 first_refusal judge n made gs (l ∷ ls) =
     goes_on (next_number n) ls (λ left. first_refusal judge (next_number n) (made_after made (reading_of l)) left ls) (after_reading judge made gs (reading_of l))
-
--- the first refusal of what a reader of lines has left, where it tells its bytes
-abbrev pub refusal_in : Judge → Lines → ℕ → List Goal → Option (Option Refusal)
-refusal_in judge lines made gs = option_map (λ text. first_refusal judge lines.number made gs (text_lines text)) lines.left

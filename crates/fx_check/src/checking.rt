@@ -1,14 +1,12 @@
 //! Checking a certificate, line by line.
-ghost use Rattle.std.specs.Prelude.{◌≡◌, ◌⊎◌, ◌≤◌, None, IfErr, OnOk, IfSome, length};
+ghost use Rattle.std.specs.Prelude.{◌≡◌, ◌⊎◌, ◌≤◌, IfErr, OnOk, length};
 ghost use Rattle.fx_base.specs.Fault.{fault_at};
-ghost use Rattle.fx_base.specs.Lines.{text_lines};
 ghost use Rattle.fx_base.specs.declared.fault.Place.TheVariants as places;
 ghost use Rattle.fx_leaf.specs.Tables.{AreTables};
 ghost use Rattle.fx_machine.specs.Claim.{ExactlyOnce, OnceModulo};
 ghost use Rattle.fx_machine.specs.RunReading.{Fails};
 ghost use Rattle.fx_plan.specs.Tables.{net_of};
-ghost use Rattle.fx_check.specs.Certificates.{IsCertificate};
-ghost use Rattle.fx_check.specs.Outcomes.{refusal_of, IsRefusal, IsToldBy, Accepted, Accepts};
+ghost use Rattle.fx_check.specs.Outcomes.{IsToldBy, Accepts, MayBeAccepted, MayBeCertificate, MayBeRefused};
 ghost use Rattle.fx_check.specs.Standing.{goals, IsStanding};
 ghost use Rattle.fx_traffic.specs.Targets.{AreRegions, targets_of};
 ghost use Rattle.fx_check.specs.Verdict.{whole};
@@ -34,9 +32,9 @@ fn take_lines<R: Source>(
     requires standing { IsStanding targets.now course.old }
     requires made { course.old.made ≡ 0 }
     requires goals { goals targets.now course.old ≡ whole targets.now }
-    ensures ok { OnOk result (IfSome (refusal_of tables.now.net targets.now lines.old) (λ r. r ≡ None)) }
-    ensures accepted { OnOk result (Accepted tables.now.net targets.now) }
-    ensures err { IfErr result (λ e. Fails lines.old lines.new e ⊎ IfSome (refusal_of tables.now.net targets.now lines.old) (IsRefusal e lines.new)) }
+    ensures ok { OnOk result (MayBeAccepted tables.now.net targets.now lines.old) }
+    ensures err { IfErr result (λ e. Fails lines.old lines.new e
+        ⊎ MayBeRefused tables.now.net targets.now lines.old lines.new e) }
     ensures numbers { IfErr result (IsToldBy lines.old) }
 {
     'lines: loop {
@@ -57,10 +55,11 @@ fn check_classes<R: Source>(
     lines: &mut LineReader<R>,
 ) -> Result<(), Fault>
     requires tables { AreTables tables.now }
-    ensures ok { OnOk result (IfSome (refusal_of tables.now.net (targets_of traffic.now) lines.old) (λ r. r ≡ None)) }
-    ensures accepted { OnOk result (Accepted tables.now.net (targets_of traffic.now)) }
+    ensures ok { OnOk result (MayBeAccepted tables.now.net (targets_of traffic.now) lines.old) }
     ensures regions { OnOk result (AreRegions (targets_of traffic.now)) }
-    ensures err { IfErr result (λ e. ((e ≡ fault_at 900 places.None) × (lines.new ≡ lines.old)) ⊎ (Fails lines.old lines.new e ⊎ IfSome (refusal_of tables.now.net (targets_of traffic.now) lines.old) (IsRefusal e lines.new))) }
+    ensures err { IfErr result (λ e. ((e ≡ fault_at 900 places.None) × (lines.new ≡ lines.old))
+        ⊎ (Fails lines.old lines.new e
+        ⊎ MayBeRefused tables.now.net (targets_of traffic.now) lines.old lines.new e)) }
     ensures accepts { IfErr result (Accepts tables.now.net traffic.now lines.old lines.new) }
     ensures numbers { IfErr result (IsToldBy lines.old) }
 {
@@ -96,9 +95,11 @@ pub fn check<R: Source>(
     // However large the sums are, the totals are the plain sums modulo 2 to the 64.
     ensures modulo { OnOk result (OnceModulo (net_of plan.now) traffic.now) }
     // The text is that of a sound certificate.
-    ensures certificate { OnOk result (IfSome lines.old.left (λ text. IsCertificate (net_of plan.now) traffic.now (text_lines text))) }
-    ensures ok { OnOk result (IfSome (refusal_of (net_of plan.now) (targets_of traffic.now) lines.old) (λ r. r ≡ None)) }
-    ensures err { IfErr result (λ e. ((e ≡ fault_at 900 places.None) × (lines.new ≡ lines.old)) ⊎ (Fails lines.old lines.new e ⊎ IfSome (refusal_of (net_of plan.now) (targets_of traffic.now) lines.old) (IsRefusal e lines.new))) }
+    ensures certificate { OnOk result (MayBeCertificate (net_of plan.now) traffic.now lines.old) }
+    ensures ok { OnOk result (MayBeAccepted (net_of plan.now) (targets_of traffic.now) lines.old) }
+    ensures err { IfErr result (λ e. ((e ≡ fault_at 900 places.None) × (lines.new ≡ lines.old))
+        ⊎ (Fails lines.old lines.new e
+        ⊎ MayBeRefused (net_of plan.now) (targets_of traffic.now) lines.old lines.new e)) }
     // No such certificate is refused: where its text is told, only want of memory or a read that failed stops it.
     ensures accepts { IfErr result (Accepts (net_of plan.now) traffic.now lines.old lines.new) }
     // Whatever the reader tells of its bytes: 900 or 901, 903 at a line, or 401 to 414 at a line.

@@ -1,12 +1,13 @@
 -- How the text of a run is read.
-use Rattle.std.specs.Prelude.{◌≡◌, ℕ, ◌^◌, Bool, true, false, ◌==◌, ◌&&◌, ◌⊎◌, nat_lt, is_some, if◌then◌else◌, List, [], ◌∷◌, ◌++◌, length, codes, Option, Some, None, Result, Ok, Err}
+use Rattle.std.specs.Prelude.{◌≡◌, ℕ, Bool, true, false, ◌==◌, ◌&&◌, ◌⊎◌, nat_lt, is_some, if◌then◌else◌, List, [], ◌∷◌, ◌++◌, length, codes, Option, Some, None, Result, Ok, Err}
 use Rattle.std.specs.Option.{option_map}
 use Rattle.std.specs.List.{slice_split}
 use Rattle.std.specs.Str.{bytes_eq}
 use Rattle.fx_base.specs.declared.fault.Fault.{Fault}
 use Rattle.fx_base.specs.declared.fault.Place.TheVariants as places
 use Rattle.fx_base.specs.Fault.{fault_at}
-use Rattle.fx_base.specs.Lines.{Lines, text_lines, next_number}
+use Rattle.fx_base.specs.Device.{MayBeLeft, MayHaveLeft}
+use Rattle.fx_base.specs.Lines.{Lines, IsCutOff, text_lines, next_number}
 use Rattle.fx_elements.specs.declared.axis.Axis.{Axis}
 use Rattle.fx_elements.specs.declared.axis.Axis.TheVariants.{Source, Destination, Protocol, SourcePort, DestinationPort, ClassOfService}
 use Rattle.fx_elements.specs.Axes.{Fields}
@@ -226,17 +227,35 @@ reading classes n (l ∷ ls) =
     else if l.1 && bytes_eq l.0 (codes "once-run 1") then behind classes (next_number n) no_run ls
     else Err (at_line 854 (next_number n))
 
--- what reading comes to, where the reader of lines tells its bytes
-abbrev pub run_reading : List Class → Lines → Option (Result Run Fault)
-run_reading classes lines = option_map (λ text. reading classes lines.number (text_lines text)) lines.left
+-- what reading comes to, of a text that the reader of lines may have left
+abbrev pub MayRead : List Class → Lines → Result Run Fault → Type 0
+MayRead classes lines result = MayHaveLeft lines.left (λ text. reading classes lines.number (text_lines text) ≡ result)
 
-abbrev pub behind_reading : List Class → Lines → Run → Option (Result Run Fault)
-behind_reading classes lines run = option_map (λ text. behind classes lines.number run (text_lines text)) lines.left
+-- the same of a reader that is behind the first line and has read so much of a run, and of one that is behind the last
+abbrev pub MayReadBehind : List Class → Lines → Run → Result Run Fault → Type 0
+MayReadBehind classes lines run result = MayHaveLeft lines.left (λ text. behind classes lines.number run (text_lines text) ≡ result)
 
--- the same behind a line that was read
-abbrev pub line_reading : List Class → Lines → Run → Result RunLine ℕ → Option (Result Run Fault)
-line_reading classes lines run x = option_map (λ text. from_line classes lines.number run x (text_lines text) (λ r. behind classes lines.number r (text_lines text))) lines.left
+abbrev pub MayEnd : Lines → Run → Result Run Fault → Type 0
+MayEnd lines run result = MayHaveLeft lines.left (λ text. ended lines.number run (text_lines text) ≡ result)
+
+-- whatever is left behind the first line, reading it is reading a text that may have been left before it
+abbrev pub ReadsFirst : Lines → Lines → Type 0
+ReadsFirst old new =
+    (rest : List ℕ) → MayBeLeft new.left rest
+    → MayHaveLeft old.left (λ text. (classes : List Class) → reading classes old.number (text_lines text) ≡ behind classes new.number no_run (text_lines rest))
+
+-- the same of a later line, which says this
+abbrev pub ReadsNext : Lines → Lines → RunLine → Type 0
+ReadsNext old new x =
+    (rest : List ℕ) → MayBeLeft new.left rest
+    → MayHaveLeft old.left (λ text. (classes : List Class) (run : Run) → behind classes old.number run (text_lines text) ≡ from_line classes new.number run (Ok x) (text_lines rest) (λ r. behind classes new.number r (text_lines rest)))
+
+-- the same of the first line and later ones, which said so much of a run
+abbrev pub ReadsOn : List Class → Lines → Lines → Run → Type 0
+ReadsOn classes old new run =
+    (rest : List ℕ) → MayBeLeft new.left rest
+    → MayHaveLeft old.left (λ text. reading classes old.number (text_lines text) ≡ behind classes new.number run (text_lines rest))
 
 -- the reader has stopped before, its device failed, or its device doesn't end
 abbrev pub Fails : Lines → Lines → Fault → Type 0
-Fails old new e = (old.stopped ≡ Some e) ⊎ ((e ≡ fault_at 901 places.None) × ((new.failed ≡ true) ⊎ (new.calls ≡ 2 ^ 32)))
+Fails old new e = (old.stopped ≡ Some e) ⊎ ((e ≡ fault_at 901 places.None) × IsCutOff old new)

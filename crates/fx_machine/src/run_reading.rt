@@ -1,11 +1,11 @@
 //! Reading the text of a run.
-ghost use Rattle.std.specs.Prelude.{◌≡◌, ◌⊎◌, ◌<◌, ℕ, List, Ok, Err, None, Some, IfOk, IfErr, OnOk, OnErr, IfSome};
+ghost use Rattle.std.specs.Prelude.{◌≡◌, ◌⊎◌, ◌<◌, ℕ, List, Ok, Err, None, IfOk, IfErr, OnOk};
 ghost use Rattle.fx_base.specs.Fault.{fault_at};
-ghost use Rattle.fx_base.specs.Lines.{text_lines, budget};
+ghost use Rattle.fx_base.specs.Lines.{GoesOn, text_lines, budget};
 ghost use Rattle.fx_base.specs.declared.fault.Place.TheVariants as places;
 ghost use Rattle.fx_machine.specs.Classes.{Class};
 ghost use Rattle.fx_machine.specs.RunText.{Run, run_text, run_lines, IsRun, AreShort};
-ghost use Rattle.fx_machine.specs.RunReading.{no_run, reading, run_reading, behind_reading, line_reading, Fails};
+ghost use Rattle.fx_machine.specs.RunReading.{reading, MayEnd, MayRead, MayReadBehind, ReadsFirst, ReadsNext, Fails};
 
 use crate::run::Run;
 use crate::run_line::{RunLine, read_run_line};
@@ -17,8 +17,10 @@ use std::alloc::Global;
 /// Goes past the first line.
 fn read_first<R: Source>(lines: &mut LineReader<R>) -> Result<(), Fault>
     ensures going { OnOk result (lines.new.stopped ≡ None) }
-    ensures ok { OnOk result ((classes : List Class) → run_reading classes lines.old ≡ behind_reading classes lines.new no_run) }
-    ensures err { IfErr result (λ e. Fails lines.old lines.new e ⊎ ((classes : List Class) → IfSome (run_reading classes lines.old) (λ r. r ≡ Err e))) }
+    ensures on { OnOk result (GoesOn lines.old lines.new) }
+    ensures ok { OnOk result (ReadsFirst lines.old lines.new) }
+    ensures err { IfErr result (λ e. Fails lines.old lines.new e
+        ⊎ ((classes : List Class) → MayRead classes lines.old (Err e))) }
 {
     if !lines.advance()? {
         return Err(Fault::at_line(855, lines.number().saturating_add(1)));
@@ -35,9 +37,11 @@ fn read_first<R: Source>(lines: &mut LineReader<R>) -> Result<(), Fault>
 fn read_next<R: Source>(alloc: Global, lines: &mut LineReader<R>) -> Result<RunLine, Fault>
     requires { lines.old.stopped ≡ None }
     ensures going { OnOk result (lines.new.stopped ≡ None) }
-    ensures ok { IfOk result (λ x. (classes : List Class) (run : Run) → behind_reading classes lines.old run ≡ line_reading classes lines.new run (Ok x)) }
+    ensures on { OnOk result (GoesOn lines.old lines.new) }
+    ensures ok { IfOk result (λ x. ReadsNext lines.old lines.new x) }
     ensures smaller { OnOk result (budget lines.new < budget lines.old) }
-    ensures err { IfErr result (λ e. (e ≡ fault_at 900 places.None) ⊎ (Fails lines.old lines.new e ⊎ ((classes : List Class) (run : Run) → IfSome (behind_reading classes lines.old run) (λ r. r ≡ Err e)))) }
+    ensures err { IfErr result (λ e. (e ≡ fault_at 900 places.None) ⊎ (Fails lines.old lines.new e
+        ⊎ ((classes : List Class) (run : Run) → MayReadBehind classes lines.old run (Err e)))) }
 {
     if !lines.advance()? {
         return Err(Fault::at_line(855, lines.number().saturating_add(1)));
@@ -55,8 +59,8 @@ fn read_next<R: Source>(alloc: Global, lines: &mut LineReader<R>) -> Result<RunL
 /// Goes past the text's end, which comes behind the last line.
 fn read_end<R: Source>(lines: &mut LineReader<R>) -> Result<(), Fault>
     requires { lines.old.stopped ≡ None }
-    ensures ok { OnOk result ((classes : List Class) (run : Run) → IfSome (line_reading classes lines.old run (Ok RunLine.End)) (λ r. r ≡ Ok run)) }
-    ensures err { IfErr result (λ e. Fails lines.old lines.new e ⊎ ((classes : List Class) (run : Run) → IfSome (line_reading classes lines.old run (Ok RunLine.End)) (λ r. r ≡ Err e))) }
+    ensures ok { OnOk result ((run : Run) → MayEnd lines.old run (Ok run)) }
+    ensures err { IfErr result (λ e. Fails lines.old lines.new e ⊎ ((run : Run) → MayEnd lines.old run (Err e))) }
 {
     if lines.advance()? {
         return Err(Fault::at_line(855, lines.number()));
@@ -82,8 +86,9 @@ pub fn read_run<R: Source>(
     classes: &Classes,
     lines: &mut LineReader<R>,
 ) -> Result<Run, Fault>
-    ensures ok { IfOk result (λ run. IfSome (run_reading classes.now lines.old) (λ r. r ≡ Ok run)) }
-    ensures err { IfErr result (λ e. (e ≡ fault_at 900 places.None) ⊎ (Fails lines.old lines.new e ⊎ IfSome (run_reading classes.now lines.old) (λ r. r ≡ Err e))) }
+    ensures ok { IfOk result (λ run. MayRead classes.now lines.old (Ok run)) }
+    ensures err { IfErr result (λ e. (e ≡ fault_at 900 places.None)
+        ⊎ (Fails lines.old lines.new e ⊎ MayRead classes.now lines.old (Err e))) }
 {
     read_first(lines)?;
     let mut run = Run::new(alloc);

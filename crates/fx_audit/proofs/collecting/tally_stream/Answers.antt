@@ -1,11 +1,12 @@
-use Rattle.std.proofs.Common.{rules, ◌≤◌, arith, inl, inr, length, take}
+use Rattle.std.proofs.Common.{rules, ◌≡◌, ◌^◌, ◌≤◌, arith, refl, inl, inr, length, take}
 use Rattle.std.proofs.lemmas.List.{length-take}
+use Rattle.fx_base.proofs.Asked.{asked_then, asked_so_often}
 use Rattle.fx_audit.proofs.Streams.{begun, piece_refused, read_further, read_out, read_too_long, still_faultless}
 use Rattle.fx_audit.proofs.Documents.{exit_with}
 use Rattle.fx_audit.proofs.collecting.tally_stream.Goals as goal
 
 pub loop-call-init : goal.loop-call-init
-loop-call-init g c = record { read = begun _ _ _ c.requires; room = search rules }
+loop-call-init g c = record { read = begun _ _ _ c.requires; room = search rules; asked = refl }
 
 pub returns-then-n-eq0-clause-ok : goal.returns-then-n-eq0-clause-ok
 returns-then-n-eq0-clause-ok g c = read_out _ _ _ _ _ _ _ _ _ c.loop-call.invariant.read (omega (arith, c.loop-call.invariant.room)) (rw c.if-n-eq0.true at c.in_ok-n.ensures.octets)
@@ -24,8 +25,10 @@ loop-call-preserved g c =
     record {
       read = read_further _ _ _ _ _ _ _ _ _ _ c.in_ok-n.n piece c.loop-call.invariant.read c.in_ok-n.ensures.octets some c.in_ok-take_piece.ensures.session c.in_ok-take_piece.ensures.faultless c.in_ok-take_piece.ensures.totals;
       room = search rules;
+      asked = asked_then _ _ _ _ 1 c.loop-call.invariant.asked c.read.ensures.asked;
     }
 
 pub returns-clause-err : goal.returns-clause-err
 returns-clause-err g c =
-    inr (inl (c.bare.ensures, inr (read_too_long _ _ _ _ _ _ 4294967296 c.loop-call.invariant.read (omega (arith, c.loop-call-test.false)))))
+    let all : c.loop-call._call ≡ 2 ^ 32 = search rules in
+    inr (inl (c.bare.ensures, inr (asked_so_often _ _ _ _ all c.loop-call.invariant.asked, read_too_long _ _ _ _ _ _ 4294967296 c.loop-call.invariant.read (omega (arith, c.loop-call-test.false)))))

@@ -4,11 +4,11 @@ use Rattle.fx_check.proofs.checking.check.Goals as goal
 
 pub returns-clause-once : goal.returns-clause-once
 returns-clause-once g c =
-    once c.tables_of-tables.result.net (net_of c.args.plan.now) c.args.traffic.now c.tables_of-tables.ensures.net c.check_classes.result c.tables_of-tables.ensures.tables.network c.check_classes.ensures.regions c.check_classes.ensures.accepted
+    once c.tables_of-tables.result.net (net_of c.args.plan.now) c.args.traffic.now c.args.lines.now c.tables_of-tables.ensures.net c.tables_of-tables.ensures.tables.network c.check_classes.result c.check_classes.ensures.regions c.check_classes.ensures.ok
 
 pub returns-clause-modulo : goal.returns-clause-modulo
 returns-clause-modulo g c =
-    modulo c.tables_of-tables.result.net (net_of c.args.plan.now) c.args.traffic.now c.tables_of-tables.ensures.net c.check_classes.result c.tables_of-tables.ensures.tables.network c.check_classes.ensures.regions c.check_classes.ensures.accepted
+    modulo c.tables_of-tables.result.net (net_of c.args.plan.now) c.args.traffic.now c.args.lines.now c.tables_of-tables.ensures.net c.tables_of-tables.ensures.tables.network c.check_classes.result c.check_classes.ensures.regions c.check_classes.ensures.ok
 
 pub returns-clause-certificate : goal.returns-clause-certificate
 returns-clause-certificate g c =

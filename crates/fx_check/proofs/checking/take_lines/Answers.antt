@@ -1,17 +1,17 @@
-use Rattle.std.proofs.Common.{[], sym, ◌∙◌, inr}
+use Rattle.std.proofs.Common.{◌≡◌, ℕ, Some, [], sym, ap, ◌∙◌, inr, subst}
 use Rattle.std.proofs.lemmas.Result.{err_from_is_err_and}
 use Rattle.fx_check.specs.Judging.{judge_of}
-use Rattle.fx_check.specs.Outcomes.{Accepted}
 use Rattle.fx_check.specs.Standing.{goals}
-use Rattle.fx_check.specs.Verdict.{after_reading, made_after, reading_of}
-use Rattle.fx_check.proofs.Going.{reads_on, accepts_on, reader_refuses_all, ok_gives, err_gives, at_line_of, lent_line}
+use Rattle.fx_check.specs.Verdict.{after_reading, at_end, at_line, made_after, reading_of, whole}
+use Rattle.fx_base.proofs.GoingOn.{goes_then, to_line}
+use Rattle.fx_check.proofs.Going.{reads_on, reader_refuses, refuses_line, ends_early, ends_well, ended_line, err_gives, ok_gives, at_end_of, at_line_of, lent_line}
 use Rattle.fx_check.proofs.Numbers.{line_fault, end_fault, reader_fault}
 use Rattle.fx_check.proofs.checking.take_lines.Goals as goal
 
 pub returns-in_err-advance-clause-err : goal.returns-in_err-advance-clause-err
 returns-in_err-advance-clause-err g c =
     let p = err_from_is_err_and c.from_residual.result c.from_residual.ensures.1 in
-    rw (p.1, p.2) (reader_refuses_all (judge_of c.args.tables.now.net) c.args.lines.now c.lines.lines c.advance.new.self c.lines.course.made (goals c.args.targets.now c.lines.course) _ _ c.lines.invariant.stopped c.lines.invariant.told c.in_err-advance.ensures)
+    rw (p.1, p.2) (reader_refuses (judge_of c.args.tables.now.net) c.args.lines.now c.lines.lines c.advance.new.self (whole c.args.targets.now) (goals c.args.targets.now c.lines.course) c.lines.course.made _ c.lines.invariant.reads c.lines.invariant.on c.lines.invariant.stopped c.in_err-advance.ensures)
 
 pub returns-in_err-advance-clause-numbers : goal.returns-in_err-advance-clause-numbers
 returns-in_err-advance-clause-numbers g c =
@@ -26,9 +26,6 @@ pub returns-in-Err-clause-numbers : goal.returns-in-Err-clause-numbers
 returns-in-Err-clause-numbers g c =
     inr (rw c.at_line.ensures (line_fault c.args.tables.now.net c.lines.course.made (goals c.args.targets.now c.lines.course) (reading_of (c.line.result.bytes.now, c.line.result.ended)) c.in-Err.number _ c.in-Err.ensures.after))
 
-pub returns-then-not-branch-clause-accepted : goal.returns-then-not-branch-clause-accepted
-returns-then-not-branch-clause-accepted g c = ok_gives c.end.result c.end.ensures.ok (λ h. c.lines.invariant.accepted [] (h c.lines.lines.number))
-
 pub lines-preserved : goal.lines-preserved
 lines-preserved g c =
     let at = at_line_of c.lines.lines c.advance.new.self c.in_ok-advance.field-0 c.in_ok-advance.ensures c.if-not-branch.false in
@@ -40,6 +37,25 @@ lines-preserved g c =
       room = rw c.take.ensures.size c.lines.invariant.room;
       standing = c.in_default.ensures.standing;
       stopped = λ e. λ h. absurd (let n = at.going.1 in cc);
-      told = reads_on judge c.lines.lines c.advance.new.self c.lines.course.made c.take.new.self.made gs (goals c.args.targets.now c.take.new.self) at after made ∙ c.lines.invariant.told;
-      accepted = accepts_on judge c.lines.lines c.advance.new.self c.lines.course.made c.take.new.self.made gs (goals c.args.targets.now c.take.new.self) (Accepted c.args.tables.now.net c.args.targets.now) at after made c.lines.invariant.accepted;
+      on = goes_then c.args.lines.now c.lines.lines c.advance.new.self c.lines.invariant.on (to_line c.lines.lines c.advance.new.self at (ended_line judge c.lines.course.made gs _ (c.advance.new.self.line, c.advance.new.self.ended) after));
+      reads = reads_on judge c.args.lines.now c.lines.lines c.advance.new.self (whole c.args.targets.now) gs (goals c.args.targets.now c.take.new.self) c.lines.course.made c.take.new.self.made c.lines.invariant.reads at after made;
     }
+
+pub returns-then-not-branch-clause-ok : goal.returns-then-not-branch-clause-ok
+returns-then-not-branch-clause-ok g c =
+    let at = at_end_of c.lines.lines c.advance.new.self c.in_ok-advance.field-0 c.in_ok-advance.ensures c.if-not-branch.true in
+    ok_gives c.end.result c.end.ensures.ok (λ none. ends_well (judge_of c.args.tables.now.net) c.args.lines.now c.lines.lines c.advance.new.self (whole c.args.targets.now) (goals c.args.targets.now c.lines.course) c.lines.course.made c.lines.invariant.reads at (none c.lines.lines.number))
+
+pub returns-then-not-branch-clause-err : goal.returns-then-not-branch-clause-err
+returns-then-not-branch-clause-err g c =
+    let at = at_end_of c.lines.lines c.advance.new.self c.in_ok-advance.field-0 c.in_ok-advance.ensures c.if-not-branch.true in
+    err_gives c.end.result c.end.ensures.err (λ e early. inr (ends_early (judge_of c.args.tables.now.net) c.args.lines.now c.lines.lines c.advance.new.self (whole c.args.targets.now) (goals c.args.targets.now c.lines.course) c.lines.course.made e c.lines.invariant.reads at (subst (λ (n : ℕ). at_end n (goals c.args.targets.now c.lines.course) ≡ Some (record { fault = e; last = n; behind = [] })) c.number.ensures early)))
+
+pub returns-in-Err-clause-err : goal.returns-in-Err-clause-err
+returns-in-Err-clause-err g c =
+    let new = c.advance.new.self in
+    let at = at_line_of c.lines.lines new c.in_ok-advance.field-0 c.in_ok-advance.ensures c.if-not-branch.false in
+    let judge = judge_of c.args.tables.now.net in
+    let gs = goals c.args.targets.now c.lines.course in
+    let wrong = lent_line (λ l. after_reading judge c.lines.course.made gs (reading_of l)) new c.line.result.bytes.now c.line.result.ended c.line.ensures.bytes c.line.ensures.ended ∙ c.in-Err.ensures.after in
+    inr (refuses_line judge c.args.lines.now c.lines.lines new (whole c.args.targets.now) gs c.lines.course.made c.in-Err.number c.at_line.result c.lines.invariant.reads at wrong (c.at_line.ensures ∙ ap (at_line c.in-Err.number) c.number-in-Err.ensures))
