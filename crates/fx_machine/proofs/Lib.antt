@@ -5,6 +5,9 @@ pub mod Crossings
 pub mod Stepping
 pub mod Choosing
 pub mod Running
+pub mod Leaving
+pub mod Emptying
+pub mod Completing
 pub mod Rows
 pub mod RunWords
 pub mod RunWordTexts

@@ -65,7 +65,7 @@ taken_back rss n r now old new e lt o is =
     let P : List (List Record) → Type 0 = λ xss. n < length xss → old ≡ get_or xss n old → set xss n new ≡ rss in
     subst P (sym e) (λ l. λ q. ap (set (put_last rss n r) n) (is ∙ ap (λ (x : List Record). take (length x - 1) x) q) ∙ put_and_taken rss n r old l) lt o
 
-length_put_last : (rss : List (List Record)) (n : ℕ) (r : Record) → length (put_last rss n r) ≡ length rss
+pub length_put_last : (rss : List (List Record)) (n : ℕ) (r : Record) → length (put_last rss n r) ≡ length rss
 length_put_last [] n r = refl
 length_put_last (rs ∷ rss) zero r = refl
 length_put_last (rs ∷ rss) (suc n) r = ap suc (length_put_last rss n r)

@@ -7,7 +7,7 @@ use Rattle.fx_machine.specs.Classes.{Class}
 use Rattle.fx_machine.specs.States.{State}
 use Rattle.fx_machine.specs.Acts.{Outcome}
 use Rattle.fx_machine.specs.Steps.{after, run, then_run}
-use Rattle.fx_machine.specs.Moves.{Moves, Runs, ended, moved}
+use Rattle.fx_machine.specs.Moves.{Runs, ended, moved}
 use Rattle.fx_machine.proofs.Choosing.{step_is_move, move_is_step}
 
 module _ (net : Net) (classes : List Class) (packets : List Packet) where
@@ -25,3 +25,8 @@ module _ (net : Net) (classes : List Class) (packets : List Packet) where
       go : (o : Outcome) → after net classes packets step s ≡ o → then_run o (run net classes packets steps) ≡ Ok final → ((next : State) → run net classes packets steps next ≡ Ok final → Runs net classes packets next final) → Runs net classes packets s final
       go (Err n) is h behind = absurd (cc)
       go (Ok next) is h behind = moved s next final (step_is_move net classes packets step s next is) (behind next h)
+
+  -- a run goes on from where another ended
+  pub runs_on : (s mid final : State) → Runs net classes packets s mid → Runs net classes packets mid final → Runs net classes packets s final
+  runs_on _ _ final (ended s mid same) more = subst (λ (x : State). Runs net classes packets x final) (sym same) more
+  runs_on _ _ final (moved s next mid move rest) more = moved s next final move (runs_on next mid final rest more)

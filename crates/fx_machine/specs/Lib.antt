@@ -8,6 +8,8 @@ pub mod Moves
 pub mod Sums
 pub mod Claim
 pub mod Ranks
+pub mod Runnable
+pub mod CompleteRun
 pub mod Orders
 pub mod Matches
 pub mod Places

@@ -1,8 +1,11 @@
 //! Laws of the steps.
 ghost use Rattle.std.specs.Prelude.{◌≡◌, List, Ok};
 ghost use Rattle.fx_machine.specs.Classes as traffic;
+ghost use Rattle.fx_machine.specs.CompleteRun as complete_run;
 ghost use Rattle.fx_machine.specs.Moves as moves;
 ghost use Rattle.fx_machine.specs.Network as network;
+ghost use Rattle.fx_machine.specs.Ranks as ranks;
+ghost use Rattle.fx_machine.specs.Runnable as runnable;
 ghost use Rattle.fx_machine.specs.States as states;
 ghost use Rattle.fx_machine.specs.Steps as steps;
 ghost use Rattle.fx_machine.specs.declared.packet.Packet as of_packet;
@@ -26,4 +29,13 @@ pub fn choices_are_free()
         (s : states.State) (last : states.State)
         → moves.Runs net classes packets s last
         → (written : List of_step.Step) × (steps.run net classes packets written s ≡ Ok last) }
+{}
+
+/// What is said of every complete run isn't said of nothing: where records only go forward and none is
+/// stuck, there is a complete run over any packets.
+pub fn complete_runs_exist()
+    ensures exist { (net : network.Net) (classes : List traffic.Class)
+        (packets : List of_packet.Packet)
+        → ranks.IsRanked net → runnable.IsRunnable net
+        → complete_run.HasCompleteRun net classes packets }
 {}

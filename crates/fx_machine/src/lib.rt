@@ -31,7 +31,7 @@ pub use aggregation::{Aggregation, MatchEntry};
 pub use device::Device;
 pub use exporter::Exporter;
 pub use holder::Holder;
-pub use laws::choices_are_free;
+pub use laws::{choices_are_free, complete_runs_exist};
 pub use net::Net;
 pub use observation::{Occurrence, Point, Selection};
 pub use packet::Packet;

@@ -1,0 +1,13 @@
+-- Runs from the opening that end where nothing is left to do.
+use Rattle.std.specs.Prelude.{List}
+use Rattle.fx_machine.specs.declared.packet.Packet.{Packet}
+use Rattle.fx_machine.specs.Network.{Net}
+use Rattle.fx_machine.specs.Classes.{Class}
+use Rattle.fx_machine.specs.States.{State, opening, Complete}
+use Rattle.fx_machine.specs.Moves.{Runs}
+
+-- some run over the packets is complete
+pub record HasCompleteRun (net : Net) (classes : List Class) (packets : List Packet) : Type 0 where
+  pub final : State
+  pub runs : Runs net classes packets (opening net classes packets) final
+  pub complete : Complete final
