@@ -18,7 +18,7 @@ use Rattle.fx_machine.specs.Sums.{plain_sum, total_at, one_more, IsBelow, SumsFi
 use Rattle.fx_machine.specs.Claim.{CountsEachOnce, ExactlyOnce}
 use Rattle.fx_machine.proofs.Running.{runs_of}
 
-abbrev source : ℕ → Layout
+abbrev pub source : ℕ → Layout
 source bits = record { axis = Source; bits = bits } ∷ []
 
 -- a key of so many leading bits of the source
@@ -76,13 +76,16 @@ crossing path = record {
 abbrev pub customers : List Class
 customers = crossing (inwards ∷ [])
 
+abbrev pub first_packet : Packet
+first_packet = packet 167772161 1500
+
 -- from 10.0.0.1 and 10.0.0.2
 abbrev pub two : List Packet
-two = packet 167772161 1500 ∷ packet 167772162 60 ∷ []
+two = first_packet ∷ packet 167772162 60 ∷ []
 
 -- the first of them only
-abbrev one : List Packet
-one = packet 167772161 1500 ∷ []
+abbrev pub one : List Packet
+one = first_packet ∷ []
 
 abbrev pub cross_both : List Step → List Step
 cross_both steps = Cross 1 1 (None ∷ []) ∷ Cross 2 1 (None ∷ []) ∷ steps

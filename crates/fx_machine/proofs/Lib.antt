@@ -16,5 +16,6 @@ pub mod RunStepTexts
 pub mod RunTexts
 mod SumExamples
 pub mod ClaimExamples
+mod StuckExamples
 mod ChoiceExamples
 mod MeterExamples
