@@ -6,7 +6,7 @@ use Rattle.fx_base.specs.declared.counts.Counts.{Counts}
 use Rattle.fx_base.specs.Counts.{add_counts}
 use Rattle.fx_layout.specs.Keys.{Key, refines, project, same_key}
 use Rattle.fx_layout.proofs.Projections.{same_key_is}
-use Rattle.fx_machine.proofs.Lists.{put_last_past}
+use Rattle.fx_machine.proofs.Lists.{put_last_past, length_put_last}
 use Rattle.fx_machine.specs.declared.record.Record.{Record}
 use Rattle.fx_machine.specs.declared.packet.Packet.{Packet}
 use Rattle.fx_machine.specs.Network.{numbered, Exporter, Net}
@@ -19,7 +19,7 @@ use Rattle.fx_leaf.specs.declared.verdict.Fate.TheVariants.{Never, Once, Many, D
 use Rattle.fx_leaf.specs.Fates.{FateAt, all_happen, one_happens, process_fate, destination_fate, send_fate, held_fate, act_fate}
 use Rattle.fx_leaf.specs.Quantity.{Weight, Wrong, Nothing, Counted, plus, weigh_all, weigh_each, part_of, by_fate, key_of_act, act_weight, held_weight, carried_weight, coming_weight, total_weight, unassigned_weight, quantity_by}
 pub use Rattle.fx_leaf.specs.Laws.{IsSized}
-use Rattle.fx_leaf.proofs.Weights.{plus_assoc, plus_nothing, left_right, right_right, in_front, behind, weigh_last, weigh_replaced, weigh_each_set, weigh_put_last, length_put_last}
+use Rattle.fx_leaf.proofs.Weights.{plus_assoc, plus_nothing, left_right, right_right, in_front, behind, weigh_last, weigh_replaced, weigh_each_set, weigh_put_last}
 use Rattle.fx_leaf.proofs.FateLaws.{IsGood, good_of_weight, every_same, all_weighed, any_choice}
 use Rattle.fx_leaf.proofs.Totals.{add_at_total}
 

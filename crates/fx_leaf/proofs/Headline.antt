@@ -11,6 +11,7 @@ use Rattle.fx_machine.specs.Classes.{paths_of, path, IsOf, Class}
 use Rattle.fx_machine.specs.States.{State, opening, Complete}
 use Rattle.fx_machine.specs.Steps.{run}
 use Rattle.fx_machine.specs.Sums.{plain_sum, total_at, SumsFit}
+use Rattle.fx_machine.proofs.Lists.{length_nothing}
 use Rattle.fx_machine.proofs.Running.{steps_of}
 use Rattle.fx_machine.specs.Claim.{CountsEachOnce, wrapped, CountsEachModulo}
 use Rattle.fx_machine.specs.Ranks.{IsNetwork}
@@ -25,7 +26,7 @@ use Rattle.fx_leaf.proofs.Acts.{IsSized}
 use Rattle.fx_leaf.proofs.Steps.{run_keeps, step_keeps}
 use Rattle.fx_leaf.proofs.Ranks.{is_fate}
 use Rattle.fx_leaf.proofs.Trees.{sound_once}
-use Rattle.fx_leaf.proofs.Opening.{opens, empty_weighs, length_nothing, plain_weight, plain_weighs, plain_modulo, total_modulo, plain_not_wrong}
+use Rattle.fx_leaf.proofs.Opening.{opens, empty_weighs, plain_weight, plain_weighs, plain_modulo, total_modulo, plain_not_wrong}
 
 all_once : (net : Net) (classes : List Class) (packets : List Packet) → AllOnce net classes → All (λ p. IsOf p (numbered classes p.class)) packets → Every (λ p. packet_fate net p.fields (path classes p) ≡ Once) packets
 all_once net classes [] sound h = tt

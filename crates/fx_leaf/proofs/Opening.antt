@@ -1,5 +1,5 @@
 -- The quantity at the opening is the plain sums.
-use Rattle.std.proofs.Common.{◌≡◌, ◌≢◌, ℕ, suc, ◌+◌, ◌%◌, ◌^◌, true, false, cond, if◌then◌else◌, List, [], ◌∷◌, length, Option, Some, None, option_map, refl, sym, ap, ap₂, ◌∙◌, subst, arith, slice_get, mod-eq_of_lt, IfSome}
+use Rattle.std.proofs.Common.{◌≡◌, ◌≢◌, ℕ, suc, ◌+◌, ◌%◌, ◌^◌, true, false, cond, if◌then◌else◌, List, [], ◌∷◌, Option, Some, None, option_map, refl, sym, ap, ap₂, ◌∙◌, subst, arith, slice_get, mod-eq_of_lt, IfSome}
 use Rattle.std.proofs.Math.Nat.{mod-mod, add-mod-mod}
 use Rattle.fx_base.specs.declared.counts.Counts.{Counts}
 use Rattle.fx_layout.specs.Keys.{Key, Layout, key_of, same_key}
@@ -17,6 +17,7 @@ use Rattle.fx_machine.specs.Steps.{crossing_acts, one_packet, meet}
 use Rattle.fx_machine.specs.Sums.{plain_sum, one_more, IsBelow}
 use Rattle.fx_machine.specs.Claim.{wrapped}
 use Rattle.fx_machine.specs.Ranks.{IsNetwork}
+use Rattle.fx_machine.proofs.Lists.{nothing_empty}
 use Rattle.fx_leaf.specs.declared.verdict.Fate.TheVariants.{Once}
 use Rattle.fx_leaf.specs.Fates.{FateAt, act_fate, fate, acts_along, packet_fate}
 use Rattle.fx_leaf.specs.Quantity.{Weight, Wrong, Nothing, Counted, plus, weigh_all, weigh_each, part_of, by_fate, key_of_act, act_weight, held_weight, carried_weight, coming_weight, packet_weight, total_weight, wrapped_weight, quantity}
@@ -29,14 +30,6 @@ pub empty_weighs : (f : ℕ → List Record → Weight) (rss : List (List Record
 empty_weighs f [] h e = refl
 empty_weighs f ([] ∷ rss) h e = ap (λ w. plus w (weigh_each (λ n. f (suc n)) rss)) (h 0) ∙ empty_weighs (λ n. f (suc n)) rss (λ n. h (suc n)) e
 empty_weighs f ((r ∷ rs) ∷ rss) h e = absurd (cc)
-
-nothing_empty : {A : Type 0} (xs : List A) → all_empty (nothing_at xs) ≡ true
-nothing_empty [] = refl
-nothing_empty (x ∷ xs) = nothing_empty xs
-
-pub length_nothing : {A : Type 0} (xs : List A) → length (nothing_at xs) ≡ length xs
-length_nothing [] = refl
-length_nothing (x ∷ xs) = ap suc (length_nothing xs)
 
 -- the rest stands in the list from this place on
 abbrev StandsAt : {A : Type 0} → List A → ℕ → List A → Type 0

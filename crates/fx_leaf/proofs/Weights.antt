@@ -115,8 +115,3 @@ weigh_put_last f (rs ∷ rss) zero r w lt e =
     ap (λ v. plus v (weigh_each (λ k. f (suc k)) rss)) (e rs) ∙ in_front (f 0 rs) (weigh_each (λ k. f (suc k)) rss) w
 weigh_put_last f (rs ∷ rss) (suc n) r w lt e =
     ap (plus (f 0 rs)) (weigh_put_last (λ k. f (suc k)) rss n r w (le_of_suc-le-suc lt) e) ∙ behind (f 0 rs) (weigh_each (λ k. f (suc k)) rss) w
-
-pub length_put_last : (rss : List (List Record)) (n : ℕ) (r : Record) → length (put_last rss n r) ≡ length rss
-length_put_last [] n r = refl
-length_put_last (rs ∷ rss) zero r = refl
-length_put_last (rs ∷ rss) (suc n) r = ap suc (length_put_last rss n r)

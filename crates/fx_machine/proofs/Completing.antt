@@ -11,23 +11,16 @@ use Rattle.fx_machine.specs.declared.traffic.Crossing.{Crossing}
 use Rattle.fx_machine.specs.Network.{Net, Point, Device, numbered, points_of, layout_of}
 use Rattle.fx_machine.specs.Classes.{Class, path}
 use Rattle.fx_machine.specs.Occurrences.{selects, occurrence, met_by, watches, met_at, occurrences}
-use Rattle.fx_machine.specs.States.{State, Coming, crossings_from, coming_from, nothing_at, all_empty}
+use Rattle.fx_machine.specs.States.{State, Coming, crossings_from, coming_from, nothing_at}
 use Rattle.fx_machine.specs.Steps.{one_packet, crossing_acts, place, later}
 use Rattle.fx_machine.specs.Moves.{Runs, ended, moved, crosses}
 use Rattle.fx_machine.specs.Ranks.{IsRanked}
 use Rattle.fx_machine.specs.Runnable.{IsHolder, HasCaches, IsRunnable}
 use Rattle.fx_machine.specs.CompleteRun.{HasCompleteRun}
+use Rattle.fx_machine.proofs.Lists.{nothing_empty, length_nothing}
 use Rattle.fx_machine.proofs.Running.{runs_on}
 use Rattle.fx_machine.proofs.Leaving.{there}
 use Rattle.fx_machine.proofs.Emptying.{known_at, Empties, holds_empty, can_hold}
-
-nothing_empty : {A : Type 0} (xs : List A) → all_empty (nothing_at xs) ≡ true
-nothing_empty [] = refl
-nothing_empty (x ∷ xs) = nothing_empty xs
-
-length_nothing : {A : Type 0} (xs : List A) → length (nothing_at xs) ≡ length xs
-length_nothing [] = refl
-length_nothing (x ∷ xs) = ap suc (length_nothing xs)
 
 known_numbered : {A : Type 0} (P : A → Type 0) (xs : List A) → All P xs → (n : ℕ) → IfSome (numbered xs n) P
 known_numbered P xs h zero = tt

@@ -6,7 +6,16 @@ use Rattle.fx_layout.specs.Keys.{Key, same_key}
 use Rattle.fx_machine.specs.declared.record.Record.{Record}
 use Rattle.fx_machine.specs.Sends.{put_all, linked, links_of}
 use Rattle.fx_machine.specs.Places.{NoneBefore, FirstAt}
-use Rattle.fx_machine.specs.States.{add_at, put_last}
+use Rattle.fx_machine.specs.States.{add_at, put_last, nothing_at, all_empty}
+
+-- lists at places, of which each is empty
+pub nothing_empty : {A : Type 0} (xs : List A) → all_empty (nothing_at xs) ≡ true
+nothing_empty [] = refl
+nothing_empty (x ∷ xs) = nothing_empty xs
+
+pub length_nothing : {A : Type 0} (xs : List A) → length (nothing_at xs) ≡ length xs
+length_nothing [] = refl
+length_nothing (x ∷ xs) = ap suc (length_nothing xs)
 
 -- a record put last at a place that is there
 pub put_last_is : (rss : List (List Record)) (n : ℕ) (d new : List Record) (r : Record) → n < length rss → new ≡ get_or rss n d ++ r ∷ [] → set rss n new ≡ put_last rss n r
