@@ -5,6 +5,7 @@ use fx_base::Fault;
 use fx_boxes::{Fields, Region};
 use fx_machine::{
     Choices, Class, Classes, Device, HolderName, Net, Packet, Path, State, Step, choices_are_free,
+    complete_runs_exist,
 };
 use std::alloc::Global;
 use std::test::Fail;
@@ -189,6 +190,7 @@ fn runs(net: &Net, classes: &Classes, alloc: Global) -> Result<bool, Fail> {
 #[test]
 fn looks_up_and_runs_and_refuses_packets_of_no_class(rt: HostRuntime) -> Result<(), Fail> {
     choices_are_free();
+    complete_runs_exist();
     let classes = classes(rt.alloc())?;
     let net = net(rt.alloc())?;
     let found = is_looked_up(&net) && is_watched(&net, &classes);
