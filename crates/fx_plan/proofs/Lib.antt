@@ -5,6 +5,9 @@ pub mod Ranked
 pub mod Ranges
 pub mod Numberings
 pub mod Resolution
+pub mod Faultless
+pub mod Placing
+pub mod Runnable
 pub mod Matching
 pub mod Stalling
 pub mod Grouping

@@ -32,9 +32,10 @@ pub unknown : (known : List Layout) (layout : Layout) → None ≡ position (λ 
 unknown known layout e =
     cond-false (is_known known layout) known (known ++ layout ∷ []) (none_any (λ (other : Layout). same_layout other layout) known (none_passes (λ (other : Layout). same_layout other layout) known (sym e)))
 
-pub last_is : (known : List Layout) (layout : Layout) → slice_get (known ++ layout ∷ []) (length known) ≡ Some layout
-last_is [] layout = refl
-last_is (x ∷ xs) layout = last_is xs layout
+-- what stands behind others
+pub next_at : {X : Type 0} (xs : List X) (x : X) (ys : List X) → slice_get (xs ++ x ∷ ys) (length xs) ≡ Some x
+next_at [] x ys = refl
+next_at (y ∷ xs) x ys = next_at xs x ys
 
 -- ---- layouts more
 

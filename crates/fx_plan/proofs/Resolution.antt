@@ -31,16 +31,16 @@ found_step : (b : Bool) (n m : ℕ) (rest : Bool) → (b || rest) ≡ true → (
 found_step true n m rest h next = omega arith
 found_step false n m rest h next = let lt : n < m = next h in omega arith
 
-found_within : {X : Type 0} (p : X → Bool) (xs : List X) → list_any p xs ≡ true → position_or_len p xs < length xs
+pub found_within : {X : Type 0} (p : X → Bool) (xs : List X) → list_any p xs ≡ true → position_or_len p xs < length xs
 found_within p [] h = cc
 found_within p (x ∷ xs) h = found_step (p x) (position_or_len p xs) (length xs) (list_any p xs) h (found_within p xs)
 
-named_there : (device name own : List ℕ) (processes : List CollectingProcess) → bytes_eq own device ≡ true → is_among (map (λ x. x.name) processes) name ≡ true → list_any (is_label device name) (device_labels (λ p. p.name) own processes) ≡ true
-named_there device name own [] e h = h
-named_there device name own (p ∷ ps) e h =
-    elim (or_cases (bytes_eq p.name name) (is_among (map (λ x. x.name) ps) name) h) [
-      | inl f ↦ or_left (bytes_eq own device && bytes_eq p.name name) _ (and_from (bytes_eq own device) (bytes_eq p.name name) e f)
-      | inr f ↦ or_right (bytes_eq own device && bytes_eq p.name name) _ (named_there device name own ps e f)
+pub named_there : {X : Type 0} (name_of : X → List ℕ) (device name own : List ℕ) (things : List X) → bytes_eq own device ≡ true → is_among (map name_of things) name ≡ true → list_any (is_label device name) (device_labels name_of own things) ≡ true
+named_there name_of device name own [] e h = h
+named_there name_of device name own (x ∷ xs) e h =
+    elim (or_cases (bytes_eq (name_of x) name) (is_among (map name_of xs) name) h) [
+      | inl f ↦ or_left (bytes_eq own device && bytes_eq (name_of x) name) _ (and_from (bytes_eq own device) (bytes_eq (name_of x) name) e f)
+      | inr f ↦ or_right (bytes_eq own device && bytes_eq (name_of x) name) _ (named_there name_of device name own xs e f)
     ]
 
 label_there : (devices : List NetworkDevice) (device name : List ℕ) → has_collecting_process name (device_named devices device) ≡ true → list_any (is_label device name) (collecting_labels devices) ≡ true
@@ -51,7 +51,7 @@ label_there (x ∷ xs) device name h =
     ∙ (elim (cases_Bool (bytes_eq x.name device)) [
       | inl e ↦
           or_left (list_any (is_label device name) here) (list_any (is_label device name) (collecting_labels xs))
-          (named_there device name x.name x.config.collecting_processes e (subst (λ (o : Option Device). has_collecting_process name o ≡ true) (cond-true (bytes_eq x.name device) (Some x.config) (device_named xs device) e) h))
+          (named_there (λ (p : CollectingProcess). p.name) device name x.name x.config.collecting_processes e (subst (λ (o : Option Device). has_collecting_process name o ≡ true) (cond-true (bytes_eq x.name device) (Some x.config) (device_named xs device) e) h))
       | inr e ↦
           or_right (list_any (is_label device name) here) (list_any (is_label device name) (collecting_labels xs))
           (label_there xs device name (subst (λ (o : Option Device). has_collecting_process name o ≡ true) (cond-false (bytes_eq x.name device) (Some x.config) (device_named xs device) e) h))
@@ -62,11 +62,11 @@ place_there devices device name h = found_within (is_label device name) (collect
 
 -- ---- as many labels as processes
 
-so_many_from : (exporting : List Label) (device : List ℕ) (holder : ℕ) (processes : List CollectingProcess) → length (processes_from exporting device holder processes) ≡ length processes
+pub so_many_from : (exporting : List Label) (device : List ℕ) (holder : ℕ) (processes : List CollectingProcess) → length (processes_from exporting device holder processes) ≡ length processes
 so_many_from exporting device holder [] = refl
 so_many_from exporting device holder (p ∷ ps) = ap suc (so_many_from exporting device (holder + length p.aggregations) ps)
 
-abbrev label_of : List ℕ → CollectingProcess → Label
+abbrev pub label_of : List ℕ → CollectingProcess → Label
 label_of device p = record { device = device; name = p.name }
 
 so_many_in : (exporting : List Label) (holder : ℕ) (devices : List NetworkDevice) → length (processes_in exporting holder devices) ≡ length (collecting_labels devices)
@@ -81,11 +81,11 @@ so_many_in exporting holder (x ∷ xs) =
 
 -- ---- documents without a fault
 
-rows_none : (may : List ℕ → Bool) (rows : List Row) (up : List ℕ) (d : Data) (o : Option Members) → of_kind o (λ ms. others may up ms ++ row_faults rows up d) up ≡ [] → row_faults rows up d ≡ []
+pub rows_none : (may : List ℕ → Bool) (rows : List Row) (up : List ℕ) (d : Data) (o : Option Members) → of_kind o (λ ms. others may up ms ++ row_faults rows up d) up ≡ [] → row_faults rows up d ≡ []
 rows_none may rows up d None h = absurd cc
 rows_none may rows up d (Some ms) h = none_behind (others may up ms) (row_faults rows up d) h
 
-rows_behind : (n : ℕ) (rows : List Row) (up : List ℕ) (d : Data) → row_faults rows up d ≡ [] → row_faults (drop n rows) up d ≡ []
+pub rows_behind : (n : ℕ) (rows : List Row) (up : List ℕ) (d : Data) → row_faults rows up d ≡ [] → row_faults (drop n rows) up d ≡ []
 rows_behind zero rows up d h = h
 rows_behind (suc n) [] up d h = h
 rows_behind (suc n) (row ∷ rows) up d h = rows_behind n rows up d (none_behind (row.faults up d) (row_faults rows up d) h)
@@ -101,11 +101,11 @@ in_length least most up n rest h =
       | inr w ↦ elim (chosen (nat_lt n least) ((103, up) ∷ []) rest [] w.1) [ inl v ↦ cc | inr v ↦ v.1 ]
     ]
 
-kind_none : (least most : ℕ) (faults : List ℕ → List Data → List Found) (up : List ℕ) (o : Option (List Data)) → of_kind o (λ ds. by_length 103 115 least most up (length ds) (faults up ds)) up ≡ [] → faults up (unwrap_or o []) ≡ []
+pub kind_none : (least most : ℕ) (faults : List ℕ → List Data → List Found) (up : List ℕ) (o : Option (List Data)) → of_kind o (λ ds. by_length 103 115 least most up (length ds) (faults up ds)) up ≡ [] → faults up (unwrap_or o []) ≡ []
 kind_none least most faults up None h = cc
 kind_none least most faults up (Some ds) h = in_length least most up (length ds) (faults up ds) h
 
-list_none : (least most : ℕ) (faults : List ℕ → List Data → List Found) (up name : List ℕ) (o : Option Data) → faults_or_missing (list_faults least most faults) up name o ≡ [] → faults (below up name) (items_of (unwrap_or o null)) ≡ []
+pub list_none : (least most : ℕ) (faults : List ℕ → List Data → List Found) (up name : List ℕ) (o : Option Data) → faults_or_missing (list_faults least most faults) up name o ≡ [] → faults (below up name) (items_of (unwrap_or o null)) ≡ []
 list_none least most faults up name None h = cc
 list_none least most faults up name (Some d) h = kind_none least most faults (below up name) (items_in d) h
 

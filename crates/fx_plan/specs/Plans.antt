@@ -9,6 +9,7 @@ use Rattle.fx_layout.specs.Keys.{Fits, Layout}
 use Rattle.fx_machine.specs.Network.{Net, layout_of}
 use Rattle.fx_machine.specs.Matches.{AreEntries}
 use Rattle.fx_machine.specs.Ranks.{IsRanked}
+use Rattle.fx_machine.specs.Runnable.{IsRunnable}
 use Rattle.fx_plan.specs.Limits.{layout_limit}
 use Rattle.fx_plan.specs.declared.network.Network.{Network}
 use Rattle.fx_plan.specs.Cycles.{IsText, stuck_text}
@@ -58,6 +59,7 @@ pub record IsPlan (network : Network) (net : Net) (ranked order : List ℕ) (lay
   pub order_is : order ≡ reverse ranked
   pub fits : (holder : ℕ) → Fits (layout_of (slice_get net.holders holder))
   pub entries : AreEntries net
+  pub runnable : IsRunnable net
   pub layouts_are : layouts ≡ layouts_of net
   pub few : length layouts ≤ layout_limit
   pub numbers_are : AreNumbers layouts net.holders numbers

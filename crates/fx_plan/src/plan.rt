@@ -3,6 +3,7 @@ ghost use Rattle.std.specs.Prelude.{◌≡◌, ◌==◌, ◌<◌, ◌≤◌, IfO
 ghost use Rattle.serde_json.specs.View.{view};
 ghost use Rattle.fx_machine.specs.Matches.{AreEntries};
 ghost use Rattle.fx_machine.specs.Ranks.{IsNetwork};
+ghost use Rattle.fx_machine.specs.Runnable.{IsRunnable};
 ghost use Rattle.fx_machine.specs.Views.{now_of};
 ghost use Rattle.fx_plan.specs.Layouts.{AreNumbers, layouts_of};
 ghost use Rattle.fx_plan.specs.Limits.{layout_limit};
@@ -99,6 +100,7 @@ impl Plan {
         ensures network { IsNetwork result.now }
         ensures report { result.now.report < length result.now.processes }
         ensures entries { AreEntries result.now }
+        ensures runnable { IsRunnable result.now }
     {
         &self.parts.net
     }

@@ -2,7 +2,7 @@ use Rattle.std.proofs.Common.{◌≡◌, ◌+◌, [], ◌∷◌, ◌++◌, lengt
 use Rattle.fx_layout.specs.Keys.{Layout}
 use Rattle.std.proofs.lemmas.List.{length-append}
 use Rattle.fx_plan.specs.Layouts.{with_layout}
-use Rattle.fx_plan.proofs.Numberings.{known_at, unknown, last_is}
+use Rattle.fx_plan.proofs.Numberings.{known_at, unknown, next_at}
 use Rattle.fx_plan.proofs.layouts.number_in.Goals as goal
 
 pub returns-in-Some-clause-known : goal.returns-in-Some-clause-known
@@ -20,4 +20,4 @@ returns-clause-known c =
     let more = unknown c.args.known.now.items c.args.layout.now (rw c.as_slice.ensures.value at c.in_default.ensures) in
     let items = c.in_ok-push.ensures.items ∙ ap (λ (l : Layout). c.args.known.now.items ++ l ∷ []) c.copy.ensures in
     let all : length c.args.known.now.items ≡ c.len-number.result = ap length (sym c.as_slice.ensures.value) ∙ (c.as_slice.ensures.len ∙ sym c.len-number.ensures) in
-    (items ∙ sym more, rw (items, ← all) (last_is c.args.known.now.items c.args.layout.now))
+    (items ∙ sym more, rw (items, ← all) (next_at c.args.known.now.items c.args.layout.now []))

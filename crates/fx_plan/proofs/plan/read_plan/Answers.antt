@@ -6,6 +6,7 @@ use Rattle.fx_base.specs.declared.fault.Fault.{Fault}
 use Rattle.fx_base.specs.declared.fault.Place.TheVariants as places
 use Rattle.fx_machine.specs.Matches.{AreEntries}
 use Rattle.fx_machine.specs.Network.{Net}
+use Rattle.fx_machine.specs.Runnable.{IsRunnable}
 use Rattle.fx_plan.specs.Layouts.{layouts_of}
 use Rattle.fx_plan.specs.Plans.{IsCycle, IsResolved, ReadsPlan}
 use Rattle.fx_plan.specs.Networks.{network_faults, network_of}
@@ -16,6 +17,7 @@ use Rattle.fx_layout.specs.Keys.{Layout}
 use Rattle.fx_plan.specs.Tables.{net_of}
 use Rattle.fx_plan.proofs.Matching.{network_entries}
 use Rattle.fx_plan.proofs.Resolution.{resolved}
+use Rattle.fx_plan.proofs.Runnable.{runnable}
 use Rattle.fx_plan.proofs.Stalling.{none_are_stuck}
 use Rattle.fx_plan.proofs.plan.read_plan.Goals as goal
 
@@ -45,6 +47,7 @@ planned-requires c =
       order_is = c.in_ok-ranks.ensures.order;
       fits = c.in_ok-numbering.ensures.fits;
       entries = subst (λ (n : Net). AreEntries n) (sym is) (network_entries (view c.args.value.now));
+      runnable = subst (λ (n : Net). IsRunnable n) (sym is) (runnable (view c.args.value.now) c.in_ok-network.ensures.0);
       layouts_are = c.in_ok-numbering.ensures.layouts;
       few = c.in_ok-numbering.ensures.few;
       numbers_are = c.in_ok-numbering.ensures.numbers;
