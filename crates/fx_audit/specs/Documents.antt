@@ -9,8 +9,8 @@ use Rattle.fx_base.specs.Device.{IsUnread}
 use Rattle.fx_base.specs.Fault.{fault_at}
 use Rattle.fx_config.specs.Walk.{Found, first}
 use Rattle.fx_machine.specs.Classes.{Class}
+use Rattle.fx_machine.specs.Limits.{layout_limit}
 use Rattle.fx_plan.specs.declared.network.Network.{Network}
-use Rattle.fx_plan.specs.Limits.{layout_limit}
 use Rattle.fx_plan.specs.Layouts.{layouts_of}
 use Rattle.fx_plan.specs.Networks.{device_names, network_faults, network_of}
 use Rattle.fx_plan.specs.Plans.{RefusesNetwork}

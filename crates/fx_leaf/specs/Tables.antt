@@ -3,6 +3,7 @@ use Rattle.std.specs.Prelude.{◌≡◌, ℕ, suc, ◌<◌, ◌≤◌, List, [],
 use Rattle.std.specs.List.{AllByRecursion}
 use Rattle.fx_boxes.specs.Boxes.{Bounds}
 use Rattle.fx_layout.specs.Keys.{Layout}
+use Rattle.fx_machine.specs.Limits.{layout_limit}
 use Rattle.fx_machine.specs.Network.{Net, Holder, Aggregation, Process, at_places, exporters_of, aggregations_of}
 use Rattle.fx_machine.specs.Ranks.{IsNetwork}
 use Rattle.fx_machine.specs.Orders.{Descends}
@@ -82,10 +83,6 @@ HasVerdicts net n region table process =
     (number : ℕ) (layout : Layout) → slice_get n.layouts number ≡ Some layout → entry table process number ≡ verdict net region process layout
 
 -- ---- what a plan lends
-
--- The most different layouts of a network's records.
-abbrev pub layout_limit : ℕ
-layout_limit = 64
 
 pub record Tables : Type 0 where
   pub net : Net

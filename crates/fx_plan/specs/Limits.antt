@@ -16,7 +16,3 @@ process_limit = 256
 -- The most fields of the report's key.
 abbrev pub key_field_limit : ℕ
 key_field_limit = 32
-
--- The most different layouts.
-abbrev pub layout_limit : ℕ
-layout_limit = 64

@@ -6,11 +6,11 @@ use Rattle.fx_base.specs.declared.fault.Place.TheVariants as places
 use Rattle.fx_base.specs.Fault.{fault_at}
 use Rattle.fx_config.specs.Walk.{Refuses}
 use Rattle.fx_layout.specs.Keys.{Fits, Layout}
+use Rattle.fx_machine.specs.Limits.{layout_limit}
 use Rattle.fx_machine.specs.Network.{Net, layout_of}
 use Rattle.fx_machine.specs.Matches.{AreEntries}
 use Rattle.fx_machine.specs.Ranks.{IsRanked}
 use Rattle.fx_machine.specs.Runnable.{IsRunnable}
-use Rattle.fx_plan.specs.Limits.{layout_limit}
 use Rattle.fx_plan.specs.declared.network.Network.{Network}
 use Rattle.fx_plan.specs.Cycles.{IsText, stuck_text}
 use Rattle.fx_plan.specs.Layouts.{AreNumbers, layouts_of}

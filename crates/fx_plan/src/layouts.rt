@@ -3,9 +3,9 @@ ghost use Rattle.std.specs.Prelude.{◌≡◌, ◌⊎◌, ℕ, ◌<◌, ◌≤�
 ghost use Rattle.fx_base.specs.Fault.{fault_at};
 ghost use Rattle.fx_base.specs.declared.fault.Place.TheVariants as places;
 ghost use Rattle.fx_layout.specs.Keys.{Fits, same_layout};
+ghost use Rattle.fx_machine.specs.Limits.{layout_limit};
 ghost use Rattle.fx_machine.specs.Network.{layout_of};
 ghost use Rattle.fx_plan.specs.Layouts as layouts;
-ghost use Rattle.fx_plan.specs.Limits.{layout_limit};
 
 use crate::limits::LAYOUTS;
 use fx_base::Fault;

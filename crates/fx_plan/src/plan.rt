@@ -1,12 +1,12 @@
 //! Network documents and the networks that they mean.
 ghost use Rattle.std.specs.Prelude.{◌≡◌, ◌==◌, ◌<◌, ◌≤◌, IfOk, length, position};
 ghost use Rattle.serde_json.specs.View.{view};
+ghost use Rattle.fx_machine.specs.Limits.{layout_limit};
 ghost use Rattle.fx_machine.specs.Matches.{AreEntries};
 ghost use Rattle.fx_machine.specs.Ranks.{IsNetwork};
 ghost use Rattle.fx_machine.specs.Runnable.{IsRunnable};
 ghost use Rattle.fx_machine.specs.Views.{now_of};
 ghost use Rattle.fx_plan.specs.Layouts.{AreNumbers, layouts_of};
-ghost use Rattle.fx_plan.specs.Limits.{layout_limit};
 ghost use Rattle.fx_plan.specs.Networks.{device_numbered};
 ghost use Rattle.fx_plan.specs.Plans.{IsPlan, ReadsPlan};
 ghost use Rattle.fx_plan.specs.Ranks.{IsDescending, IsRank, IsRankOrder, IsWhole};

@@ -12,7 +12,7 @@ use Rattle.fx_plan.specs.Plans.{IsCycle, IsResolved, ReadsPlan}
 use Rattle.fx_plan.specs.Networks.{network_faults, network_of}
 use Rattle.fx_plan.specs.Ranks.{IsStuck}
 use Rattle.fx_plan.specs.declared.network.Network.{Network}
-use Rattle.fx_plan.specs.Limits.{layout_limit}
+use Rattle.fx_machine.specs.Limits.{layout_limit}
 use Rattle.fx_layout.specs.Keys.{Layout}
 use Rattle.fx_plan.specs.Tables.{net_of}
 use Rattle.fx_plan.proofs.Matching.{network_entries}
