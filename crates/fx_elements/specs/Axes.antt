@@ -1,5 +1,5 @@
 -- The axes in their fixed order, and how wide each is.
-use Rattle.std.specs.Prelude.{ℕ, Bool, true, false, ◌==◌, List, [], ◌∷◌, slice_index}
+use Rattle.std.specs.Prelude.{ℕ, ◌-◌, ◌^◌, Bool, true, false, ◌==◌, List, [], ◌∷◌, map, slice_index}
 use Rattle.fx_elements.specs.declared.axis.Axis.{Axis}
 use Rattle.fx_elements.specs.declared.axis.Axis.TheVariants.{Source, Destination, Protocol, SourcePort, DestinationPort, ClassOfService}
 
@@ -10,10 +10,6 @@ axis_count = 6
 -- all of them, in order
 abbrev pub axes : List Axis
 axes = Source ∷ Destination ∷ Protocol ∷ SourcePort ∷ DestinationPort ∷ ClassOfService ∷ []
-
--- the greatest value of each, in order
-abbrev pub tops : List ℕ
-tops = 4294967295 ∷ 4294967295 ∷ 255 ∷ 65535 ∷ 65535 ∷ 255 ∷ []
 
 -- the place of an axis, from 0
 abbrev pub axis_index : Axis → ℕ
@@ -32,6 +28,10 @@ axis_width Protocol = 8
 axis_width SourcePort = 16
 axis_width DestinationPort = 16
 axis_width ClassOfService = 8
+
+-- the greatest value of each, in order: all of its bits are 1
+abbrev pub tops : List ℕ
+tops = map (λ axis. 2 ^ axis_width axis - 1) axes
 
 -- the values of an axis are addresses, which have prefixes
 abbrev pub is_address : Axis → Bool

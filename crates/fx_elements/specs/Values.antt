@@ -2,6 +2,7 @@
 use Rattle.std.specs.Prelude.{ℕ, ◌+◌, ◌-◌, ◌*◌, ◌/◌, ◌^◌, if◌then◌else◌, List, [], ◌∷◌, ◌++◌, nat_lt, Option, Some, None, option_map, slice_index}
 use Rattle.std.specs.Fmt.{decimal}
 use Rattle.fx_elements.specs.declared.axis.Axis.{Axis}
+use Rattle.fx_elements.specs.declared.axis.Axis.TheVariants.{Source, Destination}
 use Rattle.fx_elements.specs.declared.values.Range.{Range}
 use Rattle.fx_elements.specs.declared.element.Element.{Element}
 use Rattle.fx_elements.specs.declared.element.Element.TheVariants.{OnAxis, SourcePrefix, DestinationPrefix}
@@ -12,10 +13,10 @@ use Rattle.fx_elements.specs.Spelling.{number_of, quad_of, prefix_of, quad}
 abbrev pub single : ℕ → ℕ → Range
 single width value = record { low = value; high = value; bits = width }
 
--- the addresses that begin with the leading bits of this one
-abbrev pub with_prefix : ℕ × ℕ → Range
-with_prefix p =
-    record { low = p.0 / 2 ^ (32 - p.1) * 2 ^ (32 - p.1); high = p.0 / 2 ^ (32 - p.1) * 2 ^ (32 - p.1) + (2 ^ (32 - p.1) - 1); bits = p.1 }
+-- the addresses of so many bits that begin with the leading bits of this one
+abbrev pub with_prefix : ℕ → ℕ × ℕ → Range
+with_prefix width p =
+    record { low = p.0 / 2 ^ (width - p.1) * 2 ^ (width - p.1); high = p.0 / 2 ^ (width - p.1) * 2 ^ (width - p.1) + (2 ^ (width - p.1) - 1); bits = p.1 }
 
 -- addresses are dotted quads, other values decimal numbers
 abbrev pub value_on : Axis → List ℕ → Option ℕ
@@ -24,8 +25,8 @@ value_on axis text = if is_address axis then quad_of text else number_of (slice_
 -- a single value on an axis, the addresses of a prefix; no other element has values
 abbrev pub values_of : Element → List ℕ → Option Range
 values_of (OnAxis axis) text = option_map (single (axis_width axis)) (value_on axis text)
-values_of SourcePrefix text = option_map with_prefix (prefix_of text)
-values_of DestinationPrefix text = option_map with_prefix (prefix_of text)
+values_of SourcePrefix text = option_map (with_prefix (axis_width Source)) (prefix_of text)
+values_of DestinationPrefix text = option_map (with_prefix (axis_width Destination)) (prefix_of text)
 values_of _ text = None
 
 abbrev pub axis_of : Element → Option Axis

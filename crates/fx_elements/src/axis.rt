@@ -27,6 +27,16 @@ pub enum Axis {
 /// The greatest value on each axis, in order.
 pub const TOPS: [u128; AXES] = [0xffff_ffff, 0xffff_ffff, 0xff, 0xffff, 0xffff, 0xff];
 
+/// The axes, in order.
+pub const EVERY_AXIS: [Axis; AXES] = [
+    Axis::Source,
+    Axis::Destination,
+    Axis::Protocol,
+    Axis::SourcePort,
+    Axis::DestinationPort,
+    Axis::ClassOfService,
+];
+
 impl Axis {
     /// The axis's place in the order, from 0.
     pub fn index(self) -> usize

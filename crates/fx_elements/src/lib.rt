@@ -7,7 +7,7 @@ mod put;
 mod spelling;
 mod values;
 
-pub use axis::{AXES, Axis, TOPS, top, width};
+pub use axis::{AXES, Axis, EVERY_AXIS, TOPS, top, width};
 pub use element::{Element, by_id, by_name};
 pub use put::put_value;
 pub use spelling::{cut, one_spelling, read_number, read_prefix, read_quad};

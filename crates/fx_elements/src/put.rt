@@ -44,6 +44,9 @@ fn first_with(axis: Axis, bits: u32, value: u128) -> u128
     requires fits { value < 2 ^ bits }
     ensures { result ≡ value * 2 ^ (axis_width axis - bits) }
 {
+    if bits == 0 {
+        return 0;
+    }
     value * (1u128 << (width(axis) - bits))
 }
 

@@ -27,18 +27,29 @@ pub fn read_on(axis: Axis, text: &[u8]) -> Option<u128>
     }
 }
 
-/// The addresses of `a.b.c.d/n`; bits past the first n are cut off.
-fn read_addresses(text: &[u8]) -> Option<Range>
-    ensures { result ≡ option_map with_prefix (prefix_of text.now) }
+/// The addresses of so many bits that begin with the leading bits of this one.
+fn addresses(width: u128, address: u128, bits: u128) -> Range
+    requires some { 0 < bits }
+    requires fewer { bits ≤ width }
+    requires most { width ≤ 128 }
+    requires fits { address < 2 ^ width }
+    ensures { result ≡ with_prefix width (address, bits) }
 {
-    let (address, bits) = read_prefix(text)?;
-    let size = 1u128 << (32 - bits);
+    let size = 1u128 << (width - bits);
     let low = address / size * size;
-    Some(Range {
+    Range {
         low,
         high: low + (size - 1),
         bits: bits as u32,
-    })
+    }
+}
+
+/// The addresses of `a.b.c.d/n`; bits past the first n are cut off.
+fn read_addresses(text: &[u8]) -> Option<Range>
+    ensures { result ≡ option_map (with_prefix 32) (prefix_of text.now) }
+{
+    let (address, bits) = read_prefix(text)?;
+    Some(addresses(32, address, bits))
 }
 
 /// The values of the element that the text spells: one value on an axis, the addresses of a prefix element.

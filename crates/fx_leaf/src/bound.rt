@@ -7,18 +7,8 @@ ghost use Rattle.fx_leaf.specs.Standings as standings;
 
 use crate::regions::{bounded, matching};
 use fx_boxes::Region;
-use fx_elements::{AXES, Axis};
+use fx_elements::{Axis, EVERY_AXIS};
 use fx_machine::MatchEntry;
-
-/// The axes, in order.
-const EVERY_AXIS: [Axis; AXES] = [
-    Axis::Source,
-    Axis::Destination,
-    Axis::Protocol,
-    Axis::SourcePort,
-    Axis::DestinationPort,
-    Axis::ClassOfService,
-];
 
 /// A bound of the other region on this axis that is strictly inside the region.
 fn bound_on(region: &Region, other: &Region, axis: Axis) -> Option<u128>

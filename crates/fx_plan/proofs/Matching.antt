@@ -1,5 +1,5 @@
 -- The matches that documents mean have no more bits than their axes, and values of no more bits than those.
-use Rattle.std.proofs.Common.{◌≡◌, ℕ, ◌+◌, ◌-◌, ◌*◌, ◌/◌, ◌^◌, ◌<◌, ◌≤◌, List, [], ◌∷◌, ◌++◌, length, map, Option, Some, None, refl, ap, ◌∙◌, subst, arith, slice_index, option_map, codes}
+use Rattle.std.proofs.Common.{◌≡◌, ℕ, ◌+◌, ◌-◌, ◌*◌, ◌/◌, ◌^◌, ◌<◌, ◌≤◌, List, [], ◌∷◌, ◌++◌, length, map, Option, Some, None, refl, ap, ◌∙◌, subst, arith, option_map, codes}
 use Rattle.std.specs.List.{AllByRecursion}
 use Rattle.std.specs.Option.{unwrap_or}
 use Rattle.std.proofs.Math.Nat.{div-lt_iff_lt-mul, div-mul-le_self}
@@ -7,13 +7,14 @@ use Rattle.std.proofs.lemmas.Nat.{pow_pos}
 use Rattle.std.proofs.Math.Pow.{pow-add}
 use Rattle.serde_json.specs.Data.{Data}
 use Rattle.fx_elements.specs.declared.axis.Axis.{Axis}
-use Rattle.fx_elements.specs.declared.axis.Axis.TheVariants.{Source, Destination, Protocol, SourcePort, DestinationPort, ClassOfService}
+use Rattle.fx_elements.specs.declared.axis.Axis.TheVariants.{Source, Destination}
 use Rattle.fx_elements.specs.declared.element.Element.{Element}
 use Rattle.fx_elements.specs.declared.element.Element.TheVariants.{OnAxis, OctetDeltaCount, PacketDeltaCount, OctetTotalCount, PacketTotalCount, SourcePrefix, DestinationPrefix, SourcePrefixLength, DestinationPrefixLength, IpVersion, Other}
-use Rattle.fx_elements.specs.Axes.{axis_index, axis_width, tops}
+use Rattle.fx_elements.specs.Axes.{axis_width}
 use Rattle.fx_elements.specs.Spelling.{prefix_of}
 use Rattle.fx_elements.specs.Values.{single, value_on, with_prefix}
 use Rattle.fx_elements.proofs.Addresses.{prefix_found}
+use Rattle.fx_elements.proofs.EveryAxis.{top_below}
 use Rattle.fx_layout.specs.Keys.{leading}
 use Rattle.fx_machine.proofs.RunWords.{value_bound}
 use Rattle.fx_config.specs.declared.aggregation.Aggregation.{Aggregation}
@@ -38,14 +39,6 @@ use Rattle.fx_plan.specs.Tables.{aggregations_from, cache_holders, held_by, matc
 abbrev pub IsMatch : PropertyMatch → Type 0
 IsMatch m = (m.range.bits ≤ axis_width m.axis) × (m.range.low < 2 ^ axis_width m.axis)
 
-top_below : (axis : Axis) → slice_index tops (axis_index axis) < 2 ^ axis_width axis
-top_below Source = omega arith
-top_below Destination = omega arith
-top_below Protocol = omega arith
-top_below SourcePort = omega arith
-top_below DestinationPort = omega arith
-top_below ClassOfService = omega arith
-
 none_meant : PropertyMatch
 none_meant = record { axis = Source; range = record { low = 0; high = 0; bits = 0 } }
 
@@ -56,19 +49,22 @@ on_axis axis text (Some v) e =
     let low = value_bound axis text v e in
     (omega arith, omega arith)
 
-of_prefix : (axis : Axis) → axis_width axis ≡ 32 → (text : List ℕ) (o : Option (ℕ × ℕ)) → prefix_of text ≡ o → IsMatch (unwrap_or (option_map (λ range. record { axis = axis; range = range }) (option_map with_prefix o)) (record { axis = Source; range = record { low = 0; high = 0; bits = 0 } }))
-of_prefix axis wide text None e = (omega arith, omega arith)
-of_prefix axis wide text (Some p) e =
-    let h = prefix_found p text e in
-    let low : p.0 / 2 ^ (32 - p.1) * 2 ^ (32 - p.1) ≤ p.0 = div-mul-le_self p.0 (2 ^ (32 - p.1)) in
-    let below : p.0 < 2 ^ 32 = h.1 in
-    let bits : p.1 ≤ 32 = h.3 in
-    (rw wide bits, rw wide (omega (arith, low, below)))
+of_prefix : (axis : Axis) (o : Option (ℕ × ℕ)) → ((p : ℕ × ℕ) → o ≡ Some p → (p.0 < 2 ^ axis_width axis) × (p.1 ≤ axis_width axis))
+    → IsMatch (unwrap_or (option_map (λ range. record { axis = axis; range = range }) (option_map (with_prefix (axis_width axis)) o)) (record { axis = Source; range = record { low = 0; high = 0; bits = 0 } }))
+of_prefix axis None fits = (omega arith, omega arith)
+of_prefix axis (Some p) fits =
+    let h = fits p refl in
+    let below : p.0 < 2 ^ axis_width axis = h.0 in
+    let low : p.0 / 2 ^ (axis_width axis - p.1) * 2 ^ (axis_width axis - p.1) ≤ p.0 = div-mul-le_self p.0 (2 ^ (axis_width axis - p.1)) in
+    (h.1, omega (arith, low, below))
+
+read_fits : (text : List ℕ) (p : ℕ × ℕ) → prefix_of text ≡ Some p → (p.0 < 2 ^ 32) × (p.1 ≤ 32)
+read_fits text p is = let h = prefix_found p text is in (h.1, h.3)
 
 pub meant_is_match : (element : Element) (text : List ℕ) → IsMatch (property_meant element text)
 meant_is_match (OnAxis axis) text = on_axis axis text (value_on axis text) refl
-meant_is_match SourcePrefix text = of_prefix Source refl text (prefix_of text) refl
-meant_is_match DestinationPrefix text = of_prefix Destination refl text (prefix_of text) refl
+meant_is_match SourcePrefix text = of_prefix Source (prefix_of text) (read_fits text)
+meant_is_match DestinationPrefix text = of_prefix Destination (prefix_of text) (read_fits text)
 meant_is_match OctetDeltaCount text = (omega arith, omega arith)
 meant_is_match PacketDeltaCount text = (omega arith, omega arith)
 meant_is_match OctetTotalCount text = (omega arith, omega arith)

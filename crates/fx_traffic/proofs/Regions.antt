@@ -1,47 +1,25 @@
 -- Bounds of regions.
-use Rattle.std.proofs.Common.{sym, true, List, slice_index, ◌≡◌, ◌<◌, ◌≤◌, ℕ, zero, suc, ◌+◌, ◌-◌, ◌*◌, ◌/◌, ◌^◌, [], ◌∷◌, Option, Some, None, IfSome, option_map, refl, arith}
-use Rattle.std.proofs.Math.Nat.{div-lt_iff_lt-mul, mul-le-mul_right}
-use Rattle.std.proofs.Math.Pow.{pow_pos}
-use Rattle.std.proofs.lemmas.Nat.{pow-add}
+use Rattle.std.proofs.Common.{sym, true, List, slice_index, ◌≡◌, ◌<◌, ◌≤◌, ℕ, zero, suc, ◌+◌, ◌-◌, ◌*◌, ◌/◌, ◌^◌, [], ◌∷◌, Option, Some, None, IfSome, option_map, refl, ap, ◌∙◌, cond, false, arith}
 use Rattle.std.specs.Fmt.{decimal}
 use Rattle.fx_elements.specs.Axes.{axis_index, is_address, tops}
 use Rattle.fx_elements.specs.Spelling.{number_of, quad, quad_of}
 use Rattle.fx_elements.specs.Values.{value_on, with_prefix}
+use Rattle.fx_elements.proofs.EveryAxis.{address_width, top_is, top_small}
+use Rattle.fx_elements.proofs.Widening.{range_ends}
 use Rattle.fx_elements.specs.declared.axis.Axis.{Axis}
 use Rattle.fx_elements.specs.declared.axis.Axis.TheVariants.{Source, Destination, Protocol, SourcePort, DestinationPort, ClassOfService}
 use Rattle.fx_elements.specs.declared.values.Range.{Range}
 use Rattle.fx_boxes.specs.Boxes.{IsRegion}
 use Rattle.fx_traffic.specs.Regions.{IsOn, bounds_of}
 
--- blocks of a size that divides the whole end within it
-in_blocks : (v s m whole : ℕ) → 0 < s → m * s ≡ whole → v < whole → v / s * s + (s - 1) < whole
-in_blocks v s m whole pos is h =
-    let few : v / s < m = (div-lt_iff_lt-mul pos).1 (rw is h) in
-    let most : suc (v / s) * s ≤ m * s = mul-le-mul_right s few in
-    omega (arith, pos, is, most)
-
-prefix_ends : (v n : ℕ) → v < 2 ^ 32 → n ≤ 32 → v / 2 ^ (32 - n) * 2 ^ (32 - n) + (2 ^ (32 - n) - 1) < 2 ^ 32
-prefix_ends v n h few =
-    let same : n + (32 - n) ≡ 32 = omega (arith, few) in
-    in_blocks v (2 ^ (32 - n)) (2 ^ n) (2 ^ 32) (pow_pos (32 - n)) (rw (← pow-add 2 n (32 - n), same) refl) h
-
 -- the addresses of a prefix are addresses
-pub prefix_is_on : (o : Option (ℕ × ℕ)) → ((p : ℕ × ℕ) → o ≡ Some p → (p.0 < 2 ^ 32) × (p.1 ≤ 32)) → IfSome (option_map with_prefix o) (IsOn Source)
-prefix_is_on None h = tt
-prefix_is_on (Some p) h =
+pub prefix_is_on : (axis : Axis) → is_address axis ≡ true → (o : Option (ℕ × ℕ)) → ((p : ℕ × ℕ) → o ≡ Some p → (p.0 < 2 ^ 32) × (p.1 ≤ 32)) → IfSome (option_map (with_prefix 32) o) (IsOn axis)
+prefix_is_on axis address None h = tt
+prefix_is_on axis address (Some p) h =
     let facts = h p refl in
-    let end : p.0 / 2 ^ (32 - p.1) * 2 ^ (32 - p.1) + (2 ^ (32 - p.1) - 1) < 2 ^ 32 = prefix_ends p.0 p.1 facts.0 facts.1 in
-    (omega arith, omega (arith, end))
-
--- the two axes of addresses have the same values
-pub on_addresses : (axis : Axis) → is_address axis ≡ true → (o : Option Range) → IfSome o (IsOn Source) → IfSome o (IsOn axis)
-on_addresses Source address o h = h
-on_addresses Destination address None h = tt
-on_addresses Destination address (Some values) h = h
-on_addresses Protocol address o h = absurd cc
-on_addresses SourcePort address o h = absurd cc
-on_addresses DestinationPort address o h = absurd cc
-on_addresses ClassOfService address o h = absurd cc
+    let end : p.0 / 2 ^ (32 - p.1) * 2 ^ (32 - p.1) + 2 ^ (32 - p.1) ≤ 2 ^ 32 = range_ends 32 p.1 p.0 facts.1 facts.0 in
+    let most : slice_index tops (axis_index axis) ≡ 2 ^ 32 - 1 = top_is axis ∙ ap (λ n. 2 ^ n - 1) (address_width axis address) in
+    (omega arith, omega (arith, end, most))
 
 -- what is read as a value on an axis is no greater than its greatest value
 abbrev OnlyNumber : Type 0
@@ -54,17 +32,22 @@ number_within : OnlyNumber → (top : ℕ) (text : List ℕ) (o : Option ℕ) �
 number_within only top text None small is = tt
 number_within only top text (Some v) small is = (only top v text small (sym is)).1
 
-address_within : OnlyAddress → (text : List ℕ) (o : Option ℕ) → o ≡ quad_of text → IfSome o (λ v. v ≤ 4294967295)
+address_within : OnlyAddress → (text : List ℕ) (o : Option ℕ) → o ≡ quad_of text → IfSome o (λ v. v < 2 ^ 32)
 address_within only text None is = tt
-address_within only text (Some v) is = let small = (only v text (sym is)).1 in omega (arith, small)
+address_within only text (Some v) is = (only v text (sym is)).1
+
+below_top : (axis : Axis) → is_address axis ≡ true → (o : Option ℕ) → IfSome o (λ v. v < 2 ^ 32) → IfSome o (λ v. v ≤ slice_index tops (axis_index axis))
+below_top axis address None h = tt
+below_top axis address (Some v) h =
+    let most : slice_index tops (axis_index axis) ≡ 2 ^ 32 - 1 = top_is axis ∙ ap (λ n. 2 ^ n - 1) (address_width axis address) in
+    omega (arith, h, most)
 
 pub value_within : OnlyNumber → OnlyAddress → (axis : Axis) (text : List ℕ) (o : Option ℕ) → o ≡ value_on axis text → IfSome o (λ v. v ≤ slice_index tops (axis_index axis))
-value_within number address Source text o is = address_within address text o is
-value_within number address Destination text o is = address_within address text o is
-value_within number address Protocol text o is = number_within number 255 text o (omega arith) is
-value_within number address SourcePort text o is = number_within number 65535 text o (omega arith) is
-value_within number address DestinationPort text o is = number_within number 65535 text o (omega arith) is
-value_within number address ClassOfService text o is = number_within number 255 text o (omega arith) is
+value_within number address axis text o is =
+    elim (is_address axis) as (λ t. is_address axis ≡ t → o ≡ cond t (quad_of text) (number_of (slice_index tops (axis_index axis)) text) → IfSome o (λ v. v ≤ slice_index tops (axis_index axis))) [
+      | true ↦ λ e k. below_top axis e o (address_within address text o k)
+      | false ↦ λ e k. number_within number (slice_index tops (axis_index axis)) text o (top_small axis) k
+    ] refl is
 
 -- values on each axis make a region
 pub on_all_axes : (a b c d e f : Range) → IsOn Source a → IsOn Destination b → IsOn Protocol c → IsOn SourcePort d → IsOn DestinationPort e → IsOn ClassOfService f → IsRegion (bounds_of (a ∷ b ∷ c ∷ d ∷ e ∷ f ∷ []))

@@ -1,0 +1,113 @@
+-- What holds of each axis: the only proofs that go through them one by one.
+use Rattle.std.proofs.Common.{◌≡◌, ℕ, zero, suc, ◌-◌, ◌^◌, ◌<◌, ◌≤◌, Bool, true, false, List, [], ◌∷◌, map, length, get_or, refl, sym, ap, ◌∙◌, arith, eqb-true, eq-eqb}
+use Rattle.std.specs.List.{list_all, list_any}
+use Rattle.std.proofs.Math.Nat.{pow-le-pow_right}
+use Rattle.std.proofs.lemmas.Bool.{and_from, and_parts, or_parts}
+use Rattle.std.proofs.lemmas.Nat.{pow_pos}
+use Rattle.fx_elements.specs.declared.axis.Axis.{Axis}
+use Rattle.fx_elements.specs.declared.axis.Axis.TheVariants.{Source, Destination, Protocol, SourcePort, DestinationPort, ClassOfService}
+use Rattle.fx_elements.specs.Axes.{axis_count, axis_index, axis_width, same_axis, axes, tops, is_address}
+
+pub index_below : (axis : Axis) → axis_index axis < axis_count
+index_below Source = omega arith
+index_below Destination = omega arith
+index_below Protocol = omega arith
+index_below SourcePort = omega arith
+index_below DestinationPort = omega arith
+index_below ClassOfService = omega arith
+
+-- the axis with this place
+pub placed : (k : ℕ) → k < axis_count → (axis : Axis) × (axis_index axis ≡ k)
+placed zero lt = (Source, refl)
+placed (suc zero) lt = (Destination, refl)
+placed (suc (suc zero)) lt = (Protocol, refl)
+placed (suc (suc (suc zero))) lt = (SourcePort, refl)
+placed (suc (suc (suc (suc zero)))) lt = (DestinationPort, refl)
+placed (suc (suc (suc (suc (suc zero))))) lt = (ClassOfService, refl)
+placed (suc (suc (suc (suc (suc (suc k)))))) lt = absurd (omega arith)
+
+-- a list made along the axes has its value at each axis's place
+pub value_at : (g : Axis → ℕ) (axis : Axis) → get_or (map g axes) (axis_index axis) 0 ≡ g axis
+value_at g Source = refl
+value_at g Destination = refl
+value_at g Protocol = refl
+value_at g SourcePort = refl
+value_at g DestinationPort = refl
+value_at g ClassOfService = refl
+
+-- the axis at each place of the order is the axis
+pub axis_at : (axis : Axis) → get_or axes (axis_index axis) Source ≡ axis
+axis_at Source = refl
+axis_at Destination = refl
+axis_at Protocol = refl
+axis_at SourcePort = refl
+axis_at DestinationPort = refl
+axis_at ClassOfService = refl
+
+pub width_most : (axis : Axis) → axis_width axis ≤ 128
+width_most Source = omega arith
+width_most Destination = omega arith
+width_most Protocol = omega arith
+width_most SourcePort = omega arith
+width_most DestinationPort = omega arith
+width_most ClassOfService = omega arith
+
+-- addresses have 32 bits
+pub address_width : (axis : Axis) → is_address axis ≡ true → axis_width axis ≡ 32
+address_width Source h = refl
+address_width Destination h = refl
+address_width Protocol h = absurd (cc)
+address_width SourcePort h = absurd (cc)
+address_width DestinationPort h = absurd (cc)
+address_width ClassOfService h = absurd (cc)
+
+-- ---- what follows for all axes
+
+abbrev axis_from : ℕ → Axis
+axis_from k = get_or axes k Source
+
+pub axis_is : (a b : Axis) → same_axis a b ≡ true → a ≡ b
+axis_is a b h = sym (axis_at a) ∙ ap axis_from (eqb-true (axis_index a) (axis_index b) h) ∙ axis_at b
+
+pub same_axis_refl : (a : Axis) → same_axis a a ≡ true
+same_axis_refl a = eq-eqb (axis_index a) (axis_index a) refl
+
+pub top_is : (axis : Axis) → get_or tops (axis_index axis) 0 ≡ 2 ^ axis_width axis - 1
+top_is axis = value_at (λ axis. 2 ^ axis_width axis - 1) axis
+
+pub top_below : (axis : Axis) → get_or tops (axis_index axis) 0 < 2 ^ axis_width axis
+top_below axis =
+    let is = top_is axis in
+    let pos : 0 < 2 ^ axis_width axis = pow_pos (axis_width axis) in
+    omega (arith, is, pos)
+
+pub top_small : (axis : Axis) → get_or tops (axis_index axis) 0 < 2 ^ 128
+top_small axis =
+    let here = top_below axis in
+    let most : 2 ^ axis_width axis ≤ 2 ^ 128 = pow-le-pow_right {n = 2} (omega arith) (width_most axis) in
+    omega (arith, here, most)
+
+-- ---- tests along the axes
+
+all_at : {A : Type 0} (p : A → Bool) (xs : List A) (k : ℕ) (d : A) → list_all p xs ≡ true → k < length xs → p (get_or xs k d) ≡ true
+all_at p [] k d h lt = absurd (omega arith)
+all_at p (x ∷ xs) zero d h lt = (and_parts (p x) (list_all p xs) h).0
+all_at p (x ∷ xs) (suc k) d h lt = all_at p xs k d (and_parts (p x) (list_all p xs) h).1 (omega arith)
+
+all_if : {A : Type 0} (p : A → Bool) (xs : List A) → ((x : A) → p x ≡ true) → list_all p xs ≡ true
+all_if p [] h = refl
+all_if p (x ∷ xs) h = and_from _ _ (h x) (all_if p xs h)
+
+none_at : {A : Type 0} (p : A → Bool) (xs : List A) (k : ℕ) (d : A) → list_any p xs ≡ false → k < length xs → p (get_or xs k d) ≡ false
+none_at p [] k d h lt = absurd (omega arith)
+none_at p (x ∷ xs) zero d h lt = (or_parts (p x) (list_any p xs) h).0
+none_at p (x ∷ xs) (suc k) d h lt = none_at p xs k d (or_parts (p x) (list_any p xs) h).1 (omega arith)
+
+pub on_axis : (p : Axis → Bool) → list_all p axes ≡ true → (axis : Axis) → p axis ≡ true
+on_axis p h axis = ap p (sym (axis_at axis)) ∙ all_at p axes (axis_index axis) Source h (index_below axis)
+
+pub on_axes : (p : Axis → Bool) → ((axis : Axis) → p axis ≡ true) → list_all p axes ≡ true
+on_axes p h = all_if p axes h
+
+pub on_none : (p : Axis → Bool) → list_any p axes ≡ false → (axis : Axis) → p axis ≡ false
+on_none p h axis = ap p (sym (axis_at axis)) ∙ none_at p axes (axis_index axis) Source h (index_below axis)
