@@ -1,5 +1,5 @@
 -- A line's text is read as its item, and no other line is.
-use Rattle.std.proofs.Common.{◌≡◌, ℕ, ◌<◌, ◌≤◌, ◌^◌, true, List, ◌∷◌, ◌++◌, Option, Some, None, refl, ap, sym, subst, ◌∙◌, arith, inl, inr}
+use Rattle.std.proofs.Common.{◌≡◌, ℕ, ◌≤◌, true, List, ◌∷◌, ◌++◌, Option, Some, None, refl, ap, sym, subst, ◌∙◌, arith, inl, inr}
 use Rattle.std.specs.Prelude.{codes, slice_index}
 use Rattle.std.specs.Fmt.{decimal}
 use Rattle.std.specs.Str.{bytes_eq}
@@ -8,6 +8,7 @@ use Rattle.fx_elements.specs.Axes.{axis_index, tops}
 use Rattle.fx_elements.specs.declared.axis.Axis.{Axis}
 use Rattle.fx_elements.specs.declared.axis.Axis.TheVariants as axis
 use Rattle.fx_elements.specs.Spelling.{cut_at, largest, number_of}
+use Rattle.fx_elements.proofs.EveryAxis.{top_small}
 use Rattle.fx_elements.proofs.Cuts.{cut_text, cut_parts, chosen}
 use Rattle.fx_elements.proofs.Decimals.{number_64, number_text, number_found}
 use Rattle.fx_elements.proofs.Addresses.{decimal_avoids, by_some, some_is}
@@ -45,14 +46,6 @@ cut_word axis.Protocol rest = refl
 cut_word axis.SourcePort rest = refl
 cut_word axis.DestinationPort rest = refl
 cut_word axis.ClassOfService rest = refl
-
-top_small : (a : Axis) → slice_index tops (axis_index a) < 2 ^ 128
-top_small axis.Source = omega arith
-top_small axis.Destination = omega arith
-top_small axis.Protocol = omega arith
-top_small axis.SourcePort = omega arith
-top_small axis.DestinationPort = omega arith
-top_small axis.ClassOfService = omega arith
 
 split_text : (a : Axis) (at : ℕ) → at ≤ slice_index tops (axis_index a) → split_of (axis_word a ++ 32 ∷ decimal at) ≡ Some (item.Split a at)
 unfolding split_of

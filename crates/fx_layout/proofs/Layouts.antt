@@ -1,13 +1,13 @@
 -- What a layout keeps, and how a part more leaves it so.
-use Rattle.std.proofs.Common.{◌≡◌, ◌≢◌, ℕ, suc, ◌+◌, ◌-◌, ◌*◌, ◌/◌, ◌^◌, ◌<◌, ◌≤◌, Bool, true, false, cond, ◌||◌, not, ◌==◌, nat_le, nat_lt, List, [], ◌∷◌, length, map, take, Option, Some, None, refl, sym, ap, ◌∙◌, subst, arith, leb-true, le-leb, ltb-true, eqb-true, inl, inr, ◌⊎◌, get_or, pow-add}
+use Rattle.std.proofs.Common.{◌≡◌, ◌≢◌, ℕ, suc, ◌+◌, ◌-◌, ◌*◌, ◌/◌, ◌^◌, ◌<◌, ◌≤◌, Bool, true, false, cond, ◌||◌, not, ◌==◌, nat_le, nat_lt, List, [], ◌∷◌, length, map, take, Option, Some, None, refl, sym, ap, ◌∙◌, subst, arith, leb-true, le-leb, ltb-true, eqb-true, inl, inr, ◌⊎◌, pow-add}
 use Rattle.std.specs.List.{list_all, position, position_or_len, insert}
 use Rattle.std.proofs.lemmas.List.Sums.{prefix_len-le-length}
 use Rattle.std.proofs.lemmas.Nat.{pow_pos}
 use Rattle.std.proofs.lemmas.List.{length-map, length-take-le, take_all}
 use Rattle.std.proofs.Math.Nat.{div-lt_iff_lt-mul, pow-le-pow_right}
 use Rattle.fx_elements.specs.declared.axis.Axis.{Axis}
-use Rattle.fx_elements.specs.declared.axis.Axis.TheVariants.{Source, Destination, Protocol, SourcePort, DestinationPort, ClassOfService}
-use Rattle.fx_elements.specs.Axes.{Fields, field, axis_count, axis_index, axis_width, same_axis, tops}
+use Rattle.fx_elements.specs.Axes.{Fields, field, axis_count, axis_index, axis_width, same_axis}
+use Rattle.fx_elements.proofs.EveryAxis.{index_below, top_below}
 use Rattle.fx_boxes.specs.Boxes.{IsFields}
 use Rattle.fx_layout.specs.declared.layout.Part.{Part}
 use Rattle.fx_layout.specs.Keys.{Layout, part_at, has_bits, reads, can_stand, with_part, Fits, Ascends, IsLayout, HasBits, leading, cut_in}
@@ -34,14 +34,6 @@ fits_if (part ∷ parts) h =
     ((stands_within part two.0).1, fits_if parts two.1)
 
 -- ---- order
-
-pub index_below : (axis : Axis) → axis_index axis < axis_count
-index_below Source = omega arith
-index_below Destination = omega arith
-index_below Protocol = omega arith
-index_below SourcePort = omega arith
-index_below DestinationPort = omega arith
-index_below ClassOfService = omega arith
 
 room_from : (from : ℕ) (layout : Layout) → from ≤ axis_count → Ascends from layout → from + length layout ≤ axis_count
 room_from from [] le h = omega arith
@@ -113,14 +105,6 @@ leading_below : (width bits value : ℕ) → bits ≤ width → value < 2 ^ widt
 leading_below width bits value le lt =
     let whole : 2 ^ width ≡ 2 ^ bits * 2 ^ (width - bits) = ap (λ n. 2 ^ n) (let e : width ≡ bits + (width - bits) = omega arith in e) ∙ pow-add 2 bits (width - bits) in
     (div-lt_iff_lt-mul {k = 2 ^ (width - bits)} {x = value} {y = 2 ^ bits} (pow_pos (width - bits))).1 (subst (λ n. value < n) whole lt)
-
-top_below : (axis : Axis) → get_or tops (axis_index axis) 0 < 2 ^ axis_width axis
-top_below Source = omega arith
-top_below Destination = omega arith
-top_below Protocol = omega arith
-top_below SourcePort = omega arith
-top_below DestinationPort = omega arith
-top_below ClassOfService = omega arith
 
 pub field_below : (fields : Fields) (axis : Axis) → IsFields fields → field fields axis < 2 ^ axis_width axis
 field_below fields axis h =

@@ -1,10 +1,10 @@
 -- Projections compose.
-use Rattle.std.proofs.Common.{◌≡◌, ℕ, ◌+◌, ◌-◌, ◌/◌, ◌^◌, ◌≤◌, Bool, true, false, cond, ◌&&◌, ◌==◌, if◌then◌else◌, List, [], ◌∷◌, map, Option, Some, None, refl, sym, ap, ap₂, ◌∙◌, subst, arith, eqb-true, eq-eqb, leb-true, le-leb, pow-add, bytes_eq}
+use Rattle.std.proofs.Common.{◌≡◌, ℕ, ◌+◌, ◌-◌, ◌/◌, ◌^◌, ◌≤◌, Bool, true, false, cond, ◌&&◌, ◌==◌, List, [], ◌∷◌, map, Option, Some, None, refl, sym, ap, ap₂, ◌∙◌, subst, arith, eqb-true, eq-eqb, leb-true, le-leb, pow-add, bytes_eq}
 use Rattle.std.specs.Bool.{Decides}
 use Rattle.std.proofs.Math.Nat.{div-div-eq-div-mul, zero-div}
 use Rattle.std.proofs.lemmas.Slice.Eq.{bytes_eq-Decides}
 use Rattle.fx_elements.specs.declared.axis.Axis.{Axis}
-use Rattle.fx_elements.specs.declared.axis.Axis.TheVariants.{Source, Destination, Protocol, SourcePort, DestinationPort, ClassOfService}
+use Rattle.fx_elements.proofs.EveryAxis.{axis_is}
 use Rattle.fx_elements.specs.Axes.{Fields, field, axis_width, axis_index, same_axis}
 use Rattle.fx_layout.specs.declared.layout.Part.{Part}
 use Rattle.fx_layout.specs.Keys.{Layout, Key, part_at, has_bits, reads, refines, leading, key_of, cut_in, cut, project, same_layout, same_key, Fits}
@@ -25,22 +25,6 @@ pub layout_same : (layout : Layout) → same_layout layout layout ≡ true
 layout_same [] = refl
 layout_same (part ∷ parts) =
     and_both _ _ (and_both _ _ (eq-eqb (axis_index part.axis) (axis_index part.axis) refl) (eq-eqb part.bits part.bits refl)) (layout_same parts)
-
--- an axis is told by its number
-abbrev axis_at : ℕ → Axis
-axis_at n = if n == 0 then Source else (if n == 1 then Destination else (if n == 2 then Protocol else (if n == 3 then SourcePort else (if n == 4 then DestinationPort else ClassOfService))))
-
-axis_at_number : (a : Axis) → axis_at (axis_index a) ≡ a
-axis_at_number Source = refl
-axis_at_number Destination = refl
-axis_at_number Protocol = refl
-axis_at_number SourcePort = refl
-axis_at_number DestinationPort = refl
-axis_at_number ClassOfService = refl
-
-pub axis_is : (a b : Axis) → same_axis a b ≡ true → a ≡ b
-axis_is a b h =
-    sym (axis_at_number a) ∙ ap axis_at (eqb-true (axis_index a) (axis_index b) h) ∙ axis_at_number b
 
 part_has_axis : (layout : Layout) (axis : Axis) (q : Part) → part_at layout axis ≡ Some q → q.axis ≡ axis
 part_has_axis [] axis q h = absurd (cc)

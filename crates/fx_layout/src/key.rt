@@ -28,10 +28,14 @@ impl Model for Key {
 
 /// The leading `bits` of a value that has `width` bits.
 fn leading(width: u32, bits: u32, value: u128) -> u128
-    requires { width - bits < 128 }
+    requires { width ≤ 128 }
     ensures { result ≡ keys.leading width bits value }
 {
-    value >> width.saturating_sub(bits)
+    let cut = width.saturating_sub(bits);
+    if cut >= 128 {
+        return 0;
+    }
+    value >> cut
 }
 
 /// The leading bits of what the values have for an axis, 0 where they have none.

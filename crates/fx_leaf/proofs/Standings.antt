@@ -9,8 +9,8 @@ use Rattle.fx_elements.specs.declared.axis.Axis.TheVariants.{Source, Destination
 use Rattle.fx_elements.specs.Axes.{Fields, field, axes, tops, axis_index, axis_width, same_axis}
 use Rattle.fx_boxes.specs.Boxes.{Bounds, IsRegion, Holds, IsInside, IsDisjoint, holds, is_between}
 use Rattle.fx_boxes.proofs.Holding.{holds_is, holds_if}
-use Rattle.fx_layout.proofs.Layouts.{index_below}
-use Rattle.fx_layout.proofs.Projections.{and_true, and_both, axis_is}
+use Rattle.fx_elements.proofs.EveryAxis.{axis_is, index_below}
+use Rattle.fx_layout.proofs.Projections.{and_true, and_both}
 use Rattle.fx_machine.specs.declared.aggregation.MatchEntry.{MatchEntry}
 use Rattle.fx_machine.specs.Matches.{IsEntry}
 use Rattle.fx_machine.specs.Occurrences.{selects}

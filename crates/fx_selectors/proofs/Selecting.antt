@@ -1,14 +1,13 @@
 -- A process selects the fields that are within the bounds that its selectors leave.
-use Rattle.std.proofs.Common.{◌≡◌, ℕ, zero, suc, ◌<◌, ◌≤◌, Bool, true, false, ◌&&◌, ◌==◌, nat_le, max, min, List, [], ◌∷◌, length, get_or, Option, Some, None, IfSome, IfNone, refl, sym, ap, ◌∙◌, arith, leb-true, le-leb, eqb-true, eq-eqb, subst}
+use Rattle.std.proofs.Common.{◌≡◌, ℕ, ◌≤◌, Bool, true, false, ◌==◌, nat_le, max, min, List, [], ◌∷◌, length, get_or, Option, Some, None, IfSome, IfNone, refl, sym, ap, ◌∙◌, arith, leb-true, le-leb, eqb-true, eq-eqb, subst}
 use Rattle.std.proofs.Math.Nat.{le-max_left, le-max_right, max-le, le-min, min-le_left, min-le_right}
 use Rattle.std.specs.Option.{unwrap_or}
 use Rattle.std.proofs.lemmas.List.{get_or-set_same, get_or-set_other, length-set}
 use Rattle.std.specs.List.{list_all, fold}
 use Rattle.fx_elements.specs.Axes.{Fields, field, axis_count, axis_index, tops}
-use Rattle.fx_elements.specs.declared.axis.Axis.{Axis}
 use Rattle.fx_boxes.specs.Boxes.{Bounds, Holds, IsFields, holds}
 use Rattle.fx_boxes.proofs.Holding.{holds_if, holds_is}
-use Rattle.fx_layout.proofs.Layouts.{index_below}
+use Rattle.fx_elements.proofs.EveryAxis.{index_below, placed, value_at}
 use Rattle.fx_layout.proofs.Projections.{and_true}
 use Rattle.fx_config.specs.declared.property_match.PropertyMatch.{PropertyMatch}
 use Rattle.fx_config.specs.declared.selector.Method.{Method}
@@ -162,13 +161,10 @@ tops_fields : IsFields everything.high
 tops_fields k lt = omega arith
 
 in_everything : (f : Fields) → IsFields f → Holds everything f
-in_everything f fields zero lt = (omega arith, fields 0 lt)
-in_everything f fields (suc zero) lt = (omega arith, fields 1 lt)
-in_everything f fields (suc (suc zero)) lt = (omega arith, fields 2 lt)
-in_everything f fields (suc (suc (suc zero))) lt = (omega arith, fields 3 lt)
-in_everything f fields (suc (suc (suc (suc zero)))) lt = (omega arith, fields 4 lt)
-in_everything f fields (suc (suc (suc (suc (suc zero))))) lt = (omega arith, fields 5 lt)
-in_everything f fields (suc (suc (suc (suc (suc (suc k)))))) lt = absurd (omega arith)
+in_everything f fields k lt =
+    let at = placed k lt in
+    let none : ◌≡◌ {A = ℕ} (get_or everything.low k 0) 0 = subst (λ (n : ℕ). ◌≡◌ {A = ℕ} (get_or everything.low n 0) 0) at.1 (value_at (λ axis. 0) at.0) in
+    (omega (arith, none), fields k lt)
 
 -- ---- the region of a process
 

@@ -1,7 +1,7 @@
 -- What a selection process selects (RFC 6728; property match filtering in RFC 5475, section 6.1).
-use Rattle.std.specs.Prelude.{Bool, true, ◌&&◌, nat_le, min, max, if◌then◌else◌, List, [], ◌∷◌, Option, Some, None, slice_set}
+use Rattle.std.specs.Prelude.{map, Bool, true, ◌&&◌, nat_le, min, max, if◌then◌else◌, List, Option, Some, None, slice_set}
 use Rattle.std.specs.List.{list_all, fold}
-use Rattle.fx_elements.specs.Axes.{Fields, field, axis_index, tops}
+use Rattle.fx_elements.specs.Axes.{Fields, field, axes, axis_index, tops}
 use Rattle.fx_boxes.specs.Boxes.{Bounds, holds}
 use Rattle.fx_config.specs.declared.property_match.PropertyMatch.{PropertyMatch}
 use Rattle.fx_config.specs.declared.selector.Method.{Method}
@@ -27,7 +27,7 @@ selects process fields = list_all (λ selector. passes selector.method fields) p
 
 -- all packets
 abbrev pub everything : Bounds
-everything = record { low = 0 ∷ 0 ∷ 0 ∷ 0 ∷ 0 ∷ 0 ∷ []; high = tops }
+everything = record { low = map (λ axis. 0) axes; high = tops }
 
 -- the bounds of what is left by a match: no value on its axis is below its low or above its high
 abbrev pub narrowed : Bounds → PropertyMatch → Bounds

@@ -11,7 +11,8 @@ use Rattle.fx_elements.specs.declared.axis.Axis.{Axis}
 use Rattle.fx_elements.specs.Axes.{axis_index}
 use Rattle.fx_layout.specs.declared.layout.Part.{Part}
 use Rattle.fx_layout.specs.Keys.{Layout, Key, same_key}
-use Rattle.fx_layout.proofs.Projections.{axis_is, same_key_is, same_key_decides}
+use Rattle.fx_elements.proofs.EveryAxis.{axis_is}
+use Rattle.fx_layout.proofs.Projections.{same_key_is, same_key_decides}
 use Rattle.fx_store.specs.Order.{part_cmp, layout_cmp, key_cmp}
 
 -- ---- total
