@@ -1,24 +1,20 @@
 -- Bounds of what cuts a region.
-use Rattle.std.proofs.Common.{◌≡◌, inl, inr, ℕ, ◌<◌, ◌≤◌, true, false, cond, List, get_or, Option, Some, None, refl, ◌∙◌, arith, nat_le, nat_lt, IfSome, IfNone}
+use Rattle.std.proofs.Common.{◌≡◌, inl, inr, ℕ, ◌<◌, ◌≤◌, true, false, cond, List, get_or, Option, Some, None, refl, ◌∙◌, subst, arith, nat_le, nat_lt, IfSome, IfNone}
 use Rattle.std.specs.Prelude.{◌&&◌}
 use Rattle.fx_elements.specs.declared.axis.Axis.{Axis}
-use Rattle.fx_elements.specs.declared.axis.Axis.TheVariants.{Source, Destination, Protocol, SourcePort, DestinationPort, ClassOfService}
-use Rattle.fx_elements.specs.Axes.{Fields, axes}
+use Rattle.fx_elements.specs.declared.axis.Axis.TheVariants.{Source}
+use Rattle.fx_elements.specs.Axes.{Fields, axes, axis_count, axis_index}
+use Rattle.fx_elements.proofs.EveryAxis.{axis_at, index_below, on_none}
 use Rattle.fx_boxes.specs.Boxes.{Bounds, IsRegion, Holds}
 use Rattle.fx_machine.specs.declared.aggregation.MatchEntry.{MatchEntry}
 use Rattle.fx_leaf.specs.SoundLeaves.{matches_packet}
 use Rattle.fx_leaf.specs.Splits.{IsBound, IsSplitBy, NoSplitBy}
 use Rattle.fx_leaf.specs.Standings.{low_at, high_at, common, is_empty, is_within, standing, match_fields}
-use Rattle.fx_leaf.proofs.Standings.{In, not_all_of, none_of, one_of, not_below, common_low, common_high, common_left, common_right, match_in, match_out, all_in, to_in, from_in}
+use Rattle.fx_leaf.proofs.Standings.{In, not_all_of, one_of, not_below, common_low, common_high, common_left, common_right, match_in, match_out, all_in, to_in, from_in}
 
 -- nothing splits on any axis
-pub on_each : (region other : Bounds) → ((k : ℕ) → k < 6 → NoSplitBy region other (get_or axes k Source)) → (axis : Axis) → NoSplitBy region other axis
-on_each region other h Source = h 0 (omega arith)
-on_each region other h Destination = h 1 (omega arith)
-on_each region other h Protocol = h 2 (omega arith)
-on_each region other h SourcePort = h 3 (omega arith)
-on_each region other h DestinationPort = h 4 (omega arith)
-on_each region other h ClassOfService = h 5 (omega arith)
+pub on_each : (region other : Bounds) → ((k : ℕ) → k < axis_count → NoSplitBy region other (get_or axes k Source)) → (axis : Axis) → NoSplitBy region other axis
+on_each region other h axis = subst (NoSplitBy region other) (axis_at axis) (h (axis_index axis) (index_below axis))
 
 not_at_most : (a b : ℕ) → nat_le a b ≡ false → b < a
 not_at_most a b e = grind (arith, e)
@@ -38,7 +34,7 @@ uncut_by region other none h =
     split e w =
         let found = not_all_of (λ axis. nat_le (low_at other axis) (low_at region axis) && nat_le (high_at region axis) (high_at other axis)) axes w in
         let axis = found.0 in
-        let p : nat_lt (high_at (common region other) axis) (low_at (common region other) axis) ≡ false = none_of (λ axis. nat_lt (high_at (common region other) axis) (low_at (common region other) axis)) e axis in
+        let p : nat_lt (high_at (common region other) axis) (low_at (common region other) axis) ≡ false = on_none (λ axis. nat_lt (high_at (common region other) axis) (low_at (common region other) axis)) e axis in
         let meet : low_at (common region other) axis ≤ high_at (common region other) axis = not_below _ _ p in
         let low = common_low region other axis in
         let high = common_high region other axis in

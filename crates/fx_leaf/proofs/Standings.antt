@@ -1,15 +1,14 @@
 -- How a region stands to another is told right.
-use Rattle.std.proofs.Common.{◌≡◌, ◌⊎◌, inl, inr, ℕ, ◌+◌, ◌-◌, ◌*◌, ◌/◌, ◌^◌, ◌<◌, ◌≤◌, Bool, true, false, cond, ◌&&◌, ◌||◌, nat_le, nat_lt, max, min, List, [], ◌∷◌, map, Option, Some, None, refl, sym, ap, ◌∙◌, subst, true≢false, arith, slice_index, le-leb, leb-true, ltb-true, eqb-true, eq-eqb, if◌then◌else◌, pow-add, ◌%◌, mod-eq_of_lt, IfSome, IfNone, ◌↔◌, take, drop, length, get_or}
+use Rattle.std.proofs.Common.{◌≡◌, ◌⊎◌, inl, inr, ℕ, ◌+◌, ◌-◌, ◌*◌, ◌/◌, ◌^◌, ◌<◌, ◌≤◌, Bool, true, false, cond, ◌&&◌, ◌||◌, nat_le, nat_lt, max, min, List, [], ◌∷◌, Option, Some, None, refl, sym, ap, ◌∙◌, subst, true≢false, arith, slice_index, le-leb, leb-true, ltb-true, eqb-true, eq-eqb, if◌then◌else◌, pow-add, IfSome, IfNone, ◌↔◌, take, drop, length, get_or}
 use Rattle.std.proofs.lemmas.List.{take_all}
 use Rattle.std.proofs.Math.Nat.{mul-le-mul_right, pow-le-pow_right, le-div_iff_mul-le, lt-div-mul-add, div-eq_of_lt-le}
 use Rattle.std.proofs.lemmas.Nat.{pow_pos}
 use Rattle.std.specs.List.{list_all, list_any}
 use Rattle.fx_elements.specs.declared.axis.Axis.{Axis}
-use Rattle.fx_elements.specs.declared.axis.Axis.TheVariants.{Source, Destination, Protocol, SourcePort, DestinationPort, ClassOfService}
 use Rattle.fx_elements.specs.Axes.{Fields, field, axes, tops, axis_index, axis_width, same_axis}
+use Rattle.fx_elements.proofs.EveryAxis.{axis_is, index_below, on_axes, on_axis, on_none, same_axis_refl, value_at, width_most}
 use Rattle.fx_boxes.specs.Boxes.{Bounds, IsRegion, Holds, IsInside, IsDisjoint, holds, is_between}
 use Rattle.fx_boxes.proofs.Holding.{holds_is, holds_if}
-use Rattle.fx_elements.proofs.EveryAxis.{axis_is, index_below}
 use Rattle.fx_layout.proofs.Projections.{and_true, and_both}
 use Rattle.fx_machine.specs.declared.aggregation.MatchEntry.{MatchEntry}
 use Rattle.fx_machine.specs.Matches.{IsEntry}
@@ -18,52 +17,6 @@ use Rattle.fx_leaf.specs.SoundLeaves.{Uncut, matches_packet}
 use Rattle.fx_leaf.specs.Standings.{low_at, high_at, common, is_empty, is_within, standing, standing_to, all_fields, entry_low, entry_high, begins_with, entry_fields, match_fields, Tells}
 
 -- ---- tests on each axis
-
-pub at_axis : (p : Axis → Bool) → list_all p axes ≡ true → (axis : Axis) → p axis ≡ true
-at_axis p h axis =
-    let t0 = and_true (p Source) _ h in
-    let t1 = and_true (p Destination) _ t0.1 in
-    let t2 = and_true (p Protocol) _ t1.1 in
-    let t3 = and_true (p SourcePort) _ t2.1 in
-    let t4 = and_true (p DestinationPort) _ t3.1 in
-    let t5 = and_true (p ClassOfService) _ t4.1 in
-    by axis t0.0 t1.0 t2.0 t3.0 t4.0 t5.0
-  where
-    by : (axis : Axis) → p Source ≡ true → p Destination ≡ true → p Protocol ≡ true → p SourcePort ≡ true → p DestinationPort ≡ true → p ClassOfService ≡ true → p axis ≡ true
-    by Source a b c d e f = a
-    by Destination a b c d e f = b
-    by Protocol a b c d e f = c
-    by SourcePort a b c d e f = d
-    by DestinationPort a b c d e f = e
-    by ClassOfService a b c d e f = f
-
-pub on_axes : (p : Axis → Bool) → ((axis : Axis) → p axis ≡ true) → list_all p axes ≡ true
-on_axes p h = every axes where
-  every : (xs : List Axis) → list_all p xs ≡ true
-  every [] = refl
-  every (x ∷ xs) = and_both (p x) (list_all p xs) (h x) (every xs)
-
-pub none_of : (p : Axis → Bool) → list_any p axes ≡ false → (axis : Axis) → p axis ≡ false
-none_of p h axis =
-    let t0 = or_false (p Source) _ h in
-    let t1 = or_false (p Destination) _ t0.1 in
-    let t2 = or_false (p Protocol) _ t1.1 in
-    let t3 = or_false (p SourcePort) _ t2.1 in
-    let t4 = or_false (p DestinationPort) _ t3.1 in
-    let t5 = or_false (p ClassOfService) _ t4.1 in
-    by axis t0.0 t1.0 t2.0 t3.0 t4.0 t5.0
-  where
-    or_false : (a b : Bool) → (a || b) ≡ false → (a ≡ false) × (b ≡ false)
-    or_false true b k = absurd (cc)
-    or_false false b k = (refl, k)
-
-    by : (axis : Axis) → p Source ≡ false → p Destination ≡ false → p Protocol ≡ false → p SourcePort ≡ false → p DestinationPort ≡ false → p ClassOfService ≡ false → p axis ≡ false
-    by Source a b c d e f = a
-    by Destination a b c d e f = b
-    by Protocol a b c d e f = c
-    by SourcePort a b c d e f = d
-    by DestinationPort a b c d e f = e
-    by ClassOfService a b c d e f = f
 
 pub some_of : (p : Axis → Bool) (xs : List Axis) → list_any p xs ≡ true → (axis : Axis) × (p axis ≡ true)
 some_of p [] h = absurd (cc)
@@ -81,14 +34,6 @@ not_all_of p (x ∷ xs) h =
       | false ↦ λ e k. (x, e)
     ] refl h
 
-pub value_of : (g : Axis → ℕ) (axis : Axis) → slice_index (map g axes) (axis_index axis) ≡ g axis
-value_of g Source = refl
-value_of g Destination = refl
-value_of g Protocol = refl
-value_of g SourcePort = refl
-value_of g DestinationPort = refl
-value_of g ClassOfService = refl
-
 -- ---- fields that are in a region
 
 pub record In (b : Bounds) (fields : Fields) : Type 0 where
@@ -97,7 +42,7 @@ pub record In (b : Bounds) (fields : Fields) : Type 0 where
 
 pub is_in : (b : Bounds) (fields : Fields) → holds b fields ≡ true → In b fields
 is_in b fields h =
-    let at = at_axis (λ axis. is_between b fields (axis_index axis)) h in
+    let at = on_axis (λ axis. is_between b fields (axis_index axis)) h in
     record {
       low = λ axis. leb-true _ _ (and_true (nat_le (low_at b axis) (field fields axis)) _ (at axis)).0;
       high = λ axis. leb-true _ _ (and_true (nat_le (low_at b axis) (field fields axis)) _ (at axis)).1;
@@ -108,10 +53,10 @@ in_holds b fields h =
     on_axes (λ axis. is_between b fields (axis_index axis)) (λ axis. and_both _ _ (le-leb _ _ (h.low axis)) (le-leb _ _ (h.high axis)))
 
 pub common_low : (a b : Bounds) (axis : Axis) → low_at (common a b) axis ≡ max (low_at a axis) (low_at b axis)
-common_low a b axis = value_of (λ axis. max (low_at a axis) (low_at b axis)) axis
+common_low a b axis = value_at (λ axis. max (low_at a axis) (low_at b axis)) axis
 
 pub common_high : (a b : Bounds) (axis : Axis) → high_at (common a b) axis ≡ min (high_at a axis) (high_at b axis)
-common_high a b axis = value_of (λ axis. min (high_at a axis) (high_at b axis)) axis
+common_high a b axis = value_at (λ axis. min (high_at a axis) (high_at b axis)) axis
 
 max_left : (a b : ℕ) → a ≤ max a b
 max_left a b = omega arith
@@ -163,7 +108,7 @@ pub meeting : (a b : Bounds) → is_empty (common a b) ≡ false → In (common 
 meeting a b e = record {
   low = λ axis. omega arith;
   high = λ axis.
-      let p : nat_lt (high_at (common a b) axis) (low_at (common a b) axis) ≡ false = none_of (λ axis. nat_lt (high_at (common a b) axis) (low_at (common a b) axis)) e axis in
+      let p : nat_lt (high_at (common a b) axis) (low_at (common a b) axis) ≡ false = on_none (λ axis. nat_lt (high_at (common a b) axis) (low_at (common a b) axis)) e axis in
       not_below _ _ p;
 }
 
@@ -184,7 +129,7 @@ within a b fields e h = record {
 }
   where
     both : (axis : Axis) → (nat_le (low_at b axis) (low_at a axis) ≡ true) × (nat_le (high_at a axis) (high_at b axis) ≡ true)
-    both axis = and_true (nat_le (low_at b axis) (low_at a axis)) (nat_le (high_at a axis) (high_at b axis)) (at_axis (λ axis. nat_le (low_at b axis) (low_at a axis) && nat_le (high_at a axis) (high_at b axis)) e axis)
+    both axis = and_true (nat_le (low_at b axis) (low_at a axis)) (nat_le (high_at a axis) (high_at b axis)) (on_axis (λ axis. nat_le (low_at b axis) (low_at a axis) && nat_le (high_at a axis) (high_at b axis)) e axis)
 
 pub one_of : (a b : Bool) → (a && b) ≡ false → (a ≡ false) ⊎ (b ≡ false)
 one_of true b h = inr h
@@ -242,7 +187,7 @@ no_tells region = record { passes = λ b. λ is. λ fields. λ h. cc; cuts = λ 
 
 pub all_in : (region : Bounds) (fields : Fields) → IsRegion region → In region fields → In all_fields fields
 all_in region fields r h = record {
-  low = λ axis. let e = value_of (λ axis. 0) axis in omega (arith, e);
+  low = λ axis. let e = value_at (λ axis. 0) axis in omega (arith, e);
   high = λ axis. let x = h.high axis in let y = (r (axis_index axis) (index_below axis)).1 in omega (arith, x, y);
 }
 
@@ -265,24 +210,16 @@ begun s v x pos low high = div-eq_of_lt-le {k = x} s {m = v} low (subst (λ y. v
     mul_more : (x s : ℕ) → (x + 1) * s ≡ x * s + s
     mul_more x s = grind arith
 
-same_axis_refl : (axis : Axis) → same_axis axis axis ≡ true
-same_axis_refl Source = refl
-same_axis_refl Destination = refl
-same_axis_refl Protocol = refl
-same_axis_refl SourcePort = refl
-same_axis_refl DestinationPort = refl
-same_axis_refl ClassOfService = refl
-
 entry_in : (e : MatchEntry) (fields : Fields) → In all_fields fields → begins_with e fields ≡ true → In (entry_fields e) fields
 entry_in e fields all h =
     let s = 2 ^ (axis_width e.axis - e.bits) in
     let range = begins s (field fields e.axis) e.value (pow_pos (axis_width e.axis - e.bits)) (eqb-true _ _ h) in
     record {
-      low = λ axis. subst (λ n. n ≤ field fields axis) (sym (value_of (λ axis. if same_axis axis e.axis then entry_low e else 0) axis)) (elim (same_axis axis e.axis) as (λ t. same_axis axis e.axis ≡ t → cond t (entry_low e) 0 ≤ field fields axis) [
+      low = λ axis. subst (λ n. n ≤ field fields axis) (sym (value_at (λ axis. if same_axis axis e.axis then entry_low e else 0) axis)) (elim (same_axis axis e.axis) as (λ t. same_axis axis e.axis ≡ t → cond t (entry_low e) 0 ≤ field fields axis) [
         | true ↦ λ same. subst (λ a. entry_low e ≤ field fields a) (sym (axis_is axis e.axis same)) range.0
         | false ↦ λ same. omega arith
       ] refl);
-      high = λ axis. subst (λ n. field fields axis ≤ n) (sym (value_of (λ axis. if same_axis axis e.axis then entry_high e else slice_index tops (axis_index axis)) axis)) (elim (same_axis axis e.axis) as (λ t. same_axis axis e.axis ≡ t → field fields axis ≤ cond t (entry_high e) (slice_index tops (axis_index axis))) [
+      high = λ axis. subst (λ n. field fields axis ≤ n) (sym (value_at (λ axis. if same_axis axis e.axis then entry_high e else slice_index tops (axis_index axis)) axis)) (elim (same_axis axis e.axis) as (λ t. same_axis axis e.axis ≡ t → field fields axis ≤ cond t (entry_high e) (slice_index tops (axis_index axis))) [
         | true ↦ λ same. subst (λ a. field fields a ≤ entry_high e) (sym (axis_is axis e.axis same)) range.1
         | false ↦ λ same. all.high axis
       ] refl);
@@ -292,8 +229,8 @@ entry_out : (e : MatchEntry) (fields : Fields) → In (entry_fields e) fields �
 entry_out e fields h =
     let s = 2 ^ (axis_width e.axis - e.bits) in
     let same = same_axis_refl e.axis in
-    let low : entry_low e ≤ field fields e.axis = subst (λ n. n ≤ field fields e.axis) (value_of (λ axis. if same_axis axis e.axis then entry_low e else 0) e.axis ∙ ap (λ t. cond t (entry_low e) 0) same) (h.low e.axis) in
-    let high : field fields e.axis ≤ entry_high e = subst (λ n. field fields e.axis ≤ n) (value_of (λ axis. if same_axis axis e.axis then entry_high e else slice_index tops (axis_index axis)) e.axis ∙ ap (λ t. cond t (entry_high e) (slice_index tops (axis_index e.axis))) same) (h.high e.axis) in
+    let low : entry_low e ≤ field fields e.axis = subst (λ n. n ≤ field fields e.axis) (value_at (λ axis. if same_axis axis e.axis then entry_low e else 0) e.axis ∙ ap (λ t. cond t (entry_low e) 0) same) (h.low e.axis) in
+    let high : field fields e.axis ≤ entry_high e = subst (λ n. field fields e.axis ≤ n) (value_at (λ axis. if same_axis axis e.axis then entry_high e else slice_index tops (axis_index axis)) e.axis ∙ ap (λ t. cond t (entry_high e) (slice_index tops (axis_index e.axis))) same) (h.high e.axis) in
     eq-eqb _ _ (begun s (field fields e.axis) e.value (pow_pos (axis_width e.axis - e.bits)) low high)
 
 pub match_in : (es : List MatchEntry) (fields : Fields) → In all_fields fields → matches_packet es fields ≡ true → In (match_fields es) fields
@@ -385,7 +322,7 @@ cut_told region other some less =
 -- ---- entries in a program's terms
 
 -- an entry's values end below the end of its axis
-pub entry_ends : (e : MatchEntry) → IsEntry e → entry_high e < 2 ^ axis_width e.axis
+entry_ends : (e : MatchEntry) → IsEntry e → entry_high e < 2 ^ axis_width e.axis
 entry_ends e h =
     let free = axis_width e.axis - e.bits in
     let whole : 2 ^ axis_width e.axis ≡ 2 ^ e.bits * 2 ^ free = ap (λ n. 2 ^ n) (let le = h.0 in let k : axis_width e.axis ≡ e.bits + free = omega (arith, le) in k) ∙ pow-add 2 e.bits free in
@@ -396,35 +333,21 @@ entry_ends e h =
     last : (p s w : ℕ) → 0 < s → p + s ≤ w → p + (s - 1) < w
     last p s w pos le = omega arith
 
+-- its values have at most 128 bits
+pub high_fits : (e : MatchEntry) → IsEntry e → entry_high e < 2 ^ 128
+high_fits e h =
+    let ends = entry_ends e h in
+    let grows : 2 ^ axis_width e.axis ≤ 2 ^ 128 = pow-le-pow_right {n = 2} (omega arith) (width_most e.axis) in
+    omega (arith, ends, grows)
+
+pub low_fits : (e : MatchEntry) → IsEntry e → entry_low e < 2 ^ 128
+low_fits e h = let high = high_fits e h in omega (arith, high)
+
 pub entry_begins : (e : MatchEntry) (fields : Fields) → begins_with e fields ≡ true → (entry_low e ≤ field fields e.axis) × (field fields e.axis ≤ entry_high e)
 entry_begins e fields h = begins (2 ^ (axis_width e.axis - e.bits)) (field fields e.axis) e.value (pow_pos (axis_width e.axis - e.bits)) (eqb-true _ _ h)
 
 pub entry_begun : (e : MatchEntry) (fields : Fields) → entry_low e ≤ field fields e.axis → field fields e.axis ≤ entry_high e → begins_with e fields ≡ true
 entry_begun e fields low high = eq-eqb _ _ (begun (2 ^ (axis_width e.axis - e.bits)) (field fields e.axis) e.value (pow_pos (axis_width e.axis - e.bits)) low high)
-
-width_small : (axis : Axis) → axis_width axis ≤ 32
-width_small Source = omega arith
-width_small Destination = omega arith
-width_small Protocol = omega arith
-width_small SourcePort = omega arith
-width_small DestinationPort = omega arith
-width_small ClassOfService = omega arith
-
-pub small_ends : (e : MatchEntry) → IsEntry e → entry_high e < 2 ^ 32
-small_ends e h =
-    let ends = entry_ends e h in
-    let grows : 2 ^ axis_width e.axis ≤ 2 ^ 32 = pow-le-pow_right {n = 2} (omega arith) (width_small e.axis) in
-    omega (arith, ends, grows)
-
-pub span_is : (e : MatchEntry) (w : ℕ) → w ≡ axis_width e.axis → 1 * 2 ^ (w - e.bits) % 2 ^ 128 ≡ 2 ^ (axis_width e.axis - e.bits)
-span_is e w is =
-    let free = axis_width e.axis - e.bits in
-    let grows : 2 ^ free ≤ 2 ^ 32 = pow-le-pow_right {n = 2} (omega arith) (let k = width_small e.axis in let le : axis_width e.axis - e.bits ≤ 32 = omega (arith, k) in le) in
-    let small : 2 ^ free < 2 ^ 128 = omega (arith, grows) in
-    ap (λ n. 1 * 2 ^ (n - e.bits) % 2 ^ 128) is ∙ ap (λ n. n % 2 ^ 128) (one_of_it (2 ^ free)) ∙ mod-eq_of_lt small
-  where
-    one_of_it : (x : ℕ) → 1 * x ≡ x
-    one_of_it x = grind arith
 
 not_true : (b : Bool) → (b ≡ true → ⊥) → b ≡ false
 not_true true h = absurd (h refl)

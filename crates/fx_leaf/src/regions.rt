@@ -8,7 +8,7 @@ ghost use Rattle.fx_leaf.specs.SoundLeaves as leaves;
 ghost use Rattle.fx_leaf.specs.Standings as standings;
 
 use fx_boxes::Region;
-use fx_elements::{Axis, width};
+use fx_elements::{Axis, top, width};
 use fx_machine::MatchEntry;
 
 /// No low of the region is above its high, as its type keeps.
@@ -59,23 +59,22 @@ fn from_on(region: &Region, axis: Axis, least: u128) -> Option<Region>
 
 /// The fields of the region whose value on the axis is this or less, if there are any.
 fn up_to(region: &Region, axis: Axis, most: u128) -> Option<Region>
-    requires { most < 2 ^ 127 }
     ensures some { IfSome result (λ r. (f : List ℕ) → boxes.Holds r f ↔ (boxes.Holds region.now f × (slice_index f (axes.axis_index axis) ≤ most))) }
     ensures none { IfNone result ((f : List ℕ) → boxes.Holds region.now f → most < slice_index f (axes.axis_index axis)) }
 {
-    if let Some(parts) = region.split(axis, most + 1) {
-        return Some(parts.0);
+    if region.far_corner().get(axis) <= most {
+        return Some(*region);
     }
-    if most < region.corner().get(axis) {
-        None
-    } else {
-        Some(*region)
+    match region.split(axis, most + 1) {
+        Some(parts) => Some(parts.0),
+        None => None,
     }
 }
 
-/// How many values of its axis begin with the bits of an entry.
+/// How many values of its axis begin with the bits of an entry, which has some.
 fn span(entry: MatchEntry) -> u128
-    requires { IsEntry entry }
+    requires entry { IsEntry entry }
+    requires some { 0 < entry.bits }
     ensures { result ≡ 2 ^ (axes.axis_width entry.axis - entry.bits) }
 {
     1 << (width(entry.axis) - entry.bits)
@@ -86,15 +85,20 @@ fn least_of(entry: MatchEntry) -> u128
     requires { IsEntry entry }
     ensures { result ≡ standings.entry_low entry }
 {
+    if entry.bits == 0 {
+        return 0;
+    }
     entry.value * span(entry)
 }
 
 /// The greatest value that begins with the bits of an entry.
 fn most_of(entry: MatchEntry) -> u128
     requires { IsEntry entry }
-    ensures value { result ≡ standings.entry_high entry }
-    ensures bound { result < 2 ^ 127 }
+    ensures { result ≡ standings.entry_high entry }
 {
+    if entry.bits == 0 {
+        return top(entry.axis);
+    }
     least_of(entry) + (span(entry) - 1)
 }
 

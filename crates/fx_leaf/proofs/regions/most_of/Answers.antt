@@ -1,10 +1,6 @@
-use Rattle.std.proofs.Common.{◌≡◌, ◌+◌, ◌-◌, arith, refl}
-use Rattle.fx_leaf.specs.Standings.{entry_high}
-use Rattle.fx_leaf.proofs.Standings.{small_ends}
+use Rattle.std.proofs.Common.{arith}
+use Rattle.fx_leaf.proofs.Standings.{high_fits}
 use Rattle.fx_leaf.proofs.regions.most_of.Goals as goal
 
-pub returns-clause-bound : goal.returns-clause-bound
-returns-clause-bound c =
-    let small = small_ends c.args.entry c.requires in
-    let same : c.least_of.result + (c.span.result - 1) ≡ entry_high c.args.entry = rw (c.least_of.ensures, c.span.ensures) refl in
-    omega (arith, small, same)
+pub overflow_add-result : goal.overflow_add-result
+overflow_add-result c = rw (c.least_of.ensures, c.span.ensures) (let fits = high_fits c.args.entry c.requires in omega (arith, fits))
