@@ -2,7 +2,8 @@
 use Rattle.std.proofs.Common.{◌≡◌, ℕ, zero, suc, ◌-◌, ◌^◌, ◌<◌, ◌≤◌, Bool, true, false, List, [], ◌∷◌, map, length, get_or, refl, sym, ap, ◌∙◌, arith, eqb-true, eq-eqb}
 use Rattle.std.specs.List.{list_all, list_any}
 use Rattle.std.proofs.Math.Nat.{pow-le-pow_right}
-use Rattle.std.proofs.lemmas.Bool.{and_from, and_parts, or_parts}
+use Rattle.std.proofs.lemmas.Bool.{and_from, and_parts, or_from, or_parts}
+use Rattle.std.proofs.lemmas.List.Folds.{list_any_at}
 use Rattle.std.proofs.lemmas.Nat.{pow_pos}
 use Rattle.fx_elements.specs.declared.axis.Axis.{Axis}
 use Rattle.fx_elements.specs.declared.axis.Axis.TheVariants.{Source, Destination, Protocol, SourcePort, DestinationPort, ClassOfService}
@@ -66,6 +67,9 @@ address_width ClassOfService h = absurd (cc)
 abbrev axis_from : ℕ → Axis
 axis_from k = get_or axes k Source
 
+pub index_at : (k : ℕ) → k < axis_count → axis_index (get_or axes k Source) ≡ k
+index_at k lt = let at = placed k lt in ap (λ n. axis_index (get_or axes n Source)) (sym at.1) ∙ ap axis_index (axis_at at.0) ∙ at.1
+
 pub axis_is : (a b : Axis) → same_axis a b ≡ true → a ≡ b
 axis_is a b h = sym (axis_at a) ∙ ap axis_from (eqb-true (axis_index a) (axis_index b) h) ∙ axis_at b
 
@@ -111,3 +115,12 @@ on_axes p h = all_if p axes h
 
 pub on_none : (p : Axis → Bool) → list_any p axes ≡ false → (axis : Axis) → p axis ≡ false
 on_none p h axis = ap p (sym (axis_at axis)) ∙ none_at p axes (axis_index axis) Source h (index_below axis)
+
+pub on_some : (p : Axis → Bool) (axis : Axis) → p axis ≡ true → list_any p axes ≡ true
+on_some p axis h = list_any_at p axes (axis_index axis) Source (index_below axis) (ap p (axis_at axis) ∙ h)
+
+pub on_no_axis : (p : Axis → Bool) → ((axis : Axis) → p axis ≡ false) → list_any p axes ≡ false
+on_no_axis p h = none axes where
+  none : (xs : List Axis) → list_any p xs ≡ false
+  none [] = refl
+  none (x ∷ xs) = or_from _ _ (h x) (none xs)

@@ -1,5 +1,5 @@
 -- Data records, one after another.
-use Rattle.std.proofs.Common.{◌≡◌, ℕ, zero, suc, ◌+◌, ◌%◌, ◌^◌, ◌≤◌, ◌<◌, Bool, true, false, ◌==◌, cond, ltb, ltb-false, lt-ltb, le-ltb, List, [], ◌∷◌, ◌++◌, length, drop, slice_index, get_or, refl, ap, sym, ◌∙◌, arith, append_assoc, length-drop, Option, Some, None, Result, Ok, Err, inl, inr}
+use Rattle.std.proofs.Common.{◌≡◌, ℕ, zero, suc, ◌+◌, ◌%◌, ◌^◌, ◌≤◌, ◌<◌, Bool, true, false, ◌==◌, cond, ltb, ltb-false, lt-ltb, le-ltb, List, [], ◌∷◌, ◌++◌, length, drop, slice_index, refl, ap, sym, ◌∙◌, arith, append_assoc, length-drop, Option, Some, None, Result, Ok, Err, inl, inr}
 use Rattle.std.specs.Int.{w16}
 use Rattle.std.proofs.lemmas.List.Sums.{sum_by-cons}
 use Rattle.fx_machine.specs.declared.record.Record.{Record}
@@ -8,24 +8,9 @@ use Rattle.fx_wire.proofs.RecordSteps.{record_at-first, record_at-cut, record_at
 use Rattle.fx_wire.specs.Numbers.{number_at}
 use Rattle.fx_wire.specs.Values.{Value, octets_at, variable_at, value_at, record_at, before_values, rest_of, after_record, shortest_value, shortest_record}
 use Rattle.fx_wire.specs.declared.field.FieldSpecifier.{FieldSpecifier}
-use Rattle.fx_session.specs.Flows.{flow_of, flow_in, Numbers}
+use Rattle.fx_session.specs.Flows.{flow_in}
 use Rattle.fx_session.specs.DataSets.{Taken, after_flow, after_values, flow_record, flow_records, flow_set, option_records, option_set}
 use Rattle.fx_session.specs.Calls.{Grows}
-
--- only the numbers at the twelve places matter
-abbrev twelve : Numbers → List (Option ℕ)
-twelve f = f 0 ∷ f 1 ∷ f 2 ∷ f 3 ∷ f 4 ∷ f 5 ∷ f 6 ∷ f 7 ∷ f 8 ∷ f 9 ∷ f 10 ∷ f 11 ∷ []
-
-by_list : (f : Numbers) → flow_of f ≡ flow_of (λ k. get_or (twelve f) k None)
-unfolding flow_of
-by_list f = refl
-
-same_twelve : (f g : Numbers) → ((k : ℕ) → k < 12 → f k ≡ g k) → twelve f ≡ twelve g
-same_twelve f g h =
-    cc (h 0 (omega arith), h 1 (omega arith), h 2 (omega arith), h 3 (omega arith), h 4 (omega arith), h 5 (omega arith), h 6 (omega arith), h 7 (omega arith), h 8 (omega arith), h 9 (omega arith), h 10 (omega arith), h 11 (omega arith))
-
-pub flow_of-agrees : (f g : Numbers) → ((k : ℕ) → k < 12 → f k ≡ g k) → flow_of f ≡ flow_of g
-flow_of-agrees f g h = by_list f ∙ ap (λ (l : List (Option ℕ)). flow_of (λ k. get_or l k None)) (same_twelve f g h) ∙ sym (by_list g)
 
 -- ---- what values and records take up
 

@@ -7,7 +7,7 @@ use Rattle.fx_wire.specs.Fields.{element_of, fields_in}
 use Rattle.fx_wire.specs.Values.{record_at}
 use Rattle.fx_session.specs.Templates.{same_fields}
 use Rattle.fx_session.specs.TemplateSets.{has_narrow, template_record, template_records, template_set}
-use Rattle.fx_session.specs.Flows.{number_in, flow_of}
+use Rattle.fx_session.specs.Flows.{number_in, flow_in}
 use Rattle.fx_session.specs.DataSets.{flow_records, flow_set}
 use Rattle.fx_session.specs.Messages.{set_read, sets_read, message_read}
 use Rattle.fx_session.specs.Streams.{read_in, read_all, fed, start}
@@ -28,11 +28,11 @@ flow packets = record {
 }
 
 reads_two_messages : (fed start (first ++ second)).known.waiting ≡ flow 2 ∷ flow 1 ∷ []
-unfolding sets_of sets_in element_of fields_in record_at same_fields has_narrow template_record template_records template_set number_in flow_of flow_records flow_set set_read sets_read message_read read_in read_all
+unfolding sets_of sets_in element_of fields_in record_at same_fields has_narrow template_record template_records template_set number_in flow_in flow_records flow_set set_read sets_read message_read read_in read_all
 reads_two_messages = refl
 
 counts_a_gap : (fed start (first ++ first)).known.gaps ≡ 1
-unfolding sets_of sets_in element_of fields_in record_at same_fields has_narrow template_record template_records template_set number_in flow_of flow_records flow_set set_read sets_read message_read read_in read_all
+unfolding sets_of sets_in element_of fields_in record_at same_fields has_narrow template_record template_records template_set number_in flow_in flow_records flow_set set_read sets_read message_read read_in read_all
 counts_a_gap = refl
 
 needs_a_template : (fed start second).fault ≡ Some 617

@@ -1,15 +1,17 @@
 -- Layouts that are built along the axes.
-use Rattle.std.proofs.Common.{◌≡◌, ℕ, suc, ◌≤◌, ◌<◌, Bool, true, false, ◌&&◌, not, ◌==◌, cond, le-ltb, List, [], ◌∷◌, ◌++◌, refl, ap, sym, ◌∙◌, arith, Option, Some, None}
+use Rattle.std.proofs.Common.{◌≡◌, ℕ, suc, ◌≤◌, ◌<◌, Bool, true, false, ◌&&◌, not, ◌==◌, cond, le-ltb, List, [], ◌∷◌, ◌++◌, refl, ap, sym, ◌∙◌, arith, Option, Some, None, map, length, get_or}
 use Rattle.std.specs.Prelude.{is_some, nat_le, bytes_eq}
 use Rattle.std.proofs.lemmas.Slice.Eq.{bytes_eq-Decides}
 use Rattle.std.proofs.lemmas.Bool.Decides.{nat_tests}
 use Rattle.fx_elements.specs.declared.axis.Axis.{Axis}
-use Rattle.fx_elements.specs.declared.axis.Axis.TheVariants.{Source, Destination, Protocol, SourcePort, DestinationPort, ClassOfService}
-use Rattle.fx_elements.specs.Axes.{axis_index}
+use Rattle.fx_elements.specs.Axes.{axes, axis_count, axis_index}
+use Rattle.fx_elements.proofs.EveryAxis.{index_below}
+use Rattle.std.specs.List.{flat_map}
+use Rattle.std.proofs.lemmas.List.{get_or-map}
 use Rattle.fx_layout.specs.declared.layout.Part.{Part}
 use Rattle.fx_layout.specs.Keys.{Layout, part_at, with_part, can_stand}
 use Rattle.fx_session.specs.Flows.{Found, part_of, layout_of}
-use Rattle.fx_session.specs.Parts.{AllBefore, Stands, bits_of, part_by, layout_by}
+use Rattle.fx_session.specs.Parts.{AllBefore, AllStand, Stands, bits_of, found_on, part_by, layout_by}
 
 pub before-more : (l : Layout) (j k : ℕ) → AllBefore l j → j ≤ k → AllBefore l k
 before-more [] j k b h = tt
@@ -47,10 +49,16 @@ part_by-is : (axis : Axis) (f : Found) → Stands axis f → part_of axis f ≡ 
 part_by-is axis None s = refl
 part_by-is axis (Some p) s = ap (λ (t : Bool). cond t [] (record { axis = axis; bits = p.bits } ∷ [])) (sym (apart_from_none p.bits _ s))
 
-pub layout_by-is : (a b c d e f : Found) → Stands Source a → Stands Destination b → Stands Protocol c → Stands SourcePort d → Stands DestinationPort e → Stands ClassOfService f
-    → layout_of a b c d e f ≡ layout_by (bits_of a ∷ bits_of b ∷ bits_of c ∷ bits_of d ∷ bits_of e ∷ bits_of f ∷ [])
-layout_by-is a b c d e f sa sb sc sd se sf =
-    cc (part_by-is Source a sa, part_by-is Destination b sb, part_by-is Protocol c sc, part_by-is SourcePort d sd, part_by-is DestinationPort e se, part_by-is ClassOfService f sf)
+-- layouts along axes whose parts are the same
+pub same_parts : (f g : Axis → Layout) (xs : List Axis) → ((axis : Axis) → f axis ≡ g axis) → flat_map f xs ≡ flat_map g xs
+same_parts f g [] h = refl
+same_parts f g (x ∷ xs) h = cc (h x, same_parts f g xs h)
+
+pub layout_by-is : (found : List Found) → AllStand found → length found ≡ axis_count → layout_of (found_on found) ≡ layout_by (map bits_of found)
+layout_by-is found s len =
+    same_parts (λ axis. part_of axis (found_on found axis)) (λ axis. part_by axis (get_or (map bits_of found) (axis_index axis) 0)) axes
+    (λ axis. part_by-is axis (found_on found axis) (s axis)
+    ∙ ap (part_by axis) (sym (get_or-map bits_of found (axis_index axis) None 0 (let below = index_below axis in omega (arith, len, below)))))
 
 -- the same bits have the same layout
 pub same_bits : (l : Layout) (old new : List ℕ) → l ≡ layout_by old → false ≡ not (bytes_eq old new) → l ≡ layout_by new

@@ -1,5 +1,6 @@
 pub mod TemplateSteps
 pub mod Layouts
+pub mod Keys
 pub mod Numbers
 pub mod Notes
 pub mod DataSteps

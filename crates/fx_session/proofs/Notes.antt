@@ -1,83 +1,130 @@
 -- What is noted of values, one after another.
-use Rattle.std.proofs.Common.{◌≡◌, ℕ, ◌+◌, ◌≤◌, ◌<◌, Bool, true, false, ◌==◌, cond, List, [], ◌∷◌, ◌++◌, length, drop, get_or, refl, ap, sym, ◌∙◌, arith, append_assoc, Option, Some, None}
+use Rattle.std.proofs.Common.{◌≡◌, ℕ, ◌+◌, ◌<◌, ◌≤◌, Bool, true, false, cond, eq-eqb, List, [], ◌∷◌, ◌++◌, length, drop, get_or, refl, ap, sym, ◌∙◌, arith, append_assoc, Option, Some, None, option_map}
 use Rattle.std.proofs.Math.ListN.{set}
-use Rattle.std.specs.Prelude.{is_some}
+use Rattle.std.specs.List.{find}
+use Rattle.std.specs.Option.{option_or}
+use Rattle.fx_elements.specs.Axes.{axis_count, axis_index, same_axis}
+use Rattle.fx_elements.specs.declared.axis.Axis.{Axis}
+use Rattle.fx_elements.specs.declared.element.Element.{Element}
+use Rattle.fx_elements.specs.declared.element.Element.TheVariants.{OnAxis, OctetDeltaCount, PacketDeltaCount}
+use Rattle.fx_elements.proofs.EveryAxis.{axis_is, index_below}
 use Rattle.std.proofs.lemmas.List.{get_or-set_other}
 use Rattle.std.proofs.lemmas.Grind.{get_or-set_at}
-use Rattle.std.proofs.lemmas.Bool.Decides.{nat_tests}
 use Rattle.fx_wire.specs.Fields.{element_of}
 use Rattle.fx_wire.specs.Values.{Value, value_at, record_at, before_values}
 use Rattle.fx_wire.specs.declared.field.FieldSpecifier.{FieldSpecifier}
 use Rattle.fx_wire.proofs.RecordSteps.{here_and_on, none_left, record_at-first, record_at-cut, record_at-end}
-use Rattle.fx_session.specs.Flows.{first_at, place_of, number_in}
+use Rattle.fx_session.specs.declared.seen.Seen.{Seen}
+use Rattle.fx_session.specs.Flows.{first_where, is_value, is_prefix, is_prefix_length, is_octets, is_packets, number_in}
 use Rattle.fx_session.specs.Values.{Notes}
 
-abbrev or_else : Option ℕ → Option ℕ → Option ℕ
-or_else (Some x) o = Some x
-or_else None o = o
-
-abbrev alone : ℕ → Value → Option ℕ
-alone k v = cond (place_of (element_of v.field) == k) (Some (number_in v.content)) None
-
--- the first value at a place is the first so far, or else the new one if it is there
-first_at-push : (k : ℕ) (vs : List Value) (v : Value) → first_at k (vs ++ v ∷ []) ≡ or_else (first_at k vs) (alone k v)
-first_at-push k [] v = refl
-first_at-push k (w ∷ ws) v = by (place_of (element_of w.field) == k) (first_at-push k ws v) where
-  by : (t : Bool) → first_at k (ws ++ v ∷ []) ≡ or_else (first_at k ws) (alone k v)
-      → cond t (Some (number_in w.content)) (first_at k (ws ++ v ∷ [])) ≡ or_else (cond t (Some (number_in w.content)) (first_at k ws)) (alone k v)
+-- the first number is the first so far, or else the new one if its element is meant
+first-push : (is : Element → Bool) (vs : List Value) (v : Value)
+    → first_where is (vs ++ v ∷ []) ≡ option_or (first_where is vs) (cond (is (element_of v.field)) (Some (number_in v.content)) None)
+first-push is [] v = alone (is (element_of v.field)) where
+  alone : (t : Bool) → option_map (λ (w : Value). number_in w.content) (cond t (Some v) None) ≡ cond t (Some (number_in v.content)) None
+  alone true = refl
+  alone false = refl
+first-push is (w ∷ ws) v = by (is (element_of w.field)) (first-push is ws v) where
+  by : (t : Bool) → first_where is (ws ++ v ∷ []) ≡ option_or (first_where is ws) (cond (is (element_of v.field)) (Some (number_in v.content)) None)
+      → option_map (λ (u : Value). number_in u.content) (cond t (Some w) (find (λ (u : Value). is (element_of u.field)) (ws ++ v ∷ [])))
+      ≡ option_or (option_map (λ (u : Value). number_in u.content) (cond t (Some w) (find (λ (u : Value). is (element_of u.field)) ws))) (cond (is (element_of v.field)) (Some (number_in v.content)) None)
   by true ih = refl
   by false ih = ih
 
-same_place : (m n : ℕ) → m ≡ n → (m == n) ≡ true
-same_place m n h = grind (arith, nat_tests)
+or_none : (o : Option ℕ) → o ≡ option_or o None
+or_none (Some x) = refl
+or_none None = refl
 
-other_place : (m n : ℕ) → (m ≡ n → ⊥) → (m == n) ≡ false
-other_place m n h = grind (arith, nat_tests)
+-- a value of another element changes nothing
+pub kept : (is : Element → Bool) (vs : List Value) (v : Value) (o : Option ℕ) → is (element_of v.field) ≡ false → o ≡ first_where is vs → o ≡ first_where is (vs ++ v ∷ [])
+kept is vs v o other e = e ∙ or_none (first_where is vs) ∙ ap (λ (t : Bool). option_or (first_where is vs) (cond t (Some (number_in v.content)) None)) (sym other) ∙ sym (first-push is vs v)
 
-or_else-none : (o : Option ℕ) → or_else o None ≡ o
-or_else-none (Some x) = refl
-or_else-none None = refl
+-- a value of the element is noted where none is
+pub taken : (is : Element → Bool) (vs : List Value) (v : Value) (o : Option ℕ) → is (element_of v.field) ≡ true → o ≡ first_where is vs → option_or o (Some (number_in v.content)) ≡ first_where is (vs ++ v ∷ [])
+taken is vs v o own e =
+    ap (λ (p : Option ℕ). option_or p (Some (number_in v.content))) e ∙ ap (λ (t : Bool). option_or (first_where is vs) (cond t (Some (number_in v.content)) None)) (sym own) ∙ sym (first-push is vs v)
 
--- a value of no place, or of one that has a value already, changes nothing
-pub notes_unread : (numbers : List (Option ℕ)) (vs : List Value) (v : Value) → Notes numbers vs → 12 ≤ place_of (element_of v.field) → Notes numbers (vs ++ v ∷ [])
-notes_unread numbers vs v n h = λ k less.
-    n k less ∙ sym (or_else-none (first_at k vs)) ∙ ap (λ (t : Bool). or_else (first_at k vs) (cond t (Some (number_in v.content)) None)) (sym (other_place (place_of (element_of v.field)) k (λ e. omega arith)))
-    ∙ sym (first_at-push k vs v)
+-- the same along the axes: the element has values of one of them
+pub taken_on : (is : Axis → Element → Bool) (vs : List Value) (v : Value) (own : Axis) (numbers : List (Option ℕ)) → length numbers ≡ axis_count
+    → ((axis : Axis) → is axis (element_of v.field) ≡ same_axis own axis) → ((axis : Axis) → get_or numbers (axis_index axis) None ≡ first_where (is axis) vs)
+    → (axis : Axis) → get_or (set numbers (axis_index own) (option_or (get_or numbers (axis_index own) None) (Some (number_in v.content)))) (axis_index axis) None ≡ first_where (is axis) (vs ++ v ∷ [])
+taken_on is vs v own numbers len meant known axis =
+    elim (same_axis own axis) as (λ t. same_axis own axis ≡ t → get_or (set numbers (axis_index own) (option_or (get_or numbers (axis_index own) None) (Some (number_in v.content)))) (axis_index axis) None ≡ first_where (is axis) (vs ++ v ∷ [])) [
+      | true ↦ λ e.
+          let here : own ≡ axis = axis_is own axis e in
+          let below = index_below own in
+          get_or-set_at numbers (axis_index own) (axis_index axis) (option_or (get_or numbers (axis_index own) None) (Some (number_in v.content))) None (ap axis_index (sym here)) (omega (arith, len, below))
+          ∙ ap (λ (a : Axis). option_or (get_or numbers (axis_index a) None) (Some (number_in v.content))) here
+          ∙ taken (is axis) vs v (get_or numbers (axis_index axis) None) (meant axis ∙ e) (known axis)
+      | false ↦ λ e.
+          get_or-set_other numbers (axis_index own) (axis_index axis) (option_or (get_or numbers (axis_index own) None) (Some (number_in v.content))) None (λ q. let yes = eq-eqb (axis_index own) (axis_index axis) (sym q) in cc (yes, e))
+          ∙ kept (is axis) vs v (get_or numbers (axis_index axis) None) (meant axis ∙ e) (known axis)
+    ] refl
 
-or_else-some : (o p : Option ℕ) → is_some o ≡ true → or_else o p ≡ o
-or_else-some (Some x) p e = refl
-or_else-some None p e = absurd cc
+-- ---- a value of each kind of element
 
-by_place : (m n : ℕ) (P : Type 0) → (m ≡ n → P) → ((m == n) ≡ false → P) → P
-by_place m n P same apart = by (m == n) refl where
-  by : (t : Bool) → (m == n) ≡ t → P
-  by true e = same (grind (arith, nat_tests))
-  by false e = apart e
+pub note_value : (seen : Seen) (vs : List Value) (v : Value) (own : Axis) (new : List (Option ℕ)) → length seen.numbers ≡ axis_count → element_of v.field ≡ OnAxis own
+    → new ≡ set seen.numbers (axis_index own) (option_or (get_or seen.numbers (axis_index own) None) (Some (number_in v.content))) → Notes seen vs → Notes (record seen { numbers = new }) (vs ++ v ∷ [])
+note_value seen vs v own new len e is h = record {
+  numbers = λ axis. ap (λ (ns : List (Option ℕ)). get_or ns (axis_index axis) None) is ∙ taken_on is_value vs v own seen.numbers len (λ a. ap (is_value a) e) h.numbers axis;
+  prefixes = λ axis. kept (is_prefix axis) vs v _ (ap (is_prefix axis) e) (h.prefixes axis);
+  lengths = λ axis. kept (is_prefix_length axis) vs v _ (ap (is_prefix_length axis) e) (h.lengths axis);
+  octets = kept is_octets vs v _ (ap is_octets e) h.octets;
+  packets = kept is_packets vs v _ (ap is_packets e) h.packets;
+}
 
-pub notes_kept : (numbers : List (Option ℕ)) (vs : List Value) (v : Value) (place : ℕ) (b : Bool) → Notes numbers vs → place ≡ place_of (element_of v.field) → place < 12
-    → b ≡ is_some (get_or numbers place None) → b ≡ true → Notes numbers (vs ++ v ∷ [])
-notes_kept numbers vs v place b n p h e f = λ k less.
-    n k less ∙ by_place (place_of (element_of v.field)) k _
-    (λ same. let here : place ≡ k = p ∙ same in
-    sym (or_else-some (first_at k vs) (alone k v) (ap is_some (sym (n k less)) ∙ ap (λ (x : ℕ). is_some (get_or numbers x None)) (sym here) ∙ sym e ∙ f)))
-    (λ other. sym (or_else-none (first_at k vs)) ∙ ap (λ (t : Bool). or_else (first_at k vs) (cond t (Some (number_in v.content)) None)) (sym other))
-    ∙ sym (first_at-push k vs v)
+pub note_prefix : (seen : Seen) (vs : List Value) (v : Value) (element : Element) (own : Axis) (new : List (Option ℕ)) → length seen.prefixes ≡ axis_count → element_of v.field ≡ element
+    → ((axis : Axis) → is_prefix axis element ≡ same_axis own axis) → ((axis : Axis) → is_value axis element ≡ false) → ((axis : Axis) → is_prefix_length axis element ≡ false) → is_octets element ≡ false → is_packets element ≡ false
+    → new ≡ set seen.prefixes (axis_index own) (option_or (get_or seen.prefixes (axis_index own) None) (Some (number_in v.content))) → Notes seen vs → Notes (record seen { prefixes = new }) (vs ++ v ∷ [])
+note_prefix seen vs v element own new len e meant value length octets packets is h = record {
+  numbers = λ axis. kept (is_value axis) vs v _ (ap (is_value axis) e ∙ value axis) (h.numbers axis);
+  prefixes = λ axis. ap (λ (ns : List (Option ℕ)). get_or ns (axis_index axis) None) is ∙ taken_on is_prefix vs v own seen.prefixes len (λ a. ap (is_prefix a) e ∙ meant a) h.prefixes axis;
+  lengths = λ axis. kept (is_prefix_length axis) vs v _ (ap (is_prefix_length axis) e ∙ length axis) (h.lengths axis);
+  octets = kept is_octets vs v _ (ap is_octets e ∙ octets) h.octets;
+  packets = kept is_packets vs v _ (ap is_packets e ∙ packets) h.packets;
+}
 
-is_none : (o : Option ℕ) → is_some o ≡ false → o ≡ None
-is_none (Some x) e = absurd cc
-is_none None e = refl
+pub note_length : (seen : Seen) (vs : List Value) (v : Value) (element : Element) (own : Axis) (new : List (Option ℕ)) → length seen.lengths ≡ axis_count → element_of v.field ≡ element
+    → ((axis : Axis) → is_prefix_length axis element ≡ same_axis own axis) → ((axis : Axis) → is_value axis element ≡ false) → ((axis : Axis) → is_prefix axis element ≡ false) → is_octets element ≡ false → is_packets element ≡ false
+    → new ≡ set seen.lengths (axis_index own) (option_or (get_or seen.lengths (axis_index own) None) (Some (number_in v.content))) → Notes seen vs → Notes (record seen { lengths = new }) (vs ++ v ∷ [])
+note_length seen vs v element own new len e meant value prefix octets packets is h = record {
+  numbers = λ axis. kept (is_value axis) vs v _ (ap (is_value axis) e ∙ value axis) (h.numbers axis);
+  prefixes = λ axis. kept (is_prefix axis) vs v _ (ap (is_prefix axis) e ∙ prefix axis) (h.prefixes axis);
+  lengths = λ axis. ap (λ (ns : List (Option ℕ)). get_or ns (axis_index axis) None) is ∙ taken_on is_prefix_length vs v own seen.lengths len (λ a. ap (is_prefix_length a) e ∙ meant a) h.lengths axis;
+  octets = kept is_octets vs v _ (ap is_octets e ∙ octets) h.octets;
+  packets = kept is_packets vs v _ (ap is_packets e ∙ packets) h.packets;
+}
 
-pub notes_put : (numbers : List (Option ℕ)) (vs : List Value) (v : Value) (place : ℕ) (b : Bool) (n : ℕ) → Notes numbers vs → length numbers ≡ 12 → place ≡ place_of (element_of v.field) → place < 12
-    → b ≡ is_some (get_or numbers place None) → b ≡ false → n ≡ number_in v.content → Notes (set numbers place (Some n)) (vs ++ v ∷ [])
-notes_put numbers vs v place b n known len p h e f number = λ k less.
-    by_place (place_of (element_of v.field)) k _
-    (λ same. let here : place ≡ k = p ∙ same in
-    let none : first_at k vs ≡ None = is_none (first_at k vs) (ap is_some (sym (known k less)) ∙ ap (λ (x : ℕ). is_some (get_or numbers x None)) (sym here) ∙ sym e ∙ f) in
-    get_or-set_at numbers place k (Some n) None (sym here) (omega arith) ∙ ap Some number
-    ∙ ap (λ (t : Bool). cond t (Some (number_in v.content)) None) (sym (same_place (place_of (element_of v.field)) k same)) ∙ ap (λ (o : Option ℕ). or_else o (alone k v)) (sym none))
-    (λ other. get_or-set_other numbers place k (Some n) None (λ q. let yes = same_place (place_of (element_of v.field)) k (sym p ∙ sym q) in cc (yes, other)) ∙ known k less
-    ∙ sym (or_else-none (first_at k vs)) ∙ ap (λ (t : Bool). or_else (first_at k vs) (cond t (Some (number_in v.content)) None)) (sym other))
-    ∙ sym (first_at-push k vs v)
+pub note_octets : (seen : Seen) (vs : List Value) (v : Value) (new : Option ℕ) → element_of v.field ≡ OctetDeltaCount → new ≡ option_or seen.octets (Some (number_in v.content)) → Notes seen vs → Notes (record seen { octets = new }) (vs ++ v ∷ [])
+note_octets seen vs v new e is h = record {
+  numbers = λ axis. kept (is_value axis) vs v _ (ap (is_value axis) e) (h.numbers axis);
+  prefixes = λ axis. kept (is_prefix axis) vs v _ (ap (is_prefix axis) e) (h.prefixes axis);
+  lengths = λ axis. kept (is_prefix_length axis) vs v _ (ap (is_prefix_length axis) e) (h.lengths axis);
+  octets = is ∙ taken is_octets vs v seen.octets (ap is_octets e) h.octets;
+  packets = kept is_packets vs v _ (ap is_packets e) h.packets;
+}
+
+pub note_packets : (seen : Seen) (vs : List Value) (v : Value) (new : Option ℕ) → element_of v.field ≡ PacketDeltaCount → new ≡ option_or seen.packets (Some (number_in v.content)) → Notes seen vs → Notes (record seen { packets = new }) (vs ++ v ∷ [])
+note_packets seen vs v new e is h = record {
+  numbers = λ axis. kept (is_value axis) vs v _ (ap (is_value axis) e) (h.numbers axis);
+  prefixes = λ axis. kept (is_prefix axis) vs v _ (ap (is_prefix axis) e) (h.prefixes axis);
+  lengths = λ axis. kept (is_prefix_length axis) vs v _ (ap (is_prefix_length axis) e) (h.lengths axis);
+  octets = kept is_octets vs v _ (ap is_octets e) h.octets;
+  packets = is ∙ taken is_packets vs v seen.packets (ap is_packets e) h.packets;
+}
+
+-- an element that is not read
+pub note_none : (seen : Seen) (vs : List Value) (v : Value) (element : Element) → element_of v.field ≡ element
+    → ((axis : Axis) → is_value axis element ≡ false) → ((axis : Axis) → is_prefix axis element ≡ false) → ((axis : Axis) → is_prefix_length axis element ≡ false) → is_octets element ≡ false → is_packets element ≡ false
+    → Notes seen vs → Notes seen (vs ++ v ∷ [])
+note_none seen vs v element e value prefix length octets packets h = record {
+  numbers = λ axis. kept (is_value axis) vs v _ (ap (is_value axis) e ∙ value axis) (h.numbers axis);
+  prefixes = λ axis. kept (is_prefix axis) vs v _ (ap (is_prefix axis) e ∙ prefix axis) (h.prefixes axis);
+  lengths = λ axis. kept (is_prefix_length axis) vs v _ (ap (is_prefix_length axis) e ∙ length axis) (h.lengths axis);
+  octets = kept is_octets vs v _ (ap is_octets e ∙ octets) h.octets;
+  packets = kept is_packets vs v _ (ap is_packets e ∙ packets) h.packets;
+}
 
 -- ---- records
 

@@ -1,11 +1,22 @@
 -- What is noted of a data record's values.
-use Rattle.std.specs.Prelude.{◌≡◌, ℕ, ◌<◌, List, Option, None, slice_index_or}
+use Rattle.std.specs.Prelude.{◌≡◌, ℕ, List, None, slice_index_or, Result}
+use Rattle.fx_elements.specs.declared.axis.Axis.{Axis}
+use Rattle.fx_elements.specs.Axes.{axis_index}
 use Rattle.fx_wire.specs.Values.{Value}
-use Rattle.fx_session.specs.Flows.{first_at}
+use Rattle.fx_session.specs.declared.seen.Seen.{Seen}
+use Rattle.fx_session.specs.Flows.{Found, first_where, is_value, is_prefix, is_prefix_length, is_octets, is_packets, part_on}
 
 abbrev pub Values : Type 0
 Values = List Value
 
--- for each place the number of the first value there
-abbrev pub Notes : List (Option ℕ) → List Value → Type 0
-Notes numbers values = (place : ℕ) → place < 12 → slice_index_or numbers place None ≡ first_at place values
+-- the first number of each element is noted, along the axes
+pub record Notes (seen : Seen) (values : Values) : Type 0 where
+  pub numbers : (axis : Axis) → slice_index_or seen.numbers (axis_index axis) None ≡ first_where (is_value axis) values
+  pub prefixes : (axis : Axis) → slice_index_or seen.prefixes (axis_index axis) None ≡ first_where (is_prefix axis) values
+  pub lengths : (axis : Axis) → slice_index_or seen.lengths (axis_index axis) None ≡ first_where (is_prefix_length axis) values
+  pub octets : seen.octets ≡ first_where is_octets values
+  pub packets : seen.packets ≡ first_where is_packets values
+
+-- what is noted of an axis
+abbrev pub noted : Seen → Axis → Result Found ℕ
+noted seen axis = part_on axis (slice_index_or seen.numbers (axis_index axis) None) (slice_index_or seen.prefixes (axis_index axis) None) (slice_index_or seen.lengths (axis_index axis) None)

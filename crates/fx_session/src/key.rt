@@ -1,13 +1,13 @@
 //! Keys of flow records.
-ghost use Rattle.std.specs.Prelude.{◌≡◌, ◌≢◌, ℕ, suc, ◌+◌, ◌%◌, ◌^◌, ◌≤◌, ◌<◌, ◌++◌, [], ◌∷◌, true, Ok, Err, Option, Some, None};
-ghost use Rattle.fx_elements.specs.Axes.{axis_index, axis_width};
-ghost use Rattle.fx_elements.specs.declared.axis.Axis.TheVariants as axes;
+ghost use Rattle.std.specs.Prelude.{◌≡◌, ◌≢◌, ℕ, suc, ◌+◌, ◌%◌, ◌^◌, ◌≤◌, ◌<◌, ◌++◌, [], ◌∷◌, true, Ok, Err, Option, Some, None, map, slice_index};
+ghost use Rattle.fx_elements.specs.Axes.{axis_index, axis_width, tops};
+ghost use Rattle.fx_elements.specs.Axes as every;
 ghost use Rattle.fx_layout.specs.Keys as keys;
 ghost use Rattle.fx_session.specs.Flows as flows;
 ghost use Rattle.fx_session.specs.Parts as parts;
 
 use fx_boxes::Fields;
-use fx_elements::{AXES, Axis, width};
+use fx_elements::{AXES, Axis, EVERY_AXIS, top, width};
 use fx_layout::{Key, Layout};
 use std::marker::Model;
 
@@ -20,9 +20,9 @@ pub(crate) struct Leading {
 
 /// What is known of an address by a prefix and its length.
 ///
-/// Fails with 620 where the length is above 32.
-fn prefix_part(prefix: Option<u128>, bits: Option<u128>) -> Result<Option<Leading>, u16>
-    ensures { result ≡ flows.prefix_part prefix bits }
+/// Fails with 620 where the prefix is longer than the address.
+fn prefix_part(axis: Axis, prefix: Option<u128>, bits: Option<u128>) -> Result<Option<Leading>, u16>
+    ensures { result ≡ flows.prefix_part axis prefix bits }
 {
     let (Some(value), Some(bits)) = (prefix, bits) else {
         return Ok(None);
@@ -30,7 +30,7 @@ fn prefix_part(prefix: Option<u128>, bits: Option<u128>) -> Result<Option<Leadin
     if bits == 0 {
         return Ok(None);
     }
-    if bits > 32 {
+    if bits > u128::from(width(axis)) {
         return Err(620);
     }
     Ok(Some(Leading {
@@ -39,42 +39,40 @@ fn prefix_part(prefix: Option<u128>, bits: Option<u128>) -> Result<Option<Leadin
     }))
 }
 
-/// What is known of an address: all of it, or what its prefix tells.
+/// What is known on an axis: its value, or what a prefix of it tells.
 ///
-/// Fails with 620 where a prefix that is read has a length above 32.
-pub(crate) fn address_part(
-    address: Option<u128>,
+/// Fails with 620 where a prefix that is read is longer than the address.
+pub(crate) fn part_on(
+    axis: Axis,
+    value: Option<u128>,
     prefix: Option<u128>,
     bits: Option<u128>,
 ) -> Result<Option<Leading>, u16>
-    ensures part { result ≡ flows.address_part address prefix bits }
-    ensures stands { parts.AddressStands result }
+    ensures part { result ≡ flows.part_on axis value prefix bits }
+    ensures stands { parts.PartStands axis result }
 {
-    match address {
-        Some(value) => Ok(Some(Leading { bits: 32, value })),
-        None => prefix_part(prefix, bits),
-    }
-}
-
-/// What is known of the value on an axis that has no prefixes.
-pub(crate) fn whole_part(axis: Axis, value: Option<u128>) -> Option<Leading>
-    ensures { result ≡ flows.whole_part axis value }
-{
-    match value {
-        Some(value) => Some(Leading {
+    if let Some(value) = value {
+        return Ok(Some(Leading {
             bits: width(axis),
             value,
-        }),
-        None => None,
+        }));
+    }
+    if axis.is_address() {
+        prefix_part(axis, prefix, bits)
+    } else {
+        Ok(None)
     }
 }
 
 /// The value on an axis, 0 where none is known.
 fn value_of(axis: Axis, found: Option<Leading>) -> u128
-    ensures { result ≡ flows.value_of axis found }
+    ensures value { result ≡ flows.value_of axis found }
+    ensures bound { result ≤ slice_index tops (axis_index axis) }
 {
+    let most = top(axis);
     match found {
-        Some(leading) => leading.value % (1u128 << width(axis)),
+        Some(leading) if leading.value <= most => leading.value,
+        Some(leading) => leading.value % (most + 1),
         None => 0,
     }
 }
@@ -106,53 +104,40 @@ fn bits_of(found: &Option<Leading>) -> u32
 }
 
 /// The layout of what is known on each axis.
-fn layout_of(
-    source: Option<Leading>,
-    destination: Option<Leading>,
-    protocol: Option<Leading>,
-    sport: Option<Leading>,
-    dport: Option<Leading>,
-    tos: Option<Leading>,
-) -> Layout
-    requires source { parts.Stands axes.Source source }
-    requires destination { parts.Stands axes.Destination destination }
-    requires protocol { parts.Stands axes.Protocol protocol }
-    requires sport { parts.Stands axes.SourcePort sport }
-    requires dport { parts.Stands axes.DestinationPort dport }
-    requires tos { parts.Stands axes.ClassOfService tos }
-    ensures { result ≡ flows.layout_of source destination protocol sport dport tos }
+fn layout_of(found: &[Option<Leading>; AXES]) -> Layout
+    requires { parts.AllStand found.now }
+    ensures { result ≡ flows.layout_of (parts.found_on found.now) }
 {
-    let layout = add_part(&Layout::new(), Axis::Source, source);
-    let layout = add_part(&layout, Axis::Destination, destination);
-    let layout = add_part(&layout, Axis::Protocol, protocol);
-    let layout = add_part(&layout, Axis::SourcePort, sport);
-    let layout = add_part(&layout, Axis::DestinationPort, dport);
-    add_part(&layout, Axis::ClassOfService, tos)
+    let mut layout = Layout::new();
+    for axis in EVERY_AXIS {
+        layout = add_part(&layout, axis, found[axis.index()]);
+    }
+    layout
 }
 
 /// The fields of what is known on each axis, 0 where nothing is.
-fn fields_of(
-    source: Option<Leading>,
-    destination: Option<Leading>,
-    protocol: Option<Leading>,
-    sport: Option<Leading>,
-    dport: Option<Leading>,
-    tos: Option<Leading>,
-) -> Fields
-    ensures { result ≡ flows.fields_of source destination protocol sport dport tos }
+fn fields_of(found: &[Option<Leading>; AXES]) -> Fields
+    ensures { result ≡ flows.fields_of (parts.found_on found.now) }
 {
-    let values = [
-        value_of(Axis::Source, source),
-        value_of(Axis::Destination, destination),
-        value_of(Axis::Protocol, protocol),
-        value_of(Axis::SourcePort, sport),
-        value_of(Axis::DestinationPort, dport),
-        value_of(Axis::ClassOfService, tos),
-    ];
+    let mut values = [0; AXES];
+    for axis in EVERY_AXIS {
+        values[axis.index()] = value_of(axis, found[axis.index()]);
+    }
     match Fields::new(values) {
         Some(fields) => fields,
         None => unreachable!(),
     }
+}
+
+/// How many leading bits are known on each axis.
+fn bits_along(found: &[Option<Leading>; AXES]) -> [u32; AXES]
+    ensures { result ≡ map parts.bits_of found.now }
+{
+    let mut bits = [0; AXES];
+    for place in 0..AXES {
+        bits[place] = bits_of(&found[place]);
+    }
+    bits
 }
 
 /// The layout of the last key that was made, seen as its bits on each axis: the next record under a template mostly has
@@ -177,7 +162,7 @@ impl Model for LastLayout {
 impl LastLayout {
     /// The layout without parts.
     pub fn new() -> LastLayout
-        ensures { result ≡ 0 ∷ 0 ∷ 0 ∷ 0 ∷ 0 ∷ 0 ∷ [] }
+        ensures { result ≡ map (λ axis. 0) every.axes }
     {
         LastLayout {
             bits: [0; AXES],
@@ -186,35 +171,15 @@ impl LastLayout {
     }
 
     /// The key of what is known on each axis.
-    pub fn key_of(
-        &mut self,
-        source: Option<Leading>,
-        destination: Option<Leading>,
-        protocol: Option<Leading>,
-        sport: Option<Leading>,
-        dport: Option<Leading>,
-        tos: Option<Leading>,
-    ) -> Key
-        requires source { parts.Stands axes.Source source }
-        requires destination { parts.Stands axes.Destination destination }
-        requires protocol { parts.Stands axes.Protocol protocol }
-        requires sport { parts.Stands axes.SourcePort sport }
-        requires dport { parts.Stands axes.DestinationPort dport }
-        requires tos { parts.Stands axes.ClassOfService tos }
-        ensures { result ≡ keys.key_of (flows.layout_of source destination protocol sport dport tos) (flows.fields_of source destination protocol sport dport tos) }
+    pub fn key_of(&mut self, found: &[Option<Leading>; AXES]) -> Key
+        requires { parts.AllStand found.now }
+        ensures { result ≡ keys.key_of (flows.layout_of (parts.found_on found.now)) (flows.fields_of (parts.found_on found.now)) }
     {
-        let bits = [
-            bits_of(&source),
-            bits_of(&destination),
-            bits_of(&protocol),
-            bits_of(&sport),
-            bits_of(&dport),
-            bits_of(&tos),
-        ];
+        let bits = bits_along(found);
         if self.bits != bits {
-            self.layout = layout_of(source, destination, protocol, sport, dport, tos);
+            self.layout = layout_of(found);
             self.bits = bits;
         }
-        self.layout.key_of(&fields_of(source, destination, protocol, sport, dport, tos))
+        self.layout.key_of(&fields_of(found))
     }
 }

@@ -1,61 +1,75 @@
 //! What is noted of a data record.
-ghost use Rattle.std.specs.Prelude.{◌≡◌, ℕ, ◌<◌, ◌≤◌, ◌++◌, [], ◌∷◌, Option, Some, None, IfSome, OnSome, IfNone};
+ghost use Rattle.std.specs.Prelude.{◌≡◌, ℕ, ◌<◌, ◌≤◌, ◌++◌, [], ◌∷◌, Option, Some, None, IfSome, OnSome, IfNone, slice_set, slice_index_or};
+ghost use Rattle.std.specs.Option.{option_or};
+ghost use Rattle.fx_elements.specs.Axes.{axis_index};
 ghost use Rattle.fx_wire.specs.Values as wire;
 ghost use Rattle.fx_session.specs.Flows as flows;
 ghost use Rattle.fx_session.specs.Values as values;
 
 use crate::number::number_in;
-use fx_elements::Element;
+use fx_elements::{AXES, Axis, Element};
 use fx_wire::{FieldSpecifier, cut_value};
 
-/// How many elements are read.
-pub(crate) const PLACES: usize = 12;
+/// The first number of each element that is read: the values on the axes, prefixes and their lengths by the place of
+/// the axis, and the counters.
+#[derive(Drop)]
+pub(crate) struct Seen {
+    pub numbers: [Option<u128>; AXES],
+    pub prefixes: [Option<u128>; AXES],
+    pub lengths: [Option<u128>; AXES],
+    pub octets: Option<u128>,
+    pub packets: Option<u128>,
+}
 
-/// The place of an element among those that are read, [`PLACES`] for any other.
-fn place_of(element: Element) -> usize
-    ensures place { result ≡ flows.place_of element }
-    ensures bound { result ≤ PLACES }
+/// The number is noted, if none is.
+fn note_first(noted: &mut Option<u128>, content: &[u8])
+    ensures { noted.new ≡ option_or noted.old (Some (flows.number_in content.now)) }
 {
-    match element {
-        Element::OnAxis(axis) => axis.index(),
-        Element::OctetDeltaCount => 6,
-        Element::PacketDeltaCount => 7,
-        Element::SourcePrefix => 8,
-        Element::DestinationPrefix => 9,
-        Element::SourcePrefixLength => 10,
-        Element::DestinationPrefixLength => 11,
-        _ => PLACES,
+    if noted.is_none() {
+        *noted = Some(number_in(content));
     }
 }
 
-/// The numbers of the first values that are read, by place.
-#[derive(Drop)]
-pub(crate) struct Seen {
-    pub numbers: [Option<u128>; PLACES],
+/// The number is noted for the axis, if none is.
+fn note_on(noted: &mut [Option<u128>; AXES], axis: Axis, content: &[u8])
+    ensures { noted.new ≡ slice_set noted.old (axis_index axis) (option_or (slice_index_or noted.old (axis_index axis) None) (Some (flows.number_in content.now))) }
+{
+    note_first(&mut noted[axis.index()], content);
 }
 
 impl Seen {
     /// Nothing is noted.
     fn new() -> Seen
-        ensures { values.Notes result.numbers [] }
+        ensures { values.Notes result [] }
     {
         Seen {
-            numbers: [None; PLACES],
+            numbers: [None; AXES],
+            prefixes: [None; AXES],
+            lengths: [None; AXES],
+            octets: None,
+            packets: None,
         }
     }
 
-    /// A field's value is noted, if it is read and none is noted at its place.
+    /// A field's value is noted, if it is read and none of its element is noted.
     fn note(&mut self, field: &FieldSpecifier, content: &[u8])
-        ensures { (vs : values.Values) → values.Notes self.old.numbers vs → values.Notes self.new.numbers (vs ++ record { field = field.now; content = content.now } ∷ []) }
+        ensures { (vs : values.Values) → values.Notes self.old vs → values.Notes self.new (vs ++ record { field = field.now; content = content.now } ∷ []) }
     {
-        let place = place_of(field.element());
-        if place >= PLACES {
-            return;
+        match field.element() {
+            Element::OnAxis(axis) => note_on(&mut self.numbers, axis, content),
+            Element::OctetDeltaCount => note_first(&mut self.octets, content),
+            Element::PacketDeltaCount => note_first(&mut self.packets, content),
+            Element::SourcePrefix => note_on(&mut self.prefixes, Axis::Source, content),
+            Element::DestinationPrefix => note_on(&mut self.prefixes, Axis::Destination, content),
+            Element::SourcePrefixLength => note_on(&mut self.lengths, Axis::Source, content),
+            Element::DestinationPrefixLength => {
+                note_on(&mut self.lengths, Axis::Destination, content)
+            }
+            Element::OctetTotalCount
+            | Element::PacketTotalCount
+            | Element::IpVersion
+            | Element::Other => {}
         }
-        if self.numbers[place].is_some() {
-            return;
-        }
-        self.numbers[place] = Some(number_in(content));
     }
 }
 
@@ -66,7 +80,7 @@ pub(crate) fn read_record<'a>(
     octets: &'a [u8],
 ) -> Option<(Seen, &'a [u8])>
     ensures none { IfNone result (wire.record_at fields.now octets.now ≡ None) }
-    ensures some { IfSome result (λ p. (vs : values.Values) × (wire.record_at fields.now octets.now ≡ Some (vs, p.1.now)) × values.Notes p.0.numbers vs) }
+    ensures some { IfSome result (λ p. (vs : values.Values) × (wire.record_at fields.now octets.now ≡ Some (vs, p.1.now)) × values.Notes p.0 vs) }
 {
     let mut seen = Seen::new();
     let mut rest = octets;

@@ -1,19 +1,50 @@
-use Rattle.std.proofs.Common.{◌∙◌, ap, arith}
-use Rattle.fx_session.specs.Flows.{place_of}
-use Rattle.fx_session.proofs.Notes.{notes_unread, notes_kept, notes_put}
+use Rattle.std.proofs.Common.{◌≡◌, ◌∙◌, ◌++◌, ◌∷◌, [], arith, false, inl, inr, refl, sym}
+use Rattle.fx_elements.specs.declared.axis.Axis.{Axis}
+use Rattle.fx_elements.specs.declared.element.Element.{Element}
+use Rattle.fx_session.specs.Flows.{is_value, is_prefix, is_prefix_length, is_octets, is_packets}
+use Rattle.fx_session.specs.Values.{Notes}
+use Rattle.fx_elements.specs.declared.axis.Axis.TheVariants.{Source, Destination}
+use Rattle.fx_elements.specs.declared.element.Element.TheVariants.{SourcePrefix, DestinationPrefix, SourcePrefixLength, DestinationPrefixLength, OctetTotalCount, PacketTotalCount, IpVersion, Other}
+use Rattle.fx_session.proofs.Notes.{note_value, note_prefix, note_length, note_octets, note_packets, note_none}
 use Rattle.fx_session.proofs.seen.Seen.note.Goals as goal
 
-pub returns-then-place-ge-PLACES : goal.returns-then-place-ge-PLACES
-returns-then-place-ge-PLACES c = λ vs known.
-    let place = c.place_of-place.ensures.place ∙ ap place_of c.element.ensures in
-    notes_unread _ vs (record { field = c.args.field.now; content = c.args.content.now }) known (omega arith)
+pub returns-in-OnAxis : goal.returns-in-OnAxis
+returns-in-OnAxis c = λ vs known. note_value c.args.self.now vs (record { field = c.args.field.now; content = c.args.content.now }) c.in-OnAxis.axis c.note_on.new.noted (omega arith) (sym c.element.ensures ∙ c.in-OnAxis.is) c.note_on.ensures known
 
-pub returns-then-is_some : goal.returns-then-is_some
-returns-then-is_some c = λ vs known.
-    let place = c.place_of-place.ensures.place ∙ ap place_of c.element.ensures in
-    notes_kept _ vs (record { field = c.args.field.now; content = c.args.content.now }) _ _ known place c.if-place-ge-PLACES.false c.is_some.ensures c.if-is_some.true
+pub returns-in-OctetDeltaCount : goal.returns-in-OctetDeltaCount
+returns-in-OctetDeltaCount c = λ vs known. note_octets c.args.self.now vs (record { field = c.args.field.now; content = c.args.content.now }) c.note_first.new.noted (sym c.element.ensures ∙ c.in-OctetDeltaCount.is) c.note_first.ensures known
 
-pub returns : goal.returns
-returns c = λ vs known.
-    let place = c.place_of-place.ensures.place ∙ ap place_of c.element.ensures in
-    notes_put _ vs (record { field = c.args.field.now; content = c.args.content.now }) _ _ _ known (omega arith) place c.if-place-ge-PLACES.false c.is_some.ensures c.if-is_some.false c.number_in.ensures
+pub returns-in-PacketDeltaCount : goal.returns-in-PacketDeltaCount
+returns-in-PacketDeltaCount c = λ vs known. note_packets c.args.self.now vs (record { field = c.args.field.now; content = c.args.content.now }) c.note_first-in-PacketDeltaCount.new.noted (sym c.element.ensures ∙ c.in-PacketDeltaCount.is) c.note_first-in-PacketDeltaCount.ensures known
+
+pub returns-in-SourcePrefix : goal.returns-in-SourcePrefix
+returns-in-SourcePrefix c = λ vs known.
+    note_prefix c.args.self.now vs (record { field = c.args.field.now; content = c.args.content.now }) SourcePrefix Source c.note_on-in-SourcePrefix.new.noted (omega arith) (sym c.element.ensures ∙ c.in-SourcePrefix.is) (λ axis. refl) (λ axis. refl) (λ axis. refl) refl refl c.note_on-in-SourcePrefix.ensures known
+
+pub returns-in-DestinationPrefix : goal.returns-in-DestinationPrefix
+returns-in-DestinationPrefix c = λ vs known.
+    note_prefix c.args.self.now vs (record { field = c.args.field.now; content = c.args.content.now }) DestinationPrefix Destination c.note_on-in-DestinationPrefix.new.noted (omega arith) (sym c.element.ensures ∙ c.in-DestinationPrefix.is) (λ axis. refl) (λ axis. refl) (λ axis. refl) refl refl c.note_on-in-DestinationPrefix.ensures known
+
+pub returns-in-SourcePrefixLength : goal.returns-in-SourcePrefixLength
+returns-in-SourcePrefixLength c = λ vs known.
+    note_length c.args.self.now vs (record { field = c.args.field.now; content = c.args.content.now }) SourcePrefixLength Source c.note_on-in-SourcePrefixLength.new.noted (omega arith) (sym c.element.ensures ∙ c.in-SourcePrefixLength.is) (λ axis. refl) (λ axis. refl) (λ axis. refl) refl refl c.note_on-in-SourcePrefixLength.ensures known
+
+pub returns-in-DestinationPrefixLength : goal.returns-in-DestinationPrefixLength
+returns-in-DestinationPrefixLength c = λ vs known.
+    note_length c.args.self.now vs (record { field = c.args.field.now; content = c.args.content.now }) DestinationPrefixLength Destination c.note_on-in-DestinationPrefixLength.new.noted (omega arith) (sym c.element.ensures ∙ c.in-DestinationPrefixLength.is) (λ axis. refl) (λ axis. refl) (λ axis. refl) refl refl c.note_on-in-DestinationPrefixLength.ensures known
+
+pub returns-in-OctetTotalCount : goal.returns-in-OctetTotalCount
+returns-in-OctetTotalCount c = λ vs known.
+    let by : (element : Element) → c.element.result ≡ element → ((axis : Axis) → is_value axis element ≡ false) → ((axis : Axis) → is_prefix axis element ≡ false) → ((axis : Axis) → is_prefix_length axis element ≡ false) → is_octets element ≡ false → is_packets element ≡ false
+    → Notes c.args.self.now (vs ++ record { field = c.args.field.now; content = c.args.content.now } ∷ [])
+    = λ element is value prefix length octets packets. note_none c.args.self.now vs (record { field = c.args.field.now; content = c.args.content.now }) element (sym c.element.ensures ∙ is) value prefix length octets packets known in
+    elim c.in-OctetTotalCount.is [
+      | inl is ↦ by OctetTotalCount is (λ axis. refl) (λ axis. refl) (λ axis. refl) refl refl
+      | inr other ↦ elim other [
+        | inl is ↦ by PacketTotalCount is (λ axis. refl) (λ axis. refl) (λ axis. refl) refl refl
+        | inr rest ↦ elim rest [
+          | inl is ↦ by IpVersion is (λ axis. refl) (λ axis. refl) (λ axis. refl) refl refl
+          | inr is ↦ by Other is (λ axis. refl) (λ axis. refl) (λ axis. refl) refl refl
+        ]
+      ]
+    ]

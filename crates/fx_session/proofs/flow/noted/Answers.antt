@@ -1,0 +1,19 @@
+use Rattle.std.proofs.Common.{◌≡◌, ◌∙◌, arith, get_or, Ok, None, sym}
+use Rattle.std.proofs.lemmas.List.{length-set}
+use Rattle.fx_elements.specs.declared.axis.Axis.TheVariants.{Source}
+use Rattle.fx_elements.specs.Axes.{axes}
+use Rattle.fx_elements.proofs.EveryAxis.{index_at}
+use Rattle.fx_session.specs.Flows.{Found}
+use Rattle.fx_session.specs.Parts.{Stands}
+use Rattle.fx_session.specs.Values.{noted}
+use Rattle.fx_session.proofs.Keys.{set_more}
+use Rattle.fx_session.proofs.flow.noted.Goals as goal
+
+pub loop-axis-preserved : goal.loop-axis-preserved
+loop-axis-preserved c =
+    let i = c.loop-axis.axis-index in
+    let inv = c.loop-axis.invariant in (
+      length-set c.loop-axis.found c.index.result c.in-Ok.part ∙ inv.0,
+      set_more (λ k (f : Found). (noted c.args.seen.now (get_or axes k Source) ≡ Ok f) × Stands (get_or axes k Source) f) c.loop-axis.found i c.index.result c.in-Ok.part None (omega (arith, inv.0)) (c.index.ensures.place ∙ index_at i (omega arith))
+          (sym c.in-Ok.ensures.part, c.in-Ok.ensures.stands) inv.1,
+    )
