@@ -27,7 +27,7 @@ impl Model for Key {
 }
 
 /// The leading `bits` of a value that has `width` bits.
-fn leading(width: u32, bits: u32, value: u128) -> u128
+pub fn leading(width: u32, bits: u32, value: u128) -> u128
     requires { width ≤ 128 }
     ensures { result ≡ keys.leading width bits value }
 {

@@ -5,6 +5,6 @@ mod key;
 mod layout;
 mod values;
 
-pub use key::Key;
+pub use key::{Key, leading};
 pub use layout::{Layout, Part};
 pub use values::Values;

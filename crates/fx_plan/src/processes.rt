@@ -10,6 +10,7 @@ use crate::network_device::NetworkDevice;
 use fx_base::Name;
 use fx_config::{Aggregation, CollectingProcess, PropertyMatch};
 use fx_elements::width;
+use fx_layout::leading;
 use fx_machine as machine;
 use fx_machine::{Holder, MatchEntry, Process};
 use std::alloc::{AllocError, Global};
@@ -23,7 +24,7 @@ fn match_entry(fixed: &PropertyMatch) -> MatchEntry
     MatchEntry {
         axis,
         bits,
-        value: fixed.range.low >> width(axis).saturating_sub(bits),
+        value: leading(width(axis), bits, fixed.range.low),
     }
 }
 
