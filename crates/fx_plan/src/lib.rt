@@ -8,6 +8,7 @@ mod feeders;
 mod holders;
 mod key_layout;
 mod labels;
+mod laws;
 mod layouts;
 mod limits;
 mod link;
@@ -26,6 +27,7 @@ mod refuse;
 mod report;
 mod required_list;
 
+pub use laws::plans_have_complete_runs;
 pub use link::Link;
 pub use link_table::Links;
 pub use network::{Network, read_network};
