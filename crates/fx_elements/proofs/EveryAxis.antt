@@ -1,9 +1,13 @@
 -- What holds of each axis: the only proofs that go through them one by one.
-use Rattle.std.proofs.Common.{◌≡◌, ℕ, zero, suc, ◌-◌, ◌^◌, ◌<◌, ◌≤◌, Bool, true, false, List, [], ◌∷◌, map, length, get_or, refl, sym, ap, ◌∙◌, arith, eqb-true, eq-eqb}
+use Rattle.std.proofs.Common.{◌≡◌, ℕ, zero, suc, ◌+◌, ◌-◌, ◌^◌, ◌<◌, ◌≤◌, Bool, true, false, List, [], ◌∷◌, map, length, get_or, refl, sym, ap, ◌∙◌, arith, eqb-true, eq-eqb, subst, inl, inr}
 use Rattle.std.specs.List.{list_all, list_any}
 use Rattle.std.proofs.Math.Nat.{pow-le-pow_right}
 use Rattle.std.proofs.lemmas.Bool.{and_from, and_parts, or_from, or_parts}
 use Rattle.std.proofs.lemmas.List.Folds.{list_any_at}
+use Rattle.std.proofs.Math.ListN.{set}
+use Rattle.std.proofs.lemmas.Bool.{cases_lt}
+use Rattle.std.proofs.lemmas.Grind.{get_or-set_at}
+use Rattle.std.proofs.lemmas.List.{get_or-map, get_or-set_other, ext_get_or}
 use Rattle.std.proofs.lemmas.Nat.{pow_pos}
 use Rattle.fx_elements.specs.declared.axis.Axis.{Axis}
 use Rattle.fx_elements.specs.declared.axis.Axis.TheVariants.{Source, Destination, Protocol, SourcePort, DestinationPort, ClassOfService}
@@ -124,3 +128,19 @@ on_no_axis p h = none axes where
   none : (xs : List Axis) → list_any p xs ≡ false
   none [] = refl
   none (x ∷ xs) = or_from _ _ (h x) (none xs)
+
+-- ---- values made one axis after another
+
+-- what holds of the items so far, and of a new one at the next place
+pub set_more : {A : Type 0} (P : ℕ → A → Type 0) (xs : List A) (i place : ℕ) (x d : A) → i < length xs → place ≡ i → P i x → ((k : ℕ) → k < i → P k (get_or xs k d)) → (k : ℕ) → k < i + 1 → P k (get_or (set xs place x) k d)
+set_more P xs i place x d len is here before k lt = elim (cases_lt k i) [
+  | inl less ↦ subst (P k) (sym (get_or-set_other xs place k x d (λ e. omega (arith, less, is, e)))) (before k less)
+  | inr more ↦
+      let same : k ≡ i = omega (arith, lt, more) in
+      subst (λ n. P n (get_or (set xs place x) n d)) (sym same) (subst (P i) (sym (get_or-set_at xs place i x d (sym is) (omega (arith, len, is)))) here)
+]
+
+-- values at all places are those along the axes
+pub along : (g : Axis → ℕ) (xs : List ℕ) → length xs ≡ axis_count → ((k : ℕ) → k < axis_count → get_or xs k 0 ≡ g (get_or axes k Source)) → xs ≡ map g axes
+along g xs len h =
+    ext_get_or 0 xs (map g axes) len (λ k. λ lt. let below : k < axis_count = omega (arith, len, lt) in h k below ∙ sym (get_or-map g axes k Source 0 below))

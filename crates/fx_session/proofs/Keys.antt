@@ -1,10 +1,8 @@
 -- The key of what is noted on each axis.
-use Rattle.std.proofs.Common.{◌≡◌, ℕ, ◌+◌, ◌%◌, ◌^◌, ◌<◌, Bool, true, cond, inl, inr, List, [], ◌∷◌, ◌++◌, length, map, take, get_or, refl, ap, sym, ◌∙◌, subst, arith, Some, Result, Ok, Err}
-use Rattle.std.proofs.Math.ListN.{set}
+use Rattle.std.proofs.Common.{◌≡◌, ℕ, ◌+◌, ◌%◌, ◌^◌, ◌<◌, Bool, true, cond, List, [], ◌∷◌, ◌++◌, map, take, get_or, refl, ap, sym, ◌∙◌, Some, Result, Ok, Err}
 use Rattle.std.specs.List.{flat_map}
-use Rattle.std.proofs.lemmas.Bool.{cases_lt}
-use Rattle.std.proofs.lemmas.Grind.{get_or-set_at, flat_map-append}
-use Rattle.std.proofs.lemmas.List.{get_or-map, get_or-set_other, take_more, append-nil, ext_get_or}
+use Rattle.std.proofs.lemmas.Grind.{flat_map-append}
+use Rattle.std.proofs.lemmas.List.{take_more, append-nil}
 use Rattle.fx_elements.specs.declared.axis.Axis.{Axis}
 use Rattle.fx_elements.specs.declared.axis.Axis.TheVariants.{Source}
 use Rattle.fx_elements.specs.Axes.{axes, axis_count}
@@ -17,25 +15,9 @@ use Rattle.fx_session.specs.Parts.{found_on}
 use Rattle.fx_session.specs.Values.{Notes, noted}
 use Rattle.fx_session.proofs.Layouts.{same_parts}
 
--- ---- one place after another
-
--- what holds of the items so far, and of a new one at the next place
-pub set_more : {A : Type 0} (P : ℕ → A → Type 0) (xs : List A) (i place : ℕ) (x d : A) → i < length xs → place ≡ i → P i x → ((k : ℕ) → k < i → P k (get_or xs k d)) → (k : ℕ) → k < i + 1 → P k (get_or (set xs place x) k d)
-set_more P xs i place x d len is here before k lt = elim (cases_lt k i) [
-  | inl less ↦ subst (P k) (sym (get_or-set_other xs place k x d (λ e. omega (arith, less, is, e)))) (before k less)
-  | inr more ↦
-      let same : k ≡ i = omega (arith, lt, more) in
-      subst (λ n. P n (get_or (set xs place x) n d)) (sym same) (subst (P i) (sym (get_or-set_at xs place i x d (sym is) (omega (arith, len, is)))) here)
-]
-
 pub parts_more : (f : Axis → Layout) (i : ℕ) → i < axis_count → flat_map f (take (i + 1) axes) ≡ flat_map f (take i axes) ++ f (get_or axes i Source)
 parts_more f i lt =
     ap (flat_map f) (take_more axes i Source lt) ∙ flat_map-append f (take i axes) (get_or axes i Source ∷ []) ∙ ap (λ (l : Layout). flat_map f (take i axes) ++ l) (append-nil (f (get_or axes i Source)))
-
--- values at all places are those along the axes
-pub along : (g : Axis → ℕ) (xs : List ℕ) → length xs ≡ axis_count → ((k : ℕ) → k < axis_count → get_or xs k 0 ≡ g (get_or axes k Source)) → xs ≡ map g axes
-along g xs len h =
-    ext_get_or 0 xs (map g axes) len (λ k. λ lt. let below : k < axis_count = omega (arith, len, lt) in h k below ∙ sym (get_or-map g axes k Source 0 below))
 
 -- ---- flow records
 

@@ -7,14 +7,15 @@ ghost use Rattle.fx_elements.specs.Values.{value_on, values_of};
 ghost use Rattle.fx_elements.specs.declared.element.Element.TheVariants as element;
 ghost use Rattle.fx_boxes.specs.Boxes.{IsRegion};
 ghost use Rattle.fx_config.specs.Pointer.{pointer};
-ghost use Rattle.fx_config.specs.Walk.{Reads, optional};
-ghost use Rattle.fx_traffic.specs.Regions.{IsOn, all_on, axis_name, prefix_on, region_faults, region_of, span, values_faults, values_given, values_in, values_on, whole};
+ghost use Rattle.fx_config.specs.Walk.{Reads, optional, row_faults};
+ghost use Rattle.fx_traffic.specs.Regions.{IsOn, all_on, axis_name, prefix_on, region_faults, region_rows, region_of, span, values_faults, values_given, values_in, values_on, whole};
 
 use fx_base::Fault;
 use fx_boxes::{Fields, Region};
 use fx_config::walk::{Path, object_of, refusal};
 use fx_elements::{
-    AXES, Axis, Element, Range, TOPS, cut, one_spelling, read_on, read_value, top, width,
+    AXES, Axis, EVERY_AXIS, Element, Range, TOPS, cut, one_spelling, read_on, read_value, top,
+    width,
 };
 use serde_json::Value;
 use std::alloc::Global;
@@ -106,18 +107,21 @@ fn values_at(alloc: Global, path: &Path<'_>, value: &Value, axis: Axis) -> Resul
     }
 }
 
-/// The name of the member that gives the values on an axis: that of the information element (RFC 7012).
+/// The names of the members that give the values on the axes: those of the information elements (RFC 7012).
+const NAMES: [&str; AXES] = [
+    "sourceIPv4Address",
+    "destinationIPv4Address",
+    "protocolIdentifier",
+    "sourceTransportPort",
+    "destinationTransportPort",
+    "ipClassOfService",
+];
+
+/// The name of the member that gives the values on an axis.
 fn axis_name(axis: Axis) -> &'static str
     ensures { result.now ≡ axis_name axis }
 {
-    match axis {
-        Axis::Source => "sourceIPv4Address",
-        Axis::Destination => "destinationIPv4Address",
-        Axis::Protocol => "protocolIdentifier",
-        Axis::SourcePort => "sourceTransportPort",
-        Axis::DestinationPort => "destinationTransportPort",
-        Axis::ClassOfService => "ipClassOfService",
-    }
+    NAMES[axis.index()]
 }
 
 /// The values on the axis that an object's member gives; all where it isn't there.
@@ -150,45 +154,24 @@ pub fn whole() -> Region
     region_between([0; AXES], TOPS)
 }
 
+/// The region of the values that an object's members give.
+fn region_in(alloc: Global, path: &Path<'_>, object: &Value) -> Result<Region, Fault>
+    ensures { Reads (row_faults region_rows (pointer path.now) (view object.now)) (region_of (view object.now)) result }
+{
+    let mut low = [0; AXES];
+    let mut high = [0; AXES];
+    for axis in EVERY_AXIS {
+        let values = axis_member(alloc, path, object, axis)?;
+        low[axis.index()] = values.low;
+        high[axis.index()] = values.high;
+    }
+    Ok(region_between(low, high))
+}
+
 /// A region: an object that names axes, each with the values that packets may have on it.
 pub fn read_region(alloc: Global, path: &Path<'_>, value: &Value) -> Result<Region, Fault>
     ensures { Reads (region_faults (pointer path.now) (view value.now)) (region_of (view value.now)) result }
 {
-    object_of(
-        alloc,
-        path,
-        value,
-        &[
-            "sourceIPv4Address",
-            "destinationIPv4Address",
-            "protocolIdentifier",
-            "sourceTransportPort",
-            "destinationTransportPort",
-            "ipClassOfService",
-        ],
-    )?;
-    let source = axis_member(alloc, path, value, Axis::Source)?;
-    let destination = axis_member(alloc, path, value, Axis::Destination)?;
-    let protocol = axis_member(alloc, path, value, Axis::Protocol)?;
-    let source_port = axis_member(alloc, path, value, Axis::SourcePort)?;
-    let destination_port = axis_member(alloc, path, value, Axis::DestinationPort)?;
-    let class_of_service = axis_member(alloc, path, value, Axis::ClassOfService)?;
-    Ok(region_between(
-        [
-            source.low,
-            destination.low,
-            protocol.low,
-            source_port.low,
-            destination_port.low,
-            class_of_service.low,
-        ],
-        [
-            source.high,
-            destination.high,
-            protocol.high,
-            source_port.high,
-            destination_port.high,
-            class_of_service.high,
-        ],
-    ))
+    object_of(alloc, path, value, &NAMES)?;
+    region_in(alloc, path, value)
 }

@@ -2,11 +2,10 @@ use Rattle.std.proofs.Common.{◌≡◌, ◌∙◌, arith, get_or, Ok, None, sym
 use Rattle.std.proofs.lemmas.List.{length-set}
 use Rattle.fx_elements.specs.declared.axis.Axis.TheVariants.{Source}
 use Rattle.fx_elements.specs.Axes.{axes}
-use Rattle.fx_elements.proofs.EveryAxis.{index_at}
+use Rattle.fx_elements.proofs.EveryAxis.{index_at, set_more}
 use Rattle.fx_session.specs.Flows.{Found}
 use Rattle.fx_session.specs.Parts.{Stands}
 use Rattle.fx_session.specs.Values.{noted}
-use Rattle.fx_session.proofs.Keys.{set_more}
 use Rattle.fx_session.proofs.flow.noted.Goals as goal
 
 pub loop-axis-preserved : goal.loop-axis-preserved

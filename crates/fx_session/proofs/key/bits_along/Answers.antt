@@ -1,7 +1,7 @@
 use Rattle.std.proofs.Common.{◌≡◌, ◌∙◌, ℕ, arith, refl, sym, get_or, map, None}
 use Rattle.std.proofs.lemmas.List.{ext_get_or, get_or-map, length-map, length-set}
+use Rattle.fx_elements.proofs.EveryAxis.{set_more}
 use Rattle.fx_session.specs.Parts.{bits_of}
-use Rattle.fx_session.proofs.Keys.{set_more}
 use Rattle.fx_session.proofs.key.bits_along.Goals as goal
 
 pub loop-place-preserved : goal.loop-place-preserved

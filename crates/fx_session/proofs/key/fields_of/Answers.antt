@@ -2,10 +2,9 @@ use Rattle.std.proofs.Common.{◌≡◌, ◌≤◌, ◌∙◌, ℕ, ap, subst, a
 use Rattle.std.proofs.lemmas.List.{length-set}
 use Rattle.fx_elements.specs.declared.axis.Axis.TheVariants.{Source}
 use Rattle.fx_elements.specs.Axes.{axes, tops}
-use Rattle.fx_elements.proofs.EveryAxis.{index_at}
+use Rattle.fx_elements.proofs.EveryAxis.{along, index_at, set_more}
 use Rattle.fx_session.specs.Flows.{value_of}
 use Rattle.fx_session.specs.Parts.{found_on}
-use Rattle.fx_session.proofs.Keys.{along, set_more}
 use Rattle.fx_session.proofs.key.fields_of.Goals as goal
 
 pub loop-axis-preserved : goal.loop-axis-preserved
