@@ -1,5 +1,5 @@
 -- A record that is held is the first ahead.
-use Rattle.std.proofs.Common.{◌≡◌, ℕ, ◌+◌, ◌-◌, ◌*◌, ◌^◌, ◌≤◌, ◌<◌, Bool, true, false, nat_lt, List, ◌∷◌, ◌++◌, length, take, drop, Option, Some, None, IfSome, MatchOption, min, refl, sym, ap, ◌∙◌, subst, arith, slice_range, if◌then◌else◌}
+use Rattle.std.proofs.Common.{◌≡◌, ℕ, ◌+◌, ◌-◌, ◌*◌, ◌^◌, ◌≤◌, ◌<◌, false, nat_lt, List, ◌++◌, length, take, drop, Option, Some, None, IfSome, MatchOption, min, refl, sym, ap, ◌∙◌, subst, arith, slice_range, if◌then◌else◌}
 use Rattle.std.specs.Option.{option_map}
 use Rattle.std.specs.Io.KnownBytes.{prepend_known}
 use Rattle.std.proofs.Math.Nat.{min-eq_left}
@@ -13,11 +13,13 @@ use Rattle.fx_pcap.specs.Numbers.{number_in}
 use Rattle.fx_pcap.specs.Frames.{content_of}
 use Rattle.fx_pcap.specs.Records.{captured_length, second_of, record_fault, item_of, Records, place_after, with_item, records_of}
 use Rattle.fx_pcap.specs.Captures.{Seen, counted, with_frame, frames_in, skipped_in, Ahead, ahead_in, Reading, ahead, with_first}
-use Rattle.fx_pcap.specs.Captures.{AtFrame, budget}
+use Rattle.fx_pcap.specs.Captures.{Asks, Gains, AtFrame, budget}
 use Rattle.fx_pcap.specs.Window.{Held, octets_of, HasRecord}
 use Rattle.fx_pcap.specs.Kept.{Kept, fault_of, reading_of, Passes}
 use Rattle.fx_pcap.specs.declared.content.Content.TheVariants.{Packet, Other, Malformed}
 use Rattle.fx_pcap.specs.declared.stop.Stop.{Stop}
+use Rattle.fx_base.specs.Device.{IsAsked}
+use Rattle.fx_pcap.proofs.Asking.{asks_of, gains_of}
 use Rattle.fx_pcap.proofs.Whole.{number_whole}
 use Rattle.fx_pcap.proofs.Passing.{first_record}
 
@@ -84,14 +86,16 @@ pub record After (old new : Reading) (content : Content) (s : Skipped) : Type 0 
   pub going : (old.stopped ≡ None) × (new.stopped ≡ None)
   pub frames : ahead old ≡ option_map (λ octets. ahead_with content new.seen.captured new.seen.second s (records_of new.format new.place octets)) new.left
   pub format : new.format ≡ old.format
+  pub asks : Asks old new
+  pub gains : Gains 0 old new
   pub smaller : budget new < budget old
 
 no_stop : (place place' : ℕ) (o : Option Stop) → option_map (fault_of place) o ≡ None → option_map (fault_of place') o ≡ None
 no_stop place place' None h = refl
 no_stop place place' (Some stop) h = absurd (cc)
 
-pub after_record : (w w1 w2 : Held) (k : Kept) (n place : ℕ) (s : Skipped) (fields : List ℕ) (size second : ℕ) (content : Content) (octets : List ℕ) → w1 ≡ record w { held = drop k.taken w.held } → octets_of w2 ≡ octets_of w1 → HasRecord k.format.order n w2.held → (2 ^ 32 - w2.calls) * 524289 + (length w2.held - n) < (2 ^ 32 - w1.calls) * 524289 + length w1.held → octets ≡ w2.held → content ≡ content_of k.format.link (slice_range octets 16 n) → second ≡ number_in k.format.order 4 0 octets → k.place ≤ 2 ^ 64 - 1 → place ≡ place_after k.place n → (reading_of w k).stopped ≡ None → After (reading_of w k) (reading_of w2 (behind k n place s fields size second)) content k.skipped
-after_record w w1 w2 k n place s fields size second content octets passed same has smaller held is when fits at going =
+pub after_record : (w w1 w2 : Held) (k : Kept) (n place : ℕ) (s : Skipped) (fields : List ℕ) (size second : ℕ) (content : Content) (octets : List ℕ) → w1 ≡ record w { held = drop k.taken w.held } → octets_of w2 ≡ octets_of w1 → w2.calls + length w1.held ≤ w1.calls + length w2.held → w1.calls ≤ w2.calls → IsAsked w1.asked (w2.calls - w1.calls) w2.asked → HasRecord k.format.order n w2.held → (2 ^ 32 - w2.calls) * 524289 + (length w2.held - n) < (2 ^ 32 - w1.calls) * 524289 + length w1.held → octets ≡ w2.held → content ≡ content_of k.format.link (slice_range octets 16 n) → second ≡ number_in k.format.order 4 0 octets → k.place ≤ 2 ^ 64 - 1 → place ≡ place_after k.place n → (reading_of w k).stopped ≡ None → After (reading_of w k) (reading_of w2 (behind k n place s fields size second)) content k.skipped
+after_record w w1 w2 k n place s fields size second content octets passed same spent more asked has smaller held is when fits at going =
     let all : octets_of w2 ≡ prepend_known (drop k.taken w.held) w.left = same ∙ ap octets_of passed in
     let here : content ≡ content_of k.format.link (slice_range w2.held 16 n) = is ∙ ap (λ (l : List ℕ). content_of k.format.link (slice_range l 16 n)) held in
     let from : min 16 n ≡ 16 = min-eq_left (omega (arith, has.size)) in
@@ -103,6 +107,8 @@ after_record w w1 w2 k n place s fields size second content octets passed same h
       going = (going, no_stop k.place place k.stopped going);
       frames = ap (option_map (λ os. ahead_in k.skipped (records_of k.format k.place os))) (sym all) ∙ taken w2.held w2.left k.format n k.place place second content (slice_range w2.held (min 16 n) n) k.skipped has fits at here lent stamp;
       format = refl;
+      asks = asks_of w w1 w2 k (behind k n place s fields size second) passed more asked;
+      gains = gains_of 0 w w1 w2 k (behind k n place s fields size second) passed same (omega (arith, spent));
       smaller = subst (λ (m : ℕ). (2 ^ 32 - w2.calls) * 524289 + (length w2.held - n) < m) ((λ i. (2 ^ 32 - calls i) * 524289 + long i)) smaller;
     }
 
@@ -115,6 +121,8 @@ at_frame old new content fields octets a is f o = record {
   going = a.going;
   frames = a.frames ∙ told_twice (with_first new.seen new.skipped) (λ os. ahead_in new.skipped (records_of new.format new.place os)) (λ os. ahead_with content new.seen.captured new.seen.second new.skipped (records_of new.format new.place os)) new.left (λ os. frame_first content fields octets new.seen new.skipped (records_of new.format new.place os) is f o);
   format = a.format;
+  asks = a.asks;
+  gains = a.gains;
   smaller = a.smaller;
 }
 
@@ -123,6 +131,8 @@ passes old new content s a same = record {
   going = a.going.1;
   frames = a.frames ∙ (λ i. option_map (λ os. same new.seen.captured new.seen.second (records_of new.format new.place os) i) new.left);
   format = a.format;
+  asks = a.asks;
+  gains = a.gains;
   smaller = a.smaller;
 }
 

@@ -1,7 +1,7 @@
 -- What the first octets say doesn't depend on those behind them.
-use Rattle.std.proofs.Common.{◌≡◌, ℕ, ◌+◌, ◌≤◌, ◌<◌, Bool, true, false, ◌&&◌, ◌==◌, nat_lt, List, [], ◌++◌, length, drop, Option, Some, None, IfSome, Result, Ok, Err, refl, sym, ap, ◌∙◌, subst, arith, inl, inr, ◌⊎◌, if◌then◌else◌}
+use Rattle.std.proofs.Common.{◌≡◌, ℕ, ◌+◌, ◌≤◌, ◌<◌, Bool, true, false, ◌&&◌, ◌==◌, nat_lt, List, [], ◌++◌, length, take, drop, Option, Some, None, IfSome, Result, Ok, Err, refl, sym, ap, ◌∙◌, subst, arith, inl, inr, ◌⊎◌, if◌then◌else◌}
 use Rattle.std.proofs.lemmas.Bool.{cases_lt, lt-ltb, le-ltb}
-use Rattle.std.proofs.lemmas.List.{drop-append-le, length-append, length-drop, append-nil}
+use Rattle.std.proofs.lemmas.List.{drop-append-le, length-append, length-drop, append-nil, take-append-drop}
 use Rattle.std.specs.Io.KnownBytes.{prepend_known}
 use Rattle.byteorder.specs.Numbers.{big_from-append, little_from-append}
 use Rattle.fx_base.specs.declared.fault.Fault.{Fault}
@@ -19,6 +19,12 @@ number_whole Big n at held rest h =
     ap (λ (l : List ℕ). number_in Big n 0 l) (drop-append-le at held rest (omega (arith, h))) ∙ big_from-append n (drop at held) rest (omega (arith, h, length-drop at held))
 number_whole Little n at held rest h =
     ap (λ (l : List ℕ). number_in Little n 0 l) (drop-append-le at held rest (omega (arith, h))) ∙ little_from-append n (drop at held) rest (omega (arith, h, length-drop at held))
+
+-- of octets in front of which these stand
+pub number_in_front : (order : Order) (n at : ℕ) (held octets : List ℕ) → take (length held) octets ≡ held → at + n ≤ length held → number_in order n at octets ≡ number_in order n at held
+number_in_front order n at held octets front h =
+    let split : held ++ drop (length held) octets ≡ octets = ap (λ (l : List ℕ). l ++ drop (length held) octets) (sym front) ∙ take-append-drop (length held) octets in
+    ap (number_in order n at) (sym split) ∙ number_whole order n at held (drop (length held) octets) h
 
 -- ---- the file header
 

@@ -1,8 +1,9 @@
 -- The frames of a capture, and what a reader of them does.
-use Rattle.std.specs.Prelude.{◌≡◌, ℕ, ◌+◌, ◌-◌, ◌*◌, ◌%◌, ◌^◌, ◌<◌, Bool, true, false, List, [], ◌∷◌, drop, Option, Some, None, IfSome, IsSome, Result, Ok, Err, ◌⊎◌}
+use Rattle.std.specs.Prelude.{◌≡◌, ℕ, ◌+◌, ◌-◌, ◌*◌, ◌%◌, ◌^◌, ◌≤◌, ◌<◌, Bool, true, false, List, [], ◌∷◌, length, drop, Option, Some, None, IfSome, IsSome, Result, Ok, Err, ◌⊎◌}
 use Rattle.std.specs.Option.{option_map}
 use Rattle.fx_base.specs.declared.fault.Fault.{Fault}
 use Rattle.fx_base.specs.declared.fault.Place.TheVariants as places
+use Rattle.fx_base.specs.Device.{IsAsked}
 use Rattle.fx_base.specs.Fault.{fault_at}
 use Rattle.fx_pcap.specs.declared.content.Content.{Content}
 use Rattle.fx_pcap.specs.declared.content.Content.TheVariants.{Packet, Other, Malformed}
@@ -68,8 +69,9 @@ pub record Reading : Type 0 where
   pub stopped : Option Fault
   -- whether its source's last call failed
   pub failed : Bool
-  -- how many calls of its source it has made
+  -- how many calls of its source it has made, and how many were made of it at all, modulo 2 to the 64
   pub calls : ℕ
+  pub asked : ℕ
   -- how many octets it holds
   pub held : ℕ
 
@@ -86,11 +88,27 @@ with_first seen s a = record a { frames = (seen, s) ∷ a.frames }
 abbrev pub budget : Reading → ℕ
 budget r = (2 ^ 32 - r.calls) * 524289 + r.held
 
+-- how many of these octets, which it has left, it hasn't read
+abbrev pub unread : Reading → List ℕ → ℕ
+unread r octets = length octets - r.held
+
+-- the reader's calls are calls of its source
+pub record Asks (old new : Reading) : Type 0 where
+  pub calls : old.calls ≤ new.calls
+  pub asked : IsAsked old.asked (new.calls - old.calls) new.asked
+
+-- each call gives an octet, but so many, which come to the end of the capture
+abbrev pub Gains : ℕ → Reading → Reading → Type 0
+Gains n old new =
+    IfSome old.left (λ octets. (rest : List ℕ) × (new.left ≡ Some rest) × (new.calls + unread new rest ≤ old.calls + unread old octets + n))
+
 -- it goes on to a frame
 pub record AtFrame (old new : Reading) : Type 0 where
   pub going : (old.stopped ≡ None) × (new.stopped ≡ None)
   pub frames : ahead old ≡ option_map (with_first new.seen new.skipped) (ahead new)
   pub format : new.format ≡ old.format
+  pub asks : Asks old new
+  pub gains : Gains 0 old new
   pub smaller : budget new < budget old
 
 -- it stays at the end of the capture
@@ -99,11 +117,19 @@ pub record AtEnd (old new : Reading) : Type 0 where
   pub frames : IfSome (ahead old) (λ a. (a ≡ nothing_more new.skipped None) × (new.left ≡ Some []))
   pub untold : ahead old ≡ None → ahead new ≡ None
   pub format : new.format ≡ old.format
+  pub asks : Asks old new
+  pub gains : Gains 1 old new
+
+-- its source's last call failed, or it made 2 to the 32 calls and the source hasn't ended
+abbrev pub IsCutOff : Reading → Reading → Type 0
+IsCutOff old new =
+    (new.failed ≡ true)
+    ⊎ ((new.calls ≡ 2 ^ 32) × Asks old new × IfSome old.left (λ octets. 2 ^ 32 ≤ old.calls + unread old octets))
 
 -- why a reader that hadn't stopped stops
 abbrev pub Stops : Reading → Reading → Fault → Type 0
 Stops old new e =
-    ((e ≡ fault_at 901 places.None) × ((new.failed ≡ true) ⊎ (new.calls ≡ 2 ^ 32)))
+    ((e ≡ fault_at 901 places.None) × IsCutOff old new)
     ⊎ (((e ≡ fault_at 703 (places.Octet new.place)) ⊎ (e ≡ fault_at 704 (places.Octet new.place))) × IfSome (ahead old) (λ a. a ≡ nothing_more new.skipped (Some e)))
 
 -- it answers a fault, the same one from then on
@@ -125,13 +151,16 @@ NextFrameIs old (Ok (Some frame)) = (new : Reading) × AtFrame old new × (seen_
 NextFrameIs old (Ok None) = (new : Reading) × AtEnd old new
 NextFrameIs old (Err e) = (new : Reading) × Refuses old new e
 
--- a reader of a source that has these octets left, behind the file header
-pub record IsOpened (left : Option (List ℕ)) (new : Reading) : Type 0 where
+-- a reader of a source that has these octets left, of which so many calls were made, behind the file header
+pub record IsOpened (left : Option (List ℕ)) (asked : ℕ) (new : Reading) : Type 0 where
   pub format : IfSome left (λ octets. (format_of octets ≡ Ok new.format) × (new.left ≡ Some (drop 24 octets)))
   pub untold : left ≡ None → new.left ≡ None
   pub place : new.place ≡ 24
   pub skipped : new.skipped ≡ record { other = 0; malformed = 0 }
   pub going : new.stopped ≡ None
+  pub asks : IsAsked asked new.calls new.asked
+  -- each call gave an octet
+  pub gains : IfSome left (λ octets. new.calls + unread new (drop 24 octets) ≤ length octets)
 
 -- why a capture isn't opened
 abbrev pub IsRefused : Option (List ℕ) → Fault → Type 0

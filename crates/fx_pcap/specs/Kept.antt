@@ -11,7 +11,7 @@ use Rattle.fx_pcap.specs.declared.stop.Stop.{Stop}
 use Rattle.fx_pcap.specs.declared.stop.Stop.TheVariants.{Device, Cut, TooLong}
 use Rattle.fx_pcap.specs.declared.capture.Taken.{Taken}
 use Rattle.fx_pcap.specs.declared.capture.Taken.TheVariants as taken
-use Rattle.fx_pcap.specs.Captures.{Reading, ahead, budget, Stops, AtFrame, AtEnd}
+use Rattle.fx_pcap.specs.Captures.{Reading, ahead, budget, Asks, Gains, Stops, AtFrame, AtEnd}
 use Rattle.fx_pcap.specs.Window.{Held}
 
 pub record Kept : Type 0 where
@@ -40,6 +40,7 @@ reading_of w k =
       stopped = option_map (fault_of k.place) k.stopped;
       failed = w.failed;
       calls = w.calls;
+      asked = w.asked;
       held = length w.held - k.taken;
     }
 
@@ -48,6 +49,8 @@ pub record Passes (old new : Reading) : Type 0 where
   pub going : new.stopped ≡ None
   pub frames : ahead old ≡ ahead new
   pub format : new.format ≡ old.format
+  pub asks : Asks old new
+  pub gains : Gains 0 old new
   pub smaller : budget new < budget old
 
 -- it can't go on

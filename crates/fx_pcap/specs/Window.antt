@@ -13,8 +13,9 @@ pub record Held : Type 0 where
   pub left : Option (List ℕ)
   -- whether its last call failed
   pub failed : Bool
-  -- how many calls of it were made
+  -- how many calls of it were made here, and how many at all, modulo 2 to the 64
   pub calls : ℕ
+  pub asked : ℕ
 
 -- all octets that were not passed yet
 abbrev pub octets_of : Held → Option (List ℕ)
@@ -27,9 +28,10 @@ pub record IsWindow (bytes : List ℕ) (from to count : ℕ) : Type 0 where
   pub end : to ≤ 524288
   pub calls : count ≤ 2 ^ 32
 
--- the device failed, or was asked too often
-abbrev pub HasFailed : Held → Type 0
-HasFailed w = (w.failed ≡ true) ⊎ (w.calls ≡ 2 ^ 32)
+-- the source's last call failed, or 2 to the 32 calls were made, each of which gave an octet
+abbrev pub HasFailed : Held → Held → Type 0
+HasFailed old new =
+    (new.failed ≡ true) ⊎ ((new.calls ≡ 2 ^ 32) × IfSome old.left (λ left. 2 ^ 32 ≤ old.calls + length left))
 
 -- nothing is left
 abbrev pub HasEnded : Held → Type 0
@@ -42,7 +44,7 @@ pub record HasRecord (order : Order) (n : ℕ) (held : List ℕ) : Type 0 where
   pub whole : n ≤ length held
 
 -- why no record is found
-abbrev pub IsStop : Order → Stop → Held → Option (List ℕ) → Type 0
-IsStop order Device w octets = HasFailed w
-IsStop order Cut w octets = IfSome octets (λ os. (0 < length os) × (record_fault order os ≡ Some 703))
-IsStop order TooLong w octets = IfSome octets (λ os. (0 < length os) × (record_fault order os ≡ Some 704))
+abbrev pub IsStop : Order → Stop → Held → Held → Type 0
+IsStop order Device old new = HasFailed old new
+IsStop order Cut old new = IfSome (octets_of old) (λ os. (0 < length os) × (record_fault order os ≡ Some 703))
+IsStop order TooLong old new = IfSome (octets_of old) (λ os. (0 < length os) × (record_fault order os ≡ Some 704))

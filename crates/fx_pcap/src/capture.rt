@@ -75,7 +75,7 @@ impl<R: Source> Capture<R> {
     /// file header is cut or has another magic or version, and with 702 for another link type; 900,
     /// 901 and 702 at no place.
     pub fn new(alloc: Global, source: R) -> Result<Capture<R>, Fault>
-        ensures ok { IfOk result (IsOpened (R.left source)) }
+        ensures ok { IfOk result (IsOpened (R.left source) (R.calls source)) }
         ensures err { IfErr result (IsRefused (R.left source)) }
     {
         let mut window = Window::new(alloc, source)?;

@@ -1,5 +1,6 @@
 //! Records of a capture: a header of 16 octets, and the captured octets.
 ghost use Rattle.std.specs.Prelude.{◌≡◌, ◌+◌, ◌-◌, ◌*◌, ◌^◌, ◌≤◌, ◌<◌, length, MatchOption, None, OnOk, IfOk, IfErr, IfSome};
+ghost use Rattle.fx_base.specs.Device.{IsAsked};
 ghost use Rattle.fx_pcap.specs.Window.{octets_of, HasEnded, HasRecord, IsStop};
 
 use crate::order::Order;
@@ -21,7 +22,12 @@ pub(crate) fn find_record<R: Source>(
     ensures octets { OnOk result (octets_of window.new ≡ octets_of window.old) }
     ensures found { IfOk result (λ size. MatchOption size (HasEnded window.new) (λ n. HasRecord order n window.new.held)) }
     ensures smaller { IfOk result (λ size. IfSome size (λ n. (2 ^ 32 - window.new.calls) * 524289 + (length window.new.held - n) < (2 ^ 32 - window.old.calls) * 524289 + length window.old.held)) }
-    ensures stop { IfErr result (λ stop. IsStop order stop window.new (octets_of window.old)) }
+    ensures spent { IfOk result (λ size. MatchOption size
+        (window.new.calls + length window.old.held ≤ window.old.calls + length window.new.held + 1)
+        (λ _. window.new.calls + length window.old.held ≤ window.old.calls + length window.new.held)) }
+    ensures calls { window.old.calls ≤ window.new.calls }
+    ensures asked { IsAsked window.old.asked (window.new.calls - window.old.calls) window.new.asked }
+    ensures stop { IfErr result (λ stop. IsStop order stop window.old window.new) }
 {
     window.fill(RECORD_HEADER)?;
     let octets = window.octets();

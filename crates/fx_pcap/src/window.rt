@@ -1,6 +1,7 @@
 //! The octets of a source, of which some are held.
-ghost use Rattle.std.specs.Prelude.{◌≡◌, ◌+◌, ◌-◌, ◌≤◌, ◌<◌, ◌^◌, ◌⊎◌, [], length, take, drop, true, None, OnOk, OnErr, IfOk, IfErr, IfSome, slice_range};
+ghost use Rattle.std.specs.Prelude.{◌≡◌, ◌+◌, ◌-◌, ◌%◌, ◌≤◌, ◌<◌, ◌^◌, ◌⊎◌, [], length, take, drop, true, None, OnOk, OnErr, IfOk, IfErr, IfSome, slice_range};
 ghost use Rattle.std.specs.Io.KnownBytes.{prepend_known};
+ghost use Rattle.fx_base.specs.Device.{IsAsked};
 ghost use Rattle.fx_base.specs.Fault.{fault_at};
 ghost use Rattle.fx_base.specs.declared.fault.Place.TheVariants as places;
 ghost use Rattle.fx_pcap.specs.Window.{octets_of, HasFailed};
@@ -33,7 +34,7 @@ impl<R: Source> Model for Window<R> {
 
     ghost Value = { Held };
 
-    ghost view = { λ w. record { held = slice_range w.bytes.items w.start w.end; left = R.left w.source; failed = R.failed w.source; calls = w.calls } };
+    ghost view = { λ w. record { held = slice_range w.bytes.items w.start w.end; left = R.left w.source; failed = R.failed w.source; calls = w.calls; asked = R.calls w.source } };
 
     ghost invariant = { λ w. IsWindow w.bytes.items w.start w.end w.calls };
 }
@@ -46,6 +47,7 @@ fn read_behind<R: Source>(source: &mut R, bytes: &mut [u8], end: usize) -> Resul
     ensures count { IfOk result (λ n. end + n ≤ length bytes.old) }
     ensures end { IfOk result (λ n. n ≡ 0 → IfSome (R.left source.new) (λ left. left ≡ [])) }
     ensures err { OnErr result (R.failed source.new ≡ true) }
+    ensures asked { R.calls source.new ≡ (R.calls source.old + 1) % 2 ^ 64 }
 {
     source.read(&mut bytes[end..])
 }
@@ -66,8 +68,12 @@ fn gather<R: Source>(
     ensures front { IfOk result (λ end. take held bytes.new ≡ take held bytes.old) }
     ensures enough { IfOk result (λ end. end < want → IfSome (R.left source.new) (λ left. left ≡ [])) }
     ensures fits { IfOk result (λ end. (held ≤ end) × (end ≤ 524288) × (held < end → calls.old < calls.new)) }
+    ensures spent { IfOk result (λ end. (calls.new + held ≤ calls.old + end + 1)
+        × (want ≤ end → calls.new + held ≤ calls.old + end)) }
     ensures calls { (calls.old ≤ calls.new) × (calls.new ≤ 2 ^ 32) }
-    ensures err { IfErr result (λ stop. (stop ≡ stops.Device) × ((R.failed source.new ≡ true) ⊎ (calls.new ≡ 2 ^ 32))) }
+    ensures asked { IsAsked (R.calls source.old) (calls.new - calls.old) (R.calls source.new) }
+    ensures err { IfErr result (λ stop. (stop ≡ stops.Device) × ((R.failed source.new ≡ true)
+        ⊎ ((calls.new ≡ 2 ^ 32) × IfSome (R.left source.old) (λ left. 2 ^ 32 ≤ calls.old + length left)))) }
 {
     let mut end = held;
     'reading: while end < want {
@@ -95,7 +101,7 @@ fn to_front(bytes: &mut [u8], start: usize, end: usize)
 impl<R: Source> Window<R> {
     /// A window on a source, which holds nothing yet.
     pub(crate) fn new(alloc: Global, source: R) -> Result<Window<R>, Fault>
-        ensures ok { IfOk result (λ w. w ≡ record { held = []; left = R.left source; failed = R.failed source; calls = 0 }) }
+        ensures ok { IfOk result (λ w. w ≡ record { held = []; left = R.left source; failed = R.failed source; calls = 0; asked = R.calls source }) }
         ensures err { IfErr result (λ e. e ≡ fault_at 900 places.None) }
     {
         Ok(Window {
@@ -114,8 +120,13 @@ impl<R: Source> Window<R> {
         ensures front { OnOk result (take (length self.old.held) self.new.held ≡ self.old.held) }
         ensures enough { OnOk result (length self.new.held < want → IfSome self.new.left (λ left. left ≡ [])) }
         ensures fits { OnOk result ((length self.old.held ≤ length self.new.held) × (length self.new.held ≤ 524288) × (length self.old.held < length self.new.held → self.old.calls < self.new.calls)) }
+        ensures spent { OnOk result (
+            (self.new.calls + length self.old.held ≤ self.old.calls + length self.new.held + 1)
+            × (want ≤ length self.new.held
+            → self.new.calls + length self.old.held ≤ self.old.calls + length self.new.held)) }
         ensures calls { (self.old.calls ≤ self.new.calls) × (self.new.calls ≤ 2 ^ 32) }
-        ensures err { IfErr result (λ stop. (stop ≡ stops.Device) × HasFailed self.new) }
+        ensures asked { IsAsked self.old.asked (self.new.calls - self.old.calls) self.new.asked }
+        ensures err { IfErr result (λ stop. (stop ≡ stops.Device) × HasFailed self.old self.new) }
     {
         let held = self.end - self.start;
         if held >= want {

@@ -30,6 +30,7 @@ const CAPTURE: [u8; 201] = [
 #[derive(Drop)]
 struct Drops<'a> {
     rest: &'a [u8],
+    calls: u64,
 }
 
 impl Source for Drops<'_> {
@@ -37,7 +38,10 @@ impl Source for Drops<'_> {
 
     ghost failed = { λ _. false };
 
+    ghost calls = { λ s. s.calls };
+
     fn read(&mut self, buffer: &mut [u8]) -> Result<usize, Fault> {
+        self.calls = self.calls.wrapping_add(1);
         let n = buffer.len().min(self.rest.len()).min(3);
         let (now, later) = self.rest.split_at(n);
         buffer[..n].copy_from_slice(now);
@@ -236,7 +240,11 @@ fn fails_at_each_read(rt: HostRuntime) -> Result<(), Fail> {
 
 #[test]
 fn reads_in_pieces(rt: HostRuntime) -> Result<(), Fail> {
-    let mut capture = Capture::new(rt.alloc(), Drops { rest: &CAPTURE })?;
+    let source = Drops {
+        rest: &CAPTURE,
+        calls: 0,
+    };
+    let mut capture = Capture::new(rt.alloc(), source)?;
     let first = next(&mut capture)?;
     assert!(rt; first == Some(([6, 1000, 443, 0], 40, 1)) && count(&mut capture) == (2, 703));
     Ok(())

@@ -1,5 +1,5 @@
 use Rattle.std.proofs.Common.{◌≡◌, ◌≤◌, None}
-use Rattle.fx_pcap.specs.Captures.{ahead, budget}
+use Rattle.fx_pcap.specs.Captures.{ahead, budget, Asks, Gains}
 use Rattle.fx_pcap.proofs.capture.Capture.find_frame.Given as goal
 
 abbrev pub invariant-records : goal.invariant-records
@@ -7,6 +7,8 @@ invariant-records g l = record {
   going : l.self.stopped ≡ None;
   ahead : ahead l.self ≡ ahead l.fn.self;
   format : l.self.format ≡ l.fn.self.format;
+  asks : Asks l.fn.self l.self;
+  gains : Gains 0 l.fn.self l.self;
   budget : budget l.self ≤ budget l.fn.self;
 }
 

@@ -1,0 +1,24 @@
+use Rattle.std.proofs.Common.{ℕ, ◌+◌, ◌≤◌, length, ap, sym, ◌∙◌, arith}
+use Rattle.std.proofs.lemmas.Result.{err_from_is_err_and}
+use Rattle.fx_pcap.specs.Records.{captured_length}
+use Rattle.fx_pcap.proofs.Spending.{failed_behind}
+use Rattle.fx_pcap.proofs.Whole.{number_in_front}
+use Rattle.fx_pcap.proofs.record.find_record.Goals as goal
+
+pub returns-in_err-fill-2-clause-stop : goal.returns-in_err-fill-2-clause-stop
+returns-in_err-fill-2-clause-stop g c =
+    let p = err_from_is_err_and c.from_residual-in_err-fill-2.result c.from_residual-in_err-fill-2.ensures.1 in
+    let enough : 16 ≤ length c.fill.new.self.held = omega (arith, c.if-octets-lt-RECORD_HEADER.false, ap length c.octets-octets.ensures.value) in
+    rw (p.1, p.2, c.in_err-fill-2.ensures.err.0) (failed_behind c.args.window.now c.fill.new.self c.fill-2.new.self c.in_ok-fill.ensures.octets (c.in_ok-fill.ensures.spent.1 enough) c.in_err-fill-2.ensures.err.1)
+
+pub returns-clause-found : goal.returns-clause-found
+returns-clause-found g c =
+    let held = c.fill.new.self.held in
+    let long : 16 ≤ length held = omega (arith, c.if-octets-lt-RECORD_HEADER.false, ap length c.octets-octets.ensures.value) in
+    let read = c.read32-captured.ensures ∙ ap (captured_length c.args.order) c.octets-octets.ensures.value in
+    let size = read ∙ sym (number_in_front c.args.order 4 8 held c.fill-2.new.self.held c.in_ok-fill-2.ensures.front (omega (arith, long))) in
+    record {
+      size = ap (λ (n : ℕ). 16 + n) size;
+      short = omega (arith, size, c.if-captured-gt-LONGEST.false);
+      whole = omega (arith, c.if-octets-size.false, ap length c.octets.ensures.value);
+    }
