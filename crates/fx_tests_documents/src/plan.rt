@@ -1,6 +1,6 @@
 //! Ranks of collecting processes, their order, and the numbers of layouts.
 use fx_base::Fault;
-use fx_plan::{Plan, read_plan};
+use fx_plan::{Plan, plans_have_complete_runs, read_plan};
 use serde_json::Value;
 use std::alloc::{AllocError, Global};
 use std::test::Fail;
@@ -19,7 +19,10 @@ pub(crate) fn plan_of(alloc: Global, text: &str) -> Result<Plan, Fail> {
 /// What reading a plan comes to: the order of ranks, or the fault's number and place.
 fn outcome(alloc: Global, text: &str) -> Result<String, Fail> {
     match read(alloc, text)? {
-        Ok(plan) => Ok(format!(in alloc; "{:?}", plan.ranked())?),
+        Ok(plan) => {
+            plans_have_complete_runs(&plan);
+            Ok(format!(in alloc; "{:?}", plan.ranked())?)
+        }
         Err(Fault { number, place }) => Ok(format!(in alloc; "{number} {place}")?),
     }
 }

@@ -104,6 +104,7 @@ fn two_lines(alloc: Global) -> Result<Vec<u8>, AllocError> {
 fn refuses_a_line_of_4097_bytes(rt: HostRuntime) -> Result<(), Fail> {
     let text = two_lines(rt.alloc())?;
     let mut reader = LineReader::new(rt.alloc(), Octets::new(text.as_slice()))?;
+    let _text: &Octets<'_> = reader.get_ref();
     assert!(rt; fails_behind(&mut reader, 1, &Fault::at_line(903, 2)));
     Ok(())
 }
