@@ -68,6 +68,18 @@ fn answer_call<R: AllocGlobal + Files, S: Sink>(
     }
 }
 
+/// Answers the bundle on standard input.
+fn answer_input<R: AllocGlobal + Input, S: Sink>(rt: &R, sink: &mut S) -> Result<Answer, Fault>
+    ensures told { IfOk result (λ answer. (text : List ℕ)
+        × IsBundleText answer text × Writes (S.taken sink.old) (S.taken sink.new) text) }
+    ensures going { OnOk result (S.failed sink.old ≡ false → S.failed sink.new ≡ false) }
+    ensures quiet { IfErr result (λ e. ((e ≡ fault_at 902 places.None) × (S.failed sink.new ≡ true))
+        ⊎ (sink.new ≡ sink.old)) }
+{
+    let mut input = Outside::new(rt.reader());
+    bundle_bytes(rt.alloc(), &mut input, sink)
+}
+
 /// Answers words, of which the first is the program's own name: the call that they name, or, where there is no
 /// other, the bundle on standard input. Gives the exit status: with an answer's text that of the answer, with the line
 /// of a refusal that of the refusal, and 5 where a write failed.
@@ -88,8 +100,7 @@ fn answer_words<R: AllocGlobal + Files + Input, S: Sink>(
     ensures exit { IsExitStatus result }
 {
     if words.len() < 2 {
-        let mut input = Outside::new(rt.reader());
-        let answer = bundle_bytes(rt.alloc(), &mut input, sink);
+        let answer = answer_input(rt, sink);
         return finish(&answer, sink);
     }
     match read_words(rt.alloc(), words) {
