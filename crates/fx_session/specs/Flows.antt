@@ -74,12 +74,15 @@ abbrev pub value_of : Axis → Found → ℕ
 value_of axis (Some p) = p.value % 2 ^ axis_width axis
 value_of axis None = 0
 
--- what is known on each axis makes a layout, and the fields
+-- what is known on each axis makes a layout, and fields, and the key there
 abbrev pub layout_of : (Axis → Found) → Layout
 layout_of found = flat_map (λ axis. part_of axis (found axis)) axes
 
 abbrev pub fields_of : (Axis → Found) → Fields
 fields_of found = map (λ axis. value_of axis (found axis)) axes
+
+abbrev pub key_along : (Axis → Found) → Key
+key_along found = key_of (layout_of found) (fields_of found)
 
 abbrev pub known : Result Found ℕ → Found
 known (Ok found) = found
@@ -92,8 +95,7 @@ is_refused (Err n) = true
 -- the key of what is known on the axes, if it is refused on none
 abbrev pub key_by : (Axis → Result Found ℕ) → Result Key ℕ
 key_by found =
-    if list_any (λ axis. is_refused (found axis)) axes then Err 620
-    else Ok (key_of (layout_of (λ axis. known (found axis))) (fields_of (λ axis. known (found axis))))
+    if list_any (λ axis. is_refused (found axis)) axes then Err 620 else Ok (key_along (λ axis. known (found axis)))
 
 -- ---- records
 

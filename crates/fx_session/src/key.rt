@@ -173,7 +173,7 @@ impl LastLayout {
     /// The key of what is known on each axis.
     pub fn key_of(&mut self, found: &[Option<Leading>; AXES]) -> Key
         requires { parts.AllStand found.now }
-        ensures { result ≡ keys.key_of (flows.layout_of (parts.found_on found.now)) (flows.fields_of (parts.found_on found.now)) }
+        ensures { result ≡ flows.key_along (parts.found_on found.now) }
     {
         let bits = bits_along(found);
         if self.bits != bits {

@@ -1,7 +1,6 @@
 //! What is noted of a data record.
-ghost use Rattle.std.specs.Prelude.{◌≡◌, ℕ, ◌<◌, ◌≤◌, ◌++◌, [], ◌∷◌, Option, Some, None, IfSome, OnSome, IfNone, slice_set, slice_index_or};
+ghost use Rattle.std.specs.Prelude.{◌≡◌, ℕ, ◌<◌, ◌≤◌, ◌++◌, [], ◌∷◌, Option, Some, None, IfSome, OnSome, IfNone};
 ghost use Rattle.std.specs.Option.{option_or};
-ghost use Rattle.fx_elements.specs.Axes.{axis_index};
 ghost use Rattle.fx_wire.specs.Values as wire;
 ghost use Rattle.fx_session.specs.Flows as flows;
 ghost use Rattle.fx_session.specs.Values as values;
@@ -10,8 +9,8 @@ use crate::number::number_in;
 use fx_elements::{AXES, Axis, Element};
 use fx_wire::{FieldSpecifier, cut_value};
 
-/// The first number of each element that is read: the values on the axes, prefixes and their lengths by the place of
-/// the axis, and the counters.
+/// The first number of each element that is read: the values on the axes, prefixes and their lengths by
+/// the place of the axis, and the counters.
 #[derive(Drop)]
 pub(crate) struct Seen {
     pub numbers: [Option<u128>; AXES],
@@ -32,7 +31,7 @@ fn note_first(noted: &mut Option<u128>, content: &[u8])
 
 /// The number is noted for the axis, if none is.
 fn note_on(noted: &mut [Option<u128>; AXES], axis: Axis, content: &[u8])
-    ensures { noted.new ≡ slice_set noted.old (axis_index axis) (option_or (slice_index_or noted.old (axis_index axis) None) (Some (flows.number_in content.now))) }
+    ensures { noted.new ≡ values.with_first noted.old axis (flows.number_in content.now) }
 {
     note_first(&mut noted[axis.index()], content);
 }
@@ -53,7 +52,8 @@ impl Seen {
 
     /// A field's value is noted, if it is read and none of its element is noted.
     fn note(&mut self, field: &FieldSpecifier, content: &[u8])
-        ensures { (vs : values.Values) → values.Notes self.old vs → values.Notes self.new (vs ++ record { field = field.now; content = content.now } ∷ []) }
+        ensures { (vs : values.Values) → values.Notes self.old vs
+            → values.Notes self.new (vs ++ record { field = field.now; content = content.now } ∷ []) }
     {
         match field.element() {
             Element::OnAxis(axis) => note_on(&mut self.numbers, axis, content),
@@ -80,7 +80,8 @@ pub(crate) fn read_record<'a>(
     octets: &'a [u8],
 ) -> Option<(Seen, &'a [u8])>
     ensures none { IfNone result (wire.record_at fields.now octets.now ≡ None) }
-    ensures some { IfSome result (λ p. (vs : values.Values) × (wire.record_at fields.now octets.now ≡ Some (vs, p.1.now)) × values.Notes p.0 vs) }
+    ensures some { IfSome result (λ p. (vs : values.Values)
+        × (wire.record_at fields.now octets.now ≡ Some (vs, p.1.now)) × values.Notes p.0 vs) }
 {
     let mut seen = Seen::new();
     let mut rest = octets;

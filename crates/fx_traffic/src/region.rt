@@ -107,7 +107,8 @@ fn values_at(alloc: Global, path: &Path<'_>, value: &Value, axis: Axis) -> Resul
     }
 }
 
-/// The names of the members that give the values on the axes: those of the information elements (RFC 7012).
+/// The names of the members that give the values on the axes: those of the information elements
+/// (RFC 7012).
 const NAMES: [&str; AXES] = [
     "sourceIPv4Address",
     "destinationIPv4Address",
@@ -156,7 +157,8 @@ pub fn whole() -> Region
 
 /// The region of the values that an object's members give.
 fn region_in(alloc: Global, path: &Path<'_>, object: &Value) -> Result<Region, Fault>
-    ensures { Reads (row_faults region_rows (pointer path.now) (view object.now)) (region_of (view object.now)) result }
+    ensures { Reads (row_faults region_rows (pointer path.now) (view object.now))
+        (region_of (view object.now)) result }
 {
     let mut low = [0; AXES];
     let mut high = [0; AXES];
