@@ -1,8 +1,7 @@
 //! Keys of flow records.
-ghost use Rattle.std.specs.Prelude.{◌≡◌, ◌≢◌, ℕ, suc, ◌+◌, ◌%◌, ◌^◌, ◌≤◌, ◌<◌, ◌++◌, [], ◌∷◌, true, Ok, Err, Option, Some, None, map, slice_index};
-ghost use Rattle.fx_elements.specs.Axes.{axis_index, axis_width, tops};
+ghost use Rattle.std.specs.Prelude.{◌≡◌, suc, ◌≤◌, ◌++◌, Ok, Err, Option, Some, None, map, slice_index};
+ghost use Rattle.fx_elements.specs.Axes.{axis_index, tops};
 ghost use Rattle.fx_elements.specs.Axes as every;
-ghost use Rattle.fx_layout.specs.Keys as keys;
 ghost use Rattle.fx_session.specs.Flows as flows;
 ghost use Rattle.fx_session.specs.Parts as parts;
 
