@@ -1,12 +1,11 @@
 -- What a reader has asked of its source.
-use Rattle.std.proofs.Common.{◌≡◌, ℕ, ◌+◌, ◌-◌, ◌≤◌, ◌^◌, List, ◌++◌, length, drop, Option, Some, None, IfSome, refl, sym, ap, ◌∙◌, subst, arith, inl, inr}
+use Rattle.std.proofs.Common.{◌≡◌, ℕ, ◌+◌, ◌-◌, ◌≤◌, List, ◌++◌, length, drop, Option, Some, None, IfSome, refl, sym, ap, ◌∙◌, subst, arith}
 use Rattle.std.proofs.lemmas.List.{length-append, length-drop}
 use Rattle.std.specs.Io.KnownBytes.{prepend_known}
-use Rattle.fx_base.proofs.Asked.{asked_then, none_since}
 use Rattle.fx_base.specs.Device.{IsAsked}
-use Rattle.fx_pcap.specs.Captures.{Reading, unread, Asks, Gains, IsCutOff}
+use Rattle.fx_pcap.specs.Captures.{Asks, Gains}
 use Rattle.fx_pcap.specs.Kept.{Kept, reading_of}
-use Rattle.fx_pcap.specs.Window.{Held, octets_of, HasFailed}
+use Rattle.fx_pcap.specs.Window.{Held, octets_of}
 
 -- ---- of a window that passed some octets and was filled then
 
@@ -32,14 +31,6 @@ gains_of n w w1 w2 k l passed same spent =
     let size : length w1.held ≡ length (drop k.taken w.held) = ap (λ (x : Held). length x.held) passed in
     gained (drop k.taken w.held) w2.held (drop l.taken w2.held) w.left w2.left n w.calls w2.calls (length w.held - k.taken) (length w2.held - l.taken) (same ∙ ap octets_of passed) (omega (arith, calls, size, spent)) (length-drop k.taken w.held) (length-drop l.taken w2.held)
 
-pub cut_off : (w w1 w2 : Held) (k l : Kept) → w1 ≡ record w { held = drop k.taken w.held } → Asks (reading_of w k) (reading_of w2 l) → HasFailed w1 w2 → IsCutOff (reading_of w k) (reading_of w2 l)
-cut_off w w1 w2 k l passed asks (inl failed) = inl failed
-cut_off w w1 w2 k l passed asks (inr (all, endless)) =
-    inr (all, asks, told (drop k.taken w.held) (length w.held - k.taken) w.left (length-drop k.taken w.held) (subst (λ (x : Held). IfSome x.left (λ left. 2 ^ 32 ≤ x.calls + length left)) passed endless)) where
-      told : (front : List ℕ) (before : ℕ) (left : Option (List ℕ)) → length front ≡ before → IfSome left (λ rest. 2 ^ 32 ≤ w.calls + length rest) → IfSome (prepend_known front left) (λ octets. 2 ^ 32 ≤ w.calls + (length octets - before))
-      told front before None size h = tt
-      told front before (Some rest) size h = omega (arith, length-append front rest, size, h)
-
 -- ---- of a reader that has read the file header
 
 pub asks_opened : (w0 w : Held) (asked : ℕ) → w0.calls ≡ 0 → w0.asked ≡ asked → IsAsked w0.asked (w.calls - w0.calls) w.asked → IsAsked asked w.calls w.asked
@@ -50,48 +41,3 @@ asks_opened w0 w asked none at asks =
 pub gains_opened : (held : List ℕ) (left source : Option (List ℕ)) (calls : ℕ) → prepend_known held left ≡ source → calls ≤ length held → IfSome source (λ octets. calls + (length (drop 24 octets) - (length held - 24)) ≤ length octets)
 gains_opened held None source calls is le = rw (← is) tt
 gains_opened held (Some rest) source calls is le = rw (← is) (omega (arith, length-append held rest, length-drop 24 (held ++ rest), le))
-
--- ---- of a reader, and then more
-
-pub asks_nothing : (l : Reading) → Asks l l
-asks_nothing l = record {
-  calls = omega arith;
-  asked = none_since l.asked l.calls;
-}
-
-pub asks_then : (k l m : Reading) → Asks k l → Asks l m → Asks k m
-asks_then k l m first next =
-    let more : l.calls - k.calls + (m.calls - l.calls) ≡ m.calls - k.calls = omega (arith, first.calls, next.calls) in
-    record {
-      calls = omega (arith, first.calls, next.calls);
-      asked = subst (λ n. IsAsked k.asked n m.asked) more (asked_then k.asked l.asked m.asked (l.calls - k.calls) (m.calls - l.calls) first.asked next.asked);
-    }
-
-pub gains_nothing : (l : Reading) → Gains 0 l l
-gains_nothing l = same l.left where
-  same : (o : Option (List ℕ)) → IfSome o (λ octets. (rest : List ℕ) × (o ≡ Some rest) × (l.calls + unread l rest ≤ l.calls + unread l octets + 0))
-  same None = tt
-  same (Some octets) = (octets, refl, omega arith)
-
-pub gains_then : (n : ℕ) (k l m : Reading) → Gains 0 k l → Gains n l m → Gains n k m
-gains_then n k l m first next = gained_then k.left first where
-  behind : (octets rest : List ℕ) → l.left ≡ Some rest → l.calls + unread l rest ≤ k.calls + unread k octets + 0 → (last : List ℕ) × (m.left ≡ Some last) × (m.calls + unread m last ≤ k.calls + unread k octets + n)
-  behind octets rest is le =
-      let h : (last : List ℕ) × (m.left ≡ Some last) × (m.calls + unread m last ≤ l.calls + unread l rest + n) = rw is at next in
-      (h.0, h.1, omega (arith, h.2, le))
-
-  gained_then : (o : Option (List ℕ)) → IfSome o (λ octets. (rest : List ℕ) × (l.left ≡ Some rest) × (l.calls + unread l rest ≤ k.calls + unread k octets + 0)) → IfSome o (λ octets. (last : List ℕ) × (m.left ≡ Some last) × (m.calls + unread m last ≤ k.calls + unread k octets + n))
-  gained_then None h = tt
-  gained_then (Some octets) h = behind octets h.0 h.1 h.2
-
-pub cut_off_then : (k l m : Reading) → Asks k l → Gains 0 k l → IsCutOff l m → IsCutOff k m
-cut_off_then k l m asks gains (inl failed) = inl failed
-cut_off_then k l m asks gains (inr (all, more, endless)) = inr (all, asks_then k l m asks more, told k.left gains) where
-  behind : (octets rest : List ℕ) → l.left ≡ Some rest → l.calls + unread l rest ≤ k.calls + unread k octets + 0 → 2 ^ 32 ≤ k.calls + unread k octets
-  behind octets rest is le =
-      let h : 2 ^ 32 ≤ l.calls + unread l rest = rw is at endless in
-      omega (arith, h, le)
-
-  told : (o : Option (List ℕ)) → IfSome o (λ octets. (rest : List ℕ) × (l.left ≡ Some rest) × (l.calls + unread l rest ≤ k.calls + unread k octets + 0)) → IfSome o (λ octets. 2 ^ 32 ≤ k.calls + unread k octets)
-  told None h = tt
-  told (Some octets) h = behind octets h.0 h.1 h.2

@@ -1,7 +1,9 @@
 pub mod Tags
+pub mod Left
 pub mod Spending
 pub mod Whole
 pub mod Passing
+pub mod Refusing
 pub mod Asking
 pub mod Taking
 pub mod Worked

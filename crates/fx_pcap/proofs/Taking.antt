@@ -1,10 +1,10 @@
 -- A record that is held is the first ahead.
-use Rattle.std.proofs.Common.{◌≡◌, ℕ, ◌+◌, ◌-◌, ◌*◌, ◌^◌, ◌≤◌, ◌<◌, false, nat_lt, List, ◌++◌, length, take, drop, Option, Some, None, IfSome, MatchOption, min, refl, sym, ap, ◌∙◌, subst, arith, slice_range, if◌then◌else◌}
+use Rattle.std.proofs.Common.{◌≡◌, ℕ, ◌+◌, ◌-◌, ◌*◌, ◌^◌, ◌≤◌, ◌<◌, false, nat_lt, List, [], ◌++◌, length, take, drop, Option, Some, None, IfSome, MatchOption, min, refl, sym, ap, ◌∙◌, subst, arith, slice_range, if◌then◌else◌}
 use Rattle.std.specs.Option.{option_map}
 use Rattle.std.specs.Io.KnownBytes.{prepend_known}
 use Rattle.std.proofs.Math.Nat.{min-eq_left}
 use Rattle.std.proofs.lemmas.Bool.{le-ltb}
-use Rattle.std.proofs.lemmas.List.{drop-append-le, take-append-le, length-append, length-drop}
+use Rattle.std.proofs.lemmas.List.{drop-append-le, take-append-le, take-append-drop, take-take, drop-take, drop_all, length-append, length-drop, length-take-le}
 use Rattle.fx_pcap.specs.declared.order.Order.{Order}
 use Rattle.fx_pcap.specs.declared.content.Content.{Content}
 use Rattle.fx_pcap.specs.declared.header.Format.{Format}
@@ -12,14 +12,15 @@ use Rattle.fx_pcap.specs.declared.skipped.Skipped.{Skipped}
 use Rattle.fx_pcap.specs.Numbers.{number_in}
 use Rattle.fx_pcap.specs.Frames.{content_of}
 use Rattle.fx_pcap.specs.Records.{captured_length, second_of, record_fault, item_of, Records, place_after, with_item, records_of}
-use Rattle.fx_pcap.specs.Captures.{Seen, counted, with_frame, frames_in, skipped_in, Ahead, ahead_in, Reading, ahead, with_first}
+use Rattle.fx_pcap.specs.Captures.{Seen, counted, with_frame, frames_in, skipped_in, Ahead, ahead_in, Reading, ahead_of, with_first}
 use Rattle.fx_pcap.specs.Captures.{Asks, Gains, AtFrame, budget}
 use Rattle.fx_pcap.specs.Window.{Held, octets_of, HasRecord}
 use Rattle.fx_pcap.specs.Kept.{Kept, fault_of, reading_of, Passes}
 use Rattle.fx_pcap.specs.declared.content.Content.TheVariants.{Packet, Other, Malformed}
 use Rattle.fx_pcap.specs.declared.stop.Stop.{Stop}
-use Rattle.fx_base.specs.Device.{IsAsked}
+use Rattle.fx_base.specs.Device.{MayBeLeft, MayHaveLeft, IsAsked}
 use Rattle.fx_pcap.proofs.Asking.{asks_of, gains_of}
+use Rattle.fx_pcap.proofs.Left.{first_and_more, untold_behind}
 use Rattle.fx_pcap.proofs.Whole.{number_whole}
 use Rattle.fx_pcap.proofs.Passing.{first_record}
 
@@ -54,22 +55,33 @@ item_whole format n held rest h =
     λ i. record { captured = octets i; content = content_of format.link (octets i); second = second i }
 
 -- the record that is held, and what is ahead behind it
-pub taken : (held : List ℕ) (left : Option (List ℕ)) (format : Format) (n place place' second : ℕ) (content : Content) (captured : List ℕ) (s : Skipped) → HasRecord format.order n held → place ≤ 2 ^ 64 - 1 → place' ≡ place_after place n → content ≡ content_of format.link (slice_range held 16 n) → captured ≡ slice_range held 16 n → second ≡ second_of format.order held → option_map (λ octets. ahead_in s (records_of format place octets)) (prepend_known held left) ≡ option_map (λ octets. ahead_with content captured second s (records_of format place' octets)) (prepend_known (drop n held) left)
-taken held None format n place place' second content captured s h fits at is lent when = refl
-taken held (Some rest) format n place place' second content captured s h fits at is lent when =
+taken : (held rest : List ℕ) (format : Format) (n place place' second : ℕ) (content : Content) (captured : List ℕ) (s : Skipped) → HasRecord format.order n held → place ≤ 2 ^ 64 - 1 → place' ≡ place_after place n → content ≡ content_of format.link (slice_range held 16 n) → captured ≡ slice_range held 16 n → second ≡ second_of format.order held → ahead_in s (records_of format place (held ++ rest)) ≡ ahead_with content captured second s (records_of format place' (drop n held ++ rest))
+taken held rest format n place place' second content captured s h fits at is lent when =
     let size : n ≡ 16 + captured_length format.order held = h.size in
     let whole : n ≤ length held = h.whole in
     let count : n ≡ 16 + captured_length format.order (held ++ rest) = size ∙ ap (λ (k : ℕ). 16 + k) (sym (number_whole format.order 4 8 held rest (omega (arith, size, whole)))) in
     let first = first_record format place n (held ++ rest) fits (omega (arith, length-append held rest, size, whole)) (no_fault format.order n held rest h) count in
     let item : item_of format (held ++ rest) ≡ record { captured = captured; content = content; second = second } = item_whole format n held rest h ∙ (λ i. record { captured = sym lent i; content = sym is i; second = sym when i }) in
     let behind : records_of format (place_after place n) (drop n (held ++ rest)) ≡ records_of format place' (drop n held ++ rest) = λ i. records_of format (sym at i) (drop-append-le n held rest whole i) in
-    ap (λ (r : Records). Some (ahead_in s r)) (first ∙ (λ i. with_item None place (item i) (behind i)))
+    ap (λ (r : Records). ahead_in s r) (first ∙ (λ i. with_item None place (item i) (behind i)))
+
+-- the same whatever is behind the record
+pub taken_alone : (held rest : List ℕ) (format : Format) (n place place' second : ℕ) (content : Content) (captured : List ℕ) (s : Skipped) → HasRecord format.order n held → place ≤ 2 ^ 64 - 1 → place' ≡ place_after place n → content ≡ content_of format.link (slice_range held 16 n) → captured ≡ slice_range held 16 n → second ≡ second_of format.order held → ahead_in s (records_of format place (take n held ++ rest)) ≡ ahead_with content captured second s (records_of format place' rest)
+taken_alone held rest format n place place' second content captured s h fits at is lent when =
+    let size : n ≡ 16 + captured_length format.order held = h.size in
+    let long : length (take n held) ≡ n = length-take-le n held h.whole in
+    let whole : take n held ++ drop n held ≡ held = take-append-drop n held in
+    let count : captured_length format.order held ≡ captured_length format.order (take n held) = ap (captured_length format.order) (sym whole) ∙ number_whole format.order 4 8 (take n held) (drop n held) (omega (arith, long, size)) in
+    let stamp : second_of format.order held ≡ second_of format.order (take n held) = ap (second_of format.order) (sym whole) ∙ number_whole format.order 4 0 (take n held) (drop n held) (omega (arith, long, size)) in
+    let split : n ≡ 16 + (n - 16) = omega (arith, size) in
+    let inner : drop 16 (take n held) ≡ take (n - 16) (drop 16 held) = ap (λ (m : ℕ). drop 16 (take m held)) split ∙ drop-take 16 (n - 16) held in
+    let same : slice_range held 16 n ≡ slice_range (take n held) 16 n = sym (ap (take (n - 16)) inner ∙ take-take (n - 16) (n - 16) (drop 16 held) (omega arith)) in
+    let alone : HasRecord format.order n (take n held) = record { size = size ∙ ap (λ (k : ℕ). 16 + k) count; short = omega (arith, count, h.short); whole = omega (arith, long) } in
+    let none : drop n (take n held) ≡ [] = drop_all n (take n held) (omega (arith, long)) in
+    taken (take n held) rest format n place place' second content captured s alone fits at (is ∙ ap (content_of format.link) same) (lent ∙ same) (when ∙ stamp)
+    ∙ ap (λ (l : List ℕ). ahead_with content captured second s (records_of format place' (l ++ rest))) none
 
 -- ---- readers
-
-pub told_twice : {A B C : Type 0} (f : B → C) (g : A → B) (h : A → C) (o : Option A) → ((x : A) → h x ≡ f (g x)) → option_map h o ≡ option_map f (option_map g o)
-told_twice f g h None e = refl
-told_twice f g h (Some x) e = ap (λ y. Some y) (e x)
 
 pub found_is : (o : Option ℕ) (n : ℕ) (P : Type 0) (Q : ℕ → Type 0) → o ≡ Some n → MatchOption o P Q → Q n
 found_is o n P Q e h = subst (λ (x : Option ℕ). MatchOption x P Q) e h
@@ -84,7 +96,8 @@ behind k n place s fields octets second = record k { place = place; taken = n; s
 -- a record was taken: this came before what is ahead now
 pub record After (old new : Reading) (content : Content) (s : Skipped) : Type 0 where
   pub going : (old.stopped ≡ None) × (new.stopped ≡ None)
-  pub frames : ahead old ≡ option_map (λ octets. ahead_with content new.seen.captured new.seen.second s (records_of new.format new.place octets)) new.left
+  pub frames : (rest : List ℕ) → MayBeLeft new.left rest → MayHaveLeft old.left (λ octets. ahead_of old octets ≡ ahead_with content new.seen.captured new.seen.second s (records_of new.format new.place rest))
+  pub untold : old.left ≡ None → new.left ≡ None
   pub format : new.format ≡ old.format
   pub asks : Asks old new
   pub gains : Gains 0 old new
@@ -105,7 +118,8 @@ after_record w w1 w2 k n place s fields size second content octets passed same s
     let long : length w1.held ≡ length w.held - k.taken = ap (λ (x : Held). length x.held) passed ∙ length-drop k.taken w.held in
     record {
       going = (going, no_stop k.place place k.stopped going);
-      frames = ap (option_map (λ os. ahead_in k.skipped (records_of k.format k.place os))) (sym all) ∙ taken w2.held w2.left k.format n k.place place second content (slice_range w2.held (min 16 n) n) k.skipped has fits at here lent stamp;
+      frames = λ rest left. (take n w2.held ++ rest, subst (λ (o : Option (List ℕ)). MayBeLeft o (take n w2.held ++ rest)) all (first_and_more n w2.held rest w2.left left), taken_alone w2.held rest k.format n k.place place second content (slice_range w2.held (min 16 n) n) k.skipped has fits at here lent stamp);
+      untold = untold_behind (drop k.taken w.held) w2.held (drop n w2.held) w.left w2.left all;
       format = refl;
       asks = asks_of w w1 w2 k (behind k n place s fields size second) passed more asked;
       gains = gains_of 0 w w1 w2 k (behind k n place s fields size second) passed same (omega (arith, spent));
@@ -119,7 +133,8 @@ frame_first content fields octets seen s r is f o =
 pub at_frame : (old new : Reading) (content : Content) (fields : List ℕ) (octets : ℕ) → After old new content new.skipped → content ≡ Packet fields octets → new.seen.fields ≡ fields → new.seen.octets ≡ octets → AtFrame old new
 at_frame old new content fields octets a is f o = record {
   going = a.going;
-  frames = a.frames ∙ told_twice (with_first new.seen new.skipped) (λ os. ahead_in new.skipped (records_of new.format new.place os)) (λ os. ahead_with content new.seen.captured new.seen.second new.skipped (records_of new.format new.place os)) new.left (λ os. frame_first content fields octets new.seen new.skipped (records_of new.format new.place os) is f o);
+  frames = λ rest left. (let x = a.frames rest left in (x.0, x.1, x.2 ∙ frame_first content fields octets new.seen new.skipped (records_of new.format new.place rest) is f o));
+  untold = a.untold;
   format = a.format;
   asks = a.asks;
   gains = a.gains;
@@ -129,7 +144,8 @@ at_frame old new content fields octets a is f o = record {
 passes : (old new : Reading) (content : Content) (s : Skipped) → After old new content s → ((captured : List ℕ) (second : ℕ) (r : Records) → ahead_with content captured second s r ≡ ahead_in new.skipped r) → Passes old new
 passes old new content s a same = record {
   going = a.going.1;
-  frames = a.frames ∙ (λ i. option_map (λ os. same new.seen.captured new.seen.second (records_of new.format new.place os) i) new.left);
+  frames = λ rest left. (let x = a.frames rest left in (x.0, x.1, x.2 ∙ same new.seen.captured new.seen.second (records_of new.format new.place rest)));
+  untold = a.untold;
   format = a.format;
   asks = a.asks;
   gains = a.gains;

@@ -1,17 +1,19 @@
 -- What the first octets say doesn't depend on those behind them.
 use Rattle.std.proofs.Common.{◌≡◌, ℕ, ◌+◌, ◌≤◌, ◌<◌, Bool, true, false, ◌&&◌, ◌==◌, nat_lt, List, [], ◌++◌, length, take, drop, Option, Some, None, IfSome, Result, Ok, Err, refl, sym, ap, ◌∙◌, subst, arith, inl, inr, ◌⊎◌, if◌then◌else◌}
 use Rattle.std.proofs.lemmas.Bool.{cases_lt, lt-ltb, le-ltb}
-use Rattle.std.proofs.lemmas.List.{drop-append-le, length-append, length-drop, append-nil, take-append-drop}
+use Rattle.std.proofs.lemmas.List.{drop-append-le, drop_all, length-append, length-drop, length-take-le, append-nil, take-append-drop}
 use Rattle.std.specs.Io.KnownBytes.{prepend_known}
 use Rattle.byteorder.specs.Numbers.{big_from-append, little_from-append}
 use Rattle.fx_base.specs.declared.fault.Fault.{Fault}
 use Rattle.fx_base.specs.declared.fault.Place.TheVariants as places
+use Rattle.fx_base.specs.Device.{MayBeLeft, MayHaveLeft}
 use Rattle.fx_base.specs.Fault.{fault_at}
 use Rattle.fx_pcap.specs.declared.order.Order.{Order}
 use Rattle.fx_pcap.specs.declared.order.Order.TheVariants.{Big, Little}
 use Rattle.fx_pcap.specs.declared.content.Link.{Link}
 use Rattle.fx_pcap.specs.declared.header.Format.{Format}
 use Rattle.fx_pcap.specs.Numbers.{number_in}
+use Rattle.fx_pcap.proofs.Left.{first_and_more}
 use Rattle.fx_pcap.specs.Records.{is_magic, order_of, link_of, no_capture, of_link, of_order, format_of}
 
 pub number_whole : (order : Order) (n at : ℕ) (held rest : List ℕ) → at + n ≤ length held → number_in order n at (held ++ rest) ≡ number_in order n at held
@@ -91,13 +93,21 @@ all_octets held rest h =
       | inr long ↦ format_whole held rest long
     ]
 
-pub refused : (held : List ℕ) (left source : Option (List ℕ)) (e : Fault) → prepend_known held left ≡ source → (length held < 24 → IfSome left (λ l. l ≡ [])) → format_of held ≡ Err e → ((e ≡ fault_at 701 (places.Octet 0)) ⊎ (e ≡ fault_at 702 places.None)) × IfSome source (λ octets. format_of octets ≡ Err e)
-refused held None source e is enough h = (format_error held e h, subst (λ (o : Option (List ℕ)). IfSome o (λ octets. format_of octets ≡ Err e)) is tt)
+pub refused : (held : List ℕ) (left source : Option (List ℕ)) (e : Fault) → prepend_known held left ≡ source → (length held < 24 → IfSome left (λ l. l ≡ [])) → format_of held ≡ Err e → ((e ≡ fault_at 701 (places.Octet 0)) ⊎ (e ≡ fault_at 702 places.None)) × MayHaveLeft source (λ octets. format_of octets ≡ Err e)
+refused held None source e is enough h = (format_error held e h, subst (λ (o : Option (List ℕ)). MayHaveLeft o (λ octets. format_of octets ≡ Err e)) is (held, tt, h))
 refused held (Some rest) source e is enough h =
-    (format_error held e h, subst (λ (o : Option (List ℕ)). IfSome o (λ octets. format_of octets ≡ Err e)) is (all_octets held rest enough ∙ h))
+    (format_error held e h, subst (λ (o : Option (List ℕ)). MayHaveLeft o (λ octets. format_of octets ≡ Err e)) is (held ++ rest, refl, all_octets held rest enough ∙ h))
 
-pub opened : (held : List ℕ) (left source : Option (List ℕ)) (format : Format) → prepend_known held left ≡ source → format_of held ≡ Ok format → IfSome source (λ octets. (format_of octets ≡ Ok format) × (prepend_known (drop 24 held) left ≡ Some (drop 24 octets))) × (source ≡ None → prepend_known (drop 24 held) left ≡ None)
-opened held None source format is h = (subst (λ (o : Option (List ℕ)). IfSome o (λ octets. (format_of octets ≡ Ok format) × (None ≡ Some (drop 24 octets)))) is tt, λ _. refl)
-opened held (Some rest) source format is h =
-    let long = format_long held format h in
-    (subst (λ (o : Option (List ℕ)). IfSome o (λ octets. (format_of octets ≡ Ok format) × (Some (drop 24 held ++ rest) ≡ Some (drop 24 octets)))) is (format_whole held rest long ∙ h, sym (ap (λ (l : List ℕ). Some l) (drop-append-le 24 held rest long))), λ none. let no : Some (held ++ rest) ≡ None = is ∙ none in absurd (cc))
+-- the header of what is held, and what is behind it
+pub headed : (held rest : List ℕ) (left source : Option (List ℕ)) (format : Format) → prepend_known held left ≡ source → format_of held ≡ Ok format → MayBeLeft (prepend_known (drop 24 held) left) rest → MayHaveLeft source (λ octets. (format_of octets ≡ Ok format) × (drop 24 octets ≡ rest))
+headed held rest left source format is h behind =
+    let long : length (take 24 held) ≡ 24 = length-take-le 24 held (format_long held format h) in
+    let first : format_of held ≡ format_of (take 24 held) = ap format_of (sym (take-append-drop 24 held)) ∙ format_whole (take 24 held) (drop 24 held) (omega (arith, long)) in
+    let read : format_of (take 24 held ++ rest) ≡ Ok format = format_whole (take 24 held) rest (omega (arith, long)) ∙ sym first ∙ h in
+    let none : drop 24 (take 24 held) ≡ [] = drop_all 24 (take 24 held) (omega (arith, long)) in
+    let after : drop 24 (take 24 held ++ rest) ≡ rest = drop-append-le 24 (take 24 held) rest (omega (arith, long)) ∙ ap (λ (l : List ℕ). l ++ rest) none in
+    (take 24 held ++ rest, subst (λ (o : Option (List ℕ)). MayBeLeft o (take 24 held ++ rest)) is (first_and_more 24 held rest left behind), (read, after))
+
+pub told_behind : (held : List ℕ) (left source : Option (List ℕ)) → prepend_known held left ≡ source → 24 ≤ length held → IfSome source (λ octets. prepend_known (drop 24 held) left ≡ Some (drop 24 octets))
+told_behind held None source is long = rw (← is) tt
+told_behind held (Some rest) source is long = rw (← is) (sym (ap (λ (l : List ℕ). Some l) (drop-append-le 24 held rest long)))

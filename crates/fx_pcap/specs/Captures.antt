@@ -1,9 +1,8 @@
 -- The frames of a capture, and what a reader of them does.
 use Rattle.std.specs.Prelude.{◌≡◌, ℕ, ◌+◌, ◌-◌, ◌*◌, ◌%◌, ◌^◌, ◌≤◌, ◌<◌, Bool, true, false, List, [], ◌∷◌, length, drop, Option, Some, None, IfSome, IsSome, Result, Ok, Err, ◌⊎◌}
-use Rattle.std.specs.Option.{option_map}
 use Rattle.fx_base.specs.declared.fault.Fault.{Fault}
 use Rattle.fx_base.specs.declared.fault.Place.TheVariants as places
-use Rattle.fx_base.specs.Device.{IsAsked}
+use Rattle.fx_base.specs.Device.{MayBeLeft, MayHaveLeft, IsAsked}
 use Rattle.fx_base.specs.Fault.{fault_at}
 use Rattle.fx_pcap.specs.declared.content.Content.{Content}
 use Rattle.fx_pcap.specs.declared.content.Content.TheVariants.{Packet, Other, Malformed}
@@ -75,14 +74,19 @@ pub record Reading : Type 0 where
   -- how many octets it holds
   pub held : ℕ
 
-abbrev pub ahead : Reading → Option Ahead
-ahead r = option_map (λ octets. ahead_in r.skipped (records_of r.format r.place octets)) r.left
+-- what is ahead of a reader that has these octets left
+abbrev pub ahead_of : Reading → List ℕ → Ahead
+ahead_of r octets = ahead_in r.skipped (records_of r.format r.place octets)
 
 abbrev pub nothing_more : Skipped → Option Fault → Ahead
 nothing_more s fault = record { frames = []; skipped = s; fault = fault }
 
 abbrev pub with_first : Seen → Skipped → Ahead → Ahead
 with_first seen s a = record a { frames = (seen, s) ∷ a.frames }
+
+-- whatever is left now, this is what was ahead of octets that may have been left
+abbrev pub HadAhead : Reading → Reading → (Ahead → Ahead) → Type 0
+HadAhead old new f = (rest : List ℕ) → MayBeLeft new.left rest → MayHaveLeft old.left (λ octets. ahead_of old octets ≡ f (ahead_of new rest))
 
 -- falls with each frame
 abbrev pub budget : Reading → ℕ
@@ -105,7 +109,9 @@ Gains n old new =
 -- it goes on to a frame
 pub record AtFrame (old new : Reading) : Type 0 where
   pub going : (old.stopped ≡ None) × (new.stopped ≡ None)
-  pub frames : ahead old ≡ option_map (with_first new.seen new.skipped) (ahead new)
+  -- the frame comes before what is ahead now
+  pub frames : HadAhead old new (with_first new.seen new.skipped)
+  pub untold : old.left ≡ None → new.left ≡ None
   pub format : new.format ≡ old.format
   pub asks : Asks old new
   pub gains : Gains 0 old new
@@ -114,8 +120,9 @@ pub record AtFrame (old new : Reading) : Type 0 where
 -- it stays at the end of the capture
 pub record AtEnd (old new : Reading) : Type 0 where
   pub going : (old.stopped ≡ None) × (new.stopped ≡ None)
-  pub frames : IfSome (ahead old) (λ a. (a ≡ nothing_more new.skipped None) × (new.left ≡ Some []))
-  pub untold : ahead old ≡ None → ahead new ≡ None
+  pub frames : MayHaveLeft old.left (λ octets. ahead_of old octets ≡ nothing_more new.skipped None)
+  pub rest : IfSome old.left (λ _. new.left ≡ Some [])
+  pub untold : old.left ≡ None → new.left ≡ None
   pub format : new.format ≡ old.format
   pub asks : Asks old new
   pub gains : Gains 1 old new
@@ -130,7 +137,7 @@ IsCutOff old new =
 abbrev pub Stops : Reading → Reading → Fault → Type 0
 Stops old new e =
     ((e ≡ fault_at 901 places.None) × IsCutOff old new)
-    ⊎ (((e ≡ fault_at 703 (places.Octet new.place)) ⊎ (e ≡ fault_at 704 (places.Octet new.place))) × IfSome (ahead old) (λ a. a ≡ nothing_more new.skipped (Some e)))
+    ⊎ (((e ≡ fault_at 703 (places.Octet new.place)) ⊎ (e ≡ fault_at 704 (places.Octet new.place))) × MayHaveLeft old.left (λ octets. ahead_of old octets ≡ nothing_more new.skipped (Some e)))
 
 -- it answers a fault, the same one from then on
 pub record Refuses (old new : Reading) (e : Fault) : Type 0 where
@@ -153,7 +160,9 @@ NextFrameIs old (Err e) = (new : Reading) × Refuses old new e
 
 -- a reader of a source that has these octets left, of which so many calls were made, behind the file header
 pub record IsOpened (left : Option (List ℕ)) (asked : ℕ) (new : Reading) : Type 0 where
-  pub format : IfSome left (λ octets. (format_of octets ≡ Ok new.format) × (new.left ≡ Some (drop 24 octets)))
+  -- whatever is left behind the header, octets that begin with it may have been left
+  pub format : (rest : List ℕ) → MayBeLeft new.left rest → MayHaveLeft left (λ octets. (format_of octets ≡ Ok new.format) × (drop 24 octets ≡ rest))
+  pub rest : IfSome left (λ octets. new.left ≡ Some (drop 24 octets))
   pub untold : left ≡ None → new.left ≡ None
   pub place : new.place ≡ 24
   pub skipped : new.skipped ≡ record { other = 0; malformed = 0 }
@@ -167,4 +176,4 @@ abbrev pub IsRefused : Option (List ℕ) → Fault → Type 0
 IsRefused left e =
     (e ≡ fault_at 900 places.None)
     ⊎ ((e ≡ fault_at 901 places.None)
-    ⊎ (((e ≡ fault_at 701 (places.Octet 0)) ⊎ (e ≡ fault_at 702 places.None)) × IfSome left (λ octets. format_of octets ≡ Err e)))
+    ⊎ (((e ≡ fault_at 701 (places.Octet 0)) ⊎ (e ≡ fault_at 702 places.None)) × MayHaveLeft left (λ octets. format_of octets ≡ Err e)))

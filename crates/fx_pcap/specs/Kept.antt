@@ -11,7 +11,7 @@ use Rattle.fx_pcap.specs.declared.stop.Stop.{Stop}
 use Rattle.fx_pcap.specs.declared.stop.Stop.TheVariants.{Device, Cut, TooLong}
 use Rattle.fx_pcap.specs.declared.capture.Taken.{Taken}
 use Rattle.fx_pcap.specs.declared.capture.Taken.TheVariants as taken
-use Rattle.fx_pcap.specs.Captures.{Reading, ahead, budget, Asks, Gains, Stops, AtFrame, AtEnd}
+use Rattle.fx_pcap.specs.Captures.{Reading, HadAhead, budget, Asks, Gains, Stops, AtFrame, AtEnd}
 use Rattle.fx_pcap.specs.Window.{Held}
 
 pub record Kept : Type 0 where
@@ -47,7 +47,8 @@ reading_of w k =
 -- a record was taken, and its frame passed over
 pub record Passes (old new : Reading) : Type 0 where
   pub going : new.stopped ≡ None
-  pub frames : ahead old ≡ ahead new
+  pub frames : HadAhead old new (λ a. a)
+  pub untold : old.left ≡ None → new.left ≡ None
   pub format : new.format ≡ old.format
   pub asks : Asks old new
   pub gains : Gains 0 old new

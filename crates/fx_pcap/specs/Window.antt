@@ -1,6 +1,7 @@
 -- The octets of a source of which some are held.
 use Rattle.std.specs.Prelude.{◌≡◌, ℕ, ◌+◌, ◌≤◌, ◌<◌, ◌^◌, Bool, true, ◌⊎◌, List, [], length, Option, Some, IfSome}
 use Rattle.std.specs.Io.KnownBytes.{prepend_known}
+use Rattle.fx_base.specs.Device.{MayHaveLeft}
 use Rattle.fx_pcap.specs.declared.order.Order.{Order}
 use Rattle.fx_pcap.specs.declared.stop.Stop.{Stop}
 use Rattle.fx_pcap.specs.declared.stop.Stop.TheVariants.{Device, Cut, TooLong}
@@ -46,5 +47,5 @@ pub record HasRecord (order : Order) (n : ℕ) (held : List ℕ) : Type 0 where
 -- why no record is found
 abbrev pub IsStop : Order → Stop → Held → Held → Type 0
 IsStop order Device old new = HasFailed old new
-IsStop order Cut old new = IfSome (octets_of old) (λ os. (0 < length os) × (record_fault order os ≡ Some 703))
-IsStop order TooLong old new = IfSome (octets_of old) (λ os. (0 < length os) × (record_fault order os ≡ Some 704))
+IsStop order Cut old new = MayHaveLeft (octets_of old) (λ os. (0 < length os) × (record_fault order os ≡ Some 703))
+IsStop order TooLong old new = MayHaveLeft (octets_of old) (λ os. (0 < length os) × (record_fault order os ≡ Some 704))

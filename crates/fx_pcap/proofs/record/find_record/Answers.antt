@@ -1,7 +1,9 @@
-use Rattle.std.proofs.Common.{ℕ, ◌+◌, ◌≤◌, length, ap, sym, ◌∙◌, arith}
+use Rattle.std.proofs.Common.{ℕ, ◌+◌, ◌≤◌, ◌<◌, length, ap, sym, ◌∙◌, arith}
 use Rattle.std.proofs.lemmas.Result.{err_from_is_err_and}
 use Rattle.fx_pcap.specs.Records.{captured_length}
+use Rattle.fx_pcap.specs.Window.{octets_of}
 use Rattle.fx_pcap.proofs.Spending.{failed_behind}
+use Rattle.fx_pcap.proofs.Refusing.{too_long, cut}
 use Rattle.fx_pcap.proofs.Whole.{number_in_front}
 use Rattle.fx_pcap.proofs.record.find_record.Goals as goal
 
@@ -22,3 +24,20 @@ returns-clause-found g c =
       short = omega (arith, size, c.if-captured-gt-LONGEST.false);
       whole = omega (arith, c.if-octets-size.false, ap length c.octets.ensures.value);
     }
+
+pub returns-then-captured-gt-LONGEST-clause-stop : goal.returns-then-captured-gt-LONGEST-clause-stop
+returns-then-captured-gt-LONGEST-clause-stop g c =
+    let w = c.fill.new.self in
+    let header : 16 ≤ length w.held = omega (arith, c.if-octets-lt-RECORD_HEADER.false, ap length c.octets-octets.ensures.value) in
+    let read = c.read32-captured.ensures ∙ ap (captured_length c.args.order) c.octets-octets.ensures.value in
+    too_long c.args.order w.held w.left (octets_of c.args.window.now) c.in_ok-fill.ensures.octets header (omega (arith, read, c.if-captured-gt-LONGEST.true))
+
+pub returns-then-octets-size-clause-stop : goal.returns-then-octets-size-clause-stop
+returns-then-octets-size-clause-stop g c =
+    let held = c.fill.new.self.held in
+    let w = c.fill-2.new.self in
+    let header : 16 ≤ length held = omega (arith, c.if-octets-lt-RECORD_HEADER.false, ap length c.octets-octets.ensures.value) in
+    let read = c.read32-captured.ensures ∙ ap (captured_length c.args.order) c.octets-octets.ensures.value in
+    let size = read ∙ sym (number_in_front c.args.order 4 8 held w.held c.in_ok-fill-2.ensures.front (omega (arith, header))) in
+    let few : length w.held < 16 + captured_length c.args.order w.held = omega (arith, size, c.if-octets-size.true, ap length c.octets.ensures.value) in
+    cut c.args.order w.held w.left (octets_of c.args.window.now) (c.in_ok-fill-2.ensures.octets ∙ c.in_ok-fill.ensures.octets) (c.in_ok-fill-2.ensures.enough (omega (arith, c.if-octets-size.true, ap length c.octets.ensures.value))) (omega (arith, header, c.in_ok-fill-2.ensures.fits)) (omega (arith, size, c.if-captured-gt-LONGEST.false)) few

@@ -1,11 +1,12 @@
 use Rattle.std.proofs.Common.{◌≡◌, ◌≤◌, None}
-use Rattle.fx_pcap.specs.Captures.{ahead, budget, Asks, Gains}
+use Rattle.fx_pcap.specs.Captures.{HadAhead, budget, Asks, Gains}
 use Rattle.fx_pcap.proofs.capture.Capture.find_frame.Given as goal
 
 abbrev pub invariant-records : goal.invariant-records
 invariant-records g l = record {
   going : l.self.stopped ≡ None;
-  ahead : ahead l.self ≡ ahead l.fn.self;
+  ahead : HadAhead l.fn.self l.self (λ a. a);
+  untold : l.fn.self.left ≡ None → l.self.left ≡ None;
   format : l.self.format ≡ l.fn.self.format;
   asks : Asks l.fn.self l.self;
   gains : Gains 0 l.fn.self l.self;
