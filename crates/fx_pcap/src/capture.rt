@@ -182,6 +182,14 @@ impl<R: Source> Capture<R> {
         self.skipped
     }
 
+    /// The source, which stands behind the octets that the reader holds.
+    pub fn get_ref(&self) -> &R
+        ensures failed { R.failed result.now ≡ self.now.failed }
+        ensures calls { R.calls result.now ≡ self.now.asked }
+    {
+        self.window.get_ref()
+    }
+
     /// The next frame, or none at the capture's end.
     ///
     /// Fails as [`advance`](Capture::advance), whose contract also says what it leaves.

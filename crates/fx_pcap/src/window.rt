@@ -153,6 +153,14 @@ impl<R: Source> Window<R> {
         &self.bytes[self.start..self.end]
     }
 
+    /// The source.
+    pub(crate) fn get_ref(&self) -> &R
+        ensures failed { R.failed result.now ≡ self.now.failed }
+        ensures calls { R.calls result.now ≡ self.now.asked }
+    {
+        &self.source
+    }
+
     /// Passes over the first octets.
     pub(crate) fn pass(&mut self, n: usize)
         requires { n ≤ length self.old.held }
