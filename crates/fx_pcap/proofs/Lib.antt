@@ -6,4 +6,5 @@ pub mod Passing
 pub mod Refusing
 pub mod Asking
 pub mod Taking
+pub mod RecordsByCases
 pub mod Worked

@@ -1,5 +1,5 @@
 -- The file header and the records of a capture (the classic pcap format, version 2.4).
-use Rattle.std.specs.Prelude.{ℕ, zero, suc, ◌+◌, ◌-◌, ◌^◌, Bool, ◌==◌, ◌||◌, ◌&&◌, nat_lt, min, if◌then◌else◌, List, [], ◌∷◌, length, take, drop, Option, Some, None, Result, Ok, Err}
+use Rattle.std.specs.Prelude.{◌≡◌, ℕ, zero, suc, ◌+◌, ◌-◌, ◌^◌, ◌<◌, Bool, ◌==◌, ◌||◌, ◌&&◌, nat_lt, min, if◌then◌else◌, List, [], ◌∷◌, length, take, drop, Option, Some, None, Result, Ok, Err}
 use Rattle.fx_base.specs.declared.fault.Fault.{Fault}
 use Rattle.fx_base.specs.declared.fault.Place.TheVariants as places
 use Rattle.fx_base.specs.Fault.{fault_at}
@@ -96,3 +96,11 @@ records_behind format place zero (o ∷ octets) =
 
 abbrev pub records_of : Format → ℕ → List ℕ → Records
 records_of format place octets = records_behind format place 0 octets
+
+-- ---- the same, said case by case
+
+-- no octets have no records; a whole record comes before those of the octets behind it; a fault comes at a record's place
+pub data AreRecords (format : Format) : ℕ → List ℕ → Records → Type 0 where
+  no_octets : (place : ℕ) → AreRecords format place [] (record { items = []; fault = None })
+  whole_record : (place : ℕ) (octets : List ℕ) (behind : Records) → 0 < length octets → record_fault format.order octets ≡ None → AreRecords format (place_after place (16 + captured_length format.order octets)) (drop (16 + captured_length format.order octets) octets) behind → AreRecords format place octets (record { items = item_of format octets ∷ behind.items; fault = behind.fault })
+  no_record : (place number : ℕ) (octets : List ℕ) → 0 < length octets → record_fault format.order octets ≡ Some number → AreRecords format place octets (record { items = []; fault = Some (fault_at number (places.Octet place)) })

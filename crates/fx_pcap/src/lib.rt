@@ -7,6 +7,7 @@ mod ethernet;
 mod frame;
 mod header;
 mod ipv4;
+mod laws;
 mod order;
 mod record;
 mod skipped;
@@ -15,4 +16,5 @@ mod window;
 
 pub use capture::Capture;
 pub use frame::Frame;
+pub use laws::records_by_cases;
 pub use skipped::Skipped;

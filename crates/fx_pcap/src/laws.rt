@@ -1,0 +1,11 @@
+//! What the definitions of a capture's records keep.
+ghost use Rattle.std.specs.Prelude.{◌≡◌, ◌<◌, ◌^◌, ◌↔◌, ℕ, List};
+ghost use Rattle.fx_pcap.specs.declared.header.Format.{Format};
+ghost use Rattle.fx_pcap.specs.Records.{AreRecords, Records, records_of};
+
+/// The records that stand in octets, which frames are read from, are those that the cases say, and no others.
+pub fn records_by_cases()
+    ensures { (format : Format) (place : ℕ) (octets : List ℕ) (records : Records)
+        → place < 2 ^ 64
+        → AreRecords format place octets records ↔ (records ≡ records_of format place octets) }
+{}
