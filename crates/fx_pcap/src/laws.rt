@@ -3,7 +3,7 @@ ghost use Rattle.std.specs.Prelude.{◌≡◌, ◌<◌, ◌^◌, ◌↔◌, ℕ,
 ghost use Rattle.fx_pcap.specs.declared.header.Format.{Format};
 ghost use Rattle.fx_pcap.specs.Records.{AreRecords, Records, records_of};
 
-/// The records that stand in octets, which frames are read from, are those that the cases say, and no others.
+/// The records of octets, whose frames a reader lends, are those that the cases say, and no others.
 pub fn records_by_cases()
     ensures { (format : Format) (place : ℕ) (octets : List ℕ) (records : Records)
         → place < 2 ^ 64

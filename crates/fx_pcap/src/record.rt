@@ -24,9 +24,11 @@ pub(crate) fn find_record<R: Source>(
     ensures smaller { IfOk result (λ size. IfSome size (λ n. (2 ^ 32 - window.new.calls) * 524289 + (length window.new.held - n) < (2 ^ 32 - window.old.calls) * 524289 + length window.old.held)) }
     ensures spent { IfOk result (λ size. MatchOption size
         (window.new.calls + length window.old.held ≤ window.old.calls + length window.new.held + 1)
-        (λ _. window.new.calls + length window.old.held ≤ window.old.calls + length window.new.held)) }
+        (λ _. window.new.calls + length window.old.held
+        ≤ window.old.calls + length window.new.held)) }
     ensures calls { window.old.calls ≤ window.new.calls }
-    ensures asked { IsAsked window.old.asked (window.new.calls - window.old.calls) window.new.asked }
+    ensures asked { IsAsked window.old.asked (window.new.calls - window.old.calls)
+        window.new.asked }
     ensures stop { IfErr result (λ stop. IsStop order stop window.old window.new) }
 {
     window.fill(RECORD_HEADER)?;

@@ -73,7 +73,8 @@ fn gather<R: Source>(
     ensures calls { (calls.old ≤ calls.new) × (calls.new ≤ 2 ^ 32) }
     ensures asked { IsAsked (R.calls source.old) (calls.new - calls.old) (R.calls source.new) }
     ensures err { IfErr result (λ stop. (stop ≡ stops.Device) × ((R.failed source.new ≡ true)
-        ⊎ ((calls.new ≡ 2 ^ 32) × IfSome (R.left source.old) (λ left. 2 ^ 32 ≤ calls.old + length left)))) }
+        ⊎ ((calls.new ≡ 2 ^ 32)
+        × IfSome (R.left source.old) (λ left. 2 ^ 32 ≤ calls.old + length left)))) }
 {
     let mut end = held;
     'reading: while end < want {
@@ -101,7 +102,13 @@ fn to_front(bytes: &mut [u8], start: usize, end: usize)
 impl<R: Source> Window<R> {
     /// A window on a source, which holds nothing yet.
     pub(crate) fn new(alloc: Global, source: R) -> Result<Window<R>, Fault>
-        ensures ok { IfOk result (λ w. w ≡ record { held = []; left = R.left source; failed = R.failed source; calls = 0; asked = R.calls source }) }
+        ensures ok { IfOk result (λ w. w ≡ record {
+          held = [];
+          left = R.left source;
+          failed = R.failed source;
+          calls = 0;
+          asked = R.calls source;
+        }) }
         ensures err { IfErr result (λ e. e ≡ fault_at 900 places.None) }
     {
         Ok(Window {

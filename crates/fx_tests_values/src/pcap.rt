@@ -247,5 +247,7 @@ fn reads_in_pieces(rt: HostRuntime) -> Result<(), Fail> {
     let mut capture = Capture::new(rt.alloc(), source)?;
     let first = next(&mut capture)?;
     assert!(rt; first == Some(([6, 1000, 443, 0], 40, 1)) && count(&mut capture) == (2, 703));
+    // 67 calls that give three octets each, and one at the end
+    assert!(rt; capture.get_ref().calls == 68);
     Ok(())
 }
