@@ -71,6 +71,7 @@ abbrev crossing : List Crossing → List Class
 crossing path = record {
   region = record { low = 167772160 ∷ 0 ∷ 0 ∷ 0 ∷ 0 ∷ 0 ∷ []; high = 184549375 ∷ 4294967295 ∷ 255 ∷ 65535 ∷ 65535 ∷ 255 ∷ [] };
   paths = path ∷ [];
+  exempt = false;
 } ∷ []
 
 abbrev pub customers : List Class

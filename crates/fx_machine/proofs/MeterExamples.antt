@@ -95,7 +95,7 @@ two_points = refl
 -- ---- what a report tells
 
 abbrev inwards : List Class
-inwards = record { region = all_fields; paths = (crossing (codes "eth0") true ∷ []) ∷ [] } ∷ []
+inwards = record { region = all_fields; paths = (crossing (codes "eth0") true ∷ []) ∷ []; exempt = false } ∷ []
 
 -- one packet from 10.1.2.3, metered and reported by so many bits of its source
 after_one : ℕ → ℕ → Outcome

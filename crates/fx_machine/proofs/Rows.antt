@@ -67,7 +67,7 @@ abbrev outwards : Crossing
 outwards = record { device = 1; interface = codes "eth1"; inwards = false }
 
 abbrev class_of : List Crossing → List Class
-class_of crossings = record { region = ten; paths = crossings ∷ [] } ∷ []
+class_of crossings = record { region = ten; paths = crossings ∷ []; exempt = false } ∷ []
 
 abbrev two : ℕ → List Packet
 two last = packet 167772161 18446744073709551614 ∷ packet 167772161 last ∷ []

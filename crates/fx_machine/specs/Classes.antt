@@ -1,5 +1,5 @@
 -- Classes of packets and their paths.
-use Rattle.std.specs.Prelude.{◌≡◌, ◌≢◌, true, List, [], Option, Some, None}
+use Rattle.std.specs.Prelude.{◌≡◌, ◌≢◌, Bool, true, false, not, List, [], filter, Option, Some, None}
 use Rattle.fx_boxes.specs.Boxes.{Bounds, holds}
 use Rattle.fx_machine.specs.declared.packet.Packet.{Packet}
 use Rattle.fx_machine.specs.declared.traffic.Crossing.{Crossing}
@@ -8,10 +8,20 @@ use Rattle.fx_machine.specs.Network.{numbered, entries}
 pub record Class : Type 0 where
   pub region : Bounds
   pub paths : List (List Crossing)
+  pub exempt : Bool  -- its packets must never be counted
 
 abbrev pub paths_of : Option Class → List (List Crossing)
 paths_of None = []
 paths_of (Some class) = class.paths
+
+-- whether this is an exempt class
+abbrev pub exempts : Option Class → Bool
+exempts None = false
+exempts (Some class) = class.exempt
+
+-- the packets that are to be counted: those of classes that aren't exempt
+abbrev pub to_count : List Class → List Packet → List Packet
+to_count classes = filter (λ packet. not (exempts (numbered classes packet.class)))
 
 -- the crossings of a packet
 abbrev pub path : List Class → Packet → List Crossing

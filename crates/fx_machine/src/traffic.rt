@@ -47,11 +47,13 @@ impl Path {
     }
 }
 
-/// A class of packets: the fields that they may have, and the paths that they may take.
+/// A class of packets: the fields that they may have, the paths that they may take, and whether
+/// they are exempt from being counted.
 #[derive(Debug, Drop)]
 pub struct Class {
     pub(crate) region: Region,
     pub(crate) paths: Vec<Path>,
+    pub(crate) exempt: bool,
 }
 
 impl Model for Class {
@@ -59,15 +61,20 @@ impl Model for Class {
 
     ghost Value = { classes.Class };
 
-    ghost view = { λ c. record { region = c.region; paths = c.paths.items } };
+    ghost view = { λ c. record { region = c.region; paths = c.paths.items; exempt = c.exempt } };
 }
 
 impl Class {
     /// The class of the packets with fields in this region, each of which takes one of these paths.
-    pub fn new(region: Region, paths: Vec<Path>) -> Class
-        ensures { result ≡ record { region = region; paths = paths.items } }
+    /// Those of an exempt class must never be counted.
+    pub fn new(region: Region, paths: Vec<Path>, exempt: bool) -> Class
+        ensures { result ≡ record { region = region; paths = paths.items; exempt = exempt } }
     {
-        Class { region, paths }
+        Class {
+            region,
+            paths,
+            exempt,
+        }
     }
 
     /// The fields that its packets may have.
@@ -82,6 +89,13 @@ impl Class {
         ensures { result.now ≡ self.now.paths }
     {
         self.paths.as_slice()
+    }
+
+    /// Whether its packets must never be counted.
+    pub fn exempt(&self) -> bool
+        ensures { result ≡ self.now.exempt }
+    {
+        self.exempt
     }
 }
 

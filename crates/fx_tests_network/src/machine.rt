@@ -38,7 +38,7 @@ fn net(alloc: Global) -> Result<Net, Fail> {
 /// One class, whose packets come into the meter.
 fn classes(alloc: Global) -> Result<Classes, Fail> {
     let path = Path::new(vec![in alloc; into(alloc, 1)?]?);
-    let class = Class::new(Region::whole(), vec![in alloc; path]?);
+    let class = Class::new(Region::whole(), vec![in alloc; path]?, false);
     Ok(Classes::new(vec![in alloc; class]?))
 }
 

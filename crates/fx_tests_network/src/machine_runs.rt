@@ -12,7 +12,7 @@ use std::test::Fail;
 fn web(alloc: Global) -> Result<Classes, Fail> {
     let region = sources(0x0a00_0000, 0x0aff_ffff)?;
     let paths = vec![in alloc; Path::new(Vec::new(alloc))]?;
-    Ok(Classes::new(vec![in alloc; Class::new(region, paths)]?))
+    Ok(Classes::new(vec![in alloc; Class::new(region, paths, false)]?))
 }
 
 /// The run that is read from a text, where those are the classes.

@@ -1,5 +1,5 @@
 -- A declaration of traffic: the classes of the packets that cross a network.
-use Rattle.std.specs.Prelude.{ℕ, List, [], ◌∷◌, codes, map}
+use Rattle.std.specs.Prelude.{ℕ, false, List, [], ◌∷◌, codes, map}
 use Rattle.serde_json.specs.Data.{Data}
 use Rattle.serde_json.specs.Find.{get}
 use Rattle.fx_config.specs.Walk.{Found, Row, object_faults, required, optional, member_of}
@@ -34,6 +34,7 @@ abbrev pub class_of : List (List ℕ) → Data → Class
 class_of devices d = record {
   region = region_given (get (codes "region") d);
   paths = map (path_of devices) (items_of (member_of (codes "paths") d));
+  exempt = false;
 }
 
 -- ---- the document, of which crates above speak by these two words

@@ -60,7 +60,7 @@ fn read_class<T: Named>(
     name_member(alloc, path, value, earlier)?;
     let region = region_member(alloc, path, value)?;
     let paths = paths_member(alloc, path, value, devices)?;
-    Ok(Class::new(region, paths.into_vec()))
+    Ok(Class::new(region, paths.into_vec(), false))
 }
 
 /// The classes of the list at the path, in order.
