@@ -8,9 +8,9 @@ use Rattle.fx_leaf.specs.declared.verdict.Fate.{Fate}
 use Rattle.fx_leaf.specs.declared.verdict.Fate.TheVariants.{Never, Once}
 use Rattle.fx_leaf.specs.SoundLeaves.{Met, met_fate, OneCounted}
 use Rattle.fx_leaf.specs.Verdicts.{Verdict, Seen, path_verdict}
-use Rattle.fx_leaf.specs.Answers.{NoneIsCut, SomeIsFate, OnceIsSound, NoOtherIsSound, Judges}
+use Rattle.fx_leaf.specs.Answers.{NoneIsCut, SomeIsFate, OnceIsSound, NoOtherIsSound, NeverIsSound, SoundIsNever, Judges}
 use Rattle.fx_leaf.proofs.Standings.{in_holds, is_low, ordered}
-use Rattle.fx_leaf.proofs.Trees.{counted_once}
+use Rattle.fx_leaf.proofs.Trees.{counted_once, counted_never, never_counted}
 use Rattle.fx_leaf.proofs.Paths.{packet_said, packet_counted}
 use Rattle.fx_leaf.proofs.Uncut.{selections_uncut, matches_uncut, path_lost}
 
@@ -91,4 +91,23 @@ no_other_is_sound net path region is_net r crossing point process leaf =
     by (Some f) e =
         let here = low_holds region r in
         let f_is : f ≡ Once = sym (packet_said net is_net.fits region r region.low here path f e) ∙ counted_once net region.low path crossing point process (leaf.counted region.low here) in
+        e ∙ ap Some f_is
+
+pub never_is_sound : Judges NeverIsSound
+never_is_sound net path region is_net r h =
+    let said = some_is_fate net path region is_net r Never h in
+    record {
+      selections = said.0.0;
+      matches = said.0.1;
+      uncounted = λ fields. λ here. never_counted net fields path (said.1 fields here);
+    }
+
+pub sound_is_never : Judges SoundIsNever
+sound_is_never net path region is_net r leaf = by (path_verdict net region path) refl
+  where
+    by : (v : Verdict) → path_verdict net region path ≡ v → path_verdict net region path ≡ Some Never
+    by None e = absurd (none_is_cut net path region is_net r e (leaf.selections, leaf.matches))
+    by (Some f) e =
+        let here = low_holds region r in
+        let f_is : f ≡ Never = sym ((some_is_fate net path region is_net r f e).1 region.low here) ∙ counted_never net region.low path (leaf.uncounted region.low here) in
         e ∙ ap Some f_is

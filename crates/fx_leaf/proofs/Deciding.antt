@@ -1,5 +1,5 @@
 -- What a leaf's answer says.
-use Rattle.std.proofs.Common.{◌≡◌, ℕ, List, Some, None, Result, Ok, refl, sym, ap, ◌∙◌, subst, IfOk, IfErr}
+use Rattle.std.proofs.Common.{◌≡◌, ℕ, List, Some, None, Result, Ok, refl, sym, ap, ◌∙◌, subst, IfOk, IfErr, OnOk}
 use Rattle.fx_base.specs.declared.fault.Fault.{Fault}
 use Rattle.fx_boxes.specs.Boxes.{Bounds, IsRegion}
 use Rattle.fx_machine.specs.declared.traffic.Crossing.{Crossing}
@@ -7,11 +7,12 @@ use Rattle.fx_machine.specs.Network.{Net}
 use Rattle.fx_machine.specs.Ranks.{IsNetwork}
 use Rattle.fx_leaf.specs.declared.leaf.Counted.{Counted}
 use Rattle.fx_leaf.specs.declared.verdict.Fate.TheVariants.{Never, Once, Many, Differing, Unassigned}
-use Rattle.fx_leaf.specs.Leaves.{named, leaf_of, NoneIsSound}
+use Rattle.fx_leaf.specs.Leaves.{named, leaf_of, NoneIsSound, never_of, NeverIsUnsound}
 use Rattle.fx_leaf.specs.Leaves.NoneIsSound.{cut, unassigned, differing, many, never}
-use Rattle.fx_leaf.specs.SoundLeaves.{SoundLeaf}
+use Rattle.fx_leaf.specs.Leaves.NeverIsUnsound.{cut as is_cut, unassigned as is_unassigned, differing as is_differing, many as is_many, once as is_once}
+use Rattle.fx_leaf.specs.SoundLeaves.{SoundLeaf, SoundNever}
 use Rattle.fx_leaf.specs.Verdicts.{Verdict, Seen, path_verdict, counted}
-use Rattle.fx_leaf.proofs.Answers.{none_is_cut, some_is_fate, once_is_sound, no_other_is_sound}
+use Rattle.fx_leaf.proofs.Answers.{none_is_cut, some_is_fate, once_is_sound, no_other_is_sound, never_is_sound, sound_is_never}
 
 module _ (net : Net) (path : List Crossing) (region : Bounds) (is_net : IsNetwork net) (r : IsRegion region) where
   abbrev Sound : Counted → Type 0
@@ -53,3 +54,30 @@ module _ (net : Net) (path : List Crossing) (region : Bounds) (is_net : IsNetwor
 
   pub answer_none : (result : Result Counted Fault) → result ≡ leaf_of (path_verdict net region path) (named (counted net region path)) → IfErr result (NoneIsSound net path region)
   answer_none result e = subst (λ x. IfErr x (NoneIsSound net path region)) (sym e) (why (path_verdict net region path) refl)
+
+  -- ---- the same where the packets are exempt
+
+  never_said : (v : Verdict) → path_verdict net region path ≡ v → OnOk (never_of v) (SoundNever net path region)
+  never_said None e = tt
+  never_said (Some Never) e = never_is_sound net path region is_net r e
+  never_said (Some Once) e = tt
+  never_said (Some Many) e = tt
+  never_said (Some Differing) e = tt
+  never_said (Some Unassigned) e = tt
+
+  pub never_sound : (result : Result (Unit {0}) Fault) → result ≡ never_of (path_verdict net region path) → OnOk result (SoundNever net path region)
+  never_sound result e = subst (λ x. OnOk x (SoundNever net path region)) (sym e) (never_said (path_verdict net region path) refl)
+
+  pub never_every : (result : Result (Unit {0}) Fault) → result ≡ never_of (path_verdict net region path) → SoundNever net path region → result ≡ Ok tt
+  never_every result e leaf = e ∙ ap never_of (sound_is_never net path region is_net r leaf)
+
+  never_why : (v : Verdict) → path_verdict net region path ≡ v → IfErr (never_of v) (NeverIsUnsound net path region)
+  never_why None e = is_cut (none_is_cut net path region is_net r e)
+  never_why (Some Never) e = tt
+  never_why (Some Many) e = let said' = some_is_fate net path region is_net r Many e in is_many said'.0 said'.1
+  never_why (Some Differing) e = let said' = some_is_fate net path region is_net r Differing e in is_differing said'.0 said'.1
+  never_why (Some Unassigned) e = let said' = some_is_fate net path region is_net r Unassigned e in is_unassigned said'.0 said'.1
+  never_why (Some Once) e = let said' = some_is_fate net path region is_net r Once e in is_once said'.0 said'.1
+
+  pub never_none : (result : Result (Unit {0}) Fault) → result ≡ never_of (path_verdict net region path) → IfErr result (NeverIsUnsound net path region)
+  never_none result e = subst (λ x. IfErr x (NeverIsUnsound net path region)) (sym e) (never_why (path_verdict net region path) refl)

@@ -1,5 +1,5 @@
 -- How fates combine.
-use Rattle.std.proofs.Common.{◌≡◌, ◌≢◌, ◌⊎◌, inl, inr, ℕ, zero, suc, List, [], ◌∷◌, ◌++◌, map, Some, refl, sym, ap, ap₂, ◌∙◌, subst, slice_get}
+use Rattle.std.proofs.Common.{◌≡◌, ◌≢◌, ◌⊎◌, inl, inr, ℕ, zero, suc, List, [], ◌∷◌, ◌++◌, map, Some, refl, sym, ap, ap₂, ◌∙◌, subst, slice_get, All, arith, le_of_suc-le-suc}
 use Rattle.fx_leaf.specs.declared.verdict.Fate.{Fate}
 use Rattle.fx_leaf.specs.declared.verdict.Fate.TheVariants.{Never, Once, Many, Differing, Unassigned}
 use Rattle.fx_leaf.specs.Fates.{both, all_happen, either, one_happens}
@@ -99,6 +99,16 @@ once_both f g h =
       | inr e ↦ elim e [ inl d ↦ inr d.1 | inr d ↦ inl d.0 ]
     ]
 
+never_both : (f g : Fate) → both f g ≡ Never → (f ≡ Never) × (g ≡ Never)
+never_both f g h =
+    elim (both_good f g (subst IsGood (sym h) tt)) [
+      | inl e ↦ e
+      | inr e ↦ elim e [
+        | inl d ↦ absurd (let k : both f g ≡ Once = ap₂ both d.0 d.1 in never_once (sym h ∙ k))
+        | inr d ↦ absurd (let k : both f g ≡ Once = ap₂ both d.0 d.1 in never_once (sym h ∙ k))
+      ]
+    ]
+
 pub same_by_fate : (f : Fate) (v w : Weight) → (f ≡ Once → v ≡ w) → by_fate f v ≡ by_fate f w
 same_by_fate Never v w h = refl
 same_by_fate Once v w h = h refl
@@ -171,3 +181,10 @@ module _ {A : Type 0} (fate_of : A → Fate) where
       let rest = one_happens (map fate_of (z ∷ xs)) in
       let both' = good_either (fate_of y) rest good in
       any_choice (z ∷ xs) n x h (subst IsGood (sym both'.1) good) ∙ both'.1
+
+  -- where nothing is counted, no part is
+  pub all_never : (xs : List A) → all_happen (map fate_of xs) ≡ Never → All (λ x. fate_of x ≡ Never) xs
+  all_never [] h k d lt = absurd (omega arith)
+  all_never (x ∷ xs) h zero d lt = (never_both (fate_of x) (all_happen (map fate_of xs)) h).0
+  all_never (x ∷ xs) h (suc k) d lt =
+      all_never xs (never_both (fate_of x) (all_happen (map fate_of xs)) h).1 k d (le_of_suc-le-suc lt)

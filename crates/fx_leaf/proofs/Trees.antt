@@ -13,7 +13,8 @@ use Rattle.fx_machine.specs.Steps.{meet}
 use Rattle.fx_leaf.specs.declared.verdict.Fate.{Fate}
 use Rattle.fx_leaf.specs.declared.verdict.Fate.TheVariants.{Once, Never}
 use Rattle.fx_leaf.specs.Fates.{both, all_happen, act_fate, fate, acts_along, packet_fate}
-use Rattle.fx_leaf.specs.SoundLeaves.{Met, met_along, met_fate, OneCounted}
+use Rattle.fx_leaf.specs.SoundLeaves.{Met, met_along, met_fate, OneCounted, NoneCounted}
+use Rattle.fx_leaf.proofs.FateLaws.{all_never}
 use Rattle.fx_leaf.specs.Certificates.{AllOnce, Tree, Leaf, Split, SoundTree, Sound}
 
 -- a greatest value that is lowered, or a least value that is raised, where the fields allow it
@@ -69,6 +70,12 @@ module _ (net : Net) (fields : Fields) where
   pub counted_once : (path : List Crossing) (crossing point process : ℕ) → OneCounted net path crossing point process fields → packet_fate net fields path ≡ Once
   counted_once path crossing point process c =
       sym (ap all_happen (fates_along 1 path)) ∙ ap (λ ms. all_happen (map (met_fate net fields) ms)) c.all ∙ once_among c.before c.after c.named c.never_before c.never_after c.once
+
+  pub counted_never : (path : List Crossing) → NoneCounted net path fields → packet_fate net fields path ≡ Never
+  counted_never path c = sym (ap all_happen (fates_along 1 path)) ∙ nevers (met_along net fields 1 path) c
+
+  pub never_counted : (path : List Crossing) → packet_fate net fields path ≡ Never → NoneCounted net path fields
+  never_counted path h = all_never (met_fate net fields) (met_along net fields 1 path) (ap all_happen (fates_along 1 path) ∙ h)
 
 tree_once : (net : Net) (path : List Crossing) (tree : Tree) (region : Bounds) (fields : Fields) → SoundTree net path region tree → holds region fields ≡ true → packet_fate net fields path ≡ Once
 tree_once net path (Leaf crossing point process) region fields sound h =

@@ -7,9 +7,9 @@ use Rattle.fx_machine.specs.Network.{Net}
 use Rattle.fx_machine.specs.Ranks.{IsRanked, IsNetwork}
 use Rattle.fx_machine.specs.Orders.{Descends}
 use Rattle.fx_leaf.specs.declared.verdict.Fate.{Fate}
-use Rattle.fx_leaf.specs.declared.verdict.Fate.TheVariants.{Once}
+use Rattle.fx_leaf.specs.declared.verdict.Fate.TheVariants.{Once, Never}
 use Rattle.fx_leaf.specs.Fates.{packet_fate}
-use Rattle.fx_leaf.specs.SoundLeaves.{SelectionsUncut, MatchesUncut, SoundLeaf}
+use Rattle.fx_leaf.specs.SoundLeaves.{SelectionsUncut, MatchesUncut, SoundLeaf, SoundNever}
 use Rattle.fx_leaf.specs.Verdicts.{Seen, path_verdict, counted}
 use Rattle.fx_leaf.specs.Tables.{Numbering, Numbers, Table, fill, HasVerdicts}
 
@@ -40,6 +40,13 @@ OnceIsSound net path region =
 abbrev pub NoOtherIsSound : Net → List Crossing → Bounds → Type 0
 NoOtherIsSound net path region =
     (crossing point process : ℕ) → SoundLeaf net path region crossing point process → (path_verdict net region path ≡ Some Once) × ((s : Seen) → counted net region path ≡ Some s → (s.crossing ≡ crossing) × (s.point ≡ point) × (s.process ≡ process))
+
+-- where it is never, and only there, no packet of the region is counted
+abbrev pub NeverIsSound : Net → List Crossing → Bounds → Type 0
+NeverIsSound net path region = path_verdict net region path ≡ Some Never → SoundNever net path region
+
+abbrev pub SoundIsNever : Net → List Crossing → Bounds → Type 0
+SoundIsNever net path region = SoundNever net path region → path_verdict net region path ≡ Some Never
 
 abbrev pub Judges : (Net → List Crossing → Bounds → Type 0) → Type 0
 Judges says = (net : Net) (path : List Crossing) (region : Bounds) → IsNetwork net → IsRegion region → says net path region

@@ -59,3 +59,22 @@ pub data NoneIsSound (net : Net) (path : List Crossing) (region : Bounds) : Faul
   differing : NothingCuts net path region → AllHave net path region Differing → NoneIsSound net path region (fault_at 409 places.None)
   many : NothingCuts net path region → AllHave net path region Many → NoneIsSound net path region (fault_at 408 places.None)
   never : NothingCuts net path region → AllHave net path region Never → NoneIsSound net path region (fault_at 407 places.None)
+
+-- ---- the answer where the packets are exempt
+
+-- nothing is counted, or why something is: as above, and 415 where the packets are counted once
+abbrev pub never_of : Verdict → Result (Unit {0}) Fault
+never_of None = Err (fault_of None)
+never_of (Some Unassigned) = Err (fault_of (Some Unassigned))
+never_of (Some Differing) = Err (fault_of (Some Differing))
+never_of (Some Many) = Err (fault_of (Some Many))
+never_of (Some Once) = Err (fault_at 415 places.None)
+never_of (Some Never) = Ok tt
+
+-- why the packets of a region aren't all left uncounted, by number
+pub data NeverIsUnsound (net : Net) (path : List Crossing) (region : Bounds) : Fault → Type 0 where
+  cut : (NothingCuts net path region → ⊥) → NeverIsUnsound net path region (fault_at 406 places.None)
+  unassigned : NothingCuts net path region → AllHave net path region Unassigned → NeverIsUnsound net path region (fault_at 413 places.None)
+  differing : NothingCuts net path region → AllHave net path region Differing → NeverIsUnsound net path region (fault_at 409 places.None)
+  many : NothingCuts net path region → AllHave net path region Many → NeverIsUnsound net path region (fault_at 408 places.None)
+  once : NothingCuts net path region → AllHave net path region Once → NeverIsUnsound net path region (fault_at 415 places.None)

@@ -1,4 +1,4 @@
--- Leaves of a certificate: of a region's packets on a path, the one occurrence that counts each of them.
+-- Leaves of a certificate: of a region's packets on a path, the one occurrence that counts each of them, or none.
 use Rattle.std.specs.Prelude.{◌≡◌, ◌≢◌, ◌⊎◌, ◌&&◌, ◌==◌, Contains, ℕ, ◌+◌, Bool, true, false, List, [], ◌∷◌, ◌++◌, map, All, Some, None, slice_get}
 use Rattle.std.specs.List.{list_all}
 use Rattle.fx_elements.specs.Axes.{Fields, field, axis_width}
@@ -86,9 +86,20 @@ pub record OneCounted (net : Net) (path : List Crossing) (crossing point process
   pub never_before : All (λ m. met_fate net fields m ≡ Never) before
   pub never_after : All (λ m. met_fate net fields m ≡ Never) after
 
--- ---- a leaf
+-- no occurrence is counted
+abbrev pub NoneCounted : Net → List Crossing → Fields → Type 0
+NoneCounted net path fields = All (λ m. met_fate net fields m ≡ Never) (met_along net fields 1 path)
 
+-- ---- leaves
+
+-- of packets that are to be counted
 pub record SoundLeaf (net : Net) (path : List Crossing) (region : Bounds) (crossing point process : ℕ) : Type 0 where
   pub selections : SelectionsUncut net path region
   pub matches : MatchesUncut net path region
   pub counted : (fields : Fields) → holds region fields ≡ true → OneCounted net path crossing point process fields
+
+-- of packets that are exempt
+pub record SoundNever (net : Net) (path : List Crossing) (region : Bounds) : Type 0 where
+  pub selections : SelectionsUncut net path region
+  pub matches : MatchesUncut net path region
+  pub uncounted : (fields : Fields) → holds region fields ≡ true → NoneCounted net path fields

@@ -55,6 +55,9 @@ pub fn verdicts_judge_regions()
     // Where it is once, the selection process told makes a sound leaf, and no other does.
     ensures once { answers.Judges answers.OnceIsSound }
     ensures no_other { answers.Judges answers.NoOtherIsSound }
+    // Where it is never no packet is counted, and nowhere else.
+    ensures never { answers.Judges answers.NeverIsSound }
+    ensures never_alone { answers.Judges answers.SoundIsNever }
     // Verdicts at collecting processes may be worked out by table, from the processes of highest rank on.
     ensures table { answers.TableIsVerdicts }
 {}

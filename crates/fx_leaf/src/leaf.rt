@@ -1,5 +1,5 @@
 //! The leaf that is sound for a region on a path.
-ghost use Rattle.std.specs.Prelude.{◌≡◌, ◌≤◌, ℕ, length, IfOk, IfErr, Ok};
+ghost use Rattle.std.specs.Prelude.{◌≡◌, ◌≤◌, ℕ, length, IfOk, IfErr, OnOk, Ok};
 ghost use Rattle.fx_leaf.specs.Leaves as leaves;
 ghost use Rattle.fx_leaf.specs.SoundLeaves as sound_leaves;
 ghost use Rattle.fx_leaf.specs.Tables as by_table;
@@ -27,17 +27,37 @@ pub struct Counted {
     pub process: u64,
 }
 
+/// The fault where packets are to be counted once, and aren't.
+fn fault_of(verdict: Option<Fate>) -> Fault
+    ensures { result ≡ leaves.fault_of verdict }
+{
+    match verdict {
+        None => Fault::bare(406),
+        Some(Fate::Unassigned) => Fault::bare(413),
+        Some(Fate::Differing) => Fault::bare(409),
+        Some(Fate::Many) => Fault::bare(408),
+        Some(Fate::Never | Fate::Once) => Fault::bare(407),
+    }
+}
+
 /// The leaf that this tells, or why there is none.
 fn leaf_of(told: Told) -> Result<Counted, Fault>
     ensures { result ≡ leaves.leaf_of told.verdict told.counted }
 {
     match told.verdict {
-        None => Err(Fault::bare(406)),
-        Some(Fate::Unassigned) => Err(Fault::bare(413)),
-        Some(Fate::Differing) => Err(Fault::bare(409)),
-        Some(Fate::Many) => Err(Fault::bare(408)),
-        Some(Fate::Never) => Err(Fault::bare(407)),
         Some(Fate::Once) => told.counted.ok_or(Fault::bare(407)),
+        verdict => Err(fault_of(verdict)),
+    }
+}
+
+/// Whether the verdict is that no packet is counted, or why not.
+fn never_of(told: Told) -> Result<(), Fault>
+    ensures { result ≡ leaves.never_of told.verdict }
+{
+    match told.verdict {
+        Some(Fate::Never) => Ok(()),
+        Some(Fate::Once) => Err(Fault::bare(415)),
+        verdict => Err(fault_of(verdict)),
     }
 }
 
@@ -85,4 +105,27 @@ pub fn fate(
 {
     bounded(region);
     leaf_of(judged(scratch, tables, path, region))
+}
+
+/// Ok where none of the packets of a region that take a path is counted, as exempt packets must not be. It takes no
+/// memory, and answers the same whatever the room held.
+///
+/// Fails with 406, 413, 409 and 408 as `fate` does, and with 415 where each packet is counted once.
+pub fn never(
+    scratch: &mut Scratch,
+    tables: &Tables<'_>,
+    path: &[Crossing],
+    region: &Region,
+) -> Result<(), Fault>
+    requires tables { by_table.AreTables tables.now }
+    requires room { length tables.now.net.processes ≤ length scratch.old }
+    // It is Ok just where the leaf that says so is sound.
+    ensures sound { OnOk result (sound_leaves.SoundNever tables.now.net path.now region.now) }
+    ensures every { sound_leaves.SoundNever tables.now.net path.now region.now → result ≡ Ok tt }
+    ensures none { IfErr result (λ e. leaves.NeverIsUnsound tables.now.net path.now region.now e) }
+    ensures told { result ≡ leaves.never_of (verdicts.path_verdict tables.now.net region.now path.now) }
+    ensures size { length scratch.new ≡ length scratch.old }
+{
+    bounded(region);
+    never_of(judged(scratch, tables, path, region))
 }

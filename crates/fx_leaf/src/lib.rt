@@ -17,7 +17,7 @@ mod table;
 mod verdict;
 
 pub use laws::{conservation, exactly_once, fates_along_ranks, verdicts_judge_regions};
-pub use leaf::{Counted, fate};
+pub use leaf::{Counted, fate, never};
 pub use lent::Tables;
 pub use regions::{standing, standing_to, standing_to_match};
 pub use split::cut;

@@ -1,7 +1,6 @@
 //! A meter at one interface, and the packets that come into it.
 use fx_base::{Fault, Name};
 use fx_boxes::{Fields, Region};
-use fx_leaf::Counted;
 use fx_machine::{Crossing, Device, Point, Selection};
 use std::alloc::Global;
 use std::test::Fail;
@@ -46,10 +45,10 @@ pub(crate) fn into(alloc: Global, device: u64) -> Result<Crossing, Fail> {
     })
 }
 
-/// The leaf, or the number of the fault; 0 where this isn't bare.
-pub(crate) fn bare(leaf: Result<Counted, Fault>) -> Result<Counted, u16> {
-    match leaf {
-        Ok(counted) => Ok(counted),
+/// The answer, or the number of the fault; 0 where this isn't bare.
+pub(crate) fn bare<T>(answer: Result<T, Fault>) -> Result<T, u16> {
+    match answer {
+        Ok(value) => Ok(value),
         Err(fault) => Err(if fault == Fault::bare(fault.number) {
             fault.number
         } else {

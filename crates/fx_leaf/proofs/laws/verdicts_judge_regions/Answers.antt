@@ -1,4 +1,4 @@
-use Rattle.fx_leaf.proofs.Answers.{none_is_cut, some_is_fate, once_is_sound, no_other_is_sound}
+use Rattle.fx_leaf.proofs.Answers.{none_is_cut, some_is_fate, once_is_sound, no_other_is_sound, never_is_sound, sound_is_never}
 use Rattle.fx_leaf.proofs.Filling.{table_is_verdicts}
 use Rattle.fx_leaf.proofs.laws.verdicts_judge_regions.Goals as goal
 
@@ -16,3 +16,9 @@ returns-clause-no_other c = no_other_is_sound
 
 pub returns-clause-table : goal.returns-clause-table
 returns-clause-table c = table_is_verdicts
+
+pub returns-clause-never : goal.returns-clause-never
+returns-clause-never c = never_is_sound
+
+pub returns-clause-never_alone : goal.returns-clause-never_alone
+returns-clause-never_alone c = sound_is_never
