@@ -145,23 +145,23 @@ module _ (net : Net) (is_net : IsNetwork net) where
 abbrev HasTrees : Net → Bounds → List (List Crossing) → List Tree → Type 0
 HasTrees net b paths ys = (m : ℕ) (path : List Crossing) → slice_get paths m ≡ Some path → (x : Tree) × (slice_get ys m ≡ Some x) × SoundTree net path b x
 
-along : (net : Net) (c : ℕ) (b : Bounds) (m : ℕ) (paths : List (List Crossing)) (ts : List Target) (xs : List Tree) → AllSound net (targets_along c b m paths ++ ts) xs
+along : (net : Net) (c : ℕ) (b : Bounds) (exempt : Bool) (m : ℕ) (paths : List (List Crossing)) (ts : List Target) (xs : List Tree) → AllSound net (targets_along c b exempt m paths ++ ts) xs
     → (ys : List Tree) × (zs : List Tree) × HasTrees net b paths ys × AllSound net ts zs × (length ys ≡ length paths) × (xs ≡ ys ++ zs)
-along net c b m [] ts xs sound = ([], xs, λ k. λ path. λ e. absurd cc, sound, refl, refl)
-along net c b m (p ∷ ps) ts [] sound = absurd sound
-along net c b m (p ∷ ps) ts (x ∷ xs) sound = let rest = along net c b (m + 1) ps ts xs sound.1 in (x ∷ rest.0, rest.1, has rest.0 rest.2, rest.3, ap suc rest.4, ap (λ w. x ∷ w) rest.5) where
+along net c b exempt m [] ts xs sound = ([], xs, λ k. λ path. λ e. absurd cc, sound, refl, refl)
+along net c b exempt m (p ∷ ps) ts [] sound = absurd sound
+along net c b exempt m (p ∷ ps) ts (x ∷ xs) sound = let rest = along net c b exempt (m + 1) ps ts xs sound.1 in (x ∷ rest.0, rest.1, has rest.0 rest.2, rest.3, ap suc rest.4, ap (λ w. x ∷ w) rest.5) where
   has : (ys : List Tree) → HasTrees net b ps ys → HasTrees net b (p ∷ ps) (x ∷ ys)
   has ys more zero path e = (x, refl, let same : p ≡ path = cc in subst (λ q. SoundTree net q b x) same sound.0)
   has ys more (suc k) path e = more k path e
 
-along_back : (net : Net) (c : ℕ) (b : Bounds) (m : ℕ) (paths : List (List Crossing)) (ts : List Target) (ys zs : List Tree) → length ys ≡ length paths → HasTrees net b paths ys → AllSound net ts zs → AllSound net (targets_along c b m paths ++ ts) (ys ++ zs)
-along_back net c b m [] ts [] zs e has sound = sound
-along_back net c b m [] ts (y ∷ ys) zs e has sound = absurd (omega (arith, e))
-along_back net c b m (p ∷ ps) ts [] zs e has sound = absurd (omega (arith, e))
-along_back net c b m (p ∷ ps) ts (y ∷ ys) zs e has sound =
+along_back : (net : Net) (c : ℕ) (b : Bounds) (exempt : Bool) (m : ℕ) (paths : List (List Crossing)) (ts : List Target) (ys zs : List Tree) → length ys ≡ length paths → HasTrees net b paths ys → AllSound net ts zs → AllSound net (targets_along c b exempt m paths ++ ts) (ys ++ zs)
+along_back net c b exempt m [] ts [] zs e has sound = sound
+along_back net c b exempt m [] ts (y ∷ ys) zs e has sound = absurd (omega (arith, e))
+along_back net c b exempt m (p ∷ ps) ts [] zs e has sound = absurd (omega (arith, e))
+along_back net c b exempt m (p ∷ ps) ts (y ∷ ys) zs e has sound =
     let first = has 0 p refl in
     let same : y ≡ first.0 = let f = first.1 in cc in
-    (rw same first.2, along_back net c b (m + 1) ps ts ys zs (omega (arith, e)) (λ k. λ path. λ f. has (suc k) path f) sound)
+    (rw same first.2, along_back net c b exempt (m + 1) ps ts ys zs (omega (arith, e)) (λ k. λ path. λ f. has (suc k) path f) sound)
 
 -- trees for each of these classes
 abbrev HaveTrees : Net → List Class → List (List Tree) → Type 0
@@ -171,7 +171,7 @@ by_class : (net : Net) (c : ℕ) (classes : List Class) (xs : List Tree) → All
 by_class net c [] [] sound = ([], λ k. λ class. λ e. absurd cc, tt, refl)
 by_class net c [] (x ∷ xs) sound = absurd sound
 by_class net c (k ∷ ks) xs sound =
-    let first = along net c k.region 1 k.paths (targets_from (c + 1) ks) xs sound in
+    let first = along net c k.region k.exempt 1 k.paths (targets_from (c + 1) ks) xs sound in
     let rest = by_class net (c + 1) ks first.1 first.3 in
     (first.0 ∷ rest.0, have first.0 rest.0 first.2 rest.1, (first.4, rest.2), first.5 ∙ ap (λ w. first.0 ++ w) rest.3)
   where
@@ -184,7 +184,7 @@ by_class_back net c [] [] each have = tt
 by_class_back net c [] (ys ∷ trees) each have = absurd each
 by_class_back net c (k ∷ ks) [] each have = absurd each
 by_class_back net c (k ∷ ks) (ys ∷ trees) each have =
-    along_back net c k.region 1 k.paths (targets_from (c + 1) ks) ys (in_a_row trees) each.0 (have 0 k refl) (by_class_back net (c + 1) ks trees each.1 (λ n. λ class. λ e. have (suc n) class e))
+    along_back net c k.region k.exempt 1 k.paths (targets_from (c + 1) ks) ys (in_a_row trees) each.0 (have 0 k refl) (by_class_back net (c + 1) ks trees each.1 (λ n. λ class. λ e. have (suc n) class e))
 
 pub sound_of : (net : Net) (classes : List Class) (xs : List Tree) → AllSound net (targets_of classes) xs → (trees : List (List Tree)) × Sound net classes trees × AreFor classes trees × (xs ≡ in_a_row trees)
 sound_of net classes xs sound = let made = by_class net 1 classes xs sound in (made.0, go made.0 made.1, made.2, made.3) where

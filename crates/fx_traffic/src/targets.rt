@@ -22,6 +22,8 @@ pub struct Target<'a> {
     pub region: Region,
     /// What they cross on the path.
     pub crossings: &'a [Crossing],
+    /// Whether the packets must never be counted.
+    pub exempt: bool,
 }
 
 impl<'a> Model for Target<'a> {
@@ -29,7 +31,7 @@ impl<'a> Model for Target<'a> {
 
     ghost Value = { Target };
 
-    ghost view = { λ t. record { class = t.class; path = t.path; region = t.region; crossings = t.crossings.now } };
+    ghost view = { λ t. record { class = t.class; path = t.path; region = t.region; crossings = t.crossings.now; exempt = t.exempt } };
 }
 
 /// Adds the paths of the class of this number.
@@ -38,11 +40,12 @@ fn add_paths<'a>(
     number: u64,
     class: &'a Class,
 ) -> Result<(), AllocError>
-    ensures items { OnOk result (targets.new.items ≡ targets.old.items ++ of_targets.targets_along number class.now.region 1 class.now.paths) }
+    ensures items { OnOk result (targets.new.items ≡ targets.old.items ++ of_targets.targets_along number class.now.region class.now.exempt 1 class.now.paths) }
     ensures regions { OnOk result (of_targets.AreRegions targets.old.items → of_targets.AreRegions targets.new.items) }
 {
     let region = class.region();
     let _greatest = region.far_corner();
+    let exempt = class.exempt();
     let paths = class.paths();
     'paths: for place in 0..paths.len() {
         targets.push(Target {
@@ -50,6 +53,7 @@ fn add_paths<'a>(
             path: place as u64 + 1,
             region,
             crossings: paths[place].as_slice(),
+            exempt,
         })?;
     }
     Ok(())
