@@ -14,6 +14,7 @@ use Rattle.fx_elements.proofs.Decimals.{number_64, number_text, number_found}
 use Rattle.fx_elements.proofs.Addresses.{decimal_avoids, by_some, some_is}
 use Rattle.fx_cert.specs.declared.item.Item.{Item}
 use Rattle.fx_cert.specs.declared.item.Item.TheVariants as item
+use Rattle.fx_cert.specs.declared.item.Version.TheVariants as version
 use Rattle.fx_cert.specs.ItemText.{axis_word, item_text, IsItem, IsText}
 use Rattle.fx_cert.specs.ItemReading.{axis_of, class_of, split_of, leaf_of, item_of}
 
@@ -53,7 +54,9 @@ split_text a at h = rw (cut_word a (decimal at), axis_text a, number_text (slice
 
 pub text_read : (i : Item) → IsItem i → item_of (item_text i) ≡ Some i
 unfolding item_of
-text_read item.Header fits = refl
+text_read (item.Header version.One) fits = refl
+text_read (item.Header version.Two) fits = refl
+text_read item.Never fits = refl
 text_read (item.Class c p) fits = class_text c p fits.0 fits.1
 text_read (item.Split a at) fits = split_text a at fits
 text_read (item.Leaf x y z) fits = leaf_text x y z fits
@@ -133,19 +136,25 @@ unfolding item_of
 item_found line i e =
     elim (chosen (bytes_eq line (codes "once-certificate 1")) _ _ (Some i) e) [
       | inl h ↦ subst (λ (j : Item). IsText line j) (some_is h.1) (tt, same_is line (codes "once-certificate 1") h.0)
-      | inr h1 ↦ elim (chosen (bytes_eq line (codes "end")) _ _ (Some i) h1.1) [
-        | inl h ↦ subst (λ (j : Item). IsText line j) (some_is h.1) (tt, same_is line (codes "end") h.0)
-        | inr h2 ↦ by_some (cut_at 32 line) _ i h2.1 (λ p pp ep.
-            elim (chosen (bytes_eq p.0 (codes "class")) _ _ (Some i) ep) [
-              | inl h ↦ after_word line p.0 p.1 (codes "class") i (cut_parts 32 line p pp) (same_is p.0 (codes "class") h.0) (class_found p.1 i h.1)
-              | inr h3 ↦ elim (chosen (bytes_eq p.0 (codes "S")) _ _ (Some i) h3.1) [
-                | inl h ↦ after_word line p.0 p.1 (codes "S") i (cut_parts 32 line p pp) (same_is p.0 (codes "S") h.0) (split_found p.1 i h.1)
-                | inr h4 ↦ elim (chosen (bytes_eq p.0 (codes "L")) _ _ (Some i) h4.1) [
-                  | inl h ↦ after_word line p.0 p.1 (codes "L") i (cut_parts 32 line p pp) (same_is p.0 (codes "L") h.0) (leaf_found p.1 i h.1)
-                  | inr h5 ↦ absurd cc
-                ]
-              ]
-            ])
+      | inr h1 ↦ elim (chosen (bytes_eq line (codes "once-certificate 2")) _ _ (Some i) h1.1) [
+        | inl h ↦ subst (λ (j : Item). IsText line j) (some_is h.1) (tt, same_is line (codes "once-certificate 2") h.0)
+        | inr h6 ↦ elim (chosen (bytes_eq line (codes "N")) _ _ (Some i) h6.1) [
+          | inl h ↦ subst (λ (j : Item). IsText line j) (some_is h.1) (tt, same_is line (codes "N") h.0)
+          | inr h7 ↦ elim (chosen (bytes_eq line (codes "end")) _ _ (Some i) h7.1) [
+            | inl h ↦ subst (λ (j : Item). IsText line j) (some_is h.1) (tt, same_is line (codes "end") h.0)
+            | inr h2 ↦ by_some (cut_at 32 line) _ i h2.1 (λ p pp ep.
+                elim (chosen (bytes_eq p.0 (codes "class")) _ _ (Some i) ep) [
+                  | inl h ↦ after_word line p.0 p.1 (codes "class") i (cut_parts 32 line p pp) (same_is p.0 (codes "class") h.0) (class_found p.1 i h.1)
+                  | inr h3 ↦ elim (chosen (bytes_eq p.0 (codes "S")) _ _ (Some i) h3.1) [
+                    | inl h ↦ after_word line p.0 p.1 (codes "S") i (cut_parts 32 line p pp) (same_is p.0 (codes "S") h.0) (split_found p.1 i h.1)
+                    | inr h4 ↦ elim (chosen (bytes_eq p.0 (codes "L")) _ _ (Some i) h4.1) [
+                      | inl h ↦ after_word line p.0 p.1 (codes "L") i (cut_parts 32 line p pp) (same_is p.0 (codes "L") h.0) (leaf_found p.1 i h.1)
+                      | inr h5 ↦ absurd cc
+                    ]
+                  ]
+                ])
+          ]
+        ]
       ]
     ]
 

@@ -6,7 +6,8 @@ use Rattle.fx_elements.specs.declared.axis.Axis.{Axis}
 use Rattle.fx_elements.specs.declared.axis.Axis.TheVariants.{Source, Destination, Protocol, SourcePort, DestinationPort, ClassOfService}
 use Rattle.fx_elements.specs.Spelling.{◌>>=◌, cut_at, largest, number_of}
 use Rattle.fx_cert.specs.declared.item.Item.{Item}
-use Rattle.fx_cert.specs.declared.item.Item.TheVariants.{Header, Class, Split, Leaf, End}
+use Rattle.fx_cert.specs.declared.item.Item.TheVariants.{Header, Class, Split, Leaf, Never, End}
+use Rattle.fx_cert.specs.declared.item.Version.TheVariants.{One, Two}
 
 -- the axis with this word
 abbrev pub axis_of : List ℕ → Option Axis
@@ -46,7 +47,9 @@ leaf_of text = do
 
 unfoldable pub item_of : List ℕ → Option Item
 item_of text =
-    if bytes_eq text (codes "once-certificate 1") then Some Header
+    if bytes_eq text (codes "once-certificate 1") then Some (Header One)
+    else if bytes_eq text (codes "once-certificate 2") then Some (Header Two)
+    else if bytes_eq text (codes "N") then Some Never
     else if bytes_eq text (codes "end") then Some End
     else cut_at 32 text >>= λ p.
     if bytes_eq p.0 (codes "class") then class_of p.1

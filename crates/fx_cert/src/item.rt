@@ -1,11 +1,20 @@
 //! What a line of a certificate says.
 use fx_elements::Axis;
 
+/// The version of a certificate's form.
+#[derive(Clone, Copy, Debug, PartialEq, Eq)]
+pub enum Version {
+    /// `1`, in which there is no `N`.
+    One,
+    /// `2`, in which there may be.
+    Two,
+}
+
 /// What a line of a certificate says. Numbers count from 1 where they name what is there.
 #[derive(Clone, Copy, Debug, PartialEq, Eq)]
 pub enum Item {
-    /// The first line, `once-certificate 1`.
-    Header,
+    /// The first line, `once-certificate 1` or `once-certificate 2`.
+    Header(Version),
     /// `class CLASS path PATH`: a tree for this path of this class comes next.
     Class {
         /// The class's number.
@@ -29,6 +38,8 @@ pub enum Item {
         /// The selection process's number at its point.
         process: u64,
     },
+    /// `N`: no packet of the region is counted.
+    Never,
     /// The last line, `end`.
     End,
 }

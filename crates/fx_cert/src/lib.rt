@@ -6,7 +6,7 @@ mod laws;
 mod put;
 mod reading;
 
-pub use item::Item;
+pub use item::{Item, Version};
 pub use laws::one_text;
 pub use put::put_item;
 pub use reading::read_item;

@@ -6,7 +6,7 @@ ghost use Rattle.fx_base.specs.declared.fault.Place.TheVariants as places;
 ghost use Rattle.fx_cert.specs.ItemText.{axis_word, item_text};
 ghost use Rattle.fx_cert.specs.declared.item.Item.TheVariants as items;
 
-use crate::item::Item;
+use crate::item::{Item, Version};
 use fx_base::{Fault, Sink, put_number, put_number_wide, put_text};
 use fx_elements::Axis;
 
@@ -64,7 +64,8 @@ fn put_words<S: Sink>(sink: &mut S, item: &Item) -> Result<(), Fault>
     ensures err { IfErr result (λ e. (e ≡ fault_at 902 places.None) × (S.failed sink.new ≡ true)) }
 {
     match item {
-        Item::Header => put_text(sink, b"once-certificate 1"),
+        Item::Header(Version::One) => put_text(sink, b"once-certificate 1"),
+        Item::Header(Version::Two) => put_text(sink, b"once-certificate 2"),
         Item::Class { class, path } => put_class(sink, *class, *path),
         Item::Split { axis, at } => put_split(sink, *axis, *at),
         Item::Leaf {
@@ -72,6 +73,7 @@ fn put_words<S: Sink>(sink: &mut S, item: &Item) -> Result<(), Fault>
             point,
             process,
         } => put_leaf(sink, *crossing, *point, *process),
+        Item::Never => put_text(sink, b"N"),
         Item::End => put_text(sink, b"end"),
     }
 }

@@ -8,7 +8,7 @@ ghost use Rattle.fx_cert.specs.declared.item.Item as of_item;
 ghost use Rattle.fx_cert.specs.ItemText.{IsText};
 ghost use Rattle.fx_cert.specs.ItemReading.{axis_of, class_of, split_of, leaf_of, item_of};
 
-use crate::item::Item;
+use crate::item::{Item, Version};
 use fx_base::{Fault, Line};
 use fx_elements::{Axis, cut, read_number, top};
 
@@ -96,7 +96,13 @@ fn read_text(text: &[u8]) -> Option<Item>
     ensures { result ≡ item_of text.now }
 {
     if is_word(text, b"once-certificate 1") {
-        return Some(Item::Header);
+        return Some(Item::Header(Version::One));
+    }
+    if is_word(text, b"once-certificate 2") {
+        return Some(Item::Header(Version::Two));
+    }
+    if is_word(text, b"N") {
+        return Some(Item::Never);
     }
     if is_word(text, b"end") {
         return Some(Item::End);

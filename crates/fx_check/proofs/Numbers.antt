@@ -7,6 +7,7 @@ use Rattle.fx_base.specs.Lines.{Lines, Refuses, Stops, next_number}
 use Rattle.fx_boxes.specs.Boxes.{Bounds}
 use Rattle.fx_cert.specs.declared.item.Item.{Item}
 use Rattle.fx_cert.specs.declared.item.Item.TheVariants as item
+use Rattle.fx_cert.specs.declared.item.Version.TheVariants.{One, Two}
 use Rattle.fx_elements.specs.Axes.{axis_index}
 use Rattle.fx_machine.specs.Network.{Net}
 use Rattle.fx_leaf.specs.declared.leaf.Counted.{Counted}
@@ -78,26 +79,31 @@ opening_number t gs c m k false e = is_number 403 k (omega arith, omega arith) e
 
 after_number : (net : Net) (made : ℕ) (gs : List Goal) (i : Item) (k : ℕ) → after (judge_of net) made gs i ≡ Err k → IsCertificateNumber k
 after_number net made [] i k e = is_number 411 k (omega arith, omega arith) e
-after_number net made (header ∷ gs) item.Header k e = absurd cc
+after_number net made (header ∷ gs) (item.Header One) k e = absurd cc
+after_number net made (header ∷ gs) (item.Header Two) k e = is_number 401 k (omega arith, omega arith) e
 after_number net made (header ∷ gs) (item.Class c m) k e = is_number 401 k (omega arith, omega arith) e
 after_number net made (header ∷ gs) (item.Leaf crossing point process) k e = is_number 401 k (omega arith, omega arith) e
 after_number net made (header ∷ gs) (item.Split a at) k e = is_number 401 k (omega arith, omega arith) e
+after_number net made (header ∷ gs) item.Never k e = is_number 401 k (omega arith, omega arith) e
 after_number net made (header ∷ gs) item.End k e = is_number 401 k (omega arith, omega arith) e
-after_number net made (opening t ∷ gs) item.Header k e = is_number 403 k (omega arith, omega arith) e
+after_number net made (opening t ∷ gs) (item.Header v) k e = is_number 403 k (omega arith, omega arith) e
 after_number net made (opening t ∷ gs) (item.Class c m) k e = opening_number t gs c m k (c == t.class && m == t.path) e
 after_number net made (opening t ∷ gs) (item.Leaf crossing point process) k e = is_number 403 k (omega arith, omega arith) e
 after_number net made (opening t ∷ gs) (item.Split a at) k e = is_number 403 k (omega arith, omega arith) e
+after_number net made (opening t ∷ gs) item.Never k e = is_number 403 k (omega arith, omega arith) e
 after_number net made (opening t ∷ gs) item.End k e = is_number 403 k (omega arith, omega arith) e
-after_number net made (tree t b d ∷ gs) item.Header k e = is_number 403 k (omega arith, omega arith) e
+after_number net made (tree t b d ∷ gs) (item.Header v) k e = is_number 403 k (omega arith, omega arith) e
 after_number net made (tree t b d ∷ gs) (item.Class c m) k e = is_number 403 k (omega arith, omega arith) e
 after_number net made (tree t b d ∷ gs) (item.Leaf crossing point process) k e =
     leaf_number made (judge_of net t b (record { crossing = crossing; point = point; process = process })) gs k (judge_number net t b (record { crossing = crossing; point = point; process = process })) e
 after_number net made (tree t b d ∷ gs) (item.Split a at) k e = split_number made b d (axis_index a) at (parts t b d (axis_index a) at gs) k e
+after_number net made (tree t b d ∷ gs) item.Never k e = is_number 403 k (omega arith, omega arith) e
 after_number net made (tree t b d ∷ gs) item.End k e = is_number 403 k (omega arith, omega arith) e
-after_number net made (close ∷ gs) item.Header k e = is_number 403 k (omega arith, omega arith) e
+after_number net made (close ∷ gs) (item.Header v) k e = is_number 403 k (omega arith, omega arith) e
 after_number net made (close ∷ gs) (item.Class c m) k e = is_number 403 k (omega arith, omega arith) e
 after_number net made (close ∷ gs) (item.Leaf crossing point process) k e = is_number 403 k (omega arith, omega arith) e
 after_number net made (close ∷ gs) (item.Split a at) k e = is_number 403 k (omega arith, omega arith) e
+after_number net made (close ∷ gs) item.Never k e = is_number 403 k (omega arith, omega arith) e
 after_number net made (close ∷ gs) item.End k e = absurd cc
 
 -- ---- a line

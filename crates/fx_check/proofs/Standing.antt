@@ -28,10 +28,11 @@ ended_early n = record { fault = at_line 405 (next_number n); last = n; behind =
 
 -- no line of a tree
 abbrev IsNoTree : Item → Type 0
-IsNoTree item.Header = Unit {0}
+IsNoTree (item.Header v) = Unit {0}
 IsNoTree (item.Class c m) = Unit {0}
 IsNoTree (item.Leaf crossing point process) = ⊥
 IsNoTree (item.Split a v) = ⊥
+IsNoTree item.Never = Unit {0}
 IsNoTree item.End = Unit {0}
 
 waiting_push : (t : Target) (ws : List Waiting) (w : Waiting) (gs : List Goal) → waiting_goals t (ws ++ w ∷ []) gs ≡ tree t w.region w.depth ∷ waiting_goals t ws gs
@@ -115,10 +116,11 @@ refuses_tree judge made ts at ws s w i h e other =
     rw e (go (drop at ts) i (omega (arith, length-drop at ts, k.0)) other) where
       go : (ts : List Target) (i : Item) → 0 < length ts → IsNoTree i → after judge made (tree_goals ts w ws) i ≡ Err 403
       go [] i some other = absurd (omega arith)
-      go (t ∷ ts) item.Header some other = refl
+      go (t ∷ ts) (item.Header v) some other = refl
       go (t ∷ ts) (item.Class c m) some other = refl
       go (t ∷ ts) (item.Leaf crossing point process) some other = absurd other
       go (t ∷ ts) (item.Split a v) some other = absurd other
+      go (t ∷ ts) item.Never some other = refl
       go (t ∷ ts) item.End some other = refl
 
 pub between_402 : (xs : List Target) → form_fault (ahead xs) ≡ 402
@@ -150,8 +152,9 @@ form_fault_tree ts at ws s w h e =
     rw e (sym (tree_402 (drop at ts) w ws (omega (arith, length-drop at ts, k.0))))
 
 pub no_tree : (i : Item) → ((crossing point process : ℕ) → i ≢ item.Leaf crossing point process) → ((a : Axis) (v : ℕ) → i ≢ item.Split a v) → IsNoTree i
-no_tree item.Header f g = tt
+no_tree (item.Header v) f g = tt
 no_tree (item.Class c m) f g = tt
 no_tree (item.Leaf crossing point process) f g = f crossing point process refl
 no_tree (item.Split a v) f g = g a v refl
+no_tree item.Never f g = tt
 no_tree item.End f g = tt

@@ -6,6 +6,7 @@ use Rattle.fx_elements.specs.declared.axis.Axis.{Axis}
 use Rattle.fx_boxes.specs.Boxes.{Bounds, below_part, above_part, IsStrictlyInside}
 use Rattle.fx_cert.specs.declared.item.Item.{Item}
 use Rattle.fx_cert.specs.declared.item.Item.TheVariants as item
+use Rattle.fx_cert.specs.declared.item.Version.TheVariants.{One, Two}
 use Rattle.fx_leaf.specs.declared.leaf.Counted.{Counted}
 use Rattle.fx_leaf.specs.Certificates.{Tree, Leaf, Split}
 use Rattle.fx_check.specs.Judging.{Judge}
@@ -49,7 +50,7 @@ verdict judge made gs (r ∷ rs) = on (λ left. verdict judge (made_after made r
 -- the readings say what the goals want, in n split and leaf lines
 abbrev Fulfils : Judge → List Goal → List Reading → ℕ → Type 0
 Fulfils judge [] rs n = (rs ≡ []) × (n ≡ 0)
-Fulfils judge (header ∷ gs) rs n = (rest : List Reading) × (rs ≡ says item.Header ∷ rest) × Fulfils judge gs rest n
+Fulfils judge (header ∷ gs) rs n = (rest : List Reading) × (rs ≡ says (item.Header One) ∷ rest) × Fulfils judge gs rest n
 Fulfils judge (opening t ∷ gs) rs n = (rest : List Reading) × (rs ≡ says (item.Class t.class t.path) ∷ rest) × Fulfils judge gs rest n
 Fulfils judge (tree t b d ∷ gs) rs n = (x : Tree) × (rest : List Reading) × (m : ℕ) × (rs ≡ lines (tree_items x) ++ rest) × IsRight judge t b d x × (n ≡ size x + m) × Fulfils judge gs rest m
 Fulfils judge (close ∷ gs) rs n = (rest : List Reading) × (rs ≡ says item.End ∷ rest) × Fulfils judge gs rest n
@@ -119,12 +120,14 @@ split_fulfils judge t b d a at gs rs n lt inside f =
 fulfils_more : (judge : Judge) (made : ℕ) (gs left : List Goal) (i : Item) (rs : List Reading) (n : ℕ) → after judge made gs i ≡ Ok left → (0 < n → made_by made i + n ≤ line_limit) → Fulfils judge left rs n
     → (m : ℕ) × (0 < m → made + m ≤ line_limit) × Fulfils judge gs (says i ∷ rs) m
 fulfils_more judge made [] left i rs n e le f = absurd cc
-fulfils_more judge made (header ∷ gs) left item.Header rs n e le f = let k : gs ≡ left = cc in (n, le, (rs, refl, subst (λ (g : List Goal). Fulfils judge g rs n) (sym k) f))
+fulfils_more judge made (header ∷ gs) left (item.Header One) rs n e le f = let k : gs ≡ left = cc in (n, le, (rs, refl, subst (λ (g : List Goal). Fulfils judge g rs n) (sym k) f))
+fulfils_more judge made (header ∷ gs) left (item.Header Two) rs n e le f = absurd cc
 fulfils_more judge made (header ∷ gs) left (item.Class c m) rs n e le f = absurd cc
 fulfils_more judge made (header ∷ gs) left (item.Leaf crossing point process) rs n e le f = absurd cc
 fulfils_more judge made (header ∷ gs) left (item.Split a v) rs n e le f = absurd cc
+fulfils_more judge made (header ∷ gs) left item.Never rs n e le f = absurd cc
 fulfils_more judge made (header ∷ gs) left item.End rs n e le f = absurd cc
-fulfils_more judge made (opening t ∷ gs) left item.Header rs n e le f = absurd cc
+fulfils_more judge made (opening t ∷ gs) left (item.Header v) rs n e le f = absurd cc
 fulfils_more judge made (opening t ∷ gs) left (item.Class c m) rs n e le f =
     elim (chosen (eqb c t.class && eqb m t.path) (good gs) (bad 403) (good left) e) [
       | inl h ↦
@@ -135,8 +138,9 @@ fulfils_more judge made (opening t ∷ gs) left (item.Class c m) rs n e le f =
     ]
 fulfils_more judge made (opening t ∷ gs) left (item.Leaf crossing point process) rs n e le f = absurd cc
 fulfils_more judge made (opening t ∷ gs) left (item.Split a v) rs n e le f = absurd cc
+fulfils_more judge made (opening t ∷ gs) left item.Never rs n e le f = absurd cc
 fulfils_more judge made (opening t ∷ gs) left item.End rs n e le f = absurd cc
-fulfils_more judge made (tree t b d ∷ gs) left item.Header rs n e le f = absurd cc
+fulfils_more judge made (tree t b d ∷ gs) left (item.Header v) rs n e le f = absurd cc
 fulfils_more judge made (tree t b d ∷ gs) left (item.Class c m) rs n e le f = absurd cc
 fulfils_more judge made (tree t b d ∷ gs) left (item.Leaf crossing point process) rs n e le f =
     let k = leaf_ok made (judge t b (leaf_named crossing point process)) gs left e in
@@ -144,11 +148,13 @@ fulfils_more judge made (tree t b d ∷ gs) left (item.Leaf crossing point proce
 fulfils_more judge made (tree t b d ∷ gs) left (item.Split a v) rs n e le f =
     let k = split_ok made b d (axis_index a) v (parts t b d (axis_index a) v gs) left e in
     (1 + n, λ h. omega (arith, bounded (made + 1) n line_limit (omega (arith, k.0)) le), split_fulfils judge t b d a v gs rs n k.1 k.2 (subst (λ (g : List Goal). Fulfils judge g rs n) (sym k.3) f))
+fulfils_more judge made (tree t b d ∷ gs) left item.Never rs n e le f = absurd cc
 fulfils_more judge made (tree t b d ∷ gs) left item.End rs n e le f = absurd cc
-fulfils_more judge made (close ∷ gs) left item.Header rs n e le f = absurd cc
+fulfils_more judge made (close ∷ gs) left (item.Header v) rs n e le f = absurd cc
 fulfils_more judge made (close ∷ gs) left (item.Class c m) rs n e le f = absurd cc
 fulfils_more judge made (close ∷ gs) left (item.Leaf crossing point process) rs n e le f = absurd cc
 fulfils_more judge made (close ∷ gs) left (item.Split a v) rs n e le f = absurd cc
+fulfils_more judge made (close ∷ gs) left item.Never rs n e le f = absurd cc
 fulfils_more judge made (close ∷ gs) left item.End rs n e le f = let k : gs ≡ left = cc in (n, le, (rs, refl, subst (λ (g : List Goal). Fulfils judge g rs n) (sym k) f))
 
 ended : (gs : List Goal) → at_the_end gs ≡ None → gs ≡ []
@@ -179,7 +185,7 @@ pub right_only : (judge : Judge) (ts : List Target) (rs : List Reading) → verd
 right_only judge ts rs e =
     let f = fulfils judge 0 (whole ts) rs e in
     let b = body_only judge ts f.2.0 f.0 f.2.2 in
-    (b.0, f.2.1 ∙ ap (λ (w : List Reading). says item.Header ∷ w) b.1, b.2, omega (arith, bounded 0 f.0 line_limit (omega arith) f.1, b.3))
+    (b.0, f.2.1 ∙ ap (λ (w : List Reading). says (item.Header One) ∷ w) b.1, b.2, omega (arith, bounded 0 f.0 line_limit (omega arith) f.1, b.3))
 
 -- ---- back
 

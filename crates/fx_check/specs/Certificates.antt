@@ -3,6 +3,7 @@ use Rattle.std.specs.Prelude.{◌≡◌, ℕ, ◌+◌, ◌<◌, ◌≤◌, true,
 use Rattle.std.specs.List.{AllByRecursion}
 use Rattle.fx_cert.specs.declared.item.Item.{Item}
 use Rattle.fx_cert.specs.declared.item.Item.TheVariants as item
+use Rattle.fx_cert.specs.declared.item.Version.TheVariants.{One}
 use Rattle.fx_cert.specs.ItemText.{IsItem, item_text}
 use Rattle.fx_machine.specs.Classes.{Class}
 use Rattle.fx_machine.specs.Network.{Net}
@@ -21,7 +22,7 @@ body_items (t ∷ ts) (x ∷ xs) = item.Class t.class t.path ∷ (tree_items x +
 body_items _ _ = item.End ∷ []
 
 abbrev pub certificate_items : List Target → List Tree → List Item
-certificate_items ts xs = item.Header ∷ body_items ts xs
+certificate_items ts xs = item.Header One ∷ body_items ts xs
 
 -- the item's text, which a line feed ends
 abbrev pub item_line : Item → Line

@@ -8,6 +8,7 @@ use Rattle.fx_elements.specs.Axes.{axis_index}
 use Rattle.fx_boxes.specs.Boxes.{Bounds, below_part, above_part}
 use Rattle.fx_cert.specs.declared.item.Item.{Item}
 use Rattle.fx_cert.specs.declared.item.Item.TheVariants as item
+use Rattle.fx_cert.specs.declared.item.Version.TheVariants.{One}
 use Rattle.fx_cert.specs.ItemReading.{item_of}
 use Rattle.fx_traffic.specs.Targets.{Target}
 use Rattle.fx_check.specs.Judging.{Judge}
@@ -62,7 +63,7 @@ parts t b d k at gs = tree t (below_part b k at) (d + 1) ∷ tree t (above_part 
 -- what is left to say after an item, or the number of its fault; so many split and leaf lines came before
 abbrev pub after : Judge → ℕ → List Goal → Item → Result (List Goal) ℕ
 after judge made [] i = Err 411
-after judge made (header ∷ gs) item.Header = Ok gs
+after judge made (header ∷ gs) (item.Header One) = Ok gs
 after judge made (header ∷ gs) _ = Err 401
 after judge made (opening t ∷ gs) (item.Class c m) = if c == t.class && m == t.path then Ok gs else Err 403
 after judge made (opening t ∷ gs) _ = Err 403
@@ -78,7 +79,8 @@ after judge made (close ∷ gs) _ = Err 403
 abbrev pub made_by : ℕ → Item → ℕ
 made_by made (item.Leaf crossing point process) = made + 1
 made_by made (item.Split a at) = made + 1
-made_by made item.Header = made
+made_by made item.Never = made + 1
+made_by made (item.Header v) = made
 made_by made (item.Class c m) = made
 made_by made item.End = made
 

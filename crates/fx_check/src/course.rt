@@ -12,7 +12,7 @@ use crate::judging::leaf_fault;
 use crate::stack::{Stack, Waiting};
 use fx_base::{Fault, Line};
 use fx_boxes::Region;
-use fx_cert::{Item, read_item};
+use fx_cert::{Item, Version, read_item};
 use fx_elements::Axis;
 use fx_leaf::{Counted, Scratch, Tables};
 use fx_traffic::Target;
@@ -219,7 +219,7 @@ impl Course {
         match self.stage {
             Stage::Ended => Err(411),
             Stage::Header => match item {
-                Item::Header => {
+                Item::Header(Version::One) => {
                     self.stage = Stage::Between;
                     Ok(())
                 }

@@ -1,6 +1,6 @@
 //! Lines of certificates read and written.
 use fx_base::{Fault, Line, Room};
-use fx_cert::{Item, one_text, put_item, read_item};
+use fx_cert::{Item, Version, one_text, put_item, read_item};
 use fx_elements::Axis;
 use std::test::Fail;
 
@@ -42,11 +42,13 @@ fn reads_and_writes(rt: HostRuntime) -> Result<(), Fail> {
         process: 3,
     };
     for (text, item) in [
-        ("once-certificate 1", Item::Header),
+        ("once-certificate 1", Item::Header(Version::One)),
+        ("once-certificate 2", Item::Header(Version::Two)),
         ("end", Item::End),
         ("class 1 path 12", class),
         ("S source 167772161", split),
         ("L 0 18446744073709551615 3", leaf),
+        ("N", Item::Never),
     ] {
         assert!(rt; is_spelled(text, item)?);
     }
@@ -58,6 +60,9 @@ fn refuses(rt: HostRuntime) {
     for text in [
         "class 01 path 1",
         "once-certificate 3",
+        "once-certificate 02",
+        "N ",
+        "N 1 1 1",
         "S source 4294967296",
         "L 1 18446744073709551616 1",
         "L 1  1 1",
