@@ -15,9 +15,9 @@ use Rattle.fx_leaf.proofs.Headline as headline
 use Rattle.fx_check.specs.Judging.{Judge, judge_of}
 use Rattle.fx_traffic.specs.Targets.{targets_of, AreRegions}
 use Rattle.fx_check.specs.Verdict.{Goal, Line, Reading, long, cut, says, said, reading_of, after_reading, made_after, goes_on, first_refusal, whole, line_limit}
-use Rattle.fx_check.specs.Certificates.{IsCertificate, IsShallow, IsWritable, item_line, certificate_items, sizes, in_a_row}
+use Rattle.fx_check.specs.Certificates.{IsCertificate, IsShallow, AllCounted, IsWritable, item_line, certificate_items, sizes, in_a_row}
 use Rattle.fx_check.proofs.Readings.{line_says}
-use Rattle.fx_check.proofs.Sounding.{all_sound, all_right, sound_of, sound_back}
+use Rattle.fx_check.proofs.Sounding.{all_sound, all_counted, all_right, sound_of, sound_back}
 use Rattle.fx_check.proofs.Trees.{on, verdict, right_only, right_all}
 
 -- ---- a line says an item exactly where it is that item's line
@@ -84,6 +84,7 @@ certificate_only net classes n ls is_net rs e =
       trees = made.0;
       each = made.2;
       sound = made.1;
+      counted = subst (λ xs. AllByRecursion AllCounted xs) made.3 (all_counted net is_net ts right.0 right.2);
       shallow = subst (λ xs. AllByRecursion (IsShallow 0) xs) made.3 sound.1;
       lines_are = subst (λ xs. ls ≡ map item_line (certificate_items ts xs)) made.3 written.0;
       writable = subst (λ xs. AllByRecursion IsWritable (certificate_items ts xs)) made.3 written.1;
@@ -96,7 +97,7 @@ certificate_all net classes n ls is_net rs c =
     let xs = in_a_row c.trees in
     no_refusal (judge_of net) n 0 (whole ts) ls
     (ap (verdict (judge_of net) 0 (whole ts)) (ap (map reading_of) c.lines_are ∙ say_items (certificate_items ts xs) c.writable)
-    ∙ right_all (judge_of net) ts xs (all_right net is_net ts xs rs (sound_back net classes c.trees c.each c.sound) c.shallow) c.few)
+    ∙ right_all (judge_of net) ts xs (all_right net is_net ts xs rs (sound_back net classes c.trees c.each c.sound) c.counted c.shallow) c.few)
 
 -- ---- the headline
 

@@ -51,6 +51,11 @@ unless_same_number leaf (Some Once) (Some c) k e = go (same_leaf c leaf) e where
   go true e = absurd cc
   go false e = is_some_number 410 k (omega arith, omega arith) e
 
+-- 403 where the kind of leaf isn't the class's
+unless_403 : (b : Bool) (r : Result (List Goal) ℕ) (k : ℕ) → (r ≡ Err k → IsCertificateNumber k) → (if b then Err 403 else r) ≡ Err k → IsCertificateNumber k
+unless_403 true r k h e = is_number 403 k (omega arith, omega arith) e
+unless_403 false r k h e = h e
+
 judge_number : (net : Net) (t : Target) (b : Bounds) (leaf : Counted) (k : ℕ) → judge_of net t b leaf ≡ Some k → IsCertificateNumber k
 judge_number net t b leaf k e = unless_same_number leaf (path_verdict net b t.crossings) (named (counted net b t.crossings)) k e
 
@@ -95,7 +100,7 @@ after_number net made (opening t ∷ gs) item.End k e = is_number 403 k (omega a
 after_number net made (tree t b d ∷ gs) (item.Header v) k e = is_number 403 k (omega arith, omega arith) e
 after_number net made (tree t b d ∷ gs) (item.Class c m) k e = is_number 403 k (omega arith, omega arith) e
 after_number net made (tree t b d ∷ gs) (item.Leaf crossing point process) k e =
-    leaf_number made (judge_of net t b (record { crossing = crossing; point = point; process = process })) gs k (judge_number net t b (record { crossing = crossing; point = point; process = process })) e
+    unless_403 t.exempt _ k (leaf_number made (judge_of net t b (record { crossing = crossing; point = point; process = process })) gs k (judge_number net t b (record { crossing = crossing; point = point; process = process }))) e
 after_number net made (tree t b d ∷ gs) (item.Split a at) k e = split_number made b d (axis_index a) at (parts t b d (axis_index a) at gs) k e
 after_number net made (tree t b d ∷ gs) item.Never k e = is_number 403 k (omega arith, omega arith) e
 after_number net made (tree t b d ∷ gs) item.End k e = is_number 403 k (omega arith, omega arith) e

@@ -9,7 +9,7 @@ use Rattle.fx_machine.specs.Classes.{Class}
 use Rattle.fx_machine.specs.Network.{Net, entries}
 use Rattle.fx_machine.specs.Ranks.{IsNetwork}
 use Rattle.fx_leaf.specs.declared.leaf.Counted.{Counted}
-use Rattle.fx_leaf.specs.Certificates.{Tree, Leaf, Split, SoundTree, Sound}
+use Rattle.fx_leaf.specs.Certificates.{Tree, Leaf, Uncounted, Split, SoundTree, Sound}
 use Rattle.fx_leaf.specs.SoundLeaves.{SoundLeaf}
 use Rattle.fx_leaf.proofs.Deciding.{answer_sound, answer_every, answer_none}
 use Rattle.fx_leaf.specs.Leaves.{NoneIsSound}
@@ -18,13 +18,13 @@ use Rattle.fx_base.specs.Fault.{fault_at}
 use Rattle.fx_base.specs.declared.fault.Place.TheVariants as places
 use Rattle.fx_check.specs.Judging.{judge_of, same_leaf, sound_leaf, unless_same, IsWrong}
 use Rattle.fx_traffic.specs.Targets.{Target, targets_along, targets_from, targets_of, AreRegions}
-use Rattle.fx_check.specs.Certificates.{IsShallow, AreFor, in_a_row}
+use Rattle.fx_check.specs.Certificates.{IsShallow, AllCounted, AreFor, in_a_row}
 use Rattle.fx_check.proofs.Trees.{IsRight, AllRight}
 
 -- a sound tree for each target, in order
 abbrev pub AllSound : Net → List Target → List Tree → Type 0
 AllSound net [] [] = Unit {0}
-AllSound net (t ∷ ts) (x ∷ xs) = SoundTree net t.crossings t.region x × AllSound net ts xs
+AllSound net (t ∷ ts) (x ∷ xs) = SoundTree net t.crossings t.exempt t.region x × AllSound net ts xs
 AllSound net [] (x ∷ xs) = ⊥
 AllSound net (t ∷ ts) [] = ⊥
 
@@ -110,19 +110,28 @@ module _ (net : Net) (is_net : IsNetwork net) where
 
   -- ---- trees
 
-  tree_sound : (t : Target) (b : Bounds) (d : ℕ) (x : Tree) → IsRegion b → IsRight (judge_of net) t b d x → SoundTree net t.crossings b x × IsShallow d x
-  tree_sound t b d (Leaf crossing point process) r right = (leaf_sound t b (record { crossing = crossing; point = point; process = process }) r right, tt)
+  tree_sound : (t : Target) (b : Bounds) (d : ℕ) (x : Tree) → IsRegion b → IsRight (judge_of net) t b d x → SoundTree net t.crossings t.exempt b x × IsShallow d x
+  tree_sound t b d (Leaf crossing point process) r right = ((right.0, leaf_sound t b (record { crossing = crossing; point = point; process = process }) r right.1), tt)
+  tree_sound t b d Uncounted r right = absurd right
   tree_sound t b d (Split a at x y) r right =
       let i = axis_index a in
       let below = tree_sound t (below_part b i at) (d + 1) x (below_region b i at r right.1) right.2 in
       let above = tree_sound t (above_part b i at) (d + 1) y (above_region b i at r right.1) right.3 in
       ((right.1, below.0, above.0), (right.0, below.1, above.1))
 
-  tree_right : (t : Target) (b : Bounds) (d : ℕ) (x : Tree) → IsRegion b → SoundTree net t.crossings b x → IsShallow d x → IsRight (judge_of net) t b d x
-  tree_right t b d (Leaf crossing point process) r sound shallow = leaf_right t b (record { crossing = crossing; point = point; process = process }) r sound
-  tree_right t b d (Split a at x y) r sound shallow =
+  tree_counted : (t : Target) (b : Bounds) (d : ℕ) (x : Tree) → IsRight (judge_of net) t b d x → AllCounted x
+  tree_counted t b d (Leaf crossing point process) right = tt
+  tree_counted t b d Uncounted right = absurd right
+  tree_counted t b d (Split a at x y) right =
       let i = axis_index a in
-      (shallow.0, sound.0, tree_right t (below_part b i at) (d + 1) x (below_region b i at r sound.0) sound.1 shallow.1, tree_right t (above_part b i at) (d + 1) y (above_region b i at r sound.0) sound.2 shallow.2)
+      (tree_counted t (below_part b i at) (d + 1) x right.2, tree_counted t (above_part b i at) (d + 1) y right.3)
+
+  tree_right : (t : Target) (b : Bounds) (d : ℕ) (x : Tree) → IsRegion b → SoundTree net t.crossings t.exempt b x → AllCounted x → IsShallow d x → IsRight (judge_of net) t b d x
+  tree_right t b d (Leaf crossing point process) r sound counted shallow = (sound.0, leaf_right t b (record { crossing = crossing; point = point; process = process }) r sound.1)
+  tree_right t b d Uncounted r sound counted shallow = absurd counted
+  tree_right t b d (Split a at x y) r sound counted shallow =
+      let i = axis_index a in
+      (shallow.0, sound.0, tree_right t (below_part b i at) (d + 1) x (below_region b i at r sound.0) sound.1 counted.0 shallow.1, tree_right t (above_part b i at) (d + 1) y (above_region b i at r sound.0) sound.2 counted.1 shallow.2)
 
   pub all_sound : (ts : List Target) (xs : List Tree) → AreRegions ts → AllRight (judge_of net) ts xs → AllSound net ts xs × AllByRecursion (IsShallow 0) xs
   all_sound [] [] rs right = (tt, tt)
@@ -133,28 +142,34 @@ module _ (net : Net) (is_net : IsNetwork net) where
       let more = all_sound ts xs rs.1 right.1 in
       ((s.0, more.0), (s.1, more.1))
 
-  pub all_right : (ts : List Target) (xs : List Tree) → AreRegions ts → AllSound net ts xs → AllByRecursion (IsShallow 0) xs → AllRight (judge_of net) ts xs
-  all_right [] [] rs sound shallow = tt
-  all_right [] (x ∷ xs) rs sound shallow = absurd sound
-  all_right (t ∷ ts) [] rs sound shallow = absurd sound
-  all_right (t ∷ ts) (x ∷ xs) rs sound shallow = (tree_right t t.region 0 x rs.0 sound.0 shallow.0, all_right ts xs rs.1 sound.1 shallow.1)
+  pub all_counted : (ts : List Target) (xs : List Tree) → AllRight (judge_of net) ts xs → AllByRecursion AllCounted xs
+  all_counted [] [] right = tt
+  all_counted [] (x ∷ xs) right = absurd right
+  all_counted (t ∷ ts) [] right = absurd right
+  all_counted (t ∷ ts) (x ∷ xs) right = (tree_counted t t.region 0 x right.0, all_counted ts xs right.1)
+
+  pub all_right : (ts : List Target) (xs : List Tree) → AreRegions ts → AllSound net ts xs → AllByRecursion AllCounted xs → AllByRecursion (IsShallow 0) xs → AllRight (judge_of net) ts xs
+  all_right [] [] rs sound counted shallow = tt
+  all_right [] (x ∷ xs) rs sound counted shallow = absurd sound
+  all_right (t ∷ ts) [] rs sound counted shallow = absurd sound
+  all_right (t ∷ ts) (x ∷ xs) rs sound counted shallow = (tree_right t t.region 0 x rs.0 sound.0 counted.0 shallow.0, all_right ts xs rs.1 sound.1 counted.1 shallow.1)
 
 -- ---- trees by class and path
 
 -- a tree for each of these paths
-abbrev HasTrees : Net → Bounds → List (List Crossing) → List Tree → Type 0
-HasTrees net b paths ys = (m : ℕ) (path : List Crossing) → slice_get paths m ≡ Some path → (x : Tree) × (slice_get ys m ≡ Some x) × SoundTree net path b x
+abbrev HasTrees : Net → Bool → Bounds → List (List Crossing) → List Tree → Type 0
+HasTrees net exempt b paths ys = (m : ℕ) (path : List Crossing) → slice_get paths m ≡ Some path → (x : Tree) × (slice_get ys m ≡ Some x) × SoundTree net path exempt b x
 
 along : (net : Net) (c : ℕ) (b : Bounds) (exempt : Bool) (m : ℕ) (paths : List (List Crossing)) (ts : List Target) (xs : List Tree) → AllSound net (targets_along c b exempt m paths ++ ts) xs
-    → (ys : List Tree) × (zs : List Tree) × HasTrees net b paths ys × AllSound net ts zs × (length ys ≡ length paths) × (xs ≡ ys ++ zs)
+    → (ys : List Tree) × (zs : List Tree) × HasTrees net exempt b paths ys × AllSound net ts zs × (length ys ≡ length paths) × (xs ≡ ys ++ zs)
 along net c b exempt m [] ts xs sound = ([], xs, λ k. λ path. λ e. absurd cc, sound, refl, refl)
 along net c b exempt m (p ∷ ps) ts [] sound = absurd sound
 along net c b exempt m (p ∷ ps) ts (x ∷ xs) sound = let rest = along net c b exempt (m + 1) ps ts xs sound.1 in (x ∷ rest.0, rest.1, has rest.0 rest.2, rest.3, ap suc rest.4, ap (λ w. x ∷ w) rest.5) where
-  has : (ys : List Tree) → HasTrees net b ps ys → HasTrees net b (p ∷ ps) (x ∷ ys)
-  has ys more zero path e = (x, refl, let same : p ≡ path = cc in subst (λ q. SoundTree net q b x) same sound.0)
+  has : (ys : List Tree) → HasTrees net exempt b ps ys → HasTrees net exempt b (p ∷ ps) (x ∷ ys)
+  has ys more zero path e = (x, refl, let same : p ≡ path = cc in subst (λ q. SoundTree net q exempt b x) same sound.0)
   has ys more (suc k) path e = more k path e
 
-along_back : (net : Net) (c : ℕ) (b : Bounds) (exempt : Bool) (m : ℕ) (paths : List (List Crossing)) (ts : List Target) (ys zs : List Tree) → length ys ≡ length paths → HasTrees net b paths ys → AllSound net ts zs → AllSound net (targets_along c b exempt m paths ++ ts) (ys ++ zs)
+along_back : (net : Net) (c : ℕ) (b : Bounds) (exempt : Bool) (m : ℕ) (paths : List (List Crossing)) (ts : List Target) (ys zs : List Tree) → length ys ≡ length paths → HasTrees net exempt b paths ys → AllSound net ts zs → AllSound net (targets_along c b exempt m paths ++ ts) (ys ++ zs)
 along_back net c b exempt m [] ts [] zs e has sound = sound
 along_back net c b exempt m [] ts (y ∷ ys) zs e has sound = absurd (omega (arith, e))
 along_back net c b exempt m (p ∷ ps) ts [] zs e has sound = absurd (omega (arith, e))
@@ -165,7 +180,7 @@ along_back net c b exempt m (p ∷ ps) ts (y ∷ ys) zs e has sound =
 
 -- trees for each of these classes
 abbrev HaveTrees : Net → List Class → List (List Tree) → Type 0
-HaveTrees net classes trees = (c : ℕ) (class : Class) → slice_get classes c ≡ Some class → HasTrees net class.region class.paths (entries (slice_get trees c))
+HaveTrees net classes trees = (c : ℕ) (class : Class) → slice_get classes c ≡ Some class → HasTrees net class.exempt class.region class.paths (entries (slice_get trees c))
 
 by_class : (net : Net) (c : ℕ) (classes : List Class) (xs : List Tree) → AllSound net (targets_from c classes) xs → (trees : List (List Tree)) × HaveTrees net classes trees × AreFor classes trees × (xs ≡ in_a_row trees)
 by_class net c [] [] sound = ([], λ k. λ class. λ e. absurd cc, tt, refl)
@@ -175,8 +190,8 @@ by_class net c (k ∷ ks) xs sound =
     let rest = by_class net (c + 1) ks first.1 first.3 in
     (first.0 ∷ rest.0, have first.0 rest.0 first.2 rest.1, (first.4, rest.2), first.5 ∙ ap (λ w. first.0 ++ w) rest.3)
   where
-    have : (ys : List Tree) (trees : List (List Tree)) → HasTrees net k.region k.paths ys → HaveTrees net ks trees → HaveTrees net (k ∷ ks) (ys ∷ trees)
-    have ys trees h more zero class e = let same : k ≡ class = cc in subst (λ q. HasTrees net q.region q.paths ys) same h
+    have : (ys : List Tree) (trees : List (List Tree)) → HasTrees net k.exempt k.region k.paths ys → HaveTrees net ks trees → HaveTrees net (k ∷ ks) (ys ∷ trees)
+    have ys trees h more zero class e = let same : k ≡ class = cc in subst (λ q. HasTrees net q.exempt q.region q.paths ys) same h
     have ys trees h more (suc n) class e = more n class e
 
 by_class_back : (net : Net) (c : ℕ) (classes : List Class) (trees : List (List Tree)) → AreFor classes trees → HaveTrees net classes trees → AllSound net (targets_from c classes) (in_a_row trees)

@@ -1,5 +1,5 @@
 -- How what is still to be said changes as the checker goes on.
-use Rattle.std.proofs.Common.{◌≡◌, ℕ, zero, suc, ◌+◌, ◌<◌, ◌≤◌, List, [], ◌∷◌, ◌++◌, length, get_or, drop, refl, sym, subst, ◌∙◌, arith, add-one, length-append, length-drop, Result, Err, Some, ◌≢◌}
+use Rattle.std.proofs.Common.{◌≡◌, ℕ, zero, suc, ◌+◌, ◌<◌, ◌≤◌, List, [], ◌∷◌, ◌++◌, length, get_or, drop, refl, sym, subst, ◌∙◌, arith, add-one, length-append, length-drop, cond, Result, Err, Some, ◌≢◌}
 use Rattle.std.proofs.Math.Seq.{drop-cons}
 use Rattle.fx_elements.specs.Axes.{axis_index}
 use Rattle.fx_elements.specs.declared.axis.Axis.{Axis}
@@ -53,7 +53,7 @@ target_next ts at lt = rw add-one (go ts at lt) where
   go (t ∷ ts) (suc at) lt = go ts at (omega arith)
 
 pub leaf_is : (judge : Judge) (made : ℕ) (ts : List Target) (at : ℕ) (ws : List Waiting) (s : Stage) (w : Waiting) (l : Counted) (t : Target) → s ≡ stage.Tree w → IsStandingAt ts at ws s → t ≡ get_or ts at t
-    → after judge made (goals_at ts at ws s) (item.Leaf l.crossing l.point l.process) ≡ leaf_answer made (judge t w.region l) (rest_of_tree (drop at ts) ws)
+    → after judge made (goals_at ts at ws s) (item.Leaf l.crossing l.point l.process) ≡ cond t.exempt (Err 403) (leaf_answer made (judge t w.region l) (rest_of_tree (drop at ts) ws))
 leaf_is judge made ts at ws s w l t e h is =
     let k : IsStandingAt ts at ws (stage.Tree w) = subst (λ (x : Stage). IsStandingAt ts at ws x) e h in
     rw (e, drop-cons ts at t k.0, ← is) refl

@@ -8,7 +8,7 @@ use Rattle.fx_cert.specs.declared.item.Item.{Item}
 use Rattle.fx_cert.specs.declared.item.Item.TheVariants as item
 use Rattle.fx_cert.specs.declared.item.Version.TheVariants.{One, Two}
 use Rattle.fx_leaf.specs.declared.leaf.Counted.{Counted}
-use Rattle.fx_leaf.specs.Certificates.{Tree, Leaf, Split}
+use Rattle.fx_leaf.specs.Certificates.{Tree, Leaf, Uncounted, Split}
 use Rattle.fx_check.specs.Judging.{Judge}
 use Rattle.fx_traffic.specs.Targets.{Target}
 use Rattle.fx_check.specs.Verdict.{Goal, header, opening, tree, close, ahead, whole, line_limit, depth_limit, leaf_answer, split_answer, parts, after, made_by, Reading, long, cut, malformed, says, after_reading, made_after}
@@ -22,7 +22,8 @@ leaf_named crossing point process = record { crossing = crossing; point = point;
 
 -- each split is strictly inside its region and not too deep, and nothing is wrong with a leaf
 abbrev pub IsRight : Judge → Target → Bounds → ℕ → Tree → Type 0
-IsRight judge t b d (Leaf crossing point process) = judge t b (leaf_named crossing point process) ≡ None
+IsRight judge t b d (Leaf crossing point process) = (t.exempt ≡ false) × (judge t b (leaf_named crossing point process) ≡ None)
+IsRight judge t b d Uncounted = ⊥
 IsRight judge t b d (Split a at x y) =
     (d < depth_limit) × IsStrictlyInside b (axis_index a) at
     × IsRight judge t (below_part b (axis_index a) at) (d + 1) x
@@ -143,8 +144,12 @@ fulfils_more judge made (opening t ∷ gs) left item.End rs n e le f = absurd cc
 fulfils_more judge made (tree t b d ∷ gs) left (item.Header v) rs n e le f = absurd cc
 fulfils_more judge made (tree t b d ∷ gs) left (item.Class c m) rs n e le f = absurd cc
 fulfils_more judge made (tree t b d ∷ gs) left (item.Leaf crossing point process) rs n e le f =
-    let k = leaf_ok made (judge t b (leaf_named crossing point process)) gs left e in
-    (1 + n, λ h. omega (arith, bounded (made + 1) n line_limit (omega (arith, k.0)) le), (Leaf crossing point process, rs, n, refl, k.1, refl, subst (λ (g : List Goal). Fulfils judge g rs n) (sym k.2) f))
+    elim (chosen t.exempt (bad 403) (leaf_answer made (judge t b (leaf_named crossing point process)) gs) (good left) e) [
+      | inl h ↦ absurd cc
+      | inr h ↦
+          let k = leaf_ok made (judge t b (leaf_named crossing point process)) gs left h.1 in
+          (1 + n, λ z. omega (arith, bounded (made + 1) n line_limit (omega (arith, k.0)) le), (Leaf crossing point process, rs, n, refl, (h.0, k.1), refl, subst (λ (g : List Goal). Fulfils judge g rs n) (sym k.2) f))
+    ]
 fulfils_more judge made (tree t b d ∷ gs) left (item.Split a v) rs n e le f =
     let k = split_ok made b d (axis_index a) v (parts t b d (axis_index a) v gs) left e in
     (1 + n, λ h. omega (arith, bounded (made + 1) n line_limit (omega (arith, k.0)) le), split_fulfils judge t b d a v gs rs n k.1 k.2 (subst (λ (g : List Goal). Fulfils judge g rs n) (sym k.3) f))
@@ -192,11 +197,20 @@ right_only judge ts rs e =
 goes : (judge : Judge) (made : ℕ) (gs left : List Goal) (i : Item) (rs : List Reading) → after judge made gs i ≡ Ok left → verdict judge (made_by made i) left rs ≡ None → verdict judge made gs (says i ∷ rs) ≡ None
 goes judge made gs left i rs e h = ap (on (λ left. verdict judge (made_by made i) left rs)) e ∙ h
 
+second : {A : Type 0} (b : Bool) (x y : A) → b ≡ false → cond b x y ≡ y
+second true x y e = absurd cc
+second false x y e = refl
+
+leaf_goes : (made : ℕ) (wrong : Option ℕ) (gs : List Goal) → made < line_limit → wrong ≡ None → leaf_answer made wrong gs ≡ Ok gs
+leaf_goes made wrong gs lt right = rw (lt-leb line_limit made lt, right) refl
+
 tree_all : (judge : Judge) (t : Target) (x : Tree) (b : Bounds) (d made : ℕ) (gs : List Goal) (rest : List Reading) → IsRight judge t b d x → made + size x ≤ line_limit
     → verdict judge (made + size x) gs rest ≡ None → verdict judge made (tree t b d ∷ gs) (lines (tree_items x) ++ rest) ≡ None
 tree_all judge t (Leaf crossing point process) b d made gs rest right le then =
-    let e : leaf_answer made (judge t b (leaf_named crossing point process)) gs ≡ Ok gs = rw (lt-leb line_limit made (omega arith), right) refl in
+    let answer = leaf_answer made (judge t b (leaf_named crossing point process)) gs in
+    let e : cond t.exempt (bad 403) answer ≡ Ok gs = second t.exempt (bad 403) answer right.0 ∙ leaf_goes made (judge t b (leaf_named crossing point process)) gs (omega arith) right.1 in
     goes judge made (tree t b d ∷ gs) gs (item.Leaf crossing point process) rest e then
+tree_all judge t Uncounted b d made gs rest right le then = absurd right
 tree_all judge t (Split a at x y) b d made gs rest right le then =
     let k = axis_index a in
     let second : verdict judge (made + 1 + size x) (tree t (above_part b k at) (d + 1) ∷ gs) (lines (tree_items y) ++ rest) ≡ None =

@@ -7,13 +7,14 @@ use Rattle.fx_cert.specs.declared.item.Version.TheVariants.{One}
 use Rattle.fx_cert.specs.ItemText.{IsItem, item_text}
 use Rattle.fx_machine.specs.Classes.{Class}
 use Rattle.fx_machine.specs.Network.{Net}
-use Rattle.fx_leaf.specs.Certificates.{Tree, Leaf, Split, Sound}
+use Rattle.fx_leaf.specs.Certificates.{Tree, Leaf, Uncounted, Split, Sound}
 use Rattle.fx_traffic.specs.Targets.{Target, targets_of}
 use Rattle.fx_check.specs.Verdict.{Line, line_limit, depth_limit}
 
 -- a split, then the tree of its lower part, then that of its upper part
 abbrev pub tree_items : Tree → List Item
 tree_items (Leaf crossing point process) = item.Leaf crossing point process ∷ []
+tree_items Uncounted = item.Never ∷ []
 tree_items (Split axis at below above) = item.Split axis at ∷ (tree_items below ++ tree_items above)
 
 -- for each target its line and its tree, and then the last line
@@ -37,6 +38,7 @@ IsWritable i = IsItem i × (length (item_text i) ≤ 4096)
 -- how many split and leaf lines there are
 abbrev pub size : Tree → ℕ
 size (Leaf crossing point process) = 1
+size Uncounted = 1
 size (Split axis at below above) = 1 + (size below + size above)
 
 abbrev pub sizes : List Tree → ℕ
@@ -46,9 +48,16 @@ sizes (x ∷ xs) = size x + sizes xs
 -- no split in a tree whose root has this depth is too deep
 abbrev pub IsShallow : ℕ → Tree → Type 0
 IsShallow d (Leaf crossing point process) = Unit {0}
+IsShallow d Uncounted = Unit {0}
 IsShallow d (Split axis at below above) = (d < depth_limit) × IsShallow (d + 1) below × IsShallow (d + 1) above
 
 -- ---- certificates
+
+-- no leaf says that nothing is counted; there are none such in version 1
+abbrev pub AllCounted : Tree → Type 0
+AllCounted (Leaf crossing point process) = Unit {0}
+AllCounted Uncounted = ⊥
+AllCounted (Split axis at below above) = AllCounted below × AllCounted above
 
 -- a tree for each path of each class
 abbrev pub AreFor : List Class → List (List Tree) → Type 0
@@ -67,6 +76,7 @@ pub record IsCertificate (net : Net) (classes : List Class) (lines : List Line) 
   pub trees : List (List Tree)
   pub each : AreFor classes trees
   pub sound : Sound net classes trees
+  pub counted : AllByRecursion AllCounted (in_a_row trees)
   pub shallow : AllByRecursion (IsShallow 0) (in_a_row trees)
   pub lines_are : lines ≡ map item_line (certificate_items (targets_of classes) (in_a_row trees))
   pub writable : AllByRecursion IsWritable (certificate_items (targets_of classes) (in_a_row trees))

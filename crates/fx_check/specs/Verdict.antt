@@ -68,7 +68,7 @@ after judge made (header ∷ gs) _ = Err 401
 after judge made (opening t ∷ gs) (item.Class c m) = if c == t.class && m == t.path then Ok gs else Err 403
 after judge made (opening t ∷ gs) _ = Err 403
 after judge made (tree t b d ∷ gs) (item.Leaf crossing point process) =
-    leaf_answer made (judge t b (record { crossing = crossing; point = point; process = process })) gs
+    if t.exempt then Err 403 else leaf_answer made (judge t b (record { crossing = crossing; point = point; process = process })) gs
 after judge made (tree t b d ∷ gs) (item.Split a at) =
     split_answer made b d (axis_index a) at (parts t b d (axis_index a) at gs)
 after judge made (tree t b d ∷ gs) _ = Err 403

@@ -70,17 +70,20 @@ fn check_classes<R: Source>(
 }
 
 /// Checks the text of a certificate, which begins with the reader's next line: Ok is the yes. Then each packet of the
-/// traffic, on whichever of its class's paths, is counted exactly once by every complete run of the network.
+/// traffic, on whichever of its class's paths, is counted exactly once by every complete run of the network, and never
+/// where its class is exempt.
 ///
 /// The text is a line `once-certificate 1`; for each path of each class, in order, a line `class CLASS PATH` and a
 /// tree; and a line `end`. A tree is a leaf, `L CROSSING POINT PROCESS`, or a split, `S AXIS AT`, followed by the tree
-/// of the values below `AT` and that of the values from `AT` on.
+/// of the values below `AT` and that of the values from `AT` on. The second version, in which leaves of exempt classes
+/// can be said, isn't taken yet.
 ///
 /// The text is read once, a line at a time. All memory is taken before the first line is read: 900, at no place, leaves
 /// the reader as it was. Else it fails at the first line where something is wrong, and the reader goes on behind that
 /// line. What is looked for in a line, in this order: 901, at no place, and 903 are the reader's; 405 the text ends
 /// before `end`, or inside the line (at the text's end the place is the number of lines, plus 1); 411 a line behind
-/// `end`; 401 the first line isn't the one above; 402 a later line is no item's text; 403 an item isn't in its place;
+/// `end`; 401 the first line isn't the one above; 402 a later line is no item's text; 403 an item isn't in its place,
+/// or a leaf is of an exempt class;
 /// 414 more than 1,000,000 split and leaf lines; for a split 412, deeper than 511, where the first has depth 0, then
 /// 404, not strictly inside its region; for a leaf 406, 413, 409, 408 and 407, as [`fate`](fx_leaf::fate) answers
 /// them, then 410, another selection process than the one that counts.
@@ -90,7 +93,7 @@ pub fn check<R: Source>(
     traffic: &Traffic,
     lines: &mut LineReader<R>,
 ) -> Result<(), Fault>
-    // Each packet is counted once.
+    // Each packet is counted once, and those of exempt classes never.
     ensures once { OnOk result (ExactlyOnce (net_of plan.now) traffic.now) }
     // However large the sums are, the totals are the plain sums modulo 2 to the 64.
     ensures modulo { OnOk result (OnceModulo (net_of plan.now) traffic.now) }

@@ -125,6 +125,9 @@ impl Course {
         ensures size { length scratch.new ≡ length scratch.old }
     {
         let target = &targets[self.current];
+        if target.exempt {
+            return Err(403);
+        }
         if self.made >= LINES {
             return Err(414);
         }
@@ -245,8 +248,9 @@ impl Course {
 
     /// Takes a line, or answers the number of its fault: 405 where no line feed ends it, 411 behind the last line,
     /// 401 where the first line isn't `once-certificate 1`, 402 where another is no item's text, 403 where an item
-    /// isn't in its place, 414 where split and leaf lines are too many, 412 where a split is too deep, 404 where it
-    /// isn't strictly inside its region, or what is wrong with a leaf.
+    /// isn't in its place or a leaf tells where exempt packets are counted, 414 where split and leaf lines are too
+    /// many, 412 where a split is too deep, 404 where it isn't strictly inside its region, or what is wrong with a
+    /// leaf.
     pub(crate) fn take(
         &mut self,
         scratch: &mut Scratch,

@@ -18,7 +18,8 @@ pub fn certificates_are_accepted()
     ensures all { (net : network.Net) (classes : List traffic.Class) (before : ℕ) (lines : List Line) → IsNetwork net → AreRegions (targets_of classes) → IsCertificate net classes lines → first_refusal (judge_of net) before 0 (whole (targets_of classes)) lines ≡ None }
 {}
 
-/// Where there is a certificate, each packet of the classes is counted exactly once by every complete run.
+/// Where there is a certificate, each packet of the classes is counted exactly once by every complete run, and those of
+/// exempt classes never.
 pub fn certificates_count_once()
     ensures once { (net : network.Net) (classes : List traffic.Class) (lines : List Line)
         → IsNetwork net → IsCertificate net classes lines → ExactlyOnce net classes }

@@ -7,7 +7,7 @@ use Rattle.fx_machine.specs.declared.traffic.Crossing.{Crossing}
 use Rattle.fx_machine.specs.declared.packet.Packet.{Packet}
 use Rattle.fx_machine.specs.declared.step.Step.{Step}
 use Rattle.fx_machine.specs.Network.{numbered, entries, Net}
-use Rattle.fx_machine.specs.Classes.{paths_of, path, IsOf, Class}
+use Rattle.fx_machine.specs.Classes.{paths_of, path, exempts, to_count, IsOf, Class}
 use Rattle.fx_machine.specs.States.{State, opening, Complete}
 use Rattle.fx_machine.specs.Steps.{run}
 use Rattle.fx_machine.specs.Sums.{plain_sum, total_at, SumsFit}
@@ -15,9 +15,8 @@ use Rattle.fx_machine.proofs.Lists.{length_nothing}
 use Rattle.fx_machine.proofs.Running.{steps_of}
 use Rattle.fx_machine.specs.Claim.{CountsEachOnce, wrapped, CountsEachModulo}
 use Rattle.fx_machine.specs.Ranks.{IsNetwork}
-use Rattle.fx_leaf.specs.declared.verdict.Fate.TheVariants.{Once}
-use Rattle.fx_leaf.specs.Fates.{fate, packet_fate}
-use Rattle.fx_leaf.specs.Certificates.{AllOnce}
+use Rattle.fx_leaf.specs.Fates.{fate, packet_fate, wanted}
+use Rattle.fx_leaf.specs.Certificates.{AllAsWanted}
 use Rattle.fx_leaf.specs.Quantity.{Weight, Wrong, Nothing, plus, weigh_all, total_weight, unassigned_weight, held_weight, carried_weight, coming_weight, wrapped_weight, quantity}
 use Rattle.fx_leaf.specs.Laws.{Opens, OpensModulo, Kept, Ends, Theorem, TheoremModulo}
 use Rattle.fx_leaf.proofs.Weights.{plus_nothing}
@@ -25,19 +24,19 @@ use Rattle.fx_leaf.proofs.FateLaws.{Every}
 use Rattle.fx_leaf.proofs.Acts.{IsSized}
 use Rattle.fx_leaf.proofs.Steps.{run_keeps, step_keeps}
 use Rattle.fx_leaf.proofs.Ranks.{is_fate}
-use Rattle.fx_leaf.proofs.Trees.{sound_once}
+use Rattle.fx_leaf.proofs.Trees.{sound_wanted}
 use Rattle.fx_leaf.proofs.Opening.{opens, empty_weighs, plain_weight, plain_weighs, plain_modulo, total_modulo, plain_not_wrong}
 
-all_once : (net : Net) (classes : List Class) (packets : List Packet) → AllOnce net classes → All (λ p. IsOf p (numbered classes p.class)) packets → Every (λ p. packet_fate net p.fields (path classes p) ≡ Once) packets
-all_once net classes [] sound h = tt
-all_once net classes (p ∷ ps) sound h =
-    (by_class (numbered classes p.class) refl (h 0 p (omega arith)), all_once net classes ps sound (λ k. λ d. λ lt. h (suc k) d (omega arith)))
+all_wanted : (net : Net) (classes : List Class) (packets : List Packet) → AllAsWanted net classes → All (λ p. IsOf p (numbered classes p.class)) packets → Every (λ p. packet_fate net p.fields (path classes p) ≡ wanted (exempts (numbered classes p.class))) packets
+all_wanted net classes [] sound h = tt
+all_wanted net classes (p ∷ ps) sound h =
+    (by_class (numbered classes p.class) refl (h 0 p (omega arith)), all_wanted net classes ps sound (λ k. λ d. λ lt. h (suc k) d (omega arith)))
   where
-    by_path : (class : Class) (o : Option (List Crossing)) → numbered classes p.class ≡ Some class → numbered class.paths p.path ≡ o → holds class.region p.fields ≡ true → o ≢ None → packet_fate net p.fields (entries o) ≡ Once
+    by_path : (class : Class) (o : Option (List Crossing)) → numbered classes p.class ≡ Some class → numbered class.paths p.path ≡ o → holds class.region p.fields ≡ true → o ≢ None → packet_fate net p.fields (entries o) ≡ wanted class.exempt
     by_path class None c m r some = absurd (some refl)
     by_path class (Some crossings) c m r some = sound p.class p.path class crossings p.fields c m r
 
-    by_class : (o : Option Class) → numbered classes p.class ≡ o → IsOf p o → packet_fate net p.fields (entries (numbered (paths_of o) p.path)) ≡ Once
+    by_class : (o : Option Class) → numbered classes p.class ≡ o → IsOf p o → packet_fate net p.fields (entries (numbered (paths_of o) p.path)) ≡ wanted (exempts o)
     by_class None c of = absurd of
     by_class (Some class) c of = by_path class (numbered class.paths p.path) c refl of.0 of.1
 
@@ -51,13 +50,13 @@ none_unassigned : (n : ℕ) (w : Weight) → plus (unassigned_weight n) w ≢ Wr
 none_unassigned zero w h = refl
 none_unassigned (suc n) w h = absurd (h refl)
 
-pub opens_law : (net : Net) (classes : List Class) → IsNetwork net → AllOnce net classes → Opens net classes
+pub opens_law : (net : Net) (classes : List Class) → IsNetwork net → AllAsWanted net classes → Opens net classes
 opens_law net classes is_net sound packets of fit total =
-    opens net is_net classes packets total (all_once net classes packets sound of) ∙ plain_weighs net.report_layout total packets (fit total)
+    opens net is_net classes packets total (all_wanted net classes packets sound of) ∙ plain_weighs net.report_layout total (to_count classes packets) (fit total)
 
-pub opens_modulo_law : (net : Net) (classes : List Class) → IsNetwork net → AllOnce net classes → OpensModulo net classes
+pub opens_modulo_law : (net : Net) (classes : List Class) → IsNetwork net → AllAsWanted net classes → OpensModulo net classes
 opens_modulo_law net classes is_net sound packets of total =
-    ap wrapped_weight (opens net is_net classes packets total (all_once net classes packets sound of)) ∙ plain_modulo net.report_layout total packets
+    ap wrapped_weight (opens net is_net classes packets total (all_wanted net classes packets sound of)) ∙ plain_modulo net.report_layout total (to_count classes packets)
 
 pub kept_law : (net : Net) (classes : List Class) (step : Step) → IsNetwork net → Kept net classes step
 kept_law net classes step is_net packets total s new sized good h =
@@ -76,34 +75,34 @@ ends_law net classes packets total s complete =
     let t = total_weight (total_at s.totals total) in
     ap (plus (unassigned_weight s.unassigned)) (ap (plus t) (ap₂ plus h (ap₂ plus c k)) ∙ plus_nothing t)
 
-module _ (net : Net) (is_net : IsNetwork net) (classes : List Class) (sound : AllOnce net classes) (packets : List Packet) (of : All (λ p. IsOf p (numbered classes p.class)) packets) (steps : List Step) (final : State) (ran : run net classes packets steps (opening net classes packets) ≡ Ok final) (complete : Complete final) where
-  opening_is : (total : Key) → quantity net classes packets total (opening net classes packets) ≡ plain_weight net.report_layout total packets
-  opening_is total = opens net is_net classes packets total (all_once net classes packets sound of)
+module _ (net : Net) (is_net : IsNetwork net) (classes : List Class) (sound : AllAsWanted net classes) (packets : List Packet) (of : All (λ p. IsOf p (numbered classes p.class)) packets) (steps : List Step) (final : State) (ran : run net classes packets steps (opening net classes packets) ≡ Ok final) (complete : Complete final) where
+  opening_is : (total : Key) → quantity net classes packets total (opening net classes packets) ≡ plain_weight net.report_layout total (to_count classes packets)
+  opening_is total = opens net is_net classes packets total (all_wanted net classes packets sound of)
 
-  kept : (total : Key) → plus (unassigned_weight final.unassigned) (total_weight (total_at final.totals total)) ≡ plain_weight net.report_layout total packets
+  kept : (total : Key) → plus (unassigned_weight final.unassigned) (total_weight (total_at final.totals total)) ≡ plain_weight net.report_layout total (to_count classes packets)
   kept total =
-      let good : quantity net classes packets total (opening net classes packets) ≢ Wrong = subst (λ q. q ≢ Wrong) (sym (opening_is total)) (plain_not_wrong net.report_layout total packets) in
+      let good : quantity net classes packets total (opening net classes packets) ≢ Wrong = subst (λ q. q ≢ Wrong) (sym (opening_is total)) (plain_not_wrong net.report_layout total (to_count classes packets)) in
       let sized = sized_law net classes packets in
       sym (ends_law net classes packets total final complete) ∙ (run_keeps (fate net) net (is_fate net is_net.ranked) classes packets total steps (opening net classes packets) final good sized ran).kept ∙ opening_is total
 
   assigned : final.unassigned ≡ 0
   assigned =
       let total : Key = record { layout = []; values = [] } in
-      none_unassigned final.unassigned (total_weight (total_at final.totals total)) (subst (λ q. q ≢ Wrong) (sym (kept total)) (plain_not_wrong net.report_layout total packets))
+      none_unassigned final.unassigned (total_weight (total_at final.totals total)) (subst (λ q. q ≢ Wrong) (sym (kept total)) (plain_not_wrong net.report_layout total (to_count classes packets)))
 
-  totals_weigh : (key : Key) → total_weight (total_at final.totals key) ≡ plain_weight net.report_layout key packets
+  totals_weigh : (key : Key) → total_weight (total_at final.totals key) ≡ plain_weight net.report_layout key (to_count classes packets)
   totals_weigh key =
       sym (ap (λ n. plus (unassigned_weight n) (total_weight (total_at final.totals key))) assigned) ∙ kept key
 
-  pub counts_each_once : SumsFit net.report_layout packets → CountsEachOnce net packets final
+  pub counts_each_once : SumsFit net.report_layout (to_count classes packets) → CountsEachOnce net (to_count classes packets) final
   counts_each_once fit = record {
-    totals = λ key. same_total (total_at final.totals key) (plain_sum net.report_layout key packets) (totals_weigh key ∙ plain_weighs net.report_layout key packets (fit key));
+    totals = λ key. same_total (total_at final.totals key) (plain_sum net.report_layout key (to_count classes packets)) (totals_weigh key ∙ plain_weighs net.report_layout key (to_count classes packets) (fit key));
     assigned = assigned;
   }
 
-  pub counts_each_modulo : CountsEachModulo net packets final
+  pub counts_each_modulo : CountsEachModulo net (to_count classes packets) final
   counts_each_modulo = record {
-    totals = λ key. same_total (option_map wrapped (total_at final.totals key)) (option_map wrapped (plain_sum net.report_layout key packets)) (total_modulo (total_at final.totals key) ∙ ap wrapped_weight (totals_weigh key) ∙ plain_modulo net.report_layout key packets);
+    totals = λ key. same_total (option_map wrapped (total_at final.totals key)) (option_map wrapped (plain_sum net.report_layout key (to_count classes packets))) (total_modulo (total_at final.totals key) ∙ ap wrapped_weight (totals_weigh key) ∙ plain_modulo net.report_layout key (to_count classes packets));
     assigned = assigned;
   }
 
@@ -111,10 +110,10 @@ module _ (net : Net) (is_net : IsNetwork net) (classes : List Class) (sound : Al
 pub exactly_once : Theorem
 exactly_once net classes trees is_net certified packets of fit final ran complete =
     let steps = steps_of net classes packets (opening net classes packets) final ran in
-    counts_each_once net is_net classes (sound_once net classes trees certified) packets of steps.0 final steps.1 complete fit
+    counts_each_once net is_net classes (sound_wanted net classes trees certified) packets of steps.0 final steps.1 complete fit
 
 -- and without a bound on the plain sums
 pub once_modulo : TheoremModulo
 once_modulo net classes trees is_net certified packets of final ran complete =
     let steps = steps_of net classes packets (opening net classes packets) final ran in
-    counts_each_modulo net is_net classes (sound_once net classes trees certified) packets of steps.0 final steps.1 complete
+    counts_each_modulo net is_net classes (sound_wanted net classes trees certified) packets of steps.0 final steps.1 complete

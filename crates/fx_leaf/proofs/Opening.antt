@@ -1,5 +1,5 @@
 -- The quantity at the opening is the plain sums.
-use Rattle.std.proofs.Common.{◌≡◌, ◌≢◌, ℕ, suc, ◌+◌, ◌%◌, ◌^◌, true, false, cond, if◌then◌else◌, List, [], ◌∷◌, Option, Some, None, option_map, refl, sym, ap, ap₂, ◌∙◌, subst, arith, slice_get, mod-eq_of_lt, IfSome}
+use Rattle.std.proofs.Common.{◌≡◌, ◌≢◌, ℕ, suc, ◌+◌, ◌%◌, ◌^◌, Bool, not, filter, true, false, cond, if◌then◌else◌, List, [], ◌∷◌, Option, Some, None, option_map, refl, sym, ap, ap₂, ◌∙◌, subst, arith, slice_get, mod-eq_of_lt, IfSome}
 use Rattle.std.proofs.Math.Nat.{mod-mod, add-mod-mod}
 use Rattle.fx_base.specs.declared.counts.Counts.{Counts}
 use Rattle.fx_layout.specs.Keys.{Key, Layout, key_of, same_key}
@@ -9,7 +9,7 @@ use Rattle.fx_machine.specs.declared.traffic.Crossing.{Crossing}
 use Rattle.fx_machine.specs.declared.observation.Occurrence.{Occurrence}
 use Rattle.fx_machine.specs.declared.packet.Packet.{Packet}
 use Rattle.fx_machine.specs.Network.{numbered, Net, layout_of}
-use Rattle.fx_machine.specs.Classes.{path, Class}
+use Rattle.fx_machine.specs.Classes.{path, exempts, to_count, Class}
 use Rattle.fx_machine.specs.Occurrences.{occurrences}
 use Rattle.fx_machine.specs.States.{crossings_from, coming_from, nothing_at, opening, all_empty, Coming}
 use Rattle.fx_machine.specs.Acts.{Act}
@@ -19,7 +19,7 @@ use Rattle.fx_machine.specs.Claim.{wrapped}
 use Rattle.fx_machine.specs.Ranks.{IsNetwork}
 use Rattle.fx_machine.proofs.Lists.{nothing_empty}
 use Rattle.fx_leaf.specs.declared.verdict.Fate.TheVariants.{Once}
-use Rattle.fx_leaf.specs.Fates.{FateAt, act_fate, fate, acts_along, packet_fate}
+use Rattle.fx_leaf.specs.Fates.{FateAt, act_fate, fate, acts_along, packet_fate, wanted}
 use Rattle.fx_leaf.specs.Quantity.{Weight, Wrong, Nothing, Counted, plus, weigh_all, weigh_each, part_of, by_fate, key_of_act, act_weight, held_weight, carried_weight, coming_weight, packet_weight, total_weight, wrapped_weight, quantity}
 use Rattle.fx_leaf.proofs.Weights.{weigh_append}
 use Rattle.fx_leaf.proofs.FateLaws.{Every, every_append, all_weighed, IsGood}
@@ -43,6 +43,21 @@ stands_behind x xs n (y ∷ ys) h = (h.0, stands_behind x xs (suc n) ys h.1)
 stands : {A : Type 0} (xs : List A) → StandsAt xs 0 xs
 stands [] = tt
 stands (x ∷ xs) = (refl, stands_behind x xs 0 xs (stands xs))
+
+wanted_good : (exempt : Bool) → IsGood (wanted exempt)
+wanted_good true = tt
+wanted_good false = tt
+
+-- what is to be counted weighs as much as all, where each exempt one weighs nothing
+wanted_weigh : {A : Type 0} (exempt : A → Bool) (f : A → Weight) (xs : List A) → weigh_all (λ x. by_fate (wanted (exempt x)) (f x)) xs ≡ weigh_all f (filter (λ x. not (exempt x)) xs)
+wanted_weigh exempt f [] = refl
+wanted_weigh exempt f (x ∷ xs) =
+    let rest = filter (λ y. not (exempt y)) xs in
+    let same = wanted_weigh exempt f xs in
+    elim (exempt x) as (λ b. plus (by_fate (wanted b) (f x)) (weigh_all (λ y. by_fate (wanted (exempt y)) (f y)) xs) ≡ weigh_all f (cond (not b) (x ∷ rest) rest)) [
+      | true ↦ same
+      | false ↦ ap (plus (f x)) same
+    ]
 
 module _ (net : Net) (is_net : IsNetwork net) (classes : List Class) (packets : List Packet) (total : Key) where
   abbrev at : FateAt
@@ -69,10 +84,13 @@ module _ (net : Net) (is_net : IsNetwork net) (classes : List Class) (packets : 
   along_part p (c ∷ cs) =
       every_append (SamePart p) (crossing_acts net p.fields (Some c)) (acts_along net p.fields cs) (every_map (SamePart p) (meet net p.fields) (occurrences net c p.fields) (met_part p)) (along_part p cs)
 
-  -- a packet of fate once weighs its part
-  path_weighs : (p : Packet) (cs : List Crossing) → packet_fate net p.fields cs ≡ Once → weigh_all (act_weight at net total (one_packet p)) (acts_along net p.fields cs) ≡ part p
-  path_weighs p cs once =
-      all_weighed (act_fate at net) (λ a. part_of net total (key_of_act a) (one_packet p)) (part p) (acts_along net p.fields cs) (along_part p cs) (subst IsGood (sym once) tt) ∙ ap (λ f. by_fate f (part p)) once
+  -- a packet with the fate that is wanted weighs its part, or nothing where it is exempt
+  path_weighs : (p : Packet) (exempt : Bool) (cs : List Crossing) → packet_fate net p.fields cs ≡ wanted exempt → weigh_all (act_weight at net total (one_packet p)) (acts_along net p.fields cs) ≡ by_fate (wanted exempt) (part p)
+  path_weighs p exempt cs is =
+      all_weighed (act_fate at net) (λ a. part_of net total (key_of_act a) (one_packet p)) (part p) (acts_along net p.fields cs) (along_part p cs) (subst IsGood (sym is) (wanted_good exempt)) ∙ ap (λ f. by_fate f (part p)) is
+
+  abbrev exempted : Packet → Bool
+  exempted p = exempts (numbered classes p.class)
 
   abbrev weight : Coming → Weight
   weight = coming_weight at net classes packets total
@@ -83,16 +101,16 @@ module _ (net : Net) (is_net : IsNetwork net) (classes : List Class) (packets : 
       let here : weight (record { packet = i; crossing = suc n }) ≡ weigh_all (act_weight at net total (one_packet p)) (crossing_acts net p.fields (Some c)) = ap (λ q. packet_weight at net classes total q (suc n)) is ∙ ap (λ o. weigh_all (act_weight at net total (one_packet p)) (crossing_acts net p.fields o)) h.0 in
       ap₂ plus here (crossings_weigh p i (suc n) cs is h.1) ∙ sym (weigh_append (act_weight at net total (one_packet p)) (crossing_acts net p.fields (Some c)) (acts_along net p.fields cs))
 
-  packets_weigh : (n : ℕ) (ps : List Packet) → StandsAt packets n ps → Every (λ p. packet_fate net p.fields (path classes p) ≡ Once) ps → weigh_all weight (coming_from classes (suc n) ps) ≡ weigh_all part ps
-  packets_weigh n [] h once = refl
-  packets_weigh n (p ∷ ps) h once =
-      weigh_append weight (crossings_from (suc n) 1 (path classes p)) (coming_from classes (suc (suc n)) ps) ∙ ap₂ plus (crossings_weigh p (suc n) 0 (path classes p) h.0 (stands (path classes p)) ∙ path_weighs p (path classes p) once.0) (packets_weigh (suc n) ps h.1 once.1)
+  packets_weigh : (n : ℕ) (ps : List Packet) → StandsAt packets n ps → Every (λ p. packet_fate net p.fields (path classes p) ≡ wanted (exempted p)) ps → weigh_all weight (coming_from classes (suc n) ps) ≡ weigh_all (λ p. by_fate (wanted (exempted p)) (part p)) ps
+  packets_weigh n [] h is = refl
+  packets_weigh n (p ∷ ps) h is =
+      weigh_append weight (crossings_from (suc n) 1 (path classes p)) (coming_from classes (suc (suc n)) ps) ∙ ap₂ plus (crossings_weigh p (suc n) 0 (path classes p) h.0 (stands (path classes p)) ∙ path_weighs p (exempted p) (path classes p) is.0) (packets_weigh (suc n) ps h.1 is.1)
 
-  pub opens : Every (λ p. packet_fate net p.fields (path classes p) ≡ Once) packets → quantity net classes packets total (opening net classes packets) ≡ weigh_all part packets
-  opens once =
+  pub opens : Every (λ p. packet_fate net p.fields (path classes p) ≡ wanted (exempted p)) packets → quantity net classes packets total (opening net classes packets) ≡ weigh_all part (to_count classes packets)
+  opens is =
       let h = empty_weighs (held_weight at net total) (nothing_at net.holders) (λ n. refl) (nothing_empty net.holders) in
       let c = empty_weighs (carried_weight at net total) (nothing_at net.links) (λ n. refl) (nothing_empty net.links) in
-      let k = packets_weigh 0 packets (stands packets) once in
+      let k = packets_weigh 0 packets (stands packets) is ∙ wanted_weigh exempted part packets in
       ap₂ plus h (ap₂ plus c k)
 
 -- what packets add to the total of one report key

@@ -1,5 +1,5 @@
--- A sound certificate has each packet counted once.
-use Rattle.std.proofs.Common.{◌≡◌, inl, inr, ℕ, zero, suc, ◌+◌, ◌-◌, ◌<◌, ◌≤◌, true, List, [], ◌∷◌, ◌++◌, map, All, refl, sym, ap, ap₂, ◌∙◌, arith, slice_index, slice_set}
+-- A sound certificate has each packet counted as its class wants.
+use Rattle.std.proofs.Common.{◌≡◌, inl, inr, ℕ, zero, suc, ◌+◌, ◌-◌, ◌<◌, ◌≤◌, Bool, true, List, [], ◌∷◌, ◌++◌, map, All, refl, sym, ap, ap₂, ◌∙◌, arith, slice_index, slice_set}
 use Rattle.std.proofs.lemmas.Bool.{cases_lt}
 use Rattle.fx_elements.specs.Axes.{Fields, axis_index}
 use Rattle.fx_boxes.specs.Boxes.{Bounds, holds, below_part, above_part}
@@ -12,10 +12,10 @@ use Rattle.fx_machine.specs.Occurrences.{occurrences}
 use Rattle.fx_machine.specs.Steps.{meet}
 use Rattle.fx_leaf.specs.declared.verdict.Fate.{Fate}
 use Rattle.fx_leaf.specs.declared.verdict.Fate.TheVariants.{Once, Never}
-use Rattle.fx_leaf.specs.Fates.{both, all_happen, act_fate, fate, acts_along, packet_fate}
+use Rattle.fx_leaf.specs.Fates.{both, all_happen, act_fate, fate, acts_along, packet_fate, wanted}
 use Rattle.fx_leaf.specs.SoundLeaves.{Met, met_along, met_fate, OneCounted, NoneCounted}
 use Rattle.fx_leaf.proofs.FateLaws.{all_never}
-use Rattle.fx_leaf.specs.Certificates.{AllOnce, Tree, Leaf, Split, SoundTree, Sound}
+use Rattle.fx_leaf.specs.Certificates.{AllAsWanted, Tree, Leaf, Uncounted, Split, SoundTree, Sound}
 
 -- a greatest value that is lowered, or a least value that is raised, where the fields allow it
 lowered : (highs : List ℕ) (i at : ℕ) (f : ℕ → ℕ) → f i < at → (k : ℕ) → f k ≤ slice_index highs k → f k ≤ slice_index (slice_set highs i (at - 1)) k
@@ -77,17 +77,19 @@ module _ (net : Net) (fields : Fields) where
   pub never_counted : (path : List Crossing) → packet_fate net fields path ≡ Never → NoneCounted net path fields
   never_counted path h = all_never (met_fate net fields) (met_along net fields 1 path) (ap all_happen (fates_along 1 path) ∙ h)
 
-tree_once : (net : Net) (path : List Crossing) (tree : Tree) (region : Bounds) (fields : Fields) → SoundTree net path region tree → holds region fields ≡ true → packet_fate net fields path ≡ Once
-tree_once net path (Leaf crossing point process) region fields sound h =
-    counted_once net fields path crossing point process (sound.counted fields h)
-tree_once net path (Split axis at below above) region fields sound h =
+tree_wanted : (net : Net) (path : List Crossing) (exempt : Bool) (tree : Tree) (region : Bounds) (fields : Fields) → SoundTree net path exempt region tree → holds region fields ≡ true → packet_fate net fields path ≡ wanted exempt
+tree_wanted net path exempt (Leaf crossing point process) region fields sound h =
+    counted_once net fields path crossing point process (sound.1.counted fields h) ∙ sym (ap wanted sound.0)
+tree_wanted net path exempt Uncounted region fields sound h =
+    counted_never net fields path (sound.1.uncounted fields h) ∙ sym (ap wanted sound.0)
+tree_wanted net path exempt (Split axis at below above) region fields sound h =
     elim (cases_lt (slice_index fields (axis_index axis)) at) [
-      | inl lt ↦ tree_once net path below (below_part region (axis_index axis) at) fields sound.1 (below_holds region fields (axis_index axis) at lt h)
-      | inr le ↦ tree_once net path above (above_part region (axis_index axis) at) fields sound.2 (above_holds region fields (axis_index axis) at le h)
+      | inl lt ↦ tree_wanted net path exempt below (below_part region (axis_index axis) at) fields sound.1 (below_holds region fields (axis_index axis) at lt h)
+      | inr le ↦ tree_wanted net path exempt above (above_part region (axis_index axis) at) fields sound.2 (above_holds region fields (axis_index axis) at le h)
     ]
 
 -- a sound certificate
-pub sound_once : (net : Net) (classes : List Class) (trees : List (List Tree)) → Sound net classes trees → AllOnce net classes
-sound_once net classes trees sound c m class path fields at_class at_path h =
+pub sound_wanted : (net : Net) (classes : List Class) (trees : List (List Tree)) → Sound net classes trees → AllAsWanted net classes
+sound_wanted net classes trees sound c m class path fields at_class at_path h =
     let found = sound c m class path at_class at_path in
-    tree_once net path found.0 class.region fields found.2 h
+    tree_wanted net path class.exempt found.0 class.region fields found.2 h

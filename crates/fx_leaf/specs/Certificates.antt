@@ -1,31 +1,32 @@
 -- Certificates: for each path of each class a tree of splits, with a leaf for each part that is left.
-use Rattle.std.specs.Prelude.{◌≡◌, ℕ, true, List, Some}
+use Rattle.std.specs.Prelude.{◌≡◌, ℕ, Bool, true, false, List, Some}
 use Rattle.fx_elements.specs.declared.axis.Axis.{Axis}
 use Rattle.fx_elements.specs.Axes.{Fields, axis_index}
 use Rattle.fx_boxes.specs.Boxes.{Bounds, holds, IsStrictlyInside, below_part, above_part}
 use Rattle.fx_machine.specs.declared.traffic.Crossing.{Crossing}
 use Rattle.fx_machine.specs.Network.{Net, numbered, entries}
 use Rattle.fx_machine.specs.Classes.{Class}
-use Rattle.fx_leaf.specs.declared.verdict.Fate.TheVariants.{Once}
-use Rattle.fx_leaf.specs.Fates.{packet_fate}
-use Rattle.fx_leaf.specs.SoundLeaves.{SoundLeaf}
+use Rattle.fx_leaf.specs.Fates.{packet_fate, wanted}
+use Rattle.fx_leaf.specs.SoundLeaves.{SoundLeaf, SoundNever}
 
 pub data Tree : Type 0 where
   Leaf : (crossing point process : ℕ) → Tree
+  Uncounted : Tree
   Split : (axis : Axis) (at : ℕ) (below above : Tree) → Tree
 
--- each split is strictly inside its region, and each leaf is sound
-abbrev pub SoundTree : Net → List Crossing → Bounds → Tree → Type 0
-SoundTree net path region (Leaf crossing point process) = SoundLeaf net path region crossing point process
-SoundTree net path region (Split axis at below above) =
-    IsStrictlyInside region (axis_index axis) at × SoundTree net path (below_part region (axis_index axis) at) below × SoundTree net path (above_part region (axis_index axis) at) above
+-- each split is strictly inside its region, and each leaf is sound and of the kind that the class wants
+abbrev pub SoundTree : Net → List Crossing → Bool → Bounds → Tree → Type 0
+SoundTree net path exempt region (Leaf crossing point process) = (exempt ≡ false) × SoundLeaf net path region crossing point process
+SoundTree net path exempt region Uncounted = (exempt ≡ true) × SoundNever net path region
+SoundTree net path exempt region (Split axis at below above) =
+    IsStrictlyInside region (axis_index axis) at × SoundTree net path exempt (below_part region (axis_index axis) at) below × SoundTree net path exempt (above_part region (axis_index axis) at) above
 
 -- a sound tree for each path of each class, over the class's region
 abbrev pub Sound : Net → List Class → List (List Tree) → Type 0
 Sound net classes trees =
-    (c m : ℕ) (class : Class) (path : List Crossing) → numbered classes c ≡ Some class → numbered class.paths m ≡ Some path → (tree : Tree) × (numbered (entries (numbered trees c)) m ≡ Some tree) × SoundTree net path class.region tree
+    (c m : ℕ) (class : Class) (path : List Crossing) → numbered classes c ≡ Some class → numbered class.paths m ≡ Some path → (tree : Tree) × (numbered (entries (numbered trees c)) m ≡ Some tree) × SoundTree net path class.exempt class.region tree
 
--- each packet of a class, on each of its paths, has the fate once
-abbrev pub AllOnce : Net → List Class → Type 0
-AllOnce net classes =
-    (c m : ℕ) (class : Class) (path : List Crossing) (fields : Fields) → numbered classes c ≡ Some class → numbered class.paths m ≡ Some path → holds class.region fields ≡ true → packet_fate net fields path ≡ Once
+-- each packet of a class, on each of its paths, has the fate that the class wants
+abbrev pub AllAsWanted : Net → List Class → Type 0
+AllAsWanted net classes =
+    (c m : ℕ) (class : Class) (path : List Crossing) (fields : Fields) → numbered classes c ≡ Some class → numbered class.paths m ≡ Some path → holds class.region fields ≡ true → packet_fate net fields path ≡ wanted class.exempt

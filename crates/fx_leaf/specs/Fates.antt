@@ -1,5 +1,5 @@
 -- How often a packet, or a record with some key, comes to be counted.
-use Rattle.std.specs.Prelude.{◌≡◌, ℕ, zero, suc, List, [], ◌∷◌, ◌++◌, map, length, Option, Some, None, slice_get, if◌then◌else◌}
+use Rattle.std.specs.Prelude.{◌≡◌, Bool, ℕ, zero, suc, List, [], ◌∷◌, ◌++◌, map, length, Option, Some, None, slice_get, if◌then◌else◌}
 use Rattle.fx_elements.specs.Axes.{Fields}
 use Rattle.fx_layout.specs.Keys.{Key, refines}
 use Rattle.fx_leaf.specs.declared.verdict.Fate.{Fate}
@@ -99,6 +99,10 @@ fate net = fate_within net (length net.processes)
 abbrev pub acts_along : Net → Fields → List Crossing → List Act
 acts_along net fields [] = []
 acts_along net fields (c ∷ cs) = crossing_acts net fields (Some c) ++ acts_along net fields cs
+
+-- what is wanted of a packet: an exempt one is never to be counted
+abbrev pub wanted : Bool → Fate
+wanted exempt = if exempt then Never else Once
 
 -- its occurrences over its whole path all happen
 abbrev pub packet_fate : Net → Fields → List Crossing → Fate

@@ -5,7 +5,7 @@ use Rattle.fx_layout.specs.Keys.{Key}
 use Rattle.fx_machine.specs.declared.packet.Packet.{Packet}
 use Rattle.fx_machine.specs.declared.step.Step.{Step}
 use Rattle.fx_machine.specs.Network.{numbered, Net}
-use Rattle.fx_machine.specs.Classes.{IsOf, Class}
+use Rattle.fx_machine.specs.Classes.{IsOf, Class, to_count}
 use Rattle.fx_machine.specs.States.{State, opening, Complete}
 use Rattle.fx_machine.specs.Steps.{after}
 use Rattle.fx_machine.specs.Sums.{plain_sum, total_at, SumsFit}
@@ -19,15 +19,15 @@ pub record IsSized (net : Net) (s : State) : Type 0 where
   pub held : length s.held ≡ length net.holders
   pub carried : length s.carried ≡ length net.links
 
--- in the opening state it is the plain sums
+-- in the opening state it is the plain sums over the packets to count
 abbrev pub Opens : Net → List Class → Type 0
 Opens net classes =
-    (packets : List Packet) → All (λ p. IsOf p (numbered classes p.class)) packets → SumsFit net.report_layout packets → (total : Key) → quantity net classes packets total (opening net classes packets) ≡ total_weight (plain_sum net.report_layout total packets)
+    (packets : List Packet) → All (λ p. IsOf p (numbered classes p.class)) packets → SumsFit net.report_layout (to_count classes packets) → (total : Key) → quantity net classes packets total (opening net classes packets) ≡ total_weight (plain_sum net.report_layout total (to_count classes packets))
 
 -- modulo 2 to the 64, however large they are
 abbrev pub OpensModulo : Net → List Class → Type 0
 OpensModulo net classes =
-    (packets : List Packet) → All (λ p. IsOf p (numbered classes p.class)) packets → (total : Key) → wrapped_weight (quantity net classes packets total (opening net classes packets)) ≡ total_weight (option_map wrapped (plain_sum net.report_layout total packets))
+    (packets : List Packet) → All (λ p. IsOf p (numbered classes p.class)) packets → (total : Key) → wrapped_weight (quantity net classes packets total (opening net classes packets)) ≡ total_weight (option_map wrapped (plain_sum net.report_layout total (to_count classes packets)))
 
 -- a step keeps it, where nothing has gone wrong before
 abbrev pub Kept : Net → List Class → Step → Type 0
@@ -39,7 +39,7 @@ abbrev pub Ends : Net → List Class → Type 0
 Ends net classes =
     (packets : List Packet) (total : Key) (s : State) → Complete s → quantity net classes packets total s ≡ plus (unassigned_weight s.unassigned) (total_weight (total_at s.totals total))
 
--- where a certificate is sound, each packet is counted once
+-- where a certificate is sound, each packet is counted once, and those of exempt classes never
 abbrev pub Theorem : Type 0
 Theorem = (net : Net) (classes : List Class) (trees : List (List Tree)) → IsNetwork net → Sound net classes trees → ExactlyOnce net classes
 

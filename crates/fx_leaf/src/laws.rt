@@ -25,9 +25,9 @@ pub fn fates_along_ranks()
 /// What every step keeps: the totals, with each record on its way and each crossing to come weighed by its fate.
 pub fn conservation()
     // At the opening it is the plain sums.
-    ensures opens { (net : network.Net) (classes : List traffic.Class) → ranks.IsNetwork net → certificates.AllOnce net classes → the_laws.Opens net classes }
+    ensures opens { (net : network.Net) (classes : List traffic.Class) → ranks.IsNetwork net → certificates.AllAsWanted net classes → the_laws.Opens net classes }
     // So it is modulo 2 to the 64, however large they are.
-    ensures opens_modulo { (net : network.Net) (classes : List traffic.Class) → ranks.IsNetwork net → certificates.AllOnce net classes
+    ensures opens_modulo { (net : network.Net) (classes : List traffic.Class) → ranks.IsNetwork net → certificates.AllAsWanted net classes
         → the_laws.OpensModulo net classes }
     // There the machine's tables have their sizes, which each step keeps too.
     ensures sized { (net : network.Net) (classes : List traffic.Class) (packets : List of_packet.Packet) → the_laws.IsSized net (states.opening net classes packets) }
@@ -38,7 +38,8 @@ pub fn conservation()
     ensures ends { (net : network.Net) (classes : List traffic.Class) → the_laws.Ends net classes }
 {}
 
-/// Where a certificate is sound, each packet is counted exactly once by every complete run.
+/// Where a certificate is sound, each packet is counted exactly once by every complete run, and those of exempt classes
+/// never.
 pub fn exactly_once()
     ensures once { the_laws.Theorem }
     // However large the sums are, the totals are the plain sums modulo 2 to the 64.

@@ -1,4 +1,4 @@
--- What it means that each packet is counted once, worked out for networks that lose one, count one twice, or can't tell one.
+-- What it means that each packet is counted once, and exempt ones never, worked out for networks that lose one, count one twice or though it is exempt, or can't tell one.
 use Rattle.std.proofs.Common.{◌≡◌, ℕ, zero, suc, Bool, true, false, List, [], ◌∷◌, All, Option, Some, None, IfSome, Ok, refl, ap, if◌then◌else◌, arith}
 use Rattle.std.specs.Prelude.{codes}
 use Rattle.fx_base.specs.declared.counts.Counts.{Counts}
@@ -66,13 +66,16 @@ inwards = record { device = 1; interface = codes "eth0"; inwards = true }
 abbrev outwards : Crossing
 outwards = record { device = 1; interface = codes "eth1"; inwards = false }
 
--- the packets from 10.0.0.0/8, all of which make these crossings
-abbrev crossing : List Crossing → List Class
-crossing path = record {
+-- the packets from 10.0.0.0/8, all of which make these crossings, and may be exempt
+abbrev class_of : Bool → List Crossing → List Class
+class_of exempt path = record {
   region = record { low = 167772160 ∷ 0 ∷ 0 ∷ 0 ∷ 0 ∷ 0 ∷ []; high = 184549375 ∷ 4294967295 ∷ 255 ∷ 65535 ∷ 65535 ∷ 255 ∷ [] };
   paths = path ∷ [];
-  exempt = false;
+  exempt = exempt;
 } ∷ []
+
+abbrev crossing : List Crossing → List Class
+crossing path = class_of false path
 
 abbrev pub customers : List Class
 customers = crossing (inwards ∷ [])
@@ -166,9 +169,9 @@ counts_one = record { totals = λ key. refl; assigned = refl }
 
 -- ---- a packet that is counted twice, and one that isn't assigned
 
-of_class : (path : List Crossing) → All (λ p. IsOf p (numbered (crossing path) p.class)) one
-of_class path zero d h = (refl, λ e. absurd (cc))
-of_class path (suc k) d h = absurd (omega (arith, h))
+of_class : (exempt : Bool) (path : List Crossing) → All (λ p. IsOf p (numbered (class_of exempt path) p.class)) one
+of_class exempt path zero d h = (refl, λ e. absurd (cc))
+of_class exempt path (suc k) d h = absurd (omega (arith, h))
 
 is_small : (a : Bool) → IfSome (if a then Some (one_more 1500 None) else None) IsBelow
 is_small true = (omega arith, omega arith)
@@ -193,7 +196,7 @@ packets_of (Some c) = c.packets
 
 pub not_once_but_twice : ExactlyOnce metering_both (crossing (inwards ∷ outwards ∷ [])) → ⊥
 not_once_but_twice claim =
-    let each : CountsEachOnce metering_both one doubled = claim one (of_class (inwards ∷ outwards ∷ [])) (λ key. is_small _) doubled (runs_of _ _ one doubling _ doubled doubles) (record { crossed = refl; nothing_held = refl; nothing_carried = refl }) in
+    let each : CountsEachOnce metering_both one doubled = claim one (of_class false (inwards ∷ outwards ∷ [])) (λ key. is_small _) doubled (runs_of _ _ one doubling _ doubled doubles) (record { crossed = refl; nothing_held = refl; nothing_carried = refl }) in
     let same : 2 ≡ 1 = ap packets_of (each.totals (key 32 167772161)) in
     absurd (omega (arith, same))
 
@@ -212,6 +215,23 @@ does_not_tell = refl
 
 pub not_once_but_unassigned : ExactlyOnce metering_less customers → ⊥
 not_once_but_unassigned claim =
-    let each : CountsEachOnce metering_less one untold = claim one (of_class (inwards ∷ [])) (λ key. is_small _) untold (runs_of _ _ one reaching _ untold does_not_tell) (record { crossed = refl; nothing_held = refl; nothing_carried = refl }) in
+    let each : CountsEachOnce metering_less one untold = claim one (of_class false (inwards ∷ [])) (λ key. is_small _) untold (runs_of _ _ one reaching _ untold does_not_tell) (record { crossed = refl; nothing_held = refl; nothing_carried = refl }) in
     let none : 1 ≡ 0 = each.assigned in
     absurd (omega (arith, none))
+
+-- ---- a packet that must not be counted, and is
+
+abbrev exempted : List Class
+exempted = class_of true (inwards ∷ [])
+
+abbrev counting : Net
+counting = net in_parallel
+
+counts_exempt : run counting exempted one reaching (opening counting exempted one) ≡ Ok (having [] [] (first ∷ []))
+counts_exempt = refl
+
+pub not_never_but_once : ExactlyOnce counting exempted → ⊥
+not_never_but_once claim =
+    let each : CountsEachOnce counting [] (having [] [] (first ∷ [])) = claim one (of_class true (inwards ∷ [])) (λ key. tt) (having [] [] (first ∷ [])) (runs_of _ _ one reaching _ (having [] [] (first ∷ [])) counts_exempt) (record { crossed = refl; nothing_held = refl; nothing_carried = refl }) in
+    let same : Some (counts 1 1500) ≡ None = each.totals (key 32 167772161) in
+    absurd (cc)

@@ -1,11 +1,11 @@
--- Each packet is counted once.
+-- Each packet is counted once, and those of exempt classes never.
 use Rattle.std.specs.Prelude.{◌≡◌, ◌%◌, ◌^◌, List, All}
 use Rattle.std.specs.Option.{option_map}
 use Rattle.fx_base.specs.declared.counts.Counts.{Counts}
 use Rattle.fx_layout.specs.Keys.{Key}
 use Rattle.fx_machine.specs.declared.packet.Packet.{Packet}
 use Rattle.fx_machine.specs.Network.{Net, numbered}
-use Rattle.fx_machine.specs.Classes.{Class, IsOf}
+use Rattle.fx_machine.specs.Classes.{Class, IsOf, to_count}
 use Rattle.fx_machine.specs.States.{State, opening, Complete}
 use Rattle.fx_machine.specs.Moves.{Runs}
 use Rattle.fx_machine.specs.Sums.{plain_sum, total_at, SumsFit}
@@ -15,10 +15,10 @@ pub record CountsEachOnce (net : Net) (packets : List Packet) (final : State) : 
   pub totals : (key : Key) → total_at final.totals key ≡ plain_sum net.report_layout key packets
   pub assigned : final.unassigned ≡ 0
 
--- for every list of packets of the classes whose plain sums are under 2 to the 64, and every complete run over it
+-- for every list of packets of the classes, where the plain sums over those to count are under 2 to the 64, and every complete run over it
 abbrev pub ExactlyOnce : Net → List Class → Type 0
 ExactlyOnce net classes =
-    (packets : List Packet) → All (λ p. IsOf p (numbered classes p.class)) packets → SumsFit net.report_layout packets → (final : State) → Runs net classes packets (opening net classes packets) final → Complete final → CountsEachOnce net packets final
+    (packets : List Packet) → All (λ p. IsOf p (numbered classes p.class)) packets → SumsFit net.report_layout (to_count classes packets) → (final : State) → Runs net classes packets (opening net classes packets) final → Complete final → CountsEachOnce net (to_count classes packets) final
 
 -- counts modulo 2 to the 64
 abbrev pub wrapped : Counts → Counts
@@ -29,7 +29,7 @@ pub record CountsEachModulo (net : Net) (packets : List Packet) (final : State) 
   pub totals : (key : Key) → option_map wrapped (total_at final.totals key) ≡ option_map wrapped (plain_sum net.report_layout key packets)
   pub assigned : final.unassigned ≡ 0
 
--- for every list of packets of the classes, however large their plain sums, and every complete run over it
+-- for every list of packets of the classes, however large the plain sums over those to count, and every complete run over it
 abbrev pub OnceModulo : Net → List Class → Type 0
 OnceModulo net classes =
-    (packets : List Packet) → All (λ p. IsOf p (numbered classes p.class)) packets → (final : State) → Runs net classes packets (opening net classes packets) final → Complete final → CountsEachModulo net packets final
+    (packets : List Packet) → All (λ p. IsOf p (numbered classes p.class)) packets → (final : State) → Runs net classes packets (opening net classes packets) final → Complete final → CountsEachModulo net (to_count classes packets) final
