@@ -68,7 +68,7 @@ fn is_whole(class: &Class) -> bool {
     let [path] = class.paths() else {
         return false;
     };
-    holds(&class.region(), last) == Some(true) && path.as_slice().is_empty()
+    holds(&class.region(), last) == Some(true) && path.as_slice().is_empty() && !class.exempt()
 }
 
 #[test]
@@ -97,19 +97,21 @@ fn reads_spans(rt: HostRuntime) -> Result<(), Fail> {
     Ok(())
 }
 
-/// The numbers of each path's class and of the path in it.
-fn targets(alloc: Global, traffic: &Traffic) -> Result<Vec<(u64, u64)>, Fail> {
+/// The numbers of each path's class and of the path in it, and whether its packets are exempt.
+fn targets(alloc: Global, traffic: &Traffic) -> Result<Vec<(u64, u64, bool)>, Fail> {
     let mut numbers = Vec::new(alloc);
     for target in &traffic.targets(alloc)? {
-        numbers.push((target.class, target.path))?;
+        numbers.push((target.class, target.path, target.exempt))?;
     }
     Ok(numbers)
 }
 
 #[test]
 fn lists_the_paths_of_all_classes(rt: HostRuntime) -> Result<(), Fail> {
-    let text = r#"{"classes":[{"name":"a","paths":[[],[]]},{"name":"b","paths":[[]]}]}"#;
+    let text =
+        r#"{"classes":[{"name":"a","paths":[[],[]]},{"name":"b","paths":[[]],"exempt":true}]}"#;
     let traffic = traffic_of(rt.alloc(), text)?;
-    assert!(rt; targets(rt.alloc(), &traffic)?.as_slice() == [(1, 1), (1, 2), (2, 1)].as_slice());
+    let all = [(1, 1, false), (1, 2, false), (2, 1, true)];
+    assert!(rt; targets(rt.alloc(), &traffic)?.as_slice() == all.as_slice());
     Ok(())
 }

@@ -17,7 +17,8 @@ const DOCUMENTS: &[(&str, &str)] = &[
     (r#"{"classes":{}}"#, "104 /classes"),
     (r#"{"classes":[7]}"#, "104 /classes/0"),
     (r#"{"classes":[{}]}"#, "103 /classes/0"),
-    (r#"{"classes":[{"exempt":true}]}"#, "102 /classes/0/exempt"),
+    (r#"{"classes":[{"except":true}]}"#, "102 /classes/0/except"),
+    (r#"{"classes":[{"exempt":true}]}"#, "103 /classes/0"),
     (r#"{"classes":[{"name":7}]}"#, "104 /classes/0/name"),
     (r#"{"classes":[{"name":" a"}]}"#, "302 /classes/0/name"),
     (
@@ -27,6 +28,10 @@ const DOCUMENTS: &[(&str, &str)] = &[
     (r#"{"classes":[{"name":"a"}]}"#, "103 /classes/0"),
     (
         r#"{"classes":[{"name":"a","paths":[]}]}"#,
+        "304 /classes/0/paths",
+    ),
+    (
+        r#"{"classes":[{"exempt":7,"name":"a","paths":[]}]}"#,
         "304 /classes/0/paths",
     ),
     (
@@ -139,12 +144,31 @@ const CROSSINGS: &[(&str, &str)] = &[
     (r#"{"interface":7,"a":1}"#, "102 /a"),
 ];
 
+/// What says that a class is exempt.
+const EXEMPT: Frame<'static> = Frame {
+    kind: Kind::Traffic,
+    before: r#"{"classes":[{"name":"a","paths":[[]],"exempt":"#,
+    behind: "}]}",
+    pointer: "/classes/0/exempt",
+};
+
+const EXEMPTS: &[(&str, &str)] = &[
+    ("true", "ok"),
+    ("[null]", "ok"),
+    ("false", "302 "),
+    ("null", "302 "),
+    ("[]", "302 "),
+    ("[true]", "302 "),
+    (r#""true""#, "302 "),
+];
+
 #[test]
 fn refuses_declarations(rt: HostRuntime) -> Result<(), Fail> {
     for (frame, rows) in [
         (DOCUMENT, DOCUMENTS),
         (REGION, REGIONS),
         (CROSSING, CROSSINGS),
+        (EXEMPT, EXEMPTS),
     ] {
         look_at_rows(rt.alloc(), &frame, rows)?;
     }

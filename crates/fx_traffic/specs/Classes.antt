@@ -1,10 +1,10 @@
 -- A declaration of traffic: the classes of the packets that cross a network.
-use Rattle.std.specs.Prelude.{ℕ, false, List, [], ◌∷◌, codes, map}
+use Rattle.std.specs.Prelude.{ℕ, List, [], ◌∷◌, codes, map, not, is_some}
 use Rattle.serde_json.specs.Data.{Data}
 use Rattle.serde_json.specs.Find.{get}
-use Rattle.fx_config.specs.Walk.{Found, Row, object_faults, required, optional, member_of}
+use Rattle.fx_config.specs.Walk.{Found, Row, fault_if, object_faults, required, optional, member_of}
 use Rattle.fx_config.specs.Lists.{entries_faults, items_faults, items_of}
-use Rattle.fx_config.specs.Scalars.{text_of}
+use Rattle.fx_config.specs.Scalars.{text_of, is_empty_type}
 use Rattle.fx_machine.specs.Classes.{Class}
 use Rattle.fx_traffic.specs.Texts.{name_once}
 use Rattle.fx_traffic.specs.Lists.{list_faults}
@@ -17,11 +17,16 @@ use Rattle.fx_traffic.specs.Limits.{class_limit, path_limit}
 abbrev pub paths_faults : List (List ℕ) → List ℕ → Data → List Found
 paths_faults devices = list_faults 1 path_limit (λ up ds. items_faults (path_faults devices) up 0 ds)
 
+-- an empty type: being there it says that the class is exempt
+abbrev pub exempt_faults : List ℕ → Data → List Found
+exempt_faults up d = fault_if (not (is_empty_type d)) 302 up
+
 abbrev pub class_rows : List (List ℕ) → List (List ℕ) → List Row
 class_rows devices earlier =
     required (codes "name") (name_once earlier)
     ∷ optional (codes "region") region_faults
     ∷ required (codes "paths") (paths_faults devices)
+    ∷ optional (codes "exempt") exempt_faults
     ∷ []
 
 abbrev pub class_faults : List (List ℕ) → List (List ℕ) → List ℕ → Data → List Found
@@ -34,7 +39,7 @@ abbrev pub class_of : List (List ℕ) → Data → Class
 class_of devices d = record {
   region = region_given (get (codes "region") d);
   paths = map (path_of devices) (items_of (member_of (codes "paths") d));
-  exempt = false;
+  exempt = is_some (get (codes "exempt") d);
 }
 
 -- ---- the document, of which crates above speak by these two words

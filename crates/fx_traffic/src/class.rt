@@ -1,5 +1,5 @@
 //! The classes of the packets that cross a network.
-ghost use Rattle.std.specs.Prelude.{◌≡◌, ◌++◌, ◌∷◌, ℕ, List, [], map, codes, OnOk};
+ghost use Rattle.std.specs.Prelude.{◌≡◌, ◌++◌, ◌∷◌, ℕ, List, [], map, codes, is_some, OnOk};
 ghost use Rattle.serde_json.specs.View.{view};
 ghost use Rattle.serde_json.specs.Find.{get};
 ghost use Rattle.fx_config.specs.Pointer.{pointer};
@@ -7,7 +7,7 @@ ghost use Rattle.fx_config.specs.Walk.{Reads, required, optional, member_of};
 ghost use Rattle.fx_config.specs.Lists.{entries_faults, items_of};
 ghost use Rattle.fx_traffic.specs.Crossings.{path_of};
 ghost use Rattle.fx_traffic.specs.Regions.{region_faults, region_given};
-ghost use Rattle.fx_traffic.specs.Classes.{class_faults, class_name, class_of, list_of_classes_faults, paths_faults};
+ghost use Rattle.fx_traffic.specs.Classes.{class_faults, exempt_faults, class_name, class_of, list_of_classes_faults, paths_faults};
 
 use crate::limits::CLASSES;
 use crate::list::items_in;
@@ -16,7 +16,7 @@ use crate::region::{read_region, whole};
 use crate::text::name_member;
 use fx_base::Fault;
 use fx_boxes::Region;
-use fx_config::walk::{Named, Names, Path, Sequence, object_of, refusal};
+use fx_config::walk::{Named, Names, Path, Sequence, is_empty_type, object_of, refusal};
 use fx_machine::{Class, Path as Route};
 use serde_json::Value;
 use std::alloc::Global;
@@ -45,6 +45,22 @@ fn paths_member<T: Named>(
     }
 }
 
+/// The member `exempt`: whether it is there.
+fn exempt_member(alloc: Global, path: &Path<'_>, object: &Value) -> Result<bool, Fault>
+    ensures { Reads ((optional (codes "exempt") exempt_faults).faults (pointer path.now) (view object.now)) (is_some (get (codes "exempt") (view object.now))) result }
+{
+    match object.get("exempt") {
+        Some(value) => {
+            if is_empty_type(value) {
+                Ok(true)
+            } else {
+                Err(refusal(alloc, 302, &Path::Member(path, "exempt")))
+            }
+        }
+        None => Ok(false),
+    }
+}
+
 /// A class behind classes with these names, to which its own is added.
 fn read_class<T: Named>(
     alloc: Global,
@@ -56,11 +72,12 @@ fn read_class<T: Named>(
     ensures reads { Reads (class_faults (map T.name devices.now) earlier.old (pointer path.now) (view value.now)) (class_of (map T.name devices.now) (view value.now)) result }
     ensures names { OnOk result (earlier.new ≡ earlier.old ++ class_name (view value.now) ∷ []) }
 {
-    object_of(alloc, path, value, &["name", "region", "paths"])?;
+    object_of(alloc, path, value, &["name", "region", "paths", "exempt"])?;
     name_member(alloc, path, value, earlier)?;
     let region = region_member(alloc, path, value)?;
     let paths = paths_member(alloc, path, value, devices)?;
-    Ok(Class::new(region, paths.into_vec(), false))
+    let exempt = exempt_member(alloc, path, value)?;
+    Ok(Class::new(region, paths.into_vec(), exempt))
 }
 
 /// The classes of the list at the path, in order.
