@@ -1,10 +1,11 @@
 -- A line's text is read as its item, and no other line is.
-use Rattle.std.proofs.Common.{◌≡◌, ℕ, ◌≤◌, true, List, ◌∷◌, ◌++◌, Option, Some, None, refl, ap, sym, subst, ◌∙◌, arith, inl, inr}
+use Rattle.std.proofs.Common.{◌≡◌, ℕ, ◌≤◌, Bool, true, List, [], ◌∷◌, ◌++◌, Option, Some, None, refl, ap, sym, subst, ◌∙◌, arith, inl, inr}
 use Rattle.std.specs.Prelude.{codes, slice_index}
 use Rattle.std.specs.Fmt.{decimal}
+use Rattle.std.specs.List.{find}
 use Rattle.std.specs.Str.{bytes_eq}
 use Rattle.std.proofs.lemmas.Slice.Eq.{bytes_eq-Decides}
-use Rattle.fx_elements.specs.Axes.{axis_index, tops}
+use Rattle.fx_elements.specs.Axes.{axes, axis_index, tops}
 use Rattle.fx_elements.specs.declared.axis.Axis.{Axis}
 use Rattle.fx_elements.specs.declared.axis.Axis.TheVariants as axis
 use Rattle.fx_elements.specs.Spelling.{cut_at, largest, number_of}
@@ -94,29 +95,16 @@ class_found rest i e =
       | inr h ↦ absurd cc
     ]))
 
+-- what is found passes the test
+passes : {A : Type 0} (p : A → Bool) (xs : List A) (x : A) → find p xs ≡ Some x → p x ≡ true
+passes p [] x e = absurd cc
+passes p (y ∷ ys) x e = elim (chosen (p y) (Some y) (find p ys) (Some x) e) [
+  | inl h ↦ subst (λ z. p z ≡ true) (some_is h.1) h.0
+  | inr h ↦ passes p ys x h.1
+]
+
 axis_found : (name : List ℕ) (a : Axis) → axis_of name ≡ Some a → name ≡ axis_word a
-axis_found name a e =
-    elim (chosen (bytes_eq name (codes "source")) _ _ (Some a) e) [
-      | inl h ↦ rw (← some_is h.1) (same_is name (codes "source") h.0)
-      | inr h1 ↦
-          elim (chosen (bytes_eq name (codes "destination")) _ _ (Some a) h1.1) [
-            | inl h ↦ rw (← some_is h.1) (same_is name (codes "destination") h.0)
-            | inr h2 ↦
-                elim (chosen (bytes_eq name (codes "protocol")) _ _ (Some a) h2.1) [
-                  | inl h ↦ rw (← some_is h.1) (same_is name (codes "protocol") h.0)
-                  | inr h3 ↦
-                      elim (chosen (bytes_eq name (codes "sport")) _ _ (Some a) h3.1) [
-                        | inl h ↦ rw (← some_is h.1) (same_is name (codes "sport") h.0)
-                        | inr h4 ↦
-                            elim (chosen (bytes_eq name (codes "dport")) _ _ (Some a) h4.1) [
-                              | inl h ↦ rw (← some_is h.1) (same_is name (codes "dport") h.0)
-                              | inr h5 ↦
-                                  elim (chosen (bytes_eq name (codes "tos")) _ _ (Some a) h5.1) [ inl h ↦ rw (← some_is h.1) (same_is name (codes "tos") h.0) | inr h6 ↦ absurd cc ]
-                            ]
-                      ]
-                ]
-          ]
-    ]
+axis_found name a e = same_is name (axis_word a) (passes (λ axis. bytes_eq name (axis_word axis)) axes a e)
 
 split_found : (rest : List ℕ) (i : Item) → split_of rest ≡ Some i → IsText (codes "S" ++ 32 ∷ rest) i
 unfolding split_of

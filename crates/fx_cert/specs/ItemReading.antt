@@ -1,24 +1,18 @@
 -- How a line of a certificate is read, word by word.
 use Rattle.std.specs.Prelude.{ℕ, if◌then◌else◌, List, Option, Some, None, codes, slice_index}
+use Rattle.std.specs.List.{find}
 use Rattle.std.specs.Str.{bytes_eq}
-use Rattle.fx_elements.specs.Axes.{axis_index, tops}
+use Rattle.fx_elements.specs.Axes.{axes, axis_index, tops}
 use Rattle.fx_elements.specs.declared.axis.Axis.{Axis}
-use Rattle.fx_elements.specs.declared.axis.Axis.TheVariants.{Source, Destination, Protocol, SourcePort, DestinationPort, ClassOfService}
 use Rattle.fx_elements.specs.Spelling.{◌>>=◌, cut_at, largest, number_of}
+use Rattle.fx_cert.specs.ItemText.{axis_word}
 use Rattle.fx_cert.specs.declared.item.Item.{Item}
 use Rattle.fx_cert.specs.declared.item.Item.TheVariants.{Header, Class, Split, Leaf, Never, End}
 use Rattle.fx_cert.specs.declared.item.Version.TheVariants.{One, Two}
 
 -- the axis with this word
 abbrev pub axis_of : List ℕ → Option Axis
-axis_of word =
-    if bytes_eq word (codes "source") then Some Source
-    else if bytes_eq word (codes "destination") then Some Destination
-    else if bytes_eq word (codes "protocol") then Some Protocol
-    else if bytes_eq word (codes "sport") then Some SourcePort
-    else if bytes_eq word (codes "dport") then Some DestinationPort
-    else if bytes_eq word (codes "tos") then Some ClassOfService
-    else None
+axis_of word = find (λ axis. bytes_eq word (axis_word axis)) axes
 
 -- behind the word `class`
 unfoldable pub class_of : List ℕ → Option Item

@@ -10,7 +10,8 @@ use crate::item::{Item, Version};
 use fx_base::{Fault, Sink, put_number, put_number_wide, put_text};
 use fx_elements::Axis;
 
-fn word(axis: Axis) -> &'static [u8]
+/// The word of an axis.
+pub(crate) fn word(axis: Axis) -> &'static [u8]
     ensures { result.now ≡ axis_word axis }
 {
     match axis {

@@ -9,8 +9,9 @@ ghost use Rattle.fx_cert.specs.ItemText.{IsText};
 ghost use Rattle.fx_cert.specs.ItemReading.{axis_of, class_of, split_of, leaf_of, item_of};
 
 use crate::item::{Item, Version};
+use crate::put::word;
 use fx_base::{Fault, Line};
-use fx_elements::{Axis, cut, read_number, top};
+use fx_elements::{Axis, EVERY_AXIS, cut, read_number, top};
 
 /// Whether two words are the same.
 fn is_word(word: &[u8], other: &[u8]) -> bool
@@ -27,24 +28,15 @@ fn read_whole(word: &[u8]) -> Option<u64>
 }
 
 /// The axis with this word.
-fn read_axis(word: &[u8]) -> Option<Axis>
-    ensures { result ≡ axis_of word.now }
+fn read_axis(text: &[u8]) -> Option<Axis>
+    ensures { result ≡ axis_of text.now }
 {
-    if is_word(word, b"source") {
-        Some(Axis::Source)
-    } else if is_word(word, b"destination") {
-        Some(Axis::Destination)
-    } else if is_word(word, b"protocol") {
-        Some(Axis::Protocol)
-    } else if is_word(word, b"sport") {
-        Some(Axis::SourcePort)
-    } else if is_word(word, b"dport") {
-        Some(Axis::DestinationPort)
-    } else if is_word(word, b"tos") {
-        Some(Axis::ClassOfService)
-    } else {
-        None
+    for axis in EVERY_AXIS {
+        if is_word(text, word(axis)) {
+            return Some(axis);
+        }
     }
+    None
 }
 
 /// What stands behind the word of a class.
