@@ -59,8 +59,8 @@ first_wrong old new classes at is =
 pub next_wrong : (old new : Lines) (number : ℕ) (classes : List Class) (run : Run) → AtLine old new → said (new.line, new.ended) ≡ Err number → MayReadBehind classes old run (Err (at_line number new.number))
 next_wrong old new number classes run at is =
     with_line (behind classes old.number run) _ old new at (λ ls.
-      ap (λ n. from_line classes n run (said (new.line, new.ended)) ls (λ r. behind classes n r ls)) (sym at.number)
-      ∙ ap (λ y. from_line classes new.number run y ls (λ r. behind classes new.number r ls)) is)
+    ap (λ n. from_line classes n run (said (new.line, new.ended)) ls (λ r. behind classes n r ls)) (sym at.number)
+    ∙ ap (λ y. from_line classes new.number run y ls (λ r. behind classes new.number r ls)) is)
 
 -- ---- the end
 
