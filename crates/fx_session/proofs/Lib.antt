@@ -8,3 +8,4 @@ pub mod MessageSteps
 pub mod StreamSteps
 pub mod InFront
 pub mod Examples
+pub mod ByCases

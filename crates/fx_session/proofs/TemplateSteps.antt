@@ -105,7 +105,7 @@ heading_at-shorter kind bs p h e =
           ]
 
 -- a template record has four octets at least
-template_record-shorter : (ts : Templates) (kind : TemplateKind) (bs : List ℕ) (p : Templates × List ℕ) → 4 ≤ length bs → template_record ts kind bs ≡ Ok p → length p.1 < length bs
+pub template_record-shorter : (ts : Templates) (kind : TemplateKind) (bs : List ℕ) (p : Templates × List ℕ) → 4 ≤ length bs → template_record ts kind bs ≡ Ok p → length p.1 < length bs
 unfolding template_record
 template_record-shorter ts kind bs p h e = by (heading_at kind bs) refl e where
   by_declared : (q : List FieldSpecifier × List ℕ) → length q.1 + 4 ≤ length bs → (r : Result Templates ℕ) → followed_by q.1 r ≡ Ok p → length p.1 < length bs

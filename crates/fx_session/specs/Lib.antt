@@ -9,3 +9,4 @@ pub mod Values
 pub mod Parts
 pub mod Messages
 pub mod Streams
+pub mod ByCases

@@ -6,6 +6,7 @@ mod domain;
 mod flow;
 mod key;
 mod known;
+mod laws;
 mod number;
 mod seen;
 mod session;
@@ -15,4 +16,5 @@ mod template;
 mod template_set;
 mod templates;
 
+pub use laws::sets_by_cases;
 pub use session::{Session, pieces, waiting};

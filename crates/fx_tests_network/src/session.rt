@@ -2,7 +2,7 @@
 use fx_base::Fault;
 use fx_elements::Axis;
 use fx_machine::Record;
-use fx_session::{Session, pieces, waiting};
+use fx_session::{Session, pieces, sets_by_cases, waiting};
 use std::alloc::Global;
 use std::test::Fail;
 
@@ -160,6 +160,7 @@ fn reads_two_messages_in_whatever_pieces(rt: HostRuntime) -> Result<(), Fail> {
     }
     pieces();
     waiting();
+    sets_by_cases();
     Ok(())
 }
 

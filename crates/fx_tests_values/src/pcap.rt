@@ -4,7 +4,7 @@ ghost use Rattle.std.specs.Prelude.{false, Some};
 use crate::packets::{TCP, capture_of};
 use fx_base::{Fault, Fuse, Octets, Source};
 use fx_elements::Axis;
-use fx_pcap::{Capture, Frame};
+use fx_pcap::{Capture, Frame, records_by_cases};
 use std::alloc::Global;
 use std::test::Fail;
 
@@ -249,5 +249,6 @@ fn reads_in_pieces(rt: HostRuntime) -> Result<(), Fail> {
     assert!(rt; first == Some(([6, 1000, 443, 0], 40, 1)) && count(&mut capture) == (2, 703));
     // 67 calls that give three octets each, and one at the end
     assert!(rt; capture.get_ref().calls == 68);
+    records_by_cases();
     Ok(())
 }
