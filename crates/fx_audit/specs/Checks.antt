@@ -28,7 +28,7 @@ no_line e = codes "no " ++ (fault_text e ++ 10 ∷ [])
 
 -- a refusal with this number makes the answer no
 abbrev pub MeansNo : ℕ → Type 0
-MeansNo number = (401 ≤ number) × (number ≤ 414)
+MeansNo number = (401 ≤ number) × (number ≤ 415)
 
 abbrev pub IsFaultOf : Fault → Option Refusal → Type 0
 IsFaultOf e None = ⊥

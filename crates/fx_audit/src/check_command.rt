@@ -36,7 +36,7 @@ fn answer_refusal<S: Sink>(sink: &mut S, fault: Fault) -> Result<Answer, Fault>
     ensures quiet { IfErr result (λ e. ((e ≡ fault_at 902 places.None) × (S.failed sink.new ≡ true))
         ⊎ (sink.new ≡ sink.old)) }
 {
-    if !(401..=414).contains(&fault.number) {
+    if !(401..=415).contains(&fault.number) {
         return Err(fault);
     }
     put_no(sink, &fault)?;
@@ -73,7 +73,7 @@ fn check_lines<C: Source, S: Sink>(
 
 /// Reads a network document, a traffic declaration and the text of a certificate, and checks the certificate. Where it
 /// is accepted, the line `yes` is written, and each packet of the traffic is counted exactly once by every complete run
-/// of the network. Where it is refused by a number from 401 to 414, `no` is written with that number and its place.
+/// of the network. Where it is refused by a number from 401 to 415, `no` is written with that number and its place.
 ///
 /// Fails with the first other refusal: 101 and those of [`fx_plan::read_plan`] for the network, with nothing of the
 /// traffic read before; 101 and those of [`fx_traffic::read_traffic`] for the traffic; then, with nothing of the
@@ -98,7 +98,7 @@ pub fn check_bytes<N: Source, T: Source, C: Source, S: Sink>(
         ⊎ (Fails certificate.old certificate.new e
         ⊎ (((e ≡ fault_at 902 places.None) × (S.failed sink.new ≡ true))
         ⊎ MayHaveLeft (N.left network.old) (λ n. MayHaveLeft (T.left traffic.old) (λ t. IsRefusedCheck n t certificate.old e))))))) }
-    // 401 to 414, with the line, are answered no. Once the certificate is read, what isn't answered is 900 to 903.
+    // 401 to 415, with the line, are answered no. Once the certificate is read, what isn't answered is 900 to 903.
     ensures numbers { IfErr result (λ e. (certificate.new ≡ certificate.old) ⊎ IsUnanswered certificate.old e) }
     ensures told { IfOk result (λ answer. (text : List ℕ)
         × IsCheckText answer text × Writes (S.taken sink.old) (S.taken sink.new) text) }

@@ -4,6 +4,7 @@ use Rattle.std.specs.Prelude.{nat_lt}
 use Rattle.std.specs.List.{AllByRecursion}
 use Rattle.fx_base.specs.Lines.{next_number}
 use Rattle.fx_cert.specs.declared.item.Item.{Item}
+use Rattle.fx_cert.specs.declared.item.Version.TheVariants.{One}
 use Rattle.fx_cert.specs.ItemText.{IsText, item_text}
 use Rattle.fx_cert.specs.ItemReading.{item_of}
 use Rattle.fx_cert.proofs.Texts.{item_found}
@@ -17,7 +18,7 @@ use Rattle.fx_traffic.specs.Targets.{targets_of, AreRegions}
 use Rattle.fx_check.specs.Verdict.{Goal, Line, Reading, long, cut, says, said, reading_of, after_reading, made_after, goes_on, first_refusal, whole, line_limit}
 use Rattle.fx_check.specs.Certificates.{IsCertificate, IsShallow, AllCounted, IsWritable, item_line, certificate_items, sizes, in_a_row}
 use Rattle.fx_check.proofs.Readings.{line_says}
-use Rattle.fx_check.proofs.Sounding.{all_sound, all_counted, all_right, sound_of, sound_back}
+use Rattle.fx_check.proofs.Sounding.{all_sound, all_right, sound_of, sound_back}
 use Rattle.fx_check.proofs.Trees.{on, verdict, right_only, right_all}
 
 -- ---- a line says an item exactly where it is that item's line
@@ -77,18 +78,19 @@ pub certificate_only : (net : Net) (classes : List Class) (n : ℕ) (ls : List L
 certificate_only net classes n ls is_net rs e =
     let ts = targets_of classes in
     let right = right_only (judge_of net) ts (map reading_of ls) (no_fault (judge_of net) n 0 (whole ts) ls e) in
-    let written = are_lines ls (certificate_items ts right.0) right.1 in
-    let sound = all_sound net is_net ts right.0 rs right.2 in
-    let made = sound_of net classes right.0 sound.0 in
+    let written = are_lines ls (certificate_items right.0 ts right.1) right.2 in
+    let sound = all_sound net is_net right.0 ts right.1 rs right.3 in
+    let made = sound_of net classes right.1 sound.0 in
     record {
+      version = right.0;
       trees = made.0;
       each = made.2;
       sound = made.1;
-      counted = subst (λ xs. AllByRecursion AllCounted xs) made.3 (all_counted net is_net ts right.0 right.2);
+      counted = subst (λ xs. right.0 ≡ One → AllByRecursion AllCounted xs) made.3 sound.2;
       shallow = subst (λ xs. AllByRecursion (IsShallow 0) xs) made.3 sound.1;
-      lines_are = subst (λ xs. ls ≡ map item_line (certificate_items ts xs)) made.3 written.0;
-      writable = subst (λ xs. AllByRecursion IsWritable (certificate_items ts xs)) made.3 written.1;
-      few = subst (λ xs. sizes xs ≤ line_limit) made.3 right.3;
+      lines_are = subst (λ xs. ls ≡ map item_line (certificate_items right.0 ts xs)) made.3 written.0;
+      writable = subst (λ xs. AllByRecursion IsWritable (certificate_items right.0 ts xs)) made.3 written.1;
+      few = subst (λ xs. sizes xs ≤ line_limit) made.3 right.4;
     }
 
 pub certificate_all : (net : Net) (classes : List Class) (n : ℕ) (ls : List Line) → IsNetwork net → AreRegions (targets_of classes) → IsCertificate net classes ls → first_refusal (judge_of net) n 0 (whole (targets_of classes)) ls ≡ None
@@ -96,8 +98,8 @@ certificate_all net classes n ls is_net rs c =
     let ts = targets_of classes in
     let xs = in_a_row c.trees in
     no_refusal (judge_of net) n 0 (whole ts) ls
-    (ap (verdict (judge_of net) 0 (whole ts)) (ap (map reading_of) c.lines_are ∙ say_items (certificate_items ts xs) c.writable)
-    ∙ right_all (judge_of net) ts xs (all_right net is_net ts xs rs (sound_back net classes c.trees c.each c.sound) c.counted c.shallow) c.few)
+    (ap (verdict (judge_of net) 0 (whole ts)) (ap (map reading_of) c.lines_are ∙ say_items (certificate_items c.version ts xs) c.writable)
+    ∙ right_all (judge_of net) c.version ts xs (all_right net is_net c.version ts xs rs (sound_back net classes c.trees c.each c.sound) c.counted c.shallow) c.few)
 
 -- ---- the headline
 

@@ -7,17 +7,16 @@ use Rattle.fx_base.specs.Lines.{Lines, Refuses, Stops, next_number}
 use Rattle.fx_boxes.specs.Boxes.{Bounds}
 use Rattle.fx_cert.specs.declared.item.Item.{Item}
 use Rattle.fx_cert.specs.declared.item.Item.TheVariants as item
-use Rattle.fx_cert.specs.declared.item.Version.TheVariants.{One, Two}
 use Rattle.fx_elements.specs.Axes.{axis_index}
 use Rattle.fx_machine.specs.Network.{Net}
 use Rattle.fx_leaf.specs.declared.leaf.Counted.{Counted}
 use Rattle.fx_leaf.specs.declared.verdict.Fate.TheVariants.{Never, Once, Many, Differing, Unassigned}
-use Rattle.fx_leaf.specs.Leaves.{leaf_of, named}
+use Rattle.fx_leaf.specs.Leaves.{leaf_of, never_of, named}
 use Rattle.fx_leaf.specs.Verdicts.{Verdict, path_verdict, counted}
-use Rattle.fx_check.specs.Judging.{judge_of, same_leaf, unless_same}
+use Rattle.fx_check.specs.Judging.{judge_of, same_leaf, unless_same, unless_never}
 use Rattle.fx_check.specs.Outcomes.{IsCertificateNumber, IsCheckFault, memory, device, too_long, wrong, IsToldBy}
 use Rattle.fx_traffic.specs.Targets.{Target}
-use Rattle.fx_check.specs.Verdict.{Goal, header, opening, tree, close, Reading, long, cut, malformed, says, Refusal, at_line, at_end, after, after_reading, form_fault, leaf_answer, split_answer, unless_wrong, parts}
+use Rattle.fx_check.specs.Verdict.{Goal, header, opening, tree, close, Reading, long, cut, malformed, says, Refusal, at_line, at_end, after, after_reading, form_fault, leaf_answer, split_answer, unless_wrong, parts, may_say_never}
 
 -- the number of a fault, if there is one
 abbrev number_or : ℕ → Result (List Goal) ℕ → ℕ
@@ -56,8 +55,21 @@ unless_403 : (b : Bool) (r : Result (List Goal) ℕ) (k : ℕ) → (r ≡ Err k 
 unless_403 true r k h e = is_number 403 k (omega arith, omega arith) e
 unless_403 false r k h e = h e
 
-judge_number : (net : Net) (t : Target) (b : Bounds) (leaf : Counted) (k : ℕ) → judge_of net t b leaf ≡ Some k → IsCertificateNumber k
-judge_number net t b leaf k e = unless_same_number leaf (path_verdict net b t.crossings) (named (counted net b t.crossings)) k e
+only_403 : (b : Bool) (r : Result (List Goal) ℕ) (k : ℕ) → (r ≡ Err k → IsCertificateNumber k) → (if b then r else Err 403) ≡ Err k → IsCertificateNumber k
+only_403 true r k h e = h e
+only_403 false r k h e = is_number 403 k (omega arith, omega arith) e
+
+unless_never_number : (v : Verdict) (k : ℕ) → unless_never (never_of v) ≡ Some k → IsCertificateNumber k
+unless_never_number None k e = is_some_number 406 k (omega arith, omega arith) e
+unless_never_number (Some Unassigned) k e = is_some_number 413 k (omega arith, omega arith) e
+unless_never_number (Some Differing) k e = is_some_number 409 k (omega arith, omega arith) e
+unless_never_number (Some Many) k e = is_some_number 408 k (omega arith, omega arith) e
+unless_never_number (Some Once) k e = is_some_number 415 k (omega arith, omega arith) e
+unless_never_number (Some Never) k e = absurd cc
+
+judge_number : (net : Net) (t : Target) (b : Bounds) (leaf : Option Counted) (k : ℕ) → judge_of net t b leaf ≡ Some k → IsCertificateNumber k
+judge_number net t b None k e = unless_never_number (path_verdict net b t.crossings) k e
+judge_number net t b (Some leaf) k e = unless_same_number leaf (path_verdict net b t.crossings) (named (counted net b t.crossings)) k e
 
 leaf_number : (made : ℕ) (found : Option ℕ) (gs : List Goal) (k : ℕ) → ((n : ℕ) → found ≡ Some n → IsCertificateNumber n) → leaf_answer made found gs ≡ Err k → IsCertificateNumber k
 leaf_number made found gs k h e = go (nat_le 1000000 made) found h e where
@@ -84,26 +96,25 @@ opening_number t gs c m k false e = is_number 403 k (omega arith, omega arith) e
 
 after_number : (net : Net) (made : ℕ) (gs : List Goal) (i : Item) (k : ℕ) → after (judge_of net) made gs i ≡ Err k → IsCertificateNumber k
 after_number net made [] i k e = is_number 411 k (omega arith, omega arith) e
-after_number net made (header ∷ gs) (item.Header One) k e = absurd cc
-after_number net made (header ∷ gs) (item.Header Two) k e = is_number 401 k (omega arith, omega arith) e
-after_number net made (header ∷ gs) (item.Class c m) k e = is_number 401 k (omega arith, omega arith) e
-after_number net made (header ∷ gs) (item.Leaf crossing point process) k e = is_number 401 k (omega arith, omega arith) e
-after_number net made (header ∷ gs) (item.Split a at) k e = is_number 401 k (omega arith, omega arith) e
-after_number net made (header ∷ gs) item.Never k e = is_number 401 k (omega arith, omega arith) e
-after_number net made (header ∷ gs) item.End k e = is_number 401 k (omega arith, omega arith) e
+after_number net made (header ts ∷ gs) (item.Header v) k e = absurd cc
+after_number net made (header ts ∷ gs) (item.Class c m) k e = is_number 401 k (omega arith, omega arith) e
+after_number net made (header ts ∷ gs) (item.Leaf crossing point process) k e = is_number 401 k (omega arith, omega arith) e
+after_number net made (header ts ∷ gs) (item.Split a at) k e = is_number 401 k (omega arith, omega arith) e
+after_number net made (header ts ∷ gs) item.Never k e = is_number 401 k (omega arith, omega arith) e
+after_number net made (header ts ∷ gs) item.End k e = is_number 401 k (omega arith, omega arith) e
 after_number net made (opening t ∷ gs) (item.Header v) k e = is_number 403 k (omega arith, omega arith) e
 after_number net made (opening t ∷ gs) (item.Class c m) k e = opening_number t gs c m k (c == t.class && m == t.path) e
 after_number net made (opening t ∷ gs) (item.Leaf crossing point process) k e = is_number 403 k (omega arith, omega arith) e
 after_number net made (opening t ∷ gs) (item.Split a at) k e = is_number 403 k (omega arith, omega arith) e
 after_number net made (opening t ∷ gs) item.Never k e = is_number 403 k (omega arith, omega arith) e
 after_number net made (opening t ∷ gs) item.End k e = is_number 403 k (omega arith, omega arith) e
-after_number net made (tree t b d ∷ gs) (item.Header v) k e = is_number 403 k (omega arith, omega arith) e
-after_number net made (tree t b d ∷ gs) (item.Class c m) k e = is_number 403 k (omega arith, omega arith) e
-after_number net made (tree t b d ∷ gs) (item.Leaf crossing point process) k e =
-    unless_403 t.exempt _ k (leaf_number made (judge_of net t b (record { crossing = crossing; point = point; process = process })) gs k (judge_number net t b (record { crossing = crossing; point = point; process = process }))) e
-after_number net made (tree t b d ∷ gs) (item.Split a at) k e = split_number made b d (axis_index a) at (parts t b d (axis_index a) at gs) k e
-after_number net made (tree t b d ∷ gs) item.Never k e = is_number 403 k (omega arith, omega arith) e
-after_number net made (tree t b d ∷ gs) item.End k e = is_number 403 k (omega arith, omega arith) e
+after_number net made (tree z t b d ∷ gs) (item.Header v) k e = is_number 403 k (omega arith, omega arith) e
+after_number net made (tree z t b d ∷ gs) (item.Class c m) k e = is_number 403 k (omega arith, omega arith) e
+after_number net made (tree z t b d ∷ gs) (item.Leaf crossing point process) k e =
+    unless_403 t.exempt _ k (leaf_number made (judge_of net t b (Some (record { crossing = crossing; point = point; process = process }))) gs k (judge_number net t b (Some (record { crossing = crossing; point = point; process = process })))) e
+after_number net made (tree z t b d ∷ gs) (item.Split a at) k e = split_number made b d (axis_index a) at (parts z t b d (axis_index a) at gs) k e
+after_number net made (tree z t b d ∷ gs) item.Never k e = only_403 (may_say_never z t) _ k (leaf_number made (judge_of net t b None) gs k (judge_number net t b None)) e
+after_number net made (tree z t b d ∷ gs) item.End k e = is_number 403 k (omega arith, omega arith) e
 after_number net made (close ∷ gs) (item.Header v) k e = is_number 403 k (omega arith, omega arith) e
 after_number net made (close ∷ gs) (item.Class c m) k e = is_number 403 k (omega arith, omega arith) e
 after_number net made (close ∷ gs) (item.Leaf crossing point process) k e = is_number 403 k (omega arith, omega arith) e
@@ -115,9 +126,9 @@ after_number net made (close ∷ gs) item.End k e = absurd cc
 
 form_number : (gs : List Goal) → IsCertificateNumber (form_fault gs)
 form_number [] = (omega arith, omega arith)
-form_number (header ∷ gs) = (omega arith, omega arith)
+form_number (header ts ∷ gs) = (omega arith, omega arith)
 form_number (opening t ∷ gs) = (omega arith, omega arith)
-form_number (tree t b d ∷ gs) = (omega arith, omega arith)
+form_number (tree z t b d ∷ gs) = (omega arith, omega arith)
 form_number (close ∷ gs) = (omega arith, omega arith)
 
 -- a line was refused

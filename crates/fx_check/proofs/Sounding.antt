@@ -1,5 +1,5 @@
 -- A leaf with which nothing is wrong is sound, and so are trees of such leaves.
-use Rattle.std.proofs.Common.{◌≡◌, ℕ, zero, suc, ◌+◌, ◌-◌, ◌<◌, ◌≤◌, Bool, true, false, ◌&&◌, cond, eqb, List, [], ◌∷◌, ◌++◌, length, refl, ap, sym, subst, ◌∙◌, arith, Result, Ok, Err, Option, Some, None, inl, inr, IfOk, IfErr, eqb-true, eq-eqb, slice_index, slice_set, slice_get}
+use Rattle.std.proofs.Common.{◌≡◌, ℕ, zero, suc, ◌+◌, ◌-◌, ◌<◌, ◌≤◌, Bool, true, false, ◌&&◌, cond, eqb, List, [], ◌∷◌, ◌++◌, length, refl, ap, sym, subst, ◌∙◌, arith, Result, Ok, Err, Option, Some, None, inl, inr, IfOk, IfErr, OnOk, eqb-true, eq-eqb, slice_index, slice_set, slice_get}
 use Rattle.std.specs.List.{AllByRecursion}
 use Rattle.fx_base.specs.declared.fault.Fault.{Fault}
 use Rattle.fx_elements.specs.Axes.{axis_index}
@@ -9,14 +9,16 @@ use Rattle.fx_machine.specs.Classes.{Class}
 use Rattle.fx_machine.specs.Network.{Net, entries}
 use Rattle.fx_machine.specs.Ranks.{IsNetwork}
 use Rattle.fx_leaf.specs.declared.leaf.Counted.{Counted}
+use Rattle.fx_cert.specs.declared.item.Version.{Version}
+use Rattle.fx_cert.specs.declared.item.Version.TheVariants.{One, Two}
 use Rattle.fx_leaf.specs.Certificates.{Tree, Leaf, Uncounted, Split, SoundTree, Sound}
-use Rattle.fx_leaf.specs.SoundLeaves.{SoundLeaf}
-use Rattle.fx_leaf.proofs.Deciding.{answer_sound, answer_every, answer_none}
+use Rattle.fx_leaf.specs.SoundLeaves.{SoundLeaf, SoundNever}
+use Rattle.fx_leaf.proofs.Deciding.{answer_sound, answer_every, answer_none, never_sound, never_every}
 use Rattle.fx_leaf.specs.Leaves.{NoneIsSound}
 use Rattle.fx_leaf.specs.Leaves.NoneIsSound.{cut, unassigned, differing, many, never}
 use Rattle.fx_base.specs.Fault.{fault_at}
 use Rattle.fx_base.specs.declared.fault.Place.TheVariants as places
-use Rattle.fx_check.specs.Judging.{judge_of, same_leaf, sound_leaf, unless_same, IsWrong}
+use Rattle.fx_check.specs.Judging.{judge_of, same_leaf, sound_leaf, sound_never, unless_same, unless_never, IsWrong}
 use Rattle.fx_traffic.specs.Targets.{Target, targets_along, targets_from, targets_of, AreRegions}
 use Rattle.fx_check.specs.Certificates.{IsShallow, AllCounted, AreFor, in_a_row}
 use Rattle.fx_check.proofs.Trees.{IsRight, AllRight}
@@ -73,7 +75,7 @@ abbrev unless : Bool → Option ℕ
 unless same = cond {A = Option ℕ} same None (Some 410)
 
 module _ (net : Net) (is_net : IsNetwork net) where
-  leaf_sound : (t : Target) (b : Bounds) (l : Counted) → IsRegion b → judge_of net t b l ≡ None → SoundLeaf net t.crossings b l.crossing l.point l.process
+  leaf_sound : (t : Target) (b : Bounds) (l : Counted) → IsRegion b → judge_of net t b (Some l) ≡ None → SoundLeaf net t.crossings b l.crossing l.point l.process
   leaf_sound t b l r e = go (sound_leaf net t.crossings b) (answer_sound net t.crossings b is_net r (sound_leaf net t.crossings b) refl) e where
     by_test : (c : Counted) (same : Bool) → same_leaf c l ≡ same → SoundLeaf net t.crossings b c.crossing c.point c.process → cond same (◌≡◌ {A = Option ℕ} None None) (◌≡◌ {A = Option ℕ} (Some 410) None) → SoundLeaf net t.crossings b l.crossing l.point l.process
     by_test c true is sound h = let s = is_same c l is in rw (← s.0, ← s.1, ← s.2) sound
@@ -87,11 +89,11 @@ module _ (net : Net) (is_net : IsNetwork net) where
     go (Err f) sound e = absurd cc
     go (Ok c) sound e = by_test c (same_leaf c l) refl sound (chosen (same_leaf c l) e)
 
-  leaf_right : (t : Target) (b : Bounds) (l : Counted) → IsRegion b → SoundLeaf net t.crossings b l.crossing l.point l.process → judge_of net t b l ≡ None
+  leaf_right : (t : Target) (b : Bounds) (l : Counted) → IsRegion b → SoundLeaf net t.crossings b l.crossing l.point l.process → judge_of net t b (Some l) ≡ None
   leaf_right t b l r sound =
       ap (unless_same l) (answer_every net t.crossings b is_net r (sound_leaf net t.crossings b) refl l.crossing l.point l.process sound) ∙ ap unless (same_as_itself l)
 
-  pub leaf_wrong : (t : Target) (b : Bounds) (l : Counted) (n : ℕ) → IsRegion b → judge_of net t b l ≡ Some n → IsWrong net t.crossings b l n
+  pub leaf_wrong : (t : Target) (b : Bounds) (l : Counted) (n : ℕ) → IsRegion b → judge_of net t b (Some l) ≡ Some n → IsWrong net t.crossings b l n
   leaf_wrong t b l n r e = go (sound_leaf net t.crossings b) (answer_sound net t.crossings b is_net r (sound_leaf net t.crossings b) refl) (answer_none net t.crossings b is_net r (sound_leaf net t.crossings b) refl) e where
     by_number : (f : Fault) → NoneIsSound net t.crossings b f → f.number ≡ n → NoneIsSound net t.crossings b (fault_at n places.None)
     by_number f (cut h) is = rw (← is) (cut h)
@@ -108,51 +110,46 @@ module _ (net : Net) (is_net : IsNetwork net) where
     go (Err f) sound none e = inl (by_number f none (let k : f.number ≡ n = cc in k))
     go (Ok c) sound none e = by_test c (same_leaf c l) refl sound e
 
+  never_here : (t : Target) (b : Bounds) → IsRegion b → judge_of net t b None ≡ None → SoundNever net t.crossings b
+  never_here t b r e = go (sound_never net t.crossings b) (never_sound net t.crossings b is_net r (sound_never net t.crossings b) refl) e where
+    go : (answer : Result (Unit {0}) Fault) → OnOk answer (SoundNever net t.crossings b) → unless_never answer ≡ None → SoundNever net t.crossings b
+    go (Ok x) sound e = sound
+    go (Err f) sound e = absurd cc
+
   -- ---- trees
 
-  tree_sound : (t : Target) (b : Bounds) (d : ℕ) (x : Tree) → IsRegion b → IsRight (judge_of net) t b d x → SoundTree net t.crossings t.exempt b x × IsShallow d x
-  tree_sound t b d (Leaf crossing point process) r right = ((right.0, leaf_sound t b (record { crossing = crossing; point = point; process = process }) r right.1), tt)
-  tree_sound t b d Uncounted r right = absurd right
-  tree_sound t b d (Split a at x y) r right =
+  tree_sound : (z : Version) (t : Target) (b : Bounds) (d : ℕ) (x : Tree) → IsRegion b → IsRight (judge_of net) z t b d x → SoundTree net t.crossings t.exempt b x × IsShallow d x × (z ≡ One → AllCounted x)
+  tree_sound z t b d (Leaf crossing point process) r right = ((right.0, leaf_sound t b (record { crossing = crossing; point = point; process = process }) r right.1), tt, λ one. tt)
+  tree_sound One t b d Uncounted r right = absurd (let e = right.0 in cc)
+  tree_sound Two t b d Uncounted r right = ((right.0, never_here t b r right.1), tt, λ one. absurd cc)
+  tree_sound z t b d (Split a at x y) r right =
       let i = axis_index a in
-      let below = tree_sound t (below_part b i at) (d + 1) x (below_region b i at r right.1) right.2 in
-      let above = tree_sound t (above_part b i at) (d + 1) y (above_region b i at r right.1) right.3 in
-      ((right.1, below.0, above.0), (right.0, below.1, above.1))
+      let below = tree_sound z t (below_part b i at) (d + 1) x (below_region b i at r right.1) right.2 in
+      let above = tree_sound z t (above_part b i at) (d + 1) y (above_region b i at r right.1) right.3 in
+      ((right.1, below.0, above.0), (right.0, below.1, above.1), λ one. (below.2 one, above.2 one))
 
-  tree_counted : (t : Target) (b : Bounds) (d : ℕ) (x : Tree) → IsRight (judge_of net) t b d x → AllCounted x
-  tree_counted t b d (Leaf crossing point process) right = tt
-  tree_counted t b d Uncounted right = absurd right
-  tree_counted t b d (Split a at x y) right =
+  tree_right : (z : Version) (t : Target) (b : Bounds) (d : ℕ) (x : Tree) → IsRegion b → SoundTree net t.crossings t.exempt b x → (z ≡ One → AllCounted x) → IsShallow d x → IsRight (judge_of net) z t b d x
+  tree_right z t b d (Leaf crossing point process) r sound counted shallow = (sound.0, leaf_right t b (record { crossing = crossing; point = point; process = process }) r sound.1)
+  tree_right One t b d Uncounted r sound counted shallow = absurd (counted refl)
+  tree_right Two t b d Uncounted r sound counted shallow = (sound.0, ap unless_never (never_every net t.crossings b is_net r (sound_never net t.crossings b) refl sound.1))
+  tree_right z t b d (Split a at x y) r sound counted shallow =
       let i = axis_index a in
-      (tree_counted t (below_part b i at) (d + 1) x right.2, tree_counted t (above_part b i at) (d + 1) y right.3)
+      (shallow.0, sound.0, tree_right z t (below_part b i at) (d + 1) x (below_region b i at r sound.0) sound.1 (λ one. (counted one).0) shallow.1, tree_right z t (above_part b i at) (d + 1) y (above_region b i at r sound.0) sound.2 (λ one. (counted one).1) shallow.2)
 
-  tree_right : (t : Target) (b : Bounds) (d : ℕ) (x : Tree) → IsRegion b → SoundTree net t.crossings t.exempt b x → AllCounted x → IsShallow d x → IsRight (judge_of net) t b d x
-  tree_right t b d (Leaf crossing point process) r sound counted shallow = (sound.0, leaf_right t b (record { crossing = crossing; point = point; process = process }) r sound.1)
-  tree_right t b d Uncounted r sound counted shallow = absurd counted
-  tree_right t b d (Split a at x y) r sound counted shallow =
-      let i = axis_index a in
-      (shallow.0, sound.0, tree_right t (below_part b i at) (d + 1) x (below_region b i at r sound.0) sound.1 counted.0 shallow.1, tree_right t (above_part b i at) (d + 1) y (above_region b i at r sound.0) sound.2 counted.1 shallow.2)
+  pub all_sound : (z : Version) (ts : List Target) (xs : List Tree) → AreRegions ts → AllRight (judge_of net) z ts xs → AllSound net ts xs × AllByRecursion (IsShallow 0) xs × (z ≡ One → AllByRecursion AllCounted xs)
+  all_sound z [] [] rs right = (tt, tt, λ one. tt)
+  all_sound z [] (x ∷ xs) rs right = absurd right
+  all_sound z (t ∷ ts) [] rs right = absurd right
+  all_sound z (t ∷ ts) (x ∷ xs) rs right =
+      let s = tree_sound z t t.region 0 x rs.0 right.0 in
+      let more = all_sound z ts xs rs.1 right.1 in
+      ((s.0, more.0), (s.1, more.1), λ one. (s.2 one, more.2 one))
 
-  pub all_sound : (ts : List Target) (xs : List Tree) → AreRegions ts → AllRight (judge_of net) ts xs → AllSound net ts xs × AllByRecursion (IsShallow 0) xs
-  all_sound [] [] rs right = (tt, tt)
-  all_sound [] (x ∷ xs) rs right = absurd right
-  all_sound (t ∷ ts) [] rs right = absurd right
-  all_sound (t ∷ ts) (x ∷ xs) rs right =
-      let s = tree_sound t t.region 0 x rs.0 right.0 in
-      let more = all_sound ts xs rs.1 right.1 in
-      ((s.0, more.0), (s.1, more.1))
-
-  pub all_counted : (ts : List Target) (xs : List Tree) → AllRight (judge_of net) ts xs → AllByRecursion AllCounted xs
-  all_counted [] [] right = tt
-  all_counted [] (x ∷ xs) right = absurd right
-  all_counted (t ∷ ts) [] right = absurd right
-  all_counted (t ∷ ts) (x ∷ xs) right = (tree_counted t t.region 0 x right.0, all_counted ts xs right.1)
-
-  pub all_right : (ts : List Target) (xs : List Tree) → AreRegions ts → AllSound net ts xs → AllByRecursion AllCounted xs → AllByRecursion (IsShallow 0) xs → AllRight (judge_of net) ts xs
-  all_right [] [] rs sound counted shallow = tt
-  all_right [] (x ∷ xs) rs sound counted shallow = absurd sound
-  all_right (t ∷ ts) [] rs sound counted shallow = absurd sound
-  all_right (t ∷ ts) (x ∷ xs) rs sound counted shallow = (tree_right t t.region 0 x rs.0 sound.0 counted.0 shallow.0, all_right ts xs rs.1 sound.1 counted.1 shallow.1)
+  pub all_right : (z : Version) (ts : List Target) (xs : List Tree) → AreRegions ts → AllSound net ts xs → (z ≡ One → AllByRecursion AllCounted xs) → AllByRecursion (IsShallow 0) xs → AllRight (judge_of net) z ts xs
+  all_right z [] [] rs sound counted shallow = tt
+  all_right z [] (x ∷ xs) rs sound counted shallow = absurd sound
+  all_right z (t ∷ ts) [] rs sound counted shallow = absurd sound
+  all_right z (t ∷ ts) (x ∷ xs) rs sound counted shallow = (tree_right z t t.region 0 x rs.0 sound.0 (λ one. (counted one).0) shallow.0, all_right z ts xs rs.1 sound.1 (λ one. (counted one).1) shallow.1)
 
 -- ---- trees by class and path
 

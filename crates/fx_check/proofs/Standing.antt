@@ -1,5 +1,5 @@
 -- How what is still to be said changes as the checker goes on.
-use Rattle.std.proofs.Common.{◌≡◌, ℕ, zero, suc, ◌+◌, ◌<◌, ◌≤◌, List, [], ◌∷◌, ◌++◌, length, get_or, drop, refl, sym, subst, ◌∙◌, arith, add-one, length-append, length-drop, cond, Result, Err, Some, ◌≢◌}
+use Rattle.std.proofs.Common.{◌≡◌, ℕ, zero, suc, ◌+◌, ◌<◌, ◌≤◌, List, [], ◌∷◌, ◌++◌, length, get_or, drop, refl, sym, subst, ◌∙◌, arith, add-one, length-append, length-drop, cond, Result, Err, Some, None, ◌≢◌}
 use Rattle.std.proofs.Math.Seq.{drop-cons}
 use Rattle.fx_elements.specs.Axes.{axis_index}
 use Rattle.fx_elements.specs.declared.axis.Axis.{Axis}
@@ -8,11 +8,12 @@ use Rattle.fx_leaf.specs.declared.leaf.Counted.{Counted}
 use Rattle.fx_check.specs.Judging.{Judge}
 use Rattle.fx_cert.specs.declared.item.Item.{Item}
 use Rattle.fx_cert.specs.declared.item.Item.TheVariants as item
+use Rattle.fx_cert.specs.declared.item.Version.{Version}
 use Rattle.fx_traffic.specs.Targets.{Target}
 use Rattle.fx_check.specs.declared.stack.Waiting.{Waiting}
 use Rattle.fx_check.specs.declared.course.Stage.{Stage}
 use Rattle.fx_check.specs.declared.course.Stage.TheVariants as stage
-use Rattle.fx_check.specs.Verdict.{Goal, tree, ahead, after, leaf_answer, split_answer, form_fault, at_end, at_line, Refusal}
+use Rattle.fx_check.specs.Verdict.{Goal, tree, ahead, may_say_never, after, leaf_answer, split_answer, form_fault, at_end, at_line, Refusal}
 use Rattle.fx_base.specs.Lines.{next_number}
 use Rattle.fx_check.specs.Standing.{waiting_goals, tree_goals, goals_at, rest_of_tree, AreDeepFrom, AreDeep, IsStandingAt, IsInTree}
 
@@ -32,36 +33,42 @@ IsNoTree (item.Header v) = Unit {0}
 IsNoTree (item.Class c m) = Unit {0}
 IsNoTree (item.Leaf crossing point process) = ⊥
 IsNoTree (item.Split a v) = ⊥
-IsNoTree item.Never = Unit {0}
+IsNoTree item.Never = ⊥
 IsNoTree item.End = Unit {0}
 
-waiting_push : (t : Target) (ws : List Waiting) (w : Waiting) (gs : List Goal) → waiting_goals t (ws ++ w ∷ []) gs ≡ tree t w.region w.depth ∷ waiting_goals t ws gs
-waiting_push t [] w gs = refl
-waiting_push t (x ∷ ws) w gs = waiting_push t ws w (tree t x.region x.depth ∷ gs)
+waiting_push : (z : Version) (t : Target) (ws : List Waiting) (w : Waiting) (gs : List Goal) → waiting_goals z t (ws ++ w ∷ []) gs ≡ tree z t w.region w.depth ∷ waiting_goals z t ws gs
+waiting_push z t [] w gs = refl
+waiting_push z t (x ∷ ws) w gs = waiting_push z t ws w (tree z t x.region x.depth ∷ gs)
 
 -- the region on top comes next
-pub top_next : (ts : List Target) (ws : List Waiting) (w : Waiting) → tree_goals ts w ws ≡ rest_of_tree ts (ws ++ w ∷ [])
-top_next [] ws w = refl
-top_next (t ∷ ts) ws w = sym (waiting_push t ws w (ahead ts))
+pub top_next : (z : Version) (ts : List Target) (ws : List Waiting) (w : Waiting) → tree_goals z ts w ws ≡ rest_of_tree z ts (ws ++ w ∷ [])
+top_next z [] ws w = refl
+top_next z (t ∷ ts) ws w = sym (waiting_push z t ws w (ahead z ts))
 
 -- with no region on top the next target comes
-pub target_next : (ts : List Target) (at : ℕ) → at < length ts → ahead (drop (at + 1) ts) ≡ rest_of_tree (drop at ts) []
-target_next ts at lt = rw add-one (go ts at lt) where
-  go : (ts : List Target) (at : ℕ) → at < length ts → ahead (drop (suc at) ts) ≡ rest_of_tree (drop at ts) []
+pub target_next : (z : Version) (ts : List Target) (at : ℕ) → at < length ts → ahead z (drop (at + 1) ts) ≡ rest_of_tree z (drop at ts) []
+target_next z ts at lt = rw add-one (go ts at lt) where
+  go : (ts : List Target) (at : ℕ) → at < length ts → ahead z (drop (suc at) ts) ≡ rest_of_tree z (drop at ts) []
   go [] at lt = absurd (omega arith)
   go (t ∷ ts) zero lt = refl
   go (t ∷ ts) (suc at) lt = go ts at (omega arith)
 
-pub leaf_is : (judge : Judge) (made : ℕ) (ts : List Target) (at : ℕ) (ws : List Waiting) (s : Stage) (w : Waiting) (l : Counted) (t : Target) → s ≡ stage.Tree w → IsStandingAt ts at ws s → t ≡ get_or ts at t
-    → after judge made (goals_at ts at ws s) (item.Leaf l.crossing l.point l.process) ≡ cond t.exempt (Err 403) (leaf_answer made (judge t w.region l) (rest_of_tree (drop at ts) ws))
-leaf_is judge made ts at ws s w l t e h is =
+pub leaf_is : (z : Version) (judge : Judge) (made : ℕ) (ts : List Target) (at : ℕ) (ws : List Waiting) (s : Stage) (w : Waiting) (l : Counted) (t : Target) → s ≡ stage.Tree w → IsStandingAt ts at ws s → t ≡ get_or ts at t
+    → after judge made (goals_at z ts at ws s) (item.Leaf l.crossing l.point l.process) ≡ cond t.exempt (Err 403) (leaf_answer made (judge t w.region (Some l)) (rest_of_tree z (drop at ts) ws))
+leaf_is z judge made ts at ws s w l t e h is =
     let k : IsStandingAt ts at ws (stage.Tree w) = subst (λ (x : Stage). IsStandingAt ts at ws x) e h in
     rw (e, drop-cons ts at t k.0, ← is) refl
 
-split_on : (judge : Judge) (made : ℕ) (ts : List Target) (ws : List Waiting) (w : Waiting) (a : Axis) (v : ℕ) → 0 < length ts
-    → after judge made (tree_goals ts w ws) (item.Split a v) ≡ split_answer made w.region w.depth (axis_index a) v (tree_goals ts (below_waits w (axis_index a) v) (ws ++ above_waits w (axis_index a) v ∷ []))
-split_on judge made [] ws w a v some = absurd (omega arith)
-split_on judge made (t ∷ ts) ws w a v some = rw (waiting_push t ws (above_waits w (axis_index a) v) (ahead ts)) refl
+pub never_is : (z : Version) (judge : Judge) (made : ℕ) (ts : List Target) (at : ℕ) (ws : List Waiting) (s : Stage) (w : Waiting) (t : Target) → s ≡ stage.Tree w → IsStandingAt ts at ws s → t ≡ get_or ts at t
+    → after judge made (goals_at z ts at ws s) item.Never ≡ cond (may_say_never z t) (leaf_answer made (judge t w.region None) (rest_of_tree z (drop at ts) ws)) (Err 403)
+never_is z judge made ts at ws s w t e h is =
+    let k : IsStandingAt ts at ws (stage.Tree w) = subst (λ (x : Stage). IsStandingAt ts at ws x) e h in
+    rw (e, drop-cons ts at t k.0, ← is) refl
+
+split_on : (z : Version) (judge : Judge) (made : ℕ) (ts : List Target) (ws : List Waiting) (w : Waiting) (a : Axis) (v : ℕ) → 0 < length ts
+    → after judge made (tree_goals z ts w ws) (item.Split a v) ≡ split_answer made w.region w.depth (axis_index a) v (tree_goals z ts (below_waits w (axis_index a) v) (ws ++ above_waits w (axis_index a) v ∷ []))
+split_on z judge made [] ws w a v some = absurd (omega arith)
+split_on z judge made (t ∷ ts) ws w a v some = rw (waiting_push z t ws (above_waits w (axis_index a) v) (ahead z ts)) refl
 
 deep_more : (k : ℕ) (ws : List Waiting) (w : Waiting) → AreDeepFrom k ws → k + length ws < w.depth → w.depth ≤ 512 → AreDeepFrom k (ws ++ w ∷ [])
 deep_more k [] w h lt le = (omega arith, le, tt)
@@ -93,68 +100,68 @@ stands_pop ts at ws rest w s h i e =
     let f : AreDeep (rest ++ w ∷ []) k.1.0 = subst (λ (x : List Waiting). AreDeep x k.1.0) e k.1.1 in
     (k.0, deep_pop rest w k.1.0 f)
 
-pub split_goal : (judge : Judge) (made : ℕ) (ts : List Target) (at : ℕ) (ws : List Waiting) (s : Stage) (w : Waiting) (a : Axis) (v : ℕ) → IsStandingAt ts at ws s → s ≡ stage.Tree w
-    → after judge made (goals_at ts at ws s) (item.Split a v) ≡ split_answer made w.region w.depth (axis_index a) v (tree_goals (drop at ts) (below_waits w (axis_index a) v) (ws ++ above_waits w (axis_index a) v ∷ []))
-split_goal judge made ts at ws s w a v h e =
+pub split_goal : (z : Version) (judge : Judge) (made : ℕ) (ts : List Target) (at : ℕ) (ws : List Waiting) (s : Stage) (w : Waiting) (a : Axis) (v : ℕ) → IsStandingAt ts at ws s → s ≡ stage.Tree w
+    → after judge made (goals_at z ts at ws s) (item.Split a v) ≡ split_answer made w.region w.depth (axis_index a) v (tree_goals z (drop at ts) (below_waits w (axis_index a) v) (ws ++ above_waits w (axis_index a) v ∷ []))
+split_goal z judge made ts at ws s w a v h e =
     let k : IsStandingAt ts at ws (stage.Tree w) = subst (λ (x : Stage). IsStandingAt ts at ws x) e h in
-    rw e (split_on judge made (drop at ts) ws w a v (omega (arith, length-drop at ts, k.0)))
+    rw e (split_on z judge made (drop at ts) ws w a v (omega (arith, length-drop at ts, k.0)))
 
-pub split_end : (judge : Judge) (made : ℕ) (ts : List Target) (at : ℕ) (ws after_push : List Waiting) (s : Stage) (w : Waiting) (below above : Bounds) (a : Axis) (v : ℕ) (r : Result (List Goal) ℕ) → IsStandingAt ts at ws s → s ≡ stage.Tree w
+pub split_end : (z : Version) (judge : Judge) (made : ℕ) (ts : List Target) (at : ℕ) (ws after_push : List Waiting) (s : Stage) (w : Waiting) (below above : Bounds) (a : Axis) (v : ℕ) (r : Result (List Goal) ℕ) → IsStandingAt ts at ws s → s ≡ stage.Tree w
     → below ≡ below_part w.region (axis_index a) v → above ≡ above_part w.region (axis_index a) v → after_push ≡ ws ++ record { region = above; depth = w.depth + 1 } ∷ []
-    → split_answer made w.region w.depth (axis_index a) v (tree_goals (drop at ts) (record { region = below; depth = w.depth + 1 }) after_push) ≡ r → after judge made (goals_at ts at ws s) (item.Split a v) ≡ r
-split_end judge made ts at ws after_push s w below above a v r h e lower upper pushed is =
-    split_goal judge made ts at ws s w a v h e ∙ (rw (← upper, ← lower, ← pushed) is)
+    → split_answer made w.region w.depth (axis_index a) v (tree_goals z (drop at ts) (record { region = below; depth = w.depth + 1 }) after_push) ≡ r → after judge made (goals_at z ts at ws s) (item.Split a v) ≡ r
+split_end z judge made ts at ws after_push s w below above a v r h e lower upper pushed is =
+    split_goal z judge made ts at ws s w a v h e ∙ (rw (← upper, ← lower, ← pushed) is)
 
 pub stands_push : (ts : List Target) (at : ℕ) (ws after_push : List Waiting) (s : Stage) (w : Waiting) (above : Bounds) → IsStandingAt ts at ws s → s ≡ stage.Tree w → w.depth < 512 → after_push ≡ ws ++ record { region = above; depth = w.depth + 1 } ∷ [] → (at < length ts) × AreDeep after_push (w.depth + 1)
 stands_push ts at ws after_push s w above h e lt pushed =
     let k : IsStandingAt ts at ws (stage.Tree w) = subst (λ (x : Stage). IsStandingAt ts at ws x) e h in
     rw pushed (k.0, deep_push ws w.depth (record { region = above; depth = w.depth + 1 }) k.1 lt refl)
 
-pub refuses_tree : (judge : Judge) (made : ℕ) (ts : List Target) (at : ℕ) (ws : List Waiting) (s : Stage) (w : Waiting) (i : Item) → IsStandingAt ts at ws s → s ≡ stage.Tree w → IsNoTree i → after judge made (goals_at ts at ws s) i ≡ Err 403
-refuses_tree judge made ts at ws s w i h e other =
+pub refuses_tree : (z : Version) (judge : Judge) (made : ℕ) (ts : List Target) (at : ℕ) (ws : List Waiting) (s : Stage) (w : Waiting) (i : Item) → IsStandingAt ts at ws s → s ≡ stage.Tree w → IsNoTree i → after judge made (goals_at z ts at ws s) i ≡ Err 403
+refuses_tree z judge made ts at ws s w i h e other =
     let k : IsStandingAt ts at ws (stage.Tree w) = subst (λ (x : Stage). IsStandingAt ts at ws x) e h in
     rw e (go (drop at ts) i (omega (arith, length-drop at ts, k.0)) other) where
-      go : (ts : List Target) (i : Item) → 0 < length ts → IsNoTree i → after judge made (tree_goals ts w ws) i ≡ Err 403
+      go : (ts : List Target) (i : Item) → 0 < length ts → IsNoTree i → after judge made (tree_goals z ts w ws) i ≡ Err 403
       go [] i some other = absurd (omega arith)
       go (t ∷ ts) (item.Header v) some other = refl
       go (t ∷ ts) (item.Class c m) some other = refl
       go (t ∷ ts) (item.Leaf crossing point process) some other = absurd other
       go (t ∷ ts) (item.Split a v) some other = absurd other
-      go (t ∷ ts) item.Never some other = refl
+      go (t ∷ ts) item.Never some other = absurd other
       go (t ∷ ts) item.End some other = refl
 
-pub between_402 : (xs : List Target) → form_fault (ahead xs) ≡ 402
-between_402 [] = refl
-between_402 (t ∷ ts) = refl
+pub between_402 : (z : Version) (xs : List Target) → form_fault (ahead z xs) ≡ 402
+between_402 z [] = refl
+between_402 z (t ∷ ts) = refl
 
-pub tree_402 : (xs : List Target) (w : Waiting) (ws : List Waiting) → 0 < length xs → form_fault (tree_goals xs w ws) ≡ 402
-tree_402 [] w ws some = absurd (omega arith)
-tree_402 (t ∷ ts) w ws some = refl
+pub tree_402 : (z : Version) (xs : List Target) (w : Waiting) (ws : List Waiting) → 0 < length xs → form_fault (tree_goals z xs w ws) ≡ 402
+tree_402 z [] w ws some = absurd (omega arith)
+tree_402 z (t ∷ ts) w ws some = refl
 
-pub not_ended : (ts : List Target) (at : ℕ) (ws : List Waiting) (s : Stage) (n : ℕ) → IsStandingAt ts at ws s → s ≢ stage.Ended → at_end n (goals_at ts at ws s) ≡ Some (ended_early n)
-not_ended ts at ws stage.Header n h ne = refl
-not_ended ts at ws stage.Between n h ne = go (drop at ts) where
-  go : (xs : List Target) → at_end n (ahead xs) ≡ Some (ended_early n)
+pub not_ended : (z : Version) (ts : List Target) (at : ℕ) (ws : List Waiting) (s : Stage) (n : ℕ) → IsStandingAt ts at ws s → s ≢ stage.Ended → at_end n (goals_at z ts at ws s) ≡ Some (ended_early n)
+not_ended z ts at ws stage.Header n h ne = refl
+not_ended z ts at ws stage.Between n h ne = go (drop at ts) where
+  go : (xs : List Target) → at_end n (ahead z xs) ≡ Some (ended_early n)
   go [] = refl
   go (t ∷ ts) = refl
-not_ended ts at ws (stage.Tree w) n h ne = go (drop at ts) (omega (arith, length-drop at ts, h.0)) where
-  go : (xs : List Target) → 0 < length xs → at_end n (tree_goals xs w ws) ≡ Some (ended_early n)
+not_ended z ts at ws (stage.Tree w) n h ne = go (drop at ts) (omega (arith, length-drop at ts, h.0)) where
+  go : (xs : List Target) → 0 < length xs → at_end n (tree_goals z xs w ws) ≡ Some (ended_early n)
   go [] some = absurd (omega arith)
   go (t ∷ ts) some = refl
-not_ended ts at ws stage.Ended n h ne = absurd (ne refl)
+not_ended z ts at ws stage.Ended n h ne = absurd (ne refl)
 
-pub form_fault_between : (ts : List Target) (at : ℕ) (ws : List Waiting) (s : Stage) → s ≡ stage.Between → 402 ≡ form_fault (goals_at ts at ws s)
-form_fault_between ts at ws s e = rw e (sym (between_402 (drop at ts)))
+pub form_fault_between : (z : Version) (ts : List Target) (at : ℕ) (ws : List Waiting) (s : Stage) → s ≡ stage.Between → 402 ≡ form_fault (goals_at z ts at ws s)
+form_fault_between z ts at ws s e = rw e (sym (between_402 z (drop at ts)))
 
-pub form_fault_tree : (ts : List Target) (at : ℕ) (ws : List Waiting) (s : Stage) (w : Waiting) → IsStandingAt ts at ws s → s ≡ stage.Tree w → 402 ≡ form_fault (goals_at ts at ws s)
-form_fault_tree ts at ws s w h e =
+pub form_fault_tree : (z : Version) (ts : List Target) (at : ℕ) (ws : List Waiting) (s : Stage) (w : Waiting) → IsStandingAt ts at ws s → s ≡ stage.Tree w → 402 ≡ form_fault (goals_at z ts at ws s)
+form_fault_tree z ts at ws s w h e =
     let k : IsStandingAt ts at ws (stage.Tree w) = subst (λ (x : Stage). IsStandingAt ts at ws x) e h in
-    rw e (sym (tree_402 (drop at ts) w ws (omega (arith, length-drop at ts, k.0))))
+    rw e (sym (tree_402 z (drop at ts) w ws (omega (arith, length-drop at ts, k.0))))
 
-pub no_tree : (i : Item) → ((crossing point process : ℕ) → i ≢ item.Leaf crossing point process) → ((a : Axis) (v : ℕ) → i ≢ item.Split a v) → IsNoTree i
-no_tree (item.Header v) f g = tt
-no_tree (item.Class c m) f g = tt
-no_tree (item.Leaf crossing point process) f g = f crossing point process refl
-no_tree (item.Split a v) f g = g a v refl
-no_tree item.Never f g = tt
-no_tree item.End f g = tt
+pub no_tree : (i : Item) → ((crossing point process : ℕ) → i ≢ item.Leaf crossing point process) → ((a : Axis) (v : ℕ) → i ≢ item.Split a v) → i ≢ item.Never → IsNoTree i
+no_tree (item.Header v) f g h = tt
+no_tree (item.Class c m) f g h = tt
+no_tree (item.Leaf crossing point process) f g h = f crossing point process refl
+no_tree (item.Split a v) f g h = g a v refl
+no_tree item.Never f g h = h refl
+no_tree item.End f g h = tt

@@ -3,6 +3,7 @@ use Rattle.std.specs.Prelude.{◌≡◌, ℕ, ◌+◌, ◌<◌, ◌≤◌, true,
 use Rattle.std.specs.List.{AllByRecursion}
 use Rattle.fx_cert.specs.declared.item.Item.{Item}
 use Rattle.fx_cert.specs.declared.item.Item.TheVariants as item
+use Rattle.fx_cert.specs.declared.item.Version.{Version}
 use Rattle.fx_cert.specs.declared.item.Version.TheVariants.{One}
 use Rattle.fx_cert.specs.ItemText.{IsItem, item_text}
 use Rattle.fx_machine.specs.Classes.{Class}
@@ -22,8 +23,8 @@ abbrev pub body_items : List Target → List Tree → List Item
 body_items (t ∷ ts) (x ∷ xs) = item.Class t.class t.path ∷ (tree_items x ++ body_items ts xs)
 body_items _ _ = item.End ∷ []
 
-abbrev pub certificate_items : List Target → List Tree → List Item
-certificate_items ts xs = item.Header One ∷ body_items ts xs
+abbrev pub certificate_items : Version → List Target → List Tree → List Item
+certificate_items v ts xs = item.Header v ∷ body_items ts xs
 
 -- the item's text, which a line feed ends
 abbrev pub item_line : Item → Line
@@ -53,7 +54,7 @@ IsShallow d (Split axis at below above) = (d < depth_limit) × IsShallow (d + 1)
 
 -- ---- certificates
 
--- no leaf says that nothing is counted; there are none such in version 1
+-- no leaf says that nothing is counted
 abbrev pub AllCounted : Tree → Type 0
 AllCounted (Leaf crossing point process) = Unit {0}
 AllCounted Uncounted = ⊥
@@ -73,11 +74,12 @@ in_a_row (xs ∷ trees) = xs ++ in_a_row trees
 
 -- the lines are those of a sound certificate within the limits
 pub record IsCertificate (net : Net) (classes : List Class) (lines : List Line) : Type 0 where
+  pub version : Version
   pub trees : List (List Tree)
   pub each : AreFor classes trees
   pub sound : Sound net classes trees
-  pub counted : AllByRecursion AllCounted (in_a_row trees)
+  pub counted : version ≡ One → AllByRecursion AllCounted (in_a_row trees)
   pub shallow : AllByRecursion (IsShallow 0) (in_a_row trees)
-  pub lines_are : lines ≡ map item_line (certificate_items (targets_of classes) (in_a_row trees))
-  pub writable : AllByRecursion IsWritable (certificate_items (targets_of classes) (in_a_row trees))
+  pub lines_are : lines ≡ map item_line (certificate_items version (targets_of classes) (in_a_row trees))
+  pub writable : AllByRecursion IsWritable (certificate_items version (targets_of classes) (in_a_row trees))
   pub few : sizes (in_a_row trees) ≤ line_limit

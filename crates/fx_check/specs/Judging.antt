@@ -7,14 +7,15 @@ use Rattle.fx_boxes.specs.Boxes.{Bounds}
 use Rattle.fx_machine.specs.declared.traffic.Crossing.{Crossing}
 use Rattle.fx_machine.specs.Network.{Net}
 use Rattle.fx_leaf.specs.declared.leaf.Counted.{Counted}
-use Rattle.fx_leaf.specs.Leaves.{leaf_of, named, NoneIsSound}
+use Rattle.fx_leaf.specs.Leaves.{leaf_of, never_of, named, NoneIsSound}
 use Rattle.fx_leaf.specs.SoundLeaves.{SoundLeaf}
 use Rattle.fx_leaf.specs.Verdicts.{path_verdict, counted}
 use Rattle.fx_traffic.specs.Targets.{Target}
 
--- the number of what is wrong with a leaf for a region of a target, if anything is
+-- the number of what is wrong with a leaf for a region of a target, if anything is; a leaf that names no place of
+-- counting says that nothing is counted
 abbrev pub Judge : Type 0
-Judge = Target → Bounds → Counted → Option ℕ
+Judge = Target → Bounds → Option Counted → Option ℕ
 
 abbrev pub same_leaf : Counted → Counted → Bool
 same_leaf a b = a.crossing == b.crossing && (a.point == b.point && a.process == b.process)
@@ -28,8 +29,16 @@ abbrev pub unless_same : Counted → Result Counted Fault → Option ℕ
 unless_same leaf (Err e) = Some e.number
 unless_same leaf (Ok c) = if same_leaf c leaf then None else Some 410
 
+abbrev pub unless_never : Result (Unit {0}) Fault → Option ℕ
+unless_never (Err e) = Some e.number
+unless_never (Ok x) = None
+
+abbrev pub sound_never : Net → List Crossing → Bounds → Result (Unit {0}) Fault
+sound_never net path region = never_of (path_verdict net region path)
+
 abbrev pub judge_of : Net → Judge
-judge_of net target region leaf = unless_same leaf (sound_leaf net target.crossings region)
+judge_of net target region (Some leaf) = unless_same leaf (sound_leaf net target.crossings region)
+judge_of net target region None = unless_never (sound_never net target.crossings region)
 
 -- ---- what the number says
 

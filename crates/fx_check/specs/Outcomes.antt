@@ -53,7 +53,7 @@ Continues judge first all now made gs =
 
 -- the numbers of what can be wrong with a certificate
 abbrev pub IsCertificateNumber : ℕ → Type 0
-IsCertificateNumber number = (401 ≤ number) × (number ≤ 414)
+IsCertificateNumber number = (401 ≤ number) × (number ≤ 415)
 
 -- want of memory, a source that failed, a line that is too long, or what is wrong with the certificate at a line
 pub data IsCheckFault : Fault → Type 0 where

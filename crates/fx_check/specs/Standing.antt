@@ -1,5 +1,6 @@
 -- What a certificate still has to say where a checker stands.
 use Rattle.std.specs.Prelude.{◌≡◌, ℕ, ◌+◌, ◌<◌, ◌≤◌, List, [], ◌∷◌, length, drop, Result, Ok, Err}
+use Rattle.fx_cert.specs.declared.item.Version.{Version}
 use Rattle.fx_traffic.specs.Targets.{Target}
 use Rattle.fx_check.specs.declared.stack.Waiting.{Waiting}
 use Rattle.fx_check.specs.declared.course.Course.{Course}
@@ -8,23 +9,23 @@ use Rattle.fx_check.specs.declared.course.Stage.TheVariants as stage
 use Rattle.fx_check.specs.Verdict.{Goal, header, tree, ahead}
 
 -- the regions that wait, the last of them first, and then gs
-abbrev pub waiting_goals : Target → List Waiting → List Goal → List Goal
-waiting_goals t [] gs = gs
-waiting_goals t (w ∷ ws) gs = waiting_goals t ws (tree t w.region w.depth ∷ gs)
+abbrev pub waiting_goals : Version → Target → List Waiting → List Goal → List Goal
+waiting_goals v t [] gs = gs
+waiting_goals v t (w ∷ ws) gs = waiting_goals v t ws (tree v t w.region w.depth ∷ gs)
 
 -- within the tree of the first of the targets
-abbrev pub tree_goals : List Target → Waiting → List Waiting → List Goal
-tree_goals [] w ws = []
-tree_goals (t ∷ ts) w ws = tree t w.region w.depth ∷ waiting_goals t ws (ahead ts)
+abbrev pub tree_goals : Version → List Target → Waiting → List Waiting → List Goal
+tree_goals v [] w ws = []
+tree_goals v (t ∷ ts) w ws = tree v t w.region w.depth ∷ waiting_goals v t ws (ahead v ts)
 
-abbrev pub goals_at : List Target → ℕ → List Waiting → Stage → List Goal
-goals_at ts at ws stage.Header = header ∷ ahead (drop at ts)
-goals_at ts at ws stage.Between = ahead (drop at ts)
-goals_at ts at ws (stage.Tree w) = tree_goals (drop at ts) w ws
-goals_at ts at ws stage.Ended = []
+abbrev pub goals_at : Version → List Target → ℕ → List Waiting → Stage → List Goal
+goals_at v ts at ws stage.Header = header (drop at ts) ∷ []
+goals_at v ts at ws stage.Between = ahead v (drop at ts)
+goals_at v ts at ws (stage.Tree w) = tree_goals v (drop at ts) w ws
+goals_at v ts at ws stage.Ended = []
 
 abbrev pub goals : List Target → Course → List Goal
-goals ts c = goals_at ts c.current c.waiting c.stage
+goals ts c = goals_at c.version ts c.current c.waiting c.stage
 
 -- each region that waits is deeper than its place, which counts from k
 abbrev pub AreDeepFrom : ℕ → List Waiting → Type 0
@@ -50,13 +51,13 @@ IsInTree stage.Between = ⊥
 IsInTree (stage.Tree w) = Unit {0}
 IsInTree stage.Ended = ⊥
 
-abbrev pub rest_of_tree : List Target → List Waiting → List Goal
-rest_of_tree [] ws = []
-rest_of_tree (t ∷ ts) ws = waiting_goals t ws (ahead ts)
+abbrev pub rest_of_tree : Version → List Target → List Waiting → List Goal
+rest_of_tree v [] ws = []
+rest_of_tree v (t ∷ ts) ws = waiting_goals v t ws (ahead v ts)
 
 -- what is to be said after the region's tree
 abbrev pub rest_goals : List Target → Course → List Goal
-rest_goals ts c = rest_of_tree (drop c.current ts) c.waiting
+rest_goals ts c = rest_of_tree c.version (drop c.current ts) c.waiting
 
 -- a call's outcome, with what is left to say
 abbrev pub map_result : {A : Type 0} → Result A ℕ → List Goal → Result (List Goal) ℕ

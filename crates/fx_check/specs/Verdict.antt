@@ -1,5 +1,5 @@
 -- What a certificate still has to say, and the first of its lines that says something else.
-use Rattle.std.specs.Prelude.{ℕ, ◌+◌, ◌&&◌, ◌==◌, Bool, nat_lt, nat_le, if◌then◌else◌, List, [], ◌∷◌, length, Result, Ok, Err, Option, Some, None, slice_index}
+use Rattle.std.specs.Prelude.{ℕ, ◌+◌, ◌&&◌, ◌==◌, Bool, nat_lt, nat_le, if◌then◌else◌, List, [], ◌∷◌, ◌++◌, false, length, Result, Ok, Err, Option, Some, None, slice_index}
 use Rattle.fx_base.specs.declared.fault.Fault.{Fault}
 use Rattle.fx_base.specs.declared.fault.Place.TheVariants as places
 use Rattle.fx_base.specs.Fault.{fault_at}
@@ -8,27 +8,29 @@ use Rattle.fx_elements.specs.Axes.{axis_index}
 use Rattle.fx_boxes.specs.Boxes.{Bounds, below_part, above_part}
 use Rattle.fx_cert.specs.declared.item.Item.{Item}
 use Rattle.fx_cert.specs.declared.item.Item.TheVariants as item
-use Rattle.fx_cert.specs.declared.item.Version.TheVariants.{One}
+use Rattle.fx_cert.specs.declared.item.Version.{Version}
+use Rattle.fx_cert.specs.declared.item.Version.TheVariants.{One, Two}
 use Rattle.fx_cert.specs.ItemReading.{item_of}
 use Rattle.fx_traffic.specs.Targets.{Target}
 use Rattle.fx_check.specs.Judging.{Judge}
 
 -- ---- goals
 
--- what is still to be said: the first line, the line of a target, the tree of a region at a depth, or the last line
+-- what is still to be said: the first line and then all of these targets, the line of a target, the tree of a region at a
+-- depth in this version, or the last line
 pub data Goal : Type 0 where
-  header : Goal
+  header : List Target → Goal
   opening : Target → Goal
-  tree : Target → Bounds → ℕ → Goal
+  tree : Version → Target → Bounds → ℕ → Goal
   close : Goal
 
 -- the targets in order, each with the tree of its region, and then the last line
-abbrev pub ahead : List Target → List Goal
-ahead [] = close ∷ []
-ahead (t ∷ ts) = opening t ∷ tree t t.region 0 ∷ ahead ts
+abbrev pub ahead : Version → List Target → List Goal
+ahead v [] = close ∷ []
+ahead v (t ∷ ts) = opening t ∷ tree v t t.region 0 ∷ ahead v ts
 
 abbrev pub whole : List Target → List Goal
-whole ts = header ∷ ahead ts
+whole ts = header ts ∷ []
 
 -- ---- an item
 
@@ -57,21 +59,28 @@ split_answer made b d k at gs =
     else Err 404
 
 -- the trees of the two parts, that of the lower one first
-abbrev pub parts : Target → Bounds → ℕ → ℕ → ℕ → List Goal → List Goal
-parts t b d k at gs = tree t (below_part b k at) (d + 1) ∷ tree t (above_part b k at) (d + 1) ∷ gs
+abbrev pub parts : Version → Target → Bounds → ℕ → ℕ → ℕ → List Goal → List Goal
+parts v t b d k at gs = tree v t (below_part b k at) (d + 1) ∷ tree v t (above_part b k at) (d + 1) ∷ gs
+
+-- a leaf may say that nothing is counted
+abbrev pub may_say_never : Version → Target → Bool
+may_say_never One t = false
+may_say_never Two t = t.exempt
 
 -- what is left to say after an item, or the number of its fault; so many split and leaf lines came before
 abbrev pub after : Judge → ℕ → List Goal → Item → Result (List Goal) ℕ
 after judge made [] i = Err 411
-after judge made (header ∷ gs) (item.Header One) = Ok gs
-after judge made (header ∷ gs) _ = Err 401
+after judge made (header ts ∷ gs) (item.Header v) = Ok (ahead v ts ++ gs)
+after judge made (header ts ∷ gs) _ = Err 401
 after judge made (opening t ∷ gs) (item.Class c m) = if c == t.class && m == t.path then Ok gs else Err 403
 after judge made (opening t ∷ gs) _ = Err 403
-after judge made (tree t b d ∷ gs) (item.Leaf crossing point process) =
-    if t.exempt then Err 403 else leaf_answer made (judge t b (record { crossing = crossing; point = point; process = process })) gs
-after judge made (tree t b d ∷ gs) (item.Split a at) =
-    split_answer made b d (axis_index a) at (parts t b d (axis_index a) at gs)
-after judge made (tree t b d ∷ gs) _ = Err 403
+after judge made (tree v t b d ∷ gs) (item.Leaf crossing point process) =
+    if t.exempt then Err 403 else leaf_answer made (judge t b (Some (record { crossing = crossing; point = point; process = process }))) gs
+after judge made (tree v t b d ∷ gs) item.Never =
+    if may_say_never v t then leaf_answer made (judge t b None) gs else Err 403
+after judge made (tree v t b d ∷ gs) (item.Split a at) =
+    split_answer made b d (axis_index a) at (parts v t b d (axis_index a) at gs)
+after judge made (tree v t b d ∷ gs) _ = Err 403
 after judge made (close ∷ gs) item.End = Ok gs
 after judge made (close ∷ gs) _ = Err 403
 
@@ -106,9 +115,9 @@ reading_of l = if nat_lt 4096 (length l.0) then long else if l.1 then said (item
 -- the fault of a line that is no item's text
 abbrev pub form_fault : List Goal → ℕ
 form_fault [] = 411
-form_fault (header ∷ gs) = 401
+form_fault (header ts ∷ gs) = 401
 form_fault (opening t ∷ gs) = 402
-form_fault (tree t b d ∷ gs) = 402
+form_fault (tree v t b d ∷ gs) = 402
 form_fault (close ∷ gs) = 402
 
 abbrev pub after_reading : Judge → ℕ → List Goal → Reading → Result (List Goal) ℕ

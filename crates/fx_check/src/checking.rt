@@ -75,15 +75,15 @@ fn check_classes<R: Source>(
 ///
 /// The text is a line `once-certificate 1`; for each path of each class, in order, a line `class CLASS PATH` and a
 /// tree; and a line `end`. A tree is a leaf, `L CROSSING POINT PROCESS`, or a split, `S AXIS AT`, followed by the tree
-/// of the values below `AT` and that of the values from `AT` on. The second version, in which leaves of exempt classes
-/// can be said, isn't taken yet.
+/// of the values below `AT` and that of the values from `AT` on. After a first line `once-certificate 2` the leaves of
+/// exempt classes are `N`: none of the packets is counted.
 ///
 /// The text is read once, a line at a time. All memory is taken before the first line is read: 900, at no place, leaves
 /// the reader as it was. Else it fails at the first line where something is wrong, and the reader goes on behind that
 /// line. What is looked for in a line, in this order: 901, at no place, and 903 are the reader's; 405 the text ends
 /// before `end`, or inside the line (at the text's end the place is the number of lines, plus 1); 411 a line behind
 /// `end`; 401 the first line isn't the one above; 402 a later line is no item's text; 403 an item isn't in its place,
-/// or a leaf is of an exempt class;
+/// or a leaf is of another kind than its class wants;
 /// 414 more than 1,000,000 split and leaf lines; for a split 412, deeper than 511, where the first has depth 0, then
 /// 404, not strictly inside its region; for a leaf 406, 413, 409, 408 and 407, as [`fate`](fx_leaf::fate) answers
 /// them, then 410, another selection process than the one that counts.
@@ -105,7 +105,7 @@ pub fn check<R: Source>(
         ⊎ MayBeRefused (net_of plan.now) (targets_of traffic.now) lines.old lines.new e)) }
     // No such certificate is refused: where its text is told, only want of memory or a read that failed stops it.
     ensures accepts { IfErr result (Accepts (net_of plan.now) traffic.now lines.old lines.new) }
-    // Whatever the reader tells of its bytes: 900 or 901, 903 at a line, or 401 to 414 at a line.
+    // Whatever the reader tells of its bytes: 900 or 901, 903 at a line, or 401 to 415 at a line.
     ensures numbers { IfErr result (IsToldBy lines.old) }
 {
     let tables = tables_of(plan);

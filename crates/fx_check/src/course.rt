@@ -8,7 +8,7 @@ ghost use Rattle.fx_check.specs.Judging.{Judge, judge_of};
 ghost use Rattle.fx_check.specs.Standing.{goals, rest_goals, IsStanding, IsInTree, map_result};
 ghost use Rattle.fx_check.specs.Verdict.{Goal, after, after_reading, split_answer, made_by, made_after, form_fault, reading_of, at_end};
 
-use crate::judging::leaf_fault;
+use crate::judging::{leaf_fault, never_fault};
 use crate::stack::{Stack, Waiting};
 use fx_base::{Fault, Line};
 use fx_boxes::Region;
@@ -38,6 +38,8 @@ pub(crate) enum Stage {
 #[derive(Drop)]
 pub(crate) struct Course {
     pub(crate) stage: Stage,
+    /// The version that the first line told, 1 before it.
+    pub(crate) version: Version,
     /// The place of the current target, from 0.
     pub(crate) current: usize,
     /// The upper parts of the splits above the current region.
@@ -53,6 +55,7 @@ impl Course {
     {
         Ok(Course {
             stage: Stage::Header,
+            version: Version::One,
             current: 0,
             waiting: Stack::new(alloc)?,
             made: 0,
@@ -94,6 +97,7 @@ impl Course {
         ensures goals { goals targets.now self.new ≡ rest_goals targets.now self.old }
         ensures standing { IsStanding targets.now self.new }
         ensures made { self.new.made ≡ self.old.made }
+        ensures version { self.new.version ≡ self.old.version }
     {
         match self.waiting.pop() {
             Some(top) => {
@@ -132,6 +136,38 @@ impl Course {
             return Err(414);
         }
         if let Some(number) = leaf_fault(scratch, tables, target, &here.region, leaf) {
+            return Err(number);
+        }
+        self.made += 1;
+        self.close_region(targets);
+        Ok(())
+    }
+
+    /// Takes a leaf that says that nothing is counted as the tree of a region.
+    fn never(
+        &mut self,
+        scratch: &mut Scratch,
+        tables: &Tables<'_>,
+        targets: &[Target<'_>],
+        here: &Waiting,
+    ) -> Result<(), u16>
+        requires tables { AreTables tables.now }
+        requires room { length tables.now.net.processes ≤ length scratch.old }
+        requires standing { IsStanding targets.now self.old }
+        requires stage { self.old.stage ≡ Stage.Tree here.now }
+        ensures after { after (judge_of tables.now.net) self.old.made (goals targets.now self.old) of_item.Never ≡ map_result result (goals targets.now self.new) }
+        ensures standing { OnOk result (IsStanding targets.now self.new) }
+        ensures made { OnOk result (self.new.made ≡ self.old.made + 1) }
+        ensures size { length scratch.new ≡ length scratch.old }
+    {
+        let target = &targets[self.current];
+        if self.version == Version::One || !target.exempt {
+            return Err(403);
+        }
+        if self.made >= LINES {
+            return Err(414);
+        }
+        if let Some(number) = never_fault(scratch, tables, target, &here.region) {
             return Err(number);
         }
         self.made += 1;
@@ -198,6 +234,7 @@ impl Course {
                 };
                 self.leaf(scratch, tables, targets, here, &leaf)
             }
+            Item::Never => self.never(scratch, tables, targets, here),
             Item::Split { axis, at } => self.split(targets, here, *axis, *at),
             _ => Err(403),
         }
@@ -222,7 +259,8 @@ impl Course {
         match self.stage {
             Stage::Ended => Err(411),
             Stage::Header => match item {
-                Item::Header(Version::One) => {
+                Item::Header(version) => {
+                    self.version = *version;
                     self.stage = Stage::Between;
                     Ok(())
                 }
@@ -247,7 +285,7 @@ impl Course {
     }
 
     /// Takes a line, or answers the number of its fault: 405 where no line feed ends it, 411 behind the last line,
-    /// 401 where the first line isn't `once-certificate 1`, 402 where another is no item's text, 403 where an item
+    /// 401 where the first line isn't `once-certificate` with its version, 402 where another is no item's text, 403 where an item
     /// isn't in its place or a leaf tells where exempt packets are counted, 414 where split and leaf lines are too
     /// many, 412 where a split is too deep, 404 where it isn't strictly inside its region, or what is wrong with a
     /// leaf.

@@ -1,10 +1,10 @@
 //! What is wrong with a leaf.
-ghost use Rattle.std.specs.Prelude.{◌≡◌, ◌≤◌, length};
+ghost use Rattle.std.specs.Prelude.{◌≡◌, ◌≤◌, length, Some, None};
 ghost use Rattle.fx_leaf.specs.Tables.{AreTables};
 ghost use Rattle.fx_check.specs.Judging as of_judging;
 
 use fx_boxes::Region;
-use fx_leaf::{Counted, Scratch, Tables, fate};
+use fx_leaf::{Counted, Scratch, Tables, fate, never};
 use fx_traffic::Target;
 
 fn same_leaf(one: &Counted, other: &Counted) -> bool
@@ -24,7 +24,7 @@ pub(crate) fn leaf_fault(
 ) -> Option<u16>
     requires tables { AreTables tables.now }
     requires room { length tables.now.net.processes ≤ length scratch.old }
-    ensures fault { result ≡ of_judging.judge_of tables.now.net target.now region.now leaf.now }
+    ensures fault { result ≡ of_judging.judge_of tables.now.net target.now region.now (Some leaf.now) }
     ensures size { length scratch.new ≡ length scratch.old }
 {
     match fate(scratch, tables, target.crossings, region) {
@@ -36,5 +36,23 @@ pub(crate) fn leaf_fault(
                 Some(410)
             }
         }
+    }
+}
+
+/// The number of what is wrong with a leaf that says that no packet of a region of a target is counted.
+pub(crate) fn never_fault(
+    scratch: &mut Scratch,
+    tables: &Tables<'_>,
+    target: &Target<'_>,
+    region: &Region,
+) -> Option<u16>
+    requires tables { AreTables tables.now }
+    requires room { length tables.now.net.processes ≤ length scratch.old }
+    ensures fault { result ≡ of_judging.judge_of tables.now.net target.now region.now None }
+    ensures size { length scratch.new ≡ length scratch.old }
+{
+    match never(scratch, tables, target.crossings, region) {
+        Err(e) => Some(e.number),
+        Ok(()) => None,
     }
 }

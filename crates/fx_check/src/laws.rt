@@ -31,5 +31,5 @@ pub fn certificates_count_once()
 /// Where something is wrong with a leaf for a region, its number says why no leaf is sound there, or is 410 where
 /// another one is.
 pub fn wrong_leaves_are_told()
-    ensures { (net : network.Net) (target : Target) (region : Bounds) (leaf : Counted) (number : ℕ) → IsNetwork net → IsRegion region → judge_of net target region leaf ≡ Some number → IsWrong net target.crossings region leaf number }
+    ensures { (net : network.Net) (target : Target) (region : Bounds) (leaf : Counted) (number : ℕ) → IsNetwork net → IsRegion region → judge_of net target region (Some leaf) ≡ Some number → IsWrong net target.crossings region leaf number }
 {}

@@ -100,7 +100,7 @@ const CERTIFICATES: &[(&str, &str)] = &[
         "once-certificate 1\nclass 1 path 1\nL 1 1 2\nend\n",
         "410 line 3",
     ),
-    ("once-certificate 2\n", "401 line 1"),
+    ("once-certificate 2\n", "405 line 2"),
     ("once-certificate 1\nclass 1 path 01\n", "402 line 2"),
     ("once-certificate 1\nclass 1 path 2\n", "403 line 2"),
 ];
