@@ -13,8 +13,9 @@ use Rattle.fx_cert.specs.declared.item.Version.{Version}
 use Rattle.fx_cert.specs.declared.item.Version.TheVariants.{One, Two}
 use Rattle.fx_leaf.specs.Certificates.{Tree, Leaf, Uncounted, Split, SoundTree, Sound}
 use Rattle.fx_leaf.specs.SoundLeaves.{SoundLeaf, SoundNever}
-use Rattle.fx_leaf.proofs.Deciding.{answer_sound, answer_every, answer_none, never_sound, never_every}
-use Rattle.fx_leaf.specs.Leaves.{NoneIsSound}
+use Rattle.fx_leaf.proofs.Deciding.{answer_sound, answer_every, answer_none, never_sound, never_every, never_none}
+use Rattle.fx_leaf.specs.Leaves.{NoneIsSound, NeverIsUnsound}
+use Rattle.fx_leaf.specs.Leaves.NeverIsUnsound.{cut as is_cut, unassigned as is_unassigned, differing as is_differing, many as is_many, once as is_once}
 use Rattle.fx_leaf.specs.Leaves.NoneIsSound.{cut, unassigned, differing, many, never}
 use Rattle.fx_base.specs.Fault.{fault_at}
 use Rattle.fx_base.specs.declared.fault.Place.TheVariants as places
@@ -115,6 +116,20 @@ module _ (net : Net) (is_net : IsNetwork net) where
     go : (answer : Result (Unit {0}) Fault) → OnOk answer (SoundNever net t.crossings b) → unless_never answer ≡ None → SoundNever net t.crossings b
     go (Ok x) sound e = sound
     go (Err f) sound e = absurd cc
+
+  -- why a leaf is wrong that says that nothing is counted
+  pub never_wrong : (t : Target) (b : Bounds) (n : ℕ) → IsRegion b → judge_of net t b None ≡ Some n → NeverIsUnsound net t.crossings b (fault_at n places.None)
+  never_wrong t b n r e = go (sound_never net t.crossings b) (never_none net t.crossings b is_net r (sound_never net t.crossings b) refl) e where
+    by_number : (f : Fault) → NeverIsUnsound net t.crossings b f → f.number ≡ n → NeverIsUnsound net t.crossings b (fault_at n places.None)
+    by_number f (is_cut h) is = rw (← is) (is_cut h)
+    by_number f (is_unassigned h a) is = rw (← is) (is_unassigned h a)
+    by_number f (is_differing h a) is = rw (← is) (is_differing h a)
+    by_number f (is_many h a) is = rw (← is) (is_many h a)
+    by_number f (is_once h a) is = rw (← is) (is_once h a)
+
+    go : (answer : Result (Unit {0}) Fault) → IfErr answer (NeverIsUnsound net t.crossings b) → unless_never answer ≡ Some n → NeverIsUnsound net t.crossings b (fault_at n places.None)
+    go (Err f) why e = by_number f why (let k : f.number ≡ n = cc in k)
+    go (Ok x) why e = absurd cc
 
   -- ---- trees
 

@@ -7,7 +7,6 @@ use Rattle.fx_boxes.specs.Boxes.{Bounds, below_part, above_part, IsStrictlyInsid
 use Rattle.fx_cert.specs.declared.item.Item.{Item}
 use Rattle.fx_cert.specs.declared.item.Item.TheVariants as item
 use Rattle.fx_cert.specs.declared.item.Version.{Version}
-use Rattle.fx_cert.specs.declared.item.Version.TheVariants.{One, Two}
 use Rattle.fx_leaf.specs.declared.leaf.Counted.{Counted}
 use Rattle.fx_leaf.specs.Certificates.{Tree, Leaf, Uncounted, Split}
 use Rattle.fx_check.specs.Judging.{Judge}

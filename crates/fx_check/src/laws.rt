@@ -1,6 +1,9 @@
 //! The laws: no code, but contracts over the definitions.
 ghost use Rattle.std.specs.Prelude.{◌≡◌, ℕ, List, None, Some};
 ghost use Rattle.fx_boxes.specs.Boxes.{Bounds, IsRegion};
+ghost use Rattle.fx_base.specs.Fault.{fault_at};
+ghost use Rattle.fx_base.specs.declared.fault.Place.TheVariants as places;
+ghost use Rattle.fx_leaf.specs.Leaves.{NeverIsUnsound};
 ghost use Rattle.fx_leaf.specs.declared.leaf.Counted.{Counted};
 ghost use Rattle.fx_machine.specs.Claim.{ExactlyOnce, OnceModulo};
 ghost use Rattle.fx_machine.specs.Classes as traffic;
@@ -29,7 +32,12 @@ pub fn certificates_count_once()
 {}
 
 /// Where something is wrong with a leaf for a region, its number says why no leaf is sound there, or is 410 where
-/// another one is.
+/// another one is; of a leaf that says that nothing is counted it says why packets are.
 pub fn wrong_leaves_are_told()
-    ensures { (net : network.Net) (target : Target) (region : Bounds) (leaf : Counted) (number : ℕ) → IsNetwork net → IsRegion region → judge_of net target region (Some leaf) ≡ Some number → IsWrong net target.crossings region leaf number }
+    ensures counted { (net : network.Net) (target : Target) (region : Bounds) (leaf : Counted) (number : ℕ)
+        → IsNetwork net → IsRegion region → judge_of net target region (Some leaf) ≡ Some number
+        → IsWrong net target.crossings region leaf number }
+    ensures never { (net : network.Net) (target : Target) (region : Bounds) (number : ℕ)
+        → IsNetwork net → IsRegion region → judge_of net target region None ≡ Some number
+        → NeverIsUnsound net target.crossings region (fault_at number places.None) }
 {}
