@@ -144,6 +144,35 @@ const OF_PATH_THROUGH_TWO: &[(&str, &str)] = &[
     ),
 ];
 
+/// Beside a class that a meter counts, an exempt one whose path no meter sees.
+const EXEMPT_UNSEEN: &str =
+    r#"{"classes":[{"name":"web","region":{"sourceIPv4Address":"10.0.0.0/8"},"paths":[[{"device":"m1","interface":"eth0","direction":"ingress"}]]},{"name":"management","paths":[[]],"exempt":true}]}"#;
+
+const OF_EXEMPT_UNSEEN: &[(&str, &str)] = &[
+    (
+        "once-certificate 2\nclass 1 path 1\nL 1 1 1\nclass 2 path 1\nN\nend\n",
+        "yes",
+    ),
+    (
+        "once-certificate 1\nclass 1 path 1\nL 1 1 1\nclass 2 path 1\nN\nend\n",
+        "403 line 5",
+    ),
+    (
+        "once-certificate 2\nclass 1 path 1\nL 1 1 1\nclass 2 path 1\nL 1 1 1\nend\n",
+        "403 line 5",
+    ),
+    ("once-certificate 2\nclass 1 path 1\nN\n", "403 line 3"),
+];
+
+/// An exempt class that a meter counts.
+const EXEMPT_COUNTED: &str =
+    r#"{"classes":[{"name":"web","region":{"sourceIPv4Address":"10.0.0.0/8"},"paths":[[{"device":"m1","interface":"eth0","direction":"ingress"}]],"exempt":[null]}]}"#;
+
+const OF_EXEMPT_COUNTED: &[(&str, &str)] = &[(
+    "once-certificate 2\nclass 1 path 1\nN\nend\n",
+    "415 line 3",
+)];
+
 #[test]
 fn checks_certificates(rt: HostRuntime) -> Result<(), Fail> {
     for (network, traffic, certificates) in [
@@ -151,6 +180,8 @@ fn checks_certificates(rt: HostRuntime) -> Result<(), Fail> {
         (NETWORK, PATH_UNSEEN, OF_PATH_UNSEEN),
         (NETWORK, PATH_TWICE, OF_PATH_TWICE),
         (TWO_METERS, PATH_THROUGH_TWO, OF_PATH_THROUGH_TWO),
+        (NETWORK, EXEMPT_UNSEEN, OF_EXEMPT_UNSEEN),
+        (NETWORK, EXEMPT_COUNTED, OF_EXEMPT_COUNTED),
     ] {
         let wrong = wrong_certificates(rt.alloc(), network, traffic, certificates)?;
         assert_eq!(rt; wrong.as_str(), "");
