@@ -14,6 +14,7 @@ pub mod RunWordTexts
 pub mod RunLines
 pub mod RunStepTexts
 pub mod RunTexts
+pub mod RunPutting
 mod SumExamples
 pub mod ClaimExamples
 mod StuckExamples

@@ -26,6 +26,7 @@ use Rattle.fx_machine.specs.declared.run_line.RunLine.TheVariants as line
 use Rattle.fx_machine.specs.Network.{numbered}
 use Rattle.fx_machine.specs.Classes.{Class, IsOf}
 use Rattle.fx_machine.specs.RunText.{Run, choice_word, field_words, packet_words, holder_words, step_words, first_words, last_words, run_lines, lines_text, run_text, AreChoices, IsHolderName, IsStep, IsPacket, IsPacketOf, IsRun, AreShort}
+use Rattle.fx_machine.specs.RunLineText.{IsRunLine, line_words, run_line_text}
 use Rattle.fx_machine.specs.RunReading.{Words, words, first_word, at_end, packet_of, step_of, line_of_kind, line_of, Line, at_line, well_formed, said, is_of, no_run, with_packet, with_step, packet_fault, unless, from_line, ended, behind, reading}
 use Rattle.fx_machine.proofs.RunWordTexts.{word_found, same_word, end_found, packet_text, packet_found}
 use Rattle.fx_machine.proofs.RunStepTexts.{step_text, step_found}
@@ -53,7 +54,7 @@ not_true true e = absurd cc
 not_true false e = refl
 
 -- a word that is written out
-written : (w : List ℕ) → are_plain w ≡ true → IsWord w
+pub written : (w : List ℕ) → are_plain w ≡ true → IsWord w
 written [] e = tt
 written (b ∷ bs) e =
     let p = both (is_plain b) (are_plain bs) e in
@@ -210,6 +211,21 @@ end_line = refl
 
 abbrev pub text_of_words : Words → List ℕ
 text_of_words ws = join_with_byte 32 ws
+
+pub plain_words : (x : RunLine) → IsRunLine x → AreWords (line_words x)
+plain_words (line.Packet p) h = packet_plain p h
+plain_words (line.Step s) h = step_plain s h
+plain_words line.End h = (written (codes "end") refl, tt)
+
+by_words : (w : List ℕ) (ws : Words) (x : RunLine) → AreWords (w ∷ ws) → line_of (w ∷ ws) ≡ Some x → line_of (words (text_of_words (w ∷ ws))) ≡ Some x
+by_words w ws x h e = ap line_of (words_join w ws h.0 h.1) ∙ e
+
+pub line_said : (x : RunLine) → IsRunLine x → line_of (words (run_line_text x)) ≡ Some x
+line_said (line.Packet p) h = by_words _ _ (line.Packet p) (packet_plain p h) (packet_line p h)
+line_said (line.Step (step.Cross packet crossing choices)) h = by_words _ _ _ (step_plain (step.Cross packet crossing choices) h) (step_line (step.Cross packet crossing choices) h)
+line_said (line.Step (step.Expire holder position choices)) h = by_words _ _ _ (step_plain (step.Expire holder position choices) h) (step_line (step.Expire holder position choices) h)
+line_said (line.Step (step.Arrive link position choices)) h = by_words _ _ _ (step_plain (step.Arrive link position choices) h) (step_line (step.Arrive link position choices) h)
+line_said line.End h = by_words _ _ line.End (written (codes "end") refl, tt) end_line
 
 says : (w : List ℕ) (ws : Words) (x : RunLine) → IsWord w → AreWords ws → length (text_of_words (w ∷ ws)) ≤ 4096 → line_of (w ∷ ws) ≡ Some x → said (text_of_words (w ∷ ws), true) ≡ Ok x
 says w ws x h hs short e = rw (le-ltb 4096 (length (text_of_words (w ∷ ws))) short, words_join w ws h hs, e) refl

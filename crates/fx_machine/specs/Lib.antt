@@ -24,3 +24,4 @@ pub mod Stores
 pub mod RunText
 pub mod RunWords
 pub mod RunReading
+pub mod RunLineText

@@ -1,14 +1,20 @@
-//! Laws of the steps.
-ghost use Rattle.std.specs.Prelude.{◌≡◌, List, Ok};
+//! Laws of the steps and of their text.
+ghost use Rattle.std.specs.Prelude.{◌≡◌, ℕ, List, Ok, Some, map};
+ghost use Rattle.std.specs.List.{AllByRecursion};
+ghost use Rattle.fx_base.specs.Lines.{text_lines};
 ghost use Rattle.fx_machine.specs.Classes as traffic;
 ghost use Rattle.fx_machine.specs.CompleteRun as complete_run;
 ghost use Rattle.fx_machine.specs.Moves as moves;
 ghost use Rattle.fx_machine.specs.Network as network;
 ghost use Rattle.fx_machine.specs.Ranks as ranks;
+ghost use Rattle.fx_machine.specs.RunLineText.{IsOneLine, IsRunLine, ended_line, run_line_text};
+ghost use Rattle.fx_machine.specs.RunReading.{line_of, words};
+ghost use Rattle.fx_machine.specs.RunText.{lines_text};
 ghost use Rattle.fx_machine.specs.Runnable as runnable;
 ghost use Rattle.fx_machine.specs.States as states;
 ghost use Rattle.fx_machine.specs.Steps as steps;
 ghost use Rattle.fx_machine.specs.declared.packet.Packet as of_packet;
+ghost use Rattle.fx_machine.specs.declared.run_line.RunLine as of_line;
 ghost use Rattle.fx_machine.specs.declared.step.Step as of_step;
 
 /// The steps with their choices written are just what a network may do: each step is a move, and each move is
@@ -38,4 +44,17 @@ pub fn complete_runs_exist()
         (packets : List of_packet.Packet)
         → ranks.IsRanked net → runnable.IsRunnable net
         → complete_run.HasCompleteRun net classes packets }
+{}
+
+/// The line of a packet, of a step and of the end is read as that, and no other line is.
+pub fn run_lines_have_one_text()
+    ensures read { (x : of_line.RunLine) → IsRunLine x → line_of (words (run_line_text x)) ≡ Some x }
+    ensures only { (line : List ℕ) (x : of_line.RunLine) → line_of (words line) ≡ Some x
+        → (line ≡ run_line_text x) × IsRunLine x }
+    // So they are lines of a text.
+    ensures one_line { (x : of_line.RunLine) → IsRunLine x → IsOneLine (run_line_text x) }
+    ensures lines { (lines : List (List ℕ)) → AllByRecursion IsOneLine lines
+        → text_lines (lines_text lines) ≡ map ended_line lines }
+    ensures text { (text : List ℕ) (lines : List (List ℕ)) → text_lines text ≡ map ended_line lines
+        → text ≡ lines_text lines }
 {}

@@ -1,5 +1,6 @@
 //! Look-ups by number and by place.
 ghost use Rattle.std.specs.Prelude.{◌≡◌, slice_get};
+ghost use Rattle.fx_machine.specs.Classes as traffic;
 ghost use Rattle.fx_machine.specs.Network as network;
 ghost use Rattle.fx_machine.specs.Steps as steps;
 ghost use Rattle.fx_machine.specs.Views as views;
@@ -9,8 +10,10 @@ use crate::device::Device;
 use crate::holder::Holder;
 use crate::net::Net;
 use crate::observation::Point;
+use crate::packet::Packet;
 use crate::process::Process;
 use crate::step::HolderName;
+use crate::traffic::{Class, Classes, Crossing};
 use fx_layout::Layout;
 
 /// The entry of this number, from 1.
@@ -142,6 +145,19 @@ fn place_of_holder(devices: &[Device], processes: &[Process], name: HolderName) 
     }
 }
 
+/// The crossings that a packet makes.
+pub fn path_of<'a>(classes: &'a [Class], packet: &Packet) -> &'a [Crossing]
+    ensures { result.now ≡ traffic.path classes.now packet.now }
+{
+    match numbered(classes, packet.class) {
+        None => &[],
+        Some(class) => match numbered(class.paths(), packet.path) {
+            None => &[],
+            Some(path) => path.as_slice(),
+        },
+    }
+}
+
 impl Net {
     /// The layout of the records of the holder at this place of the network's table, from 0, and the empty one
     /// where there is none.
@@ -171,5 +187,25 @@ impl Net {
         ensures { result ≡ network.holder_place self.now name }
     {
         place_of_holder(self.devices.as_slice(), self.processes.as_slice(), name)
+    }
+}
+
+impl Classes {
+    /// The crossings of a packet, by its numbers of a class and of a path, from 1; none where there is no such class or
+    /// path.
+    pub fn path_of(&self, packet: &Packet) -> &[Crossing]
+        ensures { result.now ≡ traffic.path self.now packet.now }
+    {
+        path_of(self.as_slice(), packet)
+    }
+
+    /// Whether a packet is of an exempt class, by its number, from 1: it must never be counted.
+    pub fn exempts(&self, packet: &Packet) -> bool
+        ensures { result ≡ traffic.exempts (network.numbered self.now packet.now.class) }
+    {
+        match numbered(self.as_slice(), packet.class) {
+            None => false,
+            Some(class) => class.exempt(),
+        }
     }
 }

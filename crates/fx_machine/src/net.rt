@@ -1,5 +1,6 @@
 //! The tables of a network.
 ghost use Rattle.std.specs.Prelude.{◌≡◌};
+ghost use Rattle.fx_layout.specs.Keys.{IsLayout};
 
 use crate::device::Device;
 use crate::exporter::Exporter;
@@ -105,8 +106,10 @@ impl Net {
 
     /// The layout under which it tallies.
     pub fn report_layout(&self) -> &Layout
-        ensures { result.now ≡ self.now.report_layout }
+        ensures value { result.now ≡ self.now.report_layout }
+        ensures layout { IsLayout self.now.report_layout }
     {
+        let _parts = self.report_layout.parts();
         &self.report_layout
     }
 }

@@ -1,9 +1,9 @@
 //! Runs.
 ghost use Rattle.std.specs.Prelude.{◌≡◌, ◌==◌, ℕ, OnOk, IfSome, IfNone, length, is_some, option_map};
-ghost use Rattle.fx_machine.specs.Network.{numbered};
+ghost use Rattle.fx_machine.specs.Network as network;
 ghost use Rattle.fx_machine.specs.RunReading.{no_run, with_packet, with_step, is_of, packet_fault};
-ghost use Rattle.fx_machine.specs.Views.{now_of};
 
+use crate::lookup::numbered;
 use crate::packet::Packet;
 use crate::step::Step;
 use crate::traffic::Classes;
@@ -90,19 +90,9 @@ impl Run {
     }
 }
 
-/// The entry with this number, where the first is 1.
-fn numbered<T>(entries: &[T], number: u64) -> Option<&T>
-    ensures { now_of result ≡ numbered entries.now number }
-{
-    if number == 0 {
-        return None;
-    }
-    entries.get((number - 1) as usize)
-}
-
 /// Whether the packet's class and path exist and its fields are in the class's region.
 fn is_of(packet: &Packet, classes: &Classes) -> bool
-    ensures { result ≡ is_of packet.now (numbered classes.now packet.now.class) }
+    ensures { result ≡ is_of packet.now (network.numbered classes.now packet.now.class) }
 {
     match numbered(classes.as_slice(), packet.class) {
         None => false,

@@ -12,7 +12,7 @@ ghost use Rattle.fx_machine.specs.Stores as stores;
 use crate::coming::{Marks, all_crossed, clear, is_to_come};
 use crate::handling::handling_at;
 use crate::holding::{Holding, give_all_back, hold_all};
-use crate::lookup::{entry_at, link_place, named_by, numbered};
+use crate::lookup::{entry_at, link_place, named_by, numbered, path_of};
 use crate::metering::met_holdings;
 use crate::net::Net;
 use crate::packet::Packet;
@@ -20,7 +20,7 @@ use crate::record::{Record, Records};
 use crate::sending::{choices_from, chosen_links, put_all};
 use crate::step::HolderName;
 use crate::tallying::send_and_tally;
-use crate::traffic::{Class, Crossing};
+use crate::traffic::Class;
 use fx_base::{Counts, Fault};
 use std::alloc::{AllocError, Global};
 use std::marker::Model;
@@ -103,19 +103,6 @@ fn take_out_at(lists: &mut Vec<Records>, place: usize, number: u64)
     if place < lists.len() {
         let records = &mut lists[place];
         records.take_out(number);
-    }
-}
-
-/// The crossings that a packet makes.
-pub fn path_of<'a>(classes: &'a [Class], packet: &Packet) -> &'a [Crossing]
-    ensures { result.now ≡ traffic.path classes.now packet.now }
-{
-    match numbered(classes, packet.class) {
-        None => &[],
-        Some(class) => match numbered(class.paths(), packet.path) {
-            None => &[],
-            Some(path) => path.as_slice(),
-        },
     }
 }
 

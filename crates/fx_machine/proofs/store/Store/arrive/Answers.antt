@@ -79,5 +79,5 @@ returns-clause-ok c s e =
     let out : c.take_out_at.new.lists.items ≡ taken_out (put_all links r in'.carried.items) place c.args.number =
     c.take_out_at.ensures ∙ ap (λ (x : List (List Record)). taken_out x place c.args.number) (done.0 ∙ ap (λ (ls : List ℕ). put_all ls r in'.carried.items) c.as_slice-3.ensures.value) in
     let totals : c.send_and_tally.new.totals.items ≡ totals_when t net.report_layout r.key r.counts in'.totals.items =
-    done.1 ∙ ap (λ (l : Layout). totals_when t l r.key r.counts in'.totals.items) c.report_layout.ensures in
-    arrived net c.args.link c.args.number cs (coming_of 1 in'.to_come.items) in'.held.items in'.carried.items in'.totals.items in'.unassigned s (c.self.view_is ∙ e) place rs r t h'.exporters.now h'.holdings.items links rest c.hold_all.new.held.items c.take_out_at.new.lists.items c.send_and_tally.new.totals.items c.send_and_tally.new.unassigned c.in-Some.ensures k n c.in_ok-handling.ensures picked taken out totals (λ v h. done.2 v h ∙ ap (λ (l : Layout). unassigned_when t l r.key v % 2 ^ 64) c.report_layout.ensures)
+    done.1 ∙ ap (λ (l : Layout). totals_when t l r.key r.counts in'.totals.items) c.report_layout.ensures.value in
+    arrived net c.args.link c.args.number cs (coming_of 1 in'.to_come.items) in'.held.items in'.carried.items in'.totals.items in'.unassigned s (c.self.view_is ∙ e) place rs r t h'.exporters.now h'.holdings.items links rest c.hold_all.new.held.items c.take_out_at.new.lists.items c.send_and_tally.new.totals.items c.send_and_tally.new.unassigned c.in-Some.ensures k n c.in_ok-handling.ensures picked taken out totals (λ v h. done.2 v h ∙ ap (λ (l : Layout). unassigned_when t l r.key v % 2 ^ 64) c.report_layout.ensures.value)

@@ -1,0 +1,32 @@
+-- The text of a line of a run behind the first, without its line feed.
+use Rattle.std.specs.Prelude.{◌≢◌, ℕ, true, List, ◌∷◌, flat_map}
+use Rattle.std.specs.List.{AllByRecursion, join_with_byte}
+use Rattle.fx_machine.specs.declared.run_line.RunLine.{RunLine}
+use Rattle.fx_machine.specs.declared.run_line.RunLine.TheVariants.{Packet, Step, End}
+use Rattle.fx_machine.specs.RunText.{packet_words, step_words, last_words, IsPacket, IsStep}
+use Rattle.fx_machine.specs.RunReading.{Line}
+
+abbrev pub line_words : RunLine → List (List ℕ)
+line_words (Packet p) = packet_words p
+line_words (Step s) = step_words s
+line_words End = last_words
+
+abbrev pub run_line_text : RunLine → List ℕ
+run_line_text x = join_with_byte 32 (line_words x)
+
+-- what has a text: values on their axes, and numbers below 2 to the 64
+abbrev pub IsRunLine : RunLine → Type 0
+IsRunLine (Packet p) = IsPacket p
+IsRunLine (Step s) = IsStep s
+IsRunLine End = Unit {0}
+
+-- no line feed is in a line, and one ends it
+abbrev pub IsOneLine : List ℕ → Type 0
+IsOneLine line = AllByRecursion (λ b. b ≢ 10) line
+
+abbrev pub ended_line : List ℕ → Line
+ended_line line = (line, true)
+
+-- each of these words behind a space
+abbrev pub spaced : List (List ℕ) → List ℕ
+spaced ws = flat_map (λ w. 32 ∷ w) ws
