@@ -1,6 +1,7 @@
 -- Where what is met along a path splits a region.
-use Rattle.std.proofs.Common.{◌≡◌, ◌≢◌, ℕ, zero, suc, ◌+◌, true, cond, ◌++◌, List, [], ◌∷◌, Option, Some, None, Result, Err, refl, sym, ap, ◌∙◌, subst, arith, slice_get, if◌then◌else◌, IfSome, IfNone, IsSome, le_of_suc-le-suc}
+use Rattle.std.proofs.Common.{◌≡◌, ◌≢◌, ℕ, zero, suc, ◌+◌, true, cond, ◌++◌, List, [], ◌∷◌, Option, Some, None, Result, Ok, Err, refl, sym, ap, ◌∙◌, subst, arith, slice_get, if◌then◌else◌, IfSome, IfNone, IfOk, IfErr, IsErr, IsErrAnd, IsSome, le_of_suc-le-suc}
 use Rattle.std.specs.Prelude.{Contains, ◌↔◌}
+use Rattle.std.specs.Result.{result_err}
 use Rattle.fx_base.specs.declared.fault.Fault.{Fault}
 use Rattle.fx_base.specs.declared.fault.Place.TheVariants as places
 use Rattle.fx_base.specs.Fault.{fault_at}
@@ -21,8 +22,11 @@ use Rattle.fx_leaf.specs.declared.lost.Lost.TheVariants.{Behind}
 use Rattle.fx_machine.specs.Ranks.{IsNetwork}
 use Rattle.fx_leaf.specs.Answers.{NothingCuts}
 use Rattle.fx_leaf.specs.Fates.{acts_along}
-use Rattle.fx_leaf.specs.Leaves.{IsFilled, named, leaf_of, leaf_told}
+use Rattle.fx_leaf.specs.declared.path.Told.{Told}
+use Rattle.fx_leaf.specs.Leaves.{IsTold, named, leaf_of, leaf_told}
 use Rattle.fx_leaf.specs.Lost.{SendsOn, SentByHolder, Starts, IsLost}
+use Rattle.fx_leaf.specs.Reach.{Marked, IsFilled}
+use Rattle.fx_leaf.specs.Reach.{SentByHolder as SentByHolder'}
 use Rattle.fx_leaf.specs.SoundLeaves.{Uncut}
 use Rattle.fx_leaf.specs.SoundLeaves.Reached.{first}
 use Rattle.fx_leaf.specs.Splits.{IsSplitBy, Meets, IsSplit, HeldAlong}
@@ -31,8 +35,8 @@ use Rattle.fx_leaf.specs.Standings.{standing_to}
 use Rattle.fx_leaf.specs.Tables.{Tables, Table, AreTables, number_of_layout, entry}
 use Rattle.fx_leaf.specs.Verdicts.{Verdict, sent_verdict, holder_verdict, verdict, path_verdict, counted}
 use Rattle.fx_leaf.proofs.Answers.{low_holds, some_is_fate}
-use Rattle.fx_leaf.proofs.Following.{numbered_holder}
-use Rattle.fx_leaf.proofs.Seeing.{holder_is}
+use Rattle.fx_leaf.proofs.Following.{numbered_holder, sends_feed, lost_within}
+use Rattle.fx_leaf.proofs.Filling.{holder_same}
 use Rattle.fx_leaf.proofs.Standings.{selection_tells, standing_tells}
 use Rattle.fx_leaf.proofs.Uncut.{in_front, behind, mapped}
 
@@ -43,6 +47,15 @@ some_more P Q (Some x) f h = f x h
 pub none_more : {A : Type 0} (P Q : Type 0) (o : Option A) → (P → Q) → IfNone o P → IfNone o Q
 none_more P Q None f h = f h
 none_more P Q (Some x) f h = tt
+
+pub err_more : {X E : Type 0} (P Q : E → Type 0) (r : Result X E) → ((e : E) → P e → Q e) → IfErr r P → IfErr r Q
+err_more P Q (Ok x) f h = tt
+err_more P Q (Err e) f h = f e h
+
+-- what a call that failed said is so of what is passed on
+pub exit_with : {X E : Type 0} (r : Result X E) (e : E) (Q : E → Type 0) → IsErr r × IsErrAnd r (λ d. d ≡ e) → Q e → IfErr r Q
+exit_with (Ok x) e Q h q = absurd h.1
+exit_with (Err d) e Q h q = subst Q (sym h.1) q
 
 -- ---- a holder
 
@@ -68,11 +81,16 @@ module _ (t : Tables) (are : AreTables t) (region : Bounds) (r : IsRegion region
       let sends = s.1 in
       (sends.on.none, (layout_of (slice_get t.net.holders holder), ap (slice_get t.numbering.layouts) s.0 ∙ numbered_holder t are.numbers holder (slice_get t.net.holders holder) refl sends.exporter sends.sends))
 
-  pub not_by_holder : IsFilled t.net t.numbering region table → (net : Net) (number : ℕ) (places : List ℕ) (holder : ℕ) → net ≡ t.net → number ≡ number_of_layout t.numbering holder → places ≡ named_by (slice_get net.holders holder) → (sent_verdict (entry table) net number (at_places net.exporters places) ≡ None → ⊥) → holder_verdict (verdict t.net region) t.net holder ≡ None → ⊥
-  not_by_holder filled net number places holder same n named none h =
+  -- the collecting process is marked
+  pub marked_there : (marks : List ℕ) → IsFilled t.net t.numbering region marks table → (holder process number : ℕ) → SentByHolder' t.net t.numbering (Marked marks) holder → SentByHolder t table holder (Behind process number) → Marked marks process number
+  marked_there marks filled holder process number marked s =
+      subst (Marked marks process) (sym s.0) (marked process (sends_feed t are region r table number (exporters_of t.net (slice_get t.net.holders holder)) process s.1 (lost_within t are region r table marks filled process number (lost_there holder process number s))))
+
+  pub not_by_holder : (marks : List ℕ) → IsFilled t.net t.numbering region marks table → (net : Net) (number : ℕ) (places : List ℕ) (holder : ℕ) → SentByHolder' t.net t.numbering (Marked marks) holder → net ≡ t.net → number ≡ number_of_layout t.numbering holder → places ≡ named_by (slice_get net.holders holder) → (sent_verdict (entry table) net number (at_places net.exporters places) ≡ None → ⊥) → holder_verdict (verdict t.net region) t.net holder ≡ None → ⊥
+  not_by_holder marks filled net number places holder marked same n named none h =
       let P : Net → ℕ → Type 0 = λ x. λ m. sent_verdict (entry table) x m (exporters_of x (slice_get x.holders holder)) ≡ None → ⊥ in
       let none' : P t.net (number_of_layout t.numbering holder) = subst (λ m. P t.net m) n (subst (λ x. P x number) same (subst (λ (ps : List ℕ). sent_verdict (entry table) net number (at_places net.exporters ps) ≡ None → ⊥) named none)) in
-      none' (holder_is t.net t.numbering region table filled are.numbers holder ∙ h)
+      none' (holder_same t.net t.numbering region are.network.ranked are.numbers are.reports table filled.size holder (λ q. λ f. filled.verdicts q (number_of_layout t.numbering holder) (marked q f)) ∙ h)
 
 -- ---- what is met is held
 
@@ -170,10 +188,38 @@ module _ (net : Net) (path : List Crossing) (region : Bounds) (is_net : IsNetwor
   only_none (Some Differing) c e = other 409 _ _ (omega arith) refl refl e
   only_none (Some Unassigned) c e = other 413 _ _ (omega arith) refl refl e
 
-  pub exactly_cut : (o : Option (Axis × ℕ)) → IfSome o (λ s. IsSplit net path region s.0 s.1) → IfNone o (path_verdict net region path ≡ None → ⊥) → IsSome o ↔ (leaf_told net path region ≡ Err (fault_at 406 places.None))
-  exactly_cut None some none = (λ h. absurd (cc), λ h. absurd (none (only_none (path_verdict net region path) (named (counted net region path)) h)))
-  exactly_cut (Some s) some none = (λ h. ap (λ v. leaf_of v (named (counted net region path))) (none_if_cut (path_verdict net region path) refl (split_cuts net path region s.0 s.1 some)), λ h. refl)
+  -- there is no verdict where this splits the region
+  pub no_verdict : (s : Axis × ℕ) → IsSplit net path region s.0 s.1 → path_verdict net region path ≡ None
+  no_verdict s h = none_if_cut (path_verdict net region path) refl (split_cuts net path region s.0 s.1 h)
 
-  pub cut_exactly : (o : Option (Axis × ℕ)) → IfSome o (λ s. IsSplit net path region s.0 s.1) → IfNone o (path_verdict net region path ≡ None → ⊥) → IsSome o ↔ (NothingCuts net path region → ⊥)
-  cut_exactly None some none = (λ h. absurd (cc), λ h. absurd (none (none_if_cut (path_verdict net region path) refl h)))
-  cut_exactly (Some s) some none = (λ h. split_cuts net path region s.0 s.1 some, λ h. refl)
+  module _ (o : Option (Axis × ℕ)) (told : Result Told (Axis × ℕ)) (is : o ≡ result_err told) (ok : IfOk told (IsTold net path region)) (err : IfErr told (λ s. IsSplit net path region s.0 s.1)) where
+    some : IfSome o (λ s. IsSplit net path region s.0 s.1)
+    some = subst (λ x. IfSome x (λ s. IsSplit net path region s.0 s.1)) (sym is) (by told err) where
+      by : (q : Result Told (Axis × ℕ)) → IfErr q (λ s. IsSplit net path region s.0 s.1) → IfSome (result_err q) (λ s. IsSplit net path region s.0 s.1)
+      by (Ok t) h = tt
+      by (Err s) h = h
+
+    none : IfNone o (path_verdict net region path ≡ None → ⊥)
+    none = subst (λ x. IfNone x (path_verdict net region path ≡ None → ⊥)) (sym is) (by told ok) where
+      by : (q : Result Told (Axis × ℕ)) → IfOk q (IsTold net path region) → IfNone (result_err q) (path_verdict net region path ≡ None → ⊥)
+      by (Ok t) h = λ e. absurd (let both : Some t.fate ≡ None = h.verdict ∙ e in cc)
+      by (Err s) h = tt
+
+    pub exactly_cut : IsSome o ↔ (leaf_told net path region ≡ Err (fault_at 406 places.None))
+    exactly_cut = by o some none where
+      by : (x : Option (Axis × ℕ)) → IfSome x (λ s. IsSplit net path region s.0 s.1) → IfNone x (path_verdict net region path ≡ None → ⊥) → IsSome x ↔ (leaf_told net path region ≡ Err (fault_at 406 places.None))
+      by None some none = (λ h. absurd (cc), λ h. absurd (none (only_none (path_verdict net region path) (named (counted net region path)) h)))
+      by (Some s) some none = (λ h. ap (λ v. leaf_of v (named (counted net region path))) (none_if_cut (path_verdict net region path) refl (split_cuts net path region s.0 s.1 some)), λ h. refl)
+
+    pub cut_exactly : IsSome o ↔ (NothingCuts net path region → ⊥)
+    cut_exactly = by o some none where
+      by : (x : Option (Axis × ℕ)) → IfSome x (λ s. IsSplit net path region s.0 s.1) → IfNone x (path_verdict net region path ≡ None → ⊥) → IsSome x ↔ (NothingCuts net path region → ⊥)
+      by None some none = (λ h. absurd (cc), λ h. absurd (none (none_if_cut (path_verdict net region path) refl h)))
+      by (Some s) some none = (λ h. split_cuts net path region s.0 s.1 some, λ h. refl)
+
+    -- and what is told of is strictly inside
+    pub cut_inside : IfSome o (λ s. IsStrictlyInside region (axis_index s.0) s.1)
+    cut_inside = some_more _ _ o (λ x. λ h. split_inside net path region x.0 x.1 h) some
+
+    pub cut_bound : IfSome o (λ s. IsSplit net path region s.0 s.1)
+    cut_bound = some

@@ -1,5 +1,5 @@
 -- What a leaf's answer says.
-use Rattle.std.proofs.Common.{◌≡◌, ℕ, List, Some, None, Result, Ok, refl, sym, ap, ◌∙◌, subst, IfOk, IfErr, OnOk}
+use Rattle.std.proofs.Common.{◌≡◌, ℕ, List, Option, Some, None, Result, Ok, Err, refl, sym, ap, ap₂, ◌∙◌, subst, IfOk, IfErr, OnOk}
 use Rattle.fx_base.specs.declared.fault.Fault.{Fault}
 use Rattle.fx_boxes.specs.Boxes.{Bounds, IsRegion}
 use Rattle.fx_machine.specs.declared.traffic.Crossing.{Crossing}
@@ -7,16 +7,34 @@ use Rattle.fx_machine.specs.Network.{Net}
 use Rattle.fx_machine.specs.Ranks.{IsNetwork}
 use Rattle.fx_leaf.specs.declared.leaf.Counted.{Counted}
 use Rattle.fx_leaf.specs.declared.verdict.Fate.TheVariants.{Never, Once, Many, Differing, Unassigned}
-use Rattle.fx_leaf.specs.Leaves.{named, leaf_of, NoneIsSound, never_of, NeverIsUnsound}
+use Rattle.fx_elements.specs.declared.axis.Axis.{Axis}
+use Rattle.fx_leaf.specs.declared.path.Told.{Told}
+use Rattle.fx_leaf.specs.Splits.{IsSplit}
+use Rattle.fx_leaf.specs.Leaves.{IsTold, fault_of, named, leaf_of, NoneIsSound, never_of, NeverIsUnsound}
 use Rattle.fx_leaf.specs.Leaves.NoneIsSound.{cut, unassigned, differing, many, never}
 use Rattle.fx_leaf.specs.Leaves.NeverIsUnsound.{cut as is_cut, unassigned as is_unassigned, differing as is_differing, many as is_many, once as is_once}
 use Rattle.fx_leaf.specs.SoundLeaves.{SoundLeaf, SoundNever}
 use Rattle.fx_leaf.specs.Verdicts.{Verdict, Seen, path_verdict, counted}
+use Rattle.fx_leaf.proofs.Cutting.{no_verdict}
 use Rattle.fx_leaf.proofs.Answers.{none_is_cut, some_is_fate, once_is_sound, no_other_is_sound, never_is_sound, sound_is_never}
 
 module _ (net : Net) (path : List Crossing) (region : Bounds) (is_net : IsNetwork net) (r : IsRegion region) where
   abbrev Sound : Counted → Type 0
   Sound c = SoundLeaf net path region c.crossing c.point c.process
+
+  module _ {X : Type 0} (told : Result Told (Axis × ℕ)) (result : Result X Fault) (ok : IfOk told (IsTold net path region)) (err : IfErr told (λ s. IsSplit net path region s.0 s.1)) where
+    -- what is answered of what is told is answered of the verdict
+    answered : (answer : Verdict → Option Counted → Result X Fault) → ((c : Option Counted) → answer None c ≡ Err (fault_of None)) → IfOk told (λ t. result ≡ answer (Some t.fate) t.counted) → IfErr told (λ s. result ≡ Err (fault_of None)) → result ≡ answer (path_verdict net region path) (named (counted net region path))
+    answered answer none is else_is = by told ok err is else_is where
+      by : (q : Result Told (Axis × ℕ)) → IfOk q (IsTold net path region) → IfErr q (λ s. IsSplit net path region s.0 s.1) → IfOk q (λ t. result ≡ answer (Some t.fate) t.counted) → IfErr q (λ s. result ≡ Err (fault_of None)) → result ≡ answer (path_verdict net region path) (named (counted net region path))
+      by (Ok t) k e i h = i ∙ ap₂ (λ (v : Verdict) (c : Option Counted). answer v c) k.verdict k.counted
+      by (Err s) k e i h = h ∙ sym (none (named (counted net region path))) ∙ ap (λ (v : Verdict). answer v (named (counted net region path))) (sym (no_verdict net path region is_net r s e))
+
+  pub leaf_is_told : (told : Result Told (Axis × ℕ)) (result : Result Counted Fault) → IfOk told (IsTold net path region) → IfErr told (λ s. IsSplit net path region s.0 s.1) → IfOk told (λ t. result ≡ leaf_of (Some t.fate) t.counted) → IfErr told (λ s. result ≡ Err (fault_of None)) → result ≡ leaf_of (path_verdict net region path) (named (counted net region path))
+  leaf_is_told told result ok err is else_is = answered told result ok err leaf_of (λ c. refl) is else_is
+
+  pub never_is_told : (told : Result Told (Axis × ℕ)) (result : Result (Unit {0}) Fault) → IfOk told (IsTold net path region) → IfErr told (λ s. IsSplit net path region s.0 s.1) → IfOk told (λ t. result ≡ never_of (Some t.fate)) → IfErr told (λ s. result ≡ Err (fault_of None)) → result ≡ never_of (path_verdict net region path)
+  never_is_told told result ok err is else_is = answered told result ok err (λ v c. never_of v) (λ c. refl) is else_is
 
   said : (v : Verdict) → path_verdict net region path ≡ v → IfOk (leaf_of v (named (counted net region path))) Sound
   said None e = tt

@@ -1,6 +1,6 @@
--- A table that is filled in order has the verdicts.
-use Rattle.std.proofs.Common.{◌≡◌, ◌≢◌, ◌⊎◌, inl, inr, ℕ, zero, suc, ◌+◌, ◌<◌, ◌≤◌, Bool, true, false, cond, ◌==◌, List, [], ◌∷◌, length, All, Option, Some, None, refl, sym, ap, ap₂, ◌∙◌, subst, arith, slice_get, slice_set, eqb-true, le_of_suc-le-suc, length-set}
-use Rattle.std.proofs.lemmas.Bool.{cases_lt, eqb-false}
+-- Marked entries that are filled in order are the verdicts.
+use Rattle.std.proofs.Common.{◌≡◌, ◌⊎◌, inl, inr, ℕ, zero, suc, ◌+◌, ◌<◌, ◌≤◌, Bool, true, false, cond, ◌==◌, List, [], ◌∷◌, map, length, get_or, All, Option, Some, None, refl, sym, ap, ap₂, ◌∙◌, subst, arith, slice_get, eqb-true, le_of_suc-le-suc}
+use Rattle.std.proofs.lemmas.Bool.{cases_lt}
 use Rattle.std.proofs.lemmas.Option.{slice_get_past}
 use Rattle.std.specs.Prelude.{Contains}
 use Rattle.fx_boxes.specs.Boxes.{Bounds}
@@ -9,78 +9,47 @@ use Rattle.fx_machine.specs.Network.{Net, Exporter, Holder, Aggregation, Process
 use Rattle.fx_machine.specs.Ranks.{RisesTo, Rises, AllRise, ProcessRises, IsRanked}
 use Rattle.fx_machine.specs.Orders.{Descends}
 use Rattle.fx_leaf.specs.declared.verdict.Fate.TheVariants.{Never, Once, Unassigned}
-use Rattle.fx_leaf.specs.Standings.{standing, match_fields}
-use Rattle.fx_leaf.specs.Verdicts.{both_judged, all_judged, one_judged, where_passed, process_verdict, destination_verdict, send_verdict, sent_verdict, layout_reads, taken_verdict, tally_verdict, handled_verdict, coming_verdict, verdict}
-use Rattle.fx_leaf.specs.Tables.{Numbering, number_of_layout, Numbers, Table, or_never, entry_in, entry, taken_entry, handled_entry, entry_from, row_from, fill, HasVerdicts}
 use Rattle.fx_leaf.specs.Answers.{TableIsVerdicts}
-use Rattle.fx_leaf.proofs.Ranks.{every_of_all, map_same, every_on}
-use Rattle.fx_leaf.proofs.Uncut.{verdict_agrees}
+use Rattle.fx_leaf.specs.Reach.{Marked, Feeds, Sent, SentByHolder, SentFrom, IsClosed, IsVerdict, Agrees}
+use Rattle.fx_leaf.specs.Standings.{standing, match_fields}
+use Rattle.fx_leaf.specs.Tables.{Numbering, number_of_layout, Numbers, Table, entry_in, entry, taken_entry, handled_entry, entry_from}
+use Rattle.fx_leaf.specs.Verdicts.{Verdict, both_judged, all_judged, one_judged, where_passed, process_verdict, destination_verdict, send_verdict, sent_verdict, holder_verdict, layout_reads, taken_verdict, tally_verdict, handled_verdict, verdict}
+use Rattle.fx_leaf.proofs.Ranks.{every_of_all}
+use Rattle.fx_leaf.proofs.Uncut.{every_at, further, verdict_agrees}
+
+-- ---- processes that are fed have a higher rank
+
+pub fed_higher : (net : Net) (rank : ℕ → ℕ) (from q : ℕ) (es : List Exporter) → AllRise rank net from es → Feeds net es q → rank from < rank q
+fed_higher net rank from q es all f =
+    let one = every_at (λ e. All (Rises rank net from) e.destinations) es f.exporter (every_of_all (λ e. All (Rises rank net from) e.destinations) es all) f.among in
+    let to = every_at (Rises rank net from) f.exporter.destinations (Some f.link) (every_of_all (Rises rank net from) f.exporter.destinations one) f.linked in
+    subst (RisesTo rank from) f.leads to
+
+-- what holds wherever records come from a process, where it holds at all of higher rank
+module _ (net : Net) (n : Numbering) (rank : ℕ → ℕ) (from : ℕ) (P Q : ℕ → ℕ → Type 0) (step : (q i : ℕ) → q < length net.processes → rank from < rank q → P q i → Q q i) where
+  sent_on_higher : (i : ℕ) (es : List Exporter) → AllRise rank net from es → Sent net P i es → Sent net Q i es
+  sent_on_higher i es all h q f = step q i f.there (fed_higher net rank from q es all f) (h q f)
+
+  pub on_higher : (i : ℕ) (o : Option Process) → ProcessRises rank net from o → SentFrom net n P i o → SentFrom net n Q i o
+  on_higher i None up h = tt
+  on_higher i (Some p) up h =
+      let R : Aggregation → Type 0 = λ a. AllRise rank net from (exporters_of net (slice_get net.holders a.holder)) in (
+        sent_on_higher i (at_places net.exporters p.exporters) up.0 h.0,
+        λ a. λ at. sent_on_higher (number_of_layout n a.holder) (exporters_of net (slice_get net.holders a.holder)) (every_at R p.aggregations a (every_of_all R p.aggregations up.1) at) (h.1 a at),
+      )
+
+pub closed_from : (net : Net) (n : Numbering) (marks : List ℕ) → IsClosed net n marks → (process number : ℕ) → Marked marks process number → SentFrom net n (Marked marks) number (slice_get net.processes process)
+closed_from net n marks closed process number h = by (slice_get net.processes process) refl
+  where
+    by : (o : Option Process) → slice_get net.processes process ≡ o → SentFrom net n (Marked marks) number o
+    by None is = tt
+    by (Some p) is = closed process number p h is
 
 -- ---- an entry from right entries
 
-module _ (net : Net) (n : Numbering) (region : Bounds) (numbers : Numbers net n) (rank : ℕ → ℕ) (from : ℕ) (table : Table) (agree : (q number : ℕ) (layout : Layout) → rank from < rank q → slice_get n.layouts number ≡ Some layout → entry table q number ≡ verdict net region q layout) where
-  module _ (number : ℕ) (layout : Layout) (is : slice_get n.layouts number ≡ Some layout) where
-    process_same : (o : Option ℕ) → RisesTo rank from o → process_verdict (entry table) number o ≡ process_verdict (verdict net region) layout o
-    process_same None h = refl
-    process_same (Some q) h = agree q number layout h is
-
-    destination_same : (d : Option ℕ) → Rises rank net from d → destination_verdict (entry table) net number d ≡ destination_verdict (verdict net region) net layout d
-    destination_same None h = refl
-    destination_same (Some link) h = process_same (slice_get net.links link) h
-
-    send_same : (e : Exporter) → All (Rises rank net from) e.destinations → send_verdict (entry table) net number e ≡ send_verdict (verdict net region) net layout e
-    send_same e h =
-        let each = every_on (Rises rank net from) (λ d. destination_verdict (entry table) net number d ≡ destination_verdict (verdict net region) net layout d) e.destinations destination_same (every_of_all (Rises rank net from) e.destinations h) in
-        ap (λ vs. cond e.parallel (all_judged vs) (one_judged vs)) (map_same (destination_verdict (entry table) net number) (destination_verdict (verdict net region) net layout) e.destinations each)
-
-    sent_same : (es : List Exporter) → AllRise rank net from es → sent_verdict (entry table) net number es ≡ sent_verdict (verdict net region) net layout es
-    sent_same es h =
-        ap all_judged (map_same (send_verdict (entry table) net number) (send_verdict (verdict net region) net layout) es (every_on (λ e. All (Rises rank net from) e.destinations) (λ e. send_verdict (entry table) net number e ≡ send_verdict (verdict net region) net layout e) es send_same (every_of_all (λ e. All (Rises rank net from) e.destinations) es h)))
-
-  holder_same : (holder : ℕ) (o : Option Holder) → slice_get net.holders holder ≡ o → AllRise rank net from (exporters_of net o) → sent_verdict (entry table) net (number_of_layout n holder) (exporters_of net o) ≡ sent_verdict (verdict net region) net (layout_of o) (exporters_of net o)
-  holder_same holder None e h = refl
-  holder_same holder (Some x) e h = sent_same (number_of_layout n holder) x.layout (numbers holder x e) (exporters_of net (Some x)) h
-
-  taken_same : (layout : Layout) (a : Aggregation) → AllRise rank net from (exporters_of net (slice_get net.holders a.holder)) → taken_entry table net n region layout a ≡ taken_verdict (verdict net region) net region layout a
-  taken_same layout a h =
-      ap (λ v. cond (layout_reads net layout a) (where_passed (standing region (match_fields a.matches)) v) (Some Never)) (holder_same a.holder (slice_get net.holders a.holder) refl h)
-
-  handled_same : (number : ℕ) (layout : Layout) → slice_get n.layouts number ≡ Some layout → (o : Option Process) → ProcessRises rank net from o → handled_entry table net n region number layout o ≡ handled_verdict (verdict net region) net region layout o
-  handled_same number layout is None h = refl
-  handled_same number layout is (Some process) h =
-      let P : Aggregation → Type 0 = λ a. AllRise rank net from (exporters_of net (slice_get net.holders a.holder)) in
-      ap₂ both_judged (sent_same number layout is (at_places net.exporters process.exporters) h.0) (ap all_judged (map_same (taken_entry table net n region layout) (taken_verdict (verdict net region) net region layout) process.aggregations (every_on P (λ a. taken_entry table net n region layout a ≡ taken_verdict (verdict net region) net region layout a) process.aggregations (taken_same layout) (every_of_all P process.aggregations h.1))))
-
-  pub entry_same : (number : ℕ) (layout : Layout) → slice_get n.layouts number ≡ Some layout → ProcessRises rank net from (slice_get net.processes from) → entry_from table net n region from number layout ≡ coming_verdict (verdict net region) net region from layout
-  entry_same number layout is h = ap (both_judged (tally_verdict net layout from)) (handled_same number layout is (slice_get net.processes from) h)
-
--- ---- rows
-
-row_at : (table : Table) (net : Net) (n : Numbering) (region : Bounds) (process first : ℕ) (layouts : List Layout) (k : ℕ) (layout : Layout) → slice_get layouts k ≡ Some layout → slice_get (row_from table net n region process first layouts) k ≡ Some (entry_from table net n region process (first + k) layout)
-row_at table net n region process first [] k layout h = absurd (cc)
-row_at table net n region process first (l ∷ ls) zero layout h =
-    let same : l ≡ layout = cc in
-    let e : first ≡ first + 0 = omega arith in
-    ap₂ (λ (i : ℕ) (x : Layout). Some (entry_from table net n region process i x)) e same
-row_at table net n region process first (l ∷ ls) (suc k) layout h =
-    let e : suc first + k ≡ first + suc k = omega arith in
-    row_at table net n region process (suc first) ls k layout h ∙ ap (λ i. Some (entry_from table net n region process i layout)) e
-
-set_here : {A : Type 0} (xs : List A) (k : ℕ) (x : A) → k < length xs → slice_get (slice_set xs k x) k ≡ Some x
-set_here [] k x lt = absurd (omega arith)
-set_here (y ∷ ys) zero x lt = refl
-set_here (y ∷ ys) (suc k) x lt = set_here ys k x (le_of_suc-le-suc lt)
-
-set_elsewhere : {A : Type 0} (xs : List A) (k j : ℕ) (x : A) → k ≢ j → slice_get (slice_set xs k x) j ≡ slice_get xs j
-set_elsewhere [] k j x e = refl
-set_elsewhere (y ∷ ys) zero zero x e = absurd (e refl)
-set_elsewhere (y ∷ ys) zero (suc j) x e = refl
-set_elsewhere (y ∷ ys) (suc k) zero x e = refl
-set_elsewhere (y ∷ ys) (suc k) (suc j) x e = set_elsewhere ys k j x (λ same. e (ap suc same))
-
-module _ (net : Net) (n : Numbering) (region : Bounds) (ranked : IsRanked net) (numbers : Numbers net n) (reports : net.report < length net.processes) where
-  abbrev pub Right : Table → ℕ → Type 0
-  Right table process = HasVerdicts net n region table process
+module _ (net : Net) (n : Numbering) (region : Bounds) (ranked : IsRanked net) (numbers : Numbers net n) (reports : net.report < length net.processes) (table : Table) (size : length table ≡ length net.processes) where
+  abbrev Right : ℕ → ℕ → Type 0
+  Right process number = IsVerdict net n region table process number
 
   other_process : (q : ℕ) → length net.processes ≤ q → (q == net.report) ≡ false
   other_process q le = apart (q == net.report) refl where
@@ -89,55 +58,100 @@ module _ (net : Net) (n : Numbering) (region : Bounds) (ranked : IsRanked net) (
     apart false e = refl
 
   -- a process that isn't there handles nothing
-  pub not_there : (table : Table) (q : ℕ) → length table ≡ length net.processes → length net.processes ≤ q → Right table q
-  not_there table q size le number layout is =
+  pub not_there : (q number : ℕ) → length net.processes ≤ q → Right q number
+  not_there q number le layout is =
       let none : slice_get table q ≡ None = slice_get_past table q (omega (arith, size, le)) in
       let tally : tally_verdict net layout q ≡ Some Never = ap (λ t. cond t (cond (refines layout net.report_layout) (Some Once) (Some Unassigned)) (Some Never)) (other_process q le) in
       let handled : handled_verdict (verdict net region) net region layout (slice_get net.processes q) ≡ Some Never = ap (handled_verdict (verdict net region) net region layout) (slice_get_past net.processes q le) in
       ap (λ o. entry_in o number) none ∙ sym (verdict_agrees net region ranked q layout ∙ ap₂ both_judged tally handled)
 
-  abbrev filled : Table → ℕ → Table
-  filled table process = slice_set table process (row_from table net n region process 0 n.layouts)
+  module _ (number : ℕ) (layout : Layout) (is : slice_get n.layouts number ≡ Some layout) where
+    -- where the entries for the processes to which these lead are right
+    abbrev Leads : Option ℕ → Type 0
+    Leads d = (link q : ℕ) → d ≡ Some link → slice_get net.links link ≡ Some q → q < length net.processes → Right q number
 
-  new_row : (table : Table) (process : ℕ) → length table ≡ length net.processes → process < length net.processes → ((q : ℕ) → ranked.rank process < ranked.rank q → Right table q) → Right (filled table process) process
-  new_row table process size lt right number layout is =
-      let row = row_from table net n region process 0 n.layouts in
-      let here : slice_get (filled table process) process ≡ Some row = set_here table process row (omega (arith, size, lt)) in
-      let at = row_at table net n region process 0 n.layouts number layout is in
-      let first : 0 + number ≡ number = omega arith in
-      let same = entry_same net n region numbers ranked.rank process table (λ q. λ k. λ l. λ up. λ i. right q up k l i) number layout is (ranked.rises process) in
-      ap (λ o. entry_in o number) here ∙ ap or_never at ∙ ap (λ i. entry_from table net n region process i layout) first ∙ same ∙ sym (verdict_agrees net region ranked process layout)
+    process_same : (o : Option ℕ) → ((q : ℕ) → o ≡ Some q → q < length net.processes → Right q number) → process_verdict (entry table) number o ≡ process_verdict (verdict net region) layout o
+    process_same None h = refl
+    process_same (Some q) h =
+        elim (cases_lt q (length net.processes)) [
+          | inl lt ↦ h q refl lt layout is
+          | inr le ↦ not_there q number le layout is
+        ]
 
-  old_row : (table : Table) (process q : ℕ) → process ≢ q → Right table q → Right (filled table process) q
-  old_row table process q e right number layout is =
-      ap (λ o. entry_in o number) (set_elsewhere table process q (row_from table net n region process 0 n.layouts) e) ∙ right number layout is
+    destination_same : (d : Option ℕ) → Leads d → destination_verdict (entry table) net number d ≡ destination_verdict (verdict net region) net layout d
+    destination_same None h = refl
+    destination_same (Some link) h = process_same (slice_get net.links link) (λ q. h link q refl)
 
-  any_row : (table : Table) (process q : ℕ) → length table ≡ length net.processes → process < length net.processes → ((r : ℕ) → ranked.rank process < ranked.rank r → Right table r) → (q ≢ process → Right table q) → Right (filled table process) q
-  any_row table process q size lt right old = by (process == q) refl where
-    by : (t : Bool) → (process == q) ≡ t → Right (filled table process) q
-    by true e = let same : process ≡ q = eqb-true _ _ e in subst (Right (filled table process)) same (new_row table process size lt right)
-    by false e = let differs = eqb-false process q e in old_row table process q differs (old (λ same. differs (sym same)))
+    destinations_same : (ds : List (Option ℕ)) → ((d : Option ℕ) → Contains ds d → Leads d) → map (destination_verdict (entry table) net number) ds ≡ map (destination_verdict (verdict net region) net layout) ds
+    destinations_same [] h = refl
+    destinations_same (d ∷ ds) h =
+        ap₂ (λ (v : Verdict) (vs : List Verdict). v ∷ vs) (destination_same d (h d (zero, omega arith, refl))) (destinations_same ds (λ x. λ at. h x (further x d ds at)))
 
-  later_right : (done : List ℕ) (table : Table) (process : ℕ) → length table ≡ length net.processes → ((q : ℕ) → Contains done q → Right table q) → ((q : ℕ) → q < length net.processes → ranked.rank process < ranked.rank q → Contains done q) → (q : ℕ) → ranked.rank process < ranked.rank q → Right table q
-  later_right done table process size right behind q up =
-      elim (cases_lt q (length net.processes)) [ inl lt ↦ right q (behind q lt up) | inr le ↦ not_there table q size le ]
+    send_same : (e : Exporter) → ((d : Option ℕ) → Contains e.destinations d → Leads d) → send_verdict (entry table) net number e ≡ send_verdict (verdict net region) net layout e
+    send_same e h = ap (λ vs. cond e.parallel (all_judged vs) (one_judged vs)) (destinations_same e.destinations h)
 
-  in_done : (process : ℕ) (done : List ℕ) (q : ℕ) → Contains (process ∷ done) q → q ≢ process → Contains done q
-  in_done process done q (zero, lt, e) differs = absurd (differs (sym e))
-  in_done process done q (suc k, lt, e) differs = (k, le_of_suc-le-suc lt, e)
+    each_same : (es : List Exporter) → ((e : Exporter) → Contains es e → (d : Option ℕ) → Contains e.destinations d → Leads d) → sent_verdict (entry table) net number es ≡ sent_verdict (verdict net region) net layout es
+    each_same [] h = refl
+    each_same (e ∷ es) h =
+        ap₂ both_judged (send_same e (h e (zero, omega arith, refl))) (each_same es (λ x. λ at. h x (further x e es at)))
 
-  -- those that were filled in stay right, and those of the order become so
-  all_right : (order done : List ℕ) (table : Table) → length table ≡ length net.processes → Descends net ranked.rank done order → ((q : ℕ) → Contains done q → Right table q) → (q : ℕ) → (Contains done q) ⊎ (Contains order q) → Right (fill net n region order table) q
-  all_right [] done table size falls right q (inl at) = right q at
-  all_right [] done table size falls right q (inr at) = absurd (let lt = at.1 in omega (arith, lt))
-  all_right (process ∷ order) done table size falls right q at =
-      all_right order (process ∷ done) (filled table process) (length-set table process (row_from table net n region process 0 n.layouts) ∙ size) falls.2 (λ r. λ in'. any_row table process r size falls.0 (later_right done table process size right falls.1) (λ differs. right r (in_done process done r in' differs))) q (placed at)
+    sent_same : (es : List Exporter) → Sent net Right number es → sent_verdict (entry table) net number es ≡ sent_verdict (verdict net region) net layout es
+    sent_same es h =
+        each_same es (λ e. λ at. λ d. λ linked. λ link. λ q. λ this. λ leads. λ lt. h q (record { exporter = e; among = at; link = link; linked = subst (Contains e.destinations) this linked; leads = leads; there = lt }))
+
+  pub holder_same : (holder : ℕ) → SentByHolder net n Right holder → sent_verdict (entry table) net (number_of_layout n holder) (exporters_of net (slice_get net.holders holder)) ≡ holder_verdict (verdict net region) net holder
+  holder_same holder right = by (slice_get net.holders holder) refl right
     where
-      placed : (Contains done q) ⊎ (Contains (process ∷ order) q) → (Contains (process ∷ done) q) ⊎ (Contains order q)
-      placed (inl (k, lt, e)) = inl (suc k, omega (arith, lt), e)
-      placed (inr (zero, lt, e)) = inl (zero, omega arith, e)
-      placed (inr (suc k, lt, e)) = inr (k, le_of_suc-le-suc lt, e)
+      by : (o : Option Holder) → slice_get net.holders holder ≡ o → Sent net Right (number_of_layout n holder) (exporters_of net o) → sent_verdict (entry table) net (number_of_layout n holder) (exporters_of net o) ≡ sent_verdict (verdict net region) net (layout_of o) (exporters_of net o)
+      by None e h = refl
+      by (Some x) e h = sent_same (number_of_layout n holder) x.layout (numbers holder x e) (exporters_of net (Some x)) h
+
+  taken_same : (layout : Layout) (a : Aggregation) → SentByHolder net n Right a.holder → taken_entry table net n region layout a ≡ taken_verdict (verdict net region) net region layout a
+  taken_same layout a h =
+      ap (λ v. cond (layout_reads net layout a) (where_passed (standing region (match_fields a.matches)) v) (Some Never)) (holder_same a.holder h)
+
+  all_taken_same : (layout : Layout) (as' : List Aggregation) → ((a : Aggregation) → Contains as' a → SentByHolder net n Right a.holder) → map (taken_entry table net n region layout) as' ≡ map (taken_verdict (verdict net region) net region layout) as'
+  all_taken_same layout [] h = refl
+  all_taken_same layout (a ∷ as') h =
+      ap₂ (λ (v : Verdict) (vs : List Verdict). v ∷ vs) (taken_same layout a (h a (zero, omega arith, refl))) (all_taken_same layout as' (λ x. λ at. h x (further x a as' at)))
+
+  pub handled_same : (number : ℕ) (layout : Layout) → slice_get n.layouts number ≡ Some layout → (o : Option Process) → SentFrom net n Right number o → handled_entry table net n region number layout o ≡ handled_verdict (verdict net region) net region layout o
+  handled_same number layout is None h = refl
+  handled_same number layout is (Some p) h =
+      ap₂ both_judged (sent_same number layout is (at_places net.exporters p.exporters) h.0) (ap all_judged (all_taken_same layout p.aggregations h.1))
+
+  pub entry_same : (process number : ℕ) (layout : Layout) → slice_get n.layouts number ≡ Some layout → SentFrom net n Right number (slice_get net.processes process) → entry_from table net n region process number layout ≡ verdict net region process layout
+  entry_same process number layout is h =
+      ap (both_judged (tally_verdict net layout process)) (handled_same number layout is (slice_get net.processes process) h) ∙ sym (verdict_agrees net region ranked process layout)
+
+  -- ---- where each entry agrees with those that it is worked out from
+
+  module _ (marks : List ℕ) (closed : IsClosed net n marks) (agrees : Agrees net n region marks table) where
+    up_to : (count process number : ℕ) → length net.processes ≤ ranked.rank process + count → Marked marks process number → Right process number
+    up_to zero process number le h layout is = absurd (let below = ranked.below process in omega (arith, le, below))
+    up_to (suc count) process number le h layout is =
+        agrees process number layout h is ∙ entry_same process number layout is (on_higher net n ranked.rank process (Marked marks) Right (λ q. λ i. λ lt. λ up. λ m. up_to count q i (omega (arith, le, up)) m) number (slice_get net.processes process) (ranked.rises process) (closed_from net n marks closed process number h))
+
+    pub all_right : (process number : ℕ) → Marked marks process number → Right process number
+    all_right process number h = up_to (length net.processes) process number (omega arith) h
 
 pub table_is_verdicts : TableIsVerdicts
-table_is_verdicts net n region ranked order table numbers reports size falls process at =
-    all_right net n region ranked numbers reports order [] table size falls (λ q. λ none. absurd (let lt = none.1 in omega (arith, lt))) process (inr at)
+table_is_verdicts net n region marks table ranked numbers reports size closed agrees =
+    all_right net n region ranked numbers reports table size marks closed agrees
+
+-- ---- filled in order
+
+-- at one of the first places of an order
+abbrev pub Before : List ℕ → ℕ → ℕ → Type 0
+Before order k q = (j : ℕ) × (j < k) × (get_or order j 0 ≡ q)
+
+pub higher_before : (net : Net) (rank : ℕ → ℕ) (done order : List ℕ) (k : ℕ) → Descends net rank done order → k < length order → (q : ℕ) → q < length net.processes → rank (get_or order k 0) < rank q → (Contains done q) ⊎ (Before order k q)
+higher_before net rank done [] k falls lt q there up = absurd (omega arith)
+higher_before net rank done (p ∷ ps) zero falls lt q there up = inl (falls.1 q there up)
+higher_before net rank done (p ∷ ps) (suc k) falls lt q there up =
+    by (higher_before net rank (p ∷ done) ps k falls.2 (le_of_suc-le-suc lt) q there up)
+  where
+    by : (Contains (p ∷ done) q) ⊎ (Before ps k q) → (Contains done q) ⊎ (Before (p ∷ ps) (suc k) q)
+    by (inl (zero, below, e)) = inr (zero, omega arith, e)
+    by (inl (suc j, below, e)) = inl (j, le_of_suc-le-suc below, e)
+    by (inr (j, below, e)) = inr (suc j, omega (arith, below), e)

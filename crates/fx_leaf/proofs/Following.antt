@@ -1,5 +1,7 @@
 -- From where there is no verdict to what cuts the region.
-use Rattle.std.proofs.Common.{◌≡◌, inl, inr, ℕ, ◌<◌, true, false, cond, ◌==◌, List, [], ◌∷◌, map, filter, All, Option, Some, None, refl, sym, ap, ap₂, ◌∙◌, subst, arith, slice_get, if◌then◌else◌}
+use Rattle.std.proofs.Common.{◌≡◌, inl, inr, ℕ, ◌<◌, length, true, false, cond, ◌==◌, List, [], ◌∷◌, map, filter, All, Option, Some, None, refl, sym, ap, ◌∙◌, subst, arith, slice_get, if◌then◌else◌}
+use Rattle.std.proofs.lemmas.Bool.{cases_lt}
+use Rattle.std.proofs.lemmas.Option.{slice_get_past}
 use Rattle.std.specs.Prelude.{Contains}
 use Rattle.std.specs.List.{list_all}
 use Rattle.fx_elements.specs.declared.axis.Axis.{Axis}
@@ -13,16 +15,15 @@ use Rattle.fx_machine.specs.Steps.{take_in, acts_of, coming_to}
 use Rattle.fx_machine.specs.Ranks.{RisesTo, Rises, AllRise, ProcessRises, IsRanked}
 use Rattle.fx_leaf.specs.declared.lost.Lost.TheVariants.{Split, Behind}
 use Rattle.fx_leaf.specs.declared.verdict.Fate.TheVariants.{Never, Once, Unassigned}
-use Rattle.fx_leaf.specs.Leaves.{IsFilled}
+use Rattle.fx_leaf.specs.Reach.{Marked, Feeds, SentFrom, IsVerdict, IsFilled}
 use Rattle.fx_leaf.specs.Lost.{SendsOn, LostAmong, SentOn, LostAt, LostFrom, Starts, IsLost}
 use Rattle.fx_leaf.specs.SoundLeaves.Reached.{next}
 use Rattle.fx_leaf.specs.Splits.{IsSplit}
 use Rattle.fx_leaf.specs.Splits.IsSplit.{of_match}
-use Rattle.fx_leaf.specs.Standings.{standing, match_fields}
-use Rattle.fx_leaf.specs.Tables.{Tables, Table, AreTables, Numbers, number_of_layout, entry, taken_entry, handled_entry}
-use Rattle.fx_leaf.specs.Verdicts.{Verdict, both_judged, all_judged, where_passed, layout_reads, taken_verdict, tally_verdict, handled_verdict, coming_verdict, verdict}
+use Rattle.fx_leaf.specs.Tables.{Tables, Table, AreTables, Numbers, number_of_layout, entry_in, entry, handled_entry}
+use Rattle.fx_leaf.specs.Verdicts.{tally_verdict, handled_verdict, coming_verdict, verdict}
 use Rattle.fx_leaf.proofs.Ranks.{every_of_all}
-use Rattle.fx_leaf.proofs.Seeing.{sent_is, holder_is}
+use Rattle.fx_leaf.proofs.Filling.{closed_from, handled_same}
 use Rattle.fx_leaf.proofs.Standings.{match_tells}
 use Rattle.fx_leaf.proofs.Uncut.{every_at, in_front, behind, mapped, filtered, both_none, verdict_agrees}
 use Rattle.fx_leaf.proofs.Verdicts.{takes_read}
@@ -145,21 +146,37 @@ module _ (t : Tables) (are : AreTables t) (region : Bounds) (r : IsRegion region
           let P : Aggregation → Type 0 = λ a. AllRise ranked.rank net from (exporters_of net (slice_get net.holders a.holder)) in
           rises_by ranked from next' process (exporters_of net (slice_get net.holders a.holder)) (every_at P l.at.aggregations a (every_of_all P l.at.aggregations rises.1) among.among) among.lost_in.2.1
 
-  -- ---- where nothing is lost
+  -- ---- what is lost further on is marked
 
-  module _ (filled : IsFilled net t.numbering region table) where
-    taken_is : (layout : Layout) (a : Aggregation) → taken_entry table net t.numbering region layout a ≡ taken_verdict (verdict net region) net region layout a
-    taken_is layout a =
-        ap (λ v. cond (layout_reads net layout a) (where_passed (standing region (match_fields a.matches)) v) (Some Never)) (holder_is net t.numbering region table filled are.numbers a.holder)
+  pub sends_feed : (number : ℕ) (es : List Exporter) (process : ℕ) → SendsOn table net number es process → process < length net.processes → Feeds net es process
+  sends_feed number es process s lt =
+      record { exporter = s.exporter; among = s.sends; link = s.on.link; linked = s.on.among; leads = s.on.leads; there = lt }
 
-    all_taken_are : (layout : Layout) (as' : List Aggregation) → map (taken_entry table net t.numbering region layout) as' ≡ map (taken_verdict (verdict net region) net region layout) as'
-    all_taken_are layout [] = refl
-    all_taken_are layout (a ∷ as') = ap₂ (λ (v : Verdict) (vs : List Verdict). v ∷ vs) (taken_is layout a) (all_taken_are layout as')
+  module _ (marks : List ℕ) (filled : IsFilled net t.numbering region marks table) where
+    -- there is a verdict at a process that isn't there
+    pub lost_within : (process number : ℕ) → IsLost t table process number → process < length net.processes
+    lost_within process number (none, (layout, is)) =
+        elim (cases_lt process (length net.processes)) [
+          | inl lt ↦ lt
+          | inr le ↦ absurd (let never : entry table process number ≡ Some Never = ap (λ o. entry_in o number) (slice_get_past table process (omega (arith, le, filled.size))) in cc)
+        ]
 
-    handled_is : (number : ℕ) (layout : Layout) → slice_get t.numbering.layouts number ≡ Some layout → (o : Option Process) → handled_entry table net t.numbering region number layout o ≡ handled_verdict (verdict net region) net region layout o
-    handled_is number layout is None = refl
-    handled_is number layout is (Some p) =
-        ap₂ both_judged (sent_is net t.numbering region table filled number layout is (at_places net.exporters p.exporters)) (ap all_judged (all_taken_are layout p.aggregations))
+    pub marked_on : (from number process next' : ℕ) → Marked marks from number → LostFrom t region table from number (Behind process next') → Marked marks process next'
+    marked_on from number process next' marked l =
+        by (subst (SentFrom net t.numbering (Marked marks) number) l.process_is (closed_from net t.numbering marks filled.closed from number marked)) l.lost_at
+      where
+        lt : process < length net.processes
+        lt = lost_within process next' (lost_on from number process next' l)
+
+        by : SentFrom net t.numbering (Marked marks) number (Some l.at) → LostAt t region table number l.layout l.at (Behind process next') → Marked marks process next'
+        by sent (inl (same, sends)) =
+            subst (Marked marks process) (sym same) (sent.0 process (sends_feed number (at_places net.exporters l.at.exporters) process sends lt))
+        by sent (inr among) =
+            let a = among.aggregation in
+            let to = among.lost_in.2 in
+            subst (Marked marks process) (sym to.0) (sent.1 a among.among process (sends_feed next' (exporters_of net (slice_get net.holders a.holder)) process to.1 lt))
+
+    -- ---- where nothing is lost
 
     tally_some : (layout : Layout) (process : ℕ) → tally_verdict net layout process ≡ None → ⊥
     tally_some layout process h =
@@ -168,10 +185,18 @@ module _ (t : Tables) (are : AreTables t) (region : Bounds) (r : IsRegion region
           | false ↦ λ k. absurd (cc)
         ] h
 
-    pub not_lost : (process number : ℕ) → ((layout : Layout) → slice_get t.numbering.layouts number ≡ Some layout → handled_entry table net t.numbering region number layout (slice_get net.processes process) ≡ None → ⊥) → IsLost t table process number → ⊥
-    not_lost process number none (h, (layout, is)) =
-        let judged : coming_verdict (verdict net region) net region process layout ≡ None = sym (verdict_agrees net region are.network.ranked process layout) ∙ sym (filled process number layout is) ∙ h in
+    marked_right : (process number : ℕ) → Marked marks process number → SentFrom net t.numbering (IsVerdict net t.numbering region table) number (slice_get net.processes process)
+    marked_right process number marked = by (slice_get net.processes process) (closed_from net t.numbering marks filled.closed process number marked)
+      where
+        by : (o : Option Process) → SentFrom net t.numbering (Marked marks) number o → SentFrom net t.numbering (IsVerdict net t.numbering region table) number o
+        by None h = tt
+        by (Some p) h =
+            (λ q. λ f. filled.verdicts q number (h.0 q f), λ a. λ at. λ q. λ f. filled.verdicts q (number_of_layout t.numbering a.holder) (h.1 a at q f))
+
+    pub not_lost : (process number : ℕ) → Marked marks process number → ((layout : Layout) → slice_get t.numbering.layouts number ≡ Some layout → handled_entry table net t.numbering region number layout (slice_get net.processes process) ≡ None → ⊥) → IsLost t table process number → ⊥
+    not_lost process number marked none (h, (layout, is)) =
+        let judged : coming_verdict (verdict net region) net region process layout ≡ None = sym (verdict_agrees net region are.network.ranked process layout) ∙ sym (filled.verdicts process number marked layout is) ∙ h in
         elim (both_none (tally_verdict net layout process) (handled_verdict (verdict net region) net region layout (slice_get net.processes process)) judged) [
           | inl k ↦ tally_some layout process k
-          | inr k ↦ none layout is (handled_is number layout is (slice_get net.processes process) ∙ k)
+          | inr k ↦ none layout is (handled_same net t.numbering region are.network.ranked are.numbers are.reports table filled.size number layout is (slice_get net.processes process) (marked_right process number marked) ∙ k)
         ]

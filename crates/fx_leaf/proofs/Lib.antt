@@ -23,3 +23,5 @@ pub mod Bounding
 pub mod Losing
 pub mod Following
 pub mod Cutting
+pub mod Telling
+pub mod Marking

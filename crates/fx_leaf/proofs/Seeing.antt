@@ -1,66 +1,15 @@
 -- What is told along a path, from a table that is filled.
-use Rattle.std.proofs.Common.{◌≡◌, inl, inr, ℕ, zero, suc, ◌+◌, ◌<◌, ◌≤◌, cond, List, [], ◌∷◌, ◌++◌, map, length, take, get_or, Option, Some, None, refl, sym, ap, ap₂, ◌∙◌, subst, arith, slice_get, add-one, le_of_suc-le-suc, length-set, append-nil, append_assoc}
-use Rattle.std.proofs.lemmas.Bool.{cases_lt}
+use Rattle.std.proofs.Common.{◌≡◌, inl, inr, ℕ, zero, suc, ◌+◌, ◌<◌, ◌≤◌, cond, List, [], ◌∷◌, ◌++◌, map, length, take, get_or, Option, Some, None, refl, sym, ap, ap₂, ◌∙◌, subst, arith, add-one, le_of_suc-le-suc, append-nil, append_assoc}
 use Rattle.fx_boxes.specs.Boxes.{Bounds}
-use Rattle.fx_layout.specs.Keys.{Layout}
 use Rattle.fx_machine.specs.declared.observation.Selection.{Selection}
 use Rattle.fx_machine.specs.declared.traffic.Crossing.{Crossing}
-use Rattle.fx_machine.specs.Network.{Net, Point, Exporter, Holder, numbered, points_of, exporters_of, layout_of}
+use Rattle.fx_machine.specs.Network.{Net, Point, numbered, points_of}
 use Rattle.fx_machine.specs.Occurrences.{watches}
 use Rattle.fx_leaf.specs.declared.path.Told.{Told}
-use Rattle.fx_leaf.specs.Leaves.{IsFilled, Seeing, named}
-use Rattle.fx_leaf.specs.Tables.{Numbering, Numbers, Table, Tables, AreTables, number_of_layout, entry, row_from, fill}
-use Rattle.fx_leaf.specs.Verdicts.{Verdict, VerdictAt, both_judged, all_judged, one_judged, process_verdict, destination_verdict, send_verdict, sent_verdict, holder_verdict, verdict, Seen, seen_if, seen_by, seen_at, seen_along, counted_from}
+use Rattle.fx_leaf.specs.Leaves.{Seeing, named}
+use Rattle.fx_leaf.specs.Verdicts.{Verdict, VerdictAt, both_judged, all_judged, Seen, seen_if, seen_by, seen_at, seen_along, counted_from}
 use Rattle.fx_leaf.proofs.Joins.{joined_assoc, joined_never, never_joined}
-use Rattle.fx_leaf.proofs.Filling.{table_is_verdicts, not_there}
 use Rattle.fx_leaf.proofs.Uncut.{both_none}
-
--- ---- a filled table
-
-length_filled : (net : Net) (n : Numbering) (region : Bounds) (order : List ℕ) (table : Table) → length (fill net n region order table) ≡ length table
-length_filled net n region [] table = refl
-length_filled net n region (p ∷ ps) table =
-    length_filled net n region ps _ ∙ length-set table p (row_from table net n region p 0 n.layouts)
-
-pub is_filled : (t : Tables) (region : Bounds) (table now : Table) → AreTables t → length table ≡ length t.net.processes → now ≡ fill t.net t.numbering region t.order table → IsFilled t.net t.numbering region now
-is_filled t region table now are size e process =
-    let filled = fill t.net t.numbering region t.order table in
-    let same : length filled ≡ length t.net.processes = length_filled t.net t.numbering region t.order table ∙ size in
-    let here : IsFilled t.net t.numbering region filled =
-    λ q. elim (cases_lt q (length t.net.processes)) [
-      | inl lt ↦ table_is_verdicts t.net t.numbering region are.network.ranked t.order table are.numbers are.reports size are.falls q (are.whole q lt)
-      | inr le ↦ not_there t.net t.numbering region are.network.ranked are.numbers are.reports filled q same le
-    ]
-    in
-    subst (λ (x : Table). IsFilled t.net t.numbering region x) (sym e) here process
-
-module _ (net : Net) (n : Numbering) (region : Bounds) (table : Table) (filled : IsFilled net n region table) where
-  module _ (number : ℕ) (layout : Layout) (is : slice_get n.layouts number ≡ Some layout) where
-    process_is : (o : Option ℕ) → process_verdict (entry table) number o ≡ process_verdict (verdict net region) layout o
-    process_is None = refl
-    process_is (Some q) = filled q number layout is
-
-    destination_is : (d : Option ℕ) → destination_verdict (entry table) net number d ≡ destination_verdict (verdict net region) net layout d
-    destination_is None = refl
-    destination_is (Some link) = process_is (slice_get net.links link)
-
-    destinations_are : (ds : List (Option ℕ)) → map (destination_verdict (entry table) net number) ds ≡ map (destination_verdict (verdict net region) net layout) ds
-    destinations_are [] = refl
-    destinations_are (d ∷ ds) = ap₂ (λ (v : Verdict) (vs : List Verdict). v ∷ vs) (destination_is d) (destinations_are ds)
-
-    send_is : (e : Exporter) → send_verdict (entry table) net number e ≡ send_verdict (verdict net region) net layout e
-    send_is e = ap (λ vs. cond e.parallel (all_judged vs) (one_judged vs)) (destinations_are e.destinations)
-
-    pub sent_is : (es : List Exporter) → sent_verdict (entry table) net number es ≡ sent_verdict (verdict net region) net layout es
-    sent_is [] = refl
-    sent_is (e ∷ es) = ap₂ both_judged (send_is e) (sent_is es)
-
-  -- the verdict on a holder's records
-  pub holder_is : Numbers net n → (holder : ℕ) → sent_verdict (entry table) net (number_of_layout n holder) (exporters_of net (slice_get net.holders holder)) ≡ holder_verdict (verdict net region) net holder
-  holder_is numbers holder = by (slice_get net.holders holder) refl where
-    by : (o : Option Holder) → slice_get net.holders holder ≡ o → sent_verdict (entry table) net (number_of_layout n holder) (exporters_of net o) ≡ sent_verdict (verdict net region) net (layout_of o) (exporters_of net o)
-    by None e = refl
-    by (Some h) e = sent_is (number_of_layout n holder) h.layout (numbers holder h e) (exporters_of net (Some h))
 
 -- ---- one more seen
 
@@ -71,27 +20,19 @@ judged_append : (xs ys : List Seen) → judged (xs ++ ys) ≡ both_judged (judge
 judged_append [] ys = sym (never_joined (judged ys))
 judged_append (x ∷ xs) ys = ap (both_judged x.verdict) (judged_append xs ys) ∙ sym (joined_assoc x.verdict (judged xs) (judged ys))
 
--- where neither part has none, the whole hasn't
-pub none_more : (xs ys all : List Seen) → all ≡ xs ++ ys → (judged xs ≡ None → ⊥) → (judged ys ≡ None → ⊥) → judged all ≡ None → ⊥
-none_more xs ys all is none new h =
-    elim (both_none (judged xs) (judged ys) (sym (judged_append xs ys) ∙ ap judged (sym is) ∙ h)) [
-      | inl e ↦ none e
-      | inr e ↦ new e
-    ]
-
 counted_append : (found : Option Seen) (xs ys : List Seen) → counted_from (counted_from found xs) ys ≡ counted_from found (xs ++ ys)
 counted_append found [] ys = refl
 counted_append found (x ∷ xs) ys = counted_append _ xs ys
 
 pub seeing_nothing : (told : Told) → Seeing told told []
 seeing_nothing told = record {
-  verdict = sym (joined_never told.verdict);
+  verdict = sym (joined_never (Some told.fate));
   counted = λ found. λ is. is;
 }
 
 pub seeing_append : (a b c : Told) (xs ys : List Seen) → Seeing a b xs → Seeing b c ys → Seeing a c (xs ++ ys)
 seeing_append a b c xs ys s t = record {
-  verdict = t.verdict ∙ ap (λ v. both_judged v (judged ys)) s.verdict ∙ joined_assoc a.verdict (judged xs) (judged ys) ∙ ap (both_judged a.verdict) (sym (judged_append xs ys));
+  verdict = t.verdict ∙ ap (λ v. both_judged v (judged ys)) s.verdict ∙ joined_assoc (Some a.fate) (judged xs) (judged ys) ∙ ap (both_judged (Some a.fate)) (sym (judged_append xs ys));
   counted = λ found. λ is. t.counted (counted_from found xs) (s.counted found is) ∙ ap named (counted_append found xs ys);
 }
 
@@ -166,13 +107,3 @@ module _ (at : VerdictAt) (net : Net) (region : Bounds) where
   pub seen_crossing : (k : ℕ) (cs : List Crossing) (x : Crossing) (a b c : Told) → k < length cs → x ≡ get_or cs k x → Seeing a b (seen_along at net region 1 (take k cs)) → Seeing b c (at_crossing (k + 1) x) → Seeing a c (seen_along at net region 1 (take (k + 1) cs))
   seen_crossing k cs x a b c lt is so new =
       subst (λ (xs : List Seen). Seeing a c xs) (sym (along_next k cs x lt is)) (seeing_append a b c _ _ so new)
-
-take_whole : {A : Type 0} (xs : List A) (k : ℕ) → length xs ≤ k → take k xs ≡ xs
-take_whole [] zero le = refl
-take_whole [] (suc k) le = refl
-take_whole (x ∷ xs) zero le = absurd (omega arith)
-take_whole {A = A} (x ∷ xs) (suc k) le = ap (λ (ys : List A). x ∷ ys) (take_whole xs k (le_of_suc-le-suc le))
-
--- what isn't so of all that were gone over isn't so of the whole
-pub whole_none : {A : Type 0} (P : List A → Type 0) (xs : List A) (k : ℕ) → length xs ≤ k → (P (take k xs) → ⊥) → P xs → ⊥
-whole_none P xs k le h p = h (subst P (sym (take_whole xs k le)) p)

@@ -1,17 +1,17 @@
 -- What is to be said of a region's packets on a path, beside the leaf that is sound.
-use Rattle.std.specs.Prelude.{◌≡◌, ℕ, ◌<◌, true, List, [], length, Contains, Some, None}
+use Rattle.std.specs.Prelude.{◌≡◌, ℕ, ◌<◌, true, List, length, Some, None}
 use Rattle.fx_boxes.specs.Boxes.{Bounds, IsRegion, holds}
 use Rattle.fx_elements.specs.Axes.{Fields}
 use Rattle.fx_machine.specs.declared.traffic.Crossing.{Crossing}
 use Rattle.fx_machine.specs.Network.{Net}
 use Rattle.fx_machine.specs.Ranks.{IsRanked, IsNetwork}
-use Rattle.fx_machine.specs.Orders.{Descends}
 use Rattle.fx_leaf.specs.declared.verdict.Fate.{Fate}
 use Rattle.fx_leaf.specs.declared.verdict.Fate.TheVariants.{Once, Never}
 use Rattle.fx_leaf.specs.Fates.{packet_fate}
 use Rattle.fx_leaf.specs.SoundLeaves.{SelectionsUncut, MatchesUncut, SoundLeaf, SoundNever}
 use Rattle.fx_leaf.specs.Verdicts.{Seen, path_verdict, counted}
-use Rattle.fx_leaf.specs.Tables.{Numbering, Numbers, Table, fill, HasVerdicts}
+use Rattle.fx_leaf.specs.Reach.{Marked, IsClosed, IsVerdict, Agrees}
+use Rattle.fx_leaf.specs.Tables.{Numbering, Numbers, Table}
 
 -- nothing cuts the region
 abbrev pub NothingCuts : Net → List Crossing → Bounds → Type 0
@@ -53,7 +53,7 @@ Judges says = (net : Net) (path : List Crossing) (region : Bounds) → IsNetwork
 
 -- ---- tables
 
--- a table that is filled from the processes of highest rank on has the verdicts of all processes that were filled in
+-- a table whose marked entries agree with those that they are worked out from has the verdicts there
 abbrev pub TableIsVerdicts : Type 0
 TableIsVerdicts =
-    (net : Net) (n : Numbering) (region : Bounds) (ranked : IsRanked net) (order : List ℕ) (table : Table) → Numbers net n → net.report < length net.processes → length table ≡ length net.processes → Descends net ranked.rank [] order → (process : ℕ) → Contains order process → HasVerdicts net n region (fill net n region order table) process
+    (net : Net) (n : Numbering) (region : Bounds) (marks : List ℕ) (table : Table) → IsRanked net → Numbers net n → net.report < length net.processes → length table ≡ length net.processes → IsClosed net n marks → Agrees net n region marks table → (process number : ℕ) → Marked marks process number → IsVerdict net n region table process number

@@ -1,5 +1,5 @@
 -- What is to be answered of the packets of a region on a path: the leaf that is sound, or why there is none.
-use Rattle.std.specs.Prelude.{◌≡◌, ℕ, List, map, Option, Some, None, Result, Ok, Err}
+use Rattle.std.specs.Prelude.{◌≡◌, List, map, Option, Some, None, Result, Ok, Err}
 use Rattle.fx_base.specs.declared.fault.Fault.{Fault}
 use Rattle.fx_base.specs.declared.fault.Place.TheVariants as places
 use Rattle.fx_base.specs.Fault.{fault_at}
@@ -10,22 +10,22 @@ use Rattle.fx_leaf.specs.declared.leaf.Counted.{Counted}
 use Rattle.fx_leaf.specs.declared.path.Told.{Told}
 use Rattle.fx_leaf.specs.declared.verdict.Fate.TheVariants.{Never, Once, Many, Differing, Unassigned}
 use Rattle.fx_leaf.specs.Answers.{NothingCuts, AllHave}
-use Rattle.fx_leaf.specs.Tables.{Numbering, Table, HasVerdicts}
 use Rattle.fx_leaf.specs.Verdicts.{Verdict, Seen, both_judged, all_judged, counted_from, path_verdict, counted}
-
--- a table has the verdicts of all collecting processes
-abbrev pub IsFilled : Net → Numbering → Bounds → Table → Type 0
-IsFilled net n region table = (process : ℕ) → HasVerdicts net n region table process
 
 -- the numbers of a selection process, if there is one
 abbrev pub named : Option Seen → Option Counted
 named None = None
 named (Some s) = Some (record { crossing = s.crossing; point = s.point; process = s.process })
 
--- what is told once these were seen too: both their verdicts, and the last of them that is counted once
+-- what is told once these were seen too, none of which is cut: all of them together, and the last that is counted once
 pub record Seeing (before after : Told) (seen : List Seen) : Type 0 where
-  pub verdict : after.verdict ≡ both_judged before.verdict (all_judged (map (λ s. s.verdict) seen))
+  pub verdict : Some after.fate ≡ both_judged (Some before.fate) (all_judged (map (λ s. s.verdict) seen))
   pub counted : (found : Option Seen) → before.counted ≡ named found → after.counted ≡ named (counted_from found seen)
+
+-- what is told of the packets of a region on a path
+pub record IsTold (net : Net) (path : List Crossing) (region : Bounds) (t : Told) : Type 0 where
+  pub verdict : Some t.fate ≡ path_verdict net region path
+  pub counted : t.counted ≡ named (counted net region path)
 
 -- ---- the answer
 

@@ -10,3 +10,5 @@ pub mod Answers
 pub mod Leaves
 pub mod Splits
 pub mod Lost
+pub mod Judgements
+pub mod Reach

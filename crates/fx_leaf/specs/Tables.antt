@@ -1,5 +1,5 @@
 -- Verdicts by table: an entry for each collecting process and each layout, which is told by its number.
-use Rattle.std.specs.Prelude.{◌≡◌, ℕ, suc, ◌<◌, ◌≤◌, List, [], ◌∷◌, map, length, Contains, Option, Some, None, slice_get, slice_set, if◌then◌else◌}
+use Rattle.std.specs.Prelude.{◌≡◌, ℕ, ◌<◌, ◌≤◌, List, [], map, length, Contains, Option, Some, None, slice_get, if◌then◌else◌}
 use Rattle.std.specs.List.{AllByRecursion}
 use Rattle.fx_boxes.specs.Boxes.{Bounds}
 use Rattle.fx_layout.specs.Keys.{Layout}
@@ -10,7 +10,7 @@ use Rattle.fx_machine.specs.Orders.{Descends}
 use Rattle.fx_machine.specs.Matches.{HasEntries}
 use Rattle.fx_leaf.specs.declared.verdict.Fate.TheVariants.{Never}
 use Rattle.fx_leaf.specs.Standings.{standing, match_fields}
-use Rattle.fx_leaf.specs.Verdicts.{Verdict, both_judged, all_judged, where_passed, sent_verdict, layout_reads, tally_verdict, verdict}
+use Rattle.fx_leaf.specs.Verdicts.{Verdict, both_judged, all_judged, where_passed, sent_verdict, layout_reads, tally_verdict}
 
 -- ---- layouts by number
 
@@ -64,23 +64,6 @@ handled_entry table net n region number layout (Some process) =
 abbrev pub entry_from : Table → Net → Numbering → Bounds → ℕ → ℕ → Layout → Verdict
 entry_from table net n region process number layout =
     both_judged (tally_verdict net layout process) (handled_entry table net n region number layout (slice_get net.processes process))
-
--- a row, from the layout of this number on
-abbrev pub row_from : Table → Net → Numbering → Bounds → ℕ → ℕ → List Layout → List Verdict
-row_from table net n region process number [] = []
-row_from table net n region process number (layout ∷ layouts) =
-    entry_from table net n region process number layout ∷ row_from table net n region process (suc number) layouts
-
--- the rows of these processes, one after another
-abbrev pub fill : Net → Numbering → Bounds → List ℕ → Table → Table
-fill net n region [] table = table
-fill net n region (process ∷ processes) table =
-    fill net n region processes (slice_set table process (row_from table net n region process 0 n.layouts))
-
--- the entries for a process are its verdicts
-abbrev pub HasVerdicts : Net → Numbering → Bounds → Table → ℕ → Type 0
-HasVerdicts net n region table process =
-    (number : ℕ) (layout : Layout) → slice_get n.layouts number ≡ Some layout → entry table process number ≡ verdict net region process layout
 
 -- ---- what a plan lends
 

@@ -1,18 +1,20 @@
 //! The leaf that is sound for a region on a path.
-ghost use Rattle.std.specs.Prelude.{◌≡◌, ◌≤◌, ℕ, length, IfOk, IfErr, OnOk, Ok};
+ghost use Rattle.std.specs.Prelude.{◌≡◌, ◌≤◌, ℕ, length, IfOk, IfErr, OnOk, Ok, Err, Some, None};
 ghost use Rattle.fx_leaf.specs.Leaves as leaves;
 ghost use Rattle.fx_leaf.specs.SoundLeaves as sound_leaves;
+ghost use Rattle.fx_leaf.specs.Splits as splits;
 ghost use Rattle.fx_leaf.specs.Tables as by_table;
 ghost use Rattle.fx_leaf.specs.Verdicts as verdicts;
 
 use crate::lent::Tables;
 use crate::path::{Judge, Told};
 use crate::regions::bounded;
-use crate::rows::fill;
-use crate::table::Scratch;
+use crate::rows::prepare;
+use crate::table::{Row, Scratch};
 use crate::verdict::Fate;
 use fx_base::Fault;
 use fx_boxes::Region;
+use fx_elements::Axis;
 use fx_machine::Crossing;
 
 /// The selection process that counts the packets of a leaf, by numbers from 1: its crossing's on the path, its
@@ -28,56 +30,123 @@ pub struct Counted {
 }
 
 /// The fault where packets are to be counted once, and aren't.
-fn fault_of(verdict: Option<Fate>) -> Fault
-    ensures { result ≡ leaves.fault_of verdict }
+fn fault_of(fate: Fate) -> Fault
+    ensures { result ≡ leaves.fault_of (Some fate) }
 {
-    match verdict {
-        None => Fault::bare(406),
-        Some(Fate::Unassigned) => Fault::bare(413),
-        Some(Fate::Differing) => Fault::bare(409),
-        Some(Fate::Many) => Fault::bare(408),
-        Some(Fate::Never | Fate::Once) => Fault::bare(407),
+    match fate {
+        Fate::Unassigned => Fault::bare(413),
+        Fate::Differing => Fault::bare(409),
+        Fate::Many => Fault::bare(408),
+        Fate::Never | Fate::Once => Fault::bare(407),
     }
 }
 
 /// The leaf that this tells, or why there is none.
-fn leaf_of(told: Told) -> Result<Counted, Fault>
-    ensures { result ≡ leaves.leaf_of told.verdict told.counted }
+fn leaf_of(told: Result<Told, (Axis, u128)>) -> Result<Counted, Fault>
+    ensures ok { IfOk told (λ t. result ≡ leaves.leaf_of (Some t.fate) t.counted) }
+    ensures err { IfErr told (λ s. result ≡ Err (leaves.fault_of None)) }
 {
-    match told.verdict {
-        Some(Fate::Once) => told.counted.ok_or(Fault::bare(407)),
-        verdict => Err(fault_of(verdict)),
+    match told {
+        Ok(
+            Told {
+                fate: Fate::Once,
+                counted,
+            },
+        ) => counted.ok_or(Fault::bare(407)),
+        Ok(Told { fate, .. }) => Err(fault_of(fate)),
+        Err(_) => Err(Fault::bare(406)),
     }
 }
 
-/// Whether the verdict is that no packet is counted, or why not.
-fn never_of(told: Told) -> Result<(), Fault>
-    ensures { result ≡ leaves.never_of told.verdict }
+/// Whether no packet is counted, or why not.
+fn never_of(told: Result<Told, (Axis, u128)>) -> Result<(), Fault>
+    ensures ok { IfOk told (λ t. result ≡ leaves.never_of (Some t.fate)) }
+    ensures err { IfErr told (λ s. result ≡ Err (leaves.fault_of None)) }
 {
-    match told.verdict {
-        Some(Fate::Never) => Ok(()),
-        Some(Fate::Once) => Err(Fault::bare(415)),
-        verdict => Err(fault_of(verdict)),
+    match told {
+        Ok(
+            Told {
+                fate: Fate::Never,
+                ..
+            },
+        ) => Ok(()),
+        Ok(
+            Told {
+                fate: Fate::Once,
+                ..
+            },
+        ) => Err(Fault::bare(415)),
+        Ok(Told { fate, .. }) => Err(fault_of(fate)),
+        Err(_) => Err(Fault::bare(406)),
     }
 }
 
-/// What is told of the packets of a region that take a path.
-fn judged(scratch: &mut Scratch, tables: &Tables<'_>, path: &[Crossing], region: &Region) -> Told
+/// What is told of the packets of a region that take a path, or a bound of what cuts the region, where there is room for
+/// these collecting processes.
+fn told(
+    rows: &mut [Row],
+    marks: &mut [u64],
+    tables: &Tables<'_>,
+    path: &[Crossing],
+    region: &Region,
+) -> Result<Told, (Axis, u128)>
     requires tables { by_table.AreTables tables.now }
-    requires room { length tables.now.net.processes ≤ length scratch.old }
-    ensures verdict { result.verdict ≡ verdicts.path_verdict tables.now.net region.now path.now }
-    ensures counted { result.counted ≡ leaves.named (verdicts.counted tables.now.net region.now path.now) }
-    ensures size { length scratch.new ≡ length scratch.old }
+    requires size { length rows.old ≡ length tables.now.net.processes }
+    requires marks { length marks.old ≡ length tables.now.net.processes }
+    ensures ok { IfOk result (leaves.IsTold tables.now.net path.now region.now) }
+    ensures err { IfErr result (λ s. splits.IsSplit tables.now.net path.now region.now s.0 s.1) }
 {
     bounded(region);
-    let rows = &mut scratch.rows[..tables.net().processes().len()];
-    fill(rows, tables, region);
+    prepare(rows, marks, tables, path, region);
     let judge = Judge {
         tables,
         rows,
+        marks,
         region,
     };
     judge.path(path)
+}
+
+/// The same in any room that is large enough.
+fn told_in(
+    rows: &mut Vec<Row>,
+    marks: &mut Vec<u64>,
+    tables: &Tables<'_>,
+    path: &[Crossing],
+    region: &Region,
+) -> Result<Told, (Axis, u128)>
+    requires tables { by_table.AreTables tables.now }
+    requires size { length tables.now.net.processes ≤ length rows.old.items }
+    requires marks { length tables.now.net.processes ≤ length marks.old.items }
+    ensures ok { IfOk result (leaves.IsTold tables.now.net path.now region.now) }
+    ensures err { IfErr result (λ s. splits.IsSplit tables.now.net path.now region.now s.0 s.1) }
+    ensures size { length rows.new.items ≡ length rows.old.items }
+    ensures marks { length marks.new.items ≡ length marks.old.items }
+{
+    let count = tables.net().processes().len();
+    told(
+        &mut rows[..count],
+        &mut marks[..count],
+        tables,
+        path,
+        region,
+    )
+}
+
+/// The same.
+pub(crate) fn judged(
+    scratch: &mut Scratch,
+    tables: &Tables<'_>,
+    path: &[Crossing],
+    region: &Region,
+) -> Result<Told, (Axis, u128)>
+    requires tables { by_table.AreTables tables.now }
+    requires room { length tables.now.net.processes ≤ length scratch.old }
+    ensures ok { IfOk result (leaves.IsTold tables.now.net path.now region.now) }
+    ensures err { IfErr result (λ s. splits.IsSplit tables.now.net path.now region.now s.0 s.1) }
+    ensures size { length scratch.new ≡ length scratch.old }
+{
+    told_in(&mut scratch.rows, &mut scratch.marks, tables, path, region)
 }
 
 /// The leaf that is sound for the packets of a region that take a path: the one selection process that counts each of

@@ -43,28 +43,28 @@ impl<'a> Tables<'a> {
     }
 
     /// The network.
-    pub(crate) fn net(&self) -> &'a Net
+    pub fn net(&self) -> &'a Net
         ensures { result.now ≡ self.now.net }
     {
         self.net
     }
 
     /// Its collecting processes, each behind all of higher rank.
-    pub(crate) fn order(&self) -> &'a [usize]
+    pub fn order(&self) -> &'a [usize]
         ensures { result.now ≡ self.now.order }
     {
         self.order
     }
 
     /// Its layouts.
-    pub(crate) fn layouts(&self) -> &'a [Layout]
+    pub fn layouts(&self) -> &'a [Layout]
         ensures { result.now ≡ self.now.numbering.layouts }
     {
         self.layouts
     }
 
     /// The number of the layout of the holder at this place, from 0 each.
-    pub(crate) fn number_of_layout(&self, holder: usize) -> usize
+    pub fn number_of_layout(&self, holder: usize) -> usize
         ensures { result ≡ by_table.number_of_layout self.now.numbering holder }
     {
         match self.numbers.get(holder) {

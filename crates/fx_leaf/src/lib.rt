@@ -4,11 +4,13 @@
 
 mod bound;
 mod entry;
+mod judging;
 mod laws;
 mod leaf;
 mod lent;
 mod lost;
 mod path;
+mod reach;
 mod regions;
 mod rows;
 mod sending;
@@ -16,6 +18,7 @@ mod split;
 mod table;
 mod verdict;
 
+pub use judging::{Judgement, judge};
 pub use laws::{conservation, exactly_once, fates_along_ranks, verdicts_judge_regions};
 pub use leaf::{Counted, fate, never};
 pub use lent::Tables;

@@ -1,42 +1,85 @@
-//! Rows are filled, from the collecting processes of highest rank on.
-ghost use Rattle.std.specs.Prelude.{◌≡◌, ◌<◌, length, slice_set};
+//! Rows are filled where they are marked, from the collecting processes of highest rank on.
+ghost use Rattle.std.specs.Prelude.{◌≡◌, ◌≢◌, ◌<◌, ℕ, length, slice_get};
+ghost use Rattle.std.specs.Int.{bit_at};
+ghost use Rattle.fx_leaf.specs.Reach as reach;
 ghost use Rattle.fx_leaf.specs.Tables as by_table;
 
 use crate::entry::entry_from;
 use crate::lent::Tables;
-use crate::table::Row;
+use crate::reach::{mark, marked_at};
+use crate::table::{LAYOUTS, Row};
+use crate::verdict::Fate;
 use fx_boxes::Region;
+use fx_machine::Crossing;
 
-/// The row for the collecting process at this place, from the rows of the processes that it feeds.
-fn row_from(rows: &[Row], tables: &Tables<'_>, region: &Region, process: usize) -> Row
-    requires { by_table.AreTables tables.now }
-    ensures { result ≡ by_table.row_from rows.now tables.now.net tables.now.numbering region.now process 0 tables.now.numbering.layouts }
+/// Another entry for the collecting process at this place and the layout of this number.
+fn set_entry(rows: &mut [Row], process: usize, number: usize, verdict: Option<Fate>)
+    requires there { process < length rows.old }
+    requires within { number < LAYOUTS }
+    ensures set { by_table.entry rows.new process number ≡ verdict }
+    ensures others { (q k : ℕ) → (q ≡ process → k ≡ number → ⊥)
+        → by_table.entry rows.new q k ≡ by_table.entry rows.old q k }
 {
-    let layouts = tables.layouts();
-    let mut row = Row::new();
-    for number in 0..layouts.len() {
-        let layout = &layouts[number];
-        row.push(entry_from(rows, tables, region, process, number, layout));
-    }
-    row
+    rows[process].set(number, verdict);
 }
 
-/// Another row for the collecting process at this place.
-fn set_row(rows: &mut [Row], process: usize, row: Row)
-    requires { process < length rows.old }
-    ensures { rows.new ≡ slice_set rows.old process row }
-{
-    rows[process] = row;
-}
-
-/// Each row is filled, behind those of the processes that its own feeds.
-pub(crate) fn fill(rows: &mut [Row], tables: &Tables<'_>, region: &Region)
+/// The entries for these layouts, from the rows of the processes that this one feeds.
+fn fill_row(rows: &mut [Row], layouts: u64, tables: &Tables<'_>, region: &Region, process: usize)
     requires tables { by_table.AreTables tables.now }
-    requires room { length rows.old ≡ length tables.now.net.processes }
-    ensures { rows.new ≡ by_table.fill tables.now.net tables.now.numbering region.now tables.now.order rows.old }
+    requires size { length rows.old ≡ length tables.now.net.processes }
+    requires there { process < length rows.old }
+    requires right { let t = tables.now in
+        let right = reach.IsVerdict t.net t.numbering region.now rows.old in
+        (number : ℕ) → bit_at layouts number ≡ 1
+        → reach.SentFrom t.net t.numbering right number (slice_get t.net.processes process) }
+    ensures filled { let t = tables.now in
+        (number : ℕ) → bit_at layouts number ≡ 1
+        → reach.IsVerdict t.net t.numbering region.now rows.new process number }
+    ensures others { (q number : ℕ) → q ≢ process
+        → by_table.entry rows.new q number ≡ by_table.entry rows.old q number }
+{
+    let every = tables.layouts();
+    for number in 0..every.len() {
+        if (layouts >> number) & 1 == 1 {
+            let verdict = entry_from(rows, tables, region, process, number, &every[number]);
+            set_entry(rows, process, number, verdict);
+        }
+    }
+}
+
+/// Each marked entry is filled, behind those of the processes that its own feeds.
+fn fill(rows: &mut [Row], marks: &[u64], tables: &Tables<'_>, region: &Region)
+    requires tables { by_table.AreTables tables.now }
+    requires size { length rows.old ≡ length tables.now.net.processes }
+    requires marks { length marks.now ≡ length tables.now.net.processes }
+    requires closed { reach.IsClosed tables.now.net tables.now.numbering marks.now }
+    ensures { let t = tables.now in
+        reach.IsFilled t.net t.numbering region.now marks.now rows.new }
 {
     for process in tables.order() {
-        let row = row_from(rows, tables, region, *process);
-        set_row(rows, *process, row);
+        let layouts = marked_at(marks, *process);
+        if layouts != 0 {
+            fill_row(rows, layouts, tables, region, *process);
+        }
     }
+}
+
+/// What the verdict on the packets that take a path is worked out from is marked, and filled.
+pub(crate) fn prepare(
+    rows: &mut [Row],
+    marks: &mut [u64],
+    tables: &Tables<'_>,
+    path: &[Crossing],
+    region: &Region,
+)
+    requires tables { by_table.AreTables tables.now }
+    requires size { length rows.old ≡ length tables.now.net.processes }
+    requires marks { length marks.old ≡ length tables.now.net.processes }
+    ensures along { let t = tables.now in
+        reach.SentAlong t.net t.numbering (reach.Marked marks.new) path.now }
+    ensures filled { let t = tables.now in
+        reach.IsFilled t.net t.numbering region.now marks.new rows.new }
+{
+    mark(marks, tables, path);
+    fill(rows, marks, tables, region);
 }

@@ -1,35 +1,34 @@
 //! Where a region that is cut may be split.
-ghost use Rattle.std.specs.Prelude.{◌≡◌, ◌≤◌, ◌↔◌, ℕ, true, List, [], length, if◌then◌else◌, Contains, None, Err, IsSome, IfSome, IfNone};
+ghost use Rattle.std.specs.Prelude.{◌≡◌, ◌≤◌, ◌↔◌, ℕ, List, length, None, Err, IsSome, IfSome, IfNone};
 ghost use Rattle.fx_base.specs.Fault.{fault_at};
 ghost use Rattle.fx_base.specs.declared.fault.Place.TheVariants as places;
 ghost use Rattle.fx_boxes.specs.Boxes as boxes;
 ghost use Rattle.fx_elements.specs.Axes as axes;
-ghost use Rattle.fx_machine.specs.Network as network;
-ghost use Rattle.fx_machine.specs.Occurrences as met;
-ghost use Rattle.fx_machine.specs.declared.observation.Selection as of_selection;
 ghost use Rattle.fx_machine.specs.declared.traffic.Crossing as of_crossing;
 ghost use Rattle.fx_leaf.specs.Answers as answers;
 ghost use Rattle.fx_leaf.specs.Leaves as leaves;
 ghost use Rattle.fx_leaf.specs.Lost as by_lost;
+ghost use Rattle.fx_leaf.specs.Reach as reach;
 ghost use Rattle.fx_leaf.specs.Splits as splits;
 ghost use Rattle.fx_leaf.specs.Tables as by_table;
 ghost use Rattle.fx_leaf.specs.Verdicts as verdicts;
 
 use crate::bound::bound;
+use crate::leaf::judged;
 use crate::lent::Tables;
 use crate::lost::{Lost, lost_at, lost_by};
 use crate::path::Judge;
 use crate::regions::{bounded, standing_to};
-use crate::rows::fill;
 use crate::table::Scratch;
 use fx_boxes::Region;
 use fx_elements::Axis;
-use fx_machine::{Crossing, Point, Selection};
+use fx_machine::{Crossing, Selection};
 
 impl<'a> Judge<'a> {
     /// Where what cuts the region behind a collecting process splits it.
     fn split_behind(&self, process: usize, number: usize) -> Option<(Axis, u128)>
-        requires { by_table.AreTables self.now.tables.now }
+        requires tables { by_table.AreTables self.now.tables.now }
+        requires marked { reach.Marked self.now.marks.now process number }
         ensures some { IfSome result (λ s. (path : List of_crossing.Crossing) → by_lost.Starts self.now.tables.now self.now.region.now path process number
             → splits.IsSplit self.now.tables.now.net path self.now.region.now s.0 s.1) }
         ensures none { IfNone result (by_lost.IsLost self.now.tables.now self.now.rows.now process number → ⊥) }
@@ -51,7 +50,9 @@ impl<'a> Judge<'a> {
 
     /// Where what cuts the region behind a cache splits it.
     fn split_behind_holder(&self, holder: usize) -> Option<(Axis, u128)>
-        requires { by_table.AreTables self.now.tables.now }
+        requires tables { by_table.AreTables self.now.tables.now }
+        requires along { let t = self.now.tables.now in
+            reach.SentByHolder t.net t.numbering (reach.Marked self.now.marks.now) holder }
         ensures some { IfSome result (λ s. (path : List of_crossing.Crossing) → splits.HeldAlong self.now.tables.now.net path self.now.region.now holder
             → splits.IsSplit self.now.tables.now.net path self.now.region.now s.0 s.1) }
         ensures none { IfNone result (verdicts.holder_verdict (verdicts.verdict self.now.tables.now.net self.now.region.now) self.now.tables.now.net holder ≡ None → ⊥) }
@@ -66,7 +67,9 @@ impl<'a> Judge<'a> {
 
     /// Where a selection process, or what cuts the region behind its cache, splits it.
     fn split_at(&self, selection: Selection) -> Option<(Axis, u128)>
-        requires { by_table.AreTables self.now.tables.now }
+        requires tables { by_table.AreTables self.now.tables.now }
+        requires along { let t = self.now.tables.now in
+            reach.SentBySelection t.net t.numbering (reach.Marked self.now.marks.now) selection }
         ensures some { IfSome result (λ s. (path : List of_crossing.Crossing) → splits.Meets self.now.tables.now.net path selection
             → splits.IsSplit self.now.tables.now.net path self.now.region.now s.0 s.1) }
         ensures none { let net = self.now.tables.now.net in
@@ -86,97 +89,22 @@ impl<'a> Judge<'a> {
         }
     }
 
-    /// The same for these selection processes of a point.
-    fn split_at_point(&self, selections: &[Selection]) -> Option<(Axis, u128)>
-        requires { by_table.AreTables self.now.tables.now }
-        ensures some { IfSome result (λ s. (path : List of_crossing.Crossing) → ((selection : of_selection.Selection) → Contains selections.now selection → splits.Meets self.now.tables.now.net path selection)
-            → splits.IsSplit self.now.tables.now.net path self.now.region.now s.0 s.1) }
-        ensures none { let net = self.now.tables.now.net in
+    /// A bound of what cuts the region there, where there is no verdict.
+    pub(crate) fn bound_at(&self, selection: Selection) -> (Axis, u128)
+        requires tables { by_table.AreTables self.now.tables.now }
+        requires along { let t = self.now.tables.now in
+            reach.SentBySelection t.net t.numbering (reach.Marked self.now.marks.now) selection }
+        requires cut { let net = self.now.tables.now.net in
             let region = self.now.region.now in
-            IfNone result ((crossing point : ℕ) → splits.judged (verdicts.seen_by (verdicts.verdict net region) net region crossing point 1 selections.now) ≡ None → ⊥) }
+            (crossing point process : ℕ) → splits.judged (verdicts.seen_if (verdicts.verdict net region) net region crossing point process selection.region selection.holder) ≡ None }
+        ensures { (path : List of_crossing.Crossing) → splits.Meets self.now.tables.now.net path selection
+            → splits.IsSplit self.now.tables.now.net path self.now.region.now result.0 result.1 }
     {
-        for place in 0..selections.len() {
-            if let Some(split) = self.split_at(selections[place]) {
-                return Some(split);
-            }
-        }
-        None
-    }
-
-    /// The same for a point of the crossing's device, if it watches the crossing.
-    fn split_if_watched(&self, crossing: &Crossing, point: &Point) -> Option<(Axis, u128)>
-        requires { by_table.AreTables self.now.tables.now }
-        ensures some { IfSome result (λ s. (path : List of_crossing.Crossing)
-            → ((selection : of_selection.Selection) → met.watches point.now crossing.now ≡ true → Contains point.now.selections selection → splits.Meets self.now.tables.now.net path selection)
-            → splits.IsSplit self.now.tables.now.net path self.now.region.now s.0 s.1) }
-        ensures none { let net = self.now.tables.now.net in
-            let region = self.now.region.now in
-            IfNone result ((number place : ℕ) → splits.judged (if met.watches point.now crossing.now then verdicts.seen_by (verdicts.verdict net region) net region number place 1 point.now.selections else []) ≡ None → ⊥) }
-    {
-        if point.watches(crossing) {
-            self.split_at_point(point.selections())
-        } else {
-            None
+        match self.split_at(selection) {
+            Some(split) => split,
+            None => unreachable!(),
         }
     }
-
-    /// The same for these points of the crossing's device.
-    fn split_at_points(&self, crossing: &Crossing, points: &[Point]) -> Option<(Axis, u128)>
-        requires { by_table.AreTables self.now.tables.now }
-        ensures some { IfSome result (λ s. (path : List of_crossing.Crossing)
-            → ((point : network.Point) (selection : of_selection.Selection) → Contains points.now point → met.watches point crossing.now ≡ true → Contains point.selections selection → splits.Meets self.now.tables.now.net path selection)
-            → splits.IsSplit self.now.tables.now.net path self.now.region.now s.0 s.1) }
-        ensures none { let net = self.now.tables.now.net in
-            let region = self.now.region.now in
-            IfNone result ((number : ℕ) → splits.judged (verdicts.seen_at (verdicts.verdict net region) net region number 1 points.now crossing.now) ≡ None → ⊥) }
-    {
-        for place in 0..points.len() {
-            if let Some(split) = self.split_if_watched(crossing, &points[place]) {
-                return Some(split);
-            }
-        }
-        None
-    }
-
-    /// The same for all points along a path.
-    fn split_along(&self, path: &[Crossing]) -> Option<(Axis, u128)>
-        requires { by_table.AreTables self.now.tables.now }
-        ensures some { IfSome result (λ s. splits.IsSplit self.now.tables.now.net path.now self.now.region.now s.0 s.1) }
-        ensures none { IfNone result (verdicts.path_verdict self.now.tables.now.net self.now.region.now path.now ≡ None → ⊥) }
-    {
-        for place in 0..path.len() {
-            let crossing = &path[place];
-            let points = self.tables.net().points_of(crossing.device);
-            if let Some(split) = self.split_at_points(crossing, points) {
-                return Some(split);
-            }
-        }
-        None
-    }
-}
-
-/// Where what cuts a region on a path splits it.
-fn split_of(
-    scratch: &mut Scratch,
-    tables: &Tables<'_>,
-    path: &[Crossing],
-    region: &Region,
-) -> Option<(Axis, u128)>
-    requires tables { by_table.AreTables tables.now }
-    requires room { length tables.now.net.processes ≤ length scratch.old }
-    ensures some { IfSome result (λ s. splits.IsSplit tables.now.net path.now region.now s.0 s.1) }
-    ensures none { IfNone result (verdicts.path_verdict tables.now.net region.now path.now ≡ None → ⊥) }
-    ensures size { length scratch.new ≡ length scratch.old }
-{
-    bounded(region);
-    let rows = &mut scratch.rows[..tables.net().processes().len()];
-    fill(rows, tables, region);
-    let judge = Judge {
-        tables,
-        rows,
-        region,
-    };
-    judge.split_along(path)
 }
 
 /// Where to split a region that is cut on a path: the values of the axis below this one, and those from it on. It is
@@ -199,5 +127,5 @@ pub fn cut(
     ensures size { length scratch.new ≡ length scratch.old }
 {
     bounded(region);
-    split_of(scratch, tables, path, region)
+    judged(scratch, tables, path, region).err()
 }

@@ -1,12 +1,11 @@
 //! Room for the verdicts on records that come to the collecting processes.
-ghost use Rattle.std.specs.Prelude.{◌≡◌, ◌<◌, ◌++◌, [], ◌∷◌, length, slice_get, IfOk, IfErr};
+ghost use Rattle.std.specs.Prelude.{◌≡◌, ◌≢◌, ◌<◌, ℕ, length, slice_get, Some, IfOk, IfErr};
 ghost use Rattle.fx_base.specs.Fault.{fault_at};
 ghost use Rattle.fx_base.specs.declared.fault.Place.TheVariants as places;
 ghost use Rattle.fx_leaf.specs.Tables as by_table;
 
 use crate::lent::Tables;
 use crate::verdict::Fate;
-use arrayvec::ArrayVec;
 use fx_base::Fault;
 use std::alloc::{AllocError, Global};
 use std::marker::Model;
@@ -17,7 +16,7 @@ pub const LAYOUTS: usize = 64;
 /// The verdicts on records that come to a collecting process, by the number of their layout.
 #[derive(Debug, Drop)]
 pub(crate) struct Row {
-    entries: ArrayVec<Option<Fate>, LAYOUTS>,
+    entries: [Option<Fate>; LAYOUTS],
 }
 
 impl Model for Row {
@@ -26,32 +25,32 @@ impl Model for Row {
 
     ghost Value = { List Verdict };
 
-    ghost view = { λ r. r.entries.items };
+    ghost view = { λ r. r.entries };
 }
 
 impl Row {
-    /// A row without entries.
-    pub(crate) fn new() -> Row
-        ensures { result ≡ [] }
-    {
+    /// A row, each of whose entries is yet to be set.
+    pub(crate) fn new() -> Row {
         Row {
-            entries: ArrayVec::new(),
+            entries: [Some(Fate::Never); LAYOUTS],
         }
     }
 
-    /// An entry more comes last.
-    pub(crate) fn push(&mut self, verdict: Option<Fate>)
-        requires { length self.old < LAYOUTS }
-        ensures { self.new ≡ self.old ++ verdict ∷ [] }
+    /// Another entry for the layout of this number, from 0.
+    pub(crate) fn set(&mut self, layout: usize, verdict: Option<Fate>)
+        requires { layout < LAYOUTS }
+        ensures set { by_table.entry_in (Some self.new) layout ≡ verdict }
+        ensures others { (k : ℕ) → k ≢ layout
+            → by_table.entry_in (Some self.new) k ≡ by_table.entry_in (Some self.old) k }
     {
-        self.entries.push(verdict);
+        self.entries[layout] = verdict;
     }
 
     /// The entry for the layout of this number, from 0.
     pub(crate) fn at(&self, layout: usize) -> Option<Fate>
         ensures { result ≡ by_table.or_never (slice_get self.now layout) }
     {
-        match self.entries.as_slice().get(layout) {
+        match self.entries.get(layout) {
             None => Some(Fate::Never),
             Some(verdict) => *verdict,
         }
@@ -68,10 +67,13 @@ pub(crate) fn entry(rows: &[Row], process: usize, layout: usize) -> Option<Fate>
     }
 }
 
-/// Room for what a leaf's fate is worked out from: a verdict for each collecting process and each layout.
+/// Room for what a leaf's fate is worked out from: a verdict for each collecting process and each layout, and marks of
+/// those that are needed.
 #[derive(Debug, Drop)]
 pub struct Scratch {
     pub(crate) rows: Vec<Row>,
+    pub(crate) marks: Vec<u64>,
+    ghost sized: { length marks.items ≡ length rows.items },
 }
 
 impl Model for Scratch {
@@ -93,13 +95,26 @@ fn empty_rows(alloc: Global, count: usize) -> Result<Vec<Row>, AllocError>
     Ok(rows)
 }
 
+/// So many processes without marks.
+fn no_marks(alloc: Global, count: usize) -> Result<Vec<u64>, AllocError>
+    ensures { IfOk result (λ marks. length marks.items ≡ count) }
+{
+    let mut marks: Vec<u64> = Vec::with_capacity(alloc, count)?;
+    for _process in 0..count {
+        marks.push(0)?;
+    }
+    Ok(marks)
+}
+
 impl Scratch {
     /// Room for the collecting processes of these tables. Fails with 900, for want of memory, alone.
     pub fn new(alloc: Global, tables: &Tables<'_>) -> Result<Scratch, Fault>
         ensures ok { IfOk result (λ scratch. length scratch ≡ length tables.now.net.processes) }
         ensures err { IfErr result (λ e. e ≡ fault_at 900 places.None) }
     {
-        let rows = empty_rows(alloc, tables.net().processes().len())?;
-        Ok(Scratch { rows })
+        let count = tables.net().processes().len();
+        let rows = empty_rows(alloc, count)?;
+        let marks = no_marks(alloc, count)?;
+        Ok(Scratch { rows, marks })
     }
 }

@@ -1,0 +1,191 @@
+//! Marks of the entries that the verdict on a path is worked out from: for each collecting process a number, whose bits
+//! are layouts.
+ghost use Rattle.std.specs.Prelude.{◌≡◌, ◌<◌, map, length, slice_get, slice_index, Some, []};
+ghost use Rattle.fx_machine.specs.Network as network;
+ghost use Rattle.fx_leaf.specs.Reach as reach;
+ghost use Rattle.fx_leaf.specs.Tables as by_table;
+
+use crate::lent::Tables;
+use crate::table::LAYOUTS;
+use fx_machine::{Aggregation, Crossing, Net, Point, Process, Selection};
+
+/// These layouts too at the collecting process of this place, if there is one.
+fn mark_at(marks: &mut [u64], layouts: u64, process: usize)
+    ensures { marks.new ≡ reach.marked_at layouts marks.old (Some process) }
+{
+    if process < marks.len() {
+        marks[process] |= layouts;
+    }
+}
+
+/// The same for the one to which a destination leads.
+fn mark_behind(marks: &mut [u64], net: &Net, layouts: u64, destination: Option<usize>)
+    ensures { marks.new ≡ reach.marked_behind net.now layouts marks.old destination }
+{
+    let Some(link) = destination else {
+        return;
+    };
+    if let Some(process) = net.links().get(link) {
+        mark_at(marks, layouts, *process);
+    }
+}
+
+/// The same for all of these destinations.
+fn mark_to(marks: &mut [u64], net: &Net, layouts: u64, destinations: &[Option<usize>])
+    ensures { marks.new ≡ reach.marked_to net.now layouts marks.old destinations.now }
+{
+    for destination in destinations {
+        mark_behind(marks, net, layouts, *destination);
+    }
+}
+
+/// The same for the exporting process at this place.
+fn mark_by_place(marks: &mut [u64], net: &Net, layouts: u64, place: usize)
+    ensures { let exporters = network.before (slice_get net.now.exporters place) [] in
+        marks.new ≡ reach.marked_by net.now layouts marks.old exporters }
+{
+    if let Some(exporter) = net.exporters().get(place) {
+        mark_to(marks, net, layouts, exporter.destinations());
+    }
+}
+
+/// The same for the exporting processes at these places.
+fn mark_by(marks: &mut [u64], net: &Net, layouts: u64, places: &[usize])
+    ensures { let exporters = network.at_places net.now.exporters places.now in
+        marks.new ≡ reach.marked_by net.now layouts marks.old exporters }
+{
+    for place in places {
+        mark_by_place(marks, net, layouts, *place);
+    }
+}
+
+/// The layout of this holder, where its records are sent.
+fn mark_by_holder(marks: &mut [u64], tables: &Tables<'_>, holder: usize)
+    requires { by_table.AreTables tables.now }
+    ensures { let t = tables.now in
+        marks.new ≡ reach.marked_by_holder t.net t.numbering marks.old holder }
+{
+    let net = tables.net();
+    let number = tables.number_of_layout(holder);
+    if number < LAYOUTS {
+        mark_by(marks, net, 1 << number, net.named_by(holder));
+    }
+}
+
+/// The same for the aggregations of a collecting process.
+fn mark_by_aggregations(marks: &mut [u64], tables: &Tables<'_>, aggregations: &[Aggregation])
+    requires { by_table.AreTables tables.now }
+    ensures { let t = tables.now in
+        let holders = map (λ a. a.holder) aggregations.now in
+        marks.new ≡ reach.marked_by_holders t.net t.numbering marks.old holders }
+{
+    for aggregation in aggregations {
+        mark_by_holder(marks, tables, aggregation.holder());
+    }
+}
+
+/// These layouts where a collecting process sends records on, and those of its aggregations.
+fn mark_on(marks: &mut [u64], tables: &Tables<'_>, layouts: u64, process: &Process)
+    requires { by_table.AreTables tables.now }
+    ensures { let t = tables.now in
+        marks.new ≡ reach.marked_on t.net t.numbering layouts marks.old (Some process.now) }
+{
+    mark_by(marks, tables.net(), layouts, process.exporters());
+    mark_by_aggregations(marks, tables, process.aggregations());
+}
+
+/// The layouts that are marked at the collecting process of this place.
+pub(crate) fn marked_at(marks: &[u64], process: usize) -> u64
+    requires { process < length marks.now }
+    ensures { result ≡ slice_index marks.now process }
+{
+    marks[process]
+}
+
+/// The same for the layouts that are marked at the collecting process of this place.
+fn mark_from(marks: &mut [u64], tables: &Tables<'_>, process: usize)
+    requires tables { by_table.AreTables tables.now }
+    requires there { process < length marks.old }
+    ensures { let t = tables.now in
+        marks.new ≡ reach.marked_from t.net t.numbering marks.old process }
+{
+    let layouts = marked_at(marks, process);
+    if layouts == 0 {
+        return;
+    }
+    if let Some(process) = tables.net().processes().get(process) {
+        mark_on(marks, tables, layouts, process);
+    }
+}
+
+/// What is marked is marked wherever its records lead.
+fn spread(marks: &mut [u64], tables: &Tables<'_>)
+    requires tables { by_table.AreTables tables.now }
+    requires size { length marks.old ≡ length tables.now.net.processes }
+    ensures { let t = tables.now in
+        marks.new ≡ reach.spread t.net t.numbering t.order marks.old }
+{
+    let order = tables.order();
+    for place in (0..order.len()).rev() {
+        mark_from(marks, tables, order[place]);
+    }
+}
+
+/// The layouts of these selection processes' caches, where their records are sent.
+fn mark_by_selections(marks: &mut [u64], tables: &Tables<'_>, selections: &[Selection])
+    requires { by_table.AreTables tables.now }
+    ensures { let t = tables.now in
+        let holders = reach.holders_by selections.now in
+        marks.new ≡ reach.marked_by_holders t.net t.numbering marks.old holders }
+{
+    for selection in selections {
+        if let Some(holder) = selection.holder {
+            mark_by_holder(marks, tables, holder);
+        }
+    }
+}
+
+/// The same for those of the points that watch the crossing.
+fn mark_at_points(marks: &mut [u64], tables: &Tables<'_>, points: &[Point], crossing: &Crossing)
+    requires { by_table.AreTables tables.now }
+    ensures { let t = tables.now in
+        let holders = reach.holders_at points.now crossing.now in
+        marks.new ≡ reach.marked_by_holders t.net t.numbering marks.old holders }
+{
+    for point in points {
+        if point.watches(crossing) {
+            mark_by_selections(marks, tables, point.selections());
+        }
+    }
+}
+
+/// The same for all points along a path.
+fn mark_along(marks: &mut [u64], tables: &Tables<'_>, path: &[Crossing])
+    requires { by_table.AreTables tables.now }
+    ensures { let t = tables.now in
+        let holders = reach.holders_along t.net path.now in
+        marks.new ≡ reach.marked_by_holders t.net t.numbering marks.old holders }
+{
+    for crossing in path {
+        mark_at_points(
+            marks,
+            tables,
+            tables.net().points_of(crossing.device),
+            crossing,
+        );
+    }
+}
+
+/// Marks of all entries that the verdict on the packets which take a path is worked out from: those where their records
+/// come, and where the records of the aggregations there do, also of those that can't read what comes.
+pub(crate) fn mark(marks: &mut [u64], tables: &Tables<'_>, path: &[Crossing])
+    requires tables { by_table.AreTables tables.now }
+    requires size { length marks.old ≡ length tables.now.net.processes }
+    ensures along { let t = tables.now in
+        reach.SentAlong t.net t.numbering (reach.Marked marks.new) path.now }
+    ensures closed { reach.IsClosed tables.now.net tables.now.numbering marks.new }
+{
+    marks.fill(0);
+    mark_along(marks, tables, path);
+    spread(marks, tables);
+}
