@@ -1,0 +1,15 @@
+use Rattle.std.proofs.Common.{◌≡◌, ◌-◌, ◌≤◌, ◌∙◌, List, ℕ, ap, sym, subst, slice_index_or, slice_set}
+use Rattle.fx_steps.proofs.Counting.{set_back, some_raised, count_raised}
+use Rattle.fx_steps.proofs.waiting.lower.Goals as goal
+
+pub overflow_sub-counts : goal.overflow_sub-counts
+overflow_sub-counts c =
+    let some = c.requires.some in
+    subst (λ (cs : List ℕ). 1 ≤ slice_index_or cs c.args.place 0) (sym some.2) (some_raised some.0 c.args.place some.1)
+
+pub returns-clause-left : goal.returns-clause-left
+returns-clause-left c before lt is =
+    subst (λ (cs : List ℕ). slice_set cs c.args.place (slice_index_or cs c.args.place 0 - 1) ≡ before) (sym is) (set_back before c.args.place lt)
+
+pub returns-clause-last : goal.returns-clause-last
+returns-clause-last c before count at is = ap (λ (cs : List ℕ). slice_index_or cs c.args.place 0) is ∙ count_raised before c.args.place count at

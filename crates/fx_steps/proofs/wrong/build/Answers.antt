@@ -1,0 +1,64 @@
+use Rattle.std.proofs.Common.{◌≡◌, ◌+◌, ◌≤◌, ◌∙◌, suc, List, [], ◌∷◌, length, drop, Some, ap, sym, subst, arith, add-one}
+use Rattle.std.proofs.Math.ListN.{drop_of_length-le}
+use Rattle.std.proofs.lemmas.Option.{slice_get-get_or}
+use Rattle.fx_machine.specs.Classes.{path}
+use Rattle.fx_machine.specs.Network.{numbered}
+use Rattle.fx_machine.specs.States.{Coming, crossings_from}
+use Rattle.fx_machine.specs.declared.traffic.Crossing.{Crossing}
+use Rattle.fx_machine.specs.Limits.{step_limit}
+use Rattle.fx_steps.specs.Costs.{cost_of, nothing}
+use Rattle.fx_steps.specs.CostTables.{path_costs}
+use Rattle.fx_steps.specs.UnderWay.{UnderWay}
+use Rattle.fx_steps.proofs.Behind.{rest_is}
+use Rattle.fx_steps.proofs.Ending.{drop_next}
+use Rattle.fx_steps.proofs.Picking.{alone}
+use Rattle.fx_steps.proofs.wrong.build.Goals as goal
+
+pub loop-number-preserved : goal.loop-number-preserved
+loop-number-preserved c =
+    let net = c.args.tables.now.net in
+    let n = c.args.tables.now.numbering in
+    let p = c.args.packet.now in
+    let rows = c.args.rows.now in
+    let xs = c.args.path.now in
+    let k = c.loop-number.number in
+    let old = c.loop-number.building in
+    let new = c.make_crossing.new.self in
+    let inv = c.loop-number.invariant in
+    let e = c.in_ok-left.ensures in
+    let crossing = c.index-path-number.result in
+    let rest = rest_is (k + 1) xs in
+    let here : drop k xs ≡ crossing ∷ drop (k + 1) xs = drop_next k xs crossing c.loop-number-test.true ∙ ap (λ (x : Crossing). x ∷ drop (k + 1) xs) (sym c.index-path-number.is) in (
+      e.nothing,
+      e.waiting,
+      ap (λ (cs : List Crossing). length new.steps.items + cost_of (path_costs rows net n p.fields cs) c.in_ok-left.left) (sym rest)
+          ∙ e.number
+          ∙ ap (λ (cs : List Crossing). length old.steps.items + cost_of (path_costs rows net n p.fields cs) c.loop-number.left) (ap (λ (cs : List Crossing). crossing ∷ cs) rest ∙ sym here)
+          ∙ inv.2,
+      λ classes same.
+          let way = inv.3 classes same in
+          let coming = crossings_from 1 (suc (suc k)) (drop (k + 1) xs) in
+          let at : numbered (path classes p) (k + 1) ≡ Some crossing =
+          ap (λ (cs : List Crossing). numbered cs (k + 1)) same ∙ ap (numbered xs) (add-one k) ∙ slice_get-get_or xs k crossing c.loop-number-test.true ∙ ap (λ (x : Crossing). Some x) (sym c.index-path-number.is) in
+          let first : crossings_from 1 (suc k) (drop k xs) ≡ record { packet = 1; crossing = k + 1 } ∷ coming =
+          ap (crossings_from 1 (suc k)) here ∙ ap (λ m. record { packet = 1; crossing = m } ∷ coming) (sym (add-one k)) in
+          let made = e.way classes coming way.0 at (subst (λ (cs : List Coming). UnderWay net n classes p cs way.0 old.steps.items []) first way.2) in
+          (made.0, made.1 ∙ way.1, subst (λ m. UnderWay net n classes p (crossings_from 1 (suc m) (drop (k + 1) xs)) made.0 new.steps.items []) (sym (add-one k)) made.2),
+    )
+
+pub returns-clause-number : goal.returns-clause-number
+returns-clause-number c =
+    let net = c.args.tables.now.net in
+    let n = c.args.tables.now.numbering in
+    let p = c.args.packet.now in
+    let rows = c.args.rows.now in
+    let xs = c.args.path.now in
+    let left = c.loop-number.left in
+    let end : drop c.loop-number.number xs ≡ [] = drop_of_length-le xs (omega (arith, c.loop-number-test.false, c.loop-number.auto.number-end)) in
+    let all : length c.loop-number.building.steps.items + cost_of nothing left ≡ cost_of (path_costs rows net n p.fields xs) c.args.fate =
+    ap (λ (cs : List Crossing). length c.loop-number.building.steps.items + cost_of (path_costs rows net n p.fields cs) left) (sym end) ∙ c.loop-number.invariant.2 in
+    let small : cost_of nothing left ≤ step_limit = omega (arith, all, c.requires.cheap) in
+    omega (arith, ap length c.into_steps.ensures, all, (alone left small).1)
+
+pub returns-clause-few : goal.returns-clause-few
+returns-clause-few c = omega (arith, returns-clause-number c, c.requires.cheap)

@@ -1,0 +1,62 @@
+-- Least numbers of steps, and how they combine.
+use Rattle.std.specs.Prelude.{◌≤◌, ℕ, ◌+◌, min, List, [], ◌∷◌, map}
+use Rattle.fx_machine.specs.Limits.{step_limit}
+use Rattle.fx_leaf.specs.declared.verdict.Fate.{Fate}
+use Rattle.fx_leaf.specs.declared.verdict.Fate.TheVariants.{Never, Once, Many, Differing, Unassigned}
+use Rattle.fx_steps.specs.declared.costs.Costs.{Costs}
+
+-- more steps than a run may have
+abbrev pub over : ℕ
+over = 1000001
+
+abbrev pub plus : ℕ → ℕ → ℕ
+plus a b = min (a + b) over
+
+abbrev pub least : List ℕ → ℕ
+least [] = over
+least (x ∷ xs) = min (least xs) x
+
+abbrev pub cost_of : Costs → Fate → ℕ
+cost_of c Never = c.never
+cost_of c Once = c.once
+cost_of c Many = c.many
+cost_of c Unassigned = c.unassigned
+cost_of c Differing = over
+
+-- the pairs of fates that are this one together
+abbrev pub pairs : Fate → List (Fate × Fate)
+pairs Never = (Never, Never) ∷ []
+pairs Once = (Never, Once) ∷ (Once, Never) ∷ []
+pairs Many = (Never, Many) ∷ (Many, Never) ∷ (Once, Once) ∷ (Once, Many) ∷ (Many, Once) ∷ (Many, Many) ∷ []
+pairs Unassigned = (Unassigned, Never) ∷ (Unassigned, Once) ∷ (Unassigned, Many) ∷ (Unassigned, Unassigned) ∷ (Never, Unassigned) ∷ (Once, Unassigned) ∷ (Many, Unassigned) ∷ []
+pairs Differing = []
+
+abbrev pub both_cost : Costs → Costs → Fate → ℕ
+both_cost a b f = least (map (λ (p : Fate × Fate). plus (cost_of a p.0) (cost_of b p.1)) (pairs f))
+
+abbrev pub both_costs : Costs → Costs → Costs
+both_costs a b = record { never = both_cost a b Never; once = both_cost a b Once; many = both_cost a b Many; unassigned = both_cost a b Unassigned }
+
+abbrev pub either : Costs → Costs → Costs
+either a b = record { never = min a.never b.never; once = min a.once b.once; many = min a.many b.many; unassigned = min a.unassigned b.unassigned }
+
+abbrev pub next : Costs → Costs
+next c = record { never = plus 1 c.never; once = plus 1 c.once; many = plus 1 c.many; unassigned = plus 1 c.unassigned }
+
+abbrev pub nothing : Costs
+nothing = record { never = 0; once = over; many = over; unassigned = over }
+
+abbrev pub counted : Costs
+counted = record { never = over; once = 0; many = over; unassigned = over }
+
+abbrev pub lost : Costs
+lost = record { never = over; once = over; many = over; unassigned = 0 }
+
+abbrev pub no_way : Costs
+no_way = record { never = over; once = over; many = over; unassigned = over }
+
+-- the least number of steps to each fate, where it is within the limit
+pub record Tells (c : Costs) (comes : Fate → ℕ → Type 0) : Type 0 where
+  pub least : (f : Fate) (n : ℕ) → comes f n → cost_of c f ≤ n
+  pub reached : (f : Fate) → cost_of c f ≤ step_limit → comes f (cost_of c f)
+  pub settled : (n : ℕ) → comes Differing n → ⊥

@@ -1,0 +1,12 @@
+pub mod Ways
+pub mod Chains
+pub mod Playing
+pub mod Costs
+pub mod CostTables
+pub mod Building
+pub mod Spread
+pub mod Planning
+pub mod Waiting
+pub mod Names
+pub mod UnderWay
+pub mod WrongRun

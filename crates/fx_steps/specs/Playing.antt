@@ -1,0 +1,37 @@
+-- Runs of one packet.
+use Rattle.std.specs.Prelude.{◌≡◌, ◌≢◌, ℕ, zero, suc, List, [], ◌∷◌, length, Ok}
+use Rattle.fx_base.specs.declared.counts.Counts.{Counts}
+use Rattle.fx_layout.specs.Keys.{Key}
+use Rattle.fx_machine.specs.declared.packet.Packet.{Packet}
+use Rattle.fx_machine.specs.declared.record.Record.{Record}
+use Rattle.fx_machine.specs.declared.step.Step.{Step}
+use Rattle.fx_machine.specs.Network.{Net, numbered}
+use Rattle.fx_machine.specs.Classes.{Class, exempts, to_count}
+use Rattle.fx_machine.specs.Claim.{CountsEachOnce}
+use Rattle.fx_machine.specs.States.{State, opening, Complete, add_at}
+use Rattle.fx_machine.specs.Steps.{run}
+use Rattle.fx_leaf.specs.declared.verdict.Fate.{Fate}
+use Rattle.fx_leaf.specs.declared.verdict.Fate.TheVariants.{Never, Once, Many, Unassigned}
+use Rattle.fx_leaf.specs.Fates.{wanted}
+
+-- the counts tallied so many times under a key
+abbrev pub add_times : ℕ → Key → Counts → List Record → List Record
+add_times zero key counts ts = ts
+add_times (suc n) key counts ts = add_times n key counts (add_at ts key counts)
+
+-- the fate of what was tallied so many times, with so many of its records unassigned
+abbrev pub fate_of : ℕ → ℕ → Fate
+fate_of tallies (suc unassigned) = Unassigned
+fate_of zero zero = Never
+fate_of (suc zero) zero = Once
+fate_of (suc (suc tallies)) zero = Many
+
+-- steps that lead from the opening of this one packet to a complete state, in which it has come to this fate;
+-- where another fate is wanted, that state doesn't count as it should
+pub record RunOf (net : Net) (classes : List Class) (p : Packet) (fate : Fate) (number : ℕ) : Type 0 where
+  pub steps : List Step
+  pub final : State
+  pub runs : run net classes (p ∷ []) steps (opening net classes (p ∷ [])) ≡ Ok final
+  pub complete : Complete final
+  pub number_is : length steps ≡ number
+  pub wrong : fate ≢ wanted (exempts (numbered classes p.class)) → CountsEachOnce net (to_count classes (p ∷ [])) final → ⊥

@@ -1,0 +1,122 @@
+//! How many records wait at each holder and on each link.
+ghost use Rattle.std.specs.Prelude.{◌≡◌, ◌+◌, ◌<◌, ◌^◌, ◌∷◌, [], ℕ, suc, List, length, IfOk, slice_get, Some, replicate};
+ghost use Rattle.std.specs.List.{AllByRecursion};
+ghost use Rattle.fx_steps.specs.Waiting as waits;
+ghost use Rattle.fx_steps.specs.declared.pending.Pending.TheVariants as of_pending;
+
+use crate::pending::Pending;
+use fx_machine::Net;
+use std::alloc::{AllocError, Global};
+
+/// The numbers of records that wait at the holders and on the links, by place.
+#[derive(Debug, Drop)]
+pub(crate) struct Waiting {
+    held: Vec<u64>,
+    carried: Vec<u64>,
+}
+
+/// So many zeros.
+fn zeros(alloc: Global, count: usize) -> Result<Vec<u64>, AllocError>
+    ensures { IfOk result (λ zeros. zeros.items ≡ replicate count 0) }
+{
+    let mut zeros: Vec<u64> = Vec::with_capacity(alloc, count)?;
+    for _place in 0..count {
+        zeros.push(0)?;
+    }
+    Ok(zeros)
+}
+
+/// One more waits at this place.
+fn raise(counts: &mut [u64], place: usize)
+    requires there { place < length counts.old }
+    requires room { waits.total counts.old < 2 ^ 63 }
+    ensures { counts.new ≡ waits.raised counts.old place }
+{
+    counts[place] += 1;
+}
+
+/// The number of those that wait at this place, of which one leaves.
+fn lower(counts: &mut [u64], place: usize) -> u64
+    requires there { place < length counts.old }
+    requires some { (before : List ℕ) × (place < length before) × (counts.old
+        ≡ waits.raised before place) }
+    ensures left { (before : List ℕ) → place < length before → counts.old
+        ≡ waits.raised before place → counts.new ≡ before }
+    ensures last { (before : List ℕ) (count : ℕ) → slice_get before place ≡ Some count
+        → counts.old ≡ waits.raised before place → result ≡ suc count }
+{
+    let count = counts[place];
+    counts[place] = count - 1;
+    count
+}
+
+impl Waiting {
+    /// None waits anywhere in the network.
+    pub(crate) fn nowhere(alloc: Global, net: &Net) -> Result<Waiting, AllocError>
+        ensures { IfOk result (waits.Wait net.now []) }
+    {
+        Ok(Waiting {
+            held: zeros(alloc, net.holders().len())?,
+            carried: zeros(alloc, net.links().len())?,
+        })
+    }
+
+    /// One more waits.
+    fn add(&mut self, pending: Pending)
+        requires there { waits.HasPlace (length self.old.held.items) (length
+            self.old.carried.items) pending }
+        requires held { waits.total self.old.held.items < 2 ^ 63 }
+        requires carried { waits.total self.old.carried.items < 2 ^ 63 }
+        ensures held { self.new.held.items ≡ waits.holders_with self.old.held.items (pending ∷ []) }
+        ensures carried { self.new.carried.items ≡ waits.links_with self.old.carried.items (pending
+            ∷ []) }
+    {
+        match pending {
+            Pending::AtHolder { holder, .. } => raise(self.held.as_mut_slice(), holder),
+            Pending::OnLink { link, .. } => raise(self.carried.as_mut_slice(), link),
+        }
+    }
+
+    /// All of these wait, too.
+    pub(crate) fn add_all(&mut self, pending: &[Pending])
+        requires there { AllByRecursion (waits.HasPlace (length self.old.held.items) (length
+            self.old.carried.items)) pending.now }
+        requires held { waits.total self.old.held.items + length pending.now < 2 ^ 63 }
+        requires carried { waits.total self.old.carried.items + length pending.now < 2 ^ 63 }
+        ensures held { self.new.held.items ≡ waits.holders_with self.old.held.items pending.now }
+        ensures carried { self.new.carried.items ≡ waits.links_with self.old.carried.items
+            pending.now }
+    {
+        for one in pending {
+            self.add(*one);
+        }
+    }
+
+    /// The number of those that wait at this holder, of which one leaves.
+    pub(crate) fn leave_holder(&mut self, holder: usize) -> u64
+        requires there { holder < length self.old.held.items }
+        requires some { (before : List ℕ) × (holder < length before) × (self.old.held.items
+            ≡ waits.raised before holder) }
+        ensures left { (before : List ℕ) → holder < length before → self.old.held.items
+            ≡ waits.raised before holder → self.new.held.items ≡ before }
+        ensures last { (before : List ℕ) (count : ℕ) → slice_get before holder ≡ Some count
+            → self.old.held.items ≡ waits.raised before holder → result ≡ suc count }
+        ensures carried { self.new.carried.items ≡ self.old.carried.items }
+    {
+        lower(self.held.as_mut_slice(), holder)
+    }
+
+    /// The number of those that wait on this link, of which one leaves.
+    pub(crate) fn leave_link(&mut self, link: usize) -> u64
+        requires there { link < length self.old.carried.items }
+        requires some { (before : List ℕ) × (link < length before) × (self.old.carried.items
+            ≡ waits.raised before link) }
+        ensures left { (before : List ℕ) → link < length before → self.old.carried.items
+            ≡ waits.raised before link → self.new.carried.items ≡ before }
+        ensures last { (before : List ℕ) (count : ℕ) → slice_get before link ≡ Some count
+            → self.old.carried.items ≡ waits.raised before link → result ≡ suc count }
+        ensures held { self.new.held.items ≡ self.old.held.items }
+    {
+        lower(self.carried.as_mut_slice(), link)
+    }
+}

@@ -1,0 +1,138 @@
+//! The run of one packet that shows a wrong total.
+ghost use Rattle.std.specs.Prelude.{◌≡◌, ◌≢◌, ◌≤◌, ◌⊎◌, [], List, length, Ok, IfOk, IfErr, IfSome, IfNone};
+ghost use Rattle.fx_base.specs.Fault.{fault_at};
+ghost use Rattle.fx_base.specs.declared.fault.Place.TheVariants as places;
+ghost use Rattle.fx_leaf.specs.Fates.{wanted};
+ghost use Rattle.fx_leaf.specs.Tables as by_table;
+ghost use Rattle.fx_leaf.specs.declared.verdict.Fate as of_fate;
+ghost use Rattle.fx_leaf.specs.declared.verdict.Fate.TheVariants as fates;
+ghost use Rattle.fx_machine.specs.Limits.{step_limit};
+ghost use Rattle.fx_machine.specs.Classes as traffic;
+ghost use Rattle.fx_machine.specs.Network as network;
+ghost use Rattle.fx_machine.specs.Runnable.{IsRunnable};
+ghost use Rattle.fx_steps.specs.Costs as costs;
+ghost use Rattle.fx_steps.specs.CostTables as tabled;
+ghost use Rattle.fx_steps.specs.Names.{NameAll};
+ghost use Rattle.fx_steps.specs.UnderWay as under_way;
+ghost use Rattle.fx_steps.specs.WrongRun.{IsWrongRun, IsLeast, HasNoRun};
+
+use crate::building::Building;
+use crate::costs::{Costs, OVER};
+use crate::names::names_of;
+use crate::path::least_steps;
+use crate::sharing::cost_of;
+use crate::table::{Row, empty_rows};
+use fx_base::Fault;
+use fx_leaf::{Fate, Tables};
+use fx_machine::{Classes, Crossing, HolderName, Packet, Step};
+use std::alloc::{AllocError, Global};
+
+/// Of two fates the one that costs less, and the first where they cost as much.
+fn cheaper(told: Costs, one: Fate, other: Fate) -> Fate
+    ensures either { (result ≡ one) ⊎ (result ≡ other) }
+    ensures one { costs.cost_of told result ≤ costs.cost_of told one }
+    ensures other { costs.cost_of told result ≤ costs.cost_of told other }
+{
+    if cost_of(told, other) < cost_of(told, one) {
+        other
+    } else {
+        one
+    }
+}
+
+/// Of all fates but the wanted one, a fate that costs least.
+fn least_unwanted(told: Costs, exempt: bool) -> Fate
+    ensures unwanted { result ≢ wanted exempt }
+    ensures least { (f : of_fate.Fate) → f ≢ wanted exempt → f ≢ fates.Differing
+        → costs.cost_of told result ≤ costs.cost_of told f }
+{
+    let uncounted = if exempt { Fate::Once } else { Fate::Never };
+    cheaper(told, cheaper(told, uncounted, Fate::Many), Fate::Unassigned)
+}
+
+/// The steps of a run of this packet alone, on this path, that comes to the fate with as few steps as any.
+fn build(
+    alloc: Global,
+    rows: &[Row],
+    tables: &Tables<'_>,
+    names: &[HolderName],
+    packet: &Packet,
+    path: &[Crossing],
+    fate: Fate,
+) -> Result<Vec<Step>, AllocError>
+    requires tables { by_table.AreTables tables.now }
+    requires runnable { IsRunnable tables.now.net }
+    requires filled { under_way.IsFilled tables.now packet.now.fields rows.now }
+    requires names { NameAll tables.now.net names.now }
+    requires cheap { costs.cost_of (tabled.path_costs rows.now tables.now.net tables.now.numbering
+        packet.now.fields path.now) fate ≤ step_limit }
+    ensures number { IfOk result (λ steps. length steps.items
+        ≡ costs.cost_of (tabled.path_costs rows.now tables.now.net tables.now.numbering
+        packet.now.fields path.now) fate) }
+    ensures few { IfOk result (λ steps. length steps.items ≤ step_limit) }
+    ensures way { IfOk result (λ steps. (classes : List traffic.Class)
+        → traffic.path classes packet.now ≡ path.now
+        → under_way.UnderWay tables.now.net tables.now.numbering classes packet.now [] fate
+        steps.items []) }
+{
+    let mut building = Building::new(alloc, tables.net())?;
+    let mut left = fate;
+    for number in 0..path.len() {
+        left = building.make_crossing(
+            alloc,
+            rows,
+            tables,
+            names,
+            packet,
+            number as u64 + 1,
+            &path[number],
+            &path[number + 1..],
+            left,
+        )?;
+    }
+    Ok(building.into_steps())
+}
+
+/// The steps of a run of this packet alone that shows a wrong total, with as few steps as any outcome but the wanted one
+/// has; none where each of them would take more than 1,000,000. What is wanted is that the packet is counted once, or,
+/// where its class is exempt, never. The packet needn't be of its class: its path is that of its numbers.
+///
+/// Fails with 900, at no place, for want of memory.
+pub fn wrong_run(
+    alloc: Global,
+    tables: &Tables<'_>,
+    classes: &Classes,
+    packet: &Packet,
+) -> Result<Option<Vec<Step>>, Fault>
+    requires tables { by_table.AreTables tables.now }
+    requires runnable { IsRunnable tables.now.net }
+    ensures found { IfOk result (λ found. IfSome found (λ steps.
+        IsWrongRun tables.now.net classes.now packet.now steps.items)) }
+    ensures least { IfOk result (λ found. IfSome found (λ steps.
+        IsLeast tables.now.net packet.now.fields (traffic.path classes.now packet.now)
+        (traffic.exempts (network.numbered classes.now packet.now.class)) (length steps.items))) }
+    ensures none { IfOk result (λ found. IfNone found
+        (HasNoRun tables.now.net packet.now.fields (traffic.path classes.now packet.now)
+        (traffic.exempts (network.numbered classes.now packet.now.class)))) }
+    ensures err { IfErr result (λ e. e ≡ fault_at 900 places.None) }
+{
+    let net = tables.net();
+    let path = classes.path_of(packet);
+    let mut rows = empty_rows(alloc, net.processes().len())?;
+    let told = least_steps(rows.as_mut_slice(), tables, &packet.fields, path);
+    let fate = least_unwanted(told, classes.exempts(packet));
+    if cost_of(told, fate) >= OVER {
+        return Ok(None);
+    }
+    let names = names_of(alloc, net)?;
+    let steps = build(
+        alloc,
+        rows.as_slice(),
+        tables,
+        names.as_slice(),
+        packet,
+        path,
+        fate,
+    )?;
+    Ok(Some(steps))
+}
