@@ -1,0 +1,11 @@
+use Rattle.std.proofs.Common.{◌≤◌, length}
+use Rattle.fx_machine.specs.Limits.{step_limit}
+use Rattle.fx_refute.proofs.Making.{Made}
+use Rattle.fx_refute.proofs.confirming.make_steps.Given as goal
+
+-- the steps so far are made
+abbrev pub invariant-loop-place : goal.invariant-loop-place
+invariant-loop-place l = record {
+  made : Made l.initial.state l.state l.steps l.place;
+  few : length l.steps ≤ step_limit;
+}

@@ -1,0 +1,18 @@
+use Rattle.std.proofs.Common.{◌≡◌, ◌≤◌, length, None}
+use Rattle.fx_base.specs.Lines.{GoesOn, budget}
+use Rattle.fx_refute.specs.ReadingOn.{Leads}
+use Rattle.fx_refute.specs.RefutationReading.{only, steps_behind}
+use Rattle.fx_machine.specs.Limits.{step_limit}
+use Rattle.fx_refute.proofs.reading.read_steps.Given as goal
+
+-- what is read is what is left behind the steps so far
+abbrev pub invariant-lines : goal.invariant-lines
+invariant-lines g l = record {
+  going : l.lines.stopped ≡ None;
+  on : GoesOn l.fn.lines l.lines;
+  leads : Leads l.fn.lines l.lines (steps_behind l.fn.lines.number (only l.packet)) (steps_behind l.lines.number (record { packet = l.packet; steps = l.steps.items }));
+  few : length l.steps.items ≤ step_limit;
+}
+
+abbrev pub decreases-lines : goal.decreases-lines
+decreases-lines g l = budget l.lines

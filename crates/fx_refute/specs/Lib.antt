@@ -1,0 +1,5 @@
+pub mod Refutations
+pub mod Confirming
+pub mod RefutationText
+pub mod RefutationReading
+pub mod ReadingOn

@@ -1,0 +1,28 @@
+-- How reading goes on from line to line.
+use Rattle.std.specs.Prelude.{◌≡◌, ℕ, List, [], ◌∷◌, Ok, Err}
+use Rattle.fx_base.specs.declared.fault.Fault.{Fault}
+use Rattle.fx_base.specs.Device.{MayBeLeft, MayHaveLeft}
+use Rattle.fx_base.specs.Lines.{Lines, text_lines, next_number}
+use Rattle.fx_machine.specs.declared.run_line.RunLine.{RunLine}
+use Rattle.fx_machine.specs.RunReading.{Line, at_line}
+use Rattle.fx_refute.specs.RefutationReading.{Read, line_said}
+
+-- whatever is left now, what the second reads in it is what the first reads in a text that may have been left before
+abbrev pub Leads : Lines → Lines → (List Line → Read) → (List Line → Read) → Type 0
+Leads old new before after =
+    (rest : List ℕ) → MayBeLeft new.left rest
+    → MayHaveLeft old.left (λ text. before (text_lines text) ≡ after (text_lines rest))
+
+-- the reader goes past one line, which says this
+pub record Says (old new : Lines) (x : RunLine) : Type 0 where
+  pub number : new.number ≡ next_number old.number
+  pub line : (rest : List ℕ) → MayBeLeft new.left rest
+      → MayHaveLeft old.left (λ text. (l : Line) × (text_lines text ≡ l ∷ text_lines rest) × (line_said l ≡ Ok x))
+
+-- the first of these lines, which come behind the line n, isn't there or says nothing
+abbrev pub FirstIsWrong : ℕ → Fault → List Line → Type 0
+FirstIsWrong n e [] = e ≡ at_line 501 (next_number n)
+FirstIsWrong n e (l ∷ ls) = (number : ℕ) × (line_said l ≡ Err number) × (e ≡ at_line number (next_number n))
+
+abbrev pub NextIsWrong : Lines → Fault → Type 0
+NextIsWrong lines e = MayHaveLeft lines.left (λ text. FirstIsWrong lines.number e (text_lines text))

@@ -1,0 +1,78 @@
+-- How the text of a refutation is read.
+use Rattle.std.specs.Prelude.{◌≡◌, ℕ, ◌&&◌, nat_lt, if◌then◌else◌, List, [], ◌∷◌, ◌++◌, length, codes, Option, Some, None, Result, Ok, Err}
+use Rattle.std.specs.Str.{bytes_eq}
+use Rattle.fx_base.specs.declared.fault.Fault.{Fault}
+use Rattle.fx_base.specs.Device.{MayHaveLeft}
+use Rattle.fx_base.specs.Lines.{Lines, text_lines, next_number}
+use Rattle.fx_machine.specs.declared.packet.Packet.{Packet}
+use Rattle.fx_machine.specs.declared.step.Step.{Step}
+use Rattle.fx_machine.specs.declared.run_line.RunLine.{RunLine}
+use Rattle.fx_machine.specs.declared.run_line.RunLine.TheVariants as line
+use Rattle.fx_machine.specs.RunReading.{Line, at_line, words, line_of}
+use Rattle.fx_machine.specs.Limits.{step_limit}
+use Rattle.fx_refute.specs.Refutations.{Refutation}
+
+abbrev pub formed : Option RunLine → Result RunLine ℕ
+formed None = Err 501
+formed (Some x) = Ok x
+
+-- what a line says, or the number of its fault
+abbrev pub line_said : Line → Result RunLine ℕ
+line_said l =
+    if nat_lt 4096 (length l.0) then Err 903
+    else if l.1 then formed (line_of (words l.0)) else Err 501
+
+abbrev pub Read : Type 0
+Read = Result Refutation Fault
+
+abbrev pub only : Packet → Refutation
+only p = record { packet = p; steps = [] }
+
+abbrev pub with_step : Refutation → Step → Refutation
+with_step r s = record { packet = r.packet; steps = r.steps ++ s ∷ [] }
+
+-- no line comes behind the last, which has the number n
+abbrev pub ended : ℕ → Refutation → List Line → Read
+ended n r [] = Ok r
+ended n r (l ∷ ls) = Err (at_line (if nat_lt 4096 (length l.0) then 903 else 501) (next_number n))
+
+-- the line n behind the packet's: a step more, if there may be one, or the end; `next` reads the lines behind it
+abbrev pub from_step : ℕ → Refutation → Result RunLine ℕ → List Line → (Refutation → Read) → Read
+from_step n r (Err number) ls next = Err (at_line number n)
+from_step n r (Ok (line.Packet p)) ls next = Err (at_line 501 n)
+from_step n r (Ok (line.Step s)) ls next =
+    if nat_lt (length r.steps) step_limit then next (with_step r s) else Err (at_line 501 n)
+from_step n r (Ok line.End) ls next = ended n r ls
+
+-- the refutation that the lines behind the line n complete, or the first fault
+abbrev pub steps_behind : ℕ → Refutation → List Line → Read
+steps_behind n r [] = Err (at_line 501 (next_number n))
+steps_behind n r (l ∷ ls) =
+    from_step (next_number n) r (line_said l) ls (λ x. steps_behind (next_number n) x ls)
+
+-- the line n of the packet, and those behind it
+abbrev pub from_packet : ℕ → Result RunLine ℕ → List Line → Read
+from_packet n (Err number) ls = Err (at_line number n)
+from_packet n (Ok (line.Packet p)) ls = steps_behind n (only p) ls
+from_packet n (Ok (line.Step s)) ls = Err (at_line 501 n)
+from_packet n (Ok line.End) ls = Err (at_line 501 n)
+
+abbrev pub packet_behind : ℕ → List Line → Read
+packet_behind n [] = Err (at_line 501 (next_number n))
+packet_behind n (l ∷ ls) = from_packet (next_number n) (line_said l) ls
+
+-- the refutation whose text has these lines, the first of which comes behind the line n, or the first fault
+abbrev pub reading : ℕ → List Line → Read
+reading n [] = Err (at_line 501 (next_number n))
+reading n (l ∷ ls) =
+    if nat_lt 4096 (length l.0) then Err (at_line 903 (next_number n))
+    else if l.1 && bytes_eq l.0 (codes "once-refutation 1") then packet_behind (next_number n) ls
+    else Err (at_line 501 (next_number n))
+
+-- what this comes to, of the lines of a text that the reader may have left
+abbrev pub MayGive : Lines → (List Line → Read) → Read → Type 0
+MayGive lines read result = MayHaveLeft lines.left (λ text. read (text_lines text) ≡ result)
+
+-- what reading comes to, of such a text
+abbrev pub MayRead : Lines → Read → Type 0
+MayRead lines result = MayGive lines (reading lines.number) result

@@ -1,0 +1,65 @@
+-- Runs of one packet that show a wrong total.
+use Rattle.std.specs.Prelude.{◌≡◌, ◌+◌, ℕ, List, [], ◌∷◌, ◌++◌, length, Ok, Err}
+use Rattle.fx_base.specs.declared.fault.Fault.{Fault}
+use Rattle.fx_base.specs.declared.fault.Place.TheVariants as places
+use Rattle.fx_base.specs.Fault.{fault_at}
+use Rattle.fx_layout.specs.Keys.{Layout, Key}
+use Rattle.fx_machine.specs.declared.packet.Packet.{Packet}
+use Rattle.fx_machine.specs.declared.step.Step.{Step}
+use Rattle.fx_machine.specs.Network.{Net, numbered}
+use Rattle.fx_machine.specs.Classes.{Class, IsOf, to_count}
+use Rattle.fx_machine.specs.Claim.{CountsEachOnce}
+use Rattle.fx_machine.specs.States.{State, opening, Complete, told}
+use Rattle.fx_machine.specs.Steps.{run, after}
+use Rattle.fx_machine.specs.Sums.{plain_sum, total_at}
+use Rattle.fx_collect.specs.Totals.{Totals, IsTable, totals_in}
+
+-- a packet, and the steps of a run over it alone
+pub record Refutation : Type 0 where
+  pub packet : Packet
+  pub steps : List Step
+
+-- the packet, where it is to be counted
+abbrev pub counted : List Class → Refutation → List Packet
+counted classes r = to_count classes (r.packet ∷ [])
+
+-- the packet is of its class, and the steps lead from its opening to this state
+pub record RunsTo (net : Net) (classes : List Class) (r : Refutation) (last : State) : Type 0 where
+  pub of_class : IsOf r.packet (numbered classes r.packet.class)
+  pub runs : run net classes (r.packet ∷ []) r.steps (opening net classes (r.packet ∷ [])) ≡ Ok last
+
+-- the run is complete, and its totals aren't the plain sums or something is unassigned
+pub record Refutes (net : Net) (classes : List Class) (r : Refutation) : Type 0 where
+  pub last : State
+  pub runs_to : RunsTo net classes r last
+  pub complete : Complete last
+  pub wrong : CountsEachOnce net (counted classes r) last → ⊥
+
+-- ---- what is answered
+
+-- these totals have each key once, and are the plain sums over these packets
+pub record ArePlainSums (layout : Layout) (packets : List Packet) (t : Totals) : Type 0 where
+  pub layout_is : t.layout ≡ layout
+  pub table : IsTable layout t.entries
+  pub sums : (key : Key) → total_at t.entries key ≡ plain_sum layout key packets
+  pub assigned : t.unassigned ≡ 0
+
+-- the totals of a refutation's last state, and the plain sums over its packet
+pub record AreTotals (net : Net) (classes : List Class) (r : Refutation) (ran plain : Totals) : Type 0 where
+  pub last : State
+  pub runs_to : RunsTo net classes r last
+  pub totals : ran ≡ totals_in net.report_layout (told last)
+  pub sums : ArePlainSums net.report_layout (counted classes r) plain
+
+-- why nothing is refuted: the packet isn't of its class, a step isn't enabled (they begin at line 3), the run isn't
+-- complete, or its totals are the plain sums and nothing is unassigned
+pub data IsRefused (net : Net) (classes : List Class) (r : Refutation) : Fault → Type 0 where
+  no_member : (IsOf r.packet (numbered classes r.packet.class) → ⊥) → IsRefused net classes r (fault_at 502 (places.Line 2))
+  not_enabled : (steps : List Step) (step : Step) (behind : List Step) (s : State) (number : ℕ)
+      → r.steps ≡ steps ++ step ∷ behind → RunsTo net classes (record { packet = r.packet; steps = steps }) s
+      → after net classes (r.packet ∷ []) step s ≡ Err number
+      → IsRefused net classes r (fault_at 503 (places.Line (length steps + 3)))
+  incomplete : (last : State) → RunsTo net classes r last → (Complete last → ⊥)
+      → IsRefused net classes r (fault_at 504 places.None)
+  agrees : (last : State) → RunsTo net classes r last → Complete last → CountsEachOnce net (counted classes r) last
+      → IsRefused net classes r (fault_at 505 places.None)

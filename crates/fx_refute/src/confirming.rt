@@ -1,0 +1,157 @@
+//! Whether a run refutes.
+ghost use Rattle.std.specs.Prelude.{◌≡◌, ◌⊎◌, ◌≤◌, ◌↔◌, [], ◌∷◌, length, Ok, IfErr, IfOk, IsTrue, OnOk};
+ghost use Rattle.fx_base.specs.Fault.{fault_at};
+ghost use Rattle.fx_base.specs.declared.fault.Place.TheVariants as places;
+ghost use Rattle.fx_machine.specs.Classes as traffic;
+ghost use Rattle.fx_machine.specs.Limits.{step_limit};
+ghost use Rattle.fx_machine.specs.Network as network;
+ghost use Rattle.fx_machine.specs.States as states;
+ghost use Rattle.fx_machine.specs.Steps as stepping;
+ghost use Rattle.fx_plan.specs.Tables.{net_of};
+ghost use Rattle.fx_refute.specs.Confirming as confirming;
+ghost use Rattle.fx_refute.specs.Refutations as refutations;
+
+use crate::refutation::Refutation;
+use fx_base::{Counts, Fault};
+use fx_collect::Totals;
+use fx_layout::{Key, Layout};
+use fx_machine::{Classes, Net, Packet, Record, State, Step};
+use fx_plan::Plan;
+use fx_traffic::Traffic;
+use std::alloc::Global;
+
+/// The opening of a run of this packet alone.
+fn open<'a>(
+    alloc: Global,
+    net: &'a Net,
+    classes: &'a Classes,
+    packet: &Packet,
+) -> Result<State<'a>, Fault>
+    ensures ok { IfOk result (λ run. (run ≡ record {
+      net = net.now;
+      classes = classes.now;
+      packets = packet.now ∷ [];
+      state = states.opening net.now classes.now (packet.now ∷ []);
+    })
+        × traffic.IsOf packet.now (network.numbered classes.now packet.now.class)) }
+    ensures err { IfErr result (λ e. ((e ≡ fault_at 502 (places.Line 2))
+        × (traffic.IsOf packet.now (network.numbered classes.now packet.now.class) → ⊥))
+        ⊎ (e ≡ fault_at 900 places.None)) }
+{
+    let packets = vec![in alloc; *packet]?;
+    match State::open(alloc, net, classes, packets) {
+        Ok(state) => Ok(state),
+        Err(e) => {
+            if e.number == 856 {
+                Err(Fault::at_line(502, 2))
+            } else {
+                Err(e)
+            }
+        }
+    }
+}
+
+/// Makes one step after another. The first stands at line 3 of a refutation's text.
+fn make_steps(state: &mut State<'_>, steps: &[Step]) -> Result<(), Fault>
+    requires few { length steps.now ≤ step_limit }
+    ensures ok { OnOk result ((s : states.State) → state.old.state ≡ states.told s → (last : states.State)
+        × (stepping.run state.old.net state.old.classes state.old.packets steps.now s ≡ Ok last)
+        × (state.new.state ≡ states.told last)) }
+    ensures net { OnOk result (state.new.net ≡ state.old.net) }
+    ensures err { IfErr result (λ e. (e ≡ fault_at 900 places.None)
+        ⊎ ((s : states.State) → state.old.state ≡ states.told s
+        → confirming.IsStopped state.old.net state.old.classes state.old.packets steps.now s e)) }
+{
+    for place in 0..steps.len() {
+        if let Err(e) = state.step(&steps[place]) {
+            if e.number == 900 {
+                return Err(e);
+            }
+            return Err(Fault::at_line(503, place as u64 + 3));
+        }
+    }
+    Ok(())
+}
+
+/// The record of one packet under a layout.
+fn own_record(layout: &Layout, packet: &Packet) -> Record
+    ensures { result ≡ confirming.own_record layout.now packet.now }
+{
+    Record {
+        key: layout.key_of(&packet.fields),
+        counts: Counts {
+            packets: 1,
+            octets: packet.octets,
+        },
+    }
+}
+
+/// The plain sums over one packet, which are empty where its class is exempt.
+fn plain_sums(alloc: Global, net: &Net, classes: &Classes, packet: &Packet) -> Result<Totals, Fault>
+    ensures ok { IfOk result (λ t. t ≡ confirming.plain_totals net.now.report_layout
+        (traffic.to_count classes.now (packet.now ∷ []))) }
+    ensures err { IfErr result (λ e. e ≡ fault_at 900 places.None) }
+{
+    let layout = net.report_layout();
+    let mut totals = Totals::new(alloc, layout.copy())?;
+    if !classes.exempts(packet) {
+        totals.tally(&own_record(layout, packet))?;
+    }
+    Ok(totals)
+}
+
+/// Whether totals are those of one packet with this key, and nothing is unassigned.
+fn agree(ran: &Totals, plain: &Totals, key: &Key) -> bool
+    ensures { IsTrue result ↔ confirming.Agree ran.now plain.now key.now }
+{
+    ran.unassigned() == 0 && ran.len() == plain.len() && ran.get(key) == plain.get(key)
+}
+
+/// Whether a run of one packet refutes, over the tables of a network.
+fn confirm_over(
+    alloc: Global,
+    net: &Net,
+    classes: &Classes,
+    refutation: &Refutation,
+) -> Result<(Totals, Totals), Fault>
+    ensures refutes { OnOk result (refutations.Refutes net.now classes.now refutation.now) }
+    ensures totals { IfOk result (λ t.
+        refutations.AreTotals net.now classes.now refutation.now t.0 t.1) }
+    ensures err { IfErr result (λ e. (e ≡ fault_at 900 places.None)
+        ⊎ refutations.IsRefused net.now classes.now refutation.now e) }
+{
+    let layout = net.report_layout();
+    let packet = refutation.packet();
+    let mut state = open(alloc, net, classes, packet)?;
+    make_steps(&mut state, refutation.steps())?;
+    if !state.complete() {
+        return Err(Fault::bare(504));
+    }
+    let ran = Totals::of(alloc, &state)?;
+    let plain = plain_sums(alloc, net, classes, packet)?;
+    if agree(&ran, &plain, &layout.key_of(&packet.fields)) {
+        return Err(Fault::bare(505));
+    }
+    Ok((ran, plain))
+}
+
+/// Whether a run of one packet refutes that each packet is counted exactly once: its totals, and the plain sums over
+/// the packet, which differ, or something is unassigned.
+///
+/// Fails with the first of: 502, at line 2, where the packet isn't of its class; 503, at the step's number plus 2,
+/// where a step isn't enabled; 504, at no place, where the run isn't complete; 505, at no place, where its totals are
+/// the plain sums and nothing is unassigned; and with 900, at no place, for want of memory.
+pub fn confirm(
+    alloc: Global,
+    plan: &Plan,
+    traffic: &Traffic,
+    refutation: &Refutation,
+) -> Result<(Totals, Totals), Fault>
+    ensures refutes { OnOk result (refutations.Refutes (net_of plan.now) traffic.now refutation.now) }
+    ensures totals { IfOk result (λ t.
+        refutations.AreTotals (net_of plan.now) traffic.now refutation.now t.0 t.1) }
+    ensures err { IfErr result (λ e. (e ≡ fault_at 900 places.None)
+        ⊎ refutations.IsRefused (net_of plan.now) traffic.now refutation.now e) }
+{
+    confirm_over(alloc, plan.net(), traffic.classes(), refutation)
+}

@@ -1,0 +1,30 @@
+//! The laws: no code, but contracts over the definitions.
+ghost use Rattle.std.specs.Prelude.{◌≡◌, ◌^◌, ◌<◌, ℕ, List, Ok};
+ghost use Rattle.fx_base.specs.Lines.{text_lines};
+ghost use Rattle.fx_machine.specs.Claim.{ExactlyOnce};
+ghost use Rattle.fx_machine.specs.Classes as traffic;
+ghost use Rattle.fx_machine.specs.Network as network;
+ghost use Rattle.fx_machine.specs.RunText.{AreShort};
+ghost use Rattle.fx_refute.specs.RefutationReading.{reading};
+ghost use Rattle.fx_refute.specs.RefutationText.{IsRefutation, refutation_lines, refutation_text};
+ghost use Rattle.fx_refute.specs.Refutations.{Refutation, Refutes};
+
+use fx_machine::{choices_are_free, run_lines_have_one_text};
+
+/// Where there is a refutation, not every complete run counts each packet exactly once.
+pub fn refutations_refute()
+    ensures { (net : network.Net) (classes : List traffic.Class) (r : Refutation)
+        → r.packet.octets < 2 ^ 64 → Refutes net classes r → ExactlyOnce net classes → ⊥ }
+{
+    choices_are_free();
+}
+
+/// The text of a refutation whose lines have at most 4,096 bytes is read as that refutation, and no other text is.
+pub fn refutations_have_one_text()
+    ensures read { (r : Refutation) (n : ℕ) → IsRefutation r → AreShort (refutation_lines r)
+        → reading n (text_lines (refutation_text r)) ≡ Ok r }
+    ensures only { (text : List ℕ) (r : Refutation) (n : ℕ) → reading n (text_lines text) ≡ Ok r
+        → (text ≡ refutation_text r) × IsRefutation r × AreShort (refutation_lines r) }
+{
+    run_lines_have_one_text();
+}

@@ -1,0 +1,145 @@
+//! Reading the text of a refutation.
+ghost use Rattle.std.specs.Prelude.{◌≡◌, ◌⊎◌, ◌<◌, Ok, Err, None, IfOk, IfErr, OnOk};
+ghost use Rattle.std.specs.Str.{bytes_eq};
+ghost use Rattle.fx_base.specs.Fault.{fault_at};
+ghost use Rattle.fx_base.specs.Lines.{GoesOn, budget};
+ghost use Rattle.fx_base.specs.declared.fault.Place.TheVariants as places;
+ghost use Rattle.fx_machine.specs.RunReading.{Fails};
+ghost use Rattle.fx_refute.specs.ReadingOn.{Leads, NextIsWrong, Says};
+ghost use Rattle.fx_refute.specs.RefutationReading.{MayGive, MayRead, ended, only, packet_behind, reading, steps_behind};
+ghost use Rattle.fx_refute.specs.Refutations as refutations;
+
+use crate::refutation::{Refutation, STEPS};
+use fx_base::{Fault, LineReader, Source};
+use fx_machine::{Packet, RunLine, Step, read_run_line};
+use std::alloc::Global;
+
+/// Whether two lines are the same.
+fn is_line(line: &[u8], other: &[u8]) -> bool
+    ensures { result ≡ bytes_eq line.now other.now }
+{
+    line == other
+}
+
+/// Goes past the first line.
+fn read_first<R: Source>(lines: &mut LineReader<R>) -> Result<(), Fault>
+    ensures going { OnOk result (lines.new.stopped ≡ None) }
+    ensures on { OnOk result (GoesOn lines.old lines.new) }
+    ensures ok { OnOk result (Leads lines.old lines.new
+        (reading lines.old.number) (packet_behind lines.new.number)) }
+    ensures err { IfErr result (λ e. Fails lines.old lines.new e ⊎ MayRead lines.old (Err e)) }
+{
+    if !lines.advance()? {
+        return Err(Fault::at_line(501, lines.number().saturating_add(1)));
+    }
+    let line = lines.line();
+    if line.ended && is_line(line.bytes, b"once-refutation 1") {
+        Ok(())
+    } else {
+        Err(Fault::at_line(501, line.number))
+    }
+}
+
+/// Reads the next line, which has to be there.
+fn read_next<R: Source>(alloc: Global, lines: &mut LineReader<R>) -> Result<RunLine, Fault>
+    requires { lines.old.stopped ≡ None }
+    ensures going { OnOk result (lines.new.stopped ≡ None) }
+    ensures on { OnOk result (GoesOn lines.old lines.new) }
+    ensures ok { IfOk result (λ x. Says lines.old lines.new x) }
+    ensures smaller { OnOk result (budget lines.new < budget lines.old) }
+    ensures err { IfErr result (λ e. (e ≡ fault_at 900 places.None)
+        ⊎ (Fails lines.old lines.new e ⊎ NextIsWrong lines.old e)) }
+{
+    if !lines.advance()? {
+        return Err(Fault::at_line(501, lines.number().saturating_add(1)));
+    }
+    let line = lines.line();
+    if !line.ended {
+        return Err(Fault::at_line(501, line.number));
+    }
+    match read_run_line(alloc, line.bytes)? {
+        Some(x) => Ok(x),
+        None => Err(Fault::at_line(501, line.number)),
+    }
+}
+
+/// Goes past the text's end, which comes behind the last line.
+fn read_end<R: Source>(lines: &mut LineReader<R>) -> Result<(), Fault>
+    requires { lines.old.stopped ≡ None }
+    ensures ok { OnOk result ((r : refutations.Refutation)
+        → MayGive lines.old (ended lines.old.number r) (Ok r)) }
+    ensures err { IfErr result (λ e. Fails lines.old lines.new e
+        ⊎ ((r : refutations.Refutation) → MayGive lines.old (ended lines.old.number r) (Err e))) }
+{
+    if lines.advance()? {
+        return Err(Fault::at_line(501, lines.number()));
+    }
+    Ok(())
+}
+
+/// Reads the packet's line.
+fn read_packet<R: Source>(alloc: Global, lines: &mut LineReader<R>) -> Result<Packet, Fault>
+    requires { lines.old.stopped ≡ None }
+    ensures going { OnOk result (lines.new.stopped ≡ None) }
+    ensures on { OnOk result (GoesOn lines.old lines.new) }
+    ensures ok { IfOk result (λ p. Leads lines.old lines.new
+        (packet_behind lines.old.number) (steps_behind lines.new.number (only p))) }
+    ensures err { IfErr result (λ e. (e ≡ fault_at 900 places.None)
+        ⊎ (Fails lines.old lines.new e ⊎ MayGive lines.old (packet_behind lines.old.number) (Err e))) }
+{
+    match read_next(alloc, lines)? {
+        RunLine::Packet(packet) => return Ok(packet),
+        RunLine::Step(_) => return Err(Fault::at_line(501, lines.number())),
+        RunLine::End => return Err(Fault::at_line(501, lines.number())),
+    }
+}
+
+/// Reads the steps and the end.
+fn read_steps<R: Source>(
+    alloc: Global,
+    packet: Packet,
+    lines: &mut LineReader<R>,
+) -> Result<Refutation, Fault>
+    requires { lines.old.stopped ≡ None }
+    ensures ok { IfOk result (λ r. MayGive lines.old (steps_behind lines.old.number (only packet)) (Ok r)) }
+    ensures err { IfErr result (λ e. (e ≡ fault_at 900 places.None)
+        ⊎ (Fails lines.old lines.new e
+        ⊎ MayGive lines.old (steps_behind lines.old.number (only packet)) (Err e))) }
+{
+    let mut steps: Vec<Step> = Vec::new(alloc);
+    'lines: loop {
+        match read_next(alloc, lines)? {
+            RunLine::Step(step) => {
+                if steps.len() >= STEPS {
+                    return Err(Fault::at_line(501, lines.number()));
+                }
+                steps.push(step)?;
+            }
+            RunLine::End => {
+                read_end(lines)?;
+                return Ok(Refutation::new(packet, steps));
+            }
+            RunLine::Packet(_) => return Err(Fault::at_line(501, lines.number())),
+        }
+    }
+}
+
+/// Reads a refutation from its text, which begins with the next line and ends with the last.
+///
+/// The text is a line `once-refutation 1`, one packet line and up to 1,000,000 step lines as in a run's text
+/// ([`fx_machine::read_run`]), and a line `end`. Whether the packet is of its class isn't looked at.
+///
+/// Fails with 501 at the first line where something is wrong with its form, also at one that is missing; as the reader
+/// of lines does where that stands; and with 900, at no place, for want of memory.
+pub fn read_refutation<R: Source>(
+    alloc: Global,
+    lines: &mut LineReader<R>,
+) -> Result<Refutation, Fault>
+    ensures ok { IfOk result (λ r. MayRead lines.old (Ok r)) }
+    ensures err { IfErr result (λ e. (e ≡ fault_at 900 places.None)
+        ⊎ (Fails lines.old lines.new e ⊎ MayRead lines.old (Err e))) }
+{
+    read_first(lines)?;
+    let packet = read_packet(alloc, lines)?;
+    read_steps(alloc, packet, lines)
+}

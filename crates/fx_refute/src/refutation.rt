@@ -1,0 +1,53 @@
+//! What refutes.
+ghost use Rattle.std.specs.Prelude.{◌≡◌, ◌≤◌, length};
+ghost use Rattle.fx_machine.specs.Limits.{step_limit};
+
+use fx_machine::{Packet, Step};
+use std::marker::Model;
+
+/// How many steps there may be.
+pub const STEPS: usize = 1_000_000;
+
+/// A packet, and the steps of a run over it alone, of which there are at most 1,000,000.
+#[derive(Debug, Drop)]
+pub struct Refutation {
+    packet: Packet,
+    steps: Vec<Step>,
+}
+
+impl Model for Refutation {
+    ghost use Rattle.std.specs.Prelude.{length, ◌≤◌};
+    ghost use Rattle.fx_machine.specs.Limits.{step_limit};
+    ghost use Rattle.fx_refute.specs.Refutations as refutations;
+
+    ghost Value = { refutations.Refutation };
+
+    ghost view = { λ r. record { packet = r.packet; steps = r.steps.items } };
+
+    ghost invariant = { λ r. length r.steps.items ≤ step_limit };
+}
+
+impl Refutation {
+    /// The run of this packet with these steps.
+    pub fn new(packet: Packet, steps: Vec<Step>) -> Refutation
+        requires { length steps.items ≤ step_limit }
+        ensures { result ≡ record { packet = packet; steps = steps.items } }
+    {
+        Refutation { packet, steps }
+    }
+
+    /// The packet.
+    pub fn packet(&self) -> &Packet
+        ensures { result.now ≡ self.now.packet }
+    {
+        &self.packet
+    }
+
+    /// The steps, in order.
+    pub fn steps(&self) -> &[Step]
+        ensures value { result.now ≡ self.now.steps }
+        ensures few { length result.now ≤ step_limit }
+    {
+        self.steps.as_slice()
+    }
+}
