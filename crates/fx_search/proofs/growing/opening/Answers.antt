@@ -1,0 +1,5 @@
+use Rattle.fx_search.proofs.Writing.{class_writable}
+use Rattle.fx_search.proofs.growing.opening.Goals as goal
+
+pub returns-clause-writable : goal.returns-clause-writable
+returns-clause-writable c = class_writable c.args.class c.args.path c.ranges.class.fits c.ranges.path.fits

@@ -1,0 +1,3 @@
+pub mod Fronts
+pub mod Found
+pub mod Growing
