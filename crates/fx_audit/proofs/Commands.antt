@@ -15,10 +15,10 @@ use Rattle.fx_plan.specs.Tables.{net_of}
 use Rattle.fx_audit.specs.declared.answer.Answer.{Answer}
 use Rattle.fx_audit.specs.declared.answer.Answer.TheVariants.{Yes}
 use Rattle.fx_audit.specs.declared.bundle.Command.{Command}
-use Rattle.fx_audit.specs.declared.bundle.Command.TheVariants.{Replay, Check}
+use Rattle.fx_audit.specs.declared.bundle.Command.TheVariants.{Replay, Check, Confirm}
 use Rattle.fx_audit.specs.Bundle.{IsBundle}
 use Rattle.fx_audit.specs.Documents.{IsNetwork, IsRefusedByDocuments, IsTraffic, ReadFails}
-use Rattle.fx_audit.specs.Commands.{IsChecked, IsDone, IsRefusedBundle, IsRefusedBy, IsRefusedReplay, IsRefusedRun, IsRefusedThere, IsReplayed, IsReplayedIn}
+use Rattle.fx_audit.specs.Commands.{IsChecked, IsConfirmed, IsDone, IsRefusedBundle, IsRefusedBy, IsRefusedReplay, IsRefusedRun, IsRefusedThere, IsReplayed, IsReplayedIn}
 use Rattle.fx_audit.specs.Replay.{IsRefused}
 use Rattle.fx_audit.proofs.Documents.{both_mapped, both_told, told}
 
@@ -111,6 +111,14 @@ check_there actual left_n left_t n t old new W (Ok a) same en et is h =
     let there = of_told left_n left_t n t (λ x y. (text : List ℕ) × IsChecked x y old a text × W text) en et h in
     let checked : IsChecked n t new a there.0 = subst (λ (l : Lines). IsChecked n t l a there.0) is there.1 in
     (there.0, subst (λ (k : Command). IsDone k n t new a there.0) (sym same) checked, there.2)
+
+-- and its confirmation
+pub confirm_there : (actual : Command) (left_n left_t : Option (List ℕ)) (n t : List ℕ) (old new : Lines) (W : List ℕ → Type 0) (result : Result Answer Fault) → actual ≡ Confirm → left_n ≡ Some n → left_t ≡ Some t → old ≡ new → IfOk result (λ a. MayHaveLeft left_n (λ x. MayHaveLeft left_t (λ y. (text : List ℕ) × IsConfirmed x y old a text × W text))) → IfOk result (λ a. (text : List ℕ) × IsDone actual n t new a text × W text)
+confirm_there actual left_n left_t n t old new W (Err e) same en et is h = tt
+confirm_there actual left_n left_t n t old new W (Ok a) same en et is h =
+    let there = of_told left_n left_t n t (λ x y. (text : List ℕ) × IsConfirmed x y old a text × W text) en et h in
+    let confirmed : IsConfirmed n t new a there.0 = subst (λ (l : Lines). IsConfirmed n t l a there.0) is there.1 in
+    (there.0, subst (λ (k : Command). IsDone k n t new a there.0) (sym same) confirmed, there.2)
 
 pub bundle_done : (left : Option (List ℕ)) (octets text : List ℕ) (command : Command) (n t third : List ℕ) (W : List ℕ → Type 0) (result : Result Answer Fault) → MayBeLeft left octets → text ≡ octets → IsBundle text command n t third → IfOk result (λ a. (out : List ℕ) × IsDone command n t (lines_in third) a out × W out) → IfOk result (λ a. MayHaveLeft left (λ o. (command' : Command) × (network : List ℕ) × (traffic : List ℕ) × (last : List ℕ) × (out : List ℕ) × IsBundle o command' network traffic last × IsDone command' network traffic (lines_in last) a out × W out))
 bundle_done left octets text command n t third W (Err e) same is b h = cc

@@ -5,4 +5,6 @@ pub mod Replays
 pub mod Streams
 pub mod Collects
 pub mod Checks
+pub mod Confirms
 pub mod Texts
+pub mod Audits

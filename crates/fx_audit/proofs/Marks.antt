@@ -4,7 +4,7 @@ use Rattle.std.proofs.lemmas.List.{length-drop, length-take, length-take-le, tak
 use Rattle.std.proofs.Math.Seq.{drop-drop}
 use Rattle.std.proofs.lemmas.Slice.Eq.{bytes_eq-Decides}
 use Rattle.fx_audit.specs.declared.bundle.Command.{Command}
-use Rattle.fx_audit.specs.declared.bundle.Command.TheVariants.{Replay, Check}
+use Rattle.fx_audit.specs.declared.bundle.Command.TheVariants.{Replay, Check, Confirm}
 use Rattle.fx_audit.specs.Bundle.{mark, begins_line, is_mark_at, FirstText, HasNoMark, command_line, IsBundle}
 
 both : (a b : Bool) → (a && b) ≡ true → (a ≡ true) × (b ≡ true)
@@ -80,6 +80,11 @@ no_text bytes text rest h f = let no : is_mark_at bytes (length text) ≡ false 
 one_command : (a b : Command) (r s : List ℕ) → command_line a ++ r ≡ command_line b ++ s → r ≡ s
 one_command Replay Replay r s e = ap (λ (bs : List ℕ). drop 7 bs) e
 one_command Check Check r s e = ap (λ (bs : List ℕ). drop 6 bs) e
+one_command Confirm Confirm r s e = ap (λ (bs : List ℕ). drop 8 bs) e
+one_command Confirm Replay r s e = let first : 99 ≡ 114 = ap (λ (bs : List ℕ). slice_index bs 0) e in absurd (omega (arith, first))
+one_command Replay Confirm r s e = let first : 114 ≡ 99 = ap (λ (bs : List ℕ). slice_index bs 0) e in absurd (omega (arith, first))
+one_command Confirm Check r s e = let second : 111 ≡ 104 = ap (λ (bs : List ℕ). slice_index bs 1) e in absurd (omega (arith, second))
+one_command Check Confirm r s e = let second : 104 ≡ 111 = ap (λ (bs : List ℕ). slice_index bs 1) e in absurd (omega (arith, second))
 one_command Replay Check r s e = let first : 114 ≡ 99 = ap (λ (bs : List ℕ). slice_index bs 0) e in absurd (omega (arith, first))
 one_command Check Replay r s e = let first : 99 ≡ 114 = ap (λ (bs : List ℕ). slice_index bs 0) e in absurd (omega (arith, first))
 

@@ -1,7 +1,7 @@
 -- A bundle: the name of a command on a line, and texts, each with a line `%%` behind it.
 use Rattle.std.specs.Prelude.{◌≡◌, ℕ, ◌-◌, ◌||◌, ◌<◌, Bool, true, false, ◌&&◌, ◌==◌, List, [], ◌∷◌, ◌++◌, length, take, drop, bytes_eq, codes, slice_index}
 use Rattle.fx_audit.specs.declared.bundle.Command.{Command}
-use Rattle.fx_audit.specs.declared.bundle.Command.TheVariants.{Replay, Check}
+use Rattle.fx_audit.specs.declared.bundle.Command.TheVariants.{Replay, Check, Confirm}
 
 -- the line that ends a text
 abbrev pub mark : List ℕ
@@ -28,6 +28,7 @@ HasNoMark bytes = (k : ℕ) → is_mark_at bytes k ≡ false
 abbrev pub command_line : Command → List ℕ
 command_line Replay = codes "replay" ++ 10 ∷ []
 command_line Check = codes "check" ++ 10 ∷ []
+command_line Confirm = codes "confirm" ++ 10 ∷ []
 
 -- the octets are the command's line and three texts, each with its mark behind it, and nothing behind the last
 pub record IsBundle (bytes : List ℕ) (command : Command) (network traffic third : List ℕ) : Type 0 where

@@ -13,10 +13,12 @@ use Rattle.fx_plan.specs.declared.network.Network.{Network}
 use Rattle.fx_plan.specs.Tables.{net_of}
 use Rattle.fx_audit.specs.declared.answer.Answer.{Answer}
 use Rattle.fx_audit.specs.declared.answer.Answer.TheVariants.{Yes}
+use Rattle.fx_audit.specs.Audits.{IsAuditedIn}
 use Rattle.fx_audit.specs.Bundle.{IsBundle}
 use Rattle.fx_audit.specs.Checks.{IsAnswered, IsRefusedCertificate}
+use Rattle.fx_audit.specs.Confirms.{IsConfirmedIn, IsRefusedOtherwise}
 use Rattle.fx_audit.specs.declared.bundle.Command.{Command}
-use Rattle.fx_audit.specs.declared.bundle.Command.TheVariants.{Replay, Check}
+use Rattle.fx_audit.specs.declared.bundle.Command.TheVariants.{Replay, Check, Confirm}
 use Rattle.fx_audit.specs.Documents.{IsNetwork, IsRefusedByDocuments, IsRefusedNetwork, IsTraffic}
 use Rattle.fx_audit.specs.Replay.{IsRefused, IsTextOf}
 use Rattle.fx_audit.specs.Streams.{IsRefusedStream, IsStreamText, IsWhole, stream_read}
@@ -83,17 +85,46 @@ IsRefusedCheck network_octets traffic_octets lines e =
     ⊎ ((network : Network) × (classes : List Class) × IsNetwork network_octets network × IsTraffic network traffic_octets classes
     × IsRefusedCertificate network classes lines e)
 
+-- ---- a refutation that is confirmed
+
+-- the answer to a refutation in the network and traffic that two documents say
+pub record IsConfirmed (network_octets traffic_octets : List ℕ) (lines : Lines) (answer : Answer) (text : List ℕ) : Type 0 where
+  pub network : Network
+  pub classes : List Class
+  pub network_is : IsNetwork network_octets network
+  pub traffic_is : IsTraffic network traffic_octets classes
+  pub answered : IsConfirmedIn network classes lines answer text
+
+-- the first refusal of a confirmation that is no answer: that of the documents, then the refutation's
+abbrev pub IsRefusedConfirm : List ℕ → List ℕ → Lines → Fault → Type 0
+IsRefusedConfirm network_octets traffic_octets lines e =
+    IsRefusedByDocuments network_octets traffic_octets e
+    ⊎ ((network : Network) × (classes : List Class) × IsNetwork network_octets network × IsTraffic network traffic_octets classes
+    × IsRefusedOtherwise network classes lines e)
+
+-- ---- an audit
+
+-- the answer of an audit of the network and traffic that two documents say
+pub record IsAudited (network_octets traffic_octets : List ℕ) (limit : ℕ) (answer : Answer) (text : List ℕ) : Type 0 where
+  pub network : Network
+  pub classes : List Class
+  pub network_is : IsNetwork network_octets network
+  pub traffic_is : IsTraffic network traffic_octets classes
+  pub audited : IsAuditedIn network classes limit answer text
+
 -- ---- a bundle
 
 -- what a command answers, and the text that it prints
 abbrev pub IsDone : Command → List ℕ → List ℕ → Lines → Answer → List ℕ → Type 0
 IsDone Replay network traffic lines answer text = (answer ≡ Yes) × IsReplayed network traffic lines text
 IsDone Check network traffic lines answer text = IsChecked network traffic lines answer text
+IsDone Confirm network traffic lines answer text = IsConfirmed network traffic lines answer text
 
 -- what a command makes of these octets is refused
 abbrev pub IsRefusedBy : Command → List ℕ → List ℕ → Lines → Fault → Type 0
 IsRefusedBy Replay network traffic lines e = IsRefusedReplay network traffic lines e
 IsRefusedBy Check network traffic lines e = IsRefusedCheck network traffic lines e
+IsRefusedBy Confirm network traffic lines e = IsRefusedConfirm network traffic lines e
 
 -- a text is so long that it isn't read in 2 to the 32 calls
 abbrev pub IsEndless : List ℕ → List ℕ → List ℕ → Fault → Type 0

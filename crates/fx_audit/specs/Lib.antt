@@ -1,7 +1,9 @@
 pub mod Bundle
 pub mod Checks
+pub mod Confirms
 pub mod Commands
 pub mod Documents
 pub mod Replay
 pub mod Streams
 pub mod Texts
+pub mod Audits

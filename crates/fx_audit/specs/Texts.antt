@@ -6,7 +6,13 @@ use Rattle.fx_machine.specs.States.{State}
 use Rattle.fx_collect.specs.Totals.{Totals}
 use Rattle.fx_audit.specs.declared.answer.Answer.{Answer}
 use Rattle.fx_audit.specs.declared.answer.Answer.TheVariants.{Yes, No, Unknown}
+use Rattle.fx_cert.specs.declared.item.Item.{Item}
+use Rattle.fx_refute.specs.RefutationText.{refutation_text}
+use Rattle.fx_refute.specs.Refutations.{Refutation}
+use Rattle.fx_search.specs.Found.{certificate_text}
+use Rattle.fx_audit.specs.Audits.{unknown_line}
 use Rattle.fx_audit.specs.Checks.{MeansNo, no_line, yes_line}
+use Rattle.fx_audit.specs.Confirms.{RefutesNothing, refuted_text}
 use Rattle.fx_audit.specs.Replay.{IsTextOf}
 use Rattle.fx_audit.specs.Streams.{IsTotalsText}
 
@@ -24,6 +30,18 @@ IsCheckText Yes text = text ≡ yes_line
 IsCheckText No text = (e : Fault) × MeansNo e.number × (text ≡ no_line e)
 IsCheckText Unknown text = ⊥
 
--- a bundle's command is a replay or a check
+-- a confirmation prints two totals or `no`, as it answers
+abbrev pub IsConfirmText : Answer → List ℕ → Type 0
+IsConfirmText Yes text = (ran : Totals) × (plain : Totals) × (text ≡ refuted_text ran plain)
+IsConfirmText No text = (e : Fault) × RefutesNothing e.number × (text ≡ no_line e)
+IsConfirmText Unknown text = ⊥
+
+-- an audit prints a certificate, a refutation or `unknown 601`, as it answers
+abbrev pub IsAuditText : Answer → List ℕ → Type 0
+IsAuditText Yes text = (items : List Item) × (text ≡ certificate_text items)
+IsAuditText No text = (r : Refutation) × (text ≡ refutation_text r)
+IsAuditText Unknown text = text ≡ unknown_line
+
+-- a bundle's command is a replay, a check or a confirmation
 abbrev pub IsBundleText : Answer → List ℕ → Type 0
-IsBundleText answer text = IsReplayText answer text ⊎ IsCheckText answer text
+IsBundleText answer text = IsReplayText answer text ⊎ (IsCheckText answer text ⊎ IsConfirmText answer text)

@@ -8,6 +8,7 @@ ghost use Rattle.fx_audit.specs.declared.bundle.Command.{Command};
 pub enum Command {
     Replay,
     Check,
+    Confirm,
 }
 
 /// The command of a bundle and its texts.
@@ -65,6 +66,9 @@ fn command_of(bytes: &[u8]) -> Option<(Command, &[u8])>
 {
     if let Some(rest) = bytes.strip_prefix(b"replay\n") {
         return Some((Command::Replay, rest));
+    }
+    if let Some(rest) = bytes.strip_prefix(b"confirm\n") {
+        return Some((Command::Confirm, rest));
     }
     let rest = bytes.strip_prefix(b"check\n")?;
     Some((Command::Check, rest))

@@ -14,6 +14,7 @@ ghost use Rattle.fx_audit.specs.declared.bundle.Command.{Command};
 use crate::answer::Answer;
 use crate::bundle::{Bundle, Command, read_bundle};
 use crate::check_command::check_bytes;
+use crate::confirm_command::confirm_bytes;
 use crate::replay_command::replay_bytes;
 use fx_base::{Fault, LineReader, Octets, Sink, Source, read_whole};
 use std::alloc::Global;
@@ -50,6 +51,11 @@ fn answer_bundle<S: Sink>(alloc: Global, bundle: &Bundle<'_>, sink: &mut S) -> R
         }
         Command::Check => {
             let answer = check_bytes(alloc, &mut network, &mut traffic, &mut third, sink);
+            never_fails(&third);
+            answer
+        }
+        Command::Confirm => {
+            let answer = confirm_bytes(alloc, &mut network, &mut traffic, &mut third, sink);
             never_fails(&third);
             answer
         }

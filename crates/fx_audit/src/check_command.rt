@@ -18,7 +18,7 @@ use fx_check::check;
 use std::alloc::Global;
 
 /// Writes the line of an answer of no: the number of the refusal and its place.
-fn put_no<S: Sink>(sink: &mut S, fault: &Fault) -> Result<(), Fault>
+pub(crate) fn put_no<S: Sink>(sink: &mut S, fault: &Fault) -> Result<(), Fault>
     ensures ok { OnOk result (Writes (S.taken sink.old) (S.taken sink.new) (no_line fault.now)) }
     ensures going { OnOk result (S.failed sink.old ≡ false → S.failed sink.new ≡ false) }
     ensures err { IfErr result (λ e. (e ≡ fault_at 902 places.None) × (S.failed sink.new ≡ true)) }

@@ -2,17 +2,21 @@
 #![tactic(auto)]
 
 mod answer;
+mod audit_command;
 mod bundle;
 mod bundle_command;
 mod check_command;
 mod collect_command;
 mod collecting;
+mod confirm_command;
 mod document;
 mod replay_command;
 mod replaying;
 
 pub use answer::Answer;
+pub use audit_command::audit_bytes;
 pub use bundle_command::bundle_bytes;
 pub use check_command::check_bytes;
 pub use collect_command::collect_bytes;
+pub use confirm_command::confirm_bytes;
 pub use replay_command::replay_bytes;

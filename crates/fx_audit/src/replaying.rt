@@ -3,7 +3,6 @@ ghost use Rattle.std.specs.Prelude.{◌≡◌, ◌⊎◌, ℕ, List, None, Ok, E
 ghost use Rattle.fx_base.specs.Device.{Writes};
 ghost use Rattle.fx_base.specs.Fault.{fault_at};
 ghost use Rattle.fx_base.specs.declared.fault.Place.TheVariants as places;
-ghost use Rattle.fx_layout.specs.Keys.{IsLayout};
 ghost use Rattle.fx_machine.specs.States as states;
 ghost use Rattle.fx_machine.specs.Steps as stepping;
 ghost use Rattle.fx_collect.specs.Totals.{totals_of, totals_in};
@@ -43,13 +42,6 @@ fn put_complete<S: Sink>(sink: &mut S, complete: bool) -> Result<(), Fault>
     } else {
         put_text(sink, b"complete no\n")
     }
-}
-
-/// A network's report has a layout.
-fn has_layout(net: &Net)
-    ensures { IsLayout net.now.report_layout }
-{
-    let _parts = net.report_layout().parts();
 }
 
 /// Writes the text of a state that a run has come to: the totals of its report with their keys in ascending order,
@@ -94,7 +86,7 @@ pub fn replay<S: Sink>(
     let (packets, steps) = run.into_parts();
     let mut state = State::open(alloc, net, classes, packets)?;
     make_steps(&mut state, steps.as_slice())?;
-    has_layout(net);
+    let _layout = net.report_layout();
     put_state(alloc, &state, sink)?;
     Ok(Answer::Yes)
 }

@@ -1,0 +1,54 @@
+-- What an audit is answered with, and what it prints.
+use Rattle.std.specs.Prelude.{◌≡◌, ℕ, List, [], ◌∷◌, ◌++◌, codes}
+use Rattle.fx_base.specs.Lines.{text_lines}
+use Rattle.fx_cert.specs.declared.item.Item.{Item}
+use Rattle.fx_machine.specs.Claim.{ExactlyOnce, OnceModulo}
+use Rattle.fx_machine.specs.Classes.{Class}
+use Rattle.fx_plan.specs.declared.network.Network.{Network}
+use Rattle.fx_plan.specs.Tables.{net_of}
+use Rattle.fx_check.specs.Certificates.{IsCertificate}
+use Rattle.fx_refute.specs.RefutationText.{refutation_text}
+use Rattle.fx_refute.specs.Refutations.{Refutation, Refutes}
+use Rattle.fx_search.specs.Found.{IsFound, certificate_text}
+use Rattle.fx_search.specs.Fronts.{IsTooLarge, most_lines}
+use Rattle.fx_search.specs.declared.found.Found.{Found}
+use Rattle.fx_search.specs.declared.found.Found.TheVariants as found
+use Rattle.fx_traffic.specs.Targets.{targets_of}
+use Rattle.fx_audit.specs.declared.answer.Answer.{Answer}
+use Rattle.fx_audit.specs.declared.answer.Answer.TheVariants.{Yes, No, Unknown}
+
+abbrev pub unknown_line : List ℕ
+unknown_line = codes "unknown 601" ++ 10 ∷ []
+
+-- the text is a certificate's, of at most so many split and leaf lines: each packet is counted once, modulo 2 to the 64
+-- however large the sums are
+pub record IsCertified (network : Network) (classes : List Class) (limit : ℕ) (text : List ℕ) : Type 0 where
+  pub once : ExactlyOnce (net_of network) classes
+  pub modulo : OnceModulo (net_of network) classes
+  pub certificate : IsCertificate (net_of network) classes (text_lines text)
+  pub items : List Item
+  pub found : IsFound (net_of network) classes limit items
+  pub text_is : text ≡ certificate_text items
+
+-- the text is that of a refutation: not every complete run counts each packet once
+pub record IsRefutedBy (network : Network) (classes : List Class) (text : List ℕ) : Type 0 where
+  pub not_once : ExactlyOnce (net_of network) classes → ⊥
+  pub refutation : Refutation
+  pub refutes : Refutes (net_of network) classes refutation
+  pub text_is : text ≡ refutation_text refutation
+
+-- a certificate within the limit and a refutation need too much
+pub record IsUnsettled (network : Network) (classes : List Class) (limit : ℕ) (text : List ℕ) : Type 0 where
+  pub too_large : IsTooLarge (net_of network) (targets_of classes) (most_lines limit)
+  pub text_is : text ≡ unknown_line
+
+-- the answer of an audit in this network and traffic, and the text that it prints
+abbrev pub IsAuditedIn : Network → List Class → ℕ → Answer → List ℕ → Type 0
+IsAuditedIn network classes limit Yes text = IsCertified network classes limit text
+IsAuditedIn network classes limit No text = IsRefutedBy network classes text
+IsAuditedIn network classes limit Unknown text = IsUnsettled network classes limit text
+
+-- what is found is answered with yes or no, and this text is printed
+abbrev pub IsFoundText : Found → Answer → List ℕ → Type 0
+IsFoundText (found.Certificate items) answer text = (answer ≡ Yes) × (text ≡ certificate_text items.items)
+IsFoundText (found.Refutation r) answer text = (answer ≡ No) × (text ≡ refutation_text r)

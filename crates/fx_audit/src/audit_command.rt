@@ -1,0 +1,124 @@
+//! The command that audits a network, from octets to octets.
+ghost use Rattle.std.specs.Prelude.{◌≡◌, ◌⊎◌, ℕ, List, OnOk, IfOk, IfErr, IfSome, true, false};
+ghost use Rattle.fx_base.specs.Device.{MayHaveLeft, Writes};
+ghost use Rattle.fx_base.specs.Fault.{fault_at};
+ghost use Rattle.fx_base.specs.declared.fault.Fault.{Fault};
+ghost use Rattle.fx_base.specs.declared.fault.Place.TheVariants as places;
+ghost use Rattle.fx_search.specs.Found.{certificate_text};
+ghost use Rattle.fx_audit.specs.Audits.{IsAuditedIn, IsFoundText, unknown_line};
+ghost use Rattle.fx_audit.specs.Commands.{IsAudited};
+ghost use Rattle.fx_audit.specs.Documents.{IsRefusedByDocuments, IsRefusedNetwork, ReadFails};
+ghost use Rattle.fx_audit.specs.Texts.{IsAuditText};
+ghost use Rattle.fx_audit.specs.declared.answer.Answer.TheVariants.{Unknown};
+
+use crate::answer::Answer;
+use crate::document::{Documents, read_documents};
+use fx_base::{Fault, Sink, Source, put_text};
+use fx_cert::{Item, put_item};
+use fx_refute::put_refutation;
+use fx_search::{Found, search};
+use std::alloc::Global;
+
+/// Writes the lines of a certificate.
+fn put_items<S: Sink>(sink: &mut S, items: &[Item]) -> Result<(), Fault>
+    ensures ok { OnOk result (Writes (S.taken sink.old) (S.taken sink.new) (certificate_text items.now)) }
+    ensures going { OnOk result (S.failed sink.old ≡ false → S.failed sink.new ≡ false) }
+    ensures err { IfErr result (λ e. (e ≡ fault_at 902 places.None) × (S.failed sink.new ≡ true)) }
+{
+    for item in items {
+        put_item(sink, item)?;
+    }
+    Ok(())
+}
+
+/// Writes what was found, and answers yes or no.
+fn put_found<S: Sink>(sink: &mut S, found: &Found) -> Result<Answer, Fault>
+    ensures ok { IfOk result (λ answer. (text : List ℕ)
+        × IsFoundText found.now answer text × Writes (S.taken sink.old) (S.taken sink.new) text) }
+    ensures going { OnOk result (S.failed sink.old ≡ false → S.failed sink.new ≡ false) }
+    ensures err { IfErr result (λ e. (e ≡ fault_at 902 places.None) × (S.failed sink.new ≡ true)) }
+{
+    match found {
+        Found::Certificate(items) => {
+            put_items(sink, items.as_slice())?;
+            Ok(Answer::Yes)
+        }
+        Found::Refutation(refutation) => {
+            put_refutation(sink, refutation)?;
+            Ok(Answer::No)
+        }
+    }
+}
+
+/// Answers that nothing was found within the limits, or fails as the search did.
+fn answer_none<S: Sink>(sink: &mut S, fault: Fault) -> Result<Answer, Fault>
+    ensures ok { IfOk result (λ answer. (answer ≡ Unknown) × (fault.number ≡ 601) × Writes (S.taken sink.old) (S.taken sink.new) unknown_line) }
+    ensures going { OnOk result (S.failed sink.old ≡ false → S.failed sink.new ≡ false) }
+    ensures err { IfErr result (λ e. ((e ≡ fault) × (fault.number ≡ 601 → ⊥)) ⊎ ((e ≡ fault_at 902 places.None) × (S.failed sink.new ≡ true))) }
+    ensures quiet { IfErr result (λ e. ((e ≡ fault_at 902 places.None) × (S.failed sink.new ≡ true))
+        ⊎ (sink.new ≡ sink.old)) }
+{
+    if fault.number != 601 {
+        return Err(fault);
+    }
+    put_text(sink, b"unknown 601\n")?;
+    Ok(Answer::Unknown)
+}
+
+/// Audits the traffic of a network, and writes the answer.
+fn audit<S: Sink>(
+    alloc: Global,
+    documents: &Documents,
+    limit: u64,
+    sink: &mut S,
+) -> Result<Answer, Fault>
+    ensures ok { IfOk result (λ answer. (text : List ℕ)
+        × IsAuditedIn documents.now.plan documents.now.traffic limit answer text × Writes (S.taken sink.old) (S.taken sink.new) text) }
+    ensures going { OnOk result (S.failed sink.old ≡ false → S.failed sink.new ≡ false) }
+    ensures err { IfErr result (λ e. (e ≡ fault_at 900 places.None)
+        ⊎ ((e ≡ fault_at 902 places.None) × (S.failed sink.new ≡ true))) }
+    ensures quiet { IfErr result (λ e. ((e ≡ fault_at 902 places.None) × (S.failed sink.new ≡ true))
+        ⊎ (sink.new ≡ sink.old)) }
+{
+    match search(alloc, &documents.plan, &documents.traffic, limit) {
+        Ok(found) => put_found(sink, &found),
+        Err(fault) => answer_none(sink, fault),
+    }
+}
+
+/// Reads a network document and a traffic declaration, and audits them: writes the text of a certificate of at most
+/// `limit` split and leaf lines (a limit above 1,000,000 counts as that), which [`check_bytes`](crate::check_bytes)
+/// answers with yes; or the text of a refutation, which [`confirm_bytes`](crate::confirm_bytes) confirms where none of
+/// its lines has more than 4,096 octets; or, where what is needed is too large, as [`search`] says it, the line
+/// `unknown 601`.
+///
+/// Fails with the first refusal: 101 and those of [`fx_plan::read_plan`] for the network, with nothing of the traffic
+/// read before; 101 and those of [`fx_traffic::read_traffic`] for the traffic. 901 comes where a read fails or a reader
+/// hasn't ended after 4,294,967,296 calls, 900 for want of memory, 902 where a write fails. Nothing is written for a
+/// fault other than 902, nor before the answer is known.
+pub fn audit_bytes<N: Source, T: Source, S: Sink>(
+    alloc: Global,
+    network: &mut N,
+    traffic: &mut T,
+    limit: u64,
+    sink: &mut S,
+) -> Result<Answer, Fault>
+    // Yes: each packet is counted once. No: not every complete run counts each packet once.
+    ensures ok { IfOk result (λ answer. MayHaveLeft (N.left network.old) (λ n. MayHaveLeft (T.left traffic.old) (λ t.
+        (text : List ℕ) × IsAudited n t limit answer text × Writes (S.taken sink.old) (S.taken sink.new) text))) }
+    ensures going { OnOk result (S.failed sink.old ≡ false → S.failed sink.new ≡ false) }
+    ensures err { IfErr result (λ e. (e ≡ fault_at 900 places.None)
+        ⊎ (ReadFails (N.left network.old) (N.calls network.old) (N.calls network.new) (N.failed network.new) e
+        ⊎ (ReadFails (T.left traffic.old) (T.calls traffic.old) (T.calls traffic.new) (T.failed traffic.new) e
+        ⊎ (((e ≡ fault_at 902 places.None) × (S.failed sink.new ≡ true))
+        ⊎ MayHaveLeft (N.left network.old) (λ n. MayHaveLeft (T.left traffic.old) (λ t. IsRefusedByDocuments n t e)))))) }
+    ensures told { IfOk result (λ answer. (text : List ℕ)
+        × IsAuditText answer text × Writes (S.taken sink.old) (S.taken sink.new) text) }
+    ensures order { IfSome (N.left network.old) (λ n. (e : Fault)
+        → IsRefusedNetwork n e → traffic.new ≡ traffic.old) }
+    ensures quiet { IfErr result (λ e. ((e ≡ fault_at 902 places.None) × (S.failed sink.new ≡ true))
+        ⊎ (sink.new ≡ sink.old)) }
+{
+    let documents = read_documents(alloc, network, traffic)?;
+    audit(alloc, &documents, limit, sink)
+}
