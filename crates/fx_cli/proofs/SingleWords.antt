@@ -53,6 +53,12 @@ collect = first_of (behind_first (built once_app).subs)
 abbrev pub check : Shape
 check = first_of (behind_first (behind_first (built once_app).subs))
 
+abbrev pub confirm : Shape
+confirm = first_of (behind_first (behind_first (behind_first (built once_app).subs)))
+
+abbrev pub audit : Shape
+audit = first_of (behind_first (behind_first (behind_first (behind_first (built once_app).subs))))
+
 -- ---- flags: help is answered with an error too, and no other is known
 
 abbrev pub help : Rule
@@ -95,6 +101,20 @@ check_knows = record {
   again = refl;
   long = λ name v h. long_fails check.rules (bytes_eq (codes "help") name || false) v h;
   short = λ x rest h next. short_fails check.rules (104 == x || false) rest h next;
+}
+
+pub confirm_knows : KnowsHelp confirm
+confirm_knows = record {
+  again = refl;
+  long = λ name v h. long_fails confirm.rules (bytes_eq (codes "help") name || false) v h;
+  short = λ x rest h next. short_fails confirm.rules (104 == x || false) rest h next;
+}
+
+pub audit_knows : KnowsHelp audit
+audit_knows = record {
+  again = refl;
+  long = λ name v h. long_fails audit.rules (bytes_eq (codes "help") name || false) v h;
+  short = λ x rest h next. short_fails audit.rules (104 == x || false) rest h next;
 }
 
 pub top_knows : KnowsHelp top

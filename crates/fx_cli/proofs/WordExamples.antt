@@ -31,6 +31,14 @@ a_certificate_call_has_no_fault : fault_of once_app (codes "once" ∷ codes "che
 unfolding clap_on_literals
 a_certificate_call_has_no_fault = refl
 
+a_refutation_call_has_no_fault : fault_of once_app (codes "once" ∷ codes "confirm" ∷ codes "a" ∷ codes "b" ∷ codes "c" ∷ []) ≡ []
+unfolding clap_on_literals
+a_refutation_call_has_no_fault = refl
+
+an_audit_call_has_no_fault : fault_of once_app (codes "once" ∷ codes "audit" ∷ codes "a" ∷ codes "b" ∷ []) ≡ []
+unfolding clap_on_literals
+an_audit_call_has_no_fault = refl
+
 -- help is asked for by a flag or as a command
 help_flag : fault_of once_app (codes "once" ∷ codes "--help" ∷ []) ≡ DisplayHelp ∷ []
 unfolding clap_on_literals

@@ -23,7 +23,10 @@ once_app =
     let replay = over_documents (codes "replay") (file_rule (codes "RUN")) in
     let collect = over_network (codes "collect") (file_rule (codes "STREAM")) in
     let check = over_documents (codes "check") (file_rule (codes "CERTIFICATE")) in
-    with_subcommand (with_subcommand (with_subcommand (on_top wants_command (new_app (codes "once"))) replay.top) collect.top) check.top
+    let confirm = over_documents (codes "confirm") (file_rule (codes "REFUTATION")) in
+    let audit = over_network (codes "audit") (file_rule (codes "TRAFFIC")) in
+    let three = with_subcommand (with_subcommand (with_subcommand (on_top wants_command (new_app (codes "once"))) replay.top) collect.top) check.top in
+    with_subcommand (with_subcommand three confirm.top) audit.top
 
 -- what the program's command line makes of these words, which have no fault
 pub record AreMatchesOf (words : List Text) (m : ArgMatches) : Type 0 where

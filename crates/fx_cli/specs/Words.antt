@@ -3,7 +3,7 @@ use Rattle.std.specs.Prelude.{◌≡◌, ◌==◌, ◌&&◌, Bool, false, List, 
 use Rattle.std.specs.Str.{bytes_eq, chars}
 use Rattle.clap.specs.Words.{Text}
 use Rattle.fx_cli.specs.declared.words.Call.{Call}
-use Rattle.fx_cli.specs.declared.words.Call.TheVariants.{Check, Collect, Replay}
+use Rattle.fx_cli.specs.declared.words.Call.TheVariants.{Audit, Check, Collect, Confirm, Replay}
 
 -- a word that begins with `-` (45) and goes on
 abbrev pub is_flag : Text → Bool
@@ -28,13 +28,17 @@ pub record NamesFiles (words : List Text) (command : Text) (files : List Text) :
   pub words_are : words ≡ program ∷ command ∷ rest
   pub files_are : file_names rest ≡ Some files
 
--- `once replay NETWORK TRAFFIC RUN`, `once collect NETWORK STREAM` and `once check NETWORK TRAFFIC CERTIFICATE`
+-- `once replay NETWORK TRAFFIC RUN`, `once collect NETWORK STREAM`, `once check NETWORK TRAFFIC CERTIFICATE`,
+-- `once confirm NETWORK TRAFFIC REFUTATION` and `once audit NETWORK TRAFFIC`
 abbrev pub Names : List Text → Call → Type 0
 Names words (Replay network traffic run) =
     NamesFiles words (codes "replay") (string_bytes network ∷ string_bytes traffic ∷ string_bytes run ∷ [])
 Names words (Collect network stream) = NamesFiles words (codes "collect") (string_bytes network ∷ string_bytes stream ∷ [])
 Names words (Check network traffic certificate) =
     NamesFiles words (codes "check") (string_bytes network ∷ string_bytes traffic ∷ string_bytes certificate ∷ [])
+Names words (Confirm network traffic refutation) =
+    NamesFiles words (codes "confirm") (string_bytes network ∷ string_bytes traffic ∷ string_bytes refutation ∷ [])
+Names words (Audit network traffic) = NamesFiles words (codes "audit") (string_bytes network ∷ string_bytes traffic ∷ [])
 
 abbrev pub NamesNoCall : List Text → Type 0
 NamesNoCall words = (call : Call) → Names words call → ⊥

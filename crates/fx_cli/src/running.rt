@@ -4,7 +4,7 @@ ghost use Rattle.fx_base.specs.Device.{Writes};
 ghost use Rattle.fx_base.specs.Fault.{fault_at};
 ghost use Rattle.fx_base.specs.declared.fault.Place.TheVariants as places;
 ghost use Rattle.fx_cli.specs.Ending.{IsExitStatus};
-ghost use Rattle.fx_audit.specs.Texts.{IsBundleText};
+ghost use Rattle.fx_audit.specs.Texts.{IsAuditText, IsBundleText, IsCheckText, IsCollectText, IsConfirmText, IsReplayText};
 ghost use Rattle.fx_cli.specs.Running.{EndsAs, HasFailedToWrite, IsCallText};
 ghost use Rattle.fx_cli.specs.Words.{Names, NamesNoCall};
 ghost use Rattle.fx_cli.specs.declared.words.Call.{Call};
@@ -14,7 +14,9 @@ use crate::ending::finish;
 use crate::files::open;
 use crate::words::{Call, read_words};
 use crate::words_ending::{finish_unread, finish_words};
-use fx_audit::{Answer, bundle_bytes, check_bytes, collect_bytes, replay_bytes};
+use fx_audit::{
+    Answer, audit_bytes, bundle_bytes, check_bytes, collect_bytes, confirm_bytes, replay_bytes,
+};
 use fx_base::{Fault, LineReader, Outside, Sink};
 use std::env;
 use std::io::{self, BufWriter};
@@ -22,6 +24,108 @@ use std::rt::{Env, Files};
 
 /// The exit status of a write that failed.
 const WRITE_FAILED: u8 = 5;
+
+/// The most split and leaf lines of a certificate that an audit searches for.
+const AUDIT_LIMIT: u64 = 1_000_000;
+
+/// Replays the run in these files.
+fn replay<R: AllocGlobal + Files, S: Sink>(
+    rt: &R,
+    network: &str,
+    traffic: &str,
+    run: &str,
+    sink: &mut S,
+) -> Result<Answer, Fault>
+    ensures told { IfOk result (λ answer. (text : List ℕ)
+        × IsReplayText answer text × Writes (S.taken sink.old) (S.taken sink.new) text) }
+    ensures going { OnOk result (S.failed sink.old ≡ false → S.failed sink.new ≡ false) }
+    ensures quiet { IfErr result (λ e. ((e ≡ fault_at 902 places.None) × (S.failed sink.new ≡ true))
+        ⊎ (sink.new ≡ sink.old)) }
+{
+    let mut network = open(rt, network)?;
+    let mut traffic = open(rt, traffic)?;
+    let run = open(rt, run)?;
+    let mut lines = LineReader::new(rt.alloc(), run)?;
+    replay_bytes(rt.alloc(), &mut network, &mut traffic, &mut lines, sink)
+}
+
+/// Collects the stream in these files.
+fn collect<R: AllocGlobal + Files, S: Sink>(
+    rt: &R,
+    network: &str,
+    stream: &str,
+    sink: &mut S,
+) -> Result<Answer, Fault>
+    ensures told { IfOk result (λ answer. (text : List ℕ)
+        × IsCollectText answer text × Writes (S.taken sink.old) (S.taken sink.new) text) }
+    ensures going { OnOk result (S.failed sink.old ≡ false → S.failed sink.new ≡ false) }
+    ensures quiet { IfErr result (λ e. ((e ≡ fault_at 902 places.None) × (S.failed sink.new ≡ true))
+        ⊎ (sink.new ≡ sink.old)) }
+{
+    let mut network = open(rt, network)?;
+    let mut stream = open(rt, stream)?;
+    collect_bytes(rt.alloc(), &mut network, &mut stream, sink)
+}
+
+/// Checks the certificate in these files.
+fn check<R: AllocGlobal + Files, S: Sink>(
+    rt: &R,
+    network: &str,
+    traffic: &str,
+    certificate: &str,
+    sink: &mut S,
+) -> Result<Answer, Fault>
+    ensures told { IfOk result (λ answer. (text : List ℕ)
+        × IsCheckText answer text × Writes (S.taken sink.old) (S.taken sink.new) text) }
+    ensures going { OnOk result (S.failed sink.old ≡ false → S.failed sink.new ≡ false) }
+    ensures quiet { IfErr result (λ e. ((e ≡ fault_at 902 places.None) × (S.failed sink.new ≡ true))
+        ⊎ (sink.new ≡ sink.old)) }
+{
+    let mut network = open(rt, network)?;
+    let mut traffic = open(rt, traffic)?;
+    let certificate = open(rt, certificate)?;
+    let mut lines = LineReader::new(rt.alloc(), certificate)?;
+    check_bytes(rt.alloc(), &mut network, &mut traffic, &mut lines, sink)
+}
+
+/// Confirms the refutation in these files.
+fn confirm<R: AllocGlobal + Files, S: Sink>(
+    rt: &R,
+    network: &str,
+    traffic: &str,
+    refutation: &str,
+    sink: &mut S,
+) -> Result<Answer, Fault>
+    ensures told { IfOk result (λ answer. (text : List ℕ)
+        × IsConfirmText answer text × Writes (S.taken sink.old) (S.taken sink.new) text) }
+    ensures going { OnOk result (S.failed sink.old ≡ false → S.failed sink.new ≡ false) }
+    ensures quiet { IfErr result (λ e. ((e ≡ fault_at 902 places.None) × (S.failed sink.new ≡ true))
+        ⊎ (sink.new ≡ sink.old)) }
+{
+    let mut network = open(rt, network)?;
+    let mut traffic = open(rt, traffic)?;
+    let refutation = open(rt, refutation)?;
+    let mut lines = LineReader::new(rt.alloc(), refutation)?;
+    confirm_bytes(rt.alloc(), &mut network, &mut traffic, &mut lines, sink)
+}
+
+/// Audits the network and traffic in these files.
+fn audit<R: AllocGlobal + Files, S: Sink>(
+    rt: &R,
+    network: &str,
+    traffic: &str,
+    sink: &mut S,
+) -> Result<Answer, Fault>
+    ensures told { IfOk result (λ answer. (text : List ℕ)
+        × IsAuditText answer text × Writes (S.taken sink.old) (S.taken sink.new) text) }
+    ensures going { OnOk result (S.failed sink.old ≡ false → S.failed sink.new ≡ false) }
+    ensures quiet { IfErr result (λ e. ((e ≡ fault_at 902 places.None) × (S.failed sink.new ≡ true))
+        ⊎ (sink.new ≡ sink.old)) }
+{
+    let mut network = open(rt, network)?;
+    let mut traffic = open(rt, traffic)?;
+    audit_bytes(rt.alloc(), &mut network, &mut traffic, AUDIT_LIMIT, sink)
+}
 
 /// Opens the files that a call names, in the order of its words, and only then reads them and answers.
 ///
@@ -42,29 +146,31 @@ fn answer_call<R: AllocGlobal + Files, S: Sink>(
             network,
             traffic,
             run,
-        } => {
-            let mut network = open(rt, network.as_str())?;
-            let mut traffic = open(rt, traffic.as_str())?;
-            let run = open(rt, run.as_str())?;
-            let mut lines = LineReader::new(rt.alloc(), run)?;
-            replay_bytes(rt.alloc(), &mut network, &mut traffic, &mut lines, sink)
-        }
-        Call::Collect { network, stream } => {
-            let mut network = open(rt, network.as_str())?;
-            let mut stream = open(rt, stream.as_str())?;
-            collect_bytes(rt.alloc(), &mut network, &mut stream, sink)
-        }
+        } => replay(rt, network.as_str(), traffic.as_str(), run.as_str(), sink),
+        Call::Collect { network, stream } => collect(rt, network.as_str(), stream.as_str(), sink),
         Call::Check {
             network,
             traffic,
             certificate,
-        } => {
-            let mut network = open(rt, network.as_str())?;
-            let mut traffic = open(rt, traffic.as_str())?;
-            let certificate = open(rt, certificate.as_str())?;
-            let mut lines = LineReader::new(rt.alloc(), certificate)?;
-            check_bytes(rt.alloc(), &mut network, &mut traffic, &mut lines, sink)
-        }
+        } => check(
+            rt,
+            network.as_str(),
+            traffic.as_str(),
+            certificate.as_str(),
+            sink,
+        ),
+        Call::Confirm {
+            network,
+            traffic,
+            refutation,
+        } => confirm(
+            rt,
+            network.as_str(),
+            traffic.as_str(),
+            refutation.as_str(),
+            sink,
+        ),
+        Call::Audit { network, traffic } => audit(rt, network.as_str(), traffic.as_str(), sink),
     }
 }
 

@@ -38,6 +38,22 @@ pub enum Call {
         /// The certificate's text.
         certificate: String,
     },
+    /// Confirms that a refutation of a network over declared traffic shows a wrong total.
+    Confirm {
+        /// The network document.
+        network: String,
+        /// The traffic declaration.
+        traffic: String,
+        /// The refutation's text.
+        refutation: String,
+    },
+    /// Audits a network over declared traffic.
+    Audit {
+        /// The network document.
+        network: String,
+        /// The traffic declaration.
+        traffic: String,
+    },
 }
 
 /// A file that a command wants, with a line of help.
@@ -137,6 +153,33 @@ fn check_command<'a>(alloc: Global) -> Result<Command<'a>, AllocError>
     )
 }
 
+/// The command `confirm`.
+fn confirm_command<'a>(alloc: Global) -> Result<Command<'a>, AllocError>
+    ensures app { IfOk result (λ c. app_of c ≡ over_documents (codes "confirm") (file_rule (codes "REFUTATION"))) }
+    ensures local { IfOk result (λ c. (out-Command c).has_globals ≡ false) }
+{
+    over_documents(
+        alloc,
+        "confirm",
+        "Confirms that a run of one packet shows a wrong total",
+        "REFUTATION",
+        "The text of a refutation",
+    )
+}
+
+/// The command `audit`.
+fn audit_command<'a>(alloc: Global) -> Result<Command<'a>, AllocError>
+    ensures app { IfOk result (λ c. app_of c ≡ over_network (codes "audit") (file_rule (codes "TRAFFIC"))) }
+    ensures local { IfOk result (λ c. (out-Command c).has_globals ≡ false) }
+{
+    let command = network_command(
+        alloc,
+        "audit",
+        "Searches for a certificate, or for a run of one packet that shows a wrong total",
+    )?;
+    with_file(alloc, command, "TRAFFIC", "The traffic declaration (JSON)")
+}
+
 /// The program, before its commands are added.
 fn program<'a>(alloc: Global) -> Command<'a>
     ensures { app_of result ≡ on_top wants_command (new_app (codes "once")) }
@@ -157,6 +200,8 @@ fn command_line<'a>(alloc: Global) -> Result<Command<'a>, AllocError>
     commands.push(replay_command(alloc)?)?;
     commands.push(collect_command(alloc)?)?;
     commands.push(check_command(alloc)?)?;
+    commands.push(confirm_command(alloc)?)?;
+    commands.push(audit_command(alloc)?)?;
     program(alloc).subcommands(commands)
 }
 
@@ -184,6 +229,19 @@ fn call_of(alloc: Global, matches: &ArgMatches<'_>) -> Result<Call, AllocError>
             network: file_name(alloc, check, "NETWORK")?,
             traffic: file_name(alloc, check, "TRAFFIC")?,
             certificate: file_name(alloc, check, "CERTIFICATE")?,
+        });
+    }
+    if let Some(confirm) = matches.subcommand_matches("confirm") {
+        return Ok(Call::Confirm {
+            network: file_name(alloc, confirm, "NETWORK")?,
+            traffic: file_name(alloc, confirm, "TRAFFIC")?,
+            refutation: file_name(alloc, confirm, "REFUTATION")?,
+        });
+    }
+    if let Some(audit) = matches.subcommand_matches("audit") {
+        return Ok(Call::Audit {
+            network: file_name(alloc, audit, "NETWORK")?,
+            traffic: file_name(alloc, audit, "TRAFFIC")?,
         });
     }
     let replay = matches.subcommand_matches("replay").unwrap();

@@ -1,6 +1,8 @@
-use Rattle.std.proofs.Common.{inl, inr}
+use Rattle.std.proofs.Common.{inl, inr, map, string_bytes}
 use Rattle.fx_base.specs.Fault.{fault_at}
 use Rattle.fx_base.specs.declared.fault.Place.TheVariants as places
+use Rattle.fx_cli.specs.Running.{IsCallText}
+use Rattle.fx_cli.proofs.Called.{ended, ends_as}
 use Rattle.fx_cli.proofs.running.answer_words.Goals as goal
 
 pub returns-in-Err-clause-call : goal.returns-in-Err-clause-call
@@ -11,3 +13,9 @@ returns-in-Err-clause-call g c = λ call names. elim c.in-Err.ensures.call [
   ]
   | inr none ↦ absurd (none call names)
 ]
+
+pub returns-in-Ok-clause-call : goal.returns-in-Ok-clause-call
+returns-in-Ok-clause-call g c = λ call names.
+    ends_as (map string_bytes c.args.words.now) c.in-Ok.call call c.in-Ok.ensures.call names _ _ _ _ _
+    (ended g.S.Sink.taken g.S.Sink.failed (IsCallText c.in-Ok.call) c.answer_call-answer.result c.args.sink.now c.answer_call-answer.new.sink c.finish-in-Ok.new.sink c.finish-in-Ok.result
+    c.answer_call-answer.ensures.told c.answer_call-answer.ensures.going c.answer_call-answer.ensures.quiet c.finish-in-Ok.ensures.answered c.finish-in-Ok.ensures.refused)
