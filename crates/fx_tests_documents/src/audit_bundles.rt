@@ -57,6 +57,14 @@ fn answers_bundles(rt: HostRuntime) -> Result<(), Fail> {
     assert!(rt;
         ends_over_network(alloc, b"replay\n", traffic, RUN, yes, TOTALS)?
             && ends_over_network(alloc, b"check\n", traffic, CERTIFICATE, yes, b"yes\n")?
+            && ends_over_network(
+                alloc,
+                b"confirm\n",
+                traffic,
+                b"x\n",
+                Ok(Answer::No),
+                b"no 501 line 1\n"
+            )?
     );
     Ok(())
 }

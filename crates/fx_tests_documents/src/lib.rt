@@ -2,11 +2,15 @@
 #![tactic(auto)]
 
 #[cfg(test)]
+mod audit_audits;
+#[cfg(test)]
 mod audit_bundles;
 #[cfg(test)]
 mod audit_checks;
 #[cfg(test)]
 mod audit_collects;
+#[cfg(test)]
+mod audit_confirms;
 #[cfg(test)]
 mod audit_replays;
 #[cfg(test)]
@@ -27,6 +31,8 @@ mod judging;
 mod networks;
 #[cfg(test)]
 mod plan;
+#[cfg(test)]
+mod refute;
 #[cfg(test)]
 mod selectors;
 #[cfg(test)]

@@ -1,2 +1,3 @@
 mod TwoMeters
 mod Chain
+mod Doublings

@@ -5,7 +5,7 @@ use crate::meters::{bare, into, meter, sources};
 use crate::parts::{by_source, collector, exporter, holder, process};
 use fx_elements::Axis;
 use fx_layout::Layout;
-use fx_leaf::{Counted, Scratch, Tables, cut, fate, never};
+use fx_leaf::{Counted, Judgement, Scratch, Tables, cut, fate, judge, never};
 use fx_machine::{Crossing, Device, Exporter, Holder, Net};
 use std::alloc::Global;
 use std::test::Fail;
@@ -65,8 +65,13 @@ fn path(alloc: Global) -> Result<Vec<Crossing>, Fail> {
     Ok(vec![in alloc; first, into(alloc, 3)?]?)
 }
 
-/// The leaf, or the number of the fault; whether no packet is counted, in the same way; and the split.
-type Answers = (Result<Counted, u16>, Result<(), u16>, Option<(Axis, u128)>);
+/// The leaf, or the number of the fault; whether no packet is counted, in the same way; the split; and the judgement.
+type Answers = (
+    Result<Counted, u16>,
+    Result<(), u16>,
+    Option<(Axis, u128)>,
+    Judgement,
+);
 
 /// What is answered for the sources from one to another.
 fn asked(alloc: Global, net: &Net, low: u128, high: u128) -> Result<Answers, Fail>
@@ -82,7 +87,8 @@ fn asked(alloc: Global, net: &Net, low: u128, high: u128) -> Result<Answers, Fai
     let leaf = bare(fate(&mut scratch, &tables, path.as_slice(), &region));
     let uncounted = bare(never(&mut scratch, &tables, path.as_slice(), &region));
     let split = cut(&mut scratch, &tables, path.as_slice(), &region);
-    Ok((leaf, uncounted, split))
+    let judgement = judge(&mut scratch, &tables, path.as_slice(), &region);
+    Ok((leaf, uncounted, split, judgement))
 }
 
 /// The same where the second exporting process sends to these destinations, and the report has this layout.
@@ -108,50 +114,75 @@ fn counted(crossing: u64) -> Counted {
 
 #[test]
 fn each_filter_counts_its_half_and_cuts_a_region(rt: HostRuntime) -> Result<(), Fail> {
-    for (low, high, leaf, uncounted, split) in [
-        (0, 0x7fff_ffff, Ok(counted(1)), Err(415), None),
-        (0x8000_0000, 0xffff_ffff, Ok(counted(2)), Err(415), None),
+    let (axis, at) = (Axis::Source, 0x8000_0000);
+    let once = |crossing| Judgement::Once(counted(crossing));
+    for (low, high, leaf, uncounted, split, judgement) in [
+        (0, at - 1, Ok(counted(1)), Err(415), None, once(1)),
+        (at, 0xffff_ffff, Ok(counted(2)), Err(415), None, once(2)),
         (
-            0x7fff_ffff,
+            at - 1,
             0xffff_ffff,
             Err(406),
             Err(406),
-            Some((Axis::Source, 0x8000_0000)),
+            Some((axis, at)),
+            Judgement::Cut { axis, at },
         ),
     ] {
         let sent = (true, [Some(1)].as_slice());
         let answers = answers(rt.alloc(), sent, Layout::new(), low, high)?;
-        assert!(rt; answers == (leaf, uncounted, split));
+        assert!(rt; answers == (leaf, uncounted, split, judgement));
     }
     Ok(())
 }
 
-/// The leaf of the second meter's half where the report tells the whole source or nothing, and
-/// whether no packet of it is counted.
+/// The leaf of the second meter's half where the report tells the whole source or nothing, whether no packet of it is
+/// counted, and the judgement.
 fn leaf(
     alloc: Global,
     sent: (bool, &[Option<usize>]),
     tells_source: bool,
-) -> Result<(Result<Counted, u16>, Result<(), u16>), Fail> {
+) -> Result<(Result<Counted, u16>, Result<(), u16>, Judgement), Fail> {
     let report = if tells_source {
         by_source(32)?
     } else {
         Layout::new()
     };
-    let (leaf, uncounted, _) = answers(alloc, sent, report, 0x8000_0000, 0xffff_ffff)?;
-    Ok((leaf, uncounted))
+    let (leaf, uncounted, _, judgement) = answers(alloc, sent, report, 0x8000_0000, 0xffff_ffff)?;
+    Ok((leaf, uncounted, judgement))
 }
 
 #[test]
 fn tells_why_no_leaf_is_sound(rt: HostRuntime) -> Result<(), Fail> {
-    for (parallel, links, tells_source, number, uncounted) in [
-        (true, [None].as_slice(), false, 407, Ok(())),
-        (true, &[Some(0), Some(1)], false, 408, Err(408)),
-        (false, &[Some(0), None], false, 409, Err(409)),
-        (true, &[Some(1)], true, 413, Err(413)),
+    for (parallel, links, tells_source, number, uncounted, judgement) in [
+        (
+            true,
+            [None].as_slice(),
+            false,
+            407,
+            Ok(()),
+            Judgement::Never,
+        ),
+        (
+            true,
+            &[Some(0), Some(1)],
+            false,
+            408,
+            Err(408),
+            Judgement::Many,
+        ),
+        (
+            false,
+            &[Some(0), None],
+            false,
+            409,
+            Err(409),
+            Judgement::Differing,
+        ),
+        (true, &[Some(1)], true, 413, Err(413), Judgement::Unassigned),
     ] {
         assert!(rt;
-            leaf(rt.alloc(), (parallel, links), tells_source)? == (Err(number), uncounted),
+            leaf(rt.alloc(), (parallel, links), tells_source)?
+                == (Err(number), uncounted, judgement),
             "not {number}"
         );
     }

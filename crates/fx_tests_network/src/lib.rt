@@ -21,3 +21,5 @@ mod parts;
 mod session;
 #[cfg(test)]
 mod session_hostile;
+#[cfg(test)]
+mod wrong_runs;

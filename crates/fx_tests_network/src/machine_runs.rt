@@ -1,9 +1,9 @@
 //! Runs' texts read, and refused at the line.
 use crate::meters::sources;
-use fx_base::{Fault, LineReader, Octets};
+use fx_base::{Fault, LineReader, Octets, Room};
 use fx_machine::{
-    Class, Classes, HolderName, Packet, Path, Run, RunLine, Step, read_run, read_run_line,
-    run_texts,
+    Class, Classes, HolderName, Packet, Path, Run, RunLine, Step, put_packet_line, put_step_line,
+    read_run, read_run_line, run_lines_have_one_text, run_texts,
 };
 use std::alloc::Global;
 use std::test::Fail;
@@ -157,6 +157,30 @@ fn reads_a_line(rt: HostRuntime) -> Result<(), Fail> {
     run_texts();
     assert!(rt; is_end(rt.alloc(), b"end")? == Some(true));
     assert!(rt; is_end(rt.alloc(), b"end ")? == None);
+    Ok(())
+}
+
+/// The first packet and the first step of a run, written as lines behind one another.
+fn first_lines<'a>(run: &Run, room: &mut Room<'a>) -> Result<(), Fault> {
+    for packet in run.packets().iter().take(1) {
+        put_packet_line(room, packet)?;
+    }
+    for step in run.steps().iter().take(1) {
+        put_step_line(room, step)?;
+    }
+    Ok(())
+}
+
+#[test]
+fn writes_lines(rt: HostRuntime) -> Result<(), Fail> {
+    run_lines_have_one_text();
+    let run = web_run(rt.alloc(), TWO_PACKETS)?;
+    let mut octets = [0u8; 128];
+    let mut room = Room::new(&mut octets);
+    first_lines(&run, &mut room)?;
+    let wanted =
+        b"packet 1 1 10.0.0.1 192.0.2.1 6 1000 80 0 18446744073709551614\ncross 1 1 n\n".as_slice();
+    assert!(rt; room.octets() == wanted);
     Ok(())
 }
 

@@ -1,4 +1,6 @@
 //! A meter at one interface, and the packets that come into it.
+ghost use Rattle.std.specs.Prelude.{◌≡◌, All, [], ◌∷◌, Some, IfOk};
+
 use fx_base::{Fault, Name};
 use fx_boxes::{Fields, Region};
 use fx_machine::{Crossing, Device, Point, Selection};
@@ -14,7 +16,9 @@ pub(crate) fn sources(low: u128, high: u128) -> Result<Region, Fail> {
 
 /// The point at `eth0`, which selects the packets of a region into the cache at this place; also those that go out,
 /// or only those that come in.
-fn point(alloc: Global, region: Region, cache: usize, outwards: bool) -> Result<Point, Fail> {
+fn point(alloc: Global, region: Region, cache: usize, outwards: bool) -> Result<Point, Fail>
+    ensures { IfOk result (λ p. All (λ s. s.holder ≡ Some cache) p.selections) }
+{
     let selection = Selection {
         region: Some(region),
         holder: Some(cache),
@@ -29,7 +33,10 @@ pub(crate) fn meter(
     region: Region,
     cache: usize,
     outwards: bool,
-) -> Result<Device, Fail> {
+) -> Result<Device, Fail>
+    ensures caches { IfOk result (λ d. d.caches ≡ cache ∷ []) }
+    ensures points { IfOk result (λ d. All (λ p. All (λ s. s.holder ≡ Some cache) p.selections) d.points) }
+{
     let point = point(alloc, region, cache, outwards)?;
     let points = vec![in alloc; point]?;
     let caches = vec![in alloc; cache]?;

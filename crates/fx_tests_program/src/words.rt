@@ -31,6 +31,12 @@ fn call(alloc: Global, line: &str) -> Result<String, AllocError> {
             traffic,
             certificate,
         } => format!(in alloc; "check|{network}|{traffic}|{certificate}"),
+        Call::Confirm {
+            network,
+            traffic,
+            refutation,
+        } => format!(in alloc; "confirm|{network}|{traffic}|{refutation}"),
+        Call::Audit { network, traffic } => format!(in alloc; "audit|{network}|{traffic}"),
     }
 }
 
@@ -49,6 +55,14 @@ fn reads_words(rt: HostRuntime) -> Result<(), Fail> {
         (
             "once check net.json traffic.json cert.txt",
             "check|net.json|traffic.json|cert.txt",
+        ),
+        (
+            "once confirm net.json traffic.json refutation.txt",
+            "confirm|net.json|traffic.json|refutation.txt",
+        ),
+        (
+            "once audit net.json traffic.json",
+            "audit|net.json|traffic.json",
         ),
     ] {
         assert!(rt; call(rt.alloc(), line)?.as_str() == wanted);
@@ -82,6 +96,8 @@ fn ends_words_that_name_no_call(rt: HostRuntime) -> Result<(), Fail> {
         ("once replay a -x c", 6),
         ("once collect a b c", 6),
         ("once check a b", 6),
+        ("once confirm a b", 6),
+        ("once audit a b c", 6),
     ] {
         assert!(rt; ends_words(rt.alloc(), line)? == Some((status, true)));
     }

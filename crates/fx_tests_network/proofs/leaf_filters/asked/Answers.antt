@@ -30,3 +30,12 @@ cut-split-requires-clause-tables c =
     ap (λ (t : Tables). t.numbering) is ∙ ap (λ (ls : List Layout). let n : Numbering = record { layouts = ls; numbers = 0 ∷ 0 ∷ [] } in n) made
     in
     two_meters c.new-tables.result (ap (λ (t : Tables). t.net.holders) is ∙ c.requires.holders) (ap (λ (t : Tables). t.net.processes) is ∙ c.requires.processes) (ap (λ (t : Tables). t.net.report) is ∙ c.requires.report) (ap (λ (t : Tables). t.order) is) numbering
+
+pub judge-judgement-requires-clause-tables : goal.judge-judgement-requires-clause-tables
+judge-judgement-requires-clause-tables c =
+    let is = c.new-tables.ensures in
+    let made : c.as_slice.result.now ≡ [] ∷ [] = c.as_slice.ensures.value ∙ c.in_ok-layouts.ensures.items ∙ ap (λ (l : Layout). l ∷ []) c.new.ensures in
+    let numbering : c.new-tables.result.numbering ≡ record { layouts = [] ∷ []; numbers = 0 ∷ 0 ∷ [] } =
+    ap (λ (t : Tables). t.numbering) is ∙ ap (λ (ls : List Layout). let n : Numbering = record { layouts = ls; numbers = 0 ∷ 0 ∷ [] } in n) made
+    in
+    two_meters c.new-tables.result (ap (λ (t : Tables). t.net.holders) is ∙ c.requires.holders) (ap (λ (t : Tables). t.net.processes) is ∙ c.requires.processes) (ap (λ (t : Tables). t.net.report) is ∙ c.requires.report) (ap (λ (t : Tables). t.order) is) numbering

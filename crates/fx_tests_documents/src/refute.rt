@@ -1,0 +1,174 @@
+//! Refutations of small networks.
+use crate::audit_texts::{NETWORK, TRAFFIC};
+use crate::check::traffic_of;
+use crate::plan::plan_of;
+use fx_base::{Fault, LineReader, Octets, Room};
+use fx_collect::Totals;
+use fx_machine::run_lines_have_one_text;
+use fx_plan::Plan;
+use fx_refute::{
+    confirm, put_refutation, read_refutation, refutations_have_one_text, refutations_refute,
+};
+use fx_traffic::Traffic;
+use std::alloc::Global;
+use std::test::Fail;
+
+/// The totals of a refuting run, and the plain sums.
+fn refuted(
+    alloc: Global,
+    plan: &Plan,
+    traffic: &Traffic,
+    text: &str,
+) -> Result<(Totals, Totals), Fault> {
+    let mut lines = LineReader::new(alloc, Octets::new(text.as_bytes()))?;
+    let refutation = read_refutation(alloc, &mut lines)?;
+    confirm(alloc, plan, traffic, &refutation)
+}
+
+/// What a refutation comes to: how many keys and unassigned records its run has and how many keys its packet, or
+/// the fault's number and place.
+fn outcome(alloc: Global, plan: &Plan, traffic: &Traffic, text: &str) -> Result<String, Fail> {
+    match refuted(alloc, plan, traffic, text) {
+        Ok((ran, plain)) => {
+            let (keys, lost, wanted) = (ran.len(), ran.unassigned(), plain.len());
+            Ok(format!(in alloc; "{keys} {lost} for {wanted}")?)
+        }
+        Err(Fault { number, place }) => Ok(format!(in alloc; "{number} {place}")?),
+    }
+}
+
+/// The refutations that don't come to what stands beside them.
+fn wrong_refutations(
+    alloc: Global,
+    network: &str,
+    traffic: &str,
+    refutations: &[(&str, &str)],
+) -> Result<String, Fail> {
+    let plan = plan_of(alloc, network)?;
+    let traffic = traffic_of(alloc, traffic, &plan)?;
+    let mut wrong = String::new(alloc);
+    for (text, wanted) in refutations {
+        if outcome(alloc, &plan, &traffic, text)?.as_str() != *wanted {
+            writeln!(wrong, "{text}")?;
+        }
+    }
+    Ok(wrong)
+}
+
+/// A meter whose exporting process sends to the collector or, where it can't, nowhere.
+pub(crate) const WITH_FALLBACK: &str =
+    r#"{"devices":[{"name":"m1","config":{"ietf-ipfix-psamp:ipfix":{
+"observationPoint":[{"name":"op","observationDomainId":0,"ifName":["eth0"],"selectionProcess":["sp"]}],
+"selectionProcess":[{"name":"sp","selector":[{"name":"a","selectAll":[null]}],"cache":"ca"}],
+"cache":[{"name":"ca","timeoutCache":{"cacheLayout":{"cacheField":[
+{"name":"s","ieName":"sourceIPv4Address","isFlowKey":[null]},
+{"name":"o","ieId":1},{"name":"p","ieId":2}]}},"exportingProcess":["ex"]}],
+"exportingProcess":[{"name":"ex","exportMode":"fallback","destination":[
+{"name":"d","tcpExporter":{}},{"name":"e","tcpExporter":{}}]}]}}},
+{"name":"c1","config":{"ietf-ipfix-psamp:ipfix":{"collectingProcess":[{"name":"cp"}]}}}],
+"links":[{"device":"m1","exportingProcess":"ex","destination":"d","toDevice":"c1","toProcess":"cp"}],
+"report":{"device":"c1","collectingProcess":"cp","key":[{"ieName":"sourceIPv4Address"}]}}"#;
+
+const OF_FALLBACK: &[(&str, &str)] = &[
+    // the record leaves the network
+    (
+        "once-refutation 1\npacket 1 1 10.0.0.0 0.0.0.0 0 0 0 0 1\ncross 1 1 n\nexpire cache 1 1 1 2\nend\n",
+        "0 0 for 1",
+    ),
+    // it is counted
+    (
+        "once-refutation 1\npacket 1 1 10.0.0.0 0.0.0.0 0 0 0 0 1\ncross 1 1 n\nexpire cache 1 1 1 1\narrive 1 1\nend\n",
+        "505 ",
+    ),
+];
+
+/// Over one meter and one collector that count each packet.
+const REFUTATIONS: &[(&str, &str)] = &[
+    (
+        "once-refutation 1\npacket 1 1 10.0.0.0 0.0.0.0 0 0 0 0 1\ncross 1 1 n\nexpire cache 1 1 1 2\nend\n",
+        "503 line 4",
+    ),
+    (
+        "once-refutation 1\npacket 1 1 11.0.0.0 0.0.0.0 0 0 0 0 1\ncross 1 1 n\nexpire cache 1 1 1 2\nend\n",
+        "502 line 2",
+    ),
+    (
+        "once-refutation 1\npacket 1 1 10.0.0.0 0.0.0.0 0 0 0 0 1\ncross 1 1 n\nend\n",
+        "504 ",
+    ),
+    (
+        "once-refutation 1\npacket 1 1 10.0.0.0 0.0.0.0 0 0 0 0 1\ncross 1 1 n\nexpire cache 1 1 1\narrive 1 1\nend\n",
+        "505 ",
+    ),
+    ("", "501 line 1"),
+    ("once-run 1\n", "501 line 1"),
+    ("once-refutation 1\nend\n", "501 line 2"),
+    (
+        "once-refutation 1\npacket 1 1 10.0.0.0 0.0.0.0 0 0 0 0 1\n",
+        "501 line 3",
+    ),
+    (
+        "once-refutation 1\npacket 1 1 10.0.0.0 0.0.0.0 0 0 0 0 1\npacket 1 1 10.0.0.0 0.0.0.0 0 0 0 0 1\nend\n",
+        "501 line 3",
+    ),
+    (
+        "once-refutation 1\npacket 1 1 10.0.0.0 0.0.0.0 0 0 0 0 1\nend\nend\n",
+        "501 line 4",
+    ),
+    (
+        "once-refutation 1\npacket 1 1 10.0.0.0 0.0.0.0 0 0 0 0 1\nend",
+        "501 line 3",
+    ),
+];
+
+/// An exempt class that the meter counts.
+pub(crate) const EXEMPT: &str =
+    r#"{"classes":[{"name":"web","region":{"sourceIPv4Address":"10.0.0.0/8"},"paths":[[{"device":"m1","interface":"eth0","direction":"ingress"}]],"exempt":true}]}"#;
+
+const OF_EXEMPT: &[(&str, &str)] = &[(
+    "once-refutation 1\npacket 1 1 10.0.0.0 0.0.0.0 0 0 0 0 1\ncross 1 1 n\nexpire cache 1 1 1\narrive 1 1\nend\n",
+    "1 0 for 0",
+)];
+
+#[test]
+fn confirms_refutations(rt: HostRuntime) -> Result<(), Fail> {
+    for (network, traffic, refutations) in [
+        (NETWORK, TRAFFIC, REFUTATIONS),
+        (WITH_FALLBACK, TRAFFIC, OF_FALLBACK),
+        (NETWORK, EXEMPT, OF_EXEMPT),
+    ] {
+        let wrong = wrong_refutations(rt.alloc(), network, traffic, refutations)?;
+        assert_eq!(rt; wrong.as_str(), "");
+    }
+    Ok(())
+}
+
+/// A text with steps of all forms.
+const TEXT: &[u8] = b"once-refutation 1
+packet 1 2 10.0.0.1 192.0.2.255 6 1000 80 32 18446744073709551615
+cross 1 1 n 3
+cross 1 2
+expire cache 1 2 3 n
+expire aggregation 1 2 3 4 18446744073709551615 n
+arrive 5 6 7
+arrive 1 1
+end
+";
+
+#[test]
+fn writes_what_it_reads(rt: HostRuntime) -> Result<(), Fail> {
+    let mut lines = LineReader::new(rt.alloc(), Octets::new(TEXT))?;
+    let refutation = read_refutation(rt.alloc(), &mut lines)?;
+    let mut octets = [0; 512];
+    let mut room = Room::new(&mut octets);
+    put_refutation(&mut room, &refutation)?;
+    assert!(rt; room.octets() == TEXT);
+    Ok(())
+}
+
+#[test]
+fn the_laws_of_refutations() {
+    refutations_refute();
+    refutations_have_one_text();
+    run_lines_have_one_text();
+}
