@@ -69,8 +69,10 @@ run-rows:
 	python3 tests/rows.py ./once
 	python3 tests/long_certificates.py ./once
 	python3 tests/refused_growth.py ./once
+	python3 tests/generated_networks.py ./once
 
-# Replays the runs of the examples and checks their certificates, and compares with what they should print.
+# Replays the runs of the examples, checks their certificates and confirms their refutations, and compares with what
+# they should print; then has what an audit of each answers judged.
 examples: once run-examples
 
 run-examples:
@@ -82,6 +84,11 @@ run-examples:
 	  example=$$(dirname $$certificate); \
 	  ./once check $$example/network.json $$example/traffic.json $$certificate | diff - $$example/answer$${certificate##*/certificate} || exit 1; \
 	done
+	for refutation in examples/*/refutation*.txt; do \
+	  example=$$(dirname $$refutation); \
+	  ./once confirm $$example/network.json $$example/traffic.json $$refutation | diff - $$example/refuted$${refutation##*/refutation} || exit 1; \
+	done
+	python3 tests/generated_networks.py ./once --examples
 
 clean:
 	rm -rf out crates/*/out once

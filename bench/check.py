@@ -86,9 +86,9 @@ def collector(place, layouts):
     return process
 
 
-def chain(processes, layouts=0, ways=1, mode="parallel"):
-    """A meter and so many collecting processes behind it, four to a device. Each sends on to the next in so many ways;
-    the last one reports."""
+def chain(processes, layouts=0, ways=1, mode="parallel", first=0):
+    """A meter and so many collecting processes, four to a device. Each sends on to the next in so many ways; the last one
+    reports. The meter sends to the one at this place."""
     devices = []
     for number in range((processes + 3) // 4):
         places = range(4 * number, min(4 * number + 4, processes))
@@ -100,7 +100,7 @@ def chain(processes, layouts=0, ways=1, mode="parallel"):
         devices.append({"name": "d%d" % number, "config": {"ietf-ipfix-psamp:ipfix": lists}})
     link = lambda source, name, way, to: {
         "device": "d%d" % source, "exportingProcess": name, "destination": "d%d" % (way + 1), "toDevice": "d%d" % (to // 4), "toProcess": "in %d" % to}
-    links = [link(0, "metered", 0, 0)]
+    links = [link(0, "metered", 0, first)]
     links += [link(place // 4, "on %d" % place, way, place + 1) for place in range(processes - 1) for way in range(ways)]
     report = {"device": "d%d" % ((processes - 1) // 4), "collectingProcess": "in %d" % (processes - 1), "key": fields(32)}
     return {"devices": devices, "links": links, "report": report}
@@ -166,14 +166,15 @@ def per_line(checker):
     return max(figures) <= 1.3 * min(figures)
 
 
-def per_leaf(program, work, traffic, processes, layouts):
-    """The processor time of a leaf."""
-    network = document(work, "chain-%d-%d.json" % (processes, layouts), chain(processes, layouts))
-    checker, leaves = Checker(program, network, traffic, work), 1_001
+def per_leaf(program, work, traffic, processes, layouts, reached):
+    """The processor time of a leaf, where the path's records reach the last so many of the processes."""
+    first = processes - reached
+    network = document(work, "chain-%d-%d-%d.json" % (processes, layouts, first), chain(processes, layouts, first=first))
+    checker, leaves = Checker(program, network, traffic, work), 10_001
     start, whole = least_in_turns(3, [lambda: checked(checker.of(0))[1], lambda: checked(checker.of(leaves - 1))[1]])
     figure = (whole - start) / (leaves - 1)
-    print("%d processes, %d layouts: %.1f us a leaf, %.1f ns a process and layout" % (processes, layouts, figure * 1e6, figure * 1e9 / processes / layouts))
-    return figure / processes / layouts
+    print("%d processes of which the path reaches %d, %d layouts: %.2f us a leaf" % (processes, reached, layouts, figure * 1e6))
+    return figure
 
 
 def is_full(program, work, traffic):
@@ -185,9 +186,9 @@ def is_full(program, work, traffic):
     return said.startswith("refused 207")
 
 
-def by_table(program, work, traffic):
-    whole, fewer, narrower = (per_leaf(program, work, traffic, *size) for size in ((256, 64), (128, 64), (256, 32)))
-    return is_full(program, work, traffic) and whole <= 1.3 * min(fewer, narrower)
+def by_reach(program, work, traffic):
+    few, all_of_them = (per_leaf(program, work, traffic, 256, 64, reached) for reached in (4, 256))
+    return is_full(program, work, traffic) and few <= 20e-6 and all_of_them <= 200e-6
 
 
 def doublings(program, work, traffic):
@@ -209,7 +210,7 @@ def main(program, work):
         beside_mawk(checker),
         memory(checker),
         per_line(checker),
-        by_table(program, work, traffic),
+        by_reach(program, work, traffic),
         doublings(program, work, traffic),
     ]
     return 0 if all(done) else 1

@@ -8,10 +8,10 @@
 # - the processor time per line, from 1,000 to 1,000,000 lines of splits and leaves: the greatest at most 1.3 times the
 #   least. The least of many runs each, in turns, from which the least of as many runs with a certificate of one leaf is
 #   taken away, so the start of the process and the reading of the documents don't count;
-# - the processor time per leaf in a network of 256 collecting processes, one behind the other, and 64 layouts: per process
-#   and layout at most 1.3 times as much as with half the processes, or with half the layouts. And 63 processes that each
-#   send on twice, so that there are 2 to the 63 ways, take at most 0.1 s, whether each packet goes all ways (408) or one
-#   of them.
+# - the processor time per leaf in a network of 256 collecting processes, one behind the other, and 64 layouts: at most 20
+#   us where the path's records reach the last four of them, and at most 200 us where they reach all. And 63 processes
+#   that each send on twice, so that there are 2 to the 63 ways, take at most 0.1 s, whether each packet goes all ways (408)
+#   or one of them.
 set -eu
 cd "$(dirname "$0")/.."
 work=$(mktemp -d)

@@ -27,6 +27,8 @@ COMMANDS = [
     ("`fx_audit::check_bytes`", [("fx_audit", "check_bytes", [])]),
     ("`fx_audit::replay_bytes`", [("fx_audit", "replay_bytes", [])]),
     ("`fx_audit::collect_bytes`", [("fx_audit", "collect_bytes", [])]),
+    ("`fx_audit::confirm_bytes`", [("fx_audit", "confirm_bytes", [])]),
+    ("`fx_audit::audit_bytes`", [("fx_audit", "audit_bytes", [])]),
     ("`fx_audit::bundle_bytes`", [("fx_audit", "bundle_bytes", [])]),
     ("`answer_words`, a private function of `fx_cli`: from the words to the exit status", [("fx_cli", "answer_words", [])]),
 ]

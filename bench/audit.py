@@ -1,0 +1,102 @@
+"""What bench/audit.sh runs: audit.py PROGRAM FOLDER, the folder for documents and answers."""
+import os
+import sys
+
+from check import busy, chain, document, least_in_turns, one_class, run
+
+FILTERS = 125
+
+
+def metered(processes):
+    """A meter of so many filters, each for another port, and a process that selects all, which alone is collected."""
+    fields = [{"name": "s", "ieName": "sourceIPv4Address", "isFlowKey": [None]}, {"name": "o", "ieId": 1}, {"name": "p", "ieId": 2}]
+    layout = {"cacheLayout": {"cacheField": fields}}
+    by_port = lambda k: {"name": "port", "filterMatch": {"ieName": "destinationTransportPort", "value": str(2 * k + 1)}}
+    names = ["all"] + ["port %d" % k for k in range(processes)]
+    selections = [{"name": "all", "selector": [{"name": "a", "selectAll": [None]}], "cache": "counted"}]
+    selections += [{"name": "port %d" % k, "selector": [by_port(k)], "cache": "lost"} for k in range(processes)]
+    caches = [{"name": "counted", "timeoutCache": layout, "exportingProcess": ["out"]}, {"name": "lost", "timeoutCache": layout}]
+    lists = {
+        "observationPoint": [{"name": "op", "observationDomainId": 0, "ifName": ["eth0"], "selectionProcess": names}],
+        "selectionProcess": selections,
+        "cache": caches,
+        "exportingProcess": [{"name": "out", "destination": [{"name": "d1", "tcpExporter": {}}]}],
+    }
+    collector = {"collectingProcess": [{"name": "in"}]}
+    devices = [{"name": name, "config": {"ietf-ipfix-psamp:ipfix": it}} for name, it in (("d0", lists), ("d1", collector))]
+    link = {"device": "d0", "exportingProcess": "out", "destination": "d1", "toDevice": "d1", "toProcess": "in"}
+    return {"devices": devices, "links": [link], "report": {"device": "d1", "collectingProcess": "in", "key": [{"ieName": "sourceIPv4Address"}]}}
+
+
+def paths(count):
+    """A declaration of so many paths, at most 16 to a class."""
+    path = [{"device": "d0", "interface": "eth0", "direction": "ingress"}]
+    sizes = [16] * (count // 16) + ([count % 16] if count % 16 else [])
+    return {"classes": [{"name": "class %d" % k, "paths": [path] * size} for k, size in enumerate(sizes)]}
+
+
+def answered(words, status, begins, to=None):
+    """The processor time of a call that ends with this status, its answer beginning so."""
+    before = busy()
+    _, _, said, code = run(words)
+    taken = busy() - before
+    if code != status or not said.startswith(begins):
+        sys.exit("%s: printed %r, status %d" % (" ".join(words), said[:200], code))
+    if to:
+        with open(to, "w") as file:
+            file.write(said)
+    return taken
+
+
+def per_line(program, work):
+    network = document(work, "filters.json", metered(FILTERS))
+    lines, figures, right = 4 * FILTERS + 1, [], True
+    for count, rounds in ((2, 60), (20, 30), (200, 10), (1_996, 3)):
+        traffic, found = document(work, "paths-%d.json" % count, paths(count)), os.path.join(work, "found-%d.txt" % count)
+        audit, check = [program, "audit", network, traffic], [program, "check", network, traffic, found]
+        answered(audit, 0, "once-certificate 1\n", found)
+        ours, theirs = least_in_turns(rounds, [lambda: answered(audit, 0, "once-certificate 1\n"), lambda: answered(check, 0, "yes\n")])
+        figures.append(ours / (count * lines))
+        print("%9d lines: %5.0f ns a line, check %5.0f ns, %.2f times" % (count * lines, figures[-1] * 1e9, theirs * 1e9 / (count * lines), ours / theirs))
+        right = right and ours <= 2 * theirs
+    print("per line: %.2f times" % (max(figures[1:]) / min(figures[1:])))
+    return right and max(figures[1:]) <= 1.3 * min(figures[1:])
+
+
+def large(program, work, traffic):
+    network = document(work, "chain.json", chain(256, 64))
+    taken = least_in_turns(5, [lambda: answered([program, "audit", network, traffic], 0, "once-certificate 1\n")])[0]
+    print("256 processes, 64 layouts: %.4f s" % taken)
+    return taken <= 0.1
+
+
+def doublings(program, work, traffic):
+    right = True
+    for processes in (20, 64):
+        network = document(work, "doublings-%d.json" % processes, chain(processes, 0, 2))
+        taken = least_in_turns(5, [lambda: answered([program, "audit", network, traffic], 3, "unknown 601\n")])[0]
+        print("%d doublings: %.4f s" % (processes - 1, taken))
+        right = right and taken <= 0.1
+    return right
+
+
+def refuted(program, work, traffic):
+    network, found = document(work, "refuted.json", chain(19, 0, 2)), os.path.join(work, "refutation.txt")
+    audit, confirm = [program, "audit", network, traffic], [program, "confirm", network, traffic, found]
+    answered(audit, 1, "once-refutation ", found)
+    ours, theirs = least_in_turns(3, [lambda: answered(audit, 1, "once-refutation "), lambda: answered(confirm, 0, "refuted\n")])
+    with open(found) as file:
+        steps = sum(1 for _ in file) - 3
+    print("a refutation of %d steps: written in %.2f s, confirmed in %.2f s" % (steps, ours, theirs))
+    return ours + theirs <= 3
+
+
+def main(program, work):
+    program = os.path.abspath(program)
+    traffic = one_class(work)
+    done = [per_line(program, work), large(program, work, traffic), doublings(program, work, traffic), refuted(program, work, traffic)]
+    return 0 if all(done) else 1
+
+
+if __name__ == "__main__":
+    sys.exit(main(*sys.argv[1:]))
