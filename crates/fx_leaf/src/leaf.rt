@@ -47,13 +47,10 @@ fn leaf_of(told: Result<Told, (Axis, u128)>) -> Result<Counted, Fault>
     ensures err { IfErr told (λ s. result ≡ Err (leaves.fault_of None)) }
 {
     match told {
-        Ok(
-            Told {
-                fate: Fate::Once,
-                counted,
-            },
-        ) => counted.ok_or(Fault::bare(407)),
-        Ok(Told { fate, .. }) => Err(fault_of(fate)),
+        Ok(told) => match told.fate {
+            Fate::Once => told.counted.ok_or(Fault::bare(407)),
+            fate => Err(fault_of(fate)),
+        },
         Err(_) => Err(Fault::bare(406)),
     }
 }
@@ -64,19 +61,11 @@ fn never_of(told: Result<Told, (Axis, u128)>) -> Result<(), Fault>
     ensures err { IfErr told (λ s. result ≡ Err (leaves.fault_of None)) }
 {
     match told {
-        Ok(
-            Told {
-                fate: Fate::Never,
-                ..
-            },
-        ) => Ok(()),
-        Ok(
-            Told {
-                fate: Fate::Once,
-                ..
-            },
-        ) => Err(Fault::bare(415)),
-        Ok(Told { fate, .. }) => Err(fault_of(fate)),
+        Ok(told) => match told.fate {
+            Fate::Never => Ok(()),
+            Fate::Once => Err(Fault::bare(415)),
+            fate => Err(fault_of(fate)),
+        },
         Err(_) => Err(Fault::bare(406)),
     }
 }
