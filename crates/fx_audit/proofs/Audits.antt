@@ -47,11 +47,11 @@ audit_unread left_n left_t e M N T W h =
       | inr (inr (inr f)) ↦ inr (inr (inr (inr f)))
     ]
 
-text_told : (network : Network) (classes : List Class) (limit : ℕ) (a : Answer) (text : List ℕ) → IsAuditedIn network classes limit a text → IsAuditText a text
-text_told network classes limit Yes text h = (h.items, h.text_is)
-text_told network classes limit No text h = (h.refutation, h.text_is)
-text_told network classes limit Unknown text h = h.text_is
+pub audit_text : (network : Network) (classes : List Class) (limit : ℕ) (a : Answer) (text : List ℕ) → IsAuditedIn network classes limit a text → IsAuditText a text
+audit_text network classes limit Yes text h = (h.items, h.text_is)
+audit_text network classes limit No text h = (h.refutation, h.text_is)
+audit_text network classes limit Unknown text h = h.text_is
 
 pub audit_told : (network : Network) (classes : List Class) (limit : ℕ) (W : List ℕ → Type 0) (result : Result Answer Fault) → IfOk result (λ a. (text : List ℕ) × IsAuditedIn network classes limit a text × W text) → IfOk result (λ a. (text : List ℕ) × IsAuditText a text × W text)
 audit_told network classes limit W (Err e) h = tt
-audit_told network classes limit W (Ok a) h = (h.0, text_told network classes limit a h.0 h.1, h.2)
+audit_told network classes limit W (Ok a) h = (h.0, audit_text network classes limit a h.0 h.1, h.2)

@@ -6,6 +6,7 @@ use Rattle.fx_base.specs.declared.fault.Place.TheVariants as places
 use Rattle.fx_base.specs.Fault.{fault_at}
 use Rattle.fx_base.specs.Device.{MayBeLeft, MayHaveLeft}
 use Rattle.fx_base.specs.Lines.{Lines, lines_in, new_lines}
+use Rattle.fx_check.specs.Verdict.{line_limit}
 use Rattle.fx_machine.specs.Network.{Net}
 use Rattle.fx_machine.specs.Classes.{Class}
 use Rattle.fx_machine.specs.RunText.{Run}
@@ -15,10 +16,10 @@ use Rattle.fx_plan.specs.Tables.{net_of}
 use Rattle.fx_audit.specs.declared.answer.Answer.{Answer}
 use Rattle.fx_audit.specs.declared.answer.Answer.TheVariants.{Yes}
 use Rattle.fx_audit.specs.declared.bundle.Command.{Command}
-use Rattle.fx_audit.specs.declared.bundle.Command.TheVariants.{Replay, Check, Confirm}
+use Rattle.fx_audit.specs.declared.bundle.Command.TheVariants.{Audit, Replay, Check, Confirm}
 use Rattle.fx_audit.specs.Bundle.{IsBundle}
 use Rattle.fx_audit.specs.Documents.{IsNetwork, IsRefusedByDocuments, IsTraffic, ReadFails}
-use Rattle.fx_audit.specs.Commands.{IsChecked, IsConfirmed, IsDone, IsRefusedBundle, IsRefusedBy, IsRefusedReplay, IsRefusedRun, IsRefusedThere, IsReplayed, IsReplayedIn}
+use Rattle.fx_audit.specs.Commands.{IsAudited, IsChecked, IsConfirmed, IsDone, IsRefusedBundle, IsRefusedBy, IsRefusedReplay, IsRefusedRun, IsRefusedThere, IsReplayed, IsReplayedIn}
 use Rattle.fx_audit.specs.Replay.{IsRefused}
 use Rattle.fx_audit.proofs.Documents.{both_mapped, both_told, told}
 
@@ -82,43 +83,66 @@ lines_too_long text new e none (inl stopped) = absurd (cc)
 lines_too_long text new e none (inr (is, inl f)) = absurd (false≢true (sym none ∙ f))
 lines_too_long text new e none (inr (is, inr (all, asks, long))) = (is, omega (arith, long))
 
-pub there_refused : (command actual : Command) (left_n left_t : Option (List ℕ)) (n t third : List ℕ) (before_n after_n before_t after_t : ℕ) (failed_n failed_t : Bool) (old new : Lines) (W : Fault → Type 0) (result : Result Answer Fault) → actual ≡ command → left_n ≡ Some n → left_t ≡ Some t → failed_n ≡ false → failed_t ≡ false → new.failed ≡ false → old ≡ lines_in third
+pub there_refused : (command : Command) (left_n left_t : Option (List ℕ)) (n t third : List ℕ) (before_n after_n before_t after_t : ℕ) (failed_n failed_t : Bool) (old new : Lines) (W : Fault → Type 0) (result : Result Answer Fault) → left_n ≡ Some n → left_t ≡ Some t → failed_n ≡ false → failed_t ≡ false → new.failed ≡ false → old ≡ lines_in third
     → IfErr result (λ e. (e ≡ fault_at 900 places.None) ⊎ (ReadFails left_n before_n after_n failed_n e ⊎ (ReadFails left_t before_t after_t failed_t e ⊎ (Fails old new e ⊎ (W e ⊎ MayHaveLeft left_n (λ x. MayHaveLeft left_t (λ y. IsRefusedBy command x y old e)))))))
-    → IfErr result (λ e. (e ≡ fault_at 900 places.None) ⊎ (W e ⊎ IsRefusedThere actual n t third e))
-there_refused command actual left_n left_t n t third before_n after_n before_t after_t failed_n failed_t old new W (Ok a) same en et fn ft fl is h = cc
-there_refused command actual left_n left_t n t third before_n after_n before_t after_t failed_n failed_t old new W (Err e) same en et fn ft fl is h =
+    → IfErr result (λ e. (e ≡ fault_at 900 places.None) ⊎ (W e ⊎ IsRefusedThere command n t third e))
+there_refused command left_n left_t n t third before_n after_n before_t after_t failed_n failed_t old new W (Ok a) en et fn ft fl is h = cc
+there_refused command left_n left_t n t third before_n after_n before_t after_t failed_n failed_t old new W (Err e) en et fn ft fl is h =
     elim h [
       | inl m ↦ inl m
       | inr (inl f) ↦ let k = too_long left_n n before_n after_n failed_n e en fn f in inr (inr (inr (k.0, inl k.1)))
       | inr (inr (inl f)) ↦ let k = too_long left_t t before_t after_t failed_t e et ft f in inr (inr (inr (k.0, inr (inl k.1))))
       | inr (inr (inr (inl f))) ↦ let k = lines_too_long third new e fl (subst (λ (l : Lines). Fails l new e) is f) in inr (inr (inr (k.0, inr (inr k.1))))
       | inr (inr (inr (inr (inl w)))) ↦ inr (inl w)
-      | inr (inr (inr (inr (inr r)))) ↦ inr (inr (inl (subst (λ (k : Command). IsRefusedBy k n t (lines_in third) e) (sym same) (subst (λ (l : Lines). IsRefusedBy command n t l e) is (of_told left_n left_t n t (λ x y. IsRefusedBy command x y old e) en et r)))))
+      | inr (inr (inr (inr (inr r)))) ↦ inr (inr (inl (subst (λ (l : Lines). IsRefusedBy command n t l e) is (of_told left_n left_t n t (λ x y. IsRefusedBy command x y old e) en et r))))
     ]
 
 -- what a replay has done, a bundle's replay has done
-pub replay_there : (actual : Command) (left_n left_t : Option (List ℕ)) (n t : List ℕ) (old new : Lines) (W : List ℕ → Type 0) (result : Result Answer Fault) → actual ≡ Replay → left_n ≡ Some n → left_t ≡ Some t → old ≡ new → IfOk result (λ a. (a ≡ Yes) × MayHaveLeft left_n (λ x. MayHaveLeft left_t (λ y. (text : List ℕ) × IsReplayed x y old text × W text))) → IfOk result (λ a. (text : List ℕ) × IsDone actual n t new a text × W text)
-replay_there actual left_n left_t n t old new W (Err e) same en et is h = tt
-replay_there actual left_n left_t n t old new W (Ok a) same en et is h =
+pub replay_there : (left_n left_t : Option (List ℕ)) (n t : List ℕ) (old new : Lines) (W : List ℕ → Type 0) (result : Result Answer Fault) → left_n ≡ Some n → left_t ≡ Some t → old ≡ new → IfOk result (λ a. (a ≡ Yes) × MayHaveLeft left_n (λ x. MayHaveLeft left_t (λ y. (text : List ℕ) × IsReplayed x y old text × W text))) → IfOk result (λ a. (text : List ℕ) × IsDone Replay n t new a text × W text)
+replay_there left_n left_t n t old new W (Err e) en et is h = tt
+replay_there left_n left_t n t old new W (Ok a) en et is h =
     let there = of_told left_n left_t n t (λ x y. (text : List ℕ) × IsReplayed x y old text × W text) en et h.1 in
     let replayed : IsReplayed n t new there.0 = subst (λ (l : Lines). IsReplayed n t l there.0) is there.1 in
-    (there.0, subst (λ (k : Command). IsDone k n t new a there.0) (sym same) (h.0, replayed), there.2)
+    (there.0, (h.0, replayed), there.2)
 
 -- so has its check
-pub check_there : (actual : Command) (left_n left_t : Option (List ℕ)) (n t : List ℕ) (old new : Lines) (W : List ℕ → Type 0) (result : Result Answer Fault) → actual ≡ Check → left_n ≡ Some n → left_t ≡ Some t → old ≡ new → IfOk result (λ a. MayHaveLeft left_n (λ x. MayHaveLeft left_t (λ y. (text : List ℕ) × IsChecked x y old a text × W text))) → IfOk result (λ a. (text : List ℕ) × IsDone actual n t new a text × W text)
-check_there actual left_n left_t n t old new W (Err e) same en et is h = tt
-check_there actual left_n left_t n t old new W (Ok a) same en et is h =
+pub check_there : (left_n left_t : Option (List ℕ)) (n t : List ℕ) (old new : Lines) (W : List ℕ → Type 0) (result : Result Answer Fault) → left_n ≡ Some n → left_t ≡ Some t → old ≡ new → IfOk result (λ a. MayHaveLeft left_n (λ x. MayHaveLeft left_t (λ y. (text : List ℕ) × IsChecked x y old a text × W text))) → IfOk result (λ a. (text : List ℕ) × IsDone Check n t new a text × W text)
+check_there left_n left_t n t old new W (Err e) en et is h = tt
+check_there left_n left_t n t old new W (Ok a) en et is h =
     let there = of_told left_n left_t n t (λ x y. (text : List ℕ) × IsChecked x y old a text × W text) en et h in
     let checked : IsChecked n t new a there.0 = subst (λ (l : Lines). IsChecked n t l a there.0) is there.1 in
-    (there.0, subst (λ (k : Command). IsDone k n t new a there.0) (sym same) checked, there.2)
+    (there.0, checked, there.2)
 
 -- and its confirmation
-pub confirm_there : (actual : Command) (left_n left_t : Option (List ℕ)) (n t : List ℕ) (old new : Lines) (W : List ℕ → Type 0) (result : Result Answer Fault) → actual ≡ Confirm → left_n ≡ Some n → left_t ≡ Some t → old ≡ new → IfOk result (λ a. MayHaveLeft left_n (λ x. MayHaveLeft left_t (λ y. (text : List ℕ) × IsConfirmed x y old a text × W text))) → IfOk result (λ a. (text : List ℕ) × IsDone actual n t new a text × W text)
-confirm_there actual left_n left_t n t old new W (Err e) same en et is h = tt
-confirm_there actual left_n left_t n t old new W (Ok a) same en et is h =
+pub confirm_there : (left_n left_t : Option (List ℕ)) (n t : List ℕ) (old new : Lines) (W : List ℕ → Type 0) (result : Result Answer Fault) → left_n ≡ Some n → left_t ≡ Some t → old ≡ new → IfOk result (λ a. MayHaveLeft left_n (λ x. MayHaveLeft left_t (λ y. (text : List ℕ) × IsConfirmed x y old a text × W text))) → IfOk result (λ a. (text : List ℕ) × IsDone Confirm n t new a text × W text)
+confirm_there left_n left_t n t old new W (Err e) en et is h = tt
+confirm_there left_n left_t n t old new W (Ok a) en et is h =
     let there = of_told left_n left_t n t (λ x y. (text : List ℕ) × IsConfirmed x y old a text × W text) en et h in
     let confirmed : IsConfirmed n t new a there.0 = subst (λ (l : Lines). IsConfirmed n t l a there.0) is there.1 in
-    (there.0, subst (λ (k : Command). IsDone k n t new a there.0) (sym same) confirmed, there.2)
+    (there.0, confirmed, there.2)
+
+-- and its audit
+pub audit_there : (left_n left_t : Option (List ℕ)) (n t : List ℕ) (lines : Lines) (W : List ℕ → Type 0) (result : Result Answer Fault) → left_n ≡ Some n → left_t ≡ Some t → IfOk result (λ a. MayHaveLeft left_n (λ x. MayHaveLeft left_t (λ y. (text : List ℕ) × IsAudited x y line_limit a text × W text))) → IfOk result (λ a. (text : List ℕ) × IsDone Audit n t lines a text × W text)
+audit_there left_n left_t n t lines W (Err e) en et h = tt
+audit_there left_n left_t n t lines W (Ok a) en et h = of_told left_n left_t n t (λ x y. (text : List ℕ) × IsAudited x y line_limit a text × W text) en et h
+
+pub audit_there_refused : (left_n left_t : Option (List ℕ)) (n t third : List ℕ) (before_n after_n before_t after_t : ℕ) (failed_n failed_t : Bool) (W : Fault → Type 0) (result : Result Answer Fault) → left_n ≡ Some n → left_t ≡ Some t → failed_n ≡ false → failed_t ≡ false
+    → IfErr result (λ e. (e ≡ fault_at 900 places.None) ⊎ (ReadFails left_n before_n after_n failed_n e ⊎ (ReadFails left_t before_t after_t failed_t e ⊎ (W e ⊎ MayHaveLeft left_n (λ x. MayHaveLeft left_t (λ y. IsRefusedByDocuments x y e))))))
+    → IfErr result (λ e. (e ≡ fault_at 900 places.None) ⊎ (W e ⊎ IsRefusedThere Audit n t third e))
+audit_there_refused left_n left_t n t third before_n after_n before_t after_t failed_n failed_t W (Ok a) en et fn ft h = cc
+audit_there_refused left_n left_t n t third before_n after_n before_t after_t failed_n failed_t W (Err e) en et fn ft h =
+    elim h [
+      | inl m ↦ inl m
+      | inr (inl f) ↦ let k = too_long left_n n before_n after_n failed_n e en fn f in inr (inr (inr (k.0, inl k.1)))
+      | inr (inr (inl f)) ↦ let k = too_long left_t t before_t after_t failed_t e et ft f in inr (inr (inr (k.0, inr (inl k.1))))
+      | inr (inr (inr (inl w))) ↦ inr (inl w)
+      | inr (inr (inr (inr r))) ↦ inr (inr (inl (of_told left_n left_t n t (λ x y. IsRefusedByDocuments x y e) en et r)))
+    ]
+
+-- what one command is refused for, a bundle of that command is refused for
+pub refused_by : (actual command : Command) (n t third : List ℕ) (W : Fault → Type 0) (result : Result Answer Fault) → actual ≡ command → IfErr result (λ e. (e ≡ fault_at 900 places.None) ⊎ (W e ⊎ IsRefusedThere command n t third e)) → IfErr result (λ e. (e ≡ fault_at 900 places.None) ⊎ (W e ⊎ IsRefusedThere actual n t third e))
+refused_by actual command n t third W result same h =
+    subst (λ (k : Command). IfErr result (λ e. (e ≡ fault_at 900 places.None) ⊎ (W e ⊎ IsRefusedThere k n t third e))) (sym same) h
 
 pub bundle_done : (left : Option (List ℕ)) (octets text : List ℕ) (command : Command) (n t third : List ℕ) (W : List ℕ → Type 0) (result : Result Answer Fault) → MayBeLeft left octets → text ≡ octets → IsBundle text command n t third → IfOk result (λ a. (out : List ℕ) × IsDone command n t (lines_in third) a out × W out) → IfOk result (λ a. MayHaveLeft left (λ o. (command' : Command) × (network : List ℕ) × (traffic : List ℕ) × (last : List ℕ) × (out : List ℕ) × IsBundle o command' network traffic last × IsDone command' network traffic (lines_in last) a out × W out))
 bundle_done left octets text command n t third W (Err e) same is b h = cc

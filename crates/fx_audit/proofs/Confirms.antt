@@ -15,7 +15,7 @@ use Rattle.fx_audit.specs.Checks.{no_line}
 use Rattle.fx_audit.specs.Commands.{IsConfirmed, IsRefusedConfirm}
 use Rattle.fx_audit.specs.Confirms.{IsConfirmedIn, IsNo, IsRefusedOtherwise, IsRefusedRefutation, IsRefuted, IsYes, RefutesNothing, refuted_text}
 use Rattle.fx_audit.specs.Documents.{IsNetwork, IsRefusedByDocuments, IsTraffic}
-use Rattle.fx_audit.specs.Texts.{IsBundleText, IsConfirmText}
+use Rattle.fx_audit.specs.Texts.{IsConfirmText}
 use Rattle.fx_audit.proofs.Documents.{both_mapped, both_told}
 
 -- ---- two documents and a refutation
@@ -106,7 +106,3 @@ confirm_text network classes lines Unknown text h = absurd h
 pub confirm_told : (network : Network) (classes : List Class) (lines : Lines) (W : List ℕ → Type 0) (result : Result Answer Fault) → IfOk result (λ a. (text : List ℕ) × IsConfirmedIn network classes lines a text × W text) → IfOk result (λ a. (text : List ℕ) × IsConfirmText a text × W text)
 confirm_told network classes lines W (Err e) h = tt
 confirm_told network classes lines W (Ok a) h = (h.0, confirm_text network classes lines a h.0 h.1, h.2)
-
-pub told_in_bundle : (W : List ℕ → Type 0) (result : Result Answer Fault) → IfOk result (λ a. (text : List ℕ) × IsConfirmText a text × W text) → IfOk result (λ a. (text : List ℕ) × IsBundleText a text × W text)
-told_in_bundle W (Err e) h = tt
-told_in_bundle W (Ok a) h = (h.0, inr (inr h.1), h.2)

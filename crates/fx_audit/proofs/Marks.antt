@@ -4,8 +4,8 @@ use Rattle.std.proofs.lemmas.List.{length-drop, length-take, length-take-le, tak
 use Rattle.std.proofs.Math.Seq.{drop-drop}
 use Rattle.std.proofs.lemmas.Slice.Eq.{bytes_eq-Decides}
 use Rattle.fx_audit.specs.declared.bundle.Command.{Command}
-use Rattle.fx_audit.specs.declared.bundle.Command.TheVariants.{Replay, Check, Confirm}
-use Rattle.fx_audit.specs.Bundle.{mark, begins_line, is_mark_at, FirstText, HasNoMark, command_line, IsBundle}
+use Rattle.fx_audit.specs.declared.bundle.Command.TheVariants.{Audit, Replay, Check, Confirm}
+use Rattle.fx_audit.specs.Bundle.{mark, begins_line, is_mark_at, FirstText, HasNoMark, ThirdText, command_line, IsBundle}
 
 both : (a b : Bool) → (a && b) ≡ true → (a ≡ true) × (b ≡ true)
 both true true h = (refl, refl)
@@ -77,38 +77,64 @@ no_text bytes text rest h f = let no : is_mark_at bytes (length text) ≡ false 
 
 -- ---- there is one bundle at most
 
-one_command : (a b : Command) (r s : List ℕ) → command_line a ++ r ≡ command_line b ++ s → r ≡ s
-one_command Replay Replay r s e = ap (λ (bs : List ℕ). drop 7 bs) e
-one_command Check Check r s e = ap (λ (bs : List ℕ). drop 6 bs) e
-one_command Confirm Confirm r s e = ap (λ (bs : List ℕ). drop 8 bs) e
-one_command Confirm Replay r s e = let first : 99 ≡ 114 = ap (λ (bs : List ℕ). slice_index bs 0) e in absurd (omega (arith, first))
-one_command Replay Confirm r s e = let first : 114 ≡ 99 = ap (λ (bs : List ℕ). slice_index bs 0) e in absurd (omega (arith, first))
-one_command Confirm Check r s e = let second : 111 ≡ 104 = ap (λ (bs : List ℕ). slice_index bs 1) e in absurd (omega (arith, second))
-one_command Check Confirm r s e = let second : 104 ≡ 111 = ap (λ (bs : List ℕ). slice_index bs 1) e in absurd (omega (arith, second))
-one_command Replay Check r s e = let first : 114 ≡ 99 = ap (λ (bs : List ℕ). slice_index bs 0) e in absurd (omega (arith, first))
-one_command Check Replay r s e = let first : 99 ≡ 114 = ap (λ (bs : List ℕ). slice_index bs 0) e in absurd (omega (arith, first))
+-- two octets at one place differ
+differ : (place m n : ℕ) (one two : List ℕ) → one ≡ two → slice_index one place ≡ m → slice_index two place ≡ n → (m ≡ n → ⊥) → ⊥
+differ place m n one two same is_m is_n other = other (sym is_m ∙ (ap (λ (bs : List ℕ). slice_index bs place) same ∙ is_n))
 
-pub behind_network : (bytes r0 r1 network n t h : List ℕ) (a b : Command) → bytes ≡ command_line a ++ r0 → FirstText r0 network r1 → IsBundle bytes b n t h → (r2 : List ℕ) × FirstText r1 t r2 × FirstText r2 h []
+one_command : (a b : Command) (r s : List ℕ) → command_line a ++ r ≡ command_line b ++ s → (a ≡ b) × (r ≡ s)
+one_command Replay Replay r s e = (refl, ap (λ (bs : List ℕ). drop 7 bs) e)
+one_command Check Check r s e = (refl, ap (λ (bs : List ℕ). drop 6 bs) e)
+one_command Confirm Confirm r s e = (refl, ap (λ (bs : List ℕ). drop 8 bs) e)
+one_command Audit Audit r s e = (refl, ap (λ (bs : List ℕ). drop 6 bs) e)
+one_command Replay Check r s e = absurd (differ 0 114 99 _ _ e refl refl (λ same. omega (arith, same)))
+one_command Replay Confirm r s e = absurd (differ 0 114 99 _ _ e refl refl (λ same. omega (arith, same)))
+one_command Replay Audit r s e = absurd (differ 0 114 97 _ _ e refl refl (λ same. omega (arith, same)))
+one_command Check Replay r s e = absurd (differ 0 99 114 _ _ e refl refl (λ same. omega (arith, same)))
+one_command Check Confirm r s e = absurd (differ 1 104 111 _ _ e refl refl (λ same. omega (arith, same)))
+one_command Check Audit r s e = absurd (differ 0 99 97 _ _ e refl refl (λ same. omega (arith, same)))
+one_command Confirm Replay r s e = absurd (differ 0 99 114 _ _ e refl refl (λ same. omega (arith, same)))
+one_command Confirm Check r s e = absurd (differ 1 111 104 _ _ e refl refl (λ same. omega (arith, same)))
+one_command Confirm Audit r s e = absurd (differ 0 99 97 _ _ e refl refl (λ same. omega (arith, same)))
+one_command Audit Replay r s e = absurd (differ 0 97 114 _ _ e refl refl (λ same. omega (arith, same)))
+one_command Audit Check r s e = absurd (differ 0 97 99 _ _ e refl refl (λ same. omega (arith, same)))
+one_command Audit Confirm r s e = absurd (differ 0 97 99 _ _ e refl refl (λ same. omega (arith, same)))
+
+-- what stands behind the third text is the same for each that is one
+one_rest : (command : Command) (bytes one two behind_one behind_two : List ℕ) → ThirdText command bytes one behind_one → ThirdText command bytes two behind_two → behind_one ≡ behind_two
+one_rest Replay bytes one two r s f g = (one_text bytes one two r s f g).1
+one_rest Check bytes one two r s f g = (one_text bytes one two r s f g).1
+one_rest Confirm bytes one two r s f g = (one_text bytes one two r s f g).1
+one_rest Audit bytes one two r s f g = f.1 ∙ sym g.1
+
+-- where no line is a mark, there is no third text of a command that has one
+pub no_third_text : (command : Command) (bytes text rest : List ℕ) → (command ≡ Audit → ⊥) → HasNoMark bytes → ThirdText command bytes text rest → ⊥
+no_third_text Replay bytes text rest has none f = no_text bytes text rest none f
+no_third_text Check bytes text rest has none f = no_text bytes text rest none f
+no_third_text Confirm bytes text rest has none f = no_text bytes text rest none f
+no_third_text Audit bytes text rest has none f = has refl
+
+pub behind_network : (bytes r0 r1 network n t h : List ℕ) (a b : Command) → bytes ≡ command_line a ++ r0 → FirstText r0 network r1 → IsBundle bytes b n t h → (r2 : List ℕ) × FirstText r1 t r2 × ThirdText a r2 h []
 behind_network bytes r0 r1 network n t h a b line f i =
-    let same : i.behind_command ≡ r0 = one_command b a _ _ (sym i.line ∙ line) in
-    let own : FirstText r0 n i.behind_network = subst (λ (bs : List ℕ). FirstText bs n i.behind_network) same i.first in
+    let same = one_command b a _ _ (sym i.line ∙ line) in
+    let own : FirstText r0 n i.behind_network = subst (λ (bs : List ℕ). FirstText bs n i.behind_network) same.1 i.first in
     let rest : i.behind_network ≡ r1 = (one_text r0 n network i.behind_network r1 own f).1 in
-    (i.behind_traffic, subst (λ (bs : List ℕ). FirstText bs t i.behind_traffic) rest i.second, i.last)
+    let last : ThirdText a i.behind_traffic h [] = subst (λ (k : Command). ThirdText k i.behind_traffic h []) same.0 i.last in
+    (i.behind_traffic, subst (λ (bs : List ℕ). FirstText bs t i.behind_traffic) rest i.second, last)
 
 pub no_traffic : (bytes r0 r1 network n t h : List ℕ) (a b : Command) → bytes ≡ command_line a ++ r0 → FirstText r0 network r1 → HasNoMark r1 → IsBundle bytes b n t h → ⊥
 no_traffic bytes r0 r1 network n t h a b line f none i =
     let rest = behind_network bytes r0 r1 network n t h a b line f i in no_text r1 t rest.0 none rest.1
 
-pub behind_traffic : (bytes r0 r1 r2 network traffic n t h : List ℕ) (a b : Command) → bytes ≡ command_line a ++ r0 → FirstText r0 network r1 → FirstText r1 traffic r2 → IsBundle bytes b n t h → FirstText r2 h []
+pub behind_traffic : (bytes r0 r1 r2 network traffic n t h : List ℕ) (a b : Command) → bytes ≡ command_line a ++ r0 → FirstText r0 network r1 → FirstText r1 traffic r2 → IsBundle bytes b n t h → ThirdText a r2 h []
 behind_traffic bytes r0 r1 r2 network traffic n t h a b line f g i =
     let rest = behind_network bytes r0 r1 network n t h a b line f i in
     let same : rest.0 ≡ r2 = (one_text r1 t traffic rest.0 r2 rest.1 g).1 in
-    subst (λ (bs : List ℕ). FirstText bs h []) same rest.2
+    subst (λ (bs : List ℕ). ThirdText a bs h []) same rest.2
 
-pub no_third : (bytes r0 r1 r2 network traffic n t h : List ℕ) (a b : Command) → bytes ≡ command_line a ++ r0 → FirstText r0 network r1 → FirstText r1 traffic r2 → HasNoMark r2 → IsBundle bytes b n t h → ⊥
+pub no_third : (bytes r0 r1 r2 network traffic n t h : List ℕ) (a b : Command) → bytes ≡ command_line a ++ r0 → FirstText r0 network r1 → FirstText r1 traffic r2 → ((text : List ℕ) (rest : List ℕ) → ThirdText a r2 text rest → ⊥) → IsBundle bytes b n t h → ⊥
 no_third bytes r0 r1 r2 network traffic n t h a b line f g none i =
-    no_text r2 h [] none (behind_traffic bytes r0 r1 r2 network traffic n t h a b line f g i)
+    none h [] (behind_traffic bytes r0 r1 r2 network traffic n t h a b line f g i)
 
-pub nothing_behind : (bytes r0 r1 r2 r3 network traffic third n t h : List ℕ) (a b : Command) → bytes ≡ command_line a ++ r0 → FirstText r0 network r1 → FirstText r1 traffic r2 → FirstText r2 third r3 → IsBundle bytes b n t h → r3 ≡ []
+pub nothing_behind : (bytes r0 r1 r2 r3 network traffic third n t h : List ℕ) (a b : Command) → bytes ≡ command_line a ++ r0 → FirstText r0 network r1 → FirstText r1 traffic r2 → ThirdText a r2 third r3 → IsBundle bytes b n t h → r3 ≡ []
 nothing_behind bytes r0 r1 r2 r3 network traffic third n t h a b line f g k i =
-    (one_text r2 third h r3 [] k (behind_traffic bytes r0 r1 r2 network traffic n t h a b line f g i)).1
+    one_rest a r2 third h r3 [] k (behind_traffic bytes r0 r1 r2 network traffic n t h a b line f g i)

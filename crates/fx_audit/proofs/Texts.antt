@@ -2,6 +2,7 @@
 use Rattle.std.proofs.Common.{ℕ, List, Result, Ok, Err, IfOk, inl, inr, ◌≡◌}
 use Rattle.fx_base.specs.declared.fault.Fault.{Fault}
 use Rattle.fx_base.specs.Lines.{Lines}
+use Rattle.fx_check.specs.Verdict.{line_limit}
 use Rattle.fx_machine.specs.Classes.{Class}
 use Rattle.fx_machine.specs.States.{told}
 use Rattle.fx_plan.specs.declared.network.Network.{Network}
@@ -9,9 +10,10 @@ use Rattle.fx_plan.specs.Tables.{net_of}
 use Rattle.fx_audit.specs.declared.answer.Answer.{Answer}
 use Rattle.fx_audit.specs.declared.answer.Answer.TheVariants.{Yes, No, Unknown}
 use Rattle.fx_audit.specs.declared.bundle.Command.{Command}
-use Rattle.fx_audit.specs.declared.bundle.Command.TheVariants.{Replay, Check, Confirm}
+use Rattle.fx_audit.specs.declared.bundle.Command.TheVariants.{Audit, Replay, Check, Confirm}
 use Rattle.fx_audit.specs.Checks.{IsAnswered}
 use Rattle.fx_audit.specs.Commands.{IsDone, IsReplayedIn}
+use Rattle.fx_audit.proofs.Audits.{audit_text}
 use Rattle.fx_audit.proofs.Confirms.{confirm_text}
 use Rattle.fx_audit.specs.Texts.{IsBundleText, IsCheckText, IsReplayText}
 
@@ -26,7 +28,8 @@ replay_text network classes lines answer text done h = (done, ((net_of network).
 bundle_text : (command : Command) (n t : List ℕ) (lines : Lines) (answer : Answer) (text : List ℕ) → IsDone command n t lines answer text → IsBundleText answer text
 bundle_text Replay n t lines answer text h = inl (replay_text h.1.network h.1.classes lines answer text h.0 h.1.replayed)
 bundle_text Check n t lines answer text h = inr (inl (check_text h.network h.classes lines answer text h.answered))
-bundle_text Confirm n t lines answer text h = inr (inr (confirm_text h.network h.classes lines answer text h.answered))
+bundle_text Confirm n t lines answer text h = inr (inr (inl (confirm_text h.network h.classes lines answer text h.answered)))
+bundle_text Audit n t lines answer text h = inr (inr (inr (audit_text h.network h.classes line_limit answer text h.audited)))
 
 -- ---- as the commands answer
 

@@ -1,7 +1,7 @@
 -- A bundle: the name of a command on a line, and texts, each with a line `%%` behind it.
 use Rattle.std.specs.Prelude.{◌≡◌, ℕ, ◌-◌, ◌||◌, ◌<◌, Bool, true, false, ◌&&◌, ◌==◌, List, [], ◌∷◌, ◌++◌, length, take, drop, bytes_eq, codes, slice_index}
 use Rattle.fx_audit.specs.declared.bundle.Command.{Command}
-use Rattle.fx_audit.specs.declared.bundle.Command.TheVariants.{Replay, Check, Confirm}
+use Rattle.fx_audit.specs.declared.bundle.Command.TheVariants.{Audit, Replay, Check, Confirm}
 
 -- the line that ends a text
 abbrev pub mark : List ℕ
@@ -29,8 +29,16 @@ abbrev pub command_line : Command → List ℕ
 command_line Replay = codes "replay" ++ 10 ∷ []
 command_line Check = codes "check" ++ 10 ∷ []
 command_line Confirm = codes "confirm" ++ 10 ∷ []
+command_line Audit = codes "audit" ++ 10 ∷ []
 
--- the octets are the command's line and three texts, each with its mark behind it, and nothing behind the last
+-- the third text of a command, behind the network and the traffic, and what stands behind it; an audit has none
+abbrev pub ThirdText : Command → List ℕ → List ℕ → List ℕ → Type 0
+ThirdText Replay bytes text rest = FirstText bytes text rest
+ThirdText Check bytes text rest = FirstText bytes text rest
+ThirdText Confirm bytes text rest = FirstText bytes text rest
+ThirdText Audit bytes text rest = (text ≡ []) × (rest ≡ bytes)
+
+-- the octets are the command's line and its texts, each with its mark behind it, and nothing behind the last
 pub record IsBundle (bytes : List ℕ) (command : Command) (network traffic third : List ℕ) : Type 0 where
   pub behind_command : List ℕ
   pub behind_network : List ℕ
@@ -38,4 +46,4 @@ pub record IsBundle (bytes : List ℕ) (command : Command) (network traffic thir
   pub line : bytes ≡ command_line command ++ behind_command
   pub first : FirstText behind_command network behind_network
   pub second : FirstText behind_network traffic behind_traffic
-  pub last : FirstText behind_traffic third []
+  pub last : ThirdText command behind_traffic third []

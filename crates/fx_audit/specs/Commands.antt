@@ -9,6 +9,7 @@ use Rattle.fx_machine.specs.RunText.{Run}
 use Rattle.fx_machine.specs.RunReading.{MayRead}
 use Rattle.fx_machine.specs.States.{State, opening, told}
 use Rattle.fx_machine.specs.Steps.{run}
+use Rattle.fx_check.specs.Verdict.{line_limit}
 use Rattle.fx_plan.specs.declared.network.Network.{Network}
 use Rattle.fx_plan.specs.Tables.{net_of}
 use Rattle.fx_audit.specs.declared.answer.Answer.{Answer}
@@ -18,7 +19,7 @@ use Rattle.fx_audit.specs.Bundle.{IsBundle}
 use Rattle.fx_audit.specs.Checks.{IsAnswered, IsRefusedCertificate}
 use Rattle.fx_audit.specs.Confirms.{IsConfirmedIn, IsRefusedOtherwise}
 use Rattle.fx_audit.specs.declared.bundle.Command.{Command}
-use Rattle.fx_audit.specs.declared.bundle.Command.TheVariants.{Replay, Check, Confirm}
+use Rattle.fx_audit.specs.declared.bundle.Command.TheVariants.{Audit, Replay, Check, Confirm}
 use Rattle.fx_audit.specs.Documents.{IsNetwork, IsRefusedByDocuments, IsRefusedNetwork, IsTraffic}
 use Rattle.fx_audit.specs.Replay.{IsRefused, IsTextOf}
 use Rattle.fx_audit.specs.Streams.{IsRefusedStream, IsStreamText, IsWhole, stream_read}
@@ -114,17 +115,19 @@ pub record IsAudited (network_octets traffic_octets : List ℕ) (limit : ℕ) (a
 
 -- ---- a bundle
 
--- what a command answers, and the text that it prints
+-- what a command answers, and the text that it prints; an audit searches for the longest certificate that there may be
 abbrev pub IsDone : Command → List ℕ → List ℕ → Lines → Answer → List ℕ → Type 0
 IsDone Replay network traffic lines answer text = (answer ≡ Yes) × IsReplayed network traffic lines text
 IsDone Check network traffic lines answer text = IsChecked network traffic lines answer text
 IsDone Confirm network traffic lines answer text = IsConfirmed network traffic lines answer text
+IsDone Audit network traffic lines answer text = IsAudited network traffic line_limit answer text
 
 -- what a command makes of these octets is refused
 abbrev pub IsRefusedBy : Command → List ℕ → List ℕ → Lines → Fault → Type 0
 IsRefusedBy Replay network traffic lines e = IsRefusedReplay network traffic lines e
 IsRefusedBy Check network traffic lines e = IsRefusedCheck network traffic lines e
 IsRefusedBy Confirm network traffic lines e = IsRefusedConfirm network traffic lines e
+IsRefusedBy Audit network traffic lines e = IsRefusedByDocuments network traffic e
 
 -- a text is so long that it isn't read in 2 to the 32 calls
 abbrev pub IsEndless : List ℕ → List ℕ → List ℕ → Fault → Type 0

@@ -42,6 +42,6 @@ IsAuditText Yes text = (items : List Item) × (text ≡ certificate_text items)
 IsAuditText No text = (r : Refutation) × (text ≡ refutation_text r)
 IsAuditText Unknown text = text ≡ unknown_line
 
--- a bundle's command is a replay, a check or a confirmation
+-- a bundle's command is a replay, a check, a confirmation or an audit
 abbrev pub IsBundleText : Answer → List ℕ → Type 0
-IsBundleText answer text = IsReplayText answer text ⊎ (IsCheckText answer text ⊎ IsConfirmText answer text)
+IsBundleText answer text = IsReplayText answer text ⊎ (IsCheckText answer text ⊎ (IsConfirmText answer text ⊎ IsAuditText answer text))

@@ -19,6 +19,10 @@ use fx_refute::put_refutation;
 use fx_search::{Found, search};
 use std::alloc::Global;
 
+/// The most split and leaf lines of the certificate that an audit searches for, where no fewer are asked for: as many as
+/// a certificate may have.
+pub const AUDIT_LIMIT: u64 = 1_000_000;
+
 /// Writes the lines of a certificate.
 fn put_items<S: Sink>(sink: &mut S, items: &[Item]) -> Result<(), Fault>
     ensures ok { OnOk result (Writes (S.taken sink.old) (S.taken sink.new) (certificate_text items.now)) }

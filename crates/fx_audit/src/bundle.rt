@@ -1,6 +1,6 @@
 //! Bundles: a command and its texts in one text.
 ghost use Rattle.std.specs.Prelude.{◌≡◌, ℕ, ◌+◌, ◌<◌, ◌≤◌, List, [], true, false, take, drop, length, IfSome, IfNone, ◌++◌};
-ghost use Rattle.fx_audit.specs.Bundle.{begins_line, is_mark_at, FirstText, HasNoMark, IsBundle, command_line};
+ghost use Rattle.fx_audit.specs.Bundle.{begins_line, is_mark_at, FirstText, HasNoMark, IsBundle, ThirdText, command_line};
 ghost use Rattle.fx_audit.specs.declared.bundle.Command.{Command};
 
 /// A command that a bundle may name.
@@ -9,6 +9,7 @@ pub enum Command {
     Replay,
     Check,
     Confirm,
+    Audit,
 }
 
 /// The command of a bundle and its texts.
@@ -17,6 +18,7 @@ pub struct Bundle<'a> {
     pub command: Command,
     pub network: &'a [u8],
     pub traffic: &'a [u8],
+    /// A run, a certificate or a refutation; empty for an audit, which has none.
     pub third: &'a [u8],
 }
 
@@ -70,8 +72,22 @@ fn command_of(bytes: &[u8]) -> Option<(Command, &[u8])>
     if let Some(rest) = bytes.strip_prefix(b"confirm\n") {
         return Some((Command::Confirm, rest));
     }
+    if let Some(rest) = bytes.strip_prefix(b"audit\n") {
+        return Some((Command::Audit, rest));
+    }
     let rest = bytes.strip_prefix(b"check\n")?;
     Some((Command::Check, rest))
+}
+
+/// The third text of a command, and what stands behind it.
+fn third_text(command: Command, bytes: &[u8]) -> Option<(&[u8], &[u8])>
+    ensures some { IfSome result (λ parts. ThirdText command bytes.now parts.0.now parts.1.now) }
+    ensures none { IfNone result ((text : List ℕ) (rest : List ℕ) → ThirdText command bytes.now text rest → ⊥) }
+{
+    match command {
+        Command::Replay | Command::Check | Command::Confirm => first_text(bytes),
+        Command::Audit => Some((&[], bytes)),
+    }
 }
 
 /// The bundle that these octets are, or None where they have another shape.
@@ -82,7 +98,7 @@ pub fn read_bundle(bytes: &[u8]) -> Option<Bundle<'_>>
     let (command, rest) = command_of(bytes)?;
     let (network, rest) = first_text(rest)?;
     let (traffic, rest) = first_text(rest)?;
-    let (third, rest) = first_text(rest)?;
+    let (third, rest) = third_text(command, rest)?;
     if !rest.is_empty() {
         return None;
     }

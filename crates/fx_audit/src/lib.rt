@@ -14,7 +14,7 @@ mod replay_command;
 mod replaying;
 
 pub use answer::Answer;
-pub use audit_command::audit_bytes;
+pub use audit_command::{AUDIT_LIMIT, audit_bytes};
 pub use bundle_command::bundle_bytes;
 pub use check_command::check_bytes;
 pub use collect_command::collect_bytes;

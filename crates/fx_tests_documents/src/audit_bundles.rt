@@ -1,4 +1,4 @@
-//! Bundles: how a command and its three texts are told apart, and what has another shape.
+//! Bundles: how a command and its texts are told apart, and what has another shape.
 use crate::audit_texts::{CERTIFICATE, NETWORK, RUN, TOTALS, TRAFFIC, ending};
 use fx_audit::{Answer, bundle_bytes};
 use fx_base::{Octets, Room};
@@ -39,6 +39,9 @@ const OTHER_SHAPES: &[(&[u8], u16)] = &[
     (b"replay\n%%\n%%\n%%\n%%\n", 801),
     (b"replay\n%%\n%%\na%%\n", 801),
     (b" replay\n%%\n%%\n%%\n", 801),
+    (b"audit\n%%\n", 801),
+    (b"audit\n%%\n%%\n%%\n", 801),
+    (b"audit\n{\n%%\n{\n%%\n", 101),
     (b"replay\n{\n%%\n{\n%%\n", 801),
     (b"replay\n{}\n%%\n[]\n%%%\n%%\n%%\n", 103),
 ];
@@ -66,6 +69,16 @@ fn answers_bundles(rt: HostRuntime) -> Result<(), Fail> {
                 b"no 501 line 1\n"
             )?
     );
+    Ok(())
+}
+
+/// The bundle of an audit has two texts.
+#[test]
+fn answers_a_bundle_of_an_audit(rt: HostRuntime) -> Result<(), Fail> {
+    let alloc = rt.alloc();
+    let (network, traffic, end) = (NETWORK.as_bytes(), TRAFFIC.as_bytes(), b"%%\n".as_slice());
+    let bundle = [b"audit\n".as_slice(), network, end, traffic, end].concat(alloc)?;
+    assert!(rt; ends(alloc, bundle.as_slice(), Ok(Answer::Yes), CERTIFICATE));
     Ok(())
 }
 

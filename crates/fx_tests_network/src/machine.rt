@@ -181,6 +181,20 @@ fn is_watched(net: &Net, classes: &Classes) -> bool {
     selection.holder == Some(0) && point.watches(crossing) && net.points_of(2).is_empty()
 }
 
+/// Whether a packet of the class makes its one crossing, and one of no class none.
+fn is_followed(classes: &Classes) -> Result<bool, &'static str> {
+    let (followed, lost) = (packet(1, 1)?, packet(1, 2)?);
+    Ok(classes.path_of(&followed).len() == 1 && classes.path_of(&lost).is_empty())
+}
+
+/// Whether the packets of an exempt class are exempt, and no others.
+fn is_exempt(classes: &Classes, alloc: Global) -> Result<bool, Fail> {
+    let class = Class::new(Region::whole(), Vec::new(alloc), true);
+    let exempt = Classes::new(vec![in alloc; class]?);
+    let (of_class, of_none) = (packet(1, 1)?, packet(1, 2)?);
+    Ok(exempt.exempts(&of_class) && !exempt.exempts(&of_none) && !classes.exempts(&of_class))
+}
+
 /// Whether a run over the network counts both packets, and one of a packet of no class isn't opened.
 fn runs(net: &Net, classes: &Classes, alloc: Global) -> Result<bool, Fail> {
     let refused = opening(net, classes, alloc)? == 856;
@@ -193,7 +207,7 @@ fn looks_up_and_runs_and_refuses_packets_of_no_class(rt: HostRuntime) -> Result<
     complete_runs_exist();
     let classes = classes(rt.alloc())?;
     let net = net(rt.alloc())?;
-    let found = is_looked_up(&net) && is_watched(&net, &classes);
-    assert!(rt; found && runs(&net, &classes, rt.alloc())?);
+    let found = is_looked_up(&net) && is_watched(&net, &classes) && is_followed(&classes)?;
+    assert!(rt; found && is_exempt(&classes, rt.alloc())? && runs(&net, &classes, rt.alloc())?);
     Ok(())
 }
