@@ -6,6 +6,8 @@
   stdout   what it must print, octet for octet (no file: not looked at)
   output   the file that its standard output is, as /dev/full (no file: it is read)
   status   its exit status
+  refutes  stands there where it must print a refutation that `confirm` accepts, over the same documents; with a
+           number: one of so many steps
 
 Prints a line for each row that fails, and last `N passed, M failed`. The exit status is 1 where a row failed.
 """
@@ -14,6 +16,7 @@ import os
 import shlex
 import subprocess
 import sys
+import tempfile
 
 ROWS = os.path.join(os.path.dirname(os.path.abspath(__file__)), "rows")
 
@@ -40,6 +43,22 @@ def faults(program, row):
         yield "status %d in place of %d" % (run.returncode, status)
     if run.stderr:
         yield "printed %r on standard error" % run.stderr[:300]
+    steps = octets_of(row, "refutes", None)
+    if steps is not None:
+        yield from unconfirmed(program, row, words[1:], run.stdout, steps.decode().strip())
+
+
+def unconfirmed(program, row, documents, refutation, steps):
+    """Says why the printed refutation isn't what is wanted: the lines of its steps stand between two lines and `end`."""
+    lines = refutation.decode().splitlines()
+    if steps and len(lines) - 3 != int(steps):
+        yield "printed %d steps in place of %s" % (len(lines) - 3, steps)
+    with tempfile.NamedTemporaryFile() as file:
+        file.write(refutation)
+        file.flush()
+        run = subprocess.run([program, "confirm", *documents, file.name], cwd=row, stdout=subprocess.PIPE, timeout=120)
+    if run.returncode != 0 or not run.stdout.startswith(b"refuted\n"):
+        yield "printed what `confirm` answers with %r" % run.stdout[:200]
 
 
 def main(program, names):
