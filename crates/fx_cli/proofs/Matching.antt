@@ -17,11 +17,13 @@ use Rattle.clap.specs.declared.error.Error.{Error}
 use Rattle.clap.specs.declared.error.kind.ErrorKind.TheVariants.{OutOfMemory}
 use Rattle.std.specs.Prelude.{Box, IfErr, IfOk, IfSome, IsSome, Result, Ok, Err, MatchResult, IsErrAnd, string_bytes}
 use Rattle.std.specs.Box.{box_value}
+use Rattle.fx_cli.specs.declared.words.Call.{Call}
 use Rattle.fx_cli.specs.declared.words.Call.TheVariants.{Audit, Check, Collect, Confirm, Replay}
 use Rattle.clap.proofs.WalkLemmas.{first_value-rows}
 use Rattle.std.proofs.lemmas.Slice.Eq.{bytes_eq-Decides}
-use Rattle.fx_cli.specs.Words.{NamesFiles, NamesNoCall}
+use Rattle.fx_cli.specs.Words.{Names, NamesFiles, NamesNoCall}
 use Rattle.fx_cli.specs.CommandLine.{AreMatchesOf, file_rule, once_app, over_documents, over_network, wants_command}
+use Rattle.fx_cli.specs.Matches.{IsFound, IsAuditOf, IsCheckOf, IsCollectOf, IsConfirmOf, IsReplayOf}
 use Rattle.fx_cli.proofs.SingleWords.{Fails}
 use Rattle.fx_cli.proofs.Naming.{Refuses, Takes, decide_words}
 use Rattle.fx_cli.proofs.AuditWords.{audit_rows}
@@ -290,8 +292,15 @@ audit_files words m found are name e =
     let t = taken_audit words m are name in
     files_of (codes "audit") (codes "TRAFFIC") audit_rows words found t.files (λ a b. refl) (λ a b. refl) t.count_is t.named (same_rows (codes "audit") 2 audit_rows words m found t e)
 
-pub has_first : (found : Found) (id name : Text) → first_value found id ≡ Some name → IsSome (first_value found id)
-has_first found id name is = subst (λ (o : Option Text). IsSome o) (sym is) refl
+has_value : (found : Found) (id name : Text) → first_value found id ≡ Some name → IsFound found id
+has_value found id name is = subst (λ (o : Option Text). IsSome o) (sym is) refl
+
+pub all_found : {command third : Text} {words : List Text} (found : Found) → HasDocuments command third words found → IsFound found (codes "NETWORK") × IsFound found (codes "TRAFFIC") × IsFound found third
+all_found {command} {third} found f =
+    (has_value found (codes "NETWORK") f.network f.network_is, has_value found (codes "TRAFFIC") f.traffic f.traffic_is, has_value found third f.last f.last_is)
+
+pub both_found : {command second : Text} {words : List Text} (found : Found) → HasFiles command second words found → IsFound found (codes "NETWORK") × IsFound found second
+both_found {command} {second} found f = (has_value found (codes "NETWORK") f.network f.network_is, has_value found second f.last f.last_is)
 
 same_file : (found : Found) (id name file : Text) → first_value found id ≡ Some file → first_value found id ≡ Some name → file ≡ name
 same_file found id name file a b = ap (λ (o : Option Text). unwrap_or o file) (sym a ∙ b)
@@ -317,6 +326,47 @@ with_files command second words found f network last n l =
     (λ i. same_file found (codes "NETWORK") network f.network f.network_is n i
     ∷ same_file found second last f.last f.last_is l i ∷ [])
     f.named
+
+-- ---- the call that the words name
+
+pub ok_as : {T E : Type 0} (r : Result T E) (P Q : T → Type 0) → ((x : T) → P x → Q x) → IfOk r P → IfOk r Q
+ok_as (Ok x) P Q f h = f x h
+ok_as (Err e) P Q f h = tt
+
+pub names_replay : (words : List Text) (found : Found) → HasDocuments (codes "replay") (codes "RUN") words found → (call : Call) → IsReplayOf found call → Names words call
+names_replay words found f (Replay a b c) h = with_documents (codes "replay") (codes "RUN") words found f (string_bytes a) (string_bytes b) (string_bytes c) h.0 h.1 h.2
+names_replay words found f (Collect a b) h = absurd h
+names_replay words found f (Check a b c) h = absurd h
+names_replay words found f (Confirm a b c) h = absurd h
+names_replay words found f (Audit a b) h = absurd h
+
+pub names_collect : (words : List Text) (found : Found) → HasFiles (codes "collect") (codes "STREAM") words found → (call : Call) → IsCollectOf found call → Names words call
+names_collect words found f (Replay a b c) h = absurd h
+names_collect words found f (Collect a b) h = with_files (codes "collect") (codes "STREAM") words found f (string_bytes a) (string_bytes b) h.0 h.1
+names_collect words found f (Check a b c) h = absurd h
+names_collect words found f (Confirm a b c) h = absurd h
+names_collect words found f (Audit a b) h = absurd h
+
+pub names_check : (words : List Text) (found : Found) → HasDocuments (codes "check") (codes "CERTIFICATE") words found → (call : Call) → IsCheckOf found call → Names words call
+names_check words found f (Replay a b c) h = absurd h
+names_check words found f (Collect a b) h = absurd h
+names_check words found f (Check a b c) h = with_documents (codes "check") (codes "CERTIFICATE") words found f (string_bytes a) (string_bytes b) (string_bytes c) h.0 h.1 h.2
+names_check words found f (Confirm a b c) h = absurd h
+names_check words found f (Audit a b) h = absurd h
+
+pub names_confirm : (words : List Text) (found : Found) → HasDocuments (codes "confirm") (codes "REFUTATION") words found → (call : Call) → IsConfirmOf found call → Names words call
+names_confirm words found f (Replay a b c) h = absurd h
+names_confirm words found f (Collect a b) h = absurd h
+names_confirm words found f (Check a b c) h = absurd h
+names_confirm words found f (Confirm a b c) h = with_documents (codes "confirm") (codes "REFUTATION") words found f (string_bytes a) (string_bytes b) (string_bytes c) h.0 h.1 h.2
+names_confirm words found f (Audit a b) h = absurd h
+
+pub names_audit : (words : List Text) (found : Found) → HasFiles (codes "audit") (codes "TRAFFIC") words found → (call : Call) → IsAuditOf found call → Names words call
+names_audit words found f (Replay a b c) h = absurd h
+names_audit words found f (Collect a b) h = absurd h
+names_audit words found f (Check a b c) h = absurd h
+names_audit words found f (Confirm a b c) h = absurd h
+names_audit words found f (Audit a b) h = with_files (codes "audit") (codes "TRAFFIC") words found f (string_bytes a) (string_bytes b) h.0 h.1
 
 -- ---- the command line
 

@@ -1,9 +1,10 @@
 //! The words of the command line.
-ghost use Rattle.std.specs.Prelude.{◌≡◌, ◌⊎◌, IfErr, IfOk, IsSome, List, MatchResult, codes, false, map, Some, string_bytes};
+ghost use Rattle.std.specs.Prelude.{◌≡◌, ◌⊎◌, IfErr, IfOk, List, MatchResult, codes, false, map, string_bytes};
 ghost use Rattle.clap.specs.Simple.{on_top};
-ghost use Rattle.clap.specs.Words.{app_of, fault_of, first_value, found_of, HasKind, kind_of, new_app, rule_of, Text, with_rule};
+ghost use Rattle.clap.specs.Words.{app_of, fault_of, found_of, HasKind, kind_of, new_app, rule_of, Text, with_rule};
 ghost use Rattle.clap.specs.declared.builder.command.Command.TheViews.{out-Command};
 ghost use Rattle.fx_cli.specs.CommandLine.{AreMatchesOf, file_rule, once_app, over_documents, over_network, wants_command};
+ghost use Rattle.fx_cli.specs.Matches.{Holds, IsAuditOf, IsCheckOf, IsCollectOf, IsConfirmOf, IsFound, IsReplayOf};
 ghost use Rattle.fx_cli.specs.Words.{Names, NamesNoCall};
 
 use clap::error::ErrorKind;
@@ -207,10 +208,68 @@ fn command_line<'a>(alloc: Global) -> Result<Command<'a>, AllocError>
 
 /// The name of a file that the words give.
 fn file_name(alloc: Global, matches: &ArgMatches<'_>, id: &str) -> Result<String, AllocError>
-    requires { IsSome (first_value (found_of matches.now) id.now) }
-    ensures { IfOk result (λ name. first_value (found_of matches.now) id.now ≡ Some (string_bytes name)) }
+    requires { IsFound (found_of matches.now) id.now }
+    ensures { IfOk result (λ name. Holds (found_of matches.now) id.now (string_bytes name)) }
 {
     String::from_str(alloc, matches.get_str(id).unwrap())
+}
+
+/// The call of `replay`, by the matches of its words.
+fn replay_call(alloc: Global, matches: &ArgMatches<'_>) -> Result<Call, AllocError>
+    requires { IsFound (found_of matches.now) (codes "NETWORK") × IsFound (found_of matches.now) (codes "TRAFFIC") × IsFound (found_of matches.now) (codes "RUN") }
+    ensures { IfOk result (IsReplayOf (found_of matches.now)) }
+{
+    Ok(Call::Replay {
+        network: file_name(alloc, matches, "NETWORK")?,
+        traffic: file_name(alloc, matches, "TRAFFIC")?,
+        run: file_name(alloc, matches, "RUN")?,
+    })
+}
+
+/// The call of `collect`, by the matches of its words.
+fn collect_call(alloc: Global, matches: &ArgMatches<'_>) -> Result<Call, AllocError>
+    requires { IsFound (found_of matches.now) (codes "NETWORK") × IsFound (found_of matches.now) (codes "STREAM") }
+    ensures { IfOk result (IsCollectOf (found_of matches.now)) }
+{
+    Ok(Call::Collect {
+        network: file_name(alloc, matches, "NETWORK")?,
+        stream: file_name(alloc, matches, "STREAM")?,
+    })
+}
+
+/// The call of `check`, by the matches of its words.
+fn check_call(alloc: Global, matches: &ArgMatches<'_>) -> Result<Call, AllocError>
+    requires { IsFound (found_of matches.now) (codes "NETWORK") × IsFound (found_of matches.now) (codes "TRAFFIC") × IsFound (found_of matches.now) (codes "CERTIFICATE") }
+    ensures { IfOk result (IsCheckOf (found_of matches.now)) }
+{
+    Ok(Call::Check {
+        network: file_name(alloc, matches, "NETWORK")?,
+        traffic: file_name(alloc, matches, "TRAFFIC")?,
+        certificate: file_name(alloc, matches, "CERTIFICATE")?,
+    })
+}
+
+/// The call of `confirm`, by the matches of its words.
+fn confirm_call(alloc: Global, matches: &ArgMatches<'_>) -> Result<Call, AllocError>
+    requires { IsFound (found_of matches.now) (codes "NETWORK") × IsFound (found_of matches.now) (codes "TRAFFIC") × IsFound (found_of matches.now) (codes "REFUTATION") }
+    ensures { IfOk result (IsConfirmOf (found_of matches.now)) }
+{
+    Ok(Call::Confirm {
+        network: file_name(alloc, matches, "NETWORK")?,
+        traffic: file_name(alloc, matches, "TRAFFIC")?,
+        refutation: file_name(alloc, matches, "REFUTATION")?,
+    })
+}
+
+/// The call of `audit`, by the matches of its words.
+fn audit_call(alloc: Global, matches: &ArgMatches<'_>) -> Result<Call, AllocError>
+    requires { IsFound (found_of matches.now) (codes "NETWORK") × IsFound (found_of matches.now) (codes "TRAFFIC") }
+    ensures { IfOk result (IsAuditOf (found_of matches.now)) }
+{
+    Ok(Call::Audit {
+        network: file_name(alloc, matches, "NETWORK")?,
+        traffic: file_name(alloc, matches, "TRAFFIC")?,
+    })
 }
 
 /// The call that these matches of the program's words name.
@@ -219,37 +278,18 @@ fn call_of(alloc: Global, matches: &ArgMatches<'_>) -> Result<Call, AllocError>
     ensures { (words : List Text) → AreMatchesOf words matches.now → IfOk result (Names words) }
 {
     if let Some(collect) = matches.subcommand_matches("collect") {
-        return Ok(Call::Collect {
-            network: file_name(alloc, collect, "NETWORK")?,
-            stream: file_name(alloc, collect, "STREAM")?,
-        });
+        return collect_call(alloc, collect);
     }
     if let Some(check) = matches.subcommand_matches("check") {
-        return Ok(Call::Check {
-            network: file_name(alloc, check, "NETWORK")?,
-            traffic: file_name(alloc, check, "TRAFFIC")?,
-            certificate: file_name(alloc, check, "CERTIFICATE")?,
-        });
+        return check_call(alloc, check);
     }
     if let Some(confirm) = matches.subcommand_matches("confirm") {
-        return Ok(Call::Confirm {
-            network: file_name(alloc, confirm, "NETWORK")?,
-            traffic: file_name(alloc, confirm, "TRAFFIC")?,
-            refutation: file_name(alloc, confirm, "REFUTATION")?,
-        });
+        return confirm_call(alloc, confirm);
     }
     if let Some(audit) = matches.subcommand_matches("audit") {
-        return Ok(Call::Audit {
-            network: file_name(alloc, audit, "NETWORK")?,
-            traffic: file_name(alloc, audit, "TRAFFIC")?,
-        });
+        return audit_call(alloc, audit);
     }
-    let replay = matches.subcommand_matches("replay").unwrap();
-    Ok(Call::Replay {
-        network: file_name(alloc, replay, "NETWORK")?,
-        traffic: file_name(alloc, replay, "TRAFFIC")?,
-        run: file_name(alloc, replay, "RUN")?,
-    })
+    replay_call(alloc, matches.subcommand_matches("replay").unwrap())
 }
 
 /// The call that the words name. The first word is the program's own name.

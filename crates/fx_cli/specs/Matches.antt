@@ -1,0 +1,37 @@
+-- The call that the matches of a command's words hold.
+use Rattle.std.specs.Prelude.{◌≡◌, IsSome, Some, codes, string_bytes}
+use Rattle.clap.specs.Words.{Text, first_value}
+use Rattle.clap.specs.declared.parser.matches.Found.{Found}
+use Rattle.fx_cli.specs.declared.words.Call.{Call}
+use Rattle.fx_cli.specs.declared.words.Call.TheVariants.{Audit, Check, Collect, Confirm, Replay}
+
+-- there is a value under this name
+abbrev pub IsFound : Found → Text → Type 0
+IsFound found name = IsSome (first_value found name)
+
+-- the value under this name is this file
+abbrev pub Holds : Found → Text → Text → Type 0
+Holds found name file = first_value found name ≡ Some file
+
+abbrev pub IsReplayOf : Found → Call → Type 0
+IsReplayOf found (Replay network traffic run) =
+    Holds found (codes "NETWORK") (string_bytes network) × Holds found (codes "TRAFFIC") (string_bytes traffic) × Holds found (codes "RUN") (string_bytes run)
+IsReplayOf found _ = ⊥
+
+abbrev pub IsCollectOf : Found → Call → Type 0
+IsCollectOf found (Collect network stream) = Holds found (codes "NETWORK") (string_bytes network) × Holds found (codes "STREAM") (string_bytes stream)
+IsCollectOf found _ = ⊥
+
+abbrev pub IsCheckOf : Found → Call → Type 0
+IsCheckOf found (Check network traffic certificate) =
+    Holds found (codes "NETWORK") (string_bytes network) × Holds found (codes "TRAFFIC") (string_bytes traffic) × Holds found (codes "CERTIFICATE") (string_bytes certificate)
+IsCheckOf found _ = ⊥
+
+abbrev pub IsConfirmOf : Found → Call → Type 0
+IsConfirmOf found (Confirm network traffic refutation) =
+    Holds found (codes "NETWORK") (string_bytes network) × Holds found (codes "TRAFFIC") (string_bytes traffic) × Holds found (codes "REFUTATION") (string_bytes refutation)
+IsConfirmOf found _ = ⊥
+
+abbrev pub IsAuditOf : Found → Call → Type 0
+IsAuditOf found (Audit network traffic) = Holds found (codes "NETWORK") (string_bytes network) × Holds found (codes "TRAFFIC") (string_bytes traffic)
+IsAuditOf found _ = ⊥
