@@ -1,20 +1,22 @@
 -- What the words' call prints, whichever call they are read as.
-use Rattle.std.proofs.Common.{◌≡◌, ◌∙◌, ◌⊎◌, ℕ, Bool, true, false, refl, sym, ap, subst, List, Option, inl, inr, true≢false}
+use Rattle.std.proofs.Common.{◌≡◌, ◌∙◌, ◌⊎◌, ℕ, Bool, true, false, refl, sym, ap, subst, List, Option, inl, inr, true≢false, codes}
 use Rattle.std.specs.Prelude.{IfErr, IfOk, OnOk, Result, Ok, Err}
 use Rattle.std.specs.Str.{bytes_eq}
 use Rattle.std.proofs.lemmas.Slice.Eq.{bytes_eq-Decides}
 use Rattle.clap.specs.Words.{Text}
-use Rattle.fx_base.specs.Device.{Writes}
+use Rattle.fx_base.specs.Device.{MayHaveLeft, Writes}
 use Rattle.fx_base.specs.Fault.{fault_at}
 use Rattle.fx_base.specs.declared.fault.Fault.{Fault}
 use Rattle.fx_base.specs.declared.fault.Place.TheVariants as places
 use Rattle.fx_cli.specs.Ending.{refusal_line, refusal_status, status}
+use Rattle.fx_audit.specs.Commands.{IsAudited}
 use Rattle.fx_audit.specs.declared.answer.Answer.{Answer}
-use Rattle.fx_cli.specs.Running.{EndsAs, HasFailedToWrite, IsCallText}
-use Rattle.fx_cli.specs.Words.{Names, NamesFiles}
+use Rattle.fx_cli.specs.Running.{EndsAs, HasFailedToWrite, IsCallText, IsTextWithin}
+use Rattle.fx_cli.specs.Words.{Names, NamesAudit, NamesFiles, NamesWithin}
 use Rattle.fx_cli.specs.declared.words.Call.{Call}
 use Rattle.fx_cli.specs.declared.words.Call.TheVariants.{Audit, Check, Collect, Confirm, Replay}
-use Rattle.fx_cli.proofs.Naming.{second}
+use Rattle.fx_cli.proofs.LimitWords.{limit_alone}
+use Rattle.fx_cli.proofs.Naming.{behind, second}
 
 -- words name files of one command alone
 two_commands : {words files others : List Text} {name other : Text} → NamesFiles words name files → NamesFiles words other others → bytes_eq name other ≡ false → ⊥
@@ -22,32 +24,43 @@ two_commands {words} {files} {others} {name} {other} n m differ =
     let same : name ≡ other = sym (ap second n.words_are) ∙ ap second m.words_are in
     true≢false (sym ((bytes_eq-Decides name other).1 same) ∙ differ)
 
+audit_and_other : {words files others : List Text} {name : Text} {limit : ℕ} → NamesAudit words files limit → NamesFiles words name others → bytes_eq (codes "audit") name ≡ false → ⊥
+audit_and_other {words} {files} {others} {name} n m differ =
+    let same : codes "audit" ≡ name = sym (ap second n.words_are) ∙ ap second m.words_are in
+    true≢false (sym ((bytes_eq-Decides (codes "audit") name).1 same) ∙ differ)
+
+-- words set one limit alone
+one_limit : {words files others : List Text} {limit other : ℕ} → NamesAudit words files limit → NamesAudit words others other → limit ≡ other
+one_limit {words} {files} {others} {limit} {other} n m =
+    let same : n.rest ≡ m.rest = sym (ap behind n.words_are) ∙ ap behind m.words_are in
+    limit_alone m.rest files others limit other (subst (λ (rest : List Text). NamesWithin rest files limit) same n.within) m.within
+
 same_text : (words : List Text) (one other : Call) → Names words one → Names words other → (answer : Answer) (text : List ℕ) → IsCallText one answer text → IsCallText other answer text
 same_text words (Replay a b c) (Replay d e f) n m answer text is = is
 same_text words (Replay a b c) (Collect d e) n m answer text is = absurd (two_commands n m refl)
 same_text words (Replay a b c) (Check d e f) n m answer text is = absurd (two_commands n m refl)
 same_text words (Replay a b c) (Confirm d e f) n m answer text is = absurd (two_commands n m refl)
-same_text words (Replay a b c) (Audit d e) n m answer text is = absurd (two_commands n m refl)
+same_text words (Replay a b c) (Audit d e l) n m answer text is = absurd (audit_and_other m n refl)
 same_text words (Collect a b) (Replay d e f) n m answer text is = absurd (two_commands n m refl)
 same_text words (Collect a b) (Collect d e) n m answer text is = is
 same_text words (Collect a b) (Check d e f) n m answer text is = absurd (two_commands n m refl)
 same_text words (Collect a b) (Confirm d e f) n m answer text is = absurd (two_commands n m refl)
-same_text words (Collect a b) (Audit d e) n m answer text is = absurd (two_commands n m refl)
+same_text words (Collect a b) (Audit d e l) n m answer text is = absurd (audit_and_other m n refl)
 same_text words (Check a b c) (Replay d e f) n m answer text is = absurd (two_commands n m refl)
 same_text words (Check a b c) (Collect d e) n m answer text is = absurd (two_commands n m refl)
 same_text words (Check a b c) (Check d e f) n m answer text is = is
 same_text words (Check a b c) (Confirm d e f) n m answer text is = absurd (two_commands n m refl)
-same_text words (Check a b c) (Audit d e) n m answer text is = absurd (two_commands n m refl)
+same_text words (Check a b c) (Audit d e l) n m answer text is = absurd (audit_and_other m n refl)
 same_text words (Confirm a b c) (Replay d e f) n m answer text is = absurd (two_commands n m refl)
 same_text words (Confirm a b c) (Collect d e) n m answer text is = absurd (two_commands n m refl)
 same_text words (Confirm a b c) (Check d e f) n m answer text is = absurd (two_commands n m refl)
 same_text words (Confirm a b c) (Confirm d e f) n m answer text is = is
-same_text words (Confirm a b c) (Audit d e) n m answer text is = absurd (two_commands n m refl)
-same_text words (Audit a b) (Replay d e f) n m answer text is = absurd (two_commands n m refl)
-same_text words (Audit a b) (Collect d e) n m answer text is = absurd (two_commands n m refl)
-same_text words (Audit a b) (Check d e f) n m answer text is = absurd (two_commands n m refl)
-same_text words (Audit a b) (Confirm d e f) n m answer text is = absurd (two_commands n m refl)
-same_text words (Audit a b) (Audit d e) n m answer text is = is
+same_text words (Confirm a b c) (Audit d e l) n m answer text is = absurd (audit_and_other m n refl)
+same_text words (Audit a b k) (Replay d e f) n m answer text is = absurd (audit_and_other n m refl)
+same_text words (Audit a b k) (Collect d e) n m answer text is = absurd (audit_and_other n m refl)
+same_text words (Audit a b k) (Check d e f) n m answer text is = absurd (audit_and_other n m refl)
+same_text words (Audit a b k) (Confirm d e f) n m answer text is = absurd (audit_and_other n m refl)
+same_text words (Audit a b k) (Audit d e l) n m answer text is = subst (λ (limit : ℕ). IsTextWithin limit answer text) (one_limit n m) is
 
 -- a program that ends as one call of the words does ends as any does
 pub ends_as : (words : List Text) (one other : Call) → Names words one → Names words other → (old new : Option (List ℕ)) (Going Failed : Type 0) (code : ℕ)
@@ -56,6 +69,13 @@ ends_as words one other n m old new Going Failed code ends = elim ends [
   | inl (going, (answer, text, is, told, ended)) ↦ inl (going, (answer, text, same_text words one other n m answer text is, told, ended))
   | inr rest ↦ inr rest
 ]
+
+-- an audit of octets that may have been left prints a text within its limit
+pub within_limit : {E : Type 0} (limit : ℕ) (r : Result Answer E) (network traffic : Option (List ℕ)) (Written : List ℕ → Type 0)
+    → IfOk r (λ answer. MayHaveLeft network (λ n. MayHaveLeft traffic (λ t. (text : List ℕ) × IsAudited n t limit answer text × Written text)))
+    → IfOk r (λ answer. (text : List ℕ) × IsTextWithin limit answer text × Written text)
+within_limit limit (Ok answer) network traffic Written (n, left, (t, also, (text, is, written))) = (text, (n, t, is), written)
+within_limit limit (Err e) network traffic Written told = tt
 
 -- an answer that was told, or a refusal that came with nothing written or with a failed write, and then the last line
 pub ended : {S : Type 0} (taken : S → Option (List ℕ)) (failed : S → Bool) (IsText : Answer → List ℕ → Type 0) (r : Result Answer Fault) (first then last : S) (code : ℕ)

@@ -56,18 +56,18 @@ pub record TakesDocuments (s : Shape) (third : Text) : Type 0 where
 
 -- ---- one word
 
-value_walked : (s : Shape) (position : ℕ) (rows : List Row) (pending : Option (Text × List Text)) (trails : Bool) (word : Text) → IsValueWord s [] trails word
+pub value_walked : (s : Shape) (position : ℕ) (rows : List Row) (pending : Option (Text × List Text)) (trails : Bool) (word : Text) → IsValueWord s [] trails word
     → walked s.rules [] (walk_at rows pending position trails) word ≡ next_walk s (walk_at rows pending position trails) word
 unfolding walked
 value_walked s position rows pending trails word is =
     ap (λ (m : Held × Step). after_step s.rules word (walk_at rows pending position trails) m.0 m.1) (is.met position rows pending)
 
-double_walk : (s : Shape) (position : ℕ) (rows : List Row) (pending : Option (Text × List Text)) (word : Text) → is_double_hyphen word ≡ true
+pub double_walk : (s : Shape) (position : ℕ) (rows : List Row) (pending : Option (Text × List Text)) (word : Text) → is_double_hyphen word ≡ true
     → walked s.rules [] (walk_at rows pending position false) word ≡ walk_at rows pending position true
 unfolding walked
 double_walk s position rows pending word double = rw double refl
 
-double_fault : (s : Shape) (position : ℕ) (rows : List Row) (pending : Option (Text × List Text)) (word : Text) → is_double_hyphen word ≡ true
+pub double_fault : (s : Shape) (position : ℕ) (rows : List Row) (pending : Option (Text × List Text)) (word : Text) → is_double_hyphen word ≡ true
     → turn_fault s [] (walk_at rows pending position false) word ≡ []
 double_fault s position rows pending word double = rw double refl
 

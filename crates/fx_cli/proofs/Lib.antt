@@ -1,3 +1,5 @@
+pub mod AuditFiles
+pub mod AuditWalk
 pub mod AuditWords
 pub mod Called
 pub mod CheckWords
@@ -5,6 +7,7 @@ pub mod CollectWords
 pub mod ConfirmWords
 pub mod DocumentWords
 pub mod FileWords
+pub mod LimitWords
 pub mod Matching
 pub mod Naming
 pub mod ReplayWords

@@ -1,10 +1,11 @@
 -- What a parse of the program's words gives, and which values its matches hold.
 use Rattle.std.proofs.Common.{◌≡◌, ◌∙◌, ◌⊎◌, ℕ, true, false, refl, sym, ap, ap₂, subst, arith, List, [], ◌∷◌, length, Option, Some, None, inl, inr, true≢false, codes}
 use Rattle.std.specs.Str.{bytes_eq}
+use Rattle.std.specs.Str.Parse.{digits_value, without_leading_plus}
 use Rattle.std.specs.Prelude.{unwrap_or, option_map}
-use Rattle.clap.specs.Words.{AddsInTurn, AddsSubcommand, app_of, first_of, first_value, rows_of, HasMatchesOf, is_simple, is_simple_and_free, subcommand_rows_of, HasKind, kind_of, subcommand_name_of}
+use Rattle.clap.specs.Words.{AddsInTurn, AddsSubcommand, app_of, first_of, first_value, one_of, one_text, rows_of, HasMatchesOf, is_simple, is_simple_and_free, subcommand_rows_of, HasKind, kind_of, subcommand_name_of}
 use Rattle.clap.specs.Walk.{Row, Text}
-use Rattle.clap.specs.Simple.{new_app, on_top, with_subcommand, subcommand_rows, App, built, subcommand_of}
+use Rattle.clap.specs.Simple.{new_app, on_top, with_rule, with_subcommand, subcommand_rows, App, built, subcommand_of}
 use Rattle.clap.specs.Kinds.{Kinds}
 use Rattle.clap.specs.Faults.{fault_of}
 use Rattle.clap.specs.declared.builder.command.Command.{Command}
@@ -19,14 +20,13 @@ use Rattle.std.specs.Prelude.{Box, IfErr, IfOk, IfSome, IsSome, Result, Ok, Err,
 use Rattle.std.specs.Box.{box_value}
 use Rattle.fx_cli.specs.declared.words.Call.{Call}
 use Rattle.fx_cli.specs.declared.words.Call.TheVariants.{Audit, Check, Collect, Confirm, Replay}
-use Rattle.clap.proofs.WalkLemmas.{first_value-rows}
+use Rattle.clap.proofs.WalkLemmas.{first_value-rows, one_text-rows}
 use Rattle.std.proofs.lemmas.Slice.Eq.{bytes_eq-Decides}
-use Rattle.fx_cli.specs.Words.{Names, NamesFiles, NamesNoCall}
-use Rattle.fx_cli.specs.CommandLine.{AreMatchesOf, file_rule, once_app, over_documents, over_network, wants_command}
-use Rattle.fx_cli.specs.Matches.{IsFound, IsAuditOf, IsCheckOf, IsCollectOf, IsConfirmOf, IsReplayOf}
+use Rattle.fx_cli.specs.Words.{IsLimit, Names, NamesAudit, NamesFiles, NamesNoCall}
+use Rattle.fx_cli.specs.CommandLine.{AreMatchesOf, file_rule, limit_rule, once_app, over_documents, over_network, wants_command}
+use Rattle.fx_cli.specs.Matches.{HoldsLimit, IsFound, IsAuditOf, IsCheckOf, IsCollectOf, IsConfirmOf, IsReplayOf}
 use Rattle.fx_cli.proofs.SingleWords.{Fails}
-use Rattle.fx_cli.proofs.Naming.{Refuses, Takes, decide_words}
-use Rattle.fx_cli.proofs.AuditWords.{audit_rows}
+use Rattle.fx_cli.proofs.Naming.{Refuses, Takes, TakesAudit, decide_words}
 use Rattle.fx_cli.proofs.CheckWords.{check_rows}
 use Rattle.fx_cli.proofs.CollectWords.{collect_rows}
 use Rattle.fx_cli.proofs.ConfirmWords.{confirm_rows}
@@ -60,8 +60,19 @@ IsCheck words m = IsTakenBy (codes "check") 3 check_rows words m
 abbrev pub IsConfirm : List Text → ArgMatches → Type 0
 IsConfirm words m = IsTakenBy (codes "confirm") 3 confirm_rows words m
 
-abbrev pub IsAudit : List Text → ArgMatches → Type 0
-IsAudit words m = IsTakenBy (codes "audit") 2 audit_rows words m
+-- the matches of an audit's words
+pub record IsAudit (words : List Text) (m : ArgMatches) : Type 0 where
+  pub network : Text
+  pub traffic : Text
+  pub text : Text
+  pub limit : ℕ
+  pub is : IsLimit text limit
+  pub named : NamesAudit words (network ∷ traffic ∷ []) limit
+  pub rows : List Row
+  pub entered : subcommand_rows_of m ≡ Some (codes "audit", rows)
+  pub network_is : first_of (codes "NETWORK") rows ≡ Some network
+  pub traffic_is : first_of (codes "TRAFFIC") rows ≡ Some traffic
+  pub limit_is : one_of (codes "limit") rows ≡ Some text
 
 -- the matches of words that were taken, by one of the commands
 abbrev IsTaken : List Text → ArgMatches → Type 0
@@ -78,13 +89,28 @@ takes_it a name count rows words m same matches t = record {
   entered = (matches (ap is_simple same ∙ once_is_simple)).1 ∙ ap (λ (x : App). subcommand_of x words) same ∙ t.entered;
 }
 
+takes_audit : (a : App) (words : List Text) (m : ArgMatches) → a ≡ once_app → HasMatchesOf a words m → TakesAudit words → IsAudit words m
+takes_audit a words m same matches t = record {
+  network = t.network;
+  traffic = t.traffic;
+  text = t.text;
+  limit = t.limit;
+  is = t.is;
+  named = t.named;
+  rows = t.rows;
+  entered = (matches (ap is_simple same ∙ once_is_simple)).1 ∙ ap (λ (x : App). subcommand_of x words) same ∙ t.entered;
+  network_is = t.network_is;
+  traffic_is = t.traffic_is;
+  limit_is = t.limit_is;
+}
+
 taken : (a : App) (words : List Text) (m : ArgMatches) → a ≡ once_app → HasMatchesOf a words m → (is_simple_and_free a ≡ true → fault_of a words ≡ []) → IsTaken words m
 taken a words m same matches kinds = elim (decide_words words) [
   | inl t ↦ inl (takes_it a (codes "replay") 3 replay_rows words m same matches t)
   | inr (inl t) ↦ inr (inl (takes_it a (codes "collect") 2 collect_rows words m same matches t))
   | inr (inr (inl t)) ↦ inr (inr (inl (takes_it a (codes "check") 3 check_rows words m same matches t)))
   | inr (inr (inr (inl t))) ↦ inr (inr (inr (inl (takes_it a (codes "confirm") 3 confirm_rows words m same matches t))))
-  | inr (inr (inr (inr (inl t)))) ↦ inr (inr (inr (inr (takes_it a (codes "audit") 2 audit_rows words m same matches t))))
+  | inr (inr (inr (inr (inl t)))) ↦ inr (inr (inr (inr (takes_audit a words m same matches t))))
   | inr (inr (inr (inr (inr r)))) ↦ absurd (not_both (fault_of once_app words) (ap (λ (x : App). fault_of x words) (sym same) ∙ kinds (ap is_simple_and_free same ∙ once_is_free)) r.fails)
 ]
 
@@ -93,7 +119,7 @@ none_named words r (Replay network traffic run) n = r.replay (string_bytes netwo
 none_named words r (Collect network stream) n = r.collect (string_bytes network ∷ string_bytes stream ∷ []) refl n
 none_named words r (Check network traffic certificate) n = r.check (string_bytes network ∷ string_bytes traffic ∷ string_bytes certificate ∷ []) refl n
 none_named words r (Confirm network traffic refutation) n = r.confirm (string_bytes network ∷ string_bytes traffic ∷ string_bytes refutation ∷ []) refl n
-none_named words r (Audit network traffic) n = r.audit (string_bytes network ∷ string_bytes traffic ∷ []) refl n
+none_named words r (Audit network traffic limit) n = r.audit (string_bytes network) (string_bytes traffic) limit n
 
 memory_alone : (a : App) (words : List Text) (e : Error) → a ≡ once_app → (is_simple_and_free a ≡ true → HasKind (fault_of a words) e) → fault_of once_app words ≡ [] → kind_of e ≡ OutOfMemory
 memory_alone a words e same kinds takes =
@@ -136,11 +162,17 @@ taken_name name count rows words m t = name_of_rows m ∙ ap (option_map (λ p. 
 some_same : (a b : Text) (o : Option Text) → o ≡ Some a → o ≡ Some b → a ≡ b
 some_same a b o x y = ap (λ (v : Option Text). unwrap_or v a) (sym x ∙ y)
 
+audit_name : (words : List Text) (m : ArgMatches) → IsAudit words m → subcommand_name_of m ≡ Some (codes "audit")
+audit_name words m t = name_of_rows m ∙ ap (option_map (λ p. p.0)) t.entered
+
 -- matches of one command are no matches of another
-other_name : (name other : Text) (count : ℕ) (rows : List Text → List Row) (words : List Text) (m : ArgMatches) → IsTakenBy name count rows words m → subcommand_name_of m ≡ Some other → bytes_eq name other ≡ false → ⊥
-other_name name other count rows words m t is differ =
-    let same : name ≡ other = some_same name other (subcommand_name_of m) (taken_name name count rows words m t) is in
+one_name : (name other : Text) (m : ArgMatches) → subcommand_name_of m ≡ Some name → subcommand_name_of m ≡ Some other → bytes_eq name other ≡ false → ⊥
+one_name name other m first is differ =
+    let same : name ≡ other = some_same name other (subcommand_name_of m) first is in
     true≢false (sym ((bytes_eq-Decides name other).1 same) ∙ differ)
+
+other_name : (name other : Text) (count : ℕ) (rows : List Text → List Row) (words : List Text) (m : ArgMatches) → IsTakenBy name count rows words m → subcommand_name_of m ≡ Some other → bytes_eq name other ≡ false → ⊥
+other_name name other count rows words m t is differ = one_name name other m (taken_name name count rows words m t) is differ
 
 pub taken_collect : (words : List Text) (m : ArgMatches) → AreMatchesOf words m → subcommand_name_of m ≡ Some (codes "collect") → IsCollect words m
 taken_collect words m are name = elim (taken once_app words m refl are.matches (λ _. are.fine)) [
@@ -148,7 +180,7 @@ taken_collect words m are name = elim (taken once_app words m refl are.matches (
   | inr (inl t) ↦ t
   | inr (inr (inl t)) ↦ absurd (other_name (codes "check") (codes "collect") 3 check_rows words m t name refl)
   | inr (inr (inr (inl t))) ↦ absurd (other_name (codes "confirm") (codes "collect") 3 confirm_rows words m t name refl)
-  | inr (inr (inr (inr t))) ↦ absurd (other_name (codes "audit") (codes "collect") 2 audit_rows words m t name refl)
+  | inr (inr (inr (inr t))) ↦ absurd (one_name (codes "audit") (codes "collect") m (audit_name words m t) name refl)
 ]
 
 pub taken_check : (words : List Text) (m : ArgMatches) → AreMatchesOf words m → subcommand_name_of m ≡ Some (codes "check") → IsCheck words m
@@ -157,7 +189,7 @@ taken_check words m are name = elim (taken once_app words m refl are.matches (λ
   | inr (inl t) ↦ absurd (other_name (codes "collect") (codes "check") 2 collect_rows words m t name refl)
   | inr (inr (inl t)) ↦ t
   | inr (inr (inr (inl t))) ↦ absurd (other_name (codes "confirm") (codes "check") 3 confirm_rows words m t name refl)
-  | inr (inr (inr (inr t))) ↦ absurd (other_name (codes "audit") (codes "check") 2 audit_rows words m t name refl)
+  | inr (inr (inr (inr t))) ↦ absurd (one_name (codes "audit") (codes "check") m (audit_name words m t) name refl)
 ]
 
 pub taken_confirm : (words : List Text) (m : ArgMatches) → AreMatchesOf words m → subcommand_name_of m ≡ Some (codes "confirm") → IsConfirm words m
@@ -166,7 +198,7 @@ taken_confirm words m are name = elim (taken once_app words m refl are.matches (
   | inr (inl t) ↦ absurd (other_name (codes "collect") (codes "confirm") 2 collect_rows words m t name refl)
   | inr (inr (inl t)) ↦ absurd (other_name (codes "check") (codes "confirm") 3 check_rows words m t name refl)
   | inr (inr (inr (inl t))) ↦ t
-  | inr (inr (inr (inr t))) ↦ absurd (other_name (codes "audit") (codes "confirm") 2 audit_rows words m t name refl)
+  | inr (inr (inr (inr t))) ↦ absurd (one_name (codes "audit") (codes "confirm") m (audit_name words m t) name refl)
 ]
 
 pub taken_audit : (words : List Text) (m : ArgMatches) → AreMatchesOf words m → subcommand_name_of m ≡ Some (codes "audit") → IsAudit words m
@@ -189,7 +221,7 @@ taken_replay words m are collect check confirm audit = elim (taken once_app word
   | inr (inl t) ↦ absurd (true≢false (sym (collect (taken_name (codes "collect") 2 collect_rows words m t))))
   | inr (inr (inl t)) ↦ absurd (true≢false (sym (check (taken_name (codes "check") 3 check_rows words m t))))
   | inr (inr (inr (inl t))) ↦ absurd (true≢false (sym (confirm (taken_name (codes "confirm") 3 confirm_rows words m t))))
-  | inr (inr (inr (inr t))) ↦ absurd (true≢false (sym (audit (taken_name (codes "audit") 2 audit_rows words m t))))
+  | inr (inr (inr (inr t))) ↦ absurd (true≢false (sym (audit (audit_name words m t))))
 ]
 
 pub replay_name : (words : List Text) (m : ArgMatches) → IsReplay words m → subcommand_name_of m ≡ Some (codes "replay")
@@ -287,10 +319,33 @@ collect_files words m found are name e =
     let t = taken_collect words m are name in
     files_of (codes "collect") (codes "STREAM") collect_rows words found t.files (λ a b. refl) (λ a b. refl) t.count_is t.named (same_rows (codes "collect") 2 collect_rows words m found t e)
 
-pub audit_files : (words : List Text) (m : ArgMatches) (found : Found) → AreMatchesOf words m → subcommand_name_of m ≡ Some (codes "audit") → HasRows m found → HasFiles (codes "audit") (codes "TRAFFIC") words found
+-- the values of an audit
+pub record HasAudit (words : List Text) (found : Found) : Type 0 where
+  pub network : Text
+  pub traffic : Text
+  pub text : Text
+  pub limit : ℕ
+  pub is : IsLimit text limit
+  pub named : NamesAudit words (network ∷ traffic ∷ []) limit
+  pub network_is : first_value found (codes "NETWORK") ≡ Some network
+  pub traffic_is : first_value found (codes "TRAFFIC") ≡ Some traffic
+  pub limit_is : one_text found (codes "limit") ≡ Some text
+
+pub audit_files : (words : List Text) (m : ArgMatches) (found : Found) → AreMatchesOf words m → subcommand_name_of m ≡ Some (codes "audit") → HasRows m found → HasAudit words found
 audit_files words m found are name e =
     let t = taken_audit words m are name in
-    files_of (codes "audit") (codes "TRAFFIC") audit_rows words found t.files (λ a b. refl) (λ a b. refl) t.count_is t.named (same_rows (codes "audit") 2 audit_rows words m found t e)
+    let same : rows_of found ≡ t.rows = ap (λ (o : Option (List Row)). unwrap_or o t.rows) (sym e ∙ ap (option_map (λ p. p.1)) t.entered) in
+    record {
+      network = t.network;
+      traffic = t.traffic;
+      text = t.text;
+      limit = t.limit;
+      is = t.is;
+      named = t.named;
+      network_is = value_by found (codes "NETWORK") t.network t.rows same t.network_is;
+      traffic_is = value_by found (codes "TRAFFIC") t.traffic t.rows same t.traffic_is;
+      limit_is = one_text-rows found (codes "limit") ∙ ap (one_of (codes "limit")) same ∙ t.limit_is;
+    }
 
 has_value : (found : Found) (id name : Text) → first_value found id ≡ Some name → IsFound found id
 has_value found id name is = subst (λ (o : Option Text). IsSome o) (sym is) refl
@@ -301,6 +356,9 @@ all_found {command} {third} found f =
 
 pub both_found : {command second : Text} {words : List Text} (found : Found) → HasFiles command second words found → IsFound found (codes "NETWORK") × IsFound found second
 both_found {command} {second} found f = (has_value found (codes "NETWORK") f.network f.network_is, has_value found second f.last f.last_is)
+
+pub audit_found : {words : List Text} (found : Found) → HasAudit words found → IsFound found (codes "NETWORK") × IsFound found (codes "TRAFFIC") × ((n : ℕ) × HoldsLimit found n)
+audit_found found f = (has_value found (codes "NETWORK") f.network f.network_is, has_value found (codes "TRAFFIC") f.traffic f.traffic_is, (f.limit, (f.text, f.limit_is, f.is)))
 
 same_file : (found : Found) (id name file : Text) → first_value found id ≡ Some file → first_value found id ≡ Some name → file ≡ name
 same_file found id name file a b = ap (λ (o : Option Text). unwrap_or o file) (sym a ∙ b)
@@ -338,35 +396,48 @@ names_replay words found f (Replay a b c) h = with_documents (codes "replay") (c
 names_replay words found f (Collect a b) h = absurd h
 names_replay words found f (Check a b c) h = absurd h
 names_replay words found f (Confirm a b c) h = absurd h
-names_replay words found f (Audit a b) h = absurd h
+names_replay words found f (Audit a b n) h = absurd h
 
 pub names_collect : (words : List Text) (found : Found) → HasFiles (codes "collect") (codes "STREAM") words found → (call : Call) → IsCollectOf found call → Names words call
 names_collect words found f (Replay a b c) h = absurd h
 names_collect words found f (Collect a b) h = with_files (codes "collect") (codes "STREAM") words found f (string_bytes a) (string_bytes b) h.0 h.1
 names_collect words found f (Check a b c) h = absurd h
 names_collect words found f (Confirm a b c) h = absurd h
-names_collect words found f (Audit a b) h = absurd h
+names_collect words found f (Audit a b n) h = absurd h
 
 pub names_check : (words : List Text) (found : Found) → HasDocuments (codes "check") (codes "CERTIFICATE") words found → (call : Call) → IsCheckOf found call → Names words call
 names_check words found f (Replay a b c) h = absurd h
 names_check words found f (Collect a b) h = absurd h
 names_check words found f (Check a b c) h = with_documents (codes "check") (codes "CERTIFICATE") words found f (string_bytes a) (string_bytes b) (string_bytes c) h.0 h.1 h.2
 names_check words found f (Confirm a b c) h = absurd h
-names_check words found f (Audit a b) h = absurd h
+names_check words found f (Audit a b n) h = absurd h
 
 pub names_confirm : (words : List Text) (found : Found) → HasDocuments (codes "confirm") (codes "REFUTATION") words found → (call : Call) → IsConfirmOf found call → Names words call
 names_confirm words found f (Replay a b c) h = absurd h
 names_confirm words found f (Collect a b) h = absurd h
 names_confirm words found f (Check a b c) h = absurd h
 names_confirm words found f (Confirm a b c) h = with_documents (codes "confirm") (codes "REFUTATION") words found f (string_bytes a) (string_bytes b) (string_bytes c) h.0 h.1 h.2
-names_confirm words found f (Audit a b) h = absurd h
+names_confirm words found f (Audit a b n) h = absurd h
 
-pub names_audit : (words : List Text) (found : Found) → HasFiles (codes "audit") (codes "TRAFFIC") words found → (call : Call) → IsAuditOf found call → Names words call
+-- a limit that is held is the one that the words set
+limit_held : (words : List Text) (found : Found) (f : HasAudit words found) (n : ℕ) → HoldsLimit found n → f.limit ≡ n
+limit_held words found f n (text, there, is) =
+    let same : f.text ≡ text = ap (λ (o : Option Text). unwrap_or o f.text) (sym f.limit_is ∙ there) in
+    sym f.is.1 ∙ ap (λ (t : Text). digits_value 10 (without_leading_plus t)) same ∙ is.1
+
+pub names_audit : (words : List Text) (found : Found) → HasAudit words found → (call : Call) → IsAuditOf found call → Names words call
 names_audit words found f (Replay a b c) h = absurd h
 names_audit words found f (Collect a b) h = absurd h
 names_audit words found f (Check a b c) h = absurd h
 names_audit words found f (Confirm a b c) h = absurd h
-names_audit words found f (Audit a b) h = with_files (codes "audit") (codes "TRAFFIC") words found f (string_bytes a) (string_bytes b) h.0 h.1
+names_audit words found f (Audit a b n) h =
+    subst (λ (p : List Text × ℕ). NamesAudit words p.0 p.1)
+    (λ i. (
+      same_file found (codes "NETWORK") (string_bytes a) f.network f.network_is h.0 i
+          ∷ same_file found (codes "TRAFFIC") (string_bytes b) f.traffic f.traffic_is h.1 i ∷ [],
+      limit_held words found f n h.2 i,
+    ))
+    f.named
 
 -- ---- the command line
 
@@ -381,7 +452,7 @@ AreBuilt replay collect check confirm audit =
     × IsBuilt collect (over_network (codes "collect") (file_rule (codes "STREAM")))
     × IsBuilt check (over_documents (codes "check") (file_rule (codes "CERTIFICATE")))
     × IsBuilt confirm (over_documents (codes "confirm") (file_rule (codes "REFUTATION")))
-    × IsBuilt audit (over_network (codes "audit") (file_rule (codes "TRAFFIC")))
+    × IsBuilt audit (with_rule (over_network (codes "audit") (file_rule (codes "TRAFFIC"))) limit_rule)
 
 with_five : (once replay collect check confirm audit whole : Command) → AddsInTurn AddsSubcommand once (replay ∷ collect ∷ check ∷ confirm ∷ audit ∷ []) whole
     → app_of once ≡ on_top wants_command (new_app (codes "once")) → AreBuilt replay collect check confirm audit → app_of whole ≡ once_app

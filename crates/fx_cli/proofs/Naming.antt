@@ -3,19 +3,19 @@ use Rattle.std.proofs.Common.{◌≡◌, ◌∙◌, ◌≤◌, ◌⊎◌, ℕ, t
 use Rattle.std.specs.List.{fold}
 use Rattle.std.specs.Str.{bytes_eq}
 use Rattle.std.specs.Prelude.{is_some}
-use Rattle.clap.specs.Walk.{Held, Names, Row, Step, Text, Walk, after_step, walked, idle, nothing_held, value, word_met, walk, walk_from, subcommand_met, subcommand_or_other, finished, settled, rows_after}
+use Rattle.clap.specs.Walk.{Held, Names, Row, Step, Text, Walk, after_step, walked, idle, nothing_held, value, word_met, walk, walk_from, subcommand_met, subcommand_or_other, finished, first_of, one_of, settled, rows_after}
 use Rattle.clap.specs.Simple.{Shape, built, entered, names_of, subcommand_of}
 use Rattle.clap.specs.Kinds.{Kinds, or_else}
 use Rattle.clap.specs.Faults.{check_fault, entered_fault, defaults_fault, other_fault, fault_of, settle_fault, turn_fault, walk_fault, word_fault, step_fault}
 use Rattle.clap.proofs.WalkLemmas.{walk_stopped}
 use Rattle.clap.proofs.FaultLemmas.{stopped_fault}
 use Rattle.std.proofs.lemmas.Slice.Eq.{bytes_eq-Decides}
-use Rattle.fx_cli.specs.Words.{NamesFiles, file_names, is_double_hyphen, is_flag}
+use Rattle.fx_cli.specs.Words.{IsLimit, NamesAudit, NamesFiles, NamesWithin, file_names, is_double_hyphen, is_flag}
 use Rattle.fx_cli.specs.CommandLine.{once_app}
 use Rattle.fx_cli.proofs.SingleWords.{Fails, fails_first, or_none, top, top_knows, bool_cases, plain_word, flag_word}
 use Rattle.fx_cli.proofs.SingleWords as shapes
 use Rattle.fx_cli.proofs.FileWords.{CommandFails, CommandPasses, command_fault}
-use Rattle.fx_cli.proofs.AuditWords.{audit_rows, decide_audit}
+use Rattle.fx_cli.proofs.AuditWords.{AuditFails, AuditPasses, decide_audit}
 use Rattle.fx_cli.proofs.CheckWords.{check_rows, decide_check}
 use Rattle.fx_cli.proofs.CollectWords.{collect_rows, decide_collect}
 use Rattle.fx_cli.proofs.ConfirmWords.{confirm_rows, decide_confirm}
@@ -31,9 +31,28 @@ pub record Takes (name : Text) (count : ℕ) (rows : List Text → List Row) (wo
   pub takes : fault_of once_app words ≡ []
   pub entered : subcommand_of once_app words ≡ Some (name, rows files)
 
+-- the words name an audit, and are taken, with these values held
+pub record TakesAudit (words : List Text) : Type 0 where
+  pub network : Text
+  pub traffic : Text
+  pub text : Text
+  pub limit : ℕ
+  pub is : IsLimit text limit
+  pub named : NamesAudit words (network ∷ traffic ∷ []) limit
+  pub takes : fault_of once_app words ≡ []
+  pub rows : List Row
+  pub entered : subcommand_of once_app words ≡ Some (codes "audit", rows)
+  pub network_is : first_of (codes "NETWORK") rows ≡ Some network
+  pub traffic_is : first_of (codes "TRAFFIC") rows ≡ Some traffic
+  pub limit_is : one_of (codes "limit") rows ≡ Some text
+
 -- the words name no so many files of this command
 abbrev Unnamed : Text → ℕ → List Text → Type 0
 Unnamed name count words = (files : List Text) → length files ≡ count → NamesFiles words name files → ⊥
+
+-- the words name no audit
+abbrev UnnamedAudit : List Text → Type 0
+UnnamedAudit words = (network traffic : Text) (limit : ℕ) → NamesAudit words (network ∷ traffic ∷ []) limit → ⊥
 
 pub record Refuses (words : List Text) : Type 0 where
   pub fails : Fails (fault_of once_app words)
@@ -41,7 +60,7 @@ pub record Refuses (words : List Text) : Type 0 where
   pub collect : Unnamed (codes "collect") 2 words
   pub check : Unnamed (codes "check") 3 words
   pub confirm : Unnamed (codes "confirm") 3 words
-  pub audit : Unnamed (codes "audit") 2 words
+  pub audit : UnnamedAudit words
 
 -- what the words come to: one of the commands takes them, or none does
 abbrev pub Decided : List Text → Type 0
@@ -50,7 +69,7 @@ Decided words =
     ⊎ (Takes (codes "collect") 2 collect_rows words
     ⊎ (Takes (codes "check") 3 check_rows words
     ⊎ (Takes (codes "confirm") 3 confirm_rows words
-    ⊎ (Takes (codes "audit") 2 audit_rows words ⊎ Refuses words))))
+    ⊎ (TakesAudit words ⊎ Refuses words))))
 
 abbrev commands : Names
 commands = names_of (built once_app)
@@ -66,7 +85,7 @@ abbrev met : Text → List Text → Walk
 met command words = record (walk_from nothing_held) { stopped = Some (command, words) }
 
 -- a command that the program knows: what it makes of the words behind it
-record IsCommand (name : Text) (count : ℕ) (rows : List Text → List Row) (s : Shape) : Type 0 where
+record IsCommand (name : Text) (s : Shape) : Type 0 where
   fault : (program : Text) (rest : List Text) → fault_of once_app (program ∷ name ∷ rest) ≡ command_fault s rest
   entered : (program : Text) (rest : List Text) → subcommand_of once_app (program ∷ name ∷ rest) ≡ Some (name, rows_after s.rules [] rest)
 
@@ -74,7 +93,7 @@ replay_walk : (rest : List Text) → fold (walked top.rules commands) (walked to
 unfolding walked
 replay_walk rest = sym (walk_stopped top.rules commands (walk_from nothing_held) (codes "replay") [] rest)
 
-is_replay : IsCommand (codes "replay") 3 replay_rows shapes.replay
+is_replay : IsCommand (codes "replay") shapes.replay
 unfolding walked walk_fault defaults_fault
 is_replay = record {
   fault = λ program rest.
@@ -86,7 +105,7 @@ collect_walk : (rest : List Text) → fold (walked top.rules commands) (walked t
 unfolding walked
 collect_walk rest = sym (walk_stopped top.rules commands (walk_from nothing_held) (codes "collect") [] rest)
 
-is_collect : IsCommand (codes "collect") 2 collect_rows shapes.collect
+is_collect : IsCommand (codes "collect") shapes.collect
 unfolding walked walk_fault defaults_fault
 is_collect = record {
   fault = λ program rest.
@@ -98,7 +117,7 @@ check_walk : (rest : List Text) → fold (walked top.rules commands) (walked top
 unfolding walked
 check_walk rest = sym (walk_stopped top.rules commands (walk_from nothing_held) (codes "check") [] rest)
 
-is_check : IsCommand (codes "check") 3 check_rows shapes.check
+is_check : IsCommand (codes "check") shapes.check
 unfolding walked walk_fault defaults_fault
 is_check = record {
   fault = λ program rest.
@@ -110,7 +129,7 @@ confirm_walk : (rest : List Text) → fold (walked top.rules commands) (walked t
 unfolding walked
 confirm_walk rest = sym (walk_stopped top.rules commands (walk_from nothing_held) (codes "confirm") [] rest)
 
-is_confirm : IsCommand (codes "confirm") 3 confirm_rows shapes.confirm
+is_confirm : IsCommand (codes "confirm") shapes.confirm
 unfolding walked walk_fault defaults_fault
 is_confirm = record {
   fault = λ program rest.
@@ -122,7 +141,7 @@ audit_walk : (rest : List Text) → fold (walked top.rules commands) (walked top
 unfolding walked
 audit_walk rest = sym (walk_stopped top.rules commands (walk_from nothing_held) (codes "audit") [] rest)
 
-is_audit : IsCommand (codes "audit") 2 audit_rows shapes.audit
+is_audit : IsCommand (codes "audit") shapes.audit
 unfolding walked walk_fault defaults_fault
 is_audit = record {
   fault = λ program rest.
@@ -174,11 +193,11 @@ abbrev pub second : List Text → Text
 second (program ∷ command ∷ rest) = command
 second _ = []
 
-abbrev behind : List Text → List Text
+abbrev pub behind : List Text → List Text
 behind (program ∷ command ∷ rest) = rest
 behind _ = []
 
-command_taken : (name : Text) (count : ℕ) (rows : List Text → List Row) (s : Shape) → IsCommand name count rows s → (program : Text) (rest : List Text) → CommandPasses s count rows rest
+command_taken : (name : Text) (count : ℕ) (rows : List Text → List Row) (s : Shape) → IsCommand name s → (program : Text) (rest : List Text) → CommandPasses s count rows rest
     → Takes name count rows (program ∷ name ∷ rest)
 command_taken name count rows s is program rest p = record {
   files = p.files;
@@ -188,10 +207,31 @@ command_taken name count rows s is program rest p = record {
   entered = is.entered program rest ∙ ap (λ kept. Some (name, kept)) p.rows_are;
 }
 
+audit_taken : (program : Text) (rest : List Text) → AuditPasses rest → TakesAudit (program ∷ codes "audit" ∷ rest)
+audit_taken program rest p = record {
+  network = p.network;
+  traffic = p.traffic;
+  text = p.text;
+  limit = p.limit;
+  is = p.is;
+  named = record { program = program; rest = rest; words_are = refl; within = p.within };
+  takes = is_audit.fault program rest ∙ p.passes;
+  rows = rows_after shapes.audit.rules [] rest;
+  entered = is_audit.entered program rest;
+  network_is = p.network_is;
+  traffic_is = p.traffic_is;
+  limit_is = p.limit_is;
+}
+
 -- the word of another command names none of this one's files
 of_another : (name program command : Text) (rest : List Text) (count : ℕ) → bytes_eq name command ≡ false → Unnamed name count (program ∷ command ∷ rest)
 of_another name program command rest count other = λ files all n.
     let same : bytes_eq name command ≡ true = (bytes_eq-Decides name command).1 (sym (ap second n.words_are)) in
+    absurd (true≢false (sym same ∙ other))
+
+no_audit : (program command : Text) (rest : List Text) → bytes_eq (codes "audit") command ≡ false → UnnamedAudit (program ∷ command ∷ rest)
+no_audit program command rest other = λ a b limit n.
+    let same : bytes_eq (codes "audit") command ≡ true = (bytes_eq-Decides (codes "audit") command).1 (sym (ap second n.words_are)) in
     absurd (true≢false (sym same ∙ other))
 
 of_this : (s : Shape) (name program : Text) (rest : List Text) (count : ℕ) → CommandFails s count rest → Unnamed name count (program ∷ name ∷ rest)
@@ -204,7 +244,7 @@ replay_refused program rest f = record {
   collect = of_another (codes "collect") program (codes "replay") rest 2 refl;
   check = of_another (codes "check") program (codes "replay") rest 3 refl;
   confirm = of_another (codes "confirm") program (codes "replay") rest 3 refl;
-  audit = of_another (codes "audit") program (codes "replay") rest 2 refl;
+  audit = no_audit program (codes "replay") rest refl;
 }
 
 collect_refused : (program : Text) (rest : List Text) → CommandFails shapes.collect 2 rest → Refuses (program ∷ codes "collect" ∷ rest)
@@ -214,7 +254,7 @@ collect_refused program rest f = record {
   collect = of_this shapes.collect (codes "collect") program rest 2 f;
   check = of_another (codes "check") program (codes "collect") rest 3 refl;
   confirm = of_another (codes "confirm") program (codes "collect") rest 3 refl;
-  audit = of_another (codes "audit") program (codes "collect") rest 2 refl;
+  audit = no_audit program (codes "collect") rest refl;
 }
 
 check_refused : (program : Text) (rest : List Text) → CommandFails shapes.check 3 rest → Refuses (program ∷ codes "check" ∷ rest)
@@ -224,7 +264,7 @@ check_refused program rest f = record {
   collect = of_another (codes "collect") program (codes "check") rest 2 refl;
   check = of_this shapes.check (codes "check") program rest 3 f;
   confirm = of_another (codes "confirm") program (codes "check") rest 3 refl;
-  audit = of_another (codes "audit") program (codes "check") rest 2 refl;
+  audit = no_audit program (codes "check") rest refl;
 }
 
 confirm_refused : (program : Text) (rest : List Text) → CommandFails shapes.confirm 3 rest → Refuses (program ∷ codes "confirm" ∷ rest)
@@ -234,18 +274,21 @@ confirm_refused program rest f = record {
   collect = of_another (codes "collect") program (codes "confirm") rest 2 refl;
   check = of_another (codes "check") program (codes "confirm") rest 3 refl;
   confirm = of_this shapes.confirm (codes "confirm") program rest 3 f;
-  audit = of_another (codes "audit") program (codes "confirm") rest 2 refl;
+  audit = no_audit program (codes "confirm") rest refl;
 }
 
-audit_refused : (program : Text) (rest : List Text) → CommandFails shapes.audit 2 rest → Refuses (program ∷ codes "audit" ∷ rest)
+audit_refused : (program : Text) (rest : List Text) → AuditFails rest → Refuses (program ∷ codes "audit" ∷ rest)
 audit_refused program rest f = record {
   fails = subst Fails (sym (is_audit.fault program rest)) f.fails;
   replay = of_another (codes "replay") program (codes "audit") rest 3 refl;
   collect = of_another (codes "collect") program (codes "audit") rest 2 refl;
   check = of_another (codes "check") program (codes "audit") rest 3 refl;
   confirm = of_another (codes "confirm") program (codes "audit") rest 3 refl;
-  audit = of_this shapes.audit (codes "audit") program rest 2 f;
+  audit = λ a b n named. f.unnamed a b n (subst (λ (ws : List Text). NamesWithin ws (a ∷ b ∷ []) n) (sym (ap behind named.words_are)) named.within);
 }
+
+short_audit : (words : List Text) → length words ≤ 1 → UnnamedAudit words
+short_audit words few = λ a b limit n. let same = ap length n.words_are in absurd (omega (arith, same, few))
 
 too_short : (name : Text) (count : ℕ) (words : List Text) → length words ≤ 1 → Unnamed name count words
 too_short name count words few = λ files all n. let same = ap length n.words_are in absurd (omega (arith, same, few))
@@ -276,7 +319,7 @@ at_confirm program rest = elim (decide_confirm rest) as (λ _. Decided (program 
 
 at_audit : (program : Text) (rest : List Text) → Decided (program ∷ codes "audit" ∷ rest)
 at_audit program rest = elim (decide_audit rest) as (λ _. Decided (program ∷ codes "audit" ∷ rest)) [
-  | inl p ↦ inr (inr (inr (inr (inl (command_taken (codes "audit") 2 audit_rows shapes.audit is_audit program rest p)))))
+  | inl p ↦ inr (inr (inr (inr (inl (audit_taken program rest p)))))
   | inr f ↦ inr (inr (inr (inr (inr (audit_refused program rest f)))))
 ]
 
@@ -299,7 +342,7 @@ at_other program command rest first second third fourth fifth = record {
   collect = of_another (codes "collect") program command rest 2 second;
   check = of_another (codes "check") program command rest 3 third;
   confirm = of_another (codes "confirm") program command rest 3 fourth;
-  audit = of_another (codes "audit") program command rest 2 fifth;
+  audit = no_audit program command rest fifth;
 }
 
 pub decide_words : (words : List Text) → Decided words
@@ -310,7 +353,7 @@ decide_words [] = inr (inr (inr (inr (inr (record {
   collect = too_short (codes "collect") 2 [] (omega arith);
   check = too_short (codes "check") 3 [] (omega arith);
   confirm = too_short (codes "confirm") 3 [] (omega arith);
-  audit = too_short (codes "audit") 2 [] (omega arith);
+  audit = short_audit [] (omega arith);
 })))))
 decide_words (program ∷ []) = inr (inr (inr (inr (inr (record {
   fails = tt;
@@ -318,7 +361,7 @@ decide_words (program ∷ []) = inr (inr (inr (inr (inr (record {
   collect = too_short (codes "collect") 2 (program ∷ []) (omega arith);
   check = too_short (codes "check") 3 (program ∷ []) (omega arith);
   confirm = too_short (codes "confirm") 3 (program ∷ []) (omega arith);
-  audit = too_short (codes "audit") 2 (program ∷ []) (omega arith);
+  audit = short_audit (program ∷ []) (omega arith);
 })))))
 decide_words (program ∷ command ∷ rest) = elim (bool_cases (bytes_eq (codes "replay") command)) [
   | inl is ↦ subst (λ c. Decided (program ∷ c ∷ rest)) ((bytes_eq-Decides (codes "replay") command).0 is) (at_replay program rest)

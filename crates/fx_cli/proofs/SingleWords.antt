@@ -110,13 +110,6 @@ confirm_knows = record {
   short = λ x rest h next. short_fails confirm.rules (104 == x || false) rest h next;
 }
 
-pub audit_knows : KnowsHelp audit
-audit_knows = record {
-  again = refl;
-  long = λ name v h. long_fails audit.rules (bytes_eq (codes "help") name || false) v h;
-  short = λ x rest h next. short_fails audit.rules (104 == x || false) rest h next;
-}
-
 pub top_knows : KnowsHelp top
 top_knows = record {
   again = refl;
@@ -175,14 +168,17 @@ pub option_cases : (o : Option ℕ) → is_some o ≡ false → o ≡ None
 option_cases None e = refl
 option_cases (Some x) e = absurd (true≢false e)
 
-pub plain_word : (s : Shape) (names : Names) (word : Text) → subcommand_met names idle word ≡ None → is_double_hyphen word ≡ false → is_flag word ≡ false
-    → IsValueWord s names false word
-plain_word s names [] none double flag = no_hyphen s names [] none double refl refl
-plain_word s names (x ∷ []) none double flag = elim (bool_cases (x == 45)) [
-  | inl hyphen ↦ no_hyphen s names (x ∷ []) none double (rw hyphen refl) (rw hyphen refl)
-  | inr other ↦ no_hyphen s names (x ∷ []) none double (rw other refl) (rw other refl)
+-- a word that is neither a flag nor `--`: no long flag, and no short one with a character
+abbrev pub IsNoFlag : Text → Type 0
+IsNoFlag word = (long_of word ≡ None) × ((short_of word ≡ None) ⊎ ((flags : Text) × (short_of word ≡ Some flags) × (slice_get (chars flags) 0 ≡ None)))
+
+pub plain_form : (word : Text) → is_double_hyphen word ≡ false → is_flag word ≡ false → IsNoFlag word
+plain_form [] double flag = (refl, inl refl)
+plain_form (x ∷ []) double flag = elim (bool_cases (x == 45)) [
+  | inl hyphen ↦ (rw hyphen refl, inl (rw hyphen refl))
+  | inr other ↦ (rw other refl, inl (rw other refl))
 ]
-plain_word s names (x ∷ y ∷ ys) none double flag = elim (bool_cases (x == 45)) [
+plain_form (x ∷ y ∷ ys) double flag = elim (bool_cases (x == 45)) [
   | inl hyphen ↦ elim (bool_cases (y == 45)) [
     | inl second ↦
         let is : y ≡ 45 = eqb-true y 45 second in
@@ -191,60 +187,80 @@ plain_word s names (x ∷ y ∷ ys) none double flag = elim (bool_cases (x == 45
         absurd (true≢false (sym some ∙ none_there))
     | inr single ↦
         let none_there : is_some (slice_get (chars (y ∷ ys)) 0) ≡ false = rw hyphen at flag in
-        no_text s names (x ∷ y ∷ ys) (y ∷ ys) none double (rw (hyphen, single) refl) (rw (hyphen, single) refl) (option_cases _ none_there)
+        (rw (hyphen, single) refl, inr (y ∷ ys, rw (hyphen, single) refl, option_cases _ none_there))
   ]
-  | inr other ↦ no_hyphen s names (x ∷ y ∷ ys) none double (rw other refl) (rw other refl)
+  | inr other ↦ (rw other refl, inl (rw other refl))
 ]
+
+pub plain_word : (s : Shape) (names : Names) (word : Text) → subcommand_met names idle word ≡ None → is_double_hyphen word ≡ false → is_flag word ≡ false
+    → IsValueWord s names false word
+plain_word s names word none double flag =
+    let form = plain_form word double flag in
+    elim form.1 [
+      | inl short ↦ no_hyphen s names word none double form.0 short
+      | inr empty ↦ no_text s names word empty.0 none double form.0 empty.1 empty.2
+    ]
 
 -- a flag is answered with an error
 pub record IsRefusedWord (s : Shape) (names : Names) (word : Text) : Type 0 where
   pub fails : (rows : List Row) (pending : Option (Text × List Text)) → Fails (word_fault s names false idle word (held rows pending))
 
-pub long_flag : (s : Shape) (names : Names) (word : Text) (p : Text × Option Text) → KnowsHelp s → subcommand_met names idle word ≡ None → is_double_hyphen word ≡ false
-    → long_of word ≡ Some p → IsRefusedWord s names word
-long_flag s names word p known none double long = record {
-  fails = λ rows pending.
-      let there : Fails (other_fault s None word (held rows pending)) = rw (double, long) (known.long p.0 p.1 (held rows pending)) in
-      subst (λ o. Fails (other_fault s o word (held rows pending))) (sym none) there;
-}
+-- a long flag, or a bundle of short ones with a first character
+abbrev pub IsLongFlag : Text → Type 0
+IsLongFlag word = (p : Text × Option Text) × (long_of word ≡ Some p)
 
-pub some_of : (o : Option ℕ) → is_some o ≡ true → (x : ℕ) × (o ≡ Some x)
+abbrev pub IsShortFlag : Text → Type 0
+IsShortFlag word = (y : ℕ) × (ys : Text) × (long_of word ≡ None) × (short_of word ≡ Some (y ∷ ys)) × (is_some (slice_get (chars (y ∷ ys)) 0) ≡ true)
+
+hyphen_form : (x : ℕ) (xs : Text) → is_double_hyphen (x ∷ xs) ≡ false → (x == 45) ≡ true → is_some (slice_get (chars xs) 0) ≡ true → IsLongFlag (x ∷ xs) ⊎ IsShortFlag (x ∷ xs)
+unfolding chars
+hyphen_form x [] double hyphen some = absurd (true≢false (sym some))
+hyphen_form x (y ∷ []) double hyphen some = elim (bool_cases (y == 45)) [
+  | inl second ↦ let not_double : true ≡ false = rw (hyphen, second) at double in absurd (true≢false not_double)
+  | inr single ↦ inr (y, [], rw (hyphen, single) refl, rw (hyphen, single) refl, some)
+]
+hyphen_form x (y ∷ z ∷ zs) double hyphen some = elim (bool_cases (y == 45)) [
+  | inl second ↦ inl (name_and_value (z ∷ zs), rw (hyphen, second) refl)
+  | inr single ↦ inr (y, z ∷ zs, rw (hyphen, single) refl, rw (hyphen, single) refl, some)
+]
+
+pub flag_form : (word : Text) → is_double_hyphen word ≡ false → is_flag word ≡ true → IsLongFlag word ⊎ IsShortFlag word
+flag_form [] double flag = absurd (true≢false (sym flag))
+flag_form (x ∷ xs) double flag = elim (bool_cases (x == 45)) [
+  | inr other ↦ let not_one : false ≡ true = rw other at flag in absurd (true≢false (sym not_one))
+  | inl hyphen ↦ let some : is_some (slice_get (chars xs) 0) ≡ true = rw hyphen at flag in hyphen_form x xs double hyphen some
+]
+
+some_of : (o : Option ℕ) → is_some o ≡ true → (x : ℕ) × (o ≡ Some x)
 some_of None e = absurd (true≢false (sym e))
 some_of (Some x) e = (x, refl)
 
-pub bundle_fails : (s : Shape) (known : KnowsHelp s) (y : ℕ) (ys : Text) (h : Held) → is_some (slice_get (chars (y ∷ ys)) 0) ≡ true
+-- where this is held, each short flag fails
+abbrev pub RefusesShort : Shape → Held → Type 0
+RefusesShort s h = (x : ℕ) (rest : Text) (next : Held → Kinds) → Fails (short_fault s.rules s.args_override_self (arg_by_short s.rules x) rest h next)
+
+bundle_fails : (s : Shape) (y : ℕ) (ys : Text) (h : Held) → RefusesShort s h → is_some (slice_get (chars (y ∷ ys)) 0) ≡ true
     → Fails (flags_fault s.rules s.args_override_self (length (y ∷ ys)) (y ∷ ys) 0 h)
 unfolding flags_fault
-bundle_fails s known y ys h some =
+bundle_fails s y ys h short some =
     let first = some_of (slice_get (chars (y ∷ ys)) 0) some in
     subst (λ o. Fails (bundle_step_fault s.rules s.args_override_self o (y ∷ ys) 0 h (flags_fault s.rules s.args_override_self (length ys)))) (sym first.1)
-    (known.short first.0 (drop (length (encode_utf8 first.0)) (y ∷ ys)) h (flags_fault s.rules s.args_override_self (length ys) (drop (length (encode_utf8 first.0)) (y ∷ ys)) 0))
+    (short first.0 (drop (length (encode_utf8 first.0)) (y ∷ ys)) (flags_fault s.rules s.args_override_self (length ys) (drop (length (encode_utf8 first.0)) (y ∷ ys)) 0))
 
-pub short_flag : (s : Shape) (names : Names) (word : Text) (y : ℕ) (ys : Text) → KnowsHelp s → subcommand_met names idle word ≡ None → is_double_hyphen word ≡ false
-    → long_of word ≡ None → short_of word ≡ Some (y ∷ ys) → is_some (slice_get (chars (y ∷ ys)) 0) ≡ true → IsRefusedWord s names word
-short_flag s names word y ys known none double long short some = record {
-  fails = λ rows pending.
-      let there : Fails (other_fault s None word (held rows pending)) = rw (double, long, short) (bundle_fails s known y ys (held rows pending) some) in
-      subst (λ o. Fails (other_fault s o word (held rows pending))) (sym none) there;
-}
+pub short_refused : (s : Shape) (word : Text) (rows : List Row) (pending : Option (Text × List Text)) → is_double_hyphen word ≡ false → IsShortFlag word → RefusesShort s (held rows pending)
+    → Fails (other_fault s None word (held rows pending))
+short_refused s word rows pending double (y, ys, long, is, some) short = rw (double, long, is) (bundle_fails s y ys (held rows pending) short some)
 
-pub hyphen_word : (s : Shape) (names : Names) (x : ℕ) (xs : Text) → KnowsHelp s → subcommand_met names idle (x ∷ xs) ≡ None → is_double_hyphen (x ∷ xs) ≡ false
-    → (x == 45) ≡ true → is_some (slice_get (chars xs) 0) ≡ true → IsRefusedWord s names (x ∷ xs)
-unfolding chars
-hyphen_word s names x [] known none double hyphen some = absurd (true≢false (sym some))
-hyphen_word s names x (y ∷ []) known none double hyphen some = elim (bool_cases (y == 45)) [
-  | inl second ↦ let not_double : true ≡ false = rw (hyphen, second) at double in absurd (true≢false not_double)
-  | inr single ↦ short_flag s names (x ∷ y ∷ []) y [] known none double (rw (hyphen, single) refl) (rw (hyphen, single) refl) some
-]
-hyphen_word s names x (y ∷ z ∷ zs) known none double hyphen some = elim (bool_cases (y == 45)) [
-  | inl second ↦ long_flag s names (x ∷ y ∷ z ∷ zs) (name_and_value (z ∷ zs)) known none double (rw (hyphen, second) refl)
-  | inr single ↦ short_flag s names (x ∷ y ∷ z ∷ zs) y (z ∷ zs) known none double (rw (hyphen, single) refl) (rw (hyphen, single) refl) some
-]
+pub long_refused : (s : Shape) (word : Text) (rows : List Row) (pending : Option (Text × List Text)) (name : Text) (v : Option Text) → is_double_hyphen word ≡ false → long_of word ≡ Some (name, v)
+    → Fails (long_fault s.rules s.args_override_self (arg_by_long s.rules name) v (held rows pending)) → Fails (other_fault s None word (held rows pending))
+long_refused s word rows pending name v double long fails = rw (double, long) fails
 
 pub flag_word : (s : Shape) (names : Names) (word : Text) → KnowsHelp s → subcommand_met names idle word ≡ None → is_double_hyphen word ≡ false → is_flag word ≡ true
     → IsRefusedWord s names word
-flag_word s names [] known none double flag = absurd (true≢false (sym flag))
-flag_word s names (x ∷ xs) known none double flag = elim (bool_cases (x == 45)) [
-  | inr other ↦ let not_one : false ≡ true = rw other at flag in absurd (true≢false (sym not_one))
-  | inl hyphen ↦ let some : is_some (slice_get (chars xs) 0) ≡ true = rw hyphen at flag in hyphen_word s names x xs known none double hyphen some
-]
+flag_word s names word known none double flag = record {
+  fails = λ rows pending.
+      subst (λ o. Fails (other_fault s o word (held rows pending))) (sym none) (elim (flag_form word double flag) [
+        | inl long ↦ long_refused s word rows pending long.0.0 long.0.1 double long.1 (known.long long.0.0 long.0.1 (held rows pending))
+        | inr short ↦ short_refused s word rows pending double short (λ x rest next. known.short x rest (held rows pending) next)
+      ]);
+}

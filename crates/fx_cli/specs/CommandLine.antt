@@ -1,7 +1,8 @@
 -- The command line as the crate that parses it sees it.
-use Rattle.std.specs.Prelude.{◌≡◌, true, List, [], codes}
+use Rattle.std.specs.Prelude.{◌≡◌, true, List, [], ◌∷◌, Some, codes}
 use Rattle.clap.specs.Words.{App, HasMatchesOf, Rule, Shape, Text, fault_of, new_app, new_rule, with_rule, with_subcommand}
 use Rattle.clap.specs.Simple.{on_top}
+use Rattle.clap.specs.declared.builder.value_parser.ValueParser.TheVariants as parsers
 use Rattle.clap.specs.declared.parser.matches.ArgMatches.{ArgMatches}
 
 abbrev pub file_rule : Text → Rule
@@ -15,6 +16,15 @@ over_documents command third = with_rule (with_rule (with_rule (new_app command)
 abbrev pub over_network : Text → Rule → App
 over_network command file = with_rule (with_rule (new_app command) (file_rule (codes "NETWORK"))) file
 
+-- the option of a limit, from 1 to 1,000,000
+abbrev pub limit_rule : Rule
+limit_rule = record (new_rule (codes "limit")) {
+  long = Some (codes "limit");
+  value_names = 1;
+  defaults = codes "1000000" ∷ [];
+  parser = Some (parsers.Unsigned 1 1000000);
+}
+
 abbrev pub wants_command : Shape → Shape
 wants_command s = record s { subcommand_required = true }
 
@@ -24,7 +34,7 @@ once_app =
     let collect = over_network (codes "collect") (file_rule (codes "STREAM")) in
     let check = over_documents (codes "check") (file_rule (codes "CERTIFICATE")) in
     let confirm = over_documents (codes "confirm") (file_rule (codes "REFUTATION")) in
-    let audit = over_network (codes "audit") (file_rule (codes "TRAFFIC")) in
+    let audit = with_rule (over_network (codes "audit") (file_rule (codes "TRAFFIC"))) limit_rule in
     let three = with_subcommand (with_subcommand (with_subcommand (on_top wants_command (new_app (codes "once"))) replay.top) collect.top) check.top in
     with_subcommand (with_subcommand three confirm.top) audit.top
 

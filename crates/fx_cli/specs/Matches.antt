@@ -1,7 +1,8 @@
 -- The call that the matches of a command's words hold.
-use Rattle.std.specs.Prelude.{◌≡◌, IsSome, Some, codes, string_bytes}
-use Rattle.clap.specs.Words.{Text, first_value}
+use Rattle.std.specs.Prelude.{◌≡◌, ℕ, IsSome, Some, codes, string_bytes}
+use Rattle.clap.specs.Words.{Text, first_value, one_text}
 use Rattle.clap.specs.declared.parser.matches.Found.{Found}
+use Rattle.fx_cli.specs.Words.{IsLimit}
 use Rattle.fx_cli.specs.declared.words.Call.{Call}
 use Rattle.fx_cli.specs.declared.words.Call.TheVariants.{Audit, Check, Collect, Confirm, Replay}
 
@@ -12,6 +13,10 @@ IsFound found name = IsSome (first_value found name)
 -- the value under this name is this file
 abbrev pub Holds : Found → Text → Text → Type 0
 Holds found name file = first_value found name ≡ Some file
+
+-- the limit that was found, or stands there by default, is this one
+abbrev pub HoldsLimit : Found → ℕ → Type 0
+HoldsLimit found limit = (text : Text) × (one_text found (codes "limit") ≡ Some text) × IsLimit text limit
 
 abbrev pub IsReplayOf : Found → Call → Type 0
 IsReplayOf found (Replay network traffic run) =
@@ -33,5 +38,6 @@ IsConfirmOf found (Confirm network traffic refutation) =
 IsConfirmOf found _ = ⊥
 
 abbrev pub IsAuditOf : Found → Call → Type 0
-IsAuditOf found (Audit network traffic) = Holds found (codes "NETWORK") (string_bytes network) × Holds found (codes "TRAFFIC") (string_bytes traffic)
+IsAuditOf found (Audit network traffic limit) =
+    Holds found (codes "NETWORK") (string_bytes network) × Holds found (codes "TRAFFIC") (string_bytes traffic) × HoldsLimit found limit
 IsAuditOf found _ = ⊥

@@ -1,5 +1,6 @@
 -- Which words give which call.
-use Rattle.std.specs.Prelude.{◌≡◌, ◌==◌, ◌&&◌, Bool, false, List, [], ◌∷◌, Option, Some, None, option_map, slice_get, is_some, codes, if◌then◌else◌, string_bytes}
+use Rattle.std.specs.Prelude.{◌≡◌, ◌⊎◌, ◌≤◌, ◌==◌, ◌&&◌, ℕ, Bool, false, List, [], ◌∷◌, ◌++◌, Option, Some, None, option_map, slice_get, is_some, codes, if◌then◌else◌, string_bytes}
+use Rattle.std.specs.Str.Parse.{IsNumeral, digits_value, without_leading_plus}
 use Rattle.std.specs.Str.{bytes_eq, chars}
 use Rattle.clap.specs.Words.{Text}
 use Rattle.fx_cli.specs.declared.words.Call.{Call}
@@ -28,8 +29,42 @@ pub record NamesFiles (words : List Text) (command : Text) (files : List Text) :
   pub words_are : words ≡ program ∷ command ∷ rest
   pub files_are : file_names rest ≡ Some files
 
+-- The text says this limit, a whole number from 1 to 1,000,000, in decimal digits. Zeros may stand before them, and a plus
+-- before all, since Rust reads such texts as numbers.
+abbrev pub IsLimit : Text → ℕ → Type 0
+IsLimit text limit =
+    IsNumeral 10 (without_leading_plus text) × (digits_value 10 (without_leading_plus text) ≡ limit) × (1 ≤ limit) × (limit ≤ 1000000)
+
+-- `--limit N` or `--limit=N`
+abbrev pub SetsLimit : List Text → ℕ → Type 0
+SetsLimit words limit =
+    (text : Text) × IsLimit text limit × ((words ≡ codes "--limit" ∷ text ∷ []) ⊎ (words ≡ (codes "--limit=" ++ text) ∷ []))
+
+-- The words behind `audit` name these files and set this limit: it stands among the files' names, with no `--` before it.
+pub record NamesWithLimit (rest : List Text) (files : List Text) (limit : ℕ) : Type 0 where
+  pub before : List Text
+  pub option : List Text
+  pub after : List Text
+  pub others : List Text
+  pub words_are : rest ≡ before ++ (option ++ after)
+  pub before_are : file_names before ≡ Some before
+  pub option_is : SetsLimit option limit
+  pub after_are : file_names after ≡ Some others
+  pub files_are : files ≡ before ++ others
+
+-- the words behind `audit` name these files, and set this limit or none, which is 1,000,000 then
+abbrev pub NamesWithin : List Text → List Text → ℕ → Type 0
+NamesWithin rest files limit = ((file_names rest ≡ Some files) × (limit ≡ 1000000)) ⊎ NamesWithLimit rest files limit
+
+-- the words are the program's own name, `audit`, and words that name these files and this limit
+pub record NamesAudit (words : List Text) (files : List Text) (limit : ℕ) : Type 0 where
+  pub program : Text
+  pub rest : List Text
+  pub words_are : words ≡ program ∷ codes "audit" ∷ rest
+  pub within : NamesWithin rest files limit
+
 -- `once replay NETWORK TRAFFIC RUN`, `once collect NETWORK STREAM`, `once check NETWORK TRAFFIC CERTIFICATE`,
--- `once confirm NETWORK TRAFFIC REFUTATION` and `once audit NETWORK TRAFFIC`
+-- `once confirm NETWORK TRAFFIC REFUTATION` and `once audit NETWORK TRAFFIC [--limit N]`
 abbrev pub Names : List Text → Call → Type 0
 Names words (Replay network traffic run) =
     NamesFiles words (codes "replay") (string_bytes network ∷ string_bytes traffic ∷ string_bytes run ∷ [])
@@ -38,7 +73,7 @@ Names words (Check network traffic certificate) =
     NamesFiles words (codes "check") (string_bytes network ∷ string_bytes traffic ∷ string_bytes certificate ∷ [])
 Names words (Confirm network traffic refutation) =
     NamesFiles words (codes "confirm") (string_bytes network ∷ string_bytes traffic ∷ string_bytes refutation ∷ [])
-Names words (Audit network traffic) = NamesFiles words (codes "audit") (string_bytes network ∷ string_bytes traffic ∷ [])
+Names words (Audit network traffic limit) = NamesAudit words (string_bytes network ∷ string_bytes traffic ∷ []) limit
 
 abbrev pub NamesNoCall : List Text → Type 0
 NamesNoCall words = (call : Call) → Names words call → ⊥

@@ -4,8 +4,8 @@ ghost use Rattle.fx_base.specs.Device.{Writes};
 ghost use Rattle.fx_base.specs.Fault.{fault_at};
 ghost use Rattle.fx_base.specs.declared.fault.Place.TheVariants as places;
 ghost use Rattle.fx_cli.specs.Ending.{IsExitStatus};
-ghost use Rattle.fx_audit.specs.Texts.{IsAuditText, IsBundleText, IsCheckText, IsCollectText, IsConfirmText, IsReplayText};
-ghost use Rattle.fx_cli.specs.Running.{EndsAs, HasFailedToWrite, IsCallText};
+ghost use Rattle.fx_audit.specs.Texts.{IsBundleText, IsCheckText, IsCollectText, IsConfirmText, IsReplayText};
+ghost use Rattle.fx_cli.specs.Running.{EndsAs, HasFailedToWrite, IsCallText, IsTextWithin};
 ghost use Rattle.fx_cli.specs.Words.{Names, NamesNoCall};
 ghost use Rattle.fx_cli.specs.declared.words.Call.{Call};
 ghost use Rattle.fx_cli.specs.WordsEnding.{IsWordsStatus};
@@ -24,9 +24,6 @@ use std::rt::{Env, Files};
 
 /// The exit status of a write that failed.
 const WRITE_FAILED: u8 = 5;
-
-/// The most split and leaf lines of a certificate that an audit searches for.
-const AUDIT_LIMIT: u64 = 1_000_000;
 
 /// Replays the run in these files.
 fn replay<R: AllocGlobal + Files, S: Sink>(
@@ -109,22 +106,23 @@ fn confirm<R: AllocGlobal + Files, S: Sink>(
     confirm_bytes(rt.alloc(), &mut network, &mut traffic, &mut lines, sink)
 }
 
-/// Audits the network and traffic in these files.
+/// Audits the network and traffic in these files, with at most so many split and leaf lines of a certificate.
 fn audit<R: AllocGlobal + Files, S: Sink>(
     rt: &R,
     network: &str,
     traffic: &str,
+    limit: u64,
     sink: &mut S,
 ) -> Result<Answer, Fault>
     ensures told { IfOk result (λ answer. (text : List ℕ)
-        × IsAuditText answer text × Writes (S.taken sink.old) (S.taken sink.new) text) }
+        × IsTextWithin limit answer text × Writes (S.taken sink.old) (S.taken sink.new) text) }
     ensures going { OnOk result (S.failed sink.old ≡ false → S.failed sink.new ≡ false) }
     ensures quiet { IfErr result (λ e. ((e ≡ fault_at 902 places.None) × (S.failed sink.new ≡ true))
         ⊎ (sink.new ≡ sink.old)) }
 {
     let mut network = open(rt, network)?;
     let mut traffic = open(rt, traffic)?;
-    audit_bytes(rt.alloc(), &mut network, &mut traffic, AUDIT_LIMIT, sink)
+    audit_bytes(rt.alloc(), &mut network, &mut traffic, limit, sink)
 }
 
 /// Opens the files that a call names, in the order of its words, and only then reads them and answers.
@@ -170,7 +168,11 @@ fn answer_call<R: AllocGlobal + Files, S: Sink>(
             refutation.as_str(),
             sink,
         ),
-        Call::Audit { network, traffic } => audit(rt, network.as_str(), traffic.as_str(), sink),
+        Call::Audit {
+            network,
+            traffic,
+            limit,
+        } => audit(rt, network.as_str(), traffic.as_str(), *limit, sink),
     }
 }
 

@@ -1,14 +1,14 @@
 //! The words of the command line.
-ghost use Rattle.std.specs.Prelude.{◌≡◌, ◌⊎◌, IfErr, IfOk, List, MatchResult, codes, false, map, string_bytes};
+ghost use Rattle.std.specs.Prelude.{◌≡◌, ◌⊎◌, ℕ, IfErr, IfOk, List, MatchResult, codes, false, map, string_bytes};
 ghost use Rattle.clap.specs.Simple.{on_top};
 ghost use Rattle.clap.specs.Words.{app_of, fault_of, found_of, HasKind, kind_of, new_app, rule_of, Text, with_rule};
 ghost use Rattle.clap.specs.declared.builder.command.Command.TheViews.{out-Command};
-ghost use Rattle.fx_cli.specs.CommandLine.{AreMatchesOf, file_rule, once_app, over_documents, over_network, wants_command};
-ghost use Rattle.fx_cli.specs.Matches.{Holds, IsAuditOf, IsCheckOf, IsCollectOf, IsConfirmOf, IsFound, IsReplayOf};
+ghost use Rattle.fx_cli.specs.CommandLine.{AreMatchesOf, file_rule, limit_rule, once_app, over_documents, over_network, wants_command};
+ghost use Rattle.fx_cli.specs.Matches.{Holds, HoldsLimit, IsAuditOf, IsCheckOf, IsCollectOf, IsConfirmOf, IsFound, IsReplayOf};
 ghost use Rattle.fx_cli.specs.Words.{Names, NamesNoCall};
 
 use clap::error::ErrorKind;
-use clap::{Arg, ArgMatches, Command, Error};
+use clap::{Arg, ArgMatches, Command, Error, value_parser};
 use std::alloc::{AllocError, Global};
 
 /// A command, with the names of its files.
@@ -54,6 +54,8 @@ pub enum Call {
         network: String,
         /// The traffic declaration.
         traffic: String,
+        /// The most split and leaf lines of a certificate.
+        limit: u64,
     },
 }
 
@@ -168,9 +170,22 @@ fn confirm_command<'a>(alloc: Global) -> Result<Command<'a>, AllocError>
     )
 }
 
+/// The option of a limit, from 1 to 1,000,000.
+fn limit<'a>(alloc: Global) -> Arg<'a>
+    ensures rule { rule_of result ≡ limit_rule }
+    ensures local { result.global ≡ false }
+{
+    Arg::new(alloc, "limit")
+        .long("limit")
+        .value_name("N")
+        .value_parser(value_parser!(u64).range(1..=1_000_000))
+        .default_value("1000000")
+        .help("The most split and leaf lines of a certificate")
+}
+
 /// The command `audit`.
 fn audit_command<'a>(alloc: Global) -> Result<Command<'a>, AllocError>
-    ensures app { IfOk result (λ c. app_of c ≡ over_network (codes "audit") (file_rule (codes "TRAFFIC"))) }
+    ensures app { IfOk result (λ c. app_of c ≡ with_rule (over_network (codes "audit") (file_rule (codes "TRAFFIC"))) limit_rule) }
     ensures local { IfOk result (λ c. (out-Command c).has_globals ≡ false) }
 {
     let command = network_command(
@@ -178,7 +193,8 @@ fn audit_command<'a>(alloc: Global) -> Result<Command<'a>, AllocError>
         "audit",
         "Searches for a certificate, or for a run of one packet that shows a wrong total",
     )?;
-    with_file(alloc, command, "TRAFFIC", "The traffic declaration (JSON)")
+    let command = with_file(alloc, command, "TRAFFIC", "The traffic declaration (JSON)")?;
+    command.arg(limit(alloc))
 }
 
 /// The program, before its commands are added.
@@ -261,14 +277,24 @@ fn confirm_call(alloc: Global, matches: &ArgMatches<'_>) -> Result<Call, AllocEr
     })
 }
 
+/// The limit of an audit, by the matches of its words.
+fn limit_of(matches: &ArgMatches<'_>) -> u64
+    requires { (n : ℕ) × HoldsLimit (found_of matches.now) n }
+    ensures { HoldsLimit (found_of matches.now) result }
+{
+    matches.get_one::<u64>("limit").unwrap()
+}
+
 /// The call of `audit`, by the matches of its words.
 fn audit_call(alloc: Global, matches: &ArgMatches<'_>) -> Result<Call, AllocError>
-    requires { IsFound (found_of matches.now) (codes "NETWORK") × IsFound (found_of matches.now) (codes "TRAFFIC") }
+    requires { IsFound (found_of matches.now) (codes "NETWORK") × IsFound (found_of matches.now) (codes "TRAFFIC")
+        × ((n : ℕ) × HoldsLimit (found_of matches.now) n) }
     ensures { IfOk result (IsAuditOf (found_of matches.now)) }
 {
     Ok(Call::Audit {
         network: file_name(alloc, matches, "NETWORK")?,
         traffic: file_name(alloc, matches, "TRAFFIC")?,
+        limit: limit_of(matches),
     })
 }
 

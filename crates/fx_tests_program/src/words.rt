@@ -36,7 +36,11 @@ fn call(alloc: Global, line: &str) -> Result<String, AllocError> {
             traffic,
             refutation,
         } => format!(in alloc; "confirm|{network}|{traffic}|{refutation}"),
-        Call::Audit { network, traffic } => format!(in alloc; "audit|{network}|{traffic}"),
+        Call::Audit {
+            network,
+            traffic,
+            limit,
+        } => format!(in alloc; "audit|{network}|{traffic}|{limit}"),
     }
 }
 
@@ -62,8 +66,12 @@ fn reads_words(rt: HostRuntime) -> Result<(), Fail> {
         ),
         (
             "once audit net.json traffic.json",
-            "audit|net.json|traffic.json",
+            "audit|net.json|traffic.json|1000000",
         ),
+        ("once audit --limit 7 a b", "audit|a|b|7"),
+        ("once audit a --limit=1000000 b", "audit|a|b|1000000"),
+        ("once audit a b --limit +001", "audit|a|b|1"),
+        ("once audit -- --limit 7", "audit|--limit|7|1000000"),
     ] {
         assert!(rt; call(rt.alloc(), line)?.as_str() == wanted);
     }
@@ -98,6 +106,13 @@ fn ends_words_that_name_no_call(rt: HostRuntime) -> Result<(), Fail> {
         ("once check a b", 6),
         ("once confirm a b", 6),
         ("once audit a b c", 6),
+        ("once audit a b --limit", 6),
+        ("once audit a b --limit 0", 6),
+        ("once audit a b --limit=1000001", 6),
+        ("once audit a b --limit many", 6),
+        ("once audit a b --limit -7", 6),
+        ("once audit a b --lim 7", 6),
+        ("once audit --limit 7 a --limit 7 b", 6),
     ] {
         assert!(rt; ends_words(rt.alloc(), line)? == Some((status, true)));
     }

@@ -1,6 +1,6 @@
 use Rattle.std.proofs.Common.{refl}
 use Rattle.clap.specs.Words.{found_of}
-use Rattle.fx_cli.proofs.Matching.{all_found, audit_files, both_found, check_files, collect_files, confirm_files, if_some, names_audit, names_check, names_collect, names_confirm, names_replay, ok_as, replay_files, replay_name, taken_replay}
+use Rattle.fx_cli.proofs.Matching.{all_found, audit_files, audit_found, both_found, check_files, collect_files, confirm_files, if_some, names_audit, names_check, names_collect, names_confirm, names_replay, ok_as, replay_files, replay_name, taken_replay}
 use Rattle.fx_cli.proofs.words.call_of.Goals as goal
 
 -- ---- where the command is `collect`
@@ -47,7 +47,7 @@ returns-in-Some-subcommand_matches-2 c = λ words are.
 pub audit_call-requires : goal.audit_call-requires
 audit_call-requires c =
     let some = c.in-Some-subcommand_matches-3 in
-    both_found (found_of some.audit.now) (audit_files c.requires.0 c.args.matches.now (found_of some.audit.now) c.requires.1 (some.ensures.found.0 refl) some.ensures.rows)
+    audit_found (found_of some.audit.now) (audit_files c.requires.0 c.args.matches.now (found_of some.audit.now) c.requires.1 (some.ensures.found.0 refl) some.ensures.rows)
 
 pub returns-in-Some-subcommand_matches-3 : goal.returns-in-Some-subcommand_matches-3
 returns-in-Some-subcommand_matches-3 c = λ words are.

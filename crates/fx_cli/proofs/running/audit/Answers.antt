@@ -1,0 +1,6 @@
+use Rattle.std.proofs.Common.{None}
+use Rattle.fx_cli.proofs.Called.{within_limit}
+use Rattle.fx_cli.proofs.running.audit.Goals as goal
+
+pub returns-clause-told : goal.returns-clause-told
+returns-clause-told g c = within_limit c.args.limit c.audit_bytes.result None None _ c.audit_bytes.ensures.ok
