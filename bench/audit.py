@@ -51,7 +51,7 @@ def answered(words, status, begins, to=None):
 def per_line(program, work):
     network = document(work, "filters.json", metered(FILTERS))
     lines, figures, right = 4 * FILTERS + 1, [], True
-    for count, rounds in ((2, 60), (20, 30), (200, 10), (1_996, 3)):
+    for count, rounds in ((2, 60), (20, 30), (200, 10), (1_996, 8)):
         traffic, found = document(work, "paths-%d.json" % count, paths(count)), os.path.join(work, "found-%d.txt" % count)
         audit, check = [program, "audit", network, traffic], [program, "check", network, traffic, found]
         answered(audit, 0, "once-certificate 1\n", found)
