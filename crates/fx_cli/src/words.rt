@@ -54,7 +54,7 @@ pub enum Call {
         network: String,
         /// The traffic declaration.
         traffic: String,
-        /// The most split and leaf lines of a certificate.
+        /// The most split and leaf lines of a certificate, from 1 to 1,000,000.
         limit: u64,
     },
 }
