@@ -25,7 +25,8 @@ pub const AUDIT_LIMIT: u64 = 1_000_000;
 
 /// Writes the lines of a certificate.
 fn put_items<S: Sink>(sink: &mut S, items: &[Item]) -> Result<(), Fault>
-    ensures ok { OnOk result (Writes (S.taken sink.old) (S.taken sink.new) (certificate_text items.now)) }
+    ensures ok { OnOk result (Writes (S.taken sink.old) (S.taken sink.new)
+        (certificate_text items.now)) }
     ensures going { OnOk result (S.failed sink.old ≡ false → S.failed sink.new ≡ false) }
     ensures err { IfErr result (λ e. (e ≡ fault_at 902 places.None) × (S.failed sink.new ≡ true)) }
 {
@@ -56,9 +57,11 @@ fn put_found<S: Sink>(sink: &mut S, found: &Found) -> Result<Answer, Fault>
 
 /// Answers that nothing was found within the limits, or fails as the search did.
 fn answer_none<S: Sink>(sink: &mut S, fault: Fault) -> Result<Answer, Fault>
-    ensures ok { IfOk result (λ answer. (answer ≡ Unknown) × (fault.number ≡ 601) × Writes (S.taken sink.old) (S.taken sink.new) unknown_line) }
+    ensures ok { IfOk result (λ answer. (answer ≡ Unknown) × (fault.number ≡ 601)
+        × Writes (S.taken sink.old) (S.taken sink.new) unknown_line) }
     ensures going { OnOk result (S.failed sink.old ≡ false → S.failed sink.new ≡ false) }
-    ensures err { IfErr result (λ e. ((e ≡ fault) × (fault.number ≡ 601 → ⊥)) ⊎ ((e ≡ fault_at 902 places.None) × (S.failed sink.new ≡ true))) }
+    ensures err { IfErr result (λ e. ((e ≡ fault) × (fault.number ≡ 601 → ⊥))
+        ⊎ ((e ≡ fault_at 902 places.None) × (S.failed sink.new ≡ true))) }
     ensures quiet { IfErr result (λ e. ((e ≡ fault_at 902 places.None) × (S.failed sink.new ≡ true))
         ⊎ (sink.new ≡ sink.old)) }
 {
@@ -77,7 +80,8 @@ fn audit<S: Sink>(
     sink: &mut S,
 ) -> Result<Answer, Fault>
     ensures ok { IfOk result (λ answer. (text : List ℕ)
-        × IsAuditedIn documents.now.plan documents.now.traffic limit answer text × Writes (S.taken sink.old) (S.taken sink.new) text) }
+        × IsAuditedIn documents.now.plan documents.now.traffic limit answer text
+        × Writes (S.taken sink.old) (S.taken sink.new) text) }
     ensures going { OnOk result (S.failed sink.old ≡ false → S.failed sink.new ≡ false) }
     ensures err { IfErr result (λ e. (e ≡ fault_at 900 places.None)
         ⊎ ((e ≡ fault_at 902 places.None) × (S.failed sink.new ≡ true))) }
@@ -92,8 +96,8 @@ fn audit<S: Sink>(
 
 /// Reads a network document and a traffic declaration, and audits them: writes the text of a certificate of at most
 /// `limit` split and leaf lines (a limit above 1,000,000 counts as that), which [`check_bytes`](crate::check_bytes)
-/// answers with yes; or the text of a refutation, which [`confirm_bytes`](crate::confirm_bytes) confirms where none of
-/// its lines has more than 4,096 octets; or, where what is needed is too large, as [`search`] says it, the line
+/// answers with yes; or the text of a refutation, a run of one packet that ends in a wrong total, as
+/// [`confirm`](fx_refute::confirm) judges it; or, where what is needed is too large, as [`search`] says it, the line
 /// `unknown 601`.
 ///
 /// Fails with the first refusal: 101 and those of [`fx_plan::read_plan`] for the network, with nothing of the traffic
@@ -108,14 +112,19 @@ pub fn audit_bytes<N: Source, T: Source, S: Sink>(
     sink: &mut S,
 ) -> Result<Answer, Fault>
     // Yes: each packet is counted once. No: not every complete run counts each packet once.
-    ensures ok { IfOk result (λ answer. MayHaveLeft (N.left network.old) (λ n. MayHaveLeft (T.left traffic.old) (λ t.
-        (text : List ℕ) × IsAudited n t limit answer text × Writes (S.taken sink.old) (S.taken sink.new) text))) }
+    ensures ok { IfOk result (λ answer. MayHaveLeft (N.left network.old) (λ n.
+        MayHaveLeft (T.left traffic.old) (λ t.
+        (text : List ℕ) × IsAudited n t limit answer text
+        × Writes (S.taken sink.old) (S.taken sink.new) text))) }
     ensures going { OnOk result (S.failed sink.old ≡ false → S.failed sink.new ≡ false) }
     ensures err { IfErr result (λ e. (e ≡ fault_at 900 places.None)
-        ⊎ (ReadFails (N.left network.old) (N.calls network.old) (N.calls network.new) (N.failed network.new) e
-        ⊎ (ReadFails (T.left traffic.old) (T.calls traffic.old) (T.calls traffic.new) (T.failed traffic.new) e
+        ⊎ (ReadFails (N.left network.old) (N.calls network.old) (N.calls network.new)
+        (N.failed network.new) e
+        ⊎ (ReadFails (T.left traffic.old) (T.calls traffic.old) (T.calls traffic.new)
+        (T.failed traffic.new) e
         ⊎ (((e ≡ fault_at 902 places.None) × (S.failed sink.new ≡ true))
-        ⊎ MayHaveLeft (N.left network.old) (λ n. MayHaveLeft (T.left traffic.old) (λ t. IsRefusedByDocuments n t e)))))) }
+        ⊎ MayHaveLeft (N.left network.old) (λ n. MayHaveLeft (T.left traffic.old) (λ t.
+        IsRefusedByDocuments n t e)))))) }
     ensures told { IfOk result (λ answer. (text : List ℕ)
         × IsAuditText answer text × Writes (S.taken sink.old) (S.taken sink.new) text) }
     ensures order { IfSome (N.left network.old) (λ n. (e : Fault)

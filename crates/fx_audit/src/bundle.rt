@@ -82,7 +82,8 @@ fn command_of(bytes: &[u8]) -> Option<(Command, &[u8])>
 /// The third text of a command, and what stands behind it.
 fn third_text(command: Command, bytes: &[u8]) -> Option<(&[u8], &[u8])>
     ensures some { IfSome result (λ parts. ThirdText command bytes.now parts.0.now parts.1.now) }
-    ensures none { IfNone result ((text : List ℕ) (rest : List ℕ) → ThirdText command bytes.now text rest → ⊥) }
+    ensures none { IfNone result ((text : List ℕ) (rest : List ℕ)
+        → ThirdText command bytes.now text rest → ⊥) }
 {
     match command {
         Command::Replay | Command::Check | Command::Confirm => first_text(bytes),

@@ -30,11 +30,14 @@ fn never_fails(lines: &LineReader<Octets<'_>>)
 /// Replays the run of a bundle.
 fn replay_texts<S: Sink>(alloc: Global, bundle: &Bundle<'_>, sink: &mut S) -> Result<Answer, Fault>
     ensures ok { IfOk result (λ answer. (text : List ℕ)
-        × IsDone commands.Replay bundle.now.network.now bundle.now.traffic.now (lines_in bundle.now.third.now) answer text × Writes (S.taken sink.old) (S.taken sink.new) text) }
+        × IsDone commands.Replay bundle.now.network.now bundle.now.traffic.now
+        (lines_in bundle.now.third.now) answer text
+        × Writes (S.taken sink.old) (S.taken sink.new) text) }
     ensures going { OnOk result (S.failed sink.old ≡ false → S.failed sink.new ≡ false) }
     ensures err { IfErr result (λ e. (e ≡ fault_at 900 places.None)
         ⊎ (((e ≡ fault_at 902 places.None) × (S.failed sink.new ≡ true))
-        ⊎ IsRefusedThere commands.Replay bundle.now.network.now bundle.now.traffic.now bundle.now.third.now e)) }
+        ⊎ IsRefusedThere commands.Replay bundle.now.network.now bundle.now.traffic.now
+        bundle.now.third.now e)) }
     ensures quiet { IfErr result (λ e. ((e ≡ fault_at 902 places.None) × (S.failed sink.new ≡ true))
         ⊎ (sink.new ≡ sink.old)) }
 {
@@ -49,11 +52,14 @@ fn replay_texts<S: Sink>(alloc: Global, bundle: &Bundle<'_>, sink: &mut S) -> Re
 /// Checks the certificate of a bundle.
 fn check_texts<S: Sink>(alloc: Global, bundle: &Bundle<'_>, sink: &mut S) -> Result<Answer, Fault>
     ensures ok { IfOk result (λ answer. (text : List ℕ)
-        × IsDone commands.Check bundle.now.network.now bundle.now.traffic.now (lines_in bundle.now.third.now) answer text × Writes (S.taken sink.old) (S.taken sink.new) text) }
+        × IsDone commands.Check bundle.now.network.now bundle.now.traffic.now
+        (lines_in bundle.now.third.now) answer text
+        × Writes (S.taken sink.old) (S.taken sink.new) text) }
     ensures going { OnOk result (S.failed sink.old ≡ false → S.failed sink.new ≡ false) }
     ensures err { IfErr result (λ e. (e ≡ fault_at 900 places.None)
         ⊎ (((e ≡ fault_at 902 places.None) × (S.failed sink.new ≡ true))
-        ⊎ IsRefusedThere commands.Check bundle.now.network.now bundle.now.traffic.now bundle.now.third.now e)) }
+        ⊎ IsRefusedThere commands.Check bundle.now.network.now bundle.now.traffic.now
+        bundle.now.third.now e)) }
     ensures quiet { IfErr result (λ e. ((e ≡ fault_at 902 places.None) × (S.failed sink.new ≡ true))
         ⊎ (sink.new ≡ sink.old)) }
 {
@@ -68,11 +74,14 @@ fn check_texts<S: Sink>(alloc: Global, bundle: &Bundle<'_>, sink: &mut S) -> Res
 /// Confirms the refutation of a bundle.
 fn confirm_texts<S: Sink>(alloc: Global, bundle: &Bundle<'_>, sink: &mut S) -> Result<Answer, Fault>
     ensures ok { IfOk result (λ answer. (text : List ℕ)
-        × IsDone commands.Confirm bundle.now.network.now bundle.now.traffic.now (lines_in bundle.now.third.now) answer text × Writes (S.taken sink.old) (S.taken sink.new) text) }
+        × IsDone commands.Confirm bundle.now.network.now bundle.now.traffic.now
+        (lines_in bundle.now.third.now) answer text
+        × Writes (S.taken sink.old) (S.taken sink.new) text) }
     ensures going { OnOk result (S.failed sink.old ≡ false → S.failed sink.new ≡ false) }
     ensures err { IfErr result (λ e. (e ≡ fault_at 900 places.None)
         ⊎ (((e ≡ fault_at 902 places.None) × (S.failed sink.new ≡ true))
-        ⊎ IsRefusedThere commands.Confirm bundle.now.network.now bundle.now.traffic.now bundle.now.third.now e)) }
+        ⊎ IsRefusedThere commands.Confirm bundle.now.network.now bundle.now.traffic.now
+        bundle.now.third.now e)) }
     ensures quiet { IfErr result (λ e. ((e ≡ fault_at 902 places.None) × (S.failed sink.new ≡ true))
         ⊎ (sink.new ≡ sink.old)) }
 {
@@ -87,11 +96,14 @@ fn confirm_texts<S: Sink>(alloc: Global, bundle: &Bundle<'_>, sink: &mut S) -> R
 /// Audits the network and the traffic of a bundle.
 fn audit_texts<S: Sink>(alloc: Global, bundle: &Bundle<'_>, sink: &mut S) -> Result<Answer, Fault>
     ensures ok { IfOk result (λ answer. (text : List ℕ)
-        × IsDone commands.Audit bundle.now.network.now bundle.now.traffic.now (lines_in bundle.now.third.now) answer text × Writes (S.taken sink.old) (S.taken sink.new) text) }
+        × IsDone commands.Audit bundle.now.network.now bundle.now.traffic.now
+        (lines_in bundle.now.third.now) answer text
+        × Writes (S.taken sink.old) (S.taken sink.new) text) }
     ensures going { OnOk result (S.failed sink.old ≡ false → S.failed sink.new ≡ false) }
     ensures err { IfErr result (λ e. (e ≡ fault_at 900 places.None)
         ⊎ (((e ≡ fault_at 902 places.None) × (S.failed sink.new ≡ true))
-        ⊎ IsRefusedThere commands.Audit bundle.now.network.now bundle.now.traffic.now bundle.now.third.now e)) }
+        ⊎ IsRefusedThere commands.Audit bundle.now.network.now bundle.now.traffic.now
+        bundle.now.third.now e)) }
     ensures quiet { IfErr result (λ e. ((e ≡ fault_at 902 places.None) × (S.failed sink.new ≡ true))
         ⊎ (sink.new ≡ sink.old)) }
 {

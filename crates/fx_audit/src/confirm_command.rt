@@ -28,7 +28,8 @@ fn refuted<C: Source>(
     documents: &Documents,
     refutation: &mut LineReader<C>,
 ) -> Result<(Totals, Totals), Fault>
-    ensures ok { IfOk result (λ t. IsRefuted documents.now.plan documents.now.traffic refutation.old t.0 t.1) }
+    ensures ok { IfOk result (λ t.
+        IsRefuted documents.now.plan documents.now.traffic refutation.old t.0 t.1) }
     ensures err { IfErr result (λ e. (e ≡ fault_at 900 places.None)
         ⊎ (Fails refutation.old refutation.new e
         ⊎ IsRefusedRefutation documents.now.plan documents.now.traffic refutation.old e)) }
@@ -44,7 +45,8 @@ fn refuted<C: Source>(
 fn put_refuted<S: Sink>(sink: &mut S, ran: &Totals, plain: &Totals) -> Result<(), Fault>
     requires ran { Ascends ran.now.entries }
     requires plain { Ascends plain.now.entries }
-    ensures ok { OnOk result (Writes (S.taken sink.old) (S.taken sink.new) (refuted_text ran.now plain.now)) }
+    ensures ok { OnOk result (Writes (S.taken sink.old) (S.taken sink.new)
+        (refuted_text ran.now plain.now)) }
     ensures going { OnOk result (S.failed sink.old ≡ false → S.failed sink.new ≡ false) }
     ensures err { IfErr result (λ e. (e ≡ fault_at 902 places.None) × (S.failed sink.new ≡ true)) }
 {
@@ -56,7 +58,8 @@ fn put_refuted<S: Sink>(sink: &mut S, ran: &Totals, plain: &Totals) -> Result<()
 
 /// Answers the refusal of a refutation: no, by its number, or the refusal itself.
 fn answer_refusal<S: Sink>(sink: &mut S, fault: Fault) -> Result<Answer, Fault>
-    ensures ok { IfOk result (λ answer. (answer ≡ No) × RefutesNothing fault.number × Writes (S.taken sink.old) (S.taken sink.new) (no_line fault)) }
+    ensures ok { IfOk result (λ answer. (answer ≡ No) × RefutesNothing fault.number
+        × Writes (S.taken sink.old) (S.taken sink.new) (no_line fault)) }
     ensures going { OnOk result (S.failed sink.old ≡ false → S.failed sink.new ≡ false) }
     ensures err { IfErr result (λ e. ((e ≡ fault) × (RefutesNothing fault.number → ⊥))
         ⊎ ((e ≡ fault_at 902 places.None) × (S.failed sink.new ≡ true))) }
@@ -79,7 +82,8 @@ fn confirm_lines<C: Source, S: Sink>(
 ) -> Result<Answer, Fault>
     ensures answer { IfOk result (λ answer. (answer ≡ Yes) ⊎ (answer ≡ No)) }
     ensures ok { IfOk result (λ answer. (text : List ℕ)
-        × IsConfirmedIn documents.now.plan documents.now.traffic refutation.old answer text × Writes (S.taken sink.old) (S.taken sink.new) text) }
+        × IsConfirmedIn documents.now.plan documents.now.traffic refutation.old answer text
+        × Writes (S.taken sink.old) (S.taken sink.new) text) }
     ensures going { OnOk result (S.failed sink.old ≡ false → S.failed sink.new ≡ false) }
     ensures err { IfErr result (λ e. (e ≡ fault_at 900 places.None)
         ⊎ (Fails refutation.old refutation.new e
@@ -116,15 +120,20 @@ pub fn confirm_bytes<N: Source, T: Source, C: Source, S: Sink>(
 ) -> Result<Answer, Fault>
     ensures answer { IfOk result (λ answer. (answer ≡ Yes) ⊎ (answer ≡ No)) }
     // Yes: not every complete run counts each packet exactly once.
-    ensures ok { IfOk result (λ answer. MayHaveLeft (N.left network.old) (λ n. MayHaveLeft (T.left traffic.old) (λ t.
-        (text : List ℕ) × IsConfirmed n t refutation.old answer text × Writes (S.taken sink.old) (S.taken sink.new) text))) }
+    ensures ok { IfOk result (λ answer. MayHaveLeft (N.left network.old) (λ n.
+        MayHaveLeft (T.left traffic.old) (λ t.
+        (text : List ℕ) × IsConfirmed n t refutation.old answer text
+        × Writes (S.taken sink.old) (S.taken sink.new) text))) }
     ensures going { OnOk result (S.failed sink.old ≡ false → S.failed sink.new ≡ false) }
     ensures err { IfErr result (λ e. (e ≡ fault_at 900 places.None)
-        ⊎ (ReadFails (N.left network.old) (N.calls network.old) (N.calls network.new) (N.failed network.new) e
-        ⊎ (ReadFails (T.left traffic.old) (T.calls traffic.old) (T.calls traffic.new) (T.failed traffic.new) e
+        ⊎ (ReadFails (N.left network.old) (N.calls network.old) (N.calls network.new)
+        (N.failed network.new) e
+        ⊎ (ReadFails (T.left traffic.old) (T.calls traffic.old) (T.calls traffic.new)
+        (T.failed traffic.new) e
         ⊎ (Fails refutation.old refutation.new e
         ⊎ (((e ≡ fault_at 902 places.None) × (S.failed sink.new ≡ true))
-        ⊎ MayHaveLeft (N.left network.old) (λ n. MayHaveLeft (T.left traffic.old) (λ t. IsRefusedConfirm n t refutation.old e))))))) }
+        ⊎ MayHaveLeft (N.left network.old) (λ n. MayHaveLeft (T.left traffic.old) (λ t.
+        IsRefusedConfirm n t refutation.old e))))))) }
     ensures told { IfOk result (λ answer. (text : List ℕ)
         × IsConfirmText answer text × Writes (S.taken sink.old) (S.taken sink.new) text) }
     ensures order { IfSome (N.left network.old) (λ n. (e : Fault)

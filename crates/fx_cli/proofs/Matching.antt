@@ -24,7 +24,7 @@ use Rattle.clap.proofs.WalkLemmas.{first_value-rows, one_text-rows}
 use Rattle.std.proofs.lemmas.Slice.Eq.{bytes_eq-Decides}
 use Rattle.fx_cli.specs.Words.{IsLimit, Names, NamesAudit, NamesFiles, NamesNoCall}
 use Rattle.fx_cli.specs.CommandLine.{AreMatchesOf, file_rule, limit_rule, once_app, over_documents, over_network, wants_command}
-use Rattle.fx_cli.specs.Matches.{HoldsLimit, IsFound, IsAuditOf, IsCheckOf, IsCollectOf, IsConfirmOf, IsReplayOf}
+use Rattle.fx_cli.specs.Matches.{HoldsLimit, HasFile, IsAuditOf, IsCheckOf, IsCollectOf, IsConfirmOf, IsReplayOf}
 use Rattle.fx_cli.proofs.SingleWords.{Fails}
 use Rattle.fx_cli.proofs.Naming.{Refuses, Takes, TakesAudit, decide_words}
 use Rattle.fx_cli.proofs.CheckWords.{check_rows}
@@ -347,17 +347,17 @@ audit_files words m found are name e =
       limit_is = one_text-rows found (codes "limit") ∙ ap (one_of (codes "limit")) same ∙ t.limit_is;
     }
 
-has_value : (found : Found) (id name : Text) → first_value found id ≡ Some name → IsFound found id
+has_value : (found : Found) (id name : Text) → first_value found id ≡ Some name → HasFile found id
 has_value found id name is = subst (λ (o : Option Text). IsSome o) (sym is) refl
 
-pub all_found : {command third : Text} {words : List Text} (found : Found) → HasDocuments command third words found → IsFound found (codes "NETWORK") × IsFound found (codes "TRAFFIC") × IsFound found third
+pub all_found : {command third : Text} {words : List Text} (found : Found) → HasDocuments command third words found → HasFile found (codes "NETWORK") × HasFile found (codes "TRAFFIC") × HasFile found third
 all_found {command} {third} found f =
     (has_value found (codes "NETWORK") f.network f.network_is, has_value found (codes "TRAFFIC") f.traffic f.traffic_is, has_value found third f.last f.last_is)
 
-pub both_found : {command second : Text} {words : List Text} (found : Found) → HasFiles command second words found → IsFound found (codes "NETWORK") × IsFound found second
+pub both_found : {command second : Text} {words : List Text} (found : Found) → HasFiles command second words found → HasFile found (codes "NETWORK") × HasFile found second
 both_found {command} {second} found f = (has_value found (codes "NETWORK") f.network f.network_is, has_value found second f.last f.last_is)
 
-pub audit_found : {words : List Text} (found : Found) → HasAudit words found → IsFound found (codes "NETWORK") × IsFound found (codes "TRAFFIC") × ((n : ℕ) × HoldsLimit found n)
+pub audit_found : {words : List Text} (found : Found) → HasAudit words found → HasFile found (codes "NETWORK") × HasFile found (codes "TRAFFIC") × ((n : ℕ) × HoldsLimit found n)
 audit_found found f = (has_value found (codes "NETWORK") f.network f.network_is, has_value found (codes "TRAFFIC") f.traffic f.traffic_is, (f.limit, (f.text, f.limit_is, f.is)))
 
 same_file : (found : Found) (id name file : Text) → first_value found id ≡ Some file → first_value found id ≡ Some name → file ≡ name

@@ -7,12 +7,12 @@ use Rattle.fx_cli.specs.declared.words.Call.{Call}
 use Rattle.fx_cli.specs.declared.words.Call.TheVariants.{Audit, Check, Collect, Confirm, Replay}
 
 -- there is a value under this name
-abbrev pub IsFound : Found → Text → Type 0
-IsFound found name = IsSome (first_value found name)
+abbrev pub HasFile : Found → Text → Type 0
+HasFile found name = IsSome (first_value found name)
 
 -- the value under this name is this file
-abbrev pub Holds : Found → Text → Text → Type 0
-Holds found name file = first_value found name ≡ Some file
+abbrev pub HoldsFile : Found → Text → Text → Type 0
+HoldsFile found name file = first_value found name ≡ Some file
 
 -- the limit that was found, or stands there by default, is this one
 abbrev pub HoldsLimit : Found → ℕ → Type 0
@@ -20,24 +20,24 @@ HoldsLimit found limit = (text : Text) × (one_text found (codes "limit") ≡ So
 
 abbrev pub IsReplayOf : Found → Call → Type 0
 IsReplayOf found (Replay network traffic run) =
-    Holds found (codes "NETWORK") (string_bytes network) × Holds found (codes "TRAFFIC") (string_bytes traffic) × Holds found (codes "RUN") (string_bytes run)
+    HoldsFile found (codes "NETWORK") (string_bytes network) × HoldsFile found (codes "TRAFFIC") (string_bytes traffic) × HoldsFile found (codes "RUN") (string_bytes run)
 IsReplayOf found _ = ⊥
 
 abbrev pub IsCollectOf : Found → Call → Type 0
-IsCollectOf found (Collect network stream) = Holds found (codes "NETWORK") (string_bytes network) × Holds found (codes "STREAM") (string_bytes stream)
+IsCollectOf found (Collect network stream) = HoldsFile found (codes "NETWORK") (string_bytes network) × HoldsFile found (codes "STREAM") (string_bytes stream)
 IsCollectOf found _ = ⊥
 
 abbrev pub IsCheckOf : Found → Call → Type 0
 IsCheckOf found (Check network traffic certificate) =
-    Holds found (codes "NETWORK") (string_bytes network) × Holds found (codes "TRAFFIC") (string_bytes traffic) × Holds found (codes "CERTIFICATE") (string_bytes certificate)
+    HoldsFile found (codes "NETWORK") (string_bytes network) × HoldsFile found (codes "TRAFFIC") (string_bytes traffic) × HoldsFile found (codes "CERTIFICATE") (string_bytes certificate)
 IsCheckOf found _ = ⊥
 
 abbrev pub IsConfirmOf : Found → Call → Type 0
 IsConfirmOf found (Confirm network traffic refutation) =
-    Holds found (codes "NETWORK") (string_bytes network) × Holds found (codes "TRAFFIC") (string_bytes traffic) × Holds found (codes "REFUTATION") (string_bytes refutation)
+    HoldsFile found (codes "NETWORK") (string_bytes network) × HoldsFile found (codes "TRAFFIC") (string_bytes traffic) × HoldsFile found (codes "REFUTATION") (string_bytes refutation)
 IsConfirmOf found _ = ⊥
 
 abbrev pub IsAuditOf : Found → Call → Type 0
 IsAuditOf found (Audit network traffic limit) =
-    Holds found (codes "NETWORK") (string_bytes network) × Holds found (codes "TRAFFIC") (string_bytes traffic) × HoldsLimit found limit
+    HoldsFile found (codes "NETWORK") (string_bytes network) × HoldsFile found (codes "TRAFFIC") (string_bytes traffic) × HoldsLimit found limit
 IsAuditOf found _ = ⊥

@@ -4,7 +4,7 @@ ghost use Rattle.clap.specs.Simple.{on_top};
 ghost use Rattle.clap.specs.Words.{app_of, fault_of, found_of, HasKind, kind_of, new_app, rule_of, Text, with_rule};
 ghost use Rattle.clap.specs.declared.builder.command.Command.TheViews.{out-Command};
 ghost use Rattle.fx_cli.specs.CommandLine.{AreMatchesOf, file_rule, limit_rule, once_app, over_documents, over_network, wants_command};
-ghost use Rattle.fx_cli.specs.Matches.{Holds, HoldsLimit, IsAuditOf, IsCheckOf, IsCollectOf, IsConfirmOf, IsFound, IsReplayOf};
+ghost use Rattle.fx_cli.specs.Matches.{HoldsFile, HoldsLimit, IsAuditOf, IsCheckOf, IsCollectOf, IsConfirmOf, HasFile, IsReplayOf};
 ghost use Rattle.fx_cli.specs.Words.{Names, NamesNoCall};
 
 use clap::error::ErrorKind;
@@ -158,7 +158,8 @@ fn check_command<'a>(alloc: Global) -> Result<Command<'a>, AllocError>
 
 /// The command `confirm`.
 fn confirm_command<'a>(alloc: Global) -> Result<Command<'a>, AllocError>
-    ensures app { IfOk result (λ c. app_of c ≡ over_documents (codes "confirm") (file_rule (codes "REFUTATION"))) }
+    ensures app { IfOk result (λ c.
+        app_of c ≡ over_documents (codes "confirm") (file_rule (codes "REFUTATION"))) }
     ensures local { IfOk result (λ c. (out-Command c).has_globals ≡ false) }
 {
     over_documents(
@@ -185,7 +186,9 @@ fn limit<'a>(alloc: Global) -> Arg<'a>
 
 /// The command `audit`.
 fn audit_command<'a>(alloc: Global) -> Result<Command<'a>, AllocError>
-    ensures app { IfOk result (λ c. app_of c ≡ with_rule (over_network (codes "audit") (file_rule (codes "TRAFFIC"))) limit_rule) }
+    ensures app { IfOk result (λ c.
+        app_of c ≡ with_rule
+        (over_network (codes "audit") (file_rule (codes "TRAFFIC"))) limit_rule) }
     ensures local { IfOk result (λ c. (out-Command c).has_globals ≡ false) }
 {
     let command = network_command(
@@ -224,15 +227,17 @@ fn command_line<'a>(alloc: Global) -> Result<Command<'a>, AllocError>
 
 /// The name of a file that the words give.
 fn file_name(alloc: Global, matches: &ArgMatches<'_>, id: &str) -> Result<String, AllocError>
-    requires { IsFound (found_of matches.now) id.now }
-    ensures { IfOk result (λ name. Holds (found_of matches.now) id.now (string_bytes name)) }
+    requires { HasFile (found_of matches.now) id.now }
+    ensures { IfOk result (λ name. HoldsFile (found_of matches.now) id.now (string_bytes name)) }
 {
     String::from_str(alloc, matches.get_str(id).unwrap())
 }
 
 /// The call of `replay`, by the matches of its words.
 fn replay_call(alloc: Global, matches: &ArgMatches<'_>) -> Result<Call, AllocError>
-    requires { IsFound (found_of matches.now) (codes "NETWORK") × IsFound (found_of matches.now) (codes "TRAFFIC") × IsFound (found_of matches.now) (codes "RUN") }
+    requires { HasFile (found_of matches.now) (codes "NETWORK")
+        × HasFile (found_of matches.now) (codes "TRAFFIC")
+        × HasFile (found_of matches.now) (codes "RUN") }
     ensures { IfOk result (IsReplayOf (found_of matches.now)) }
 {
     Ok(Call::Replay {
@@ -244,7 +249,8 @@ fn replay_call(alloc: Global, matches: &ArgMatches<'_>) -> Result<Call, AllocErr
 
 /// The call of `collect`, by the matches of its words.
 fn collect_call(alloc: Global, matches: &ArgMatches<'_>) -> Result<Call, AllocError>
-    requires { IsFound (found_of matches.now) (codes "NETWORK") × IsFound (found_of matches.now) (codes "STREAM") }
+    requires { HasFile (found_of matches.now) (codes "NETWORK")
+        × HasFile (found_of matches.now) (codes "STREAM") }
     ensures { IfOk result (IsCollectOf (found_of matches.now)) }
 {
     Ok(Call::Collect {
@@ -255,7 +261,9 @@ fn collect_call(alloc: Global, matches: &ArgMatches<'_>) -> Result<Call, AllocEr
 
 /// The call of `check`, by the matches of its words.
 fn check_call(alloc: Global, matches: &ArgMatches<'_>) -> Result<Call, AllocError>
-    requires { IsFound (found_of matches.now) (codes "NETWORK") × IsFound (found_of matches.now) (codes "TRAFFIC") × IsFound (found_of matches.now) (codes "CERTIFICATE") }
+    requires { HasFile (found_of matches.now) (codes "NETWORK")
+        × HasFile (found_of matches.now) (codes "TRAFFIC")
+        × HasFile (found_of matches.now) (codes "CERTIFICATE") }
     ensures { IfOk result (IsCheckOf (found_of matches.now)) }
 {
     Ok(Call::Check {
@@ -267,7 +275,9 @@ fn check_call(alloc: Global, matches: &ArgMatches<'_>) -> Result<Call, AllocErro
 
 /// The call of `confirm`, by the matches of its words.
 fn confirm_call(alloc: Global, matches: &ArgMatches<'_>) -> Result<Call, AllocError>
-    requires { IsFound (found_of matches.now) (codes "NETWORK") × IsFound (found_of matches.now) (codes "TRAFFIC") × IsFound (found_of matches.now) (codes "REFUTATION") }
+    requires { HasFile (found_of matches.now) (codes "NETWORK")
+        × HasFile (found_of matches.now) (codes "TRAFFIC")
+        × HasFile (found_of matches.now) (codes "REFUTATION") }
     ensures { IfOk result (IsConfirmOf (found_of matches.now)) }
 {
     Ok(Call::Confirm {
@@ -287,7 +297,8 @@ fn limit_of(matches: &ArgMatches<'_>) -> u64
 
 /// The call of `audit`, by the matches of its words.
 fn audit_call(alloc: Global, matches: &ArgMatches<'_>) -> Result<Call, AllocError>
-    requires { IsFound (found_of matches.now) (codes "NETWORK") × IsFound (found_of matches.now) (codes "TRAFFIC")
+    requires { HasFile (found_of matches.now) (codes "NETWORK")
+        × HasFile (found_of matches.now) (codes "TRAFFIC")
         × ((n : ℕ) × HoldsLimit (found_of matches.now) n) }
     ensures { IfOk result (IsAuditOf (found_of matches.now)) }
 {

@@ -17,12 +17,12 @@ use Rattle.fx_leaf.proofs.Filling.{closed_from, Before, higher_before, on_higher
 
 -- ---- an entry is set
 
-set_here : {A : Type 0} (xs : List A) (k : ℕ) (x : A) → k < length xs → slice_get (slice_set xs k x) k ≡ Some x
+pub set_here : {A : Type 0} (xs : List A) (k : ℕ) (x : A) → k < length xs → slice_get (slice_set xs k x) k ≡ Some x
 set_here [] k x lt = absurd (omega arith)
 set_here (y ∷ ys) zero x lt = refl
 set_here (y ∷ ys) (suc k) x lt = set_here ys k x (le_of_suc-le-suc lt)
 
-set_elsewhere : {A : Type 0} (xs : List A) (k j : ℕ) (x : A) → k ≢ j → slice_get (slice_set xs k x) j ≡ slice_get xs j
+pub set_elsewhere : {A : Type 0} (xs : List A) (k j : ℕ) (x : A) → k ≢ j → slice_get (slice_set xs k x) j ≡ slice_get xs j
 set_elsewhere [] k j x e = refl
 set_elsewhere (y ∷ ys) zero zero x e = absurd (e refl)
 set_elsewhere (y ∷ ys) zero (suc j) x e = refl

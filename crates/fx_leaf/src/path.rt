@@ -33,7 +33,13 @@ pub(crate) struct Told {
 impl Told {
     /// A selection process more: what comes of it, and its numbers.
     fn with(self, fate: Fate, numbers: Counted) -> Told
-        ensures { leaves.Seeing self result (record { crossing = numbers.crossing; point = numbers.point; process = numbers.process; verdict = Some fate } ∷ []) }
+        ensures { leaves.Seeing self result
+            (record {
+              crossing = numbers.crossing;
+              point = numbers.point;
+              process = numbers.process;
+              verdict = Some fate;
+            } ∷ []) }
     {
         let counted = if matches!(fate, Fate::Once) {
             Some(numbers)
@@ -55,7 +61,8 @@ pub(crate) struct Judge<'a> {
     pub(crate) marks: &'a [u64],
     pub(crate) region: &'a Region,
     ghost bounded: { boxes.IsRegion region.now },
-    ghost filled: { reach.IsFilled tables.now.net tables.now.numbering region.now marks.now rows.now },
+    ghost filled: { reach.IsFilled tables.now.net tables.now.numbering region.now marks.now
+        rows.now },
 }
 
 impl<'a> Judge<'a> {
@@ -83,7 +90,10 @@ impl<'a> Judge<'a> {
             reach.SentBySelection t.net t.numbering (reach.Marked self.now.marks.now) selection }
         ensures ok { let net = self.now.tables.now.net in
             let region = self.now.region.now in
-            IfOk result (λ after. leaves.Seeing told after (verdicts.seen_if (verdicts.verdict net region) net region numbers.crossing numbers.point numbers.process selection.region selection.holder)) }
+            IfOk result (λ after.
+            leaves.Seeing told after (verdicts.seen_if
+            (verdicts.verdict net region) net region numbers.crossing numbers.point
+            numbers.process selection.region selection.holder)) }
         ensures err { IfErr result (λ s. (path : List of_crossing.Crossing)
             → splits.Meets self.now.tables.now.net path selection
             → splits.IsSplit self.now.tables.now.net path self.now.region.now s.0 s.1) }
@@ -111,9 +121,12 @@ impl<'a> Judge<'a> {
             reach.SentAmong t.net t.numbering (reach.Marked self.now.marks.now) selections.now }
         ensures ok { let net = self.now.tables.now.net in
             let region = self.now.region.now in
-            IfOk result (λ after. leaves.Seeing told after (verdicts.seen_by (verdicts.verdict net region) net region crossing point 1 selections.now)) }
+            IfOk result (λ after.
+            leaves.Seeing told after (verdicts.seen_by
+            (verdicts.verdict net region) net region crossing point 1 selections.now)) }
         ensures err { IfErr result (λ s. (path : List of_crossing.Crossing)
-            → ((selection : of_selection.Selection) → Contains selections.now selection → splits.Meets self.now.tables.now.net path selection)
+            → ((selection : of_selection.Selection) → Contains selections.now selection
+            → splits.Meets self.now.tables.now.net path selection)
             → splits.IsSplit self.now.tables.now.net path self.now.region.now s.0 s.1) }
     {
         let mut told = told;
@@ -139,12 +152,19 @@ impl<'a> Judge<'a> {
     ) -> Result<Told, (Axis, u128)>
         requires tables { by_table.AreTables self.now.tables.now }
         requires along { let t = self.now.tables.now in
-            met.watches point.now crossing.now ≡ true → reach.SentAmong t.net t.numbering (reach.Marked self.now.marks.now) point.now.selections }
+            met.watches point.now crossing.now ≡ true
+            → reach.SentAmong t.net t.numbering
+            (reach.Marked self.now.marks.now) point.now.selections }
         ensures ok { let net = self.now.tables.now.net in
             let region = self.now.region.now in
-            IfOk result (λ after. leaves.Seeing told after (if met.watches point.now crossing.now then verdicts.seen_by (verdicts.verdict net region) net region number place 1 point.now.selections else [])) }
+            IfOk result (λ after.
+            leaves.Seeing told after (if met.watches point.now crossing.now
+            then verdicts.seen_by (verdicts.verdict net region) net region number place 1 point.now.selections
+            else [])) }
         ensures err { IfErr result (λ s. (path : List of_crossing.Crossing)
-            → ((selection : of_selection.Selection) → met.watches point.now crossing.now ≡ true → Contains point.now.selections selection → splits.Meets self.now.tables.now.net path selection)
+            → ((selection : of_selection.Selection) → met.watches point.now crossing.now ≡ true
+            → Contains point.now.selections selection
+            → splits.Meets self.now.tables.now.net path selection)
             → splits.IsSplit self.now.tables.now.net path self.now.region.now s.0 s.1) }
     {
         if point.watches(crossing) {
@@ -164,12 +184,18 @@ impl<'a> Judge<'a> {
     ) -> Result<Told, (Axis, u128)>
         requires tables { by_table.AreTables self.now.tables.now }
         requires along { let t = self.now.tables.now in
-            reach.SentAt t.net t.numbering (reach.Marked self.now.marks.now) points.now crossing.now }
+            reach.SentAt t.net t.numbering
+            (reach.Marked self.now.marks.now) points.now crossing.now }
         ensures ok { let net = self.now.tables.now.net in
             let region = self.now.region.now in
-            IfOk result (λ after. leaves.Seeing told after (verdicts.seen_at (verdicts.verdict net region) net region number 1 points.now crossing.now)) }
+            IfOk result (λ after.
+            leaves.Seeing told after (verdicts.seen_at
+            (verdicts.verdict net region) net region number 1 points.now crossing.now)) }
         ensures err { IfErr result (λ s. (path : List of_crossing.Crossing)
-            → ((point : network.Point) (selection : of_selection.Selection) → Contains points.now point → met.watches point crossing.now ≡ true → Contains point.selections selection → splits.Meets self.now.tables.now.net path selection)
+            → ((point : network.Point) (selection : of_selection.Selection)
+            → Contains points.now point → met.watches point crossing.now ≡ true
+            → Contains point.selections selection
+            → splits.Meets self.now.tables.now.net path selection)
             → splits.IsSplit self.now.tables.now.net path self.now.region.now s.0 s.1) }
     {
         let mut told = told;
@@ -183,10 +209,14 @@ impl<'a> Judge<'a> {
     fn crossing(&self, told: Told, number: u64, crossing: &Crossing) -> Result<Told, (Axis, u128)>
         requires tables { by_table.AreTables self.now.tables.now }
         requires along { let t = self.now.tables.now in
-            reach.SentAt t.net t.numbering (reach.Marked self.now.marks.now) (network.points_of (network.numbered t.net.devices crossing.now.device)) crossing.now }
+            reach.SentAt t.net t.numbering (reach.Marked self.now.marks.now) (network.points_of
+            (network.numbered t.net.devices crossing.now.device)) crossing.now }
         ensures ok { let net = self.now.tables.now.net in
             let region = self.now.region.now in
-            IfOk result (λ after. leaves.Seeing told after (verdicts.seen_at (verdicts.verdict net region) net region number 1 (network.points_of (network.numbered net.devices crossing.now.device)) crossing.now)) }
+            IfOk result (λ after.
+            leaves.Seeing told after (verdicts.seen_at
+            (verdicts.verdict net region) net region number 1 (network.points_of
+            (network.numbered net.devices crossing.now.device)) crossing.now)) }
         ensures err { IfErr result (λ s. (path : List of_crossing.Crossing)
             → Contains path crossing.now
             → splits.IsSplit self.now.tables.now.net path self.now.region.now s.0 s.1) }
@@ -202,8 +232,11 @@ impl<'a> Judge<'a> {
             reach.SentAlong t.net t.numbering (reach.Marked self.now.marks.now) path.now }
         ensures ok { let net = self.now.tables.now.net in
             let region = self.now.region.now in
-            IfOk result (λ after. leaves.Seeing told after (verdicts.seen_along (verdicts.verdict net region) net region 1 path.now)) }
-        ensures err { IfErr result (λ s. splits.IsSplit self.now.tables.now.net path.now self.now.region.now s.0 s.1) }
+            IfOk result (λ after.
+            leaves.Seeing told after (verdicts.seen_along
+            (verdicts.verdict net region) net region 1 path.now)) }
+        ensures err { IfErr result (λ s.
+            splits.IsSplit self.now.tables.now.net path.now self.now.region.now s.0 s.1) }
     {
         let mut told = told;
         for place in 0..path.len() {
@@ -217,8 +250,10 @@ impl<'a> Judge<'a> {
         requires tables { by_table.AreTables self.now.tables.now }
         requires along { let t = self.now.tables.now in
             reach.SentAlong t.net t.numbering (reach.Marked self.now.marks.now) path.now }
-        ensures ok { IfOk result (leaves.IsTold self.now.tables.now.net path.now self.now.region.now) }
-        ensures err { IfErr result (λ s. splits.IsSplit self.now.tables.now.net path.now self.now.region.now s.0 s.1) }
+        ensures ok { IfOk result
+            (leaves.IsTold self.now.tables.now.net path.now self.now.region.now) }
+        ensures err { IfErr result (λ s.
+            splits.IsSplit self.now.tables.now.net path.now self.now.region.now s.0 s.1) }
     {
         let nothing = Told {
             fate: Fate::Never,

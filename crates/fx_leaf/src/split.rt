@@ -96,8 +96,12 @@ impl<'a> Judge<'a> {
             reach.SentBySelection t.net t.numbering (reach.Marked self.now.marks.now) selection }
         requires cut { let net = self.now.tables.now.net in
             let region = self.now.region.now in
-            (crossing point process : ℕ) → splits.judged (verdicts.seen_if (verdicts.verdict net region) net region crossing point process selection.region selection.holder) ≡ None }
-        ensures { (path : List of_crossing.Crossing) → splits.Meets self.now.tables.now.net path selection
+            (crossing point process : ℕ)
+            → splits.judged (verdicts.seen_if
+            (verdicts.verdict net region) net region crossing point process selection.region
+            selection.holder) ≡ None }
+        ensures { (path : List of_crossing.Crossing)
+            → splits.Meets self.now.tables.now.net path selection
             → splits.IsSplit self.now.tables.now.net path self.now.region.now result.0 result.1 }
     {
         match self.split_at(selection) {

@@ -5,6 +5,7 @@ pub mod Crossings
 pub mod Stepping
 pub mod Choosing
 pub mod Running
+pub mod TallyCounts
 pub mod Leaving
 pub mod Emptying
 pub mod Completing

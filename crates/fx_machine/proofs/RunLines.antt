@@ -75,7 +75,7 @@ record RefusesLong (read : List Line → Result Run Fault) (n : ℕ) : Type 0 wh
   long : (l : Line) (ls : List Line) → nat_lt 4096 (length l.0) ≡ true → read (l ∷ ls) ≡ Err (at_line 903 (next_number n))
 
 -- the line that comes is too long, in a text that may be left
-abbrev MayBeLong : Lines → Fault → Type 0
+abbrev pub MayBeLong : Lines → Fault → Type 0
 MayBeLong old e = (e ≡ fault_at 903 (places.Line (next_number old.number))) × ((text : List ℕ) × MayBeLeft old.left text × (4096 < line_len text))
 
 too_long : (read : List Line → Result Run Fault) (old : Lines) (e : Fault) → RefusesLong read old.number → MayBeLong old e → (text : List ℕ) × MayBeLeft old.left text × (read (text_lines text) ≡ Err e)
@@ -83,7 +83,7 @@ too_long read old e refuses (is, (text, left, long)) =
     let f = long_first text long in
     (text, left, ap read f.2 ∙ refuses.long f.0 f.1 f.3 ∙ ap (λ (x : Fault). Err x) (sym is))
 
-stops : (old new : Lines) (e : Fault) → Refuses old new e → Fails old new e ⊎ MayBeLong old e
+pub stops : (old new : Lines) (e : Fault) → Refuses old new e → Fails old new e ⊎ MayBeLong old e
 stops old new e h = by_stopped old.stopped refl h.again h.first where
   by_stop : Stops old new e → Fails old new e ⊎ MayBeLong old e
   by_stop (inl device) = inl (inr device)

@@ -48,7 +48,8 @@ pub fn complete_runs_exist()
 
 /// The line of a packet, of a step and of the end is read as that, and no other line is.
 pub fn run_lines_have_one_text()
-    ensures read { (x : of_line.RunLine) → IsRunLine x → line_of (words (run_line_text x)) ≡ Some x }
+    ensures read { (x : of_line.RunLine) → IsRunLine x
+        → line_of (words (run_line_text x)) ≡ Some x }
     ensures only { (line : List ℕ) (x : of_line.RunLine) → line_of (words line) ≡ Some x
         → (line ≡ run_line_text x) × IsRunLine x }
     // So they are lines of a text.

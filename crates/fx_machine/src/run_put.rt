@@ -19,7 +19,8 @@ use fx_elements::{Axis, EVERY_AXIS, put_value, width};
 
 /// Writes a number behind a space.
 fn put_spaced<S: Sink>(sink: &mut S, number: u64) -> Result<(), Fault>
-    ensures ok { OnOk result (Writes (S.taken sink.old) (S.taken sink.new) (spaced (decimal number ∷ []))) }
+    ensures ok { OnOk result (Writes (S.taken sink.old) (S.taken sink.new) (spaced (decimal number
+        ∷ []))) }
     ensures going { OnOk result (S.failed sink.old ≡ false → S.failed sink.new ≡ false) }
     ensures err { IfErr result (λ e. (e ≡ fault_at 902 places.None) × (S.failed sink.new ≡ true)) }
 {
@@ -30,7 +31,8 @@ fn put_spaced<S: Sink>(sink: &mut S, number: u64) -> Result<(), Fault>
 /// Writes the value on an axis behind a space.
 #[tactic(auto, using(crate::proofs::RunPutting::field_fits))]
 fn put_field<S: Sink>(sink: &mut S, fields: &Fields, axis: Axis) -> Result<(), Fault>
-    ensures ok { OnOk result (Writes (S.taken sink.old) (S.taken sink.new) (spaced (value_text axis (field fields.now axis) ∷ []))) }
+    ensures ok { OnOk result (Writes (S.taken sink.old) (S.taken sink.new) (spaced (value_text axis
+        (field fields.now axis) ∷ []))) }
     ensures going { OnOk result (S.failed sink.old ≡ false → S.failed sink.new ≡ false) }
     ensures err { IfErr result (λ e. (e ≡ fault_at 902 places.None) × (S.failed sink.new ≡ true)) }
 {
@@ -54,7 +56,8 @@ fn put_on_axes<S: Sink>(sink: &mut S, fields: &Fields, axes: &[Axis]) -> Result<
 
 /// Writes a choice behind a space.
 fn put_choice<S: Sink>(sink: &mut S, choice: Option<u64>) -> Result<(), Fault>
-    ensures ok { OnOk result (Writes (S.taken sink.old) (S.taken sink.new) (spaced (choice_word choice ∷ []))) }
+    ensures ok { OnOk result (Writes (S.taken sink.old) (S.taken sink.new) (spaced
+        (choice_word choice ∷ []))) }
     ensures going { OnOk result (S.failed sink.old ≡ false → S.failed sink.new ≡ false) }
     ensures err { IfErr result (λ e. (e ≡ fault_at 902 places.None) × (S.failed sink.new ≡ true)) }
 {
@@ -66,7 +69,8 @@ fn put_choice<S: Sink>(sink: &mut S, choice: Option<u64>) -> Result<(), Fault>
 
 /// Writes choices, each behind a space.
 fn put_choices<S: Sink>(sink: &mut S, choices: &[Option<u64>]) -> Result<(), Fault>
-    ensures ok { OnOk result (Writes (S.taken sink.old) (S.taken sink.new) (spaced (map choice_word choices.now))) }
+    ensures ok { OnOk result (Writes (S.taken sink.old) (S.taken sink.new) (spaced
+        (map choice_word choices.now))) }
     ensures going { OnOk result (S.failed sink.old ≡ false → S.failed sink.new ≡ false) }
     ensures err { IfErr result (λ e. (e ≡ fault_at 902 places.None) × (S.failed sink.new ≡ true)) }
 {
@@ -78,7 +82,8 @@ fn put_choices<S: Sink>(sink: &mut S, choices: &[Option<u64>]) -> Result<(), Fau
 
 /// Writes the words of a cache, each behind a space.
 fn put_cache<S: Sink>(sink: &mut S, device: u64, cache: u64) -> Result<(), Fault>
-    ensures ok { OnOk result (Writes (S.taken sink.old) (S.taken sink.new) (spaced (holder_words (holders.Cache device cache)))) }
+    ensures ok { OnOk result (Writes (S.taken sink.old) (S.taken sink.new) (spaced (holder_words
+        (holders.Cache device cache)))) }
     ensures going { OnOk result (S.failed sink.old ≡ false → S.failed sink.new ≡ false) }
     ensures err { IfErr result (λ e. (e ≡ fault_at 902 places.None) × (S.failed sink.new ≡ true)) }
 {
@@ -107,7 +112,8 @@ fn put_aggregation<S: Sink>(
 
 /// Writes what holds records, each word behind a space.
 fn put_holder<S: Sink>(sink: &mut S, holder: HolderName) -> Result<(), Fault>
-    ensures ok { OnOk result (Writes (S.taken sink.old) (S.taken sink.new) (spaced (holder_words holder))) }
+    ensures ok { OnOk result (Writes (S.taken sink.old) (S.taken sink.new) (spaced
+        (holder_words holder))) }
     ensures going { OnOk result (S.failed sink.old ≡ false → S.failed sink.new ≡ false) }
     ensures err { IfErr result (λ e. (e ≡ fault_at 902 places.None) × (S.failed sink.new ≡ true)) }
 {
@@ -123,7 +129,8 @@ fn put_holder<S: Sink>(sink: &mut S, holder: HolderName) -> Result<(), Fault>
 
 /// Writes the words of a packet.
 fn put_packet<S: Sink>(sink: &mut S, packet: &Packet) -> Result<(), Fault>
-    ensures ok { OnOk result (Writes (S.taken sink.old) (S.taken sink.new) (run_line_text (line.Packet packet.now))) }
+    ensures ok { OnOk result (Writes (S.taken sink.old) (S.taken sink.new) (run_line_text
+        (line.Packet packet.now))) }
     ensures going { OnOk result (S.failed sink.old ≡ false → S.failed sink.new ≡ false) }
     ensures err { IfErr result (λ e. (e ≡ fault_at 902 places.None) × (S.failed sink.new ≡ true)) }
 {
@@ -204,7 +211,8 @@ fn put_arrive<S: Sink>(
 
 /// Writes the words of a step.
 fn put_step<S: Sink>(sink: &mut S, step: &Step) -> Result<(), Fault>
-    ensures ok { OnOk result (Writes (S.taken sink.old) (S.taken sink.new) (run_line_text (line.Step step.now))) }
+    ensures ok { OnOk result (Writes (S.taken sink.old) (S.taken sink.new) (run_line_text
+        (line.Step step.now))) }
     ensures going { OnOk result (S.failed sink.old ≡ false → S.failed sink.new ≡ false) }
     ensures err { IfErr result (λ e. (e ≡ fault_at 902 places.None) × (S.failed sink.new ≡ true)) }
 {
@@ -231,7 +239,8 @@ fn put_step<S: Sink>(sink: &mut S, step: &Step) -> Result<(), Fault>
 ///
 /// Fails with 902, at no place, where a write fails. How much the sink has taken then is open.
 pub fn put_step_line<S: Sink>(sink: &mut S, step: &Step) -> Result<(), Fault>
-    ensures ok { OnOk result (Writes (S.taken sink.old) (S.taken sink.new) (run_line_text (line.Step step.now) ++ 10 ∷ [])) }
+    ensures ok { OnOk result (Writes (S.taken sink.old) (S.taken sink.new) (run_line_text
+        (line.Step step.now) ++ 10 ∷ [])) }
     ensures going { OnOk result (S.failed sink.old ≡ false → S.failed sink.new ≡ false) }
     ensures err { IfErr result (λ e. (e ≡ fault_at 902 places.None) × (S.failed sink.new ≡ true)) }
 {

@@ -14,7 +14,7 @@ use Rattle.fx_machine.specs.declared.step.Step.{Step}
 use Rattle.fx_machine.specs.declared.run_line.RunLine.{RunLine}
 use Rattle.fx_machine.specs.declared.run_line.RunLine.TheVariants as line
 use Rattle.fx_machine.specs.RunReading.{Line, at_line, Fails}
-use Rattle.fx_machine.proofs.RunLines.{long_first}
+use Rattle.fx_machine.proofs.RunLines.{MayBeLong, long_first, stops}
 use Rattle.fx_refute.specs.ReadingOn.{FirstIsWrong, Leads, NextIsWrong, Says}
 use Rattle.fx_refute.specs.RefutationReading.{MayGive, MayRead, Read, ended, from_packet, from_step, line_said, only, packet_behind, reading, steps_behind, with_step}
 use Rattle.fx_machine.specs.Limits.{step_limit}
@@ -139,20 +139,6 @@ pub missing : (old new : Lines) → AtEnd old new → NextIsWrong old (at_line 5
 missing old new at = ([], nothing_left old.left new.left at.text, refl)
 
 -- ---- where the reader stops
-
-abbrev MayBeLong : Lines → Fault → Type 0
-MayBeLong old e =
-    (e ≡ fault_at 903 (places.Line (next_number old.number))) × ((text : List ℕ) × MayBeLeft old.left text × (4096 < line_len text))
-
-stops : (old new : Lines) (e : Fault) → Refuses old new e → Fails old new e ⊎ MayBeLong old e
-stops old new e h = by_stopped old.stopped refl h.again h.first where
-  by_stop : Stops old new e → Fails old new e ⊎ MayBeLong old e
-  by_stop (inl device) = inl (inr device)
-  by_stop (inr long) = inr long
-
-  by_stopped : (s : Option Fault) → old.stopped ≡ s → IfSome s (λ f. e ≡ f) → (s ≡ None → Stops old new e) → Fails old new e ⊎ MayBeLong old e
-  by_stopped (Some f) is again first = inl (inl (is ∙ ap (λ (x : Fault). Some x) (sym again)))
-  by_stopped None is again first = by_stop (first refl)
 
 -- reading that refuses a first line that is too long
 long_gives : (f : List Line → Read) (old : Lines) (e : Fault) → ((l : Line) (ls : List Line) → nat_lt 4096 (length l.0) ≡ true → f (l ∷ ls) ≡ Err (at_line 903 (next_number old.number))) → MayBeLong old e → MayGive old f (Err e)

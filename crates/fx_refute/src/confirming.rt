@@ -54,7 +54,8 @@ fn open<'a>(
 /// Makes one step after another. The first stands at line 3 of a refutation's text.
 fn make_steps(state: &mut State<'_>, steps: &[Step]) -> Result<(), Fault>
     requires few { length steps.now ≤ step_limit }
-    ensures ok { OnOk result ((s : states.State) → state.old.state ≡ states.told s → (last : states.State)
+    ensures ok { OnOk result ((s : states.State) → state.old.state ≡ states.told s
+        → (last : states.State)
         × (stepping.run state.old.net state.old.classes state.old.packets steps.now s ≡ Ok last)
         × (state.new.state ≡ states.told last)) }
     ensures net { OnOk result (state.new.net ≡ state.old.net) }
@@ -147,7 +148,8 @@ pub fn confirm(
     traffic: &Traffic,
     refutation: &Refutation,
 ) -> Result<(Totals, Totals), Fault>
-    ensures refutes { OnOk result (refutations.Refutes (net_of plan.now) traffic.now refutation.now) }
+    ensures refutes { OnOk result (refutations.Refutes
+        (net_of plan.now) traffic.now refutation.now) }
     ensures totals { IfOk result (λ t.
         refutations.AreTotals (net_of plan.now) traffic.now refutation.now t.0 t.1) }
     ensures err { IfErr result (λ e. (e ≡ fault_at 900 places.None)

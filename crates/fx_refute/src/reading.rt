@@ -85,7 +85,8 @@ fn read_packet<R: Source>(alloc: Global, lines: &mut LineReader<R>) -> Result<Pa
     ensures ok { IfOk result (λ p. Leads lines.old lines.new
         (packet_behind lines.old.number) (steps_behind lines.new.number (only p))) }
     ensures err { IfErr result (λ e. (e ≡ fault_at 900 places.None)
-        ⊎ (Fails lines.old lines.new e ⊎ MayGive lines.old (packet_behind lines.old.number) (Err e))) }
+        ⊎ (Fails lines.old lines.new e
+        ⊎ MayGive lines.old (packet_behind lines.old.number) (Err e))) }
 {
     match read_next(alloc, lines)? {
         RunLine::Packet(packet) => return Ok(packet),
@@ -101,7 +102,8 @@ fn read_steps<R: Source>(
     lines: &mut LineReader<R>,
 ) -> Result<Refutation, Fault>
     requires { lines.old.stopped ≡ None }
-    ensures ok { IfOk result (λ r. MayGive lines.old (steps_behind lines.old.number (only packet)) (Ok r)) }
+    ensures ok { IfOk result (λ r.
+        MayGive lines.old (steps_behind lines.old.number (only packet)) (Ok r)) }
     ensures err { IfErr result (λ e. (e ≡ fault_at 900 places.None)
         ⊎ (Fails lines.old lines.new e
         ⊎ MayGive lines.old (steps_behind lines.old.number (only packet)) (Err e))) }

@@ -155,8 +155,10 @@ impl<'a> Growth<'a> {
     pub(crate) fn add(&mut self, here: &Ahead<'a>, item: Item) -> Result<(), AllocError>
         requires few { self.old.lines < line_limit }
         requires writable { IsWritable item }
-        ensures items { OnOk result (self.new.items.items ≡ self.old.items.items ++ (opening_items here.now ++ item ∷ [])) }
-        ensures written { OnOk result (AllByRecursion IsWritable self.old.items.items → AllByRecursion IsWritable self.new.items.items) }
+        ensures items { OnOk result (self.new.items.items
+            ≡ self.old.items.items ++ (opening_items here.now ++ item ∷ [])) }
+        ensures written { OnOk result (AllByRecursion IsWritable self.old.items.items
+            → AllByRecursion IsWritable self.new.items.items) }
         ensures lines { OnOk result (self.new.lines ≡ self.old.lines + 1) }
         ensures ahead { OnOk result (self.new.ahead ≡ self.old.ahead) }
     {
@@ -174,10 +176,13 @@ impl<'a> Growth<'a> {
         requires few { self.old.lines < line_limit }
         requires shallow { here.now.depth < depth_limit }
         requires inside { IsStrictlyInside here.now.region (axis_index axis) at }
-        ensures items { OnOk result (self.new.items.items ≡ self.old.items.items ++ (opening_items here.now ++ of_item.Split axis at ∷ [])) }
-        ensures written { OnOk result (AllByRecursion IsWritable self.old.items.items → AllByRecursion IsWritable self.new.items.items) }
+        ensures items { OnOk result (self.new.items.items
+            ≡ self.old.items.items ++ (opening_items here.now ++ of_item.Split axis at ∷ [])) }
+        ensures written { OnOk result (AllByRecursion IsWritable self.old.items.items
+            → AllByRecursion IsWritable self.new.items.items) }
         ensures lines { OnOk result (self.new.lines ≡ self.old.lines + 1) }
-        ensures ahead { OnOk result (self.new.ahead.items ≡ self.old.ahead.items ++ (upper here.now axis at ∷ lower here.now axis at ∷ [])) }
+        ensures ahead { OnOk result (self.new.ahead.items
+            ≡ self.old.ahead.items ++ (upper here.now axis at ∷ lower here.now axis at ∷ [])) }
     {
         let Some((below, above)) = here.region.split(axis, at) else {
             unreachable!();

@@ -69,11 +69,15 @@ fn take<'a>(
     requires room { length tables.now.net.processes ≤ length scratch.old }
     requires most { most ≤ line_limit }
     ensures on { (targets : List Target) (version : Version)
-        → IsGrowing tables.now.net targets version most growth.old.items.items growth.old.lines (here.now ∷ reverse growth.old.ahead.items)
-        → IfOk result (IsTaken tables.now.net targets version most growth.new.items.items growth.new.lines (reverse growth.new.ahead.items) here.now) }
-    ensures lines { IfOk result (λ taken. taken ≡ true → (growth.new.lines ≡ growth.old.lines + 1) × (growth.new.lines ≤ most)) }
+        → IsGrowing tables.now.net targets version most growth.old.items.items growth.old.lines
+        (here.now ∷ reverse growth.old.ahead.items)
+        → IfOk result (IsTaken tables.now.net targets version most growth.new.items.items
+        growth.new.lines (reverse growth.new.ahead.items) here.now) }
+    ensures lines { IfOk result (λ taken. taken ≡ true → (growth.new.lines ≡ growth.old.lines + 1)
+        × (growth.new.lines ≤ most)) }
     ensures err { (targets : List Target) (version : Version)
-        → IsGrowing tables.now.net targets version most growth.old.items.items growth.old.lines (here.now ∷ reverse growth.old.ahead.items)
+        → IsGrowing tables.now.net targets version most growth.old.items.items growth.old.lines
+        (here.now ∷ reverse growth.old.ahead.items)
         → IfErr result (IsGivenUp tables.now.net targets most) }
     ensures size { length scratch.new ≡ length scratch.old }
 {
@@ -107,10 +111,13 @@ fn grow<'a>(
     requires most { most ≤ line_limit }
     requires few { growth.old.lines ≤ most }
     ensures grown { (targets : List Target) (version : Version)
-        → IsGrowing tables.now.net targets version most growth.old.items.items growth.old.lines (reverse growth.old.ahead.items)
-        → IfOk result (IsGrown tables.now.net targets version most growth.new.items.items growth.new.lines) }
+        → IsGrowing tables.now.net targets version most growth.old.items.items growth.old.lines
+        (reverse growth.old.ahead.items)
+        → IfOk result (IsGrown tables.now.net targets version most growth.new.items.items
+        growth.new.lines) }
     ensures err { (targets : List Target) (version : Version)
-        → IsGrowing tables.now.net targets version most growth.old.items.items growth.old.lines (reverse growth.old.ahead.items)
+        → IsGrowing tables.now.net targets version most growth.old.items.items growth.old.lines
+        (reverse growth.old.ahead.items)
         → IfErr result (IsGivenUp tables.now.net targets most) }
 {
     'regions: loop {
@@ -132,10 +139,14 @@ fn refute(
 ) -> Result<Found, Fault>
     requires tables { AreTables tables.now }
     requires runnable { IsRunnable tables.now.net }
-    ensures right { (limit : ℕ) → Lies classes.now here.now → IfOk result (found.IsRight tables.now.net classes.now limit) }
-    ensures settles { Lies classes.now here.now → IfOk result (found.Settles tables.now.net classes.now) }
+    ensures right { (limit : ℕ) → Lies classes.now here.now
+        → IfOk result (found.IsRight tables.now.net classes.now limit) }
+    ensures settles { Lies classes.now here.now
+        → IfOk result (found.Settles tables.now.net classes.now) }
     ensures err { IfErr result (λ e. (e ≡ fault_at 900 places.None)
-        ⊎ ((e ≡ fault_at 601 places.None) × HasNoRun tables.now.net here.now.region.low (path classes.now (least_packet here.now)) (exempts (numbered classes.now here.now.target.class)))) }
+        ⊎ ((e ≡ fault_at 601 places.None)
+        × HasNoRun tables.now.net here.now.region.low (path classes.now (least_packet here.now))
+        (exempts (numbered classes.now here.now.target.class)))) }
 {
     refutations_refute();
     let packet = here.least_packet();
@@ -160,10 +171,12 @@ fn version_for(classes: &[Class]) -> Version
 /// The certificate, behind whose trees its last line comes.
 fn certificate(growth: Growth<'_>) -> Result<Found, Fault>
     ensures right { (net : Net) (classes : List OfClass) (limit : ℕ)
-        → IsGrowing net (targets_of classes) (found.version_for classes) (fronts.most_lines limit) growth.entry.items.items growth.entry.lines []
+        → IsGrowing net (targets_of classes) (found.version_for classes)
+        (fronts.most_lines limit) growth.entry.items.items growth.entry.lines []
         → IfOk result (found.IsRight net classes limit) }
     ensures settles { (net : Net) (classes : List OfClass) (limit : ℕ) → IsNetwork net
-        → IsGrowing net (targets_of classes) (found.version_for classes) (fronts.most_lines limit) growth.entry.items.items growth.entry.lines []
+        → IsGrowing net (targets_of classes) (found.version_for classes)
+        (fronts.most_lines limit) growth.entry.items.items growth.entry.lines []
         → IfOk result (found.Settles net classes) }
     ensures err { IfErr result (λ e. e ≡ fault_at 900 places.None) }
 {
@@ -189,7 +202,8 @@ pub fn search(alloc: Global, plan: &Plan, traffic: &Traffic, limit: u64) -> Resu
     ensures right { IfOk result (found.IsRight (net_of plan.now) traffic.now limit) }
     // So after a certificate each packet is counted exactly once, and after a run it isn't so.
     ensures settles { IfOk result (found.Settles (net_of plan.now) traffic.now) }
-    ensures err { IfErr result (IsGivenUp (net_of plan.now) (targets_of traffic.now) (fronts.most_lines limit)) }
+    ensures err { IfErr result (IsGivenUp (net_of plan.now) (targets_of traffic.now)
+        (fronts.most_lines limit)) }
 {
     let _runnable = plan.net();
     let tables = tables_of(plan);

@@ -15,7 +15,7 @@ use Rattle.fx_steps.specs.declared.waiting.Waiting.{Waiting}
 use Rattle.fx_machine.specs.Limits.{step_limit}
 use Rattle.fx_steps.specs.CostTables.{CostTable, coming_costs, sent_costs}
 use Rattle.fx_steps.specs.Planning.{pending_cost, total_cost, planned_of, IsThere, Steps}
-use Rattle.fx_steps.specs.UnderWay.{IsFilled, CanLeave}
+use Rattle.fx_steps.specs.UnderWay.{HasCosts, CanLeave}
 use Rattle.fx_steps.specs.Waiting.{Wait, HasPlace, nobody, total, raised, holders_with, links_with}
 use Rattle.fx_steps.proofs.Costing.{cost_next}
 use Rattle.fx_steps.proofs.Counting.{holders_length, links_length, holders_total, links_total, holders_joined, links_joined, total_nobody, length_nobody}
@@ -105,7 +105,7 @@ module _ (table : CostTable) (net : Net) (n : Numbering) where
 
 -- ---- the record on top
 
-module _ (t : Tables) (are : AreTables t) (runs : IsRunnable t.net) (fields : Fields) (table : CostTable) (filled : IsFilled t fields table) where
+module _ (t : Tables) (are : AreTables t) (runs : IsRunnable t.net) (fields : Fields) (table : CostTable) (filled : HasCosts t fields table) where
   pub can_step : (x : Pending) → IsThere t.net t.numbering x → pending_cost table t.net t.numbering x ≤ step_limit → Steps table t.net t.numbering fields x
   can_step x is le =
       let P : CostTable → Type 0 = λ c. pending_cost c t.net t.numbering x ≤ step_limit → Steps c t.net t.numbering fields x in

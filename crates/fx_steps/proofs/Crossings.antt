@@ -26,7 +26,7 @@ use Rattle.fx_steps.specs.CostTables.{CostTable, cost_fill, met_costs, path_cost
 use Rattle.fx_steps.specs.Planning.{pending_items, total_cost, meets, meets_choose, Crosses, IsThere}
 use Rattle.fx_steps.specs.Playing.{fate_of}
 use Rattle.fx_steps.specs.Spread.{pick}
-use Rattle.fx_steps.specs.UnderWay.{reached, UnderWay, IsFilled}
+use Rattle.fx_steps.specs.UnderWay.{reached, UnderWay, HasCosts}
 use Rattle.fx_steps.proofs.Advancing.{sized}
 use Rattle.fx_steps.proofs.Costing.{cost_next}
 use Rattle.fx_steps.proofs.Crossing.{caches_met}
@@ -61,7 +61,7 @@ module _ (net : Net) (n : Numbering) (table : CostTable) (classes : List Class) 
         few = let b = way.few in let l = ap length last ∙ length-append old (step ∷ []) in omega arith;
       }
 
-module _ (t : Tables) (are : AreTables t) (runs : IsRunnable t.net) (fields : Fields) (table : CostTable) (filled : IsFilled t fields table) where
+module _ (t : Tables) (are : AreTables t) (runs : IsRunnable t.net) (fields : Fields) (table : CostTable) (filled : HasCosts t fields table) where
   -- a crossing's share of the fate, and what is known of it
   pub record Share (steps : ℕ) (c : Crossing) (rest : List Crossing) (f : Fate) (os : List Occurrence) (now later : Fate) : Type 0 where
     pub met : os ≡ occurrences t.net c fields

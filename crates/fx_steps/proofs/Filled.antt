@@ -14,6 +14,7 @@ use Rattle.fx_machine.specs.Steps.{acts_of, coming_to}
 use Rattle.fx_leaf.specs.Tables.{Numbering, Numbers, Tables, AreTables}
 use Rattle.fx_leaf.proofs.FateLaws.{Every}
 use Rattle.fx_leaf.proofs.Ranks.{every_of_all}
+use Rattle.fx_leaf.proofs.Rowing.{set_elsewhere, set_here}
 use Rattle.fx_steps.specs.declared.costs.Costs.{Costs}
 use Rattle.fx_steps.specs.Costs.{Tells, nothing}
 use Rattle.fx_steps.specs.CostTables.{CostTable, or_nothing, cost_in, cost_entry, cost_from, cost_row, cost_fill}
@@ -53,18 +54,6 @@ row_at table net n fields process first (l ∷ ls) zero layout h =
 row_at table net n fields process first (l ∷ ls) (suc k) layout h =
     let e : suc first + k ≡ first + suc k = omega arith in
     row_at table net n fields process (suc first) ls k layout h ∙ ap (λ i. Some (cost_from table net n fields process i layout)) e
-
-set_there : {A : Type 0} (xs : List A) (k : ℕ) (x : A) → k < length xs → slice_get (slice_set xs k x) k ≡ Some x
-set_there [] k x lt = absurd (omega arith)
-set_there (y ∷ ys) zero x lt = refl
-set_there (y ∷ ys) (suc k) x lt = set_there ys k x (le_of_suc-le-suc lt)
-
-set_elsewhere : {A : Type 0} (xs : List A) (k j : ℕ) (x : A) → k ≢ j → slice_get (slice_set xs k x) j ≡ slice_get xs j
-set_elsewhere [] k j x e = refl
-set_elsewhere (y ∷ ys) zero zero x e = absurd (e refl)
-set_elsewhere (y ∷ ys) zero (suc j) x e = refl
-set_elsewhere (y ∷ ys) (suc k) zero x e = refl
-set_elsewhere (y ∷ ys) (suc k) (suc j) x e = set_elsewhere ys k j x (λ same. e (ap suc same))
 
 module _ (net : Net) (n : Numbering) (fields : Fields) (network : IsNetwork net) (numbers : Numbers net n) (whole : IsWhole net) (reports : net.report < length net.processes) where
   abbrev pub Told : CostTable → ℕ → Type 0
@@ -118,7 +107,7 @@ module _ (net : Net) (n : Numbering) (fields : Fields) (network : IsNetwork net)
   new_row : (table : CostTable) (process : ℕ) → length table ≡ length net.processes → process < length net.processes → ((q : ℕ) → ranked.rank process < ranked.rank q → Told table q) → Told (filled table process) process
   new_row table process size lt later number layout is fits =
       let row = cost_row table net n fields process 0 n.layouts in
-      let here : slice_get (filled table process) process ≡ Some row = set_there table process row (omega (arith, size, lt)) in
+      let here : slice_get (filled table process) process ≡ Some row = set_here table process row (omega (arith, size, lt)) in
       let at = row_at table net n fields process 0 n.layouts number layout is in
       let first : 0 + number ≡ number = omega arith in
       let e : cost_entry (filled table process) process number ≡ cost_from table net n fields process number layout = ap (λ o. cost_in o number) here ∙ ap or_nothing at ∙ ap (λ i. cost_from table net n fields process i layout) first in

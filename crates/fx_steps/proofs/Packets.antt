@@ -27,7 +27,7 @@ use Rattle.fx_steps.specs.Ways.PacketComes.{no_crossing, cross}
 use Rattle.fx_steps.proofs.Places.{next_here}
 use Rattle.fx_steps.proofs.Chaining.{chained}
 use Rattle.fx_steps.proofs.Playing
-use Rattle.fx_steps.proofs.Playing.{tally_count}
+use Rattle.fx_machine.proofs.TallyCounts.{count_meets}
 use Rattle.fx_steps.proofs.Tallies.{fates_both, total_of_times}
 
 nothing_empty : {A : Type 0} (xs : List A) → all_empty (nothing_at xs) ≡ true
@@ -43,10 +43,6 @@ module _ (net : Net) (classes : List Class) (p : Packet) (network : IsNetwork ne
 
   abbrev goes : List Step → State → Outcome
   goes steps s = run net classes (p ∷ []) steps s
-
-  count_meets : (os : List Occurrence) → tally_count (map (meet net p.fields) os) ≡ 0
-  count_meets [] = refl
-  count_meets (o ∷ os) = count_meets os
 
   -- the next crossing is made
   pub crosses : (s : State) (rest : List Coming) (number : ℕ) (choices : Choices) → after net classes (p ∷ []) (Cross 1 number choices) (record s { coming = record { packet = 1; crossing = number } ∷ rest }) ≡ all_acts net (one_packet p) (crossing_acts net p.fields (numbered (path classes p) number)) (record s { coming = rest }) choices
@@ -81,7 +77,7 @@ module _ (net : Net) (classes : List Class) (p : Packet) (network : IsNetwork ne
         ends = ap (λ o. then_run o (run net classes (p ∷ []) (i.steps ++ r.steps))) begins ∙ end ∙ ap Ok (Playing.counted_on net classes p network i.tallies i.lost r.tallies r.lost (record s { coming = [] }));
         number = let e = length-append i.steps r.steps in let a = i.number in let b = r.number in omega arith;
         fate_is = fates_both i.tallies i.lost r.tallies r.lost ∙ ap₂ both i.fate_is r.fate_is;
-        few = let a = i.few in let b = r.few in let e = count_meets (occurrences net c p.fields) in omega arith;
+        few = let a = i.few in let b = r.few in let e = count_meets net p.fields (occurrences net c p.fields) in omega arith;
       }
 
   path_played : {cs : List Crossing} {f : Fate} {n : ℕ} → PacketComes net p.fields cs f n → (before : List Crossing) → path classes p ≡ before ++ cs → (s : State) → IsSized net s → s.coming ≡ crossings_from 1 (suc (length before)) cs → PathPlayed f n s

@@ -13,7 +13,7 @@ use Rattle.fx_machine.specs.Limits.{step_limit}
 use Rattle.fx_steps.specs.Costs.{over, plus, cost_of, pairs, both_cost, both_costs, nothing, no_way}
 use Rattle.fx_steps.specs.CostTables.{CostTable, link_costs, all_costs, any_costs, send_costs}
 use Rattle.fx_steps.specs.Building.{Spreads}
-use Rattle.fx_steps.specs.Spread.{Sent, pick_from, pick, sent_on, spread_to, cheapest, chosen_on, choice_of, chosen_by, spread_by, all_cost, joint, items_of}
+use Rattle.fx_steps.specs.Spread.{SentRecord, pick_from, pick, sent_on, spread_to, cheapest, chosen_on, choice_of, chosen_by, spread_by, all_cost, joint, items_of}
 use Rattle.fx_steps.specs.Ways.{one, to}
 use Rattle.fx_steps.proofs.Filled.{all_at}
 use Rattle.fx_steps.proofs.Costing.{Among, least_at, pair_is, cost_both, cost_either, smaller}
@@ -74,7 +74,7 @@ alone Differing le = absurd (omega arith)
 
 module _ (table : CostTable) (net : Net) (number : ℕ) where
   -- what is shared out comes to the fate, at its cost
-  pub record Shared (xs : List Sent) (f : Fate) (n : ℕ) : Type 0 where
+  pub record Shared (xs : List SentRecord) (f : Fate) (n : ℕ) : Type 0 where
     pub cost : all_cost table net number xs ≡ n
     pub fate : joint xs ≡ f
 
@@ -82,15 +82,15 @@ module _ (table : CostTable) (net : Net) (number : ℕ) where
   on_shared None f le = let a = alone f le in record { cost = sym a.1; fate = sym a.0 }
   on_shared (Some link) f le = record { cost = let e : cost_of (link_costs table net number (Some link)) f + 0 ≡ cost_of (link_costs table net number (Some link)) f = omega arith in e; fate = both_never f }
 
-  cost_append : (xs ys : List Sent) → all_cost table net number (xs ++ ys) ≡ all_cost table net number xs + all_cost table net number ys
+  cost_append : (xs ys : List SentRecord) → all_cost table net number (xs ++ ys) ≡ all_cost table net number xs + all_cost table net number ys
   cost_append [] ys = omega arith
   cost_append (x ∷ xs) ys = let h = cost_append xs ys in omega arith
 
-  joint_append : (xs ys : List Sent) → joint (xs ++ ys) ≡ both (joint xs) (joint ys)
+  joint_append : (xs ys : List SentRecord) → joint (xs ++ ys) ≡ both (joint xs) (joint ys)
   joint_append [] ys = sym (never_both (joint ys))
   joint_append (x ∷ xs) ys = ap (both x.fate) (joint_append xs ys) ∙ sym (both_assoc x.fate (joint xs) (joint ys))
 
-  pub both_shared : (xs ys : List Sent) (a b : Costs) (f : Fate) (p : Picked a b f) → Shared xs (pick a b f).0 (cost_of a (pick a b f).0) → Shared ys (pick a b f).1 (cost_of b (pick a b f).1) → Shared (xs ++ ys) f (cost_of (both_costs a b) f)
+  pub both_shared : (xs ys : List SentRecord) (a b : Costs) (f : Fate) (p : Picked a b f) → Shared xs (pick a b f).0 (cost_of a (pick a b f).0) → Shared ys (pick a b f).1 (cost_of b (pick a b f).1) → Shared (xs ++ ys) f (cost_of (both_costs a b) f)
   both_shared xs ys a b f p s t = record {
     cost = let e = cost_append xs ys in let c = s.cost in let d = t.cost in let k = p.sum in omega arith;
     fate = joint_append xs ys ∙ ap₂ both s.fate t.fate ∙ p.fate;

@@ -18,7 +18,7 @@ use Rattle.fx_machine.specs.Limits.{step_limit}
 use Rattle.fx_steps.specs.Costs.{cost_of, both_costs, nothing}
 use Rattle.fx_steps.specs.CostTables.{CostTable, link_costs, send_costs, sent_costs, held_costs, taken_costs, handled_costs, met_costs}
 use Rattle.fx_steps.specs.Planning.{on_links, sends, sends_choose, first_sends, first_chooses, left_by, takings, handles, meets, pending_fate, total_cost, total_fate, layout_in, item_of, pending_items}
-use Rattle.fx_steps.specs.Spread.{Sent, pick, spread_by, chosen_by, all_cost, joint, items_of}
+use Rattle.fx_steps.specs.Spread.{SentRecord, pick, spread_by, chosen_by, all_cost, joint, items_of}
 use Rattle.fx_steps.specs.Ways.{acts, one}
 use Rattle.fx_steps.proofs.Whole.{HasLinks}
 use Rattle.fx_steps.proofs.Picking.{Picked, pick_is, alone, Shared, by_shared, by_spreads}
@@ -56,15 +56,15 @@ module _ (table : CostTable) (net : Net) (n : Numbering) (fields : Fields) where
     pub cost : total_cost table net n ps ≡ c
     pub fate : total_fate ps ≡ f
 
-  links_cost : (number : ℕ) (xs : List Sent) → total_cost table net n (on_links number xs) ≡ all_cost table net number xs
+  links_cost : (number : ℕ) (xs : List SentRecord) → total_cost table net n (on_links number xs) ≡ all_cost table net number xs
   links_cost number [] = refl
   links_cost number (x ∷ xs) = ap (λ c. cost_of (link_costs table net number (Some x.link)) x.fate + c) (links_cost number xs)
 
-  links_fate : (number : ℕ) (xs : List Sent) → total_fate (on_links number xs) ≡ joint xs
+  links_fate : (number : ℕ) (xs : List SentRecord) → total_fate (on_links number xs) ≡ joint xs
   links_fate number [] = refl
   links_fate number (x ∷ xs) = ap (both x.fate) (links_fate number xs)
 
-  links_meet : (number : ℕ) (xs : List Sent) (f : Fate) (c : ℕ) → Shared table net number xs f c → Meets (on_links number xs) f c
+  links_meet : (number : ℕ) (xs : List SentRecord) (f : Fate) (c : ℕ) → Shared table net number xs f c → Meets (on_links number xs) f c
   links_meet number xs f c s = record { cost = links_cost number xs ∙ s.cost; fate = links_fate number xs ∙ s.fate }
 
   pub cost_joined : (xs ys : List Pending) → total_cost table net n (xs ++ ys) ≡ total_cost table net n xs + total_cost table net n ys
@@ -132,7 +132,7 @@ module _ (table : CostTable) (net : Net) (n : Numbering) (fields : Fields) where
   abbrev pub key_at : ℕ → Key
   key_at number = key_of (layout_in (slice_get n.layouts number)) fields
 
-  links_items : (number : ℕ) (xs : List Sent) → items_of (key_at number) xs ≡ pending_items net n fields (on_links number xs)
+  links_items : (number : ℕ) (xs : List SentRecord) → items_of (key_at number) xs ≡ pending_items net n fields (on_links number xs)
   links_items number [] = refl
   links_items number (x ∷ xs) = ap (λ is. Carried x.link (key_at number) ∷ is) (links_items number xs)
 

@@ -22,6 +22,7 @@ use Rattle.fx_leaf.specs.Quantity.{key_of_act}
 use Rattle.fx_leaf.proofs.FateLaws.{Every, every_append}
 use Rattle.fx_leaf.proofs.Steps.{every_map, every_map_filter}
 use Rattle.fx_machine.proofs.Lists.{length_put_last}
+use Rattle.fx_machine.proofs.TallyCounts.{arriving_count, leaving_count, tally_count}
 use Rattle.fx_steps.specs.Playing.{add_times, fate_of}
 use Rattle.fx_machine.specs.Runnable.{IsHolder}
 use Rattle.fx_steps.specs.Ways.{tally_fate}
@@ -29,19 +30,6 @@ use Rattle.fx_steps.specs.Chains.{Chain, all_of, any_of}
 use Rattle.fx_steps.specs.Chains.Chain.{no_act, tally, hold, sent, send_out, send_on, choose}
 use Rattle.fx_steps.proofs.Places.{there, set_here, set_back, last_here, last_removed, put_here, put_back}
 use Rattle.fx_steps.proofs.Tallies.{times_on, fate_once, fates_both}
-
--- how many of the acts tally
-abbrev pub tally_count : List Act → ℕ
-tally_count [] = 0
-tally_count (Tally key ∷ acts) = suc (tally_count acts)
-tally_count (Send e key ∷ acts) = tally_count acts
-tally_count (Hold h key ∷ acts) = tally_count acts
-
-pub count_append : (xs ys : List Act) → tally_count (xs ++ ys) ≡ tally_count xs + tally_count ys
-count_append [] ys = omega arith
-count_append (Tally key ∷ acts) ys = let h = count_append acts ys in omega arith
-count_append (Send e key ∷ acts) ys = count_append acts ys
-count_append (Hold h key ∷ acts) ys = count_append acts ys
 
 module _ (net : Net) (classes : List Class) (p : Packet) (network : IsNetwork net) where
   abbrev own_key : Key
@@ -155,39 +143,6 @@ module _ (net : Net) (classes : List Class) (p : Packet) (network : IsNetwork ne
   arriving_own key own None = tt
   arriving_own key own (Some process) = coming_own key own process
 
-  -- ---- how many of them tally
-
-  count_sends : {A : Type 0} (es : List A) (key : Key) (g : A → _) → tally_count (map (λ e. Send (g e) key) es) ≡ 0
-  count_sends [] key g = refl
-  count_sends (e ∷ es) key g = count_sends es key g
-
-  count_takes : (key : Key) (as' : List Aggregation) → tally_count (map (take_in net key) as') ≡ 0
-  count_takes key [] = refl
-  count_takes key (a ∷ as') = count_takes key as'
-
-  pub leaving_count : (holder : ℕ) (key : Key) → tally_count (leaving net holder key) ≡ 0
-  leaving_count holder key = count_sends (exporters_of net (slice_get net.holders holder)) key (λ e. e)
-
-  handled_count : (key : Key) (o : Option Process) → tally_count (acts_of net key o) ≡ 0
-  handled_count key None = refl
-  handled_count key (Some process) =
-      let sends = count_sends (at_places net.exporters process.exporters) key (λ e. e) in
-      let takes' = count_takes key (filter (takes net key) process.aggregations) in
-      let all = count_append (map (λ e. Send e key) (at_places net.exporters process.exporters)) (map (take_in net key) (filter (takes net key) process.aggregations)) in
-      omega arith
-
-  coming_count : (key : Key) (process : ℕ) → tally_count (coming_to net key process) ≤ 1
-  coming_count key process =
-      let rest = handled_count key (slice_get net.processes process) in
-      elim (process == net.report) as (λ b. tally_count (cond b (Tally key ∷ []) [] ++ acts_of net key (slice_get net.processes process)) ≤ 1) [
-        | true ↦ omega arith
-        | false ↦ omega arith
-      ]
-
-  pub arriving_count : (key : Key) (o : Option ℕ) → tally_count (arriving net key o) ≤ 1
-  arriving_count key None = omega arith
-  arriving_count key (Some process) = coming_count key process
-
   -- ---- the acts, one after another
 
   abbrev Rest : List Act → Fate → ℕ → Type 0
@@ -278,7 +233,7 @@ module _ (net : Net) (classes : List Class) (p : Packet) (network : IsNetwork ne
       let next : State = record s { held = slice_set s.held holder (rs ++ r ∷ []) } in
       let later = rest next (record { held = length-set s.held holder (rs ++ r ∷ []) ∙ z.held; carried = z.carried }) in
       let made : all_acts net (one_packet p) (Hold holder key ∷ acts) s (None ∷ later.choices) ≡ Ok later.mid = ap (λ o. act_all net (one_packet p) acts (hold_in o holder r s None later.choices)) here.1 ∙ later.made in
-      join (Hold holder key ∷ acts) acts (leaving net holder key) f g m n s next later (λ cs. Expire h.name (suc (length rs)) cs) (None ∷ later.choices) made (λ t u cs. expires holder h rs r (counted t u s) cs here.1) (let e = leaving_count holder key in omega arith) refl (inner (counted later.tallies later.lost s) (record { held = z.held; carried = z.carried }))
+      join (Hold holder key ∷ acts) acts (leaving net holder key) f g m n s next later (λ cs. Expire h.name (suc (length rs)) cs) (None ∷ later.choices) made (λ t u cs. expires holder h rs r (counted t u s) cs here.1) (let e = leaving_count net holder key in omega arith) refl (inner (counted later.tallies later.lost s) (record { held = z.held; carried = z.carried }))
 
   on_played : (acts : List Act) (f g : Fate) (m n : ℕ) (link : ℕ) (ds : List (Option ℕ)) (key : Key) → link < length net.links → Rest (arriving net key (slice_get net.links link)) f m → Rest (Send (all_of ds) key ∷ acts) g n → Rest (Send (all_of (Some link ∷ ds)) key ∷ acts) (both f g) (suc (m + n))
   on_played acts f g m n link ds key lt inner rest s z =
@@ -287,7 +242,7 @@ module _ (net : Net) (classes : List Class) (p : Packet) (network : IsNetwork ne
       let rs = here.0 in
       let next : State = record s { carried = put_last s.carried link r } in
       let later = rest next (record { held = z.held; carried = length_put_last s.carried link r ∙ z.carried }) in
-      join (Send (all_of (Some link ∷ ds)) key ∷ acts) (Send (all_of ds) key ∷ acts) (arriving net key (slice_get net.links link)) f g m n s next later (λ cs. Arrive (suc link) (suc (length rs)) cs) later.choices later.made (λ t u cs. arrives link rs r (counted t u s) cs here.1) (arriving_count key (slice_get net.links link)) refl (inner (counted later.tallies later.lost s) (record { held = z.held; carried = z.carried }))
+      join (Send (all_of (Some link ∷ ds)) key ∷ acts) (Send (all_of ds) key ∷ acts) (arriving net key (slice_get net.links link)) f g m n s next later (λ cs. Arrive (suc link) (suc (length rs)) cs) later.choices later.made (λ t u cs. arrives link rs r (counted t u s) cs here.1) (arriving_count net key (slice_get net.links link)) refl (inner (counted later.tallies later.lost s) (record { held = z.held; carried = z.carried }))
 
   -- what is played of acts is played of others that do the same and tally as often
   same_played : (all acts : List Act) (f : Fate) (n : ℕ) (s : State) (r : Played acts f n s) (choices : Choices) → all_acts net (one_packet p) all s choices ≡ all_acts net (one_packet p) acts s r.choices → tally_count all ≡ tally_count acts → Played all f n s

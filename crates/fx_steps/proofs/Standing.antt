@@ -22,7 +22,7 @@ use Rattle.fx_steps.specs.declared.pending.Pending.TheVariants.{AtHolder, OnLink
 use Rattle.fx_steps.specs.Building.{put, put_each, tally_each}
 use Rattle.fx_steps.specs.CostTables.{CostTable, link_costs, all_costs, send_costs, sent_costs, held_costs, taken_costs, met_costs}
 use Rattle.fx_steps.specs.Planning.{on_links, sends, takings, handles, behind, meets, arrives, layout_in, planned_of, chosen_of, tallied_of, item_of, pending_items, IsThere, Steps}
-use Rattle.fx_steps.specs.Spread.{Sent, pick, sent_on, spread_to, chosen_on, choice_of, spread_by}
+use Rattle.fx_steps.specs.Spread.{SentRecord, pick, sent_on, spread_to, chosen_on, choice_of, spread_by}
 use Rattle.fx_machine.specs.Runnable.{IsHolder}
 use Rattle.fx_steps.proofs.Whole.{IsWhole, HasLinks, HasHolders}
 use Rattle.fx_steps.proofs.Filled.{all_at, all_at_places}
@@ -30,7 +30,7 @@ use Rattle.fx_steps.proofs.Spreading.{held_leaves, carried_arrives}
 use Rattle.fx_steps.proofs.Telling.{own_number}
 
 module _ (table : CostTable) (net : Net) (n : Numbering) where
-  abbrev LinkThere : Sent → Type 0
+  abbrev LinkThere : SentRecord → Type 0
   LinkThere x = x.link < length net.links
 
   abbrev InRange : Option ℕ → Type 0
@@ -60,7 +60,7 @@ module _ (table : CostTable) (net : Net) (n : Numbering) where
         ]
 
     module _ (layout : Layout) (is : slice_get n.layouts number ≡ Some layout) (fits : Fits layout) where
-      links_there : (xs : List Sent) → Every LinkThere xs → Every (IsThere net n) (on_links number xs)
+      links_there : (xs : List SentRecord) → Every LinkThere xs → Every (IsThere net n) (on_links number xs)
       links_there [] h = tt
       links_there (x ∷ xs) h = ((h.0, (layout, is, fits)), links_there xs h.1)
 

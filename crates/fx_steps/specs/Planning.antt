@@ -20,10 +20,10 @@ use Rattle.fx_machine.specs.Runnable.{IsHolder}
 use Rattle.fx_steps.specs.Ways.{acts, tally_fate}
 use Rattle.fx_steps.specs.Costs.{cost_of}
 use Rattle.fx_steps.specs.CostTables.{CostTable, link_costs, send_costs, sent_costs, held_costs, taken_costs, tally_costs, handled_costs, met_costs}
-use Rattle.fx_steps.specs.Spread.{Sent, pick, spread_by, chosen_by}
+use Rattle.fx_steps.specs.Spread.{SentRecord, pick, spread_by, chosen_by}
 
-abbrev pub on_links : ℕ → List Sent → List Pending
-on_links number xs = map (λ (x : Sent). OnLink x.link number x.fate) xs
+abbrev pub on_links : ℕ → List SentRecord → List Pending
+on_links number xs = map (λ (x : SentRecord). OnLink x.link number x.fate) xs
 
 -- ---- what exporting processes send of a record of the layout of this number
 

@@ -12,7 +12,7 @@ use Rattle.fx_steps.specs.CostTables.{CostTable, link_costs, all_costs, any_cost
 use Rattle.fx_steps.specs.Building.{Item, Carried}
 
 -- a record on a link, and the fate to which it is to come
-pub record Sent : Type 0 where
+pub record SentRecord : Type 0 where
   pub link : ℕ
   pub fate : Fate
 
@@ -25,12 +25,12 @@ pick_from v (p ∷ ps) n = if v p == n then p else pick_from v ps n
 abbrev pub pick : Costs → Costs → Fate → Fate × Fate
 pick a b f = pick_from (λ (p : Fate × Fate). plus (cost_of a p.0) (cost_of b p.1)) (pairs f) (both_cost a b f)
 
-abbrev pub sent_on : Option ℕ → Fate → List Sent
+abbrev pub sent_on : Option ℕ → Fate → List SentRecord
 sent_on None f = []
 sent_on (Some link) f = record { link = link; fate = f } ∷ []
 
 -- to all of these destinations
-abbrev pub spread_to : CostTable → Net → ℕ → List (Option ℕ) → Fate → List Sent
+abbrev pub spread_to : CostTable → Net → ℕ → List (Option ℕ) → Fate → List SentRecord
 spread_to table net number [] f = []
 spread_to table net number (d ∷ ds) f =
     let p = pick (link_costs table net number d) (all_costs table net number ds) f in
@@ -42,7 +42,7 @@ cheapest table net number [] f n = 0
 cheapest table net number (d ∷ ds) f n =
     if cost_of (link_costs table net number d) f == n then 0 else suc (cheapest table net number ds f n)
 
-abbrev pub chosen_on : Option (Option ℕ) → Fate → List Sent
+abbrev pub chosen_on : Option (Option ℕ) → Fate → List SentRecord
 chosen_on None f = []
 chosen_on (Some d) f = sent_on d f
 
@@ -53,20 +53,20 @@ choice_of table net number ds f = cheapest table net number ds f (cost_of (any_c
 abbrev pub chosen_by : CostTable → Net → ℕ → Exporter → Fate → Choices
 chosen_by table net number e f = if e.parallel then [] else Some (suc (choice_of table net number e.destinations f)) ∷ []
 
-abbrev pub spread_by : CostTable → Net → ℕ → Exporter → Fate → List Sent
+abbrev pub spread_by : CostTable → Net → ℕ → Exporter → Fate → List SentRecord
 spread_by table net number e f =
     if e.parallel then spread_to table net number e.destinations f
     else chosen_on (slice_get e.destinations (choice_of table net number e.destinations f)) f
 
 -- ---- what they cost, and what they come to
 
-abbrev pub all_cost : CostTable → Net → ℕ → List Sent → ℕ
+abbrev pub all_cost : CostTable → Net → ℕ → List SentRecord → ℕ
 all_cost table net number [] = 0
 all_cost table net number (x ∷ xs) = cost_of (link_costs table net number (Some x.link)) x.fate + all_cost table net number xs
 
-abbrev pub joint : List Sent → Fate
+abbrev pub joint : List SentRecord → Fate
 joint [] = Never
 joint (x ∷ xs) = both x.fate (joint xs)
 
-abbrev pub items_of : Key → List Sent → List Item
-items_of key xs = map (λ (x : Sent). Carried x.link key) xs
+abbrev pub items_of : Key → List SentRecord → List Item
+items_of key xs = map (λ (x : SentRecord). Carried x.link key) xs

@@ -45,7 +45,7 @@ pub record UnderWay (net : Net) (n : Numbering) (classes : List Class) (p : Pack
   pub few : tallies ≤ length steps
 
 -- the table was filled for these fields
-pub record IsFilled (t : Tables) (fields : Fields) (table : CostTable) : Type 0 where
+pub record HasCosts (t : Tables) (fields : Fields) (table : CostTable) : Type 0 where
   pub before : CostTable
   pub room : length before ≡ length t.net.processes
   pub filled : table ≡ cost_fill t.net t.numbering fields t.order before

@@ -81,7 +81,8 @@ impl Building {
         ensures pending { (fields : axes.Fields) → OnOk result (self.new.pending.items
             ≡ self.old.pending.items ++ planning.planned_of rows.now tables.now.net
             tables.now.numbering fields (pendings.AtHolder holder fate)) }
-        ensures waiting { OnOk result (Wait tables.now.net self.old.pending.items self.new.waiting) }
+        ensures waiting { OnOk result
+            (Wait tables.now.net self.old.pending.items self.new.waiting) }
         ensures steps { self.new.steps.items ≡ self.old.steps.items }
     {
         let position = self.waiting.leave_holder(holder);
@@ -116,7 +117,8 @@ impl Building {
         ensures pending { OnOk result (self.new.pending.items ≡ self.old.pending.items
             ++ planning.planned_of rows.now tables.now.net tables.now.numbering fields.now
             (pendings.OnLink link layout fate)) }
-        ensures waiting { OnOk result (Wait tables.now.net self.old.pending.items self.new.waiting) }
+        ensures waiting { OnOk result
+            (Wait tables.now.net self.old.pending.items self.new.waiting) }
         ensures steps { self.new.steps.items ≡ self.old.steps.items }
     {
         let position = self.waiting.leave_link(link);
@@ -165,7 +167,8 @@ impl Building {
             fields.now self.old.pending.items top) }
         ensures pending { OnOk result (self.new.pending.items ≡ self.old.pending.items
             ++ planning.planned_of rows.now tables.now.net tables.now.numbering fields.now top) }
-        ensures waiting { OnOk result (Wait tables.now.net self.old.pending.items self.new.waiting) }
+        ensures waiting { OnOk result
+            (Wait tables.now.net self.old.pending.items self.new.waiting) }
         ensures steps { self.new.steps.items ≡ self.old.steps.items }
     {
         match top {
@@ -190,7 +193,7 @@ impl Building {
     ) -> Result<(), AllocError>
         requires tables { by_table.AreTables tables.now }
         requires runnable { IsRunnable tables.now.net }
-        requires filled { under_way.IsFilled tables.now fields.now rows.now }
+        requires filled { under_way.HasCosts tables.now fields.now rows.now }
         requires names { NameAll tables.now.net names.now }
         requires leaves { under_way.CanLeave rows.now tables.now.net tables.now.numbering (length
             self.old.steps.items) (self.old.pending.items ++ top ∷ []) self.old.waiting }
@@ -220,7 +223,7 @@ impl Building {
     ) -> Result<(), AllocError>
         requires tables { by_table.AreTables tables.now }
         requires runnable { IsRunnable tables.now.net }
-        requires filled { under_way.IsFilled tables.now packet.now.fields rows.now }
+        requires filled { under_way.HasCosts tables.now packet.now.fields rows.now }
         requires names { NameAll tables.now.net names.now }
         requires leaves { under_way.CanLeave rows.now tables.now.net tables.now.numbering (length
             self.old.steps.items) self.old.pending.items self.old.waiting }
@@ -260,7 +263,8 @@ impl Building {
             tables.now.numbering occurrences.now) fate ≤ step_limit }
         ensures pending { OnOk result (self.new.pending.items
             ≡ planning.meets rows.now tables.now.net tables.now.numbering occurrences.now fate) }
-        ensures waiting { OnOk result (Wait tables.now.net self.new.pending.items self.new.waiting) }
+        ensures waiting { OnOk result
+            (Wait tables.now.net self.new.pending.items self.new.waiting) }
         ensures steps { OnOk result (self.new.steps.items ≡ self.old.steps.items
             ++ of_step.Cross 1 number (planning.meets_choose occurrences.now) ∷ []) }
     {
@@ -297,7 +301,7 @@ impl Building {
     ) -> Result<Fate, AllocError>
         requires tables { by_table.AreTables tables.now }
         requires runnable { IsRunnable tables.now.net }
-        requires filled { under_way.IsFilled tables.now packet.now.fields rows.now }
+        requires filled { under_way.HasCosts tables.now packet.now.fields rows.now }
         requires names { NameAll tables.now.net names.now }
         requires nothing { self.old.pending.items ≡ [] }
         requires waiting { Wait tables.now.net [] self.old.waiting }

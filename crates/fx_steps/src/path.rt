@@ -149,7 +149,7 @@ pub(crate) fn least_steps(
     requires tables { by_table.AreTables tables.now }
     requires runnable { IsRunnable tables.now.net }
     requires room { length rows.old ≡ length tables.now.net.processes }
-    ensures filled { under_way.IsFilled tables.now fields.now rows.new }
+    ensures filled { under_way.HasCosts tables.now fields.now rows.new }
     ensures costs { result ≡ tabled.path_costs rows.new tables.now.net tables.now.numbering
         fields.now path.now }
     ensures tells { costs.Tells result (ways.PacketComes tables.now.net fields.now path.now) }

@@ -62,7 +62,7 @@ fn build(
 ) -> Result<Vec<Step>, AllocError>
     requires tables { by_table.AreTables tables.now }
     requires runnable { IsRunnable tables.now.net }
-    requires filled { under_way.IsFilled tables.now packet.now.fields rows.now }
+    requires filled { under_way.HasCosts tables.now packet.now.fields rows.now }
     requires names { NameAll tables.now.net names.now }
     requires cheap { costs.cost_of (tabled.path_costs rows.now tables.now.net tables.now.numbering
         packet.now.fields path.now) fate ≤ step_limit }
