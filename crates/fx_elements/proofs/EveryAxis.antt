@@ -10,8 +10,8 @@ use Rattle.std.proofs.lemmas.Grind.{get_or-set_at}
 use Rattle.std.proofs.lemmas.List.{get_or-map, get_or-set_other, ext_get_or}
 use Rattle.std.proofs.lemmas.Nat.{pow_pos}
 use Rattle.fx_elements.specs.declared.axis.Axis.{Axis}
-use Rattle.fx_elements.specs.declared.axis.Axis.TheVariants.{Source, Destination, Protocol, SourcePort, DestinationPort, ClassOfService}
-use Rattle.fx_elements.specs.Axes.{axis_count, axis_index, axis_width, same_axis, axes, tops, is_address}
+use Rattle.fx_elements.specs.declared.axis.Axis.TheVariants.{Source, Destination, Protocol, SourcePort, DestinationPort, ClassOfService, Version, Source6, Destination6}
+use Rattle.fx_elements.specs.Axes.{axis_count, axis_index, axis_width, same_axis, axes, tops, is_address, is_wide, field}
 
 pub index_below : (axis : Axis) → axis_index axis < axis_count
 index_below Source = omega arith
@@ -20,6 +20,9 @@ index_below Protocol = omega arith
 index_below SourcePort = omega arith
 index_below DestinationPort = omega arith
 index_below ClassOfService = omega arith
+index_below Version = omega arith
+index_below Source6 = omega arith
+index_below Destination6 = omega arith
 
 -- the axis with this place
 pub placed : (k : ℕ) → k < axis_count → (axis : Axis) × (axis_index axis ≡ k)
@@ -29,7 +32,10 @@ placed (suc (suc zero)) lt = (Protocol, refl)
 placed (suc (suc (suc zero))) lt = (SourcePort, refl)
 placed (suc (suc (suc (suc zero)))) lt = (DestinationPort, refl)
 placed (suc (suc (suc (suc (suc zero))))) lt = (ClassOfService, refl)
-placed (suc (suc (suc (suc (suc (suc k)))))) lt = absurd (omega arith)
+placed (suc (suc (suc (suc (suc (suc zero)))))) lt = (Version, refl)
+placed (suc (suc (suc (suc (suc (suc (suc zero))))))) lt = (Source6, refl)
+placed (suc (suc (suc (suc (suc (suc (suc (suc zero)))))))) lt = (Destination6, refl)
+placed (suc (suc (suc (suc (suc (suc (suc (suc (suc k))))))))) lt = absurd (omega arith)
 
 -- a list made along the axes has its value at each axis's place
 pub value_at : (g : Axis → ℕ) (axis : Axis) → get_or (map g axes) (axis_index axis) 0 ≡ g axis
@@ -39,6 +45,9 @@ value_at g Protocol = refl
 value_at g SourcePort = refl
 value_at g DestinationPort = refl
 value_at g ClassOfService = refl
+value_at g Version = refl
+value_at g Source6 = refl
+value_at g Destination6 = refl
 
 -- the axis at each place of the order is the axis
 pub axis_at : (axis : Axis) → get_or axes (axis_index axis) Source ≡ axis
@@ -48,6 +57,9 @@ axis_at Protocol = refl
 axis_at SourcePort = refl
 axis_at DestinationPort = refl
 axis_at ClassOfService = refl
+axis_at Version = refl
+axis_at Source6 = refl
+axis_at Destination6 = refl
 
 pub width_most : (axis : Axis) → axis_width axis ≤ 128
 width_most Source = omega arith
@@ -56,15 +68,32 @@ width_most Protocol = omega arith
 width_most SourcePort = omega arith
 width_most DestinationPort = omega arith
 width_most ClassOfService = omega arith
+width_most Version = omega arith
+width_most Source6 = omega arith
+width_most Destination6 = omega arith
 
--- addresses have 32 bits
-pub address_width : (axis : Axis) → is_address axis ≡ true → axis_width axis ≡ 32
-address_width Source h = refl
-address_width Destination h = refl
-address_width Protocol h = absurd (cc)
-address_width SourcePort h = absurd (cc)
-address_width DestinationPort h = absurd (cc)
-address_width ClassOfService h = absurd (cc)
+-- addresses have 32 bits, those of IPv6 128
+pub address_width : (axis : Axis) → is_wide axis ≡ false → is_address axis ≡ true → axis_width axis ≡ 32
+address_width Source w h = refl
+address_width Destination w h = refl
+address_width Protocol w h = absurd (cc)
+address_width SourcePort w h = absurd (cc)
+address_width DestinationPort w h = absurd (cc)
+address_width ClassOfService w h = absurd (cc)
+address_width Version w h = absurd (cc)
+address_width Source6 w h = absurd (cc)
+address_width Destination6 w h = absurd (cc)
+
+pub wide_width : (axis : Axis) → is_wide axis ≡ true → axis_width axis ≡ 128
+wide_width Source w = absurd (cc)
+wide_width Destination w = absurd (cc)
+wide_width Protocol w = absurd (cc)
+wide_width SourcePort w = absurd (cc)
+wide_width DestinationPort w = absurd (cc)
+wide_width ClassOfService w = absurd (cc)
+wide_width Version w = absurd (cc)
+wide_width Source6 w = refl
+wide_width Destination6 w = refl
 
 -- ---- what follows for all axes
 
@@ -144,3 +173,15 @@ set_more P xs i place x d len is here before k lt = elim (cases_lt k i) [
 pub along : (g : Axis → ℕ) (xs : List ℕ) → length xs ≡ axis_count → ((k : ℕ) → k < axis_count → get_or xs k 0 ≡ g (get_or axes k Source)) → xs ≡ map g axes
 along g xs len h =
     ext_get_or 0 xs (map g axes) len (λ k. λ lt. let below : k < axis_count = omega (arith, len, lt) in h k below ∙ sym (get_or-map g axes k Source 0 below))
+
+-- a list of as many values as axes is made of its values on the axes
+pub fields_are : (fields : List ℕ) → length fields ≡ axis_count → map (λ axis. field fields axis) axes ≡ fields
+fields_are fields len =
+    sym (along (λ axis. field fields axis) fields len (λ k lt. ap (λ n. get_or fields n 0) (sym (index_at k lt))))
+
+-- values made along the axes, each on its axis
+pub each_on : (g : Axis → ℕ) → ((axis : Axis) → g axis ≤ get_or tops (axis_index axis) 0) → (k : ℕ) → k < axis_count → get_or (map g axes) k 0 ≤ get_or tops k 0
+each_on g h k lt =
+    let at = placed k lt in
+    let here : get_or (map g axes) (axis_index at.0) 0 ≤ get_or tops (axis_index at.0) 0 = omega (arith, value_at g at.0, h at.0) in
+    subst (λ (n : ℕ). get_or (map g axes) n 0 ≤ get_or tops n 0) at.1 here

@@ -1,15 +1,15 @@
 -- The axes in their fixed order, and how wide each is.
 use Rattle.std.specs.Prelude.{ℕ, ◌-◌, ◌^◌, Bool, true, false, ◌==◌, List, [], ◌∷◌, map, slice_index}
 use Rattle.fx_elements.specs.declared.axis.Axis.{Axis}
-use Rattle.fx_elements.specs.declared.axis.Axis.TheVariants.{Source, Destination, Protocol, SourcePort, DestinationPort, ClassOfService}
+use Rattle.fx_elements.specs.declared.axis.Axis.TheVariants.{Source, Destination, Protocol, SourcePort, DestinationPort, ClassOfService, Version, Source6, Destination6}
 
 -- how many there are
 abbrev pub axis_count : ℕ
-axis_count = 6
+axis_count = 9
 
 -- all of them, in order
 abbrev pub axes : List Axis
-axes = Source ∷ Destination ∷ Protocol ∷ SourcePort ∷ DestinationPort ∷ ClassOfService ∷ []
+axes = Source ∷ Destination ∷ Protocol ∷ SourcePort ∷ DestinationPort ∷ ClassOfService ∷ Version ∷ Source6 ∷ Destination6 ∷ []
 
 -- the place of an axis, from 0
 abbrev pub axis_index : Axis → ℕ
@@ -19,6 +19,9 @@ axis_index Protocol = 2
 axis_index SourcePort = 3
 axis_index DestinationPort = 4
 axis_index ClassOfService = 5
+axis_index Version = 6
+axis_index Source6 = 7
+axis_index Destination6 = 8
 
 -- how many bits a value has
 abbrev pub axis_width : Axis → ℕ
@@ -28,6 +31,9 @@ axis_width Protocol = 8
 axis_width SourcePort = 16
 axis_width DestinationPort = 16
 axis_width ClassOfService = 8
+axis_width Version = 8
+axis_width Source6 = 128
+axis_width Destination6 = 128
 
 -- the greatest value of each, in order: all of its bits are 1
 abbrev pub tops : List ℕ
@@ -37,7 +43,15 @@ tops = map (λ axis. 2 ^ axis_width axis - 1) axes
 abbrev pub is_address : Axis → Bool
 is_address Source = true
 is_address Destination = true
+is_address Source6 = true
+is_address Destination6 = true
 is_address _ = false
+
+-- the addresses are those of IPv6, eight groups of 16 bits
+abbrev pub is_wide : Axis → Bool
+is_wide Source6 = true
+is_wide Destination6 = true
+is_wide _ = false
 
 abbrev pub same_axis : Axis → Axis → Bool
 same_axis a b = axis_index a == axis_index b

@@ -2,8 +2,8 @@
 use Rattle.std.specs.Prelude.{ℕ, ◌==◌, if◌then◌else◌, List, [], ◌∷◌, codes}
 use Rattle.std.specs.Str.{bytes_eq}
 use Rattle.fx_elements.specs.declared.element.Element.{Element}
-use Rattle.fx_elements.specs.declared.element.Element.TheVariants.{OnAxis, OctetDeltaCount, PacketDeltaCount, OctetTotalCount, PacketTotalCount, SourcePrefix, DestinationPrefix, SourcePrefixLength, DestinationPrefixLength, IpVersion, Other}
-use Rattle.fx_elements.specs.declared.axis.Axis.TheVariants.{Source, Destination, Protocol, SourcePort, DestinationPort, ClassOfService}
+use Rattle.fx_elements.specs.declared.element.Element.TheVariants.{OnAxis, OctetDeltaCount, PacketDeltaCount, OctetTotalCount, PacketTotalCount, Prefix, PrefixLength, Other}
+use Rattle.fx_elements.specs.declared.axis.Axis.TheVariants.{Source, Destination, Protocol, SourcePort, DestinationPort, ClassOfService, Version, Source6, Destination6}
 
 -- a line of the registry
 pub record Registered : Type 0 where
@@ -19,15 +19,21 @@ registry =
     record { number = 5; name = codes "ipClassOfService"; element = OnAxis ClassOfService } ∷
     record { number = 7; name = codes "sourceTransportPort"; element = OnAxis SourcePort } ∷
     record { number = 8; name = codes "sourceIPv4Address"; element = OnAxis Source } ∷
-    record { number = 9; name = codes "sourceIPv4PrefixLength"; element = SourcePrefixLength } ∷
+    record { number = 9; name = codes "sourceIPv4PrefixLength"; element = PrefixLength Source } ∷
     record { number = 11; name = codes "destinationTransportPort"; element = OnAxis DestinationPort } ∷
     record { number = 12; name = codes "destinationIPv4Address"; element = OnAxis Destination } ∷
-    record { number = 13; name = codes "destinationIPv4PrefixLength"; element = DestinationPrefixLength } ∷
-    record { number = 44; name = codes "sourceIPv4Prefix"; element = SourcePrefix } ∷
-    record { number = 45; name = codes "destinationIPv4Prefix"; element = DestinationPrefix } ∷
-    record { number = 60; name = codes "ipVersion"; element = IpVersion } ∷
+    record { number = 13; name = codes "destinationIPv4PrefixLength"; element = PrefixLength Destination } ∷
+    record { number = 27; name = codes "sourceIPv6Address"; element = OnAxis Source6 } ∷
+    record { number = 28; name = codes "destinationIPv6Address"; element = OnAxis Destination6 } ∷
+    record { number = 29; name = codes "sourceIPv6PrefixLength"; element = PrefixLength Source6 } ∷
+    record { number = 30; name = codes "destinationIPv6PrefixLength"; element = PrefixLength Destination6 } ∷
+    record { number = 44; name = codes "sourceIPv4Prefix"; element = Prefix Source } ∷
+    record { number = 45; name = codes "destinationIPv4Prefix"; element = Prefix Destination } ∷
+    record { number = 60; name = codes "ipVersion"; element = OnAxis Version } ∷
     record { number = 85; name = codes "octetTotalCount"; element = OctetTotalCount } ∷
-    record { number = 86; name = codes "packetTotalCount"; element = PacketTotalCount } ∷ []
+    record { number = 86; name = codes "packetTotalCount"; element = PacketTotalCount } ∷
+    record { number = 169; name = codes "destinationIPv6Prefix"; element = Prefix Destination6 } ∷
+    record { number = 170; name = codes "sourceIPv6Prefix"; element = Prefix Source6 } ∷ []
 
 -- the element of the first line with the name; a name that stands in none is another element's
 abbrev pub named_in : List Registered → List ℕ → Element

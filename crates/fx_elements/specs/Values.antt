@@ -2,12 +2,13 @@
 use Rattle.std.specs.Prelude.{ℕ, ◌+◌, ◌-◌, ◌*◌, ◌/◌, ◌^◌, if◌then◌else◌, List, [], ◌∷◌, ◌++◌, nat_lt, Option, Some, None, option_map, slice_index}
 use Rattle.std.specs.Fmt.{decimal}
 use Rattle.fx_elements.specs.declared.axis.Axis.{Axis}
-use Rattle.fx_elements.specs.declared.axis.Axis.TheVariants.{Source, Destination}
 use Rattle.fx_elements.specs.declared.values.Range.{Range}
 use Rattle.fx_elements.specs.declared.element.Element.{Element}
-use Rattle.fx_elements.specs.declared.element.Element.TheVariants.{OnAxis, SourcePrefix, DestinationPrefix}
-use Rattle.fx_elements.specs.Axes.{axis_index, axis_width, is_address, tops}
+use Rattle.fx_elements.specs.declared.element.Element.TheVariants.{OnAxis, Prefix}
+use Rattle.fx_elements.specs.Axes.{axis_index, axis_width, is_address, is_wide, tops}
 use Rattle.fx_elements.specs.Spelling.{number_of, quad_of, prefix_of, quad}
+use Rattle.fx_elements.specs.Groups.{groups, groups_of}
+use Rattle.fx_elements.specs.Address6.{address6_of, prefix6_of}
 
 -- one value, all of whose bits are fixed
 abbrev pub single : ℕ → ℕ → Range
@@ -18,15 +19,23 @@ abbrev pub with_prefix : ℕ → ℕ × ℕ → Range
 with_prefix width p =
     record { low = p.0 / 2 ^ (width - p.1) * 2 ^ (width - p.1); high = p.0 / 2 ^ (width - p.1) * 2 ^ (width - p.1) + (2 ^ (width - p.1) - 1); bits = p.1 }
 
--- addresses are dotted quads, other values decimal numbers
+-- the value that is written so: addresses are dotted quads or eight groups, other values decimal numbers
+abbrev pub written_on : Axis → List ℕ → Option ℕ
+written_on axis text =
+    if is_wide axis then groups_of text else (if is_address axis then quad_of text else number_of (slice_index tops (axis_index axis)) text)
+
+-- the value that a document may spell so: an address of IPv6 has many spellings
 abbrev pub value_on : Axis → List ℕ → Option ℕ
-value_on axis text = if is_address axis then quad_of text else number_of (slice_index tops (axis_index axis)) text
+value_on axis text = if is_wide axis then address6_of text else written_on axis text
+
+-- an address and a number of leading bits
+abbrev pub prefix_on : Axis → List ℕ → Option (ℕ × ℕ)
+prefix_on axis text = if is_wide axis then prefix6_of text else (if is_address axis then prefix_of text else None)
 
 -- a single value on an axis, the addresses of a prefix; no other element has values
 abbrev pub values_of : Element → List ℕ → Option Range
 values_of (OnAxis axis) text = option_map (single (axis_width axis)) (value_on axis text)
-values_of SourcePrefix text = option_map (with_prefix (axis_width Source)) (prefix_of text)
-values_of DestinationPrefix text = option_map (with_prefix (axis_width Destination)) (prefix_of text)
+values_of (Prefix axis) text = option_map (with_prefix (axis_width axis)) (prefix_on axis text)
 values_of _ text = None
 
 abbrev pub axis_of : Element → Option Axis
@@ -35,7 +44,7 @@ axis_of _ = None
 
 -- an address or a number
 abbrev pub value_text : Axis → ℕ → List ℕ
-value_text axis value = if is_address axis then quad value else decimal value
+value_text axis value = if is_wide axis then groups value else (if is_address axis then quad value else decimal value)
 
 -- how many leading bits a value has, where they are fewer than the axis's
 abbrev pub bits_text : Axis → ℕ → List ℕ

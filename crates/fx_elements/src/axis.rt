@@ -1,9 +1,9 @@
 //! The axes: what tells packets and flows apart.
 ghost use Rattle.std.specs.Prelude.{◌≡◌, ◌^◌, ◌+◌, ◌<◌, ◌==◌, map, length, slice_index};
-ghost use Rattle.fx_elements.specs.Axes.{axis_index, axis_width, axis_count, is_address};
+ghost use Rattle.fx_elements.specs.Axes.{axis_index, axis_width, axis_count, is_address, is_wide};
 
 /// How many axes there are.
-pub const AXES: usize = 6;
+pub const AXES: usize = 9;
 
 /// An information element that a packet carries and that flows are told apart by (RFC 7012, sections 5.4 and 5.5).
 /// The variants stand in the order in which keys are written and compared.
@@ -22,10 +22,26 @@ pub enum Axis {
     DestinationPort,
     /// ipClassOfService, 8 bits.
     ClassOfService,
+    /// ipVersion, 8 bits.
+    Version,
+    /// sourceIPv6Address, 128 bits.
+    Source6,
+    /// destinationIPv6Address, 128 bits.
+    Destination6,
 }
 
 /// The greatest value on each axis, in order.
-pub const TOPS: [u128; AXES] = [0xffff_ffff, 0xffff_ffff, 0xff, 0xffff, 0xffff, 0xff];
+pub const TOPS: [u128; AXES] = [
+    0xffff_ffff,
+    0xffff_ffff,
+    0xff,
+    0xffff,
+    0xffff,
+    0xff,
+    0xff,
+    u128::MAX,
+    u128::MAX,
+];
 
 /// The axes, in order.
 pub const EVERY_AXIS: [Axis; AXES] = [
@@ -35,6 +51,9 @@ pub const EVERY_AXIS: [Axis; AXES] = [
     Axis::SourcePort,
     Axis::DestinationPort,
     Axis::ClassOfService,
+    Axis::Version,
+    Axis::Source6,
+    Axis::Destination6,
 ];
 
 impl Axis {
@@ -50,6 +69,9 @@ impl Axis {
             Axis::SourcePort => 3,
             Axis::DestinationPort => 4,
             Axis::ClassOfService => 5,
+            Axis::Version => 6,
+            Axis::Source6 => 7,
+            Axis::Destination6 => 8,
         }
     }
 
@@ -57,7 +79,17 @@ impl Axis {
     pub fn is_address(self) -> bool
         ensures { result ≡ is_address self }
     {
-        matches!(self, Axis::Source | Axis::Destination)
+        matches!(
+            self,
+            Axis::Source | Axis::Destination | Axis::Source6 | Axis::Destination6
+        )
+    }
+
+    /// Whether they are addresses of IPv6.
+    pub fn is_wide(self) -> bool
+        ensures { result ≡ is_wide self }
+    {
+        matches!(self, Axis::Source6 | Axis::Destination6)
     }
 }
 
@@ -68,8 +100,9 @@ pub fn width(axis: Axis) -> u32
 {
     match axis {
         Axis::Source | Axis::Destination => 32,
-        Axis::Protocol | Axis::ClassOfService => 8,
+        Axis::Protocol | Axis::ClassOfService | Axis::Version => 8,
         Axis::SourcePort | Axis::DestinationPort => 16,
+        Axis::Source6 | Axis::Destination6 => 128,
     }
 }
 

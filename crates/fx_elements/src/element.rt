@@ -17,16 +17,12 @@ pub enum Element {
     OctetTotalCount,
     /// packetTotalCount (86).
     PacketTotalCount,
-    /// sourceIPv4Prefix (44).
-    SourcePrefix,
-    /// destinationIPv4Prefix (45).
-    DestinationPrefix,
-    /// sourceIPv4PrefixLength (9).
-    SourcePrefixLength,
-    /// destinationIPv4PrefixLength (13).
-    DestinationPrefixLength,
-    /// ipVersion (60).
-    IpVersion,
+    /// The leading bits of the address on an axis: sourceIPv4Prefix (44), destinationIPv4Prefix (45),
+    /// sourceIPv6Prefix (170) and destinationIPv6Prefix (169).
+    Prefix(Axis),
+    /// How many leading bits such a prefix has: sourceIPv4PrefixLength (9), destinationIPv4PrefixLength (13),
+    /// sourceIPv6PrefixLength (29) and destinationIPv6PrefixLength (30).
+    PrefixLength(Axis),
     /// Any other element of the registry, or an element of an enterprise.
     Other,
 }
@@ -42,13 +38,19 @@ pub fn by_name(name: &str) -> Element
         "ipClassOfService" => Element::OnAxis(Axis::ClassOfService),
         "sourceTransportPort" => Element::OnAxis(Axis::SourcePort),
         "sourceIPv4Address" => Element::OnAxis(Axis::Source),
-        "sourceIPv4PrefixLength" => Element::SourcePrefixLength,
+        "sourceIPv4PrefixLength" => Element::PrefixLength(Axis::Source),
         "destinationTransportPort" => Element::OnAxis(Axis::DestinationPort),
         "destinationIPv4Address" => Element::OnAxis(Axis::Destination),
-        "destinationIPv4PrefixLength" => Element::DestinationPrefixLength,
-        "sourceIPv4Prefix" => Element::SourcePrefix,
-        "destinationIPv4Prefix" => Element::DestinationPrefix,
-        "ipVersion" => Element::IpVersion,
+        "destinationIPv4PrefixLength" => Element::PrefixLength(Axis::Destination),
+        "sourceIPv4Prefix" => Element::Prefix(Axis::Source),
+        "destinationIPv4Prefix" => Element::Prefix(Axis::Destination),
+        "ipVersion" => Element::OnAxis(Axis::Version),
+        "sourceIPv6Address" => Element::OnAxis(Axis::Source6),
+        "sourceIPv6Prefix" => Element::Prefix(Axis::Source6),
+        "sourceIPv6PrefixLength" => Element::PrefixLength(Axis::Source6),
+        "destinationIPv6Address" => Element::OnAxis(Axis::Destination6),
+        "destinationIPv6Prefix" => Element::Prefix(Axis::Destination6),
+        "destinationIPv6PrefixLength" => Element::PrefixLength(Axis::Destination6),
         "octetTotalCount" => Element::OctetTotalCount,
         "packetTotalCount" => Element::PacketTotalCount,
         _ => Element::Other,
@@ -69,15 +71,21 @@ pub fn by_id(number: u16, enterprise: u32) -> Element
         5 => Element::OnAxis(Axis::ClassOfService),
         7 => Element::OnAxis(Axis::SourcePort),
         8 => Element::OnAxis(Axis::Source),
-        9 => Element::SourcePrefixLength,
+        9 => Element::PrefixLength(Axis::Source),
         11 => Element::OnAxis(Axis::DestinationPort),
         12 => Element::OnAxis(Axis::Destination),
-        13 => Element::DestinationPrefixLength,
-        44 => Element::SourcePrefix,
-        45 => Element::DestinationPrefix,
-        60 => Element::IpVersion,
+        13 => Element::PrefixLength(Axis::Destination),
+        27 => Element::OnAxis(Axis::Source6),
+        28 => Element::OnAxis(Axis::Destination6),
+        29 => Element::PrefixLength(Axis::Source6),
+        30 => Element::PrefixLength(Axis::Destination6),
+        44 => Element::Prefix(Axis::Source),
+        45 => Element::Prefix(Axis::Destination),
+        60 => Element::OnAxis(Axis::Version),
         85 => Element::OctetTotalCount,
         86 => Element::PacketTotalCount,
+        169 => Element::Prefix(Axis::Destination6),
+        170 => Element::Prefix(Axis::Source6),
         _ => Element::Other,
     }
 }

@@ -1,14 +1,18 @@
 //! Information elements: the axes that tell packets apart, the elements by name and number, and how values are spelled.
 #![tactic(auto)]
 
+mod address6;
 mod axis;
 mod element;
+mod groups;
 mod put;
 mod spelling;
 mod values;
 
+pub use address6::{many_spellings, read_address6, read_prefix6};
 pub use axis::{AXES, Axis, EVERY_AXIS, TOPS, top, width};
 pub use element::{Element, by_id, by_name};
+pub use groups::read_groups;
 pub use put::put_value;
 pub use spelling::{cut, one_spelling, read_number, read_prefix, read_quad};
-pub use values::{Range, read_on, read_value};
+pub use values::{Range, read_on, read_value, read_written, values_fit};

@@ -5,6 +5,7 @@ ghost use Rattle.fx_base.specs.Fault.{fault_at};
 ghost use Rattle.fx_base.specs.declared.fault.Place.TheVariants as places;
 ghost use Rattle.fx_elements.specs.Axes.{axis_width};
 ghost use Rattle.fx_elements.specs.Spelling.{quad};
+ghost use Rattle.fx_elements.specs.Groups.{hex_digit, group, half, groups};
 ghost use Rattle.fx_elements.specs.Values.{value_text, bits_text, leading_text};
 
 use crate::axis::{Axis, width};
@@ -25,13 +26,80 @@ fn put_quad<S: Sink>(sink: &mut S, address: u128) -> Result<(), Fault>
     put_number_wide(sink, address % 0x100)
 }
 
-/// Writes a value of an axis: an address as a dotted quad, any other as a decimal number.
+/// A hexadecimal digit, in lower case.
+fn digit(value: u128) -> u8
+    requires { value < 16 }
+    ensures { result ≡ hex_digit value }
+{
+    if value < 10 {
+        b'0' + value as u8
+    } else {
+        b'a' + (value as u8 - 10)
+    }
+}
+
+/// Writes a group of 16 bits in hexadecimal digits.
+fn put_group<S: Sink>(sink: &mut S, value: u128) -> Result<(), Fault>
+    requires { value < 65536 }
+    ensures ok { OnOk result (Writes (S.taken sink.old) (S.taken sink.new) (group value)) }
+    ensures going { OnOk result (S.failed sink.old ≡ false → S.failed sink.new ≡ false) }
+    ensures err { IfErr result (λ e. (e ≡ fault_at 902 places.None) × (S.failed sink.new ≡ true)) }
+{
+    let last = digit(value % 16);
+    if value < 16 {
+        return put_text(sink, &[digit(value)]);
+    }
+    if value < 256 {
+        return put_text(sink, &[digit(value / 16), last]);
+    }
+    let third = digit(value / 16 % 16);
+    if value < 4096 {
+        return put_text(sink, &[digit(value / 256), third, last]);
+    }
+    put_text(
+        sink,
+        &[digit(value / 4096), digit(value / 256 % 16), third, last],
+    )
+}
+
+/// Writes half of an address of IPv6, four groups.
+#[tactic(auto, unfolding(crate::specs::Groups::half))]
+fn put_half<S: Sink>(sink: &mut S, part: u128) -> Result<(), Fault>
+    requires { part < 2 ^ 64 }
+    ensures ok { OnOk result (Writes (S.taken sink.old) (S.taken sink.new) (half part)) }
+    ensures going { OnOk result (S.failed sink.old ≡ false → S.failed sink.new ≡ false) }
+    ensures err { IfErr result (λ e. (e ≡ fault_at 902 places.None) × (S.failed sink.new ≡ true)) }
+{
+    put_group(sink, part / 0x1_0000_0000_0000)?;
+    put_text(sink, b":")?;
+    put_group(sink, part / 0x1_0000_0000 % 0x1_0000)?;
+    put_text(sink, b":")?;
+    put_group(sink, part / 0x1_0000 % 0x1_0000)?;
+    put_text(sink, b":")?;
+    put_group(sink, part % 0x1_0000)
+}
+
+/// Writes an address of IPv6 as its eight groups.
+#[tactic(auto, unfolding(crate::specs::Groups::groups))]
+fn put_groups<S: Sink>(sink: &mut S, address: u128) -> Result<(), Fault>
+    ensures ok { OnOk result (Writes (S.taken sink.old) (S.taken sink.new) (groups address)) }
+    ensures going { OnOk result (S.failed sink.old ≡ false → S.failed sink.new ≡ false) }
+    ensures err { IfErr result (λ e. (e ≡ fault_at 902 places.None) × (S.failed sink.new ≡ true)) }
+{
+    put_half(sink, address / 0x1_0000_0000_0000_0000)?;
+    put_text(sink, b":")?;
+    put_half(sink, address % 0x1_0000_0000_0000_0000)
+}
+
+/// Writes a value of an axis: an address as a dotted quad or as eight groups, any other as a decimal number.
 fn put_whole<S: Sink>(sink: &mut S, axis: Axis, value: u128) -> Result<(), Fault>
     ensures ok { OnOk result (Writes (S.taken sink.old) (S.taken sink.new) (value_text axis value)) }
     ensures going { OnOk result (S.failed sink.old ≡ false → S.failed sink.new ≡ false) }
     ensures err { IfErr result (λ e. (e ≡ fault_at 902 places.None) × (S.failed sink.new ≡ true)) }
 {
-    if axis.is_address() {
+    if axis.is_wide() {
+        put_groups(sink, value)
+    } else if axis.is_address() {
         put_quad(sink, value)
     } else {
         put_number_wide(sink, value)

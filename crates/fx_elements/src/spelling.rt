@@ -1,6 +1,10 @@
-ghost use Rattle.std.specs.Prelude.{◌≡◌, ◌<◌, ◌≤◌, ◌^◌, ◌-◌, ◌+◌, ℕ, List, length, IfSome, IfNone, option_map, Some, ◌↔◌};
+ghost use Rattle.std.specs.Prelude.{◌≡◌, ◌<◌, ◌≤◌, ◌^◌, ◌-◌, ◌+◌, ℕ, List, length, IfSome, IfNone, option_map, Some, ◌↔◌, slice_index};
 ghost use Rattle.std.specs.Fmt.{decimal};
 ghost use Rattle.fx_elements.specs.Spelling.{cut_at, digits_of, number_of, quad_of, prefix_of, quad, prefix};
+ghost use Rattle.fx_elements.specs.Groups.{groups, groups_of};
+ghost use Rattle.fx_elements.specs.Axes.{axis_index, tops};
+ghost use Rattle.fx_elements.specs.Values.{written_on, value_text};
+ghost use Rattle.fx_elements.specs.declared.axis.Axis.{Axis};
 
 /// The parts before and after the first byte that is `at`.
 pub fn cut(text: &[u8], at: u8) -> Option<(&[u8], &[u8])>
@@ -77,12 +81,18 @@ pub fn read_prefix(text: &[u8]) -> Option<(u128, u128)>
     Some((address, bits))
 }
 
-/// A number, an address and a prefix each have one spelling: it is read, and nothing else is.
+/// A number, an address, a value in its written form and a prefix of IPv4 each have one spelling: it is read, and
+/// nothing else is.
 pub fn one_spelling()
     ensures number { (top n : ℕ) → top < 2 ^ 128 → n ≤ top → number_of top (decimal n) ≡ Some n }
     ensures only_number { (top n : ℕ) (text : List ℕ) → top < 2 ^ 128 → number_of top text ≡ Some n → (text ≡ decimal n) × (n ≤ top) }
     ensures address { (v : ℕ) → v < 2 ^ 32 → quad_of (quad v) ≡ Some v }
     ensures only_address { (v : ℕ) (text : List ℕ) → quad_of text ≡ Some v → (text ≡ quad v) × (v < 2 ^ 32) }
+    ensures wide { (v : ℕ) → v < 2 ^ 128 → groups_of (groups v) ≡ Some v }
+    ensures only_wide { (v : ℕ) (text : List ℕ) → groups_of text ≡ Some v → (text ≡ groups v) × (v < 2 ^ 128) }
+    ensures written { (axis : Axis) (v : ℕ) → v ≤ slice_index tops (axis_index axis) → written_on axis (value_text axis v) ≡ Some v }
+    ensures only_written { (axis : Axis) (text : List ℕ) (v : ℕ) → written_on axis text ≡ Some v
+        → (text ≡ value_text axis v) × (v ≤ slice_index tops (axis_index axis)) }
     ensures leading { (v n : ℕ) → v < 2 ^ 32 → 0 < n → n ≤ 32 → prefix_of (prefix v n) ≡ Some (v, n) }
     ensures only_leading { (p : ℕ × ℕ) (text : List ℕ) → prefix_of text ≡ Some p → (text ≡ prefix p.0 p.1) × (p.0 < 2 ^ 32) × (0 < p.1) × (p.1 ≤ 32) }
 {}

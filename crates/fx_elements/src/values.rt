@@ -1,11 +1,13 @@
 //! What the text of a value means.
-ghost use Rattle.std.specs.Prelude.{◌≡◌, ◌≤◌, ◌<◌, ◌^◌, ◌-◌, ◌+◌, IfSome, option_map, slice_index};
+ghost use Rattle.std.specs.Prelude.{◌≡◌, ◌≤◌, ◌<◌, ◌^◌, ◌-◌, ◌+◌, ℕ, List, Some, IfSome, option_map, slice_index};
+ghost use Rattle.fx_elements.specs.declared.axis.Axis.{Axis};
 ghost use Rattle.fx_elements.specs.Axes.{axis_width, axis_index, tops};
-ghost use Rattle.fx_elements.specs.Values.{values_of, value_on, with_prefix};
-ghost use Rattle.fx_elements.specs.Spelling.{prefix_of};
+ghost use Rattle.fx_elements.specs.Values.{values_of, written_on, value_on, prefix_on, with_prefix};
 
+use crate::address6::{read_address6, read_prefix6};
 use crate::axis::{Axis, top, width};
 use crate::element::Element;
+use crate::groups::read_groups;
 use crate::spelling::{read_number, read_prefix, read_quad};
 
 /// The values from `low` to `high`, whose first `bits` bits are fixed.
@@ -16,14 +18,43 @@ pub struct Range {
     pub bits: u32,
 }
 
-/// The value on the axis that the text spells.
-pub fn read_on(axis: Axis, text: &[u8]) -> Option<u128>
-    ensures value { result ≡ value_on axis text.now }
+/// The value on the axis whose written form this is: a dotted quad, eight groups, a decimal number.
+pub fn read_written(axis: Axis, text: &[u8]) -> Option<u128>
+    ensures value { result ≡ written_on axis text.now }
+    ensures bound { IfSome result (λ v. v ≤ slice_index tops (axis_index axis)) }
 {
-    if axis.is_address() {
+    if axis.is_wide() {
+        read_groups(text)
+    } else if axis.is_address() {
         read_quad(text)
     } else {
         read_number(text, top(axis))
+    }
+}
+
+/// The value on the axis that the text spells; an address of IPv6 may be spelled in any way (RFC 4291, section 2.2).
+pub fn read_on(axis: Axis, text: &[u8]) -> Option<u128>
+    ensures value { result ≡ value_on axis text.now }
+    ensures bound { IfSome result (λ v. v ≤ slice_index tops (axis_index axis)) }
+{
+    if axis.is_wide() {
+        read_address6(text)
+    } else {
+        read_written(axis, text)
+    }
+}
+
+/// The address on the axis and the number of leading bits that the text spells; None on an axis without addresses.
+fn read_prefix_on(axis: Axis, text: &[u8]) -> Option<(u128, u128)>
+    ensures value { result ≡ prefix_on axis text.now }
+    ensures bound { IfSome result (λ p. (p.0 < 2 ^ axis_width axis) × (0 < p.1) × (p.1 ≤ axis_width axis)) }
+{
+    if axis.is_wide() {
+        read_prefix6(text)
+    } else if axis.is_address() {
+        read_prefix(text)
+    } else {
+        None
     }
 }
 
@@ -44,19 +75,11 @@ fn addresses(width: u128, address: u128, bits: u128) -> Range
     }
 }
 
-/// The addresses of `a.b.c.d/n`; bits past the first n are cut off.
-fn read_addresses(text: &[u8]) -> Option<Range>
-    ensures { result ≡ option_map (with_prefix 32) (prefix_of text.now) }
-{
-    let (address, bits) = read_prefix(text)?;
-    Some(addresses(32, address, bits))
-}
-
 /// The values of the element that the text spells: one value on an axis, the addresses of a prefix element.
 /// None where the text spells none, or the element has no values here.
 ///
-/// Numbers are decimal without leading zeros and within the axis; addresses are dotted quads; prefixes
-/// `a.b.c.d/n`, n from 1 to 32.
+/// Numbers are decimal without leading zeros and within the axis; addresses are dotted quads, those of IPv6 as in
+/// RFC 4291, section 2.2; prefixes are an address and `/n`, n from 1 to 32, of IPv6 to 128.
 pub fn read_value(element: Element, text: &str) -> Option<Range>
     ensures { result ≡ values_of element text.now }
 {
@@ -69,14 +92,22 @@ pub fn read_value(element: Element, text: &str) -> Option<Range>
                 bits: width(axis),
             })
         }
-        Element::SourcePrefix | Element::DestinationPrefix => read_addresses(text.as_bytes()),
+        Element::Prefix(axis) => {
+            let (address, bits) = read_prefix_on(axis, text.as_bytes())?;
+            Some(addresses(u128::from(width(axis)), address, bits))
+        }
         Element::OctetDeltaCount
         | Element::PacketDeltaCount
         | Element::OctetTotalCount
         | Element::PacketTotalCount
-        | Element::SourcePrefixLength
-        | Element::DestinationPrefixLength
-        | Element::IpVersion
+        | Element::PrefixLength(_)
         | Element::Other => None,
     }
 }
+
+/// What is read on an axis stands within it, and so do prefixes.
+pub fn values_fit()
+    ensures value { (axis : Axis) (text : List ℕ) (v : ℕ) → value_on axis text ≡ Some v → v ≤ slice_index tops (axis_index axis) }
+    ensures leading { (axis : Axis) (text : List ℕ) (p : ℕ × ℕ) → prefix_on axis text ≡ Some p
+        → (p.0 < 2 ^ axis_width axis) × (0 < p.1) × (p.1 ≤ axis_width axis) }
+{}

@@ -8,7 +8,7 @@ use Rattle.fx_layout.specs.Keys.{Key, reads, refines, can_stand, with_part, key_
 
 -- from 10.1.2.3 to 192.0.2.1, by TCP from port 1000 to port 80
 abbrev a_packet : Fields
-a_packet = 167838211 ∷ 3221225985 ∷ 6 ∷ 1000 ∷ 80 ∷ 0 ∷ []
+a_packet = 167838211 ∷ 3221225985 ∷ 6 ∷ 1000 ∷ 80 ∷ 0 ∷ 4 ∷ 0 ∷ 0 ∷ []
 
 abbrev source : ℕ → Part
 source bits = record { axis = Source; bits = bits }
