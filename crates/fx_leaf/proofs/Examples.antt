@@ -16,11 +16,11 @@ abbrev source : ℕ → Layout
 source bits = record { axis = Source; bits = bits } ∷ []
 
 abbrev all_fields : Bounds
-all_fields = record { low = 0 ∷ 0 ∷ 0 ∷ 0 ∷ 0 ∷ 0 ∷ []; high = 4294967295 ∷ 4294967295 ∷ 255 ∷ 65535 ∷ 65535 ∷ 255 ∷ [] }
+all_fields = record { low = 0 ∷ 0 ∷ 0 ∷ 0 ∷ 0 ∷ 0 ∷ 0 ∷ 0 ∷ 0 ∷ []; high = 4294967295 ∷ 4294967295 ∷ 255 ∷ 65535 ∷ 65535 ∷ 255 ∷ 255 ∷ 340282366920938463463374607431768211455 ∷ 340282366920938463463374607431768211455 ∷ [] }
 
 -- from 10.1.2.3 to 192.0.2.1, by TCP
 abbrev a_packet : Fields
-a_packet = 167838211 ∷ 3221225985 ∷ 6 ∷ 1000 ∷ 80 ∷ 0 ∷ []
+a_packet = 167838211 ∷ 3221225985 ∷ 6 ∷ 1000 ∷ 80 ∷ 0 ∷ 4 ∷ 0 ∷ 0 ∷ []
 
 -- a device with two interfaces at one point, all of whose packets go to one cache
 abbrev meter : Device
@@ -110,7 +110,7 @@ matched : packet_fate (mediated (source 32) (in_one_net ∷ [])) a_packet (inwar
 matched = refl
 
 -- its match can be read and doesn't hold: 10.1.3.3
-not_matched : packet_fate (mediated (source 32) (in_one_net ∷ [])) (167838467 ∷ 3221225985 ∷ 6 ∷ 1000 ∷ 80 ∷ 0 ∷ []) (inwards ∷ []) ≡ Never
+not_matched : packet_fate (mediated (source 32) (in_one_net ∷ [])) (167838467 ∷ 3221225985 ∷ 6 ∷ 1000 ∷ 80 ∷ 0 ∷ 4 ∷ 0 ∷ 0 ∷ []) (inwards ∷ []) ≡ Never
 not_matched = refl
 
 -- its match can't be read from a /16
@@ -121,7 +121,7 @@ too_coarse = refl
 
 -- the values of source addresses from one to another
 abbrev from_to : ℕ → ℕ → Bounds
-from_to low high = record { low = low ∷ 0 ∷ 0 ∷ 0 ∷ 0 ∷ 0 ∷ []; high = high ∷ 4294967295 ∷ 255 ∷ 65535 ∷ 65535 ∷ 255 ∷ [] }
+from_to low high = record { low = low ∷ 0 ∷ 0 ∷ 0 ∷ 0 ∷ 0 ∷ 0 ∷ 0 ∷ 0 ∷ []; high = high ∷ 4294967295 ∷ 255 ∷ 65535 ∷ 65535 ∷ 255 ∷ 255 ∷ 340282366920938463463374607431768211455 ∷ 340282366920938463463374607431768211455 ∷ [] }
 
 -- all of 10.1.2.0/24 match
 all_match : path_verdict (mediated (source 32) (in_one_net ∷ [])) (from_to 167838208 167838463) (inwards ∷ []) ≡ Some Once

@@ -54,11 +54,11 @@ abbrev source : ℕ → Layout
 source bits = record { axis = Source; bits = bits } ∷ []
 
 abbrev all_fields : Bounds
-all_fields = record { low = 0 ∷ 0 ∷ 0 ∷ 0 ∷ 0 ∷ 0 ∷ []; high = 4294967295 ∷ 4294967295 ∷ 255 ∷ 65535 ∷ 65535 ∷ 255 ∷ [] }
+all_fields = record { low = 0 ∷ 0 ∷ 0 ∷ 0 ∷ 0 ∷ 0 ∷ 0 ∷ 0 ∷ 0 ∷ []; high = 4294967295 ∷ 4294967295 ∷ 255 ∷ 65535 ∷ 65535 ∷ 255 ∷ 255 ∷ 340282366920938463463374607431768211455 ∷ 340282366920938463463374607431768211455 ∷ [] }
 
 -- to 192.0.2.1, by TCP, from this address
 abbrev from : ℕ → Fields
-from address = address ∷ 3221225985 ∷ 6 ∷ 1000 ∷ 80 ∷ 0 ∷ []
+from address = address ∷ 3221225985 ∷ 6 ∷ 1000 ∷ 80 ∷ 0 ∷ 4 ∷ 0 ∷ 0 ∷ []
 
 abbrev inwards : List Crossing
 inwards = record { device = 1; interface = codes "eth0"; inwards = true } ∷ []
@@ -166,7 +166,7 @@ two_exporters = refl
 -- ---- filters
 
 abbrev sources : ℕ → ℕ → Bounds
-sources low high = record { low = low ∷ 0 ∷ 0 ∷ 0 ∷ 0 ∷ 0 ∷ []; high = high ∷ 4294967295 ∷ 255 ∷ 65535 ∷ 65535 ∷ 255 ∷ [] }
+sources low high = record { low = low ∷ 0 ∷ 0 ∷ 0 ∷ 0 ∷ 0 ∷ 0 ∷ 0 ∷ 0 ∷ []; high = high ∷ 4294967295 ∷ 255 ∷ 65535 ∷ 65535 ∷ 255 ∷ 255 ∷ 340282366920938463463374607431768211455 ∷ 340282366920938463463374607431768211455 ∷ [] }
 
 -- the sources up to this one go to the cache, and those from the other on go there too
 abbrev shared : ℕ → ℕ → Net

@@ -30,7 +30,7 @@ counts packets octets = record { packets = packets; octets = octets }
 
 -- a packet from this address to port 443 of 192.0.2.1, by TCP
 abbrev packet : ℕ → ℕ → Packet
-packet address octets = record { fields = address ∷ 3221225985 ∷ 6 ∷ 49152 ∷ 443 ∷ 0 ∷ []; octets = octets; class = 1; path = 1 }
+packet address octets = record { fields = address ∷ 3221225985 ∷ 6 ∷ 49152 ∷ 443 ∷ 0 ∷ 4 ∷ 0 ∷ 0 ∷ []; octets = octets; class = 1; path = 1 }
 
 -- ---- a meter and a collector
 
@@ -43,7 +43,7 @@ net_with egress metered exporter reported = record {
       interfaces = codes "eth0" ∷ codes "eth1" ∷ [];
       ingress = true;
       egress = egress;
-      selections = record { region = Some (record { low = 0 ∷ 0 ∷ 0 ∷ 0 ∷ 0 ∷ 0 ∷ []; high = 4294967295 ∷ 4294967295 ∷ 255 ∷ 65535 ∷ 65535 ∷ 255 ∷ [] }); holder = Some 0 } ∷ [];
+      selections = record { region = Some (record { low = 0 ∷ 0 ∷ 0 ∷ 0 ∷ 0 ∷ 0 ∷ 0 ∷ 0 ∷ 0 ∷ []; high = 4294967295 ∷ 4294967295 ∷ 255 ∷ 65535 ∷ 65535 ∷ 255 ∷ 255 ∷ 340282366920938463463374607431768211455 ∷ 340282366920938463463374607431768211455 ∷ [] }); holder = Some 0 } ∷ [];
     } ∷ [];
     caches = 0 ∷ [];
     processes = [];
@@ -69,7 +69,7 @@ outwards = record { device = 1; interface = codes "eth1"; inwards = false }
 -- the packets from 10.0.0.0/8, all of which make these crossings, and may be exempt
 abbrev class_of : Bool → List Crossing → List Class
 class_of exempt path = record {
-  region = record { low = 167772160 ∷ 0 ∷ 0 ∷ 0 ∷ 0 ∷ 0 ∷ []; high = 184549375 ∷ 4294967295 ∷ 255 ∷ 65535 ∷ 65535 ∷ 255 ∷ [] };
+  region = record { low = 167772160 ∷ 0 ∷ 0 ∷ 0 ∷ 0 ∷ 0 ∷ 0 ∷ 0 ∷ 0 ∷ []; high = 184549375 ∷ 4294967295 ∷ 255 ∷ 65535 ∷ 65535 ∷ 255 ∷ 255 ∷ 340282366920938463463374607431768211455 ∷ 340282366920938463463374607431768211455 ∷ [] };
   paths = path ∷ [];
   exempt = exempt;
 } ∷ []

@@ -20,14 +20,14 @@ use Rattle.fx_machine.specs.Steps.{run}
 
 -- the fields whose source is from one address to another
 abbrev from_to : ℕ → ℕ → Bounds
-from_to low high = record { low = low ∷ 0 ∷ 0 ∷ 0 ∷ 0 ∷ 0 ∷ []; high = high ∷ 4294967295 ∷ 255 ∷ 65535 ∷ 65535 ∷ 255 ∷ [] }
+from_to low high = record { low = low ∷ 0 ∷ 0 ∷ 0 ∷ 0 ∷ 0 ∷ 0 ∷ 0 ∷ 0 ∷ []; high = high ∷ 4294967295 ∷ 255 ∷ 65535 ∷ 65535 ∷ 255 ∷ 255 ∷ 340282366920938463463374607431768211455 ∷ 340282366920938463463374607431768211455 ∷ [] }
 
 abbrev all_fields : Bounds
 all_fields = from_to 0 4294967295
 
 -- from this address to port 443 of 192.0.2.1, by TCP
 abbrev from : ℕ → Fields
-from address = address ∷ 3221225985 ∷ 6 ∷ 49152 ∷ 443 ∷ 0 ∷ []
+from address = address ∷ 3221225985 ∷ 6 ∷ 49152 ∷ 443 ∷ 0 ∷ 4 ∷ 0 ∷ 0 ∷ []
 
 abbrev source : ℕ → Layout
 source bits = record { axis = Source; bits = bits } ∷ []

@@ -8,14 +8,17 @@ use Rattle.fx_base.specs.Device.{Writes}
 use Rattle.fx_base.proofs.Writing.{writes_both}
 use Rattle.fx_elements.specs.declared.axis.Axis.{Axis}
 use Rattle.fx_elements.specs.declared.axis.Axis.TheVariants as axis
-use Rattle.fx_elements.specs.Axes.{Fields, axis_width, field}
+use Rattle.fx_elements.specs.Axes.{Fields, axis_index, axis_width, field}
+use Rattle.fx_elements.proofs.EveryAxis.{index_below, top_below}
 use Rattle.fx_elements.specs.Spelling.{quad}
+use Rattle.fx_elements.specs.Groups.{groups}
 use Rattle.fx_elements.specs.Values.{leading_text, value_text}
 use Rattle.fx_boxes.specs.Boxes.{IsFields}
 use Rattle.fx_machine.specs.declared.packet.Packet.{Packet}
 use Rattle.fx_machine.specs.declared.step.HolderName.{HolderName}
 use Rattle.fx_machine.specs.declared.step.HolderName.TheVariants as holders
 use Rattle.fx_machine.specs.declared.step.Step.TheVariants as step
+use Rattle.fx_machine.specs.declared.text_version.TextVersion.TheVariants.{Two}
 use Rattle.fx_machine.specs.RunText.{choice_word, field_words, holder_words, packet_words, step_words}
 use Rattle.fx_machine.specs.RunLineText.{spaced}
 use Rattle.fx_machine.specs.RunReading.{Words}
@@ -29,14 +32,12 @@ whole_value axis.Protocol v = append-nil _ ∙ ap decimal (omega arith)
 whole_value axis.SourcePort v = append-nil _ ∙ ap decimal (omega arith)
 whole_value axis.DestinationPort v = append-nil _ ∙ ap decimal (omega arith)
 whole_value axis.ClassOfService v = append-nil _ ∙ ap decimal (omega arith)
+whole_value axis.Version v = append-nil _ ∙ ap decimal (omega arith)
+whole_value axis.Source6 v = append-nil _ ∙ ap groups (omega arith)
+whole_value axis.Destination6 v = append-nil _ ∙ ap groups (omega arith)
 
 pub field_fits : (fields : Fields) (a : Axis) → IsFields fields → field fields a < 2 ^ axis_width a
-field_fits fields axis.Source on = omega (arith, on 0 (omega arith))
-field_fits fields axis.Destination on = omega (arith, on 1 (omega arith))
-field_fits fields axis.Protocol on = omega (arith, on 2 (omega arith))
-field_fits fields axis.SourcePort on = omega (arith, on 3 (omega arith))
-field_fits fields axis.DestinationPort on = omega (arith, on 4 (omega arith))
-field_fits fields axis.ClassOfService on = omega (arith, on 5 (omega arith))
+field_fits fields a on = let le = on (axis_index a) (index_below a) in omega (arith, le, top_below a)
 
 -- ---- words
 
@@ -70,14 +71,14 @@ aggregation_put device process aggregation =
     spaced_both (decimal device ∷ []) (decimal process ∷ decimal aggregation ∷ [])
     ∙ ap (λ (x : List ℕ). spaced (decimal device ∷ []) ++ x) (spaced_both (decimal process ∷ []) (decimal aggregation ∷ [])))
 
-pub packet_put : (p : Packet) → join_with_byte 32 (packet_words p) ≡ codes "packet" ++ (spaced (decimal p.class ∷ []) ++ (spaced (decimal p.path ∷ []) ++ (spaced (field_words p.fields) ++ spaced (decimal p.octets ∷ []))))
+pub packet_put : (p : Packet) → join_with_byte 32 (packet_words Two p) ≡ codes "packet" ++ (spaced (decimal p.class ∷ []) ++ (spaced (decimal p.path ∷ []) ++ (spaced (field_words Two p.fields) ++ spaced (decimal p.octets ∷ []))))
 packet_put p =
-    join_spaced (codes "packet") (decimal p.class ∷ decimal p.path ∷ (field_words p.fields ++ decimal p.octets ∷ []))
+    join_spaced (codes "packet") (decimal p.class ∷ decimal p.path ∷ (field_words Two p.fields ++ decimal p.octets ∷ []))
     ∙ ap (λ (x : List ℕ). codes "packet" ++ x) (
-    spaced_both (decimal p.class ∷ []) (decimal p.path ∷ (field_words p.fields ++ decimal p.octets ∷ []))
+    spaced_both (decimal p.class ∷ []) (decimal p.path ∷ (field_words Two p.fields ++ decimal p.octets ∷ []))
     ∙ ap (λ (x : List ℕ). spaced (decimal p.class ∷ []) ++ x) (
-    spaced_both (decimal p.path ∷ []) (field_words p.fields ++ decimal p.octets ∷ [])
-    ∙ ap (λ (x : List ℕ). spaced (decimal p.path ∷ []) ++ x) (spaced_both (field_words p.fields) (decimal p.octets ∷ []))))
+    spaced_both (decimal p.path ∷ []) (field_words Two p.fields ++ decimal p.octets ∷ [])
+    ∙ ap (λ (x : List ℕ). spaced (decimal p.path ∷ []) ++ x) (spaced_both (field_words Two p.fields) (decimal p.octets ∷ []))))
 
 pub cross_put : (packet crossing : ℕ) (choices : List (Option ℕ)) → join_with_byte 32 (step_words (step.Cross packet crossing choices)) ≡ codes "cross" ++ (spaced (decimal packet ∷ []) ++ (spaced (decimal crossing ∷ []) ++ spaced (map choice_word choices)))
 cross_put packet crossing choices =

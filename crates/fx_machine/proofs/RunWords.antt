@@ -1,15 +1,13 @@
 -- The words of a line, one after another.
-use Rattle.std.proofs.Common.{◌≡◌, ℕ, Bool, true, false, cond, eqb, List, [], ◌∷◌, Option, Some, None, refl, ap, sym, ◌∙◌, ◌≤◌, zero, suc, arith, inl, inr}
+use Rattle.std.proofs.Common.{◌≡◌, ℕ, Bool, true, false, cond, eqb, List, [], ◌∷◌, Option, Some, None, refl, ap, sym, ◌∙◌, ◌≤◌, ◌<◌, ◌^◌, arith, inl, inr}
 use Rattle.std.specs.Prelude.{slice_index, is_some, not}
 use Rattle.std.specs.List.{onto_first}
 use Rattle.fx_elements.specs.declared.axis.Axis.{Axis}
 use Rattle.fx_elements.specs.declared.axis.Axis.TheVariants as axis
 use Rattle.fx_elements.specs.Axes.{axis_index, tops}
 use Rattle.fx_elements.specs.Spelling.{cut_at, put_before}
-use Rattle.fx_elements.specs.Values.{value_on}
 use Rattle.fx_elements.proofs.Cuts.{chosen}
-use Rattle.fx_elements.proofs.Decimals.{number_found}
-use Rattle.fx_elements.proofs.Addresses.{quad_found}
+use Rattle.fx_elements.proofs.EveryAxis.{each_on}
 use Rattle.fx_boxes.specs.Boxes.{IsFields}
 use Rattle.fx_machine.specs.RunReading.{words, none_left, first_word}
 use Rattle.fx_machine.specs.RunWords.{words_left}
@@ -60,24 +58,31 @@ left_is None false e = absurd cc
 left_is (Some rest) true e = absurd cc
 left_is (Some rest) false e = sym (words_some rest.now)
 
--- a value that was read is on its axis
-pub value_bound : (a : Axis) (text : List ℕ) (v : ℕ) → value_on a text ≡ Some v → v ≤ slice_index tops (axis_index a)
-value_bound axis.Source text v e = let h = quad_found v text e in omega (arith, h.1)
-value_bound axis.Destination text v e = let h = quad_found v text e in omega (arith, h.1)
-value_bound axis.Protocol text v e = (number_found 255 v text (omega arith) e).1
-value_bound axis.SourcePort text v e = (number_found 65535 v text (omega arith) e).1
-value_bound axis.DestinationPort text v e = (number_found 65535 v text (omega arith) e).1
-value_bound axis.ClassOfService text v e = (number_found 255 v text (omega arith) e).1
+-- nine values that are on their axes
+pub all_on_axes : (a b c d e f g h i : ℕ) → a ≤ 4294967295 → b ≤ 4294967295 → c ≤ 255 → d ≤ 65535 → e ≤ 65535 → f ≤ 255 → g ≤ 255 → h < 2 ^ 128 → i < 2 ^ 128 → IsFields (a ∷ b ∷ c ∷ d ∷ e ∷ f ∷ g ∷ h ∷ i ∷ [])
+all_on_axes a b c d e f g h i ha hb hc hd he hf hg hh hi = each_on of on
+  where
+    of : Axis → ℕ
+    of axis.Source = a
+    of axis.Destination = b
+    of axis.Protocol = c
+    of axis.SourcePort = d
+    of axis.DestinationPort = e
+    of axis.ClassOfService = f
+    of axis.Version = g
+    of axis.Source6 = h
+    of axis.Destination6 = i
 
--- six values that are on their axes
-pub all_on_axes : (a b c d e f : ℕ) → a ≤ 4294967295 → b ≤ 4294967295 → c ≤ 255 → d ≤ 65535 → e ≤ 65535 → f ≤ 255 → IsFields (a ∷ b ∷ c ∷ d ∷ e ∷ f ∷ [])
-all_on_axes a b c d e f ha hb hc hd he hf zero lt = ha
-all_on_axes a b c d e f ha hb hc hd he hf (suc zero) lt = hb
-all_on_axes a b c d e f ha hb hc hd he hf (suc (suc zero)) lt = hc
-all_on_axes a b c d e f ha hb hc hd he hf (suc (suc (suc zero))) lt = hd
-all_on_axes a b c d e f ha hb hc hd he hf (suc (suc (suc (suc zero)))) lt = he
-all_on_axes a b c d e f ha hb hc hd he hf (suc (suc (suc (suc (suc zero))))) lt = hf
-all_on_axes a b c d e f ha hb hc hd he hf (suc (suc (suc (suc (suc (suc k)))))) lt = absurd (omega arith)
+    on : (x : Axis) → of x ≤ slice_index tops (axis_index x)
+    on axis.Source = ha
+    on axis.Destination = hb
+    on axis.Protocol = hc
+    on axis.SourcePort = hd
+    on axis.DestinationPort = he
+    on axis.ClassOfService = hf
+    on axis.Version = hg
+    on axis.Source6 = omega (arith, hh)
+    on axis.Destination6 = omega (arith, hi)
 
 -- the first word of what is left, and what is left behind it
 pub first_of_more : (rest : Option (Bor (List ℕ))) (text : Bor (List ℕ)) (ws : List (List ℕ)) (p : List ℕ × List ℕ) → words_left rest ≡ ws → rest ≡ Some text → Some p ≡ cut_at 32 text.now → Some (p.0, words p.1) ≡ first_word ws

@@ -19,7 +19,7 @@ counts packets octets = record { packets = packets; octets = octets }
 
 -- a packet from this address to port 443 of 192.0.2.1, by TCP
 abbrev packet : ℕ → ℕ → Packet
-packet address octets = record { fields = address ∷ 3221225985 ∷ 6 ∷ 49152 ∷ 443 ∷ 0 ∷ []; octets = octets; class = 1; path = 1 }
+packet address octets = record { fields = address ∷ 3221225985 ∷ 6 ∷ 49152 ∷ 443 ∷ 0 ∷ 4 ∷ 0 ∷ 0 ∷ []; octets = octets; class = 1; path = 1 }
 
 -- from 10.1.2.3, 10.1.2.4 and 10.1.3.1
 abbrev three : List Packet

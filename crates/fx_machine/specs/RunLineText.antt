@@ -3,22 +3,23 @@ use Rattle.std.specs.Prelude.{◌≢◌, ℕ, true, List, ◌∷◌, flat_map}
 use Rattle.std.specs.List.{AllByRecursion, join_with_byte}
 use Rattle.fx_machine.specs.declared.run_line.RunLine.{RunLine}
 use Rattle.fx_machine.specs.declared.run_line.RunLine.TheVariants.{Packet, Step, End}
-use Rattle.fx_machine.specs.RunText.{packet_words, step_words, last_words, IsPacket, IsStep}
+use Rattle.fx_machine.specs.declared.text_version.TextVersion.{TextVersion}
+use Rattle.fx_machine.specs.RunText.{packet_words, step_words, last_words, IsPacket, CanSay, IsStep}
 use Rattle.fx_machine.specs.RunReading.{Line}
 
-abbrev pub line_words : RunLine → List (List ℕ)
-line_words (Packet p) = packet_words p
-line_words (Step s) = step_words s
-line_words End = last_words
+abbrev pub line_words : TextVersion → RunLine → List (List ℕ)
+line_words version (Packet p) = packet_words version p
+line_words version (Step s) = step_words s
+line_words version End = last_words
 
-abbrev pub run_line_text : RunLine → List ℕ
-run_line_text x = join_with_byte 32 (line_words x)
+abbrev pub run_line_text : TextVersion → RunLine → List ℕ
+run_line_text version x = join_with_byte 32 (line_words version x)
 
--- what has a text: values on their axes, and numbers below 2 to the 64
-abbrev pub IsRunLine : RunLine → Type 0
-IsRunLine (Packet p) = IsPacket p
-IsRunLine (Step s) = IsStep s
-IsRunLine End = Unit {0}
+-- what has a text: values on their axes that the version can say, and numbers below 2 to the 64
+abbrev pub IsRunLine : TextVersion → RunLine → Type 0
+IsRunLine version (Packet p) = IsPacket p × CanSay version p.fields
+IsRunLine version (Step s) = IsStep s
+IsRunLine version End = Unit {0}
 
 -- no line feed is in a line, and one ends it
 abbrev pub IsOneLine : List ℕ → Type 0

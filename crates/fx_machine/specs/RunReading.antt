@@ -9,10 +9,10 @@ use Rattle.fx_base.specs.Fault.{fault_at}
 use Rattle.fx_base.specs.Device.{MayBeLeft, MayHaveLeft}
 use Rattle.fx_base.specs.Lines.{Lines, IsCutOff, text_lines, next_number}
 use Rattle.fx_elements.specs.declared.axis.Axis.{Axis}
-use Rattle.fx_elements.specs.declared.axis.Axis.TheVariants.{Source, Destination, Protocol, SourcePort, DestinationPort, ClassOfService}
+use Rattle.fx_elements.specs.declared.axis.Axis.TheVariants.{Source, Destination, Protocol, SourcePort, DestinationPort, ClassOfService, Version, Source6, Destination6}
 use Rattle.fx_elements.specs.Axes.{Fields}
 use Rattle.fx_elements.specs.Spelling.{◌>>=◌, largest, number_of}
-use Rattle.fx_elements.specs.Values.{value_on}
+use Rattle.fx_elements.specs.Values.{written_on}
 use Rattle.fx_boxes.specs.Boxes.{holds}
 use Rattle.fx_machine.specs.declared.packet.Packet.{Packet}
 use Rattle.fx_machine.specs.declared.step.HolderName.{HolderName}
@@ -21,6 +21,9 @@ use Rattle.fx_machine.specs.declared.step.Step.{Step}
 use Rattle.fx_machine.specs.declared.step.Step.TheVariants as step
 use Rattle.fx_machine.specs.declared.run_line.Action.{Action}
 use Rattle.fx_machine.specs.declared.run_line.Action.TheVariants.{Cross, Expire, Arrive}
+use Rattle.fx_machine.specs.declared.run_line.LastFields.{LastFields}
+use Rattle.fx_machine.specs.declared.text_version.TextVersion.{TextVersion}
+use Rattle.fx_machine.specs.declared.text_version.TextVersion.TheVariants.{One, Two}
 use Rattle.fx_machine.specs.declared.run_line.RunLine.{RunLine}
 use Rattle.fx_machine.specs.declared.run_line.RunLine.TheVariants as line
 use Rattle.fx_machine.specs.Network.{numbered}
@@ -50,7 +53,7 @@ number_first ws = in_first (number_of largest) ws
 
 -- a value on the axis
 abbrev pub value_first : Axis → Words → Option (ℕ × Words)
-value_first axis ws = in_first (value_on axis) ws
+value_first axis ws = in_first (written_on axis) ws
 
 abbrev pub none_left : Words → Bool
 none_left [] = true
@@ -62,23 +65,33 @@ at_end x ws = if none_left ws then Some x else None
 
 -- ---- a packet
 
+-- the values on the axes behind the first six, and the words behind them: the first version has packets of IPv4 alone
+unfoldable pub last_first : TextVersion → Words → Option (LastFields × Words)
+last_first One ws = Some (record { version = 4; source = 0; destination = 0 }, ws)
+last_first Two ws = do
+  version ← value_first Version ws
+  source ← value_first Source6 version.1
+  destination ← value_first Destination6 source.1
+  Some (record { version = version.0; source = source.0; destination = destination.0 }, destination.1)
+
 -- the values on all axes, and the words behind them
-unfoldable pub fields_first : Words → Option (Fields × Words)
-fields_first ws = do
+unfoldable pub fields_first : TextVersion → Words → Option (Fields × Words)
+fields_first version ws = do
   source ← value_first Source ws
   destination ← value_first Destination source.1
   protocol ← value_first Protocol destination.1
   source_port ← value_first SourcePort protocol.1
   destination_port ← value_first DestinationPort source_port.1
   service ← value_first ClassOfService destination_port.1
-  Some (source.0 ∷ destination.0 ∷ protocol.0 ∷ source_port.0 ∷ destination_port.0 ∷ service.0 ∷ [], service.1)
+  last ← last_first version service.1
+  Some (source.0 ∷ destination.0 ∷ protocol.0 ∷ source_port.0 ∷ destination_port.0 ∷ service.0 ∷ last.0.version ∷ last.0.source ∷ last.0.destination ∷ [], last.1)
 
 -- the packet that all of these words are, behind the word `packet`
-unfoldable pub packet_of : Words → Option Packet
-packet_of ws = do
+unfoldable pub packet_of : TextVersion → Words → Option Packet
+packet_of version ws = do
   class ← number_first ws
   path ← number_first class.1
-  fields ← fields_first path.1
+  fields ← fields_first version path.1
   octets ← number_first fields.1
   at_end (record { fields = fields.0; octets = octets.0; class = class.0; path = path.0 }) octets.1
 
@@ -153,14 +166,14 @@ step_of kind ws = do
 -- ---- a line
 
 -- the line of this kind: a packet, the end, or a step
-unfoldable pub line_of_kind : List ℕ → Words → Option RunLine
-line_of_kind kind ws =
-    if bytes_eq kind (codes "packet") then option_map (λ p. line.Packet p) (packet_of ws)
+unfoldable pub line_of_kind : TextVersion → List ℕ → Words → Option RunLine
+line_of_kind version kind ws =
+    if bytes_eq kind (codes "packet") then option_map (λ p. line.Packet p) (packet_of version ws)
     else if bytes_eq kind (codes "end") then at_end line.End ws
     else option_map (λ s. line.Step s) (step_of kind ws)
 
-abbrev pub line_of : Words → Option RunLine
-line_of ws = first_word ws >>= λ kind. line_of_kind kind.0 kind.1
+abbrev pub line_of : TextVersion → Words → Option RunLine
+line_of version ws = first_word ws >>= λ kind. line_of_kind version kind.0 kind.1
 
 -- ---- a text
 
@@ -176,8 +189,8 @@ well_formed None = Err 855
 well_formed (Some x) = Ok x
 
 -- what a line says, or the number of its fault
-abbrev pub said : Line → Result RunLine ℕ
-said l = if nat_lt 4096 (length l.0) then Err 903 else if l.1 then well_formed (line_of (words l.0)) else Err 855
+abbrev pub said : TextVersion → Line → Result RunLine ℕ
+said version l = if nat_lt 4096 (length l.0) then Err 903 else if l.1 then well_formed (line_of version (words l.0)) else Err 855
 
 -- the packet has one of the paths of the class, and fields in its region
 abbrev pub is_of : Packet → Option Class → Bool
@@ -214,17 +227,18 @@ from_line classes n run (Ok (line.Packet p)) ls next = unless (packet_fault clas
 from_line classes n run (Ok (line.Step s)) ls next = next (with_step run s)
 from_line classes n run (Ok line.End) ls next = ended n run ls
 
--- the run that the lines behind the line n complete, or the first fault
-abbrev pub behind : List Class → ℕ → Run → List Line → Result Run Fault
-behind classes n run [] = Err (at_line 855 (next_number n))
-behind classes n run (l ∷ ls) = from_line classes (next_number n) run (said l) ls (λ r. behind classes (next_number n) r ls)
+-- the run that the lines of such a text behind the line n complete, or the first fault
+abbrev pub behind : TextVersion → List Class → ℕ → Run → List Line → Result Run Fault
+behind version classes n run [] = Err (at_line 855 (next_number n))
+behind version classes n run (l ∷ ls) = from_line classes (next_number n) run (said version l) ls (λ r. behind version classes (next_number n) r ls)
 
 -- the run whose text has these lines, the first of which comes behind the line n, or the first fault
 abbrev pub reading : List Class → ℕ → List Line → Result Run Fault
 reading classes n [] = Err (at_line 855 (next_number n))
 reading classes n (l ∷ ls) =
     if nat_lt 4096 (length l.0) then Err (at_line 903 (next_number n))
-    else if l.1 && bytes_eq l.0 (codes "once-run 1") then behind classes (next_number n) no_run ls
+    else if l.1 && bytes_eq l.0 (codes "once-run 1") then behind One classes (next_number n) no_run ls
+    else if l.1 && bytes_eq l.0 (codes "once-run 2") then behind Two classes (next_number n) no_run ls
     else Err (at_line 854 (next_number n))
 
 -- what reading comes to, of a text that the reader of lines may have left
@@ -232,29 +246,29 @@ abbrev pub MayRead : List Class → Lines → Result Run Fault → Type 0
 MayRead classes lines result = MayHaveLeft lines.left (λ text. reading classes lines.number (text_lines text) ≡ result)
 
 -- the same of a reader that is behind the first line and has read so much of a run, and of one that is behind the last
-abbrev pub MayReadBehind : List Class → Lines → Run → Result Run Fault → Type 0
-MayReadBehind classes lines run result = MayHaveLeft lines.left (λ text. behind classes lines.number run (text_lines text) ≡ result)
+abbrev pub MayReadBehind : TextVersion → List Class → Lines → Run → Result Run Fault → Type 0
+MayReadBehind version classes lines run result = MayHaveLeft lines.left (λ text. behind version classes lines.number run (text_lines text) ≡ result)
 
 abbrev pub MayEnd : Lines → Run → Result Run Fault → Type 0
 MayEnd lines run result = MayHaveLeft lines.left (λ text. ended lines.number run (text_lines text) ≡ result)
 
 -- whatever is left behind the first line, reading it is reading a text that may have been left before it
-abbrev pub ReadsFirst : Lines → Lines → Type 0
-ReadsFirst old new =
+abbrev pub ReadsFirst : TextVersion → Lines → Lines → Type 0
+ReadsFirst version old new =
     (rest : List ℕ) → MayBeLeft new.left rest
-    → MayHaveLeft old.left (λ text. (classes : List Class) → reading classes old.number (text_lines text) ≡ behind classes new.number no_run (text_lines rest))
+    → MayHaveLeft old.left (λ text. (classes : List Class) → reading classes old.number (text_lines text) ≡ behind version classes new.number no_run (text_lines rest))
 
 -- the same of a later line, which says this
-abbrev pub ReadsNext : Lines → Lines → RunLine → Type 0
-ReadsNext old new x =
+abbrev pub ReadsNext : TextVersion → Lines → Lines → RunLine → Type 0
+ReadsNext version old new x =
     (rest : List ℕ) → MayBeLeft new.left rest
-    → MayHaveLeft old.left (λ text. (classes : List Class) (run : Run) → behind classes old.number run (text_lines text) ≡ from_line classes new.number run (Ok x) (text_lines rest) (λ r. behind classes new.number r (text_lines rest)))
+    → MayHaveLeft old.left (λ text. (classes : List Class) (run : Run) → behind version classes old.number run (text_lines text) ≡ from_line classes new.number run (Ok x) (text_lines rest) (λ r. behind version classes new.number r (text_lines rest)))
 
 -- the same of the first line and later ones, which said so much of a run
-abbrev pub ReadsOn : List Class → Lines → Lines → Run → Type 0
-ReadsOn classes old new run =
+abbrev pub ReadsOn : TextVersion → List Class → Lines → Lines → Run → Type 0
+ReadsOn version classes old new run =
     (rest : List ℕ) → MayBeLeft new.left rest
-    → MayHaveLeft old.left (λ text. reading classes old.number (text_lines text) ≡ behind classes new.number run (text_lines rest))
+    → MayHaveLeft old.left (λ text. reading classes old.number (text_lines text) ≡ behind version classes new.number run (text_lines rest))
 
 -- the reader has stopped before, its device failed, or its device doesn't end
 abbrev pub Fails : Lines → Lines → Fault → Type 0

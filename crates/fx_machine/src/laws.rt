@@ -16,6 +16,7 @@ ghost use Rattle.fx_machine.specs.Steps as steps;
 ghost use Rattle.fx_machine.specs.declared.packet.Packet as of_packet;
 ghost use Rattle.fx_machine.specs.declared.run_line.RunLine as of_line;
 ghost use Rattle.fx_machine.specs.declared.step.Step as of_step;
+ghost use Rattle.fx_machine.specs.declared.text_version.TextVersion.{TextVersion};
 
 /// The steps with their choices written are just what a network may do: each step is a move, and each move is
 /// a step with some choices.
@@ -46,14 +47,16 @@ pub fn complete_runs_exist()
         → complete_run.HasCompleteRun net classes packets }
 {}
 
-/// The line of a packet, of a step and of the end is read as that, and no other line is.
+/// In either version the line of a packet, of a step and of the end is read as that, and no other line is.
 pub fn run_lines_have_one_text()
-    ensures read { (x : of_line.RunLine) → IsRunLine x
-        → line_of (words (run_line_text x)) ≡ Some x }
-    ensures only { (line : List ℕ) (x : of_line.RunLine) → line_of (words line) ≡ Some x
-        → (line ≡ run_line_text x) × IsRunLine x }
+    ensures read { (version : TextVersion) (x : of_line.RunLine) → IsRunLine version x
+        → line_of version (words (run_line_text version x)) ≡ Some x }
+    ensures only { (version : TextVersion) (line : List ℕ) (x : of_line.RunLine)
+        → line_of version (words line) ≡ Some x
+        → (line ≡ run_line_text version x) × IsRunLine version x }
     // So they are lines of a text.
-    ensures one_line { (x : of_line.RunLine) → IsRunLine x → IsOneLine (run_line_text x) }
+    ensures one_line { (version : TextVersion) (x : of_line.RunLine) → IsRunLine version x
+        → IsOneLine (run_line_text version x) }
     ensures lines { (lines : List (List ℕ)) → AllByRecursion IsOneLine lines
         → text_lines (lines_text lines) ≡ map ended_line lines }
     ensures text { (text : List ℕ) (lines : List (List ℕ)) → text_lines text ≡ map ended_line lines

@@ -26,6 +26,7 @@ mod state;
 mod step;
 mod store;
 mod tallying;
+mod text_version;
 mod traffic;
 
 pub use aggregation::{Aggregation, MatchEntry};
@@ -44,4 +45,5 @@ pub use run_put::{put_packet_line, put_step_line};
 pub use run_reading::{read_run, run_texts};
 pub use state::State;
 pub use step::{Choices, HolderName, Step};
+pub use text_version::TextVersion;
 pub use traffic::{Class, Classes, Crossing, Path};

@@ -1,10 +1,11 @@
 //! The lines of a run's text.
-ghost use Rattle.std.specs.Prelude.{◌≡◌, [], IfOk};
-ghost use Rattle.fx_machine.specs.RunReading.{words, fields_first, packet_of, cache_first, aggregation_first, holder_first, cross_first, expire_first, arrive_first, action_of, choice_of, choices_behind, step_with, step_of, line_of_kind, line_of};
+ghost use Rattle.std.specs.Prelude.{◌≡◌, ◌≤◌, ◌<◌, ◌^◌, [], IfOk, IfSome};
+ghost use Rattle.fx_machine.specs.RunReading.{words, last_first, fields_first, packet_of, cache_first, aggregation_first, holder_first, cross_first, expire_first, arrive_first, action_of, choice_of, choices_behind, step_with, step_of, line_of_kind, line_of};
 
 use crate::packet::Packet;
 use crate::run_words::{Words, is_word, read_whole};
 use crate::step::{Choices, HolderName, Step};
+use crate::text_version::TextVersion;
 use fx_boxes::Fields;
 use fx_elements::Axis;
 use std::alloc::{AllocError, Global};
@@ -53,10 +54,47 @@ pub enum RunLine {
     End,
 }
 
+/// The values on the axes behind the first six.
+#[derive(Clone, Copy, Debug, PartialEq, Eq)]
+struct LastFields {
+    version: u128,
+    source: u128,
+    destination: u128,
+}
+
+/// The values on the axes behind the first six: in the first version those of a packet of IPv4.
+#[tactic(auto, unfolding(crate::specs::RunReading::last_first))]
+fn read_last(version: TextVersion, words: Words<'_>) -> Option<(LastFields, Words<'_>)>
+    ensures value { result ≡ last_first version words.entry }
+    ensures bound { IfSome result (λ r. (r.0.version ≤ 255) × (r.0.source < 2 ^ 128) × (r.0.destination < 2 ^ 128)) }
+{
+    match version {
+        TextVersion::One => Some((
+            LastFields {
+                version: 4,
+                source: 0,
+                destination: 0,
+            },
+            words,
+        )),
+        TextVersion::Two => {
+            let (version, words) = words.value(Axis::Version)?;
+            let (source, words) = words.value(Axis::Source6)?;
+            let (destination, words) = words.value(Axis::Destination6)?;
+            let last = LastFields {
+                version,
+                source,
+                destination,
+            };
+            Some((last, words))
+        }
+    }
+}
+
 /// The values on all axes, in order.
 #[tactic(auto, unfolding(crate::specs::RunReading::fields_first))]
-fn read_fields(words: Words<'_>) -> Option<(Fields, Words<'_>)>
-    ensures { result ≡ fields_first words.entry }
+fn read_fields(version: TextVersion, words: Words<'_>) -> Option<(Fields, Words<'_>)>
+    ensures { result ≡ fields_first version words.entry }
 {
     let (source, words) = words.value(Axis::Source)?;
     let (destination, words) = words.value(Axis::Destination)?;
@@ -64,6 +102,7 @@ fn read_fields(words: Words<'_>) -> Option<(Fields, Words<'_>)>
     let (source_port, words) = words.value(Axis::SourcePort)?;
     let (destination_port, words) = words.value(Axis::DestinationPort)?;
     let (service, words) = words.value(Axis::ClassOfService)?;
+    let (last, words) = read_last(version, words)?;
     let fields = Fields::of([
         source,
         destination,
@@ -71,18 +110,21 @@ fn read_fields(words: Words<'_>) -> Option<(Fields, Words<'_>)>
         source_port,
         destination_port,
         service,
+        last.version,
+        last.source,
+        last.destination,
     ]);
     Some((fields, words))
 }
 
 /// What stands behind the word of a packet.
 #[tactic(auto, unfolding(crate::specs::RunReading::packet_of))]
-fn read_packet(words: Words<'_>) -> Option<Packet>
-    ensures { result ≡ packet_of words.entry }
+fn read_packet(version: TextVersion, words: Words<'_>) -> Option<Packet>
+    ensures { result ≡ packet_of version words.entry }
 {
     let (class, words) = words.number()?;
     let (path, words) = words.number()?;
-    let (fields, words) = read_fields(words)?;
+    let (fields, words) = read_fields(version, words)?;
     let (octets, words) = words.number()?;
     if !words.is_empty() {
         return None;
@@ -229,11 +271,16 @@ fn read_step(alloc: Global, kind: &[u8], words: Words<'_>) -> Result<Option<Step
 
 /// What a line of this kind says.
 #[tactic(auto, unfolding(crate::specs::RunReading::line_of_kind))]
-fn read_kind(alloc: Global, kind: &[u8], words: Words<'_>) -> Result<Option<RunLine>, AllocError>
-    ensures { IfOk result (λ x. x ≡ line_of_kind kind.now words.entry) }
+fn read_kind(
+    alloc: Global,
+    version: TextVersion,
+    kind: &[u8],
+    words: Words<'_>,
+) -> Result<Option<RunLine>, AllocError>
+    ensures { IfOk result (λ x. x ≡ line_of_kind version kind.now words.entry) }
 {
     if is_word(kind, b"packet") {
-        return Ok(read_packet(words).map(RunLine::Packet));
+        return Ok(read_packet(version, words).map(RunLine::Packet));
     }
     if is_word(kind, b"end") {
         return Ok(words.is_empty().then_some(RunLine::End));
@@ -247,11 +294,15 @@ fn read_kind(alloc: Global, kind: &[u8], words: Words<'_>) -> Result<Option<RunL
 /// What a line behind the first says, if it is well-formed: a packet, a step, or the run's end.
 ///
 /// Fails for want of memory.
-pub fn read_run_line(alloc: Global, line: &[u8]) -> Result<Option<RunLine>, AllocError>
-    ensures { IfOk result (λ x. x ≡ line_of (words line.now)) }
+pub fn read_run_line(
+    alloc: Global,
+    version: TextVersion,
+    line: &[u8],
+) -> Result<Option<RunLine>, AllocError>
+    ensures { IfOk result (λ x. x ≡ line_of version (words line.now)) }
 {
     let Some((kind, words)) = Words::new(line).word() else {
         return Ok(None);
     };
-    read_kind(alloc, kind, words)
+    read_kind(alloc, version, kind, words)
 }

@@ -9,6 +9,7 @@ ghost use Rattle.fx_machine.specs.RunLineText.{run_line_text, spaced};
 ghost use Rattle.fx_machine.specs.RunText.{choice_word, holder_words};
 ghost use Rattle.fx_machine.specs.declared.run_line.RunLine.TheVariants as line;
 ghost use Rattle.fx_machine.specs.declared.step.HolderName.TheVariants as holders;
+ghost use Rattle.fx_machine.specs.declared.text_version.TextVersion.TheVariants.{Two};
 ghost use Rattle.fx_machine.specs.declared.step.Step.TheVariants as steps;
 
 use crate::packet::Packet;
@@ -129,7 +130,7 @@ fn put_holder<S: Sink>(sink: &mut S, holder: HolderName) -> Result<(), Fault>
 
 /// Writes the words of a packet.
 fn put_packet<S: Sink>(sink: &mut S, packet: &Packet) -> Result<(), Fault>
-    ensures ok { OnOk result (Writes (S.taken sink.old) (S.taken sink.new) (run_line_text
+    ensures ok { OnOk result (Writes (S.taken sink.old) (S.taken sink.new) (run_line_text Two
         (line.Packet packet.now))) }
     ensures going { OnOk result (S.failed sink.old ≡ false → S.failed sink.new ≡ false) }
     ensures err { IfErr result (λ e. (e ≡ fault_at 902 places.None) × (S.failed sink.new ≡ true)) }
@@ -147,7 +148,7 @@ fn put_packet<S: Sink>(sink: &mut S, packet: &Packet) -> Result<(), Fault>
 /// Fails with 902, at no place, where a write fails. How much the sink has taken then is open.
 pub fn put_packet_line<S: Sink>(sink: &mut S, packet: &Packet) -> Result<(), Fault>
     ensures ok { OnOk result (Writes (S.taken sink.old) (S.taken sink.new)
-        (run_line_text (line.Packet packet.now) ++ 10 ∷ [])) }
+        (run_line_text Two (line.Packet packet.now) ++ 10 ∷ [])) }
     ensures going { OnOk result (S.failed sink.old ≡ false → S.failed sink.new ≡ false) }
     ensures err { IfErr result (λ e. (e ≡ fault_at 902 places.None) × (S.failed sink.new ≡ true)) }
 {
@@ -163,7 +164,7 @@ fn put_cross<S: Sink>(
     choices: &[Option<u64>],
 ) -> Result<(), Fault>
     ensures ok { OnOk result (Writes (S.taken sink.old) (S.taken sink.new)
-        (run_line_text (line.Step (steps.Cross packet crossing choices.now)))) }
+        (run_line_text Two (line.Step (steps.Cross packet crossing choices.now)))) }
     ensures going { OnOk result (S.failed sink.old ≡ false → S.failed sink.new ≡ false) }
     ensures err { IfErr result (λ e. (e ≡ fault_at 902 places.None) × (S.failed sink.new ≡ true)) }
 {
@@ -181,7 +182,7 @@ fn put_expire<S: Sink>(
     choices: &[Option<u64>],
 ) -> Result<(), Fault>
     ensures ok { OnOk result (Writes (S.taken sink.old) (S.taken sink.new)
-        (run_line_text (line.Step (steps.Expire holder position choices.now)))) }
+        (run_line_text Two (line.Step (steps.Expire holder position choices.now)))) }
     ensures going { OnOk result (S.failed sink.old ≡ false → S.failed sink.new ≡ false) }
     ensures err { IfErr result (λ e. (e ≡ fault_at 902 places.None) × (S.failed sink.new ≡ true)) }
 {
@@ -199,7 +200,7 @@ fn put_arrive<S: Sink>(
     choices: &[Option<u64>],
 ) -> Result<(), Fault>
     ensures ok { OnOk result (Writes (S.taken sink.old) (S.taken sink.new)
-        (run_line_text (line.Step (steps.Arrive link position choices.now)))) }
+        (run_line_text Two (line.Step (steps.Arrive link position choices.now)))) }
     ensures going { OnOk result (S.failed sink.old ≡ false → S.failed sink.new ≡ false) }
     ensures err { IfErr result (λ e. (e ≡ fault_at 902 places.None) × (S.failed sink.new ≡ true)) }
 {
@@ -211,7 +212,7 @@ fn put_arrive<S: Sink>(
 
 /// Writes the words of a step.
 fn put_step<S: Sink>(sink: &mut S, step: &Step) -> Result<(), Fault>
-    ensures ok { OnOk result (Writes (S.taken sink.old) (S.taken sink.new) (run_line_text
+    ensures ok { OnOk result (Writes (S.taken sink.old) (S.taken sink.new) (run_line_text Two
         (line.Step step.now))) }
     ensures going { OnOk result (S.failed sink.old ≡ false → S.failed sink.new ≡ false) }
     ensures err { IfErr result (λ e. (e ≡ fault_at 902 places.None) × (S.failed sink.new ≡ true)) }
@@ -239,7 +240,7 @@ fn put_step<S: Sink>(sink: &mut S, step: &Step) -> Result<(), Fault>
 ///
 /// Fails with 902, at no place, where a write fails. How much the sink has taken then is open.
 pub fn put_step_line<S: Sink>(sink: &mut S, step: &Step) -> Result<(), Fault>
-    ensures ok { OnOk result (Writes (S.taken sink.old) (S.taken sink.new) (run_line_text
+    ensures ok { OnOk result (Writes (S.taken sink.old) (S.taken sink.new) (run_line_text Two
         (line.Step step.now) ++ 10 ∷ [])) }
     ensures going { OnOk result (S.failed sink.old ≡ false → S.failed sink.new ≡ false) }
     ensures err { IfErr result (λ e. (e ≡ fault_at 902 places.None) × (S.failed sink.new ≡ true)) }

@@ -5,7 +5,7 @@ ghost use Rattle.fx_elements.specs.Axes.{axis_index, tops};
 ghost use Rattle.fx_elements.specs.Spelling.{largest, number_of};
 ghost use Rattle.fx_machine.specs.RunReading.{words, none_left, first_word, number_first, value_first};
 
-use fx_elements::{Axis, cut, read_number, read_on};
+use fx_elements::{Axis, cut, read_number, read_written};
 use std::marker::Model;
 
 /// The words of a line that are still to be read. One space stands between two of them.
@@ -51,13 +51,13 @@ impl<'a> Words<'a> {
         Some((number, rest))
     }
 
-    /// The value on the axis in the first word, and the words behind it.
+    /// The value on the axis whose written form the first word is, and the words behind it.
     pub(crate) fn value(self, axis: Axis) -> Option<(u128, Words<'a>)>
         ensures value { result ≡ value_first axis self.entry }
         ensures bound { IfSome result (λ p. p.0 ≤ slice_index tops (axis_index axis)) }
     {
         let (word, rest) = self.word()?;
-        let value = read_on(axis, word)?;
+        let value = read_written(axis, word)?;
         Some((value, rest))
     }
 

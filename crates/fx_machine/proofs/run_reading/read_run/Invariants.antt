@@ -7,7 +7,7 @@ abbrev pub invariant-lines : goal.invariant-lines
 invariant-lines g l = record {
   going : l.lines.stopped ≡ None;
   on : GoesOn l.fn.lines l.lines;
-  reads : ReadsOn l.classes l.fn.lines l.lines l.run;
+  reads : ReadsOn l.version l.classes l.fn.lines l.lines l.run;
 }
 
 abbrev pub decreases-lines : goal.decreases-lines
