@@ -95,8 +95,9 @@ impl Totals {
     }
 
     /// Writes the text of these totals: `keys n`; for each key its values in axis order, `packets P octets O`;
-    /// `unassigned u`. Addresses are dotted quads, followed by a slash and the number of bits where a key has
-    /// fewer than all; a key without values is `all`. Each line ends with a line feed.
+    /// `unassigned u`. Addresses are dotted quads, those of IPv6 eight groups of hexadecimal digits, followed by a slash
+    /// and the number of bits where a key has fewer than all; a key without values is `all`. Each line ends with a
+    /// line feed.
     ///
     /// The keys are to ascend, as after [`Totals::sort`]. Fails with 902, at no place, where a write fails; how
     /// much the sink has taken then is open.

@@ -1,10 +1,10 @@
--- A stream of two messages, read by the definitions alone.
-use Rattle.std.proofs.Common.{◌≡◌, ℕ, List, [], ◌∷◌, ◌++◌, refl, Some}
-use Rattle.fx_elements.specs.declared.axis.Axis.TheVariants.{Source}
+-- A stream of two messages, and a prefix, read by the definitions alone.
+use Rattle.std.proofs.Common.{◌≡◌, ℕ, List, [], ◌∷◌, ◌++◌, length, refl, Some, None, Ok, Err}
+use Rattle.fx_elements.specs.declared.axis.Axis.TheVariants.{Source, Source6}
 use Rattle.fx_machine.specs.declared.record.Record.{Record}
 use Rattle.fx_wire.specs.Sets.{sets_of, sets_in}
 use Rattle.fx_wire.specs.Fields.{element_of, fields_in}
-use Rattle.fx_wire.specs.Values.{record_at}
+use Rattle.fx_wire.specs.Values.{Value, record_at}
 use Rattle.fx_session.specs.Templates.{same_fields}
 use Rattle.fx_session.specs.TemplateSets.{has_narrow, template_record, template_records, template_set}
 use Rattle.fx_session.specs.Flows.{number_in, flow_in}
@@ -38,3 +38,23 @@ counts_a_gap = refl
 needs_a_template : (fed start second).fault ≡ Some 617
 unfolding sets_of sets_in set_read sets_read message_read read_in read_all
 needs_a_template = refl
+
+abbrev registered : ℕ → List ℕ → Value
+registered element octets = record { field = record { element = element; field_length = length octets; enterprise = None }; content = octets }
+
+-- 2001:db8::1 as a prefix with so many bits, 300 octets, 2 packets
+abbrev prefix : ℕ → List Value
+prefix bits =
+    registered 170 (32 ∷ 1 ∷ 13 ∷ 184 ∷ 0 ∷ 0 ∷ 0 ∷ 0 ∷ 0 ∷ 0 ∷ 0 ∷ 0 ∷ 0 ∷ 0 ∷ 0 ∷ 1 ∷ []) ∷ registered 29 (bits ∷ []) ∷ registered 1 (1 ∷ 44 ∷ []) ∷ registered 2 (2 ∷ []) ∷ []
+
+-- of 2001:db8::/32 the first 32 bits are known
+reads_a_prefix : flow_in (prefix 32) ≡ Ok (Some (record {
+  key = record { layout = record { axis = Source6; bits = 32 } ∷ []; values = 536939960 ∷ [] };
+  counts = record { packets = 2; octets = 300 };
+}))
+unfolding flow_in number_in element_of
+reads_a_prefix = refl
+
+refuses_129_bits : flow_in (prefix 129) ≡ Err 620
+unfolding flow_in number_in element_of
+refuses_129_bits = refl

@@ -6,7 +6,7 @@ use Rattle.std.specs.Option.{option_or}
 use Rattle.fx_elements.specs.Axes.{axis_count, axis_index, same_axis}
 use Rattle.fx_elements.specs.declared.axis.Axis.{Axis}
 use Rattle.fx_elements.specs.declared.element.Element.{Element}
-use Rattle.fx_elements.specs.declared.element.Element.TheVariants.{OnAxis, OctetDeltaCount, PacketDeltaCount}
+use Rattle.fx_elements.specs.declared.element.Element.TheVariants.{OnAxis, OctetDeltaCount, PacketDeltaCount, Prefix, PrefixLength}
 use Rattle.fx_elements.proofs.EveryAxis.{axis_is, index_below}
 use Rattle.std.proofs.lemmas.List.{get_or-set_other}
 use Rattle.std.proofs.lemmas.Grind.{get_or-set_at}
@@ -74,26 +74,24 @@ note_value seen vs v own new len e is h = record {
   packets = kept is_packets vs v _ (ap is_packets e) h.packets;
 }
 
-pub note_prefix : (seen : Seen) (vs : List Value) (v : Value) (element : Element) (own : Axis) (new : List (Option ℕ)) → length seen.prefixes ≡ axis_count → element_of v.field ≡ element
-    → ((axis : Axis) → is_prefix axis element ≡ same_axis own axis) → ((axis : Axis) → is_value axis element ≡ false) → ((axis : Axis) → is_prefix_length axis element ≡ false) → is_octets element ≡ false → is_packets element ≡ false
+pub note_prefix : (seen : Seen) (vs : List Value) (v : Value) (own : Axis) (new : List (Option ℕ)) → length seen.prefixes ≡ axis_count → element_of v.field ≡ Prefix own
     → new ≡ set seen.prefixes (axis_index own) (option_or (get_or seen.prefixes (axis_index own) None) (Some (number_in v.content))) → Notes seen vs → Notes (record seen { prefixes = new }) (vs ++ v ∷ [])
-note_prefix seen vs v element own new len e meant value length octets packets is h = record {
-  numbers = λ axis. kept (is_value axis) vs v _ (ap (is_value axis) e ∙ value axis) (h.numbers axis);
-  prefixes = λ axis. ap (λ (ns : List (Option ℕ)). get_or ns (axis_index axis) None) is ∙ taken_on is_prefix vs v own seen.prefixes len (λ a. ap (is_prefix a) e ∙ meant a) h.prefixes axis;
-  lengths = λ axis. kept (is_prefix_length axis) vs v _ (ap (is_prefix_length axis) e ∙ length axis) (h.lengths axis);
-  octets = kept is_octets vs v _ (ap is_octets e ∙ octets) h.octets;
-  packets = kept is_packets vs v _ (ap is_packets e ∙ packets) h.packets;
+note_prefix seen vs v own new len e is h = record {
+  numbers = λ axis. kept (is_value axis) vs v _ (ap (is_value axis) e) (h.numbers axis);
+  prefixes = λ axis. ap (λ (ns : List (Option ℕ)). get_or ns (axis_index axis) None) is ∙ taken_on is_prefix vs v own seen.prefixes len (λ a. ap (is_prefix a) e) h.prefixes axis;
+  lengths = λ axis. kept (is_prefix_length axis) vs v _ (ap (is_prefix_length axis) e) (h.lengths axis);
+  octets = kept is_octets vs v _ (ap is_octets e) h.octets;
+  packets = kept is_packets vs v _ (ap is_packets e) h.packets;
 }
 
-pub note_length : (seen : Seen) (vs : List Value) (v : Value) (element : Element) (own : Axis) (new : List (Option ℕ)) → length seen.lengths ≡ axis_count → element_of v.field ≡ element
-    → ((axis : Axis) → is_prefix_length axis element ≡ same_axis own axis) → ((axis : Axis) → is_value axis element ≡ false) → ((axis : Axis) → is_prefix axis element ≡ false) → is_octets element ≡ false → is_packets element ≡ false
+pub note_length : (seen : Seen) (vs : List Value) (v : Value) (own : Axis) (new : List (Option ℕ)) → length seen.lengths ≡ axis_count → element_of v.field ≡ PrefixLength own
     → new ≡ set seen.lengths (axis_index own) (option_or (get_or seen.lengths (axis_index own) None) (Some (number_in v.content))) → Notes seen vs → Notes (record seen { lengths = new }) (vs ++ v ∷ [])
-note_length seen vs v element own new len e meant value prefix octets packets is h = record {
-  numbers = λ axis. kept (is_value axis) vs v _ (ap (is_value axis) e ∙ value axis) (h.numbers axis);
-  prefixes = λ axis. kept (is_prefix axis) vs v _ (ap (is_prefix axis) e ∙ prefix axis) (h.prefixes axis);
-  lengths = λ axis. ap (λ (ns : List (Option ℕ)). get_or ns (axis_index axis) None) is ∙ taken_on is_prefix_length vs v own seen.lengths len (λ a. ap (is_prefix_length a) e ∙ meant a) h.lengths axis;
-  octets = kept is_octets vs v _ (ap is_octets e ∙ octets) h.octets;
-  packets = kept is_packets vs v _ (ap is_packets e ∙ packets) h.packets;
+note_length seen vs v own new len e is h = record {
+  numbers = λ axis. kept (is_value axis) vs v _ (ap (is_value axis) e) (h.numbers axis);
+  prefixes = λ axis. kept (is_prefix axis) vs v _ (ap (is_prefix axis) e) (h.prefixes axis);
+  lengths = λ axis. ap (λ (ns : List (Option ℕ)). get_or ns (axis_index axis) None) is ∙ taken_on is_prefix_length vs v own seen.lengths len (λ a. ap (is_prefix_length a) e) h.lengths axis;
+  octets = kept is_octets vs v _ (ap is_octets e) h.octets;
+  packets = kept is_packets vs v _ (ap is_packets e) h.packets;
 }
 
 pub note_octets : (seen : Seen) (vs : List Value) (v : Value) (new : Option ℕ) → element_of v.field ≡ OctetDeltaCount → new ≡ option_or seen.octets (Some (number_in v.content)) → Notes seen vs → Notes (record seen { octets = new }) (vs ++ v ∷ [])

@@ -2,9 +2,8 @@
 use Rattle.std.specs.Prelude.{ℕ, ◌+◌, ◌*◌, ◌%◌, ◌^◌, ◌==◌, Bool, true, false, nat_lt, if◌then◌else◌, List, [], ◌∷◌, fold, map, Option, Some, None, option_map, Result, Ok, Err}
 use Rattle.std.specs.List.{find, flat_map, list_any}
 use Rattle.fx_elements.specs.declared.axis.Axis.{Axis}
-use Rattle.fx_elements.specs.declared.axis.Axis.TheVariants.{Source, Destination}
 use Rattle.fx_elements.specs.declared.element.Element.{Element}
-use Rattle.fx_elements.specs.declared.element.Element.TheVariants.{OnAxis, OctetDeltaCount, PacketDeltaCount, SourcePrefix, DestinationPrefix, SourcePrefixLength, DestinationPrefixLength}
+use Rattle.fx_elements.specs.declared.element.Element.TheVariants.{OnAxis, OctetDeltaCount, PacketDeltaCount, Prefix, PrefixLength}
 use Rattle.fx_elements.specs.Axes.{Fields, axes, axis_width, is_address, same_axis}
 use Rattle.fx_layout.specs.Keys.{Layout, Key, key_of}
 use Rattle.fx_machine.specs.declared.record.Record.{Record}
@@ -28,13 +27,11 @@ is_value axis (OnAxis own) = same_axis own axis
 is_value axis _ = false
 
 abbrev pub is_prefix : Axis → Element → Bool
-is_prefix axis SourcePrefix = same_axis Source axis
-is_prefix axis DestinationPrefix = same_axis Destination axis
+is_prefix axis (Prefix own) = same_axis own axis
 is_prefix axis _ = false
 
 abbrev pub is_prefix_length : Axis → Element → Bool
-is_prefix_length axis SourcePrefixLength = same_axis Source axis
-is_prefix_length axis DestinationPrefixLength = same_axis Destination axis
+is_prefix_length axis (PrefixLength own) = same_axis own axis
 is_prefix_length axis _ = false
 
 -- the counters

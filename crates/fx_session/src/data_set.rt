@@ -13,7 +13,7 @@ use fx_wire::{FieldSpecifier, cut_record};
 
 /// The data record at the front is taken; answers the octets behind it.
 ///
-/// Fails with 619 where it is cut, with 620 where a prefix that is read has a length above 32, and with 900 for
+/// Fails with 619 where it is cut, with 620 where a prefix that is read is longer than the address, and with 900 for
 /// want of memory; nothing is taken then.
 fn take_flow<'a>(
     fields: &[FieldSpecifier],

@@ -59,16 +59,9 @@ impl Seen {
             Element::OnAxis(axis) => note_on(&mut self.numbers, axis, content),
             Element::OctetDeltaCount => note_first(&mut self.octets, content),
             Element::PacketDeltaCount => note_first(&mut self.packets, content),
-            Element::SourcePrefix => note_on(&mut self.prefixes, Axis::Source, content),
-            Element::DestinationPrefix => note_on(&mut self.prefixes, Axis::Destination, content),
-            Element::SourcePrefixLength => note_on(&mut self.lengths, Axis::Source, content),
-            Element::DestinationPrefixLength => {
-                note_on(&mut self.lengths, Axis::Destination, content)
-            }
-            Element::OctetTotalCount
-            | Element::PacketTotalCount
-            | Element::IpVersion
-            | Element::Other => {}
+            Element::Prefix(axis) => note_on(&mut self.prefixes, axis, content),
+            Element::PrefixLength(axis) => note_on(&mut self.lengths, axis, content),
+            Element::OctetTotalCount | Element::PacketTotalCount | Element::Other => {}
         }
     }
 }

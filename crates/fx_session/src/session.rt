@@ -109,9 +109,9 @@ impl Session {
     /// Fails at the first octet of the first message that is refused: 611 a version other than 10, 612 a message
     /// length below 16, 613 a set's length, 615 a reserved set id; then along the sets 614 a template's form, 618 a
     /// counter of flows of another length than 8 octets, 616 another template under a live id, 617 a data set
-    /// without template, 619 a record that passes its set's end, 620 a prefix length above 32. Fails with 900, at no
-    /// place, for want of memory, after some first messages were read. A fault is answered again by each later call;
-    /// the records of the messages before it wait on, and there are none of the refused message.
+    /// without template, 619 a record that passes its set's end, 620 a prefix length above 32, of IPv6 above 128. Fails
+    /// with 900, at no place, for want of memory, after some first messages were read. A fault is answered again by each
+    /// later call; the records of the messages before it wait on, and there are none of the refused message.
     pub fn feed(&mut self, piece: &[u8]) -> Result<(), Fault>
         ensures answer { result ≡ streams.answer_of self.new.place self.new.fault }
         ensures fed { self.new.fault ≢ Some 900 → self.new ≡ streams.fed self.old piece.now }

@@ -1,8 +1,10 @@
--- A message, read by the definitions alone.
-use Rattle.std.proofs.Common.{◌≡◌, ℕ, List, [], ◌∷◌, ◌++◌, refl, Some, None, Ok, take, drop}
+-- A message and fields, read by the definitions alone.
+use Rattle.std.proofs.Common.{◌≡◌, ℕ, List, [], ◌∷◌, ◌++◌, refl, true, false, Some, None, Ok, take, drop}
 use Rattle.fx_wire.specs.Sets.{sets_of, sets_in}
 use Rattle.fx_wire.specs.Messages.{front, complete, refusal, needs_more}
-use Rattle.fx_wire.specs.Fields.{fields_in, element_of}
+use Rattle.fx_elements.specs.declared.element.Element.TheVariants.{OnAxis}
+use Rattle.fx_elements.specs.declared.axis.Axis.TheVariants.{Version, Source6}
+use Rattle.fx_wire.specs.Fields.{fields_in, element_of, can_have}
 use Rattle.fx_wire.specs.Templates.{heading_at}
 use Rattle.fx_wire.specs.Values.{record_at}
 use Rattle.fx_wire.specs.declared.template.TemplateKind.TheVariants as kinds
@@ -56,3 +58,12 @@ reads_a_name : record_at (record { element = 82; field_length = 65535; enterpris
     ≡ Some (record { field = record { element = 82; field_length = 65535; enterprise = None }; content = 101 ∷ 116 ∷ 104 ∷ [] } ∷ [], 7 ∷ [])
 unfolding record_at
 reads_a_name = refl
+
+takes_16_octets_for_an_address : can_have (OnAxis Source6) 16 ≡ true
+takes_16_octets_for_an_address = refl
+
+refuses_4_octets_for_an_address : can_have (OnAxis Source6) 4 ≡ false
+refuses_4_octets_for_an_address = refl
+
+refuses_a_version_of_variable_length : can_have (OnAxis Version) 65535 ≡ false
+refuses_a_version_of_variable_length = refl

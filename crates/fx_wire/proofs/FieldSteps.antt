@@ -1,12 +1,14 @@
 -- Field specifiers, one after another.
-use Rattle.std.proofs.Common.{◌≡◌, ℕ, zero, suc, ◌+◌, ◌≤◌, Bool, true, false, ◌&&◌, ◌==◌, cond, ltb, List, [], ◌∷◌, ◌++◌, length, drop, refl, ap, sym, ◌∙◌, arith, append_assoc, add-one, length-drop, Option, Some, None, Result, Ok, Err, inl, inr}
+use Rattle.std.proofs.Common.{◌≡◌, ℕ, zero, suc, ◌+◌, ◌/◌, ◌≤◌, Bool, true, false, ◌&&◌, ◌==◌, cond, ltb, List, [], ◌∷◌, ◌++◌, length, drop, refl, ap, sym, ◌∙◌, arith, append_assoc, add-one, length-drop, Option, Some, None, Result, Ok, Err, inl, inr}
 use Rattle.std.specs.Prelude.{nat_le}
 use Rattle.std.specs.Int.{w16}
 use Rattle.std.proofs.lemmas.List.Sums.{sum_by_push}
 use Rattle.std.proofs.lemmas.Bool.Decides.{nat_tests}
 use Rattle.fx_elements.specs.declared.element.Element.{Element}
-use Rattle.fx_elements.specs.declared.element.Element.TheVariants.{OnAxis, OctetDeltaCount, PacketDeltaCount, OctetTotalCount, PacketTotalCount, SourcePrefix, DestinationPrefix, SourcePrefixLength, DestinationPrefixLength, IpVersion, Other}
-use Rattle.fx_elements.specs.declared.axis.Axis.TheVariants.{Source, Destination, Protocol, SourcePort, DestinationPort, ClassOfService}
+use Rattle.fx_elements.specs.declared.element.Element.TheVariants.{OnAxis, OctetDeltaCount, PacketDeltaCount, OctetTotalCount, PacketTotalCount, Prefix, PrefixLength, Other}
+use Rattle.fx_elements.specs.declared.axis.Axis.TheVariants.{Source, Destination, Protocol, SourcePort, DestinationPort, ClassOfService, Version, Source6, Destination6}
+use Rattle.fx_elements.specs.declared.axis.Axis.{Axis}
+use Rattle.fx_elements.specs.Axes.{axis_width, is_address}
 use Rattle.fx_wire.specs.Numbers.{number_at}
 use Rattle.fx_wire.specs.Fields.{specifier_at, checked_field, field_at, fields_in, before_fields, can_have, stands, element_of}
 use Rattle.fx_wire.specs.Values.{shortest_value, shortest_record}
@@ -20,32 +22,37 @@ and_first false b e = e
 at_least_one : (n : ℕ) (b : Bool) → (nat_le 1 n && b) ≡ true → 1 ≤ n
 at_least_one n b e = let h = and_first (nat_le 1 n) b e in grind (arith, nat_tests)
 
-is_four : (n : ℕ) → (n == 4) ≡ true → 1 ≤ n
-is_four n h = grind (arith, nat_tests)
-
-is_one : (n : ℕ) → (n == 1) ≡ true → 1 ≤ n
-is_one n h = grind (arith, nat_tests)
-
 is_some_length : (n : ℕ) → nat_le 1 n ≡ true → 1 ≤ n
 is_some_length n h = grind (arith, nat_tests)
 
+is_exactly : (m n : ℕ) → 1 ≤ m → (n == m) ≡ true → 1 ≤ n
+is_exactly m n some h = grind (arith, nat_tests)
+
+-- each axis has an octet at least
+whole : (axis : Axis) → 1 ≤ axis_width axis / 8
+whole Source = omega arith
+whole Destination = omega arith
+whole Protocol = omega arith
+whole SourcePort = omega arith
+whole DestinationPort = omega arith
+whole ClassOfService = omega arith
+whole Version = omega arith
+whole Source6 = omega arith
+whole Destination6 = omega arith
+
+address_or_less : (b : Bool) (n m : ℕ) → 1 ≤ m → cond b (n == m) (nat_le 1 n && nat_le n m) ≡ true → 1 ≤ n
+address_or_less true n m some h = is_exactly m n some h
+address_or_less false n m some h = at_least_one n _ h
+
 -- no value is empty
 pub can_have-some : (e : Element) (n : ℕ) → can_have e n ≡ true → 1 ≤ n
-can_have-some (OnAxis Source) n h = is_four n h
-can_have-some (OnAxis Destination) n h = is_four n h
-can_have-some (OnAxis Protocol) n h = at_least_one n _ h
-can_have-some (OnAxis SourcePort) n h = at_least_one n _ h
-can_have-some (OnAxis DestinationPort) n h = at_least_one n _ h
-can_have-some (OnAxis ClassOfService) n h = at_least_one n _ h
+can_have-some (OnAxis axis) n h = address_or_less (is_address axis) n (axis_width axis / 8) (whole axis) h
+can_have-some (Prefix axis) n h = is_exactly (axis_width axis / 8) n (whole axis) h
+can_have-some (PrefixLength axis) n h = is_exactly 1 n (omega arith) h
 can_have-some OctetDeltaCount n h = is_some_length n h
 can_have-some PacketDeltaCount n h = is_some_length n h
 can_have-some OctetTotalCount n h = is_some_length n h
 can_have-some PacketTotalCount n h = is_some_length n h
-can_have-some SourcePrefix n h = is_four n h
-can_have-some DestinationPrefix n h = is_four n h
-can_have-some SourcePrefixLength n h = is_one n h
-can_have-some DestinationPrefixLength n h = is_one n h
-can_have-some IpVersion n h = is_some_length n h
 can_have-some Other n h = is_some_length n h
 
 pub shortest_value-some : (f : FieldSpecifier) → 1 ≤ f.field_length → 1 ≤ shortest_value f

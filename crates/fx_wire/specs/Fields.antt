@@ -2,7 +2,7 @@
 use Rattle.std.specs.Prelude.{ℕ, zero, suc, ◌-◌, ◌/◌, Bool, ◌&&◌, ◌==◌, nat_lt, nat_le, if◌then◌else◌, List, [], ◌∷◌, ◌++◌, length, drop, Option, Some, None, Result, Ok, Err}
 use Rattle.std.specs.Int.{w16, w32}
 use Rattle.fx_elements.specs.declared.element.Element.{Element}
-use Rattle.fx_elements.specs.declared.element.Element.TheVariants.{OnAxis, SourcePrefix, DestinationPrefix, SourcePrefixLength, DestinationPrefixLength}
+use Rattle.fx_elements.specs.declared.element.Element.TheVariants.{OnAxis, Prefix, PrefixLength}
 use Rattle.fx_elements.specs.Axes.{is_address, axis_width}
 use Rattle.fx_elements.specs.Elements.{element_numbered}
 use Rattle.fx_wire.specs.Numbers.{number_at}
@@ -25,13 +25,11 @@ unfoldable pub element_of : FieldSpecifier → Element
 element_of f = element_numbered f.element (enterprise_number f.enterprise)
 
 -- whether the values of an element may have this length, where 65535 stands for one that each value tells: none is empty,
--- addresses, prefixes and their lengths are whole, and what packets carry may be written in fewer octets (section 6.2)
+-- addresses, prefixes and their lengths are whole, and what else packets carry may be written in fewer octets (section 6.2)
 abbrev pub can_have : Element → ℕ → Bool
-can_have (OnAxis axis) n = if is_address axis then n == 4 else nat_le 1 n && nat_le n (axis_width axis / 8)
-can_have SourcePrefix n = n == 4
-can_have DestinationPrefix n = n == 4
-can_have SourcePrefixLength n = n == 1
-can_have DestinationPrefixLength n = n == 1
+can_have (OnAxis axis) n = if is_address axis then n == axis_width axis / 8 else nat_le 1 n && nat_le n (axis_width axis / 8)
+can_have (Prefix axis) n = n == axis_width axis / 8
+can_have (PrefixLength axis) n = n == 1
 can_have _ n = nat_le 1 n
 
 abbrev pub stands : FieldSpecifier → Bool

@@ -21,8 +21,8 @@ pub struct FieldSpecifier {
 
 /// Whether the values of an element may have this length, where 65535 stands for one that each value tells.
 ///
-/// No value is empty. Addresses and prefixes have four octets, prefix lengths one; protocols, ports and classes
-/// of service may have fewer octets than they are wide.
+/// No value is empty. Addresses and prefixes have four octets, of IPv6 sixteen, prefix lengths one; what else packets
+/// carry may have fewer octets than it is wide.
 #[tactic(auto, unfolding(crate::specs::Fields::element_of))]
 pub fn can_have(element: Element, field_length: u16) -> bool
     ensures { result ≡ fields.can_have element field_length }
@@ -30,13 +30,13 @@ pub fn can_have(element: Element, field_length: u16) -> bool
     match element {
         Element::OnAxis(axis) => {
             if axis.is_address() {
-                field_length == 4
+                u32::from(field_length) == width(axis) / 8
             } else {
                 field_length >= 1 && u32::from(field_length) <= width(axis) / 8
             }
         }
-        Element::SourcePrefix | Element::DestinationPrefix => field_length == 4,
-        Element::SourcePrefixLength | Element::DestinationPrefixLength => field_length == 1,
+        Element::Prefix(axis) => u32::from(field_length) == width(axis) / 8,
+        Element::PrefixLength(_) => field_length == 1,
         _ => field_length >= 1,
     }
 }

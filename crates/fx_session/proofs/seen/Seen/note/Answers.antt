@@ -3,8 +3,7 @@ use Rattle.fx_elements.specs.declared.axis.Axis.{Axis}
 use Rattle.fx_elements.specs.declared.element.Element.{Element}
 use Rattle.fx_session.specs.Flows.{is_value, is_prefix, is_prefix_length, is_octets, is_packets}
 use Rattle.fx_session.specs.Values.{Notes}
-use Rattle.fx_elements.specs.declared.axis.Axis.TheVariants.{Source, Destination}
-use Rattle.fx_elements.specs.declared.element.Element.TheVariants.{SourcePrefix, DestinationPrefix, SourcePrefixLength, DestinationPrefixLength, OctetTotalCount, PacketTotalCount, IpVersion, Other}
+use Rattle.fx_elements.specs.declared.element.Element.TheVariants.{OctetTotalCount, PacketTotalCount, Other}
 use Rattle.fx_session.proofs.Notes.{note_value, note_prefix, note_length, note_octets, note_packets, note_none}
 use Rattle.fx_session.proofs.seen.Seen.note.Goals as goal
 
@@ -17,21 +16,11 @@ returns-in-OctetDeltaCount c = λ vs known. note_octets c.args.self.now vs (reco
 pub returns-in-PacketDeltaCount : goal.returns-in-PacketDeltaCount
 returns-in-PacketDeltaCount c = λ vs known. note_packets c.args.self.now vs (record { field = c.args.field.now; content = c.args.content.now }) c.note_first-in-PacketDeltaCount.new.noted (sym c.element.ensures ∙ c.in-PacketDeltaCount.is) c.note_first-in-PacketDeltaCount.ensures known
 
-pub returns-in-SourcePrefix : goal.returns-in-SourcePrefix
-returns-in-SourcePrefix c = λ vs known.
-    note_prefix c.args.self.now vs (record { field = c.args.field.now; content = c.args.content.now }) SourcePrefix Source c.note_on-in-SourcePrefix.new.noted (omega arith) (sym c.element.ensures ∙ c.in-SourcePrefix.is) (λ axis. refl) (λ axis. refl) (λ axis. refl) refl refl c.note_on-in-SourcePrefix.ensures known
+pub returns-in-Prefix : goal.returns-in-Prefix
+returns-in-Prefix c = λ vs known. note_prefix c.args.self.now vs (record { field = c.args.field.now; content = c.args.content.now }) c.in-Prefix.axis c.note_on-in-Prefix.new.noted (omega arith) (sym c.element.ensures ∙ c.in-Prefix.is) c.note_on-in-Prefix.ensures known
 
-pub returns-in-DestinationPrefix : goal.returns-in-DestinationPrefix
-returns-in-DestinationPrefix c = λ vs known.
-    note_prefix c.args.self.now vs (record { field = c.args.field.now; content = c.args.content.now }) DestinationPrefix Destination c.note_on-in-DestinationPrefix.new.noted (omega arith) (sym c.element.ensures ∙ c.in-DestinationPrefix.is) (λ axis. refl) (λ axis. refl) (λ axis. refl) refl refl c.note_on-in-DestinationPrefix.ensures known
-
-pub returns-in-SourcePrefixLength : goal.returns-in-SourcePrefixLength
-returns-in-SourcePrefixLength c = λ vs known.
-    note_length c.args.self.now vs (record { field = c.args.field.now; content = c.args.content.now }) SourcePrefixLength Source c.note_on-in-SourcePrefixLength.new.noted (omega arith) (sym c.element.ensures ∙ c.in-SourcePrefixLength.is) (λ axis. refl) (λ axis. refl) (λ axis. refl) refl refl c.note_on-in-SourcePrefixLength.ensures known
-
-pub returns-in-DestinationPrefixLength : goal.returns-in-DestinationPrefixLength
-returns-in-DestinationPrefixLength c = λ vs known.
-    note_length c.args.self.now vs (record { field = c.args.field.now; content = c.args.content.now }) DestinationPrefixLength Destination c.note_on-in-DestinationPrefixLength.new.noted (omega arith) (sym c.element.ensures ∙ c.in-DestinationPrefixLength.is) (λ axis. refl) (λ axis. refl) (λ axis. refl) refl refl c.note_on-in-DestinationPrefixLength.ensures known
+pub returns-in-PrefixLength : goal.returns-in-PrefixLength
+returns-in-PrefixLength c = λ vs known. note_length c.args.self.now vs (record { field = c.args.field.now; content = c.args.content.now }) c.in-PrefixLength.axis c.note_on-in-PrefixLength.new.noted (omega arith) (sym c.element.ensures ∙ c.in-PrefixLength.is) c.note_on-in-PrefixLength.ensures known
 
 pub returns-in-OctetTotalCount : goal.returns-in-OctetTotalCount
 returns-in-OctetTotalCount c = λ vs known.
@@ -42,9 +31,6 @@ returns-in-OctetTotalCount c = λ vs known.
       | inl is ↦ by OctetTotalCount is (λ axis. refl) (λ axis. refl) (λ axis. refl) refl refl
       | inr other ↦ elim other [
         | inl is ↦ by PacketTotalCount is (λ axis. refl) (λ axis. refl) (λ axis. refl) refl refl
-        | inr rest ↦ elim rest [
-          | inl is ↦ by IpVersion is (λ axis. refl) (λ axis. refl) (λ axis. refl) refl refl
-          | inr is ↦ by Other is (λ axis. refl) (λ axis. refl) (λ axis. refl) refl refl
-        ]
+        | inr is ↦ by Other is (λ axis. refl) (λ axis. refl) (λ axis. refl) refl refl
       ]
     ]
