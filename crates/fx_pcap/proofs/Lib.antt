@@ -1,4 +1,6 @@
 pub mod Tags
+pub mod Typed
+pub mod HeaderByHeader
 pub mod Left
 pub mod Spending
 pub mod Whole
@@ -8,3 +10,4 @@ pub mod Asking
 pub mod Taking
 pub mod RecordsByCases
 pub mod Worked
+pub mod WorkedIpv6

@@ -1,4 +1,8 @@
 pub mod Numbers
+pub mod Ip
+pub mod Ipv4
+pub mod Headers
+pub mod Ipv6
 pub mod Frames
 pub mod Records
 pub mod Captures

@@ -37,9 +37,9 @@ fn fault_of_stop(place: u64, stop: Stop) -> Fault
 /// Lends the frames of a capture one at a time.
 ///
 /// A capture is of version 2.4, with microseconds or nanoseconds, its header numbers in either order.
-/// Its link type is Ethernet (1), with any number of tags, or raw IP (101). Frames that aren't IPv4,
-/// and those that are malformed, are passed over and counted. After a fault the reader answers that
-/// fault from then on. It takes memory only when it is made.
+/// Its link type is Ethernet (1), with any number of tags, or raw IP (101). Frames that are neither
+/// IPv4 (RFC 791) nor IPv6 (RFC 8200), and those that are malformed, are passed over and counted. After
+/// a fault the reader answers that fault from then on. It takes memory only when it is made.
 #[derive(Drop)]
 pub struct Capture<R: Source> {
     window: Window<R>,

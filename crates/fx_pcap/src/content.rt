@@ -4,6 +4,7 @@ ghost use Rattle.fx_pcap.specs.Frames.{content_of};
 
 use crate::ethernet::read_ethernet;
 use crate::ipv4::read_ipv4;
+use crate::ipv6::read_ipv6;
 use fx_boxes::Fields;
 
 /// What a capture's octets begin with, by its link type.
@@ -22,8 +23,7 @@ pub(crate) enum Content {
     Malformed,
 }
 
-/// What the captured octets of a frame hold. Version 6 is other for now: its packets would be read
-/// here and behind its EtherType.
+/// What the captured octets of a frame hold.
 pub(crate) fn read_content(link: Link, octets: &[u8]) -> Content
     ensures { result ≡ content_of link octets.now }
 {
@@ -31,13 +31,11 @@ pub(crate) fn read_content(link: Link, octets: &[u8]) -> Content
         Link::Ethernet => read_ethernet(octets),
         Link::Ip => match octets {
             [] => Content::Malformed,
-            [first, ..] => {
-                if *first / 16 == 4 {
-                    read_ipv4(octets)
-                } else {
-                    Content::Other
-                }
-            }
+            [first, ..] => match *first / 16 {
+                4 => read_ipv4(octets),
+                6 => read_ipv6(octets),
+                _ => Content::Other,
+            },
         },
     }
 }

@@ -5,6 +5,7 @@ ghost use Rattle.fx_pcap.specs.Frames.{after_tags};
 
 use crate::content::Content;
 use crate::ipv4::read_ipv4;
+use crate::ipv6::read_ipv6;
 use crate::order::network16;
 
 /// The number of octets of the two addresses.
@@ -15,6 +16,9 @@ const TAG: usize = 4;
 
 /// The EtherType of IPv4.
 const IPV4: u16 = 0x0800;
+
+/// The EtherType of IPv6.
+const IPV6: u16 = 0x86dd;
 
 /// Whether the EtherType is that of a tag: of a customer's network, or of a provider's.
 fn is_tag(ether_type: u16) -> bool
@@ -47,10 +51,11 @@ fn read_typed(octets: &[u8]) -> Content
     if is_tag(ether_type) {
         return Content::Malformed;
     }
-    if ether_type != IPV4 {
-        return Content::Other;
+    match ether_type {
+        IPV4 => read_ipv4(&octets[2..]),
+        IPV6 => read_ipv6(&octets[2..]),
+        _ => Content::Other,
     }
-    read_ipv4(&octets[2..])
 }
 
 /// What an Ethernet frame holds.

@@ -1,21 +1,19 @@
 //! IPv4 packets (RFC 791, section 3.1).
 ghost use Rattle.std.specs.Prelude.{◌≡◌, ◌+◌, ◌*◌, ◌%◌, ◌≤◌, ◌∷◌, [], length};
-ghost use Rattle.fx_pcap.specs.Frames as frames;
+ghost use Rattle.fx_pcap.specs.Ipv4 as rfc791;
 
 use crate::content::Content;
 use crate::order::{network16, network32};
+use crate::ports::{PORTS, begins_with_ports};
 use fx_boxes::Fields;
 
 /// The least number of octets of a header.
 const LEAST_HEADER: usize = 20;
 
-/// The number of octets of the two ports.
-const PORTS: usize = 4;
-
 /// The fields of a packet whose header these octets begin with.
 fn fields_with(octets: &[u8], source_port: u16, destination_port: u16) -> Fields
     requires { 20 ≤ length octets.now }
-    ensures { result ≡ frames.fields_with octets.now source_port destination_port }
+    ensures { result ≡ rfc791.fields_with octets.now source_port destination_port }
 {
     Fields::of([
         u128::from(network32(octets, 12)),
@@ -24,12 +22,15 @@ fn fields_with(octets: &[u8], source_port: u16, destination_port: u16) -> Fields
         u128::from(source_port),
         u128::from(destination_port),
         u128::from(octets[1]),
+        4,
+        0,
+        0,
     ])
 }
 
 /// Whether the header is there, and can be one of IPv4.
 fn is_header(octets: &[u8]) -> bool
-    ensures { result ≡ frames.is_header octets.now }
+    ensures { result ≡ rfc791.is_header octets.now }
 {
     if octets.len() < LEAST_HEADER {
         return false;
@@ -38,17 +39,17 @@ fn is_header(octets: &[u8]) -> bool
     octets[0] / 16 == 4 && LEAST_HEADER <= header && header <= usize::from(network16(octets, 2))
 }
 
-/// Whether ports are behind the header: of TCP, UDP and SCTP, in a first fragment.
+/// Whether ports are behind the header: of a protocol that has them, in a first fragment.
 fn has_ports(octets: &[u8]) -> bool
     requires { 20 ≤ length octets.now }
-    ensures { result ≡ frames.has_ports octets.now }
+    ensures { result ≡ rfc791.has_ports octets.now }
 {
-    (octets[9] == 6 || octets[9] == 17 || octets[9] == 132) && network16(octets, 6) % 8192 == 0
+    begins_with_ports(octets[9]) && network16(octets, 6) % 8192 == 0
 }
 
 /// The packet that these octets begin with.
 pub(crate) fn read_ipv4(octets: &[u8]) -> Content
-    ensures { result ≡ frames.ipv4 octets.now }
+    ensures { result ≡ rfc791.ipv4 octets.now }
 {
     if !is_header(octets) {
         return Content::Malformed;

@@ -1,6 +1,7 @@
-//! What the definitions of a capture's records keep.
+//! What the definitions of a capture's records, and of a packet's headers, keep.
 ghost use Rattle.std.specs.Prelude.{◌≡◌, ◌<◌, ◌^◌, ◌↔◌, ℕ, List};
 ghost use Rattle.fx_pcap.specs.declared.header.Format.{Format};
+ghost use Rattle.fx_pcap.specs.Headers.{IsHeaderByHeader};
 ghost use Rattle.fx_pcap.specs.Records.{AreRecords, Records, records_of};
 
 /// The records of octets, whose frames a reader lends, are those that the cases say, and no others.
@@ -8,4 +9,9 @@ pub fn records_by_cases()
     ensures { (format : Format) (place : ℕ) (octets : List ℕ) (records : Records)
         → place < 2 ^ 64
         → AreRecords format place octets records ↔ (records ≡ records_of format place octets) }
+{}
+
+/// What a header of IPv6 leads to is what the next one leads to, in the octets behind the header.
+pub fn headers_one_by_one()
+    ensures { (header : ℕ) (octets : List ℕ) → IsHeaderByHeader header octets }
 {}

@@ -4,17 +4,21 @@
 mod capture;
 mod content;
 mod ethernet;
+mod extension;
 mod frame;
 mod header;
 mod ipv4;
+mod ipv6;
 mod laws;
 mod order;
+mod ports;
 mod record;
 mod skipped;
 mod stop;
+mod transport;
 mod window;
 
 pub use capture::Capture;
 pub use frame::Frame;
-pub use laws::records_by_cases;
+pub use laws::{headers_one_by_one, records_by_cases};
 pub use skipped::Skipped;

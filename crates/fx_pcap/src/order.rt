@@ -50,3 +50,11 @@ pub(crate) fn network32(octets: &[u8], at: usize) -> u32
 {
     Order::Big.read32(octets, at)
 }
+
+/// The number in sixteen octets from a place on, in network order.
+pub(crate) fn network128(octets: &[u8], at: usize) -> u128
+    requires { at + 16 ≤ length octets.now }
+    ensures { result ≡ network 16 at octets.now }
+{
+    BigEndian::read_u128(&octets[at..])
+}

@@ -1,0 +1,71 @@
+-- The extension headers of IPv6 (RFC 8200, section 4) and the protocol behind them.
+use Rattle.std.specs.Prelude.{◌≡◌, ℕ, zero, suc, ◌+◌, ◌-◌, ◌*◌, ◌/◌, Bool, ◌==◌, ◌||◌, ◌&&◌, nat_lt, if◌then◌else◌, List, [], ◌∷◌, length, drop, slice_index, Option, Some, None}
+use Rattle.fx_pcap.specs.declared.transport.Transport.{Transport}
+use Rattle.fx_pcap.specs.Numbers.{network}
+use Rattle.fx_pcap.specs.Ip.{begins_with_ports}
+
+-- ---- one header, by its type, which the header before it names
+
+-- the fragment header (section 4.5)
+abbrev pub is_fragment : ℕ → Bool
+is_fragment type = type == 44
+
+-- hop-by-hop options, routing, fragment and destination options (sections 4.3 to 4.6); any other type is a protocol,
+-- that of an authentication header (51) too
+abbrev pub is_extension : ℕ → Bool
+is_extension type = is_fragment type || (type == 0 || (type == 43 || type == 60))
+
+-- the type of the header behind it
+abbrev pub next_header : List ℕ → ℕ
+next_header octets = slice_index octets 0
+
+-- how many octets it has: its second octet counts units of eight, without the first
+abbrev pub header_length : ℕ → List ℕ → ℕ
+header_length type octets = if is_fragment type then 8 else 8 * (slice_index octets 1 + 1)
+
+-- how many of its octets are read; the others are passed over
+abbrev pub octets_read : ℕ → ℕ
+octets_read type = if is_fragment type then 4 else 2
+
+-- where a fragment stands in its packet, in units of eight octets: 13 bits above three others
+abbrev pub fragment_offset : List ℕ → ℕ
+fragment_offset octets = network 2 2 octets / 8
+
+abbrev pub is_later_fragment : ℕ → List ℕ → Bool
+is_later_fragment type octets = is_fragment type && nat_lt 0 (fragment_offset octets)
+
+-- ---- the protocol and its ports; none where the octets end before them
+
+abbrev pub without_ports : ℕ → Transport
+without_ports protocol = record { protocol = protocol; source_port = 0; destination_port = 0 }
+
+-- of the protocol's own octets
+abbrev pub transport_in : ℕ → List ℕ → Option Transport
+transport_in protocol octets =
+    if begins_with_ports protocol then (
+    if nat_lt (length octets) 4 then None
+    else Some (record { protocol = protocol; source_port = network 2 0 octets; destination_port = network 2 2 octets }))
+    else Some (without_ports protocol)
+
+-- of octets that begin with a header of this type, where this is what the next header comes to
+abbrev pub with_header : ℕ → List ℕ → Option Transport → Option Transport
+with_header type octets next =
+    if is_extension type then (
+    if nat_lt (length octets) (octets_read type) then None
+    else (if is_later_fragment type octets then Some (without_ports (next_header octets)) else next))
+    else transport_in type octets
+
+-- of octets of which the first few belong to the header before
+abbrev pub transport_behind : ℕ → ℕ → List ℕ → Option Transport
+transport_behind n type [] = with_header type [] None
+transport_behind (suc n) type (o ∷ octets) = transport_behind n type octets
+transport_behind zero type (o ∷ octets) = with_header type (o ∷ octets) (transport_behind (header_length type (o ∷ octets) - 1) o octets)
+
+abbrev pub transport_of : ℕ → List ℕ → Option Transport
+transport_of type octets = transport_behind 0 type octets
+
+-- ---- the same, said header by header
+
+-- it is what this header says, or what the next one comes to in the octets behind this one
+abbrev pub IsHeaderByHeader : ℕ → List ℕ → Type 0
+IsHeaderByHeader type octets = transport_of type octets ≡ with_header type octets (transport_of (next_header octets) (drop (header_length type octets) octets))

@@ -1,0 +1,65 @@
+//! Extension headers (RFC 8200, section 4).
+ghost use Rattle.std.specs.Prelude.{◌≡◌, ◌≤◌, length};
+ghost use Rattle.fx_pcap.specs.Headers as rfc8200;
+
+use crate::order::network16;
+use crate::transport::{Transport, read_transport};
+
+/// The type of the fragment header.
+const FRAGMENT: u8 = 44;
+
+/// Whether a header of the type is an extension header: hop-by-hop options, routing, fragment or
+/// destination options.
+fn is_extension(header: u8) -> bool
+    ensures { result ≡ rfc8200.is_extension header }
+{
+    header == FRAGMENT || header == 0 || header == 43 || header == 60
+}
+
+/// How many of its octets are read; the others are passed over.
+fn octets_read(header: u8) -> usize
+    ensures { result ≡ rfc8200.octets_read header }
+{
+    if header == FRAGMENT { 4 } else { 2 }
+}
+
+/// How many octets it has.
+fn header_length(header: u8, octets: &[u8]) -> usize
+    requires { rfc8200.octets_read header ≤ length octets.now }
+    ensures { result ≡ rfc8200.header_length header octets.now }
+{
+    if header == FRAGMENT {
+        8
+    } else {
+        8 * (usize::from(octets[1]) + 1)
+    }
+}
+
+/// Whether it is the header of a fragment that isn't its packet's first.
+fn is_later_fragment(header: u8, octets: &[u8]) -> bool
+    requires { rfc8200.octets_read header ≤ length octets.now }
+    ensures { result ≡ rfc8200.is_later_fragment header octets.now }
+{
+    header == FRAGMENT && network16(octets, 2) / 8 > 0
+}
+
+/// The protocol behind the extension headers of a payload, whose first header has this type; none
+/// where the octets end before what is read.
+pub(crate) fn read_payload(first: u8, octets: &[u8]) -> Option<Transport>
+    ensures { result ≡ rfc8200.transport_of first octets.now }
+{
+    let mut header = first;
+    let mut at = 0;
+    'headers: while is_extension(header) {
+        let rest = &octets[at..];
+        if rest.len() < octets_read(header) {
+            return None;
+        }
+        if is_later_fragment(header, rest) {
+            return Some(Transport::without_ports(rest[0]));
+        }
+        at = (at + header_length(header, rest)).min(octets.len());
+        header = rest[0];
+    }
+    read_transport(header, &octets[at..])
+}

@@ -1,0 +1,44 @@
+//! The protocol behind the headers of IPv6, and its ports.
+ghost use Rattle.std.specs.Prelude.{◌≡◌};
+ghost use Rattle.fx_pcap.specs.Headers as rfc8200;
+
+use crate::order::network16;
+use crate::ports::{PORTS, begins_with_ports};
+
+/// A protocol and its ports, which are 0 where it has none and in a later fragment.
+#[derive(Clone, Copy, Debug, PartialEq, Eq)]
+pub(crate) struct Transport {
+    pub(crate) protocol: u8,
+    pub(crate) source_port: u16,
+    pub(crate) destination_port: u16,
+}
+
+impl Transport {
+    /// The protocol alone.
+    pub(crate) fn without_ports(protocol: u8) -> Transport
+        ensures { result ≡ rfc8200.without_ports protocol }
+    {
+        Transport {
+            protocol,
+            source_port: 0,
+            destination_port: 0,
+        }
+    }
+}
+
+/// The protocol whose octets these are; none where they end before its ports.
+pub(crate) fn read_transport(protocol: u8, octets: &[u8]) -> Option<Transport>
+    ensures { result ≡ rfc8200.transport_in protocol octets.now }
+{
+    if !begins_with_ports(protocol) {
+        return Some(Transport::without_ports(protocol));
+    }
+    if octets.len() < PORTS {
+        return None;
+    }
+    Some(Transport {
+        protocol,
+        source_port: network16(octets, 0),
+        destination_port: network16(octets, 2),
+    })
+}
