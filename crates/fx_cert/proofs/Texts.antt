@@ -40,6 +40,9 @@ axis_text axis.Protocol = refl
 axis_text axis.SourcePort = refl
 axis_text axis.DestinationPort = refl
 axis_text axis.ClassOfService = refl
+axis_text axis.Version = refl
+axis_text axis.Source6 = refl
+axis_text axis.Destination6 = refl
 
 cut_word : (a : Axis) (rest : List ℕ) → cut_at 32 (axis_word a ++ 32 ∷ rest) ≡ Some (axis_word a, rest)
 cut_word axis.Source rest = refl
@@ -48,6 +51,9 @@ cut_word axis.Protocol rest = refl
 cut_word axis.SourcePort rest = refl
 cut_word axis.DestinationPort rest = refl
 cut_word axis.ClassOfService rest = refl
+cut_word axis.Version rest = refl
+cut_word axis.Source6 rest = refl
+cut_word axis.Destination6 rest = refl
 
 split_text : (a : Axis) (at : ℕ) → at ≤ slice_index tops (axis_index a) → split_of (axis_word a ++ 32 ∷ decimal at) ≡ Some (item.Split a at)
 unfolding split_of

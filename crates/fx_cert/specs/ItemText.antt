@@ -2,7 +2,7 @@
 use Rattle.std.specs.Prelude.{◌≡◌, ℕ, ◌≤◌, List, [], ◌∷◌, codes, decimal, slice_index}
 use Rattle.std.specs.List.{join_with_byte}
 use Rattle.fx_elements.specs.declared.axis.Axis.{Axis}
-use Rattle.fx_elements.specs.declared.axis.Axis.TheVariants.{Source, Destination, Protocol, SourcePort, DestinationPort, ClassOfService}
+use Rattle.fx_elements.specs.declared.axis.Axis.TheVariants.{Source, Destination, Protocol, SourcePort, DestinationPort, ClassOfService, Version, Source6, Destination6}
 use Rattle.fx_elements.specs.Axes.{axis_index, tops}
 use Rattle.fx_elements.specs.Spelling.{largest}
 use Rattle.fx_cert.specs.declared.item.Item.{Item}
@@ -17,6 +17,9 @@ axis_word Protocol = codes "protocol"
 axis_word SourcePort = codes "sport"
 axis_word DestinationPort = codes "dport"
 axis_word ClassOfService = codes "tos"
+axis_word Version = codes "version"
+axis_word Source6 = codes "source6"
+axis_word Destination6 = codes "destination6"
 
 -- the words of an item; numbers are decimal, without leading zeros
 abbrev pub item_words : Item → List (List ℕ)

@@ -21,6 +21,9 @@ pub(crate) fn word(axis: Axis) -> &'static [u8]
         Axis::SourcePort => b"sport",
         Axis::DestinationPort => b"dport",
         Axis::ClassOfService => b"tos",
+        Axis::Version => b"version",
+        Axis::Source6 => b"source6",
+        Axis::Destination6 => b"destination6",
     }
 }
 

@@ -1,28 +1,33 @@
 -- Fields of the keys to which records are aggregated (RFC 7015), or totals asked for.
-use Rattle.std.specs.Prelude.{ℕ, List, [], ◌∷◌, codes, Bool, true, false, not, ◌&&◌, Option, Some, None, is_some, option_map}
+use Rattle.std.specs.Prelude.{ℕ, List, [], ◌∷◌, codes, Bool, true, false, nat_lt, Option, Some, None, option_map}
 use Rattle.serde_json.specs.Data.{Data}
 use Rattle.serde_json.specs.Find.{get}
+use Rattle.fx_config.specs.Pointer.{below}
 use Rattle.fx_config.specs.Walk.{Found, Row, object_faults, optional, then_check, fault_if}
 use Rattle.fx_config.specs.Choice.{one_of}
 use Rattle.fx_config.specs.Scalars.{number_of, text_faults, whole_faults}
 use Rattle.fx_config.specs.GivenElements.{element_given, name_in, number_in}
 use Rattle.fx_elements.specs.Axes.{axis_width}
 use Rattle.fx_elements.specs.declared.axis.Axis.{Axis}
-use Rattle.fx_elements.specs.declared.axis.Axis.TheVariants.{Source, Destination}
 use Rattle.fx_elements.specs.declared.element.Element.{Element}
-use Rattle.fx_elements.specs.declared.element.Element.TheVariants.{OnAxis, SourcePrefix, DestinationPrefix}
+use Rattle.fx_elements.specs.declared.element.Element.TheVariants.{OnAxis, Prefix}
 use Rattle.fx_layout.specs.declared.layout.Part.{Part}
 use Rattle.fx_config.specs.declared.key_field.KeyField.{KeyField}
 
 -- its values are the leading bits of addresses
 abbrev pub is_prefix : Element → Bool
-is_prefix SourcePrefix = true
-is_prefix DestinationPrefix = true
+is_prefix (Prefix axis) = true
 is_prefix _ = false
 
--- a prefix without its length
+-- how many leading bits may be given: those of the addresses, and of IPv4's beside an element that is no prefix
+abbrev pub longest_prefix : Element → ℕ
+longest_prefix (Prefix axis) = axis_width axis
+longest_prefix _ = 32
+
+-- a prefix without its length, and a length that is longer than the addresses
 abbrev pub prefix_check : Element → Option ℕ → List ℕ → List Found
-prefix_check element prefix_length up = fault_if (is_prefix element && not (is_some prefix_length)) 103 up
+prefix_check element None up = fault_if (is_prefix element) 103 up
+prefix_check element (Some bits) up = fault_if (nat_lt (longest_prefix element) bits) 105 (below up (codes "prefixLength"))
 
 abbrev pub key_element_in : Data → Element
 key_element_in d = element_given (name_in d) (number_in d) 0
@@ -35,7 +40,7 @@ key_field_rows =
     one_of (codes "ieName" ∷ codes "ieId" ∷ [])
     ∷ optional (codes "ieName") text_faults
     ∷ optional (codes "ieId") (whole_faults 1 32767)
-    ∷ optional (codes "prefixLength") (whole_faults 1 32)
+    ∷ optional (codes "prefixLength") (whole_faults 1 128)
     ∷ then_check (λ up d. prefix_check (key_element_in d) (prefix_length_in d) up)
     ∷ []
 
@@ -62,8 +67,7 @@ prefix_part axis None = None
 
 abbrev pub part_given : Element → Option ℕ → Option Part
 part_given (OnAxis axis) prefix_length = whole_part axis prefix_length
-part_given SourcePrefix prefix_length = prefix_part Source prefix_length
-part_given DestinationPrefix prefix_length = prefix_part Destination prefix_length
+part_given (Prefix axis) prefix_length = prefix_part axis prefix_length
 part_given _ prefix_length = None
 
 abbrev pub part_of : KeyField → Option Part

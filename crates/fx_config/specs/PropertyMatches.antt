@@ -7,17 +7,16 @@ use Rattle.fx_config.specs.Choice.{one_of}
 use Rattle.fx_config.specs.Scalars.{text_of, text_faults, whole_faults}
 use Rattle.fx_config.specs.GivenElements.{element_in}
 use Rattle.fx_elements.specs.declared.axis.Axis.{Axis}
-use Rattle.fx_elements.specs.declared.axis.Axis.TheVariants.{Source, Destination}
+use Rattle.fx_elements.specs.declared.axis.Axis.TheVariants.{Source}
 use Rattle.fx_elements.specs.declared.element.Element.{Element}
-use Rattle.fx_elements.specs.declared.element.Element.TheVariants.{OnAxis, SourcePrefix, DestinationPrefix}
+use Rattle.fx_elements.specs.declared.element.Element.TheVariants.{OnAxis, Prefix}
 use Rattle.fx_elements.specs.Values.{values_of}
 use Rattle.fx_config.specs.declared.property_match.PropertyMatch.{PropertyMatch}
 
 -- the axis of the values of an element: its own, or that of the addresses whose prefix it is
 abbrev pub axis_matched : Element → Option Axis
 axis_matched (OnAxis axis) = Some axis
-axis_matched SourcePrefix = Some Source
-axis_matched DestinationPrefix = Some Destination
+axis_matched (Prefix axis) = Some axis
 axis_matched _ = None
 
 -- what an element and the text of its value stand for

@@ -2,7 +2,7 @@
 ghost use Rattle.std.specs.Prelude.{◌≡◌, ℕ};
 ghost use Rattle.fx_config.specs.Pointer.{pointer};
 ghost use Rattle.fx_config.specs.Walk.{Reads};
-ghost use Rattle.fx_config.specs.KeyFields.{is_prefix, key_field_faults, key_field_of, part_of, prefix_check, prefix_part};
+ghost use Rattle.fx_config.specs.KeyFields.{is_prefix, key_field_faults, key_field_of, longest_prefix, part_of, prefix_check, prefix_part};
 
 use crate::element::{ElementNumber, element_given};
 use crate::walk::{FromValue, Path, Whole, object_of, one_of, optional_member, refusal};
@@ -12,8 +12,8 @@ use fx_layout::Part;
 use serde_json::Value;
 use std::alloc::Global;
 
-/// A number of leading bits.
-type PrefixLength = Whole<1, 32>;
+/// A number of leading bits, of whichever addresses.
+type PrefixLength = Whole<1, 128>;
 
 /// A field of a key to which records are aggregated, or totals asked for: an element, or the leading bits of an
 /// address.
@@ -29,10 +29,21 @@ pub struct KeyField {
 fn is_prefix(element: Element) -> bool
     ensures { result ≡ is_prefix element }
 {
-    matches!(element, Element::SourcePrefix | Element::DestinationPrefix)
+    matches!(element, Element::Prefix(_))
 }
 
-/// Refuses a prefix without its length (103).
+/// How many leading bits may be given: as many as the addresses have, and 32 beside an element that is no prefix.
+fn longest_prefix(element: Element) -> u32
+    ensures { result ≡ longest_prefix element }
+{
+    match element {
+        Element::Prefix(axis) => width(axis),
+        _ => 32,
+    }
+}
+
+/// Refuses a prefix without its length (103), and a length that is longer than the addresses (105, at the member
+/// `prefixLength`).
 fn known_prefix(
     alloc: Global,
     path: &Path<'_>,
@@ -41,10 +52,17 @@ fn known_prefix(
 ) -> Result<(), Fault>
     ensures { Reads (prefix_check element prefix_length (pointer path.now)) tt result }
 {
-    match prefix_length {
-        None if is_prefix(element) => Err(refusal(alloc, 103, path)),
-        _ => Ok(()),
+    let Some(bits) = prefix_length else {
+        if is_prefix(element) {
+            return Err(refusal(alloc, 103, path));
+        }
+        return Ok(());
+    };
+    let place = Path::Member(path, "prefixLength");
+    if bits > longest_prefix(element) {
+        return Err(refusal(alloc, 105, &place));
     }
+    Ok(())
 }
 
 /// The number of bits that is given.
@@ -57,8 +75,8 @@ fn bits_given(bits: Option<PrefixLength>) -> Option<u32>
     }
 }
 
-/// A field with the faults of its members alone: 102 to 105, and 103 too for a prefix without its length. What
-/// it stands for tells [`part_of`].
+/// A field with the faults of its members alone: 102 to 105, where 103 comes for a prefix without its length too, and
+/// 105 for one that is longer than the addresses. What it stands for tells [`part_of`].
 impl FromValue for KeyField {
     ghost faults = { key_field_faults };
 
@@ -104,8 +122,7 @@ pub fn part_of(field: &KeyField) -> Option<Part>
                 bits: width(axis),
             }),
         },
-        Element::SourcePrefix => prefix_part(Axis::Source, field.prefix_length),
-        Element::DestinationPrefix => prefix_part(Axis::Destination, field.prefix_length),
+        Element::Prefix(axis) => prefix_part(axis, field.prefix_length),
         _ => None,
     }
 }

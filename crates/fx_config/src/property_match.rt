@@ -27,9 +27,7 @@ fn axis_matched(element: Element) -> Option<Axis>
     ensures { result ≡ axis_matched element }
 {
     match element {
-        Element::OnAxis(axis) => Some(axis),
-        Element::SourcePrefix => Some(Axis::Source),
-        Element::DestinationPrefix => Some(Axis::Destination),
+        Element::OnAxis(axis) | Element::Prefix(axis) => Some(axis),
         _ => None,
     }
 }

@@ -149,7 +149,7 @@ tables = record {
       interfaces = codes "eth0" ∷ [];
       ingress = true;
       egress = true;
-      selections = record { region = Some (record { low = 0 ∷ 0 ∷ 0 ∷ 0 ∷ 0 ∷ 0 ∷ []; high = 4294967295 ∷ 4294967295 ∷ 255 ∷ 65535 ∷ 65535 ∷ 255 ∷ [] }); holder = Some 0 } ∷ [];
+      selections = record { region = Some (record { low = 0 ∷ 0 ∷ 0 ∷ 0 ∷ 0 ∷ 0 ∷ 0 ∷ 0 ∷ 0 ∷ []; high = 4294967295 ∷ 4294967295 ∷ 255 ∷ 65535 ∷ 65535 ∷ 255 ∷ 255 ∷ 340282366920938463463374607431768211455 ∷ 340282366920938463463374607431768211455 ∷ [] }); holder = Some 0 } ∷ [];
     } ∷ [];
     caches = 0 ∷ [];
     processes = [];

@@ -7,16 +7,14 @@ use Rattle.std.proofs.lemmas.Nat.{pow_pos}
 use Rattle.std.proofs.Math.Pow.{pow-add}
 use Rattle.serde_json.specs.Data.{Data}
 use Rattle.fx_elements.specs.declared.axis.Axis.{Axis}
-use Rattle.fx_elements.specs.declared.axis.Axis.TheVariants.{Source, Destination}
+use Rattle.fx_elements.specs.declared.axis.Axis.TheVariants.{Source}
 use Rattle.fx_elements.specs.declared.element.Element.{Element}
-use Rattle.fx_elements.specs.declared.element.Element.TheVariants.{OnAxis, OctetDeltaCount, PacketDeltaCount, OctetTotalCount, PacketTotalCount, SourcePrefix, DestinationPrefix, SourcePrefixLength, DestinationPrefixLength, IpVersion, Other}
+use Rattle.fx_elements.specs.declared.element.Element.TheVariants.{OnAxis, OctetDeltaCount, PacketDeltaCount, OctetTotalCount, PacketTotalCount, Prefix, PrefixLength, Other}
 use Rattle.fx_elements.specs.Axes.{axis_width}
-use Rattle.fx_elements.specs.Spelling.{prefix_of}
-use Rattle.fx_elements.specs.Values.{single, value_on, with_prefix}
-use Rattle.fx_elements.proofs.Addresses.{prefix_found}
+use Rattle.fx_elements.specs.Values.{single, value_on, prefix_on, with_prefix}
+use Rattle.fx_elements.proofs.AxisTexts.{value_fits, prefix_fits}
 use Rattle.fx_elements.proofs.EveryAxis.{top_below}
 use Rattle.fx_layout.specs.Keys.{leading}
-use Rattle.fx_machine.proofs.RunWords.{value_bound}
 use Rattle.fx_config.specs.declared.aggregation.Aggregation.{Aggregation}
 use Rattle.fx_config.specs.declared.collecting_process.CollectingProcess.{CollectingProcess}
 use Rattle.fx_config.specs.declared.property_match.PropertyMatch.{PropertyMatch}
@@ -46,7 +44,7 @@ on_axis : (axis : Axis) (text : List ℕ) (o : Option ℕ) → value_on axis tex
 on_axis axis text None e = (omega arith, omega arith)
 on_axis axis text (Some v) e =
     let top = top_below axis in
-    let low = value_bound axis text v e in
+    let low = value_fits axis text v e in
     (omega arith, omega arith)
 
 of_prefix : (axis : Axis) (o : Option (ℕ × ℕ)) → ((p : ℕ × ℕ) → o ≡ Some p → (p.0 < 2 ^ axis_width axis) × (p.1 ≤ axis_width axis))
@@ -58,20 +56,14 @@ of_prefix axis (Some p) fits =
     let low : p.0 / 2 ^ (axis_width axis - p.1) * 2 ^ (axis_width axis - p.1) ≤ p.0 = div-mul-le_self p.0 (2 ^ (axis_width axis - p.1)) in
     (h.1, omega (arith, low, below))
 
-read_fits : (text : List ℕ) (p : ℕ × ℕ) → prefix_of text ≡ Some p → (p.0 < 2 ^ 32) × (p.1 ≤ 32)
-read_fits text p is = let h = prefix_found p text is in (h.1, h.3)
-
 pub meant_is_match : (element : Element) (text : List ℕ) → IsMatch (property_meant element text)
 meant_is_match (OnAxis axis) text = on_axis axis text (value_on axis text) refl
-meant_is_match SourcePrefix text = of_prefix Source (prefix_of text) (read_fits text)
-meant_is_match DestinationPrefix text = of_prefix Destination (prefix_of text) (read_fits text)
+meant_is_match (Prefix axis) text = of_prefix axis (prefix_on axis text) (λ p is. let h = prefix_fits axis text p is in (h.0, h.2))
 meant_is_match OctetDeltaCount text = (omega arith, omega arith)
 meant_is_match PacketDeltaCount text = (omega arith, omega arith)
 meant_is_match OctetTotalCount text = (omega arith, omega arith)
 meant_is_match PacketTotalCount text = (omega arith, omega arith)
-meant_is_match SourcePrefixLength text = (omega arith, omega arith)
-meant_is_match DestinationPrefixLength text = (omega arith, omega arith)
-meant_is_match IpVersion text = (omega arith, omega arith)
+meant_is_match (PrefixLength axis) text = (omega arith, omega arith)
 meant_is_match Other text = (omega arith, omega arith)
 
 leading_below : (width bits value : ℕ) → bits ≤ width → value < 2 ^ width → leading width bits value < 2 ^ bits

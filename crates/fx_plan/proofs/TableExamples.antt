@@ -3,7 +3,7 @@ use Rattle.std.proofs.Common.{◌≡◌, ◌<◌, ℕ, zero, suc, true, false, L
 use Rattle.std.specs.Prelude.{codes, nat_lt}
 use Rattle.std.specs.Fmt.{digits}
 use Rattle.fx_elements.specs.declared.axis.Axis.TheVariants.{Source, Destination, Protocol}
-use Rattle.fx_elements.specs.declared.element.Element.TheVariants.{SourcePrefix}
+use Rattle.fx_elements.specs.declared.element.Element.TheVariants.{Prefix}
 use Rattle.fx_layout.specs.Keys.{Layout}
 use Rattle.fx_machine.specs.Network as machine
 use Rattle.fx_config.specs.declared.cache.CacheKind.TheVariants.{Timeout}
@@ -86,7 +86,7 @@ abbrev network : Network
 network = record {
   devices = router ∷ mediator ∷ host ∷ [];
   links = link (codes "mediator") (codes "other") (codes "host") ∷ link (codes "router") (codes "export") (codes "mediator") ∷ link (codes "mediator") (codes "export") (codes "host") ∷ [];
-  report = record { device = codes "host"; collecting_process = codes "collect"; key = record { element = SourcePrefix; prefix_length = Some 16 } ∷ [] };
+  report = record { device = codes "host"; collecting_process = codes "collect"; key = record { element = Prefix Source; prefix_length = Some 16 } ∷ [] };
 }
 
 -- The router's exporting process comes first, then the mediator's two in its order; both caches come before the aggregation.
@@ -98,7 +98,7 @@ tables = record {
       interfaces = codes "eth0" ∷ codes "eth1" ∷ [];
       ingress = true;
       egress = false;
-      selections = record { region = None; holder = None } ∷ record { region = Some (record { low = 167837696 ∷ 0 ∷ 0 ∷ 0 ∷ 0 ∷ 0 ∷ []; high = 167903231 ∷ 4294967295 ∷ 255 ∷ 65535 ∷ 65535 ∷ 255 ∷ [] }); holder = Some 0 } ∷ [];
+      selections = record { region = None; holder = None } ∷ record { region = Some (record { low = 167837696 ∷ 0 ∷ 0 ∷ 0 ∷ 0 ∷ 0 ∷ 0 ∷ 0 ∷ 0 ∷ []; high = 167903231 ∷ 4294967295 ∷ 255 ∷ 65535 ∷ 65535 ∷ 255 ∷ 255 ∷ 340282366920938463463374607431768211455 ∷ 340282366920938463463374607431768211455 ∷ [] }); holder = Some 0 } ∷ [];
     } ∷ [];
     caches = 0 ∷ [];
     processes = [];

@@ -130,8 +130,8 @@ blank = refl
 
 -- sources in 10.0.0.0/8 and ports from 80 to 443, and all values on the other axes
 web : region_of (object (member (codes "destinationTransportPort") (string (codes "80-443")) (member (codes "sourceIPv4Address") (string (codes "10.0.0.0/8")) no_members))) ≡ record {
-  low = 167772160 ∷ 0 ∷ 0 ∷ 0 ∷ 80 ∷ 0 ∷ [];
-  high = 184549375 ∷ 4294967295 ∷ 255 ∷ 65535 ∷ 443 ∷ 255 ∷ [];
+  low = 167772160 ∷ 0 ∷ 0 ∷ 0 ∷ 80 ∷ 0 ∷ 0 ∷ 0 ∷ 0 ∷ [];
+  high = 184549375 ∷ 4294967295 ∷ 255 ∷ 65535 ∷ 443 ∷ 255 ∷ 255 ∷ 340282366920938463463374607431768211455 ∷ 340282366920938463463374607431768211455 ∷ [];
 }
 unfolding number_of quad_of prefix_of
 web = refl
@@ -140,7 +140,7 @@ web = refl
 no_axis : region_of (object no_members) ≡ whole
 no_axis = refl
 
-all_fields : whole ≡ record { low = 0 ∷ 0 ∷ 0 ∷ 0 ∷ 0 ∷ 0 ∷ []; high = 4294967295 ∷ 4294967295 ∷ 255 ∷ 65535 ∷ 65535 ∷ 255 ∷ [] }
+all_fields : whole ≡ record { low = 0 ∷ 0 ∷ 0 ∷ 0 ∷ 0 ∷ 0 ∷ 0 ∷ 0 ∷ 0 ∷ []; high = 4294967295 ∷ 4294967295 ∷ 255 ∷ 65535 ∷ 65535 ∷ 255 ∷ 255 ∷ 340282366920938463463374607431768211455 ∷ 340282366920938463463374607431768211455 ∷ [] }
 all_fields = refl
 
 -- ---- what is refused
@@ -158,7 +158,7 @@ number_for_text : region_faults (codes "/region") (one_member (codes "destinatio
 unfolding chars lib.Utf8.encode
 number_for_text = refl
 
--- only the six axes have names
+-- only axes have names
 no_such_axis : region_faults (codes "/region") (one_member (codes "port") (string (codes "80"))) ≡ (102, codes "/region/port") ∷ []
 unfolding chars lib.Utf8.encode
 no_such_axis = refl

@@ -1,13 +1,11 @@
 -- Bounds of regions.
 use Rattle.std.proofs.Common.{sym, true, List, slice_index, ◌≡◌, ◌<◌, ◌≤◌, ℕ, ◌+◌, ◌-◌, ◌*◌, ◌/◌, ◌^◌, ◌++◌, map, drop, length, get_or, subst, Option, Some, None, IfSome, option_map, refl, ap, ◌∙◌, cond, false, arith}
-use Rattle.std.specs.Fmt.{decimal}
 use Rattle.std.proofs.lemmas.List.{drop_more}
 use Rattle.serde_json.specs.Data.{Data}
 use Rattle.serde_json.specs.Find.{get}
-use Rattle.fx_elements.specs.Axes.{axes, axis_count, axis_index, is_address, tops}
-use Rattle.fx_elements.specs.Spelling.{number_of, quad, quad_of}
-use Rattle.fx_elements.specs.Values.{value_on, with_prefix}
-use Rattle.fx_elements.proofs.EveryAxis.{address_width, along, index_at, top_is, top_small}
+use Rattle.fx_elements.specs.Axes.{axes, axis_count, axis_index, axis_width, tops}
+use Rattle.fx_elements.specs.Values.{with_prefix}
+use Rattle.fx_elements.proofs.EveryAxis.{along, index_at, top_is}
 use Rattle.fx_elements.proofs.Widening.{range_ends}
 use Rattle.fx_elements.specs.declared.axis.Axis.{Axis}
 use Rattle.fx_elements.specs.declared.axis.Axis.TheVariants.{Source}
@@ -18,42 +16,15 @@ use Rattle.fx_config.proofs.Faults.{refuses_more}
 use Rattle.fx_base.specs.declared.fault.Fault.{Fault}
 use Rattle.fx_traffic.specs.Regions.{IsOn, axis_name, region_of, values_faults, values_given}
 
--- the addresses of a prefix are addresses
-pub prefix_is_on : (axis : Axis) → is_address axis ≡ true → (o : Option (ℕ × ℕ)) → ((p : ℕ × ℕ) → o ≡ Some p → (p.0 < 2 ^ 32) × (p.1 ≤ 32)) → IfSome (option_map (with_prefix 32) o) (IsOn axis)
-prefix_is_on axis address None h = tt
-prefix_is_on axis address (Some p) h =
+-- the addresses of a prefix are on its axis
+pub prefix_is_on : (axis : Axis) (o : Option (ℕ × ℕ)) → ((p : ℕ × ℕ) → o ≡ Some p → (p.0 < 2 ^ axis_width axis) × (0 < p.1) × (p.1 ≤ axis_width axis)) → IfSome (option_map (with_prefix (axis_width axis)) o) (IsOn axis)
+prefix_is_on axis None h = tt
+prefix_is_on axis (Some p) h =
     let facts = h p refl in
-    let end : p.0 / 2 ^ (32 - p.1) * 2 ^ (32 - p.1) + 2 ^ (32 - p.1) ≤ 2 ^ 32 = range_ends 32 p.1 p.0 facts.1 facts.0 in
-    let most : slice_index tops (axis_index axis) ≡ 2 ^ 32 - 1 = top_is axis ∙ ap (λ n. 2 ^ n - 1) (address_width axis address) in
+    let width : ℕ = axis_width axis in
+    let end : p.0 / 2 ^ (width - p.1) * 2 ^ (width - p.1) + 2 ^ (width - p.1) ≤ 2 ^ width = range_ends width p.1 p.0 facts.2 facts.0 in
+    let most : slice_index tops (axis_index axis) ≡ 2 ^ width - 1 = top_is axis in
     (omega arith, omega (arith, end, most))
-
--- what is read as a value on an axis is no greater than its greatest value
-abbrev OnlyNumber : Type 0
-OnlyNumber = (top n : ℕ) (text : List ℕ) → top < 2 ^ 128 → number_of top text ≡ Some n → (text ≡ decimal n) × (n ≤ top)
-
-abbrev OnlyAddress : Type 0
-OnlyAddress = (v : ℕ) (text : List ℕ) → quad_of text ≡ Some v → (text ≡ quad v) × (v < 2 ^ 32)
-
-number_within : OnlyNumber → (top : ℕ) (text : List ℕ) (o : Option ℕ) → top < 2 ^ 128 → o ≡ number_of top text → IfSome o (λ v. v ≤ top)
-number_within only top text None small is = tt
-number_within only top text (Some v) small is = (only top v text small (sym is)).1
-
-address_within : OnlyAddress → (text : List ℕ) (o : Option ℕ) → o ≡ quad_of text → IfSome o (λ v. v < 2 ^ 32)
-address_within only text None is = tt
-address_within only text (Some v) is = (only v text (sym is)).1
-
-below_top : (axis : Axis) → is_address axis ≡ true → (o : Option ℕ) → IfSome o (λ v. v < 2 ^ 32) → IfSome o (λ v. v ≤ slice_index tops (axis_index axis))
-below_top axis address None h = tt
-below_top axis address (Some v) h =
-    let most : slice_index tops (axis_index axis) ≡ 2 ^ 32 - 1 = top_is axis ∙ ap (λ n. 2 ^ n - 1) (address_width axis address) in
-    omega (arith, h, most)
-
-pub value_within : OnlyNumber → OnlyAddress → (axis : Axis) (text : List ℕ) (o : Option ℕ) → o ≡ value_on axis text → IfSome o (λ v. v ≤ slice_index tops (axis_index axis))
-value_within number address axis text o is =
-    elim (is_address axis) as (λ t. is_address axis ≡ t → o ≡ cond t (quad_of text) (number_of (slice_index tops (axis_index axis)) text) → IfSome o (λ v. v ≤ slice_index tops (axis_index axis))) [
-      | true ↦ λ e k. below_top axis e o (address_within address text o k)
-      | false ↦ λ e k. number_within number (slice_index tops (axis_index axis)) text o (top_small axis) k
-    ] refl is
 
 -- ---- regions, one axis after another
 

@@ -3,12 +3,12 @@ use Rattle.std.specs.Prelude.{◌≤◌, ℕ, List, codes, map, nat_le, if◌the
 use Rattle.std.specs.Option.{unwrap_or, option_or}
 use Rattle.serde_json.specs.Data.{Data}
 use Rattle.serde_json.specs.Find.{get}
-use Rattle.fx_elements.specs.Axes.{axes, axis_index, is_address, tops}
+use Rattle.fx_elements.specs.Axes.{axes, axis_index, tops}
 use Rattle.fx_elements.specs.Spelling.{cut_at}
 use Rattle.fx_elements.specs.Values.{value_on, values_of}
 use Rattle.fx_elements.specs.declared.axis.Axis.{Axis}
-use Rattle.fx_elements.specs.declared.axis.Axis.TheVariants.{Source, Destination, Protocol, SourcePort, DestinationPort, ClassOfService}
-use Rattle.fx_elements.specs.declared.element.Element.TheVariants.{OnAxis, SourcePrefix}
+use Rattle.fx_elements.specs.declared.axis.Axis.TheVariants.{Source, Destination, Protocol, SourcePort, DestinationPort, ClassOfService, Version, Source6, Destination6}
+use Rattle.fx_elements.specs.declared.element.Element.TheVariants.{OnAxis, Prefix}
 use Rattle.fx_elements.specs.declared.values.Range.{Range}
 use Rattle.fx_boxes.specs.Boxes.{Bounds}
 use Rattle.fx_config.specs.Walk.{Found, Row, object_faults, optional}
@@ -24,6 +24,9 @@ axis_name Protocol = codes "protocolIdentifier"
 axis_name SourcePort = codes "sourceTransportPort"
 axis_name DestinationPort = codes "destinationTransportPort"
 axis_name ClassOfService = codes "ipClassOfService"
+axis_name Version = codes "ipVersion"
+axis_name Source6 = codes "sourceIPv6Address"
+axis_name Destination6 = codes "destinationIPv6Address"
 
 -- the values from one to another
 abbrev pub span : Option ℕ → Option ℕ → Option Range
@@ -31,14 +34,10 @@ span None high = None
 span (Some low) None = None
 span (Some low) (Some high) = if nat_le low high then Some (record { low = low; high = high; bits = 0 }) else None
 
--- the addresses that begin as a prefix does
-abbrev pub prefix_on : Axis → List ℕ → Option Range
-prefix_on axis text = if is_address axis then values_of SourcePrefix text else None
-
 -- two values with a hyphen between them stand for all from the first to the second; else a text is a single value
--- or a prefix
+-- or a prefix of addresses
 abbrev pub values_by : Axis → List ℕ → Option (List ℕ × List ℕ) → Option Range
-values_by axis text None = option_or (values_of (OnAxis axis) text) (prefix_on axis text)
+values_by axis text None = option_or (values_of (OnAxis axis) text) (values_of (Prefix axis) text)
 values_by axis text (Some ends) = span (value_on axis ends.0) (value_on axis ends.1)
 
 abbrev pub values_on : Axis → List ℕ → Option Range

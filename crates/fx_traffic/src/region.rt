@@ -1,57 +1,43 @@
 //! Regions: the values that the fields of a class's packets may have.
-ghost use Rattle.std.specs.Prelude.{◌≡◌, ◌≤◌, IfOk, IfSome, slice_index};
+ghost use Rattle.std.specs.Prelude.{◌≡◌, IfOk, IfSome};
 ghost use Rattle.serde_json.specs.View.{view};
 ghost use Rattle.serde_json.specs.Find.{get};
-ghost use Rattle.fx_elements.specs.Axes.{axis_index, tops};
 ghost use Rattle.fx_elements.specs.Values.{value_on, values_of};
 ghost use Rattle.fx_elements.specs.declared.element.Element.TheVariants as element;
 ghost use Rattle.fx_boxes.specs.Boxes.{IsRegion};
 ghost use Rattle.fx_config.specs.Pointer.{pointer};
 ghost use Rattle.fx_config.specs.Walk.{Reads, optional, row_faults};
-ghost use Rattle.fx_traffic.specs.Regions.{IsOn, all_on, axis_name, prefix_on, region_faults, region_rows, region_of, span, values_faults, values_given, values_in, values_on, whole};
+ghost use Rattle.fx_traffic.specs.Regions.{IsOn, all_on, axis_name, region_faults, region_rows, region_of, span, values_faults, values_given, values_in, values_on, whole};
 
 use fx_base::Fault;
 use fx_boxes::{Fields, Region};
 use fx_config::walk::{Path, object_of, refusal};
 use fx_elements::{
-    AXES, Axis, EVERY_AXIS, Element, Range, TOPS, cut, one_spelling, read_on, read_value, top,
-    width,
+    AXES, Axis, EVERY_AXIS, Element, Range, TOPS, cut, read_on, read_value, top, values_fit, width,
 };
 use serde_json::Value;
 use std::alloc::Global;
-
-/// The value on the axis that the text spells.
-fn value_on(axis: Axis, text: &[u8]) -> Option<u128>
-    ensures value { result ≡ value_on axis text.now }
-    ensures bound { IfSome result (λ value. value ≤ slice_index tops (axis_index axis)) }
-{
-    one_spelling();
-    read_on(axis, text)
-}
 
 /// The values from one that the text `low` spells to one that `high` spells.
 fn span(axis: Axis, low: &[u8], high: &[u8]) -> Option<Range>
     ensures value { result ≡ span (value_on axis low.now) (value_on axis high.now) }
     ensures bound { IfSome result (IsOn axis) }
 {
-    let low = value_on(axis, low)?;
-    let high = value_on(axis, high)?;
+    let low = read_on(axis, low)?;
+    let high = read_on(axis, high)?;
     if low > high {
         return None;
     }
     Some(Range { low, high, bits: 0 })
 }
 
-/// The addresses that begin as a prefix does.
+/// The addresses on the axis that begin as a prefix does.
 fn prefix_on(axis: Axis, text: &str) -> Option<Range>
-    ensures value { result ≡ prefix_on axis text.now }
+    ensures value { result ≡ values_of (element.Prefix axis) text.now }
     ensures bound { IfSome result (IsOn axis) }
 {
-    if !axis.is_address() {
-        return None;
-    }
-    one_spelling();
-    read_value(Element::SourcePrefix, text)
+    values_fit();
+    read_value(Element::Prefix(axis), text)
 }
 
 /// The value that the text spells, by itself.
@@ -59,7 +45,7 @@ fn single_on(axis: Axis, text: &str) -> Option<Range>
     ensures value { result ≡ values_of (element.OnAxis axis) text.now }
     ensures bound { IfSome result (IsOn axis) }
 {
-    let value = value_on(axis, text.as_bytes())?;
+    let value = read_on(axis, text.as_bytes())?;
     Some(Range {
         low: value,
         high: value,
@@ -116,6 +102,9 @@ const NAMES: [&str; AXES] = [
     "sourceTransportPort",
     "destinationTransportPort",
     "ipClassOfService",
+    "ipVersion",
+    "sourceIPv6Address",
+    "destinationIPv6Address",
 ];
 
 /// The name of the member that gives the values on an axis.
