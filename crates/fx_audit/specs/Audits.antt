@@ -7,6 +7,7 @@ use Rattle.fx_machine.specs.Classes.{Class}
 use Rattle.fx_plan.specs.declared.network.Network.{Network}
 use Rattle.fx_plan.specs.Tables.{net_of}
 use Rattle.fx_check.specs.Certificates.{IsCertificate}
+use Rattle.fx_machine.specs.declared.text_version.TextVersion.TheVariants.{Two}
 use Rattle.fx_refute.specs.RefutationText.{refutation_text}
 use Rattle.fx_refute.specs.Refutations.{Refutation, Refutes}
 use Rattle.fx_search.specs.Found.{IsFound, certificate_text}
@@ -35,7 +36,7 @@ pub record IsRefutedBy (network : Network) (classes : List Class) (text : List �
   pub not_once : ExactlyOnce (net_of network) classes → ⊥
   pub refutation : Refutation
   pub refutes : Refutes (net_of network) classes refutation
-  pub text_is : text ≡ refutation_text refutation
+  pub text_is : text ≡ refutation_text Two refutation
 
 -- a certificate within the limit and a refutation need too much
 pub record IsUnsettled (network : Network) (classes : List Class) (limit : ℕ) (text : List ℕ) : Type 0 where
@@ -51,4 +52,4 @@ IsAuditedIn network classes limit Unknown text = IsUnsettled network classes lim
 -- what is found is answered with yes or no, and this text is printed
 abbrev pub IsFoundText : Found → Answer → List ℕ → Type 0
 IsFoundText (found.Certificate items) answer text = (answer ≡ Yes) × (text ≡ certificate_text items.items)
-IsFoundText (found.Refutation r) answer text = (answer ≡ No) × (text ≡ refutation_text r)
+IsFoundText (found.Refutation r) answer text = (answer ≡ No) × (text ≡ refutation_text Two r)

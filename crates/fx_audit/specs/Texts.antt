@@ -7,6 +7,7 @@ use Rattle.fx_collect.specs.Totals.{Totals}
 use Rattle.fx_audit.specs.declared.answer.Answer.{Answer}
 use Rattle.fx_audit.specs.declared.answer.Answer.TheVariants.{Yes, No, Unknown}
 use Rattle.fx_cert.specs.declared.item.Item.{Item}
+use Rattle.fx_machine.specs.declared.text_version.TextVersion.TheVariants.{Two}
 use Rattle.fx_refute.specs.RefutationText.{refutation_text}
 use Rattle.fx_refute.specs.Refutations.{Refutation}
 use Rattle.fx_search.specs.Found.{certificate_text}
@@ -39,7 +40,7 @@ IsConfirmText Unknown text = ⊥
 -- an audit prints a certificate, a refutation or `unknown 601`, as it answers
 abbrev pub IsAuditText : Answer → List ℕ → Type 0
 IsAuditText Yes text = (items : List Item) × (text ≡ certificate_text items)
-IsAuditText No text = (r : Refutation) × (text ≡ refutation_text r)
+IsAuditText No text = (r : Refutation) × (text ≡ refutation_text Two r)
 IsAuditText Unknown text = text ≡ unknown_line
 
 -- a bundle's command is a replay, a check, a confirmation or an audit

@@ -3,6 +3,7 @@ use Rattle.std.specs.Prelude.{◌≡◌, ℕ, List, [], ◌∷◌, Ok, Err}
 use Rattle.fx_base.specs.declared.fault.Fault.{Fault}
 use Rattle.fx_base.specs.Device.{MayBeLeft, MayHaveLeft}
 use Rattle.fx_base.specs.Lines.{Lines, text_lines, next_number}
+use Rattle.fx_machine.specs.declared.text_version.TextVersion.{TextVersion}
 use Rattle.fx_machine.specs.declared.run_line.RunLine.{RunLine}
 use Rattle.fx_machine.specs.RunReading.{Line, at_line}
 use Rattle.fx_refute.specs.RefutationReading.{Read, line_said}
@@ -14,15 +15,15 @@ Leads old new before after =
     → MayHaveLeft old.left (λ text. before (text_lines text) ≡ after (text_lines rest))
 
 -- the reader goes past one line, which says this
-pub record Says (old new : Lines) (x : RunLine) : Type 0 where
+pub record Says (version : TextVersion) (old new : Lines) (x : RunLine) : Type 0 where
   pub number : new.number ≡ next_number old.number
   pub line : (rest : List ℕ) → MayBeLeft new.left rest
-      → MayHaveLeft old.left (λ text. (l : Line) × (text_lines text ≡ l ∷ text_lines rest) × (line_said l ≡ Ok x))
+      → MayHaveLeft old.left (λ text. (l : Line) × (text_lines text ≡ l ∷ text_lines rest) × (line_said version l ≡ Ok x))
 
 -- the first of these lines, which come behind the line n, isn't there or says nothing
-abbrev pub FirstIsWrong : ℕ → Fault → List Line → Type 0
-FirstIsWrong n e [] = e ≡ at_line 501 (next_number n)
-FirstIsWrong n e (l ∷ ls) = (number : ℕ) × (line_said l ≡ Err number) × (e ≡ at_line number (next_number n))
+abbrev pub FirstIsWrong : TextVersion → ℕ → Fault → List Line → Type 0
+FirstIsWrong version n e [] = e ≡ at_line 501 (next_number n)
+FirstIsWrong version n e (l ∷ ls) = (number : ℕ) × (line_said version l ≡ Err number) × (e ≡ at_line number (next_number n))
 
-abbrev pub NextIsWrong : Lines → Fault → Type 0
-NextIsWrong lines e = MayHaveLeft lines.left (λ text. FirstIsWrong lines.number e (text_lines text))
+abbrev pub NextIsWrong : TextVersion → Lines → Fault → Type 0
+NextIsWrong version lines e = MayHaveLeft lines.left (λ text. FirstIsWrong version lines.number e (text_lines text))

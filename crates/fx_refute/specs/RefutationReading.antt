@@ -6,6 +6,8 @@ use Rattle.fx_base.specs.Device.{MayHaveLeft}
 use Rattle.fx_base.specs.Lines.{Lines, text_lines, next_number}
 use Rattle.fx_machine.specs.declared.packet.Packet.{Packet}
 use Rattle.fx_machine.specs.declared.step.Step.{Step}
+use Rattle.fx_machine.specs.declared.text_version.TextVersion.{TextVersion}
+use Rattle.fx_machine.specs.declared.text_version.TextVersion.TheVariants.{One, Two}
 use Rattle.fx_machine.specs.declared.run_line.RunLine.{RunLine}
 use Rattle.fx_machine.specs.declared.run_line.RunLine.TheVariants as line
 use Rattle.fx_machine.specs.RunReading.{Line, at_line, words, line_of}
@@ -17,10 +19,10 @@ formed None = Err 501
 formed (Some x) = Ok x
 
 -- what a line says, or the number of its fault
-abbrev pub line_said : Line → Result RunLine ℕ
-line_said l =
+abbrev pub line_said : TextVersion → Line → Result RunLine ℕ
+line_said version l =
     if nat_lt 4096 (length l.0) then Err 903
-    else if l.1 then formed (line_of (words l.0)) else Err 501
+    else if l.1 then formed (line_of version (words l.0)) else Err 501
 
 abbrev pub Read : Type 0
 Read = Result Refutation Fault
@@ -45,28 +47,29 @@ from_step n r (Ok (line.Step s)) ls next =
 from_step n r (Ok line.End) ls next = ended n r ls
 
 -- the refutation that the lines behind the line n complete, or the first fault
-abbrev pub steps_behind : ℕ → Refutation → List Line → Read
-steps_behind n r [] = Err (at_line 501 (next_number n))
-steps_behind n r (l ∷ ls) =
-    from_step (next_number n) r (line_said l) ls (λ x. steps_behind (next_number n) x ls)
+abbrev pub steps_behind : TextVersion → ℕ → Refutation → List Line → Read
+steps_behind version n r [] = Err (at_line 501 (next_number n))
+steps_behind version n r (l ∷ ls) =
+    from_step (next_number n) r (line_said version l) ls (λ x. steps_behind version (next_number n) x ls)
 
 -- the line n of the packet, and those behind it
-abbrev pub from_packet : ℕ → Result RunLine ℕ → List Line → Read
-from_packet n (Err number) ls = Err (at_line number n)
-from_packet n (Ok (line.Packet p)) ls = steps_behind n (only p) ls
-from_packet n (Ok (line.Step s)) ls = Err (at_line 501 n)
-from_packet n (Ok line.End) ls = Err (at_line 501 n)
+abbrev pub from_packet : TextVersion → ℕ → Result RunLine ℕ → List Line → Read
+from_packet version n (Err number) ls = Err (at_line number n)
+from_packet version n (Ok (line.Packet p)) ls = steps_behind version n (only p) ls
+from_packet version n (Ok (line.Step s)) ls = Err (at_line 501 n)
+from_packet version n (Ok line.End) ls = Err (at_line 501 n)
 
-abbrev pub packet_behind : ℕ → List Line → Read
-packet_behind n [] = Err (at_line 501 (next_number n))
-packet_behind n (l ∷ ls) = from_packet (next_number n) (line_said l) ls
+abbrev pub packet_behind : TextVersion → ℕ → List Line → Read
+packet_behind version n [] = Err (at_line 501 (next_number n))
+packet_behind version n (l ∷ ls) = from_packet version (next_number n) (line_said version l) ls
 
 -- the refutation whose text has these lines, the first of which comes behind the line n, or the first fault
 abbrev pub reading : ℕ → List Line → Read
 reading n [] = Err (at_line 501 (next_number n))
 reading n (l ∷ ls) =
     if nat_lt 4096 (length l.0) then Err (at_line 903 (next_number n))
-    else if l.1 && bytes_eq l.0 (codes "once-refutation 1") then packet_behind (next_number n) ls
+    else if l.1 && bytes_eq l.0 (codes "once-refutation 1") then packet_behind One (next_number n) ls
+    else if l.1 && bytes_eq l.0 (codes "once-refutation 2") then packet_behind Two (next_number n) ls
     else Err (at_line 501 (next_number n))
 
 -- what this comes to, of the lines of a text that the reader may have left

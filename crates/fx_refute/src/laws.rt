@@ -5,6 +5,7 @@ ghost use Rattle.fx_machine.specs.Claim.{ExactlyOnce};
 ghost use Rattle.fx_machine.specs.Classes as traffic;
 ghost use Rattle.fx_machine.specs.Network as network;
 ghost use Rattle.fx_machine.specs.RunText.{AreShort};
+ghost use Rattle.fx_machine.specs.declared.text_version.TextVersion.{TextVersion};
 ghost use Rattle.fx_refute.specs.RefutationReading.{reading};
 ghost use Rattle.fx_refute.specs.RefutationText.{IsRefutation, refutation_lines, refutation_text};
 ghost use Rattle.fx_refute.specs.Refutations.{Refutation, Refutes};
@@ -19,12 +20,15 @@ pub fn refutations_refute()
     choices_are_free();
 }
 
-/// The text of a refutation whose lines have at most 4,096 bytes is read as that refutation, and no other text is.
+/// The text of a refutation in either version whose lines have at most 4,096 bytes is read as that refutation, and no
+/// other text is.
 pub fn refutations_have_one_text()
-    ensures read { (r : Refutation) (n : ℕ) → IsRefutation r → AreShort (refutation_lines r)
-        → reading n (text_lines (refutation_text r)) ≡ Ok r }
+    ensures read { (version : TextVersion) (r : Refutation) (n : ℕ)
+        → IsRefutation version r → AreShort (refutation_lines version r)
+        → reading n (text_lines (refutation_text version r)) ≡ Ok r }
     ensures only { (text : List ℕ) (r : Refutation) (n : ℕ) → reading n (text_lines text) ≡ Ok r
-        → (text ≡ refutation_text r) × IsRefutation r × AreShort (refutation_lines r) }
+        → (version : TextVersion) × (text ≡ refutation_text version r)
+        × IsRefutation version r × AreShort (refutation_lines version r) }
 {
     run_lines_have_one_text();
 }

@@ -3,6 +3,7 @@ ghost use Rattle.std.specs.Prelude.{◌≡◌, false, map, true, OnOk, IfErr};
 ghost use Rattle.fx_base.specs.Device.{Writes};
 ghost use Rattle.fx_base.specs.Fault.{fault_at};
 ghost use Rattle.fx_base.specs.declared.fault.Place.TheVariants as places;
+ghost use Rattle.fx_machine.specs.declared.text_version.TextVersion.TheVariants.{Two};
 ghost use Rattle.fx_refute.specs.RefutationText.{refutation_text, steps_text};
 
 use crate::refutation::Refutation;
@@ -21,17 +22,17 @@ fn put_steps<S: Sink>(sink: &mut S, steps: &[Step]) -> Result<(), Fault>
     Ok(())
 }
 
-/// Writes the text of a refutation, which [`read_refutation`](crate::read_refutation) reads as that refutation
+/// Writes the text of a refutation in its second version, which [`read_refutation`](crate::read_refutation) reads as that refutation
 /// where no line has more than 4,096 octets.
 ///
 /// Fails with 902, at no place, where a write fails. How much the sink has taken then is open.
 pub fn put_refutation<S: Sink>(sink: &mut S, refutation: &Refutation) -> Result<(), Fault>
     ensures ok { OnOk result (Writes (S.taken sink.old) (S.taken sink.new)
-        (refutation_text refutation.now)) }
+        (refutation_text Two refutation.now)) }
     ensures going { OnOk result (S.failed sink.old ≡ false → S.failed sink.new ≡ false) }
     ensures err { IfErr result (λ e. (e ≡ fault_at 902 places.None) × (S.failed sink.new ≡ true)) }
 {
-    put_text(sink, b"once-refutation 1\n")?;
+    put_text(sink, b"once-refutation 2\n")?;
     put_packet_line(sink, refutation.packet())?;
     put_steps(sink, refutation.steps())?;
     put_text(sink, b"end\n")

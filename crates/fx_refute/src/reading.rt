@@ -11,7 +11,7 @@ ghost use Rattle.fx_refute.specs.Refutations as refutations;
 
 use crate::refutation::{Refutation, STEPS};
 use fx_base::{Fault, LineReader, Source};
-use fx_machine::{Packet, RunLine, Step, read_run_line};
+use fx_machine::{Packet, RunLine, Step, TextVersion, read_run_line};
 use std::alloc::Global;
 
 /// Whether two lines are the same.
@@ -21,12 +21,12 @@ fn is_line(line: &[u8], other: &[u8]) -> bool
     line == other
 }
 
-/// Goes past the first line.
-fn read_first<R: Source>(lines: &mut LineReader<R>) -> Result<(), Fault>
+/// Goes past the first line, which tells the text's version.
+fn read_first<R: Source>(lines: &mut LineReader<R>) -> Result<TextVersion, Fault>
     ensures going { OnOk result (lines.new.stopped ≡ None) }
     ensures on { OnOk result (GoesOn lines.old lines.new) }
-    ensures ok { OnOk result (Leads lines.old lines.new
-        (reading lines.old.number) (packet_behind lines.new.number)) }
+    ensures ok { IfOk result (λ version. Leads lines.old lines.new
+        (reading lines.old.number) (packet_behind version lines.new.number)) }
     ensures err { IfErr result (λ e. Fails lines.old lines.new e ⊎ MayRead lines.old (Err e)) }
 {
     if !lines.advance()? {
@@ -34,21 +34,27 @@ fn read_first<R: Source>(lines: &mut LineReader<R>) -> Result<(), Fault>
     }
     let line = lines.line();
     if line.ended && is_line(line.bytes, b"once-refutation 1") {
-        Ok(())
+        Ok(TextVersion::One)
+    } else if line.ended && is_line(line.bytes, b"once-refutation 2") {
+        Ok(TextVersion::Two)
     } else {
         Err(Fault::at_line(501, line.number))
     }
 }
 
 /// Reads the next line, which has to be there.
-fn read_next<R: Source>(alloc: Global, lines: &mut LineReader<R>) -> Result<RunLine, Fault>
+fn read_next<R: Source>(
+    alloc: Global,
+    version: TextVersion,
+    lines: &mut LineReader<R>,
+) -> Result<RunLine, Fault>
     requires { lines.old.stopped ≡ None }
     ensures going { OnOk result (lines.new.stopped ≡ None) }
     ensures on { OnOk result (GoesOn lines.old lines.new) }
-    ensures ok { IfOk result (λ x. Says lines.old lines.new x) }
+    ensures ok { IfOk result (λ x. Says version lines.old lines.new x) }
     ensures smaller { OnOk result (budget lines.new < budget lines.old) }
     ensures err { IfErr result (λ e. (e ≡ fault_at 900 places.None)
-        ⊎ (Fails lines.old lines.new e ⊎ NextIsWrong lines.old e)) }
+        ⊎ (Fails lines.old lines.new e ⊎ NextIsWrong version lines.old e)) }
 {
     if !lines.advance()? {
         return Err(Fault::at_line(501, lines.number().saturating_add(1)));
@@ -57,7 +63,7 @@ fn read_next<R: Source>(alloc: Global, lines: &mut LineReader<R>) -> Result<RunL
     if !line.ended {
         return Err(Fault::at_line(501, line.number));
     }
-    match read_run_line(alloc, line.bytes)? {
+    match read_run_line(alloc, version, line.bytes)? {
         Some(x) => Ok(x),
         None => Err(Fault::at_line(501, line.number)),
     }
@@ -78,17 +84,21 @@ fn read_end<R: Source>(lines: &mut LineReader<R>) -> Result<(), Fault>
 }
 
 /// Reads the packet's line.
-fn read_packet<R: Source>(alloc: Global, lines: &mut LineReader<R>) -> Result<Packet, Fault>
+fn read_packet<R: Source>(
+    alloc: Global,
+    version: TextVersion,
+    lines: &mut LineReader<R>,
+) -> Result<Packet, Fault>
     requires { lines.old.stopped ≡ None }
     ensures going { OnOk result (lines.new.stopped ≡ None) }
     ensures on { OnOk result (GoesOn lines.old lines.new) }
     ensures ok { IfOk result (λ p. Leads lines.old lines.new
-        (packet_behind lines.old.number) (steps_behind lines.new.number (only p))) }
+        (packet_behind version lines.old.number) (steps_behind version lines.new.number (only p))) }
     ensures err { IfErr result (λ e. (e ≡ fault_at 900 places.None)
         ⊎ (Fails lines.old lines.new e
-        ⊎ MayGive lines.old (packet_behind lines.old.number) (Err e))) }
+        ⊎ MayGive lines.old (packet_behind version lines.old.number) (Err e))) }
 {
-    match read_next(alloc, lines)? {
+    match read_next(alloc, version, lines)? {
         RunLine::Packet(packet) => return Ok(packet),
         RunLine::Step(_) => return Err(Fault::at_line(501, lines.number())),
         RunLine::End => return Err(Fault::at_line(501, lines.number())),
@@ -98,19 +108,20 @@ fn read_packet<R: Source>(alloc: Global, lines: &mut LineReader<R>) -> Result<Pa
 /// Reads the steps and the end.
 fn read_steps<R: Source>(
     alloc: Global,
+    version: TextVersion,
     packet: Packet,
     lines: &mut LineReader<R>,
 ) -> Result<Refutation, Fault>
     requires { lines.old.stopped ≡ None }
     ensures ok { IfOk result (λ r.
-        MayGive lines.old (steps_behind lines.old.number (only packet)) (Ok r)) }
+        MayGive lines.old (steps_behind version lines.old.number (only packet)) (Ok r)) }
     ensures err { IfErr result (λ e. (e ≡ fault_at 900 places.None)
         ⊎ (Fails lines.old lines.new e
-        ⊎ MayGive lines.old (steps_behind lines.old.number (only packet)) (Err e))) }
+        ⊎ MayGive lines.old (steps_behind version lines.old.number (only packet)) (Err e))) }
 {
     let mut steps: Vec<Step> = Vec::new(alloc);
     'lines: loop {
-        match read_next(alloc, lines)? {
+        match read_next(alloc, version, lines)? {
             RunLine::Step(step) => {
                 if steps.len() >= STEPS {
                     return Err(Fault::at_line(501, lines.number()));
@@ -128,7 +139,8 @@ fn read_steps<R: Source>(
 
 /// Reads a refutation from its text, which begins with the next line and ends with the last.
 ///
-/// The text is a line `once-refutation 1`, one packet line and up to 1,000,000 step lines as in a run's text
+/// The text is a line `once-refutation 2`, or `once-refutation 1`, one packet line and up to 1,000,000 step lines as in a run's text
+/// of that version
 /// ([`fx_machine::read_run`]), and a line `end`. Whether the packet is of its class isn't looked at.
 ///
 /// Fails with 501 at the first line where something is wrong with its form, also at one that is missing; as the reader
@@ -141,7 +153,7 @@ pub fn read_refutation<R: Source>(
     ensures err { IfErr result (λ e. (e ≡ fault_at 900 places.None)
         ⊎ (Fails lines.old lines.new e ⊎ MayRead lines.old (Err e))) }
 {
-    read_first(lines)?;
-    let packet = read_packet(alloc, lines)?;
-    read_steps(alloc, packet, lines)
+    let version = read_first(lines)?;
+    let packet = read_packet(alloc, version, lines)?;
+    read_steps(alloc, version, packet, lines)
 }

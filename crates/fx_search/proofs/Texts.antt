@@ -8,7 +8,7 @@ use Rattle.fx_cert.specs.declared.item.Item.TheVariants as item
 use Rattle.fx_cert.specs.declared.item.Version.TheVariants.{One, Two}
 use Rattle.fx_cert.specs.ItemText.{IsItem, axis_word, item_text, item_words}
 use Rattle.fx_elements.specs.declared.axis.Axis.{Axis}
-use Rattle.fx_elements.specs.declared.axis.Axis.TheVariants.{Source, Destination, Protocol, SourcePort, DestinationPort, ClassOfService}
+use Rattle.fx_elements.specs.declared.axis.Axis.TheVariants.{Source, Destination, Protocol, SourcePort, DestinationPort, ClassOfService, Version, Source6, Destination6}
 use Rattle.fx_elements.proofs.Addresses.{decimal_avoids}
 use Rattle.fx_machine.specs.RunLineText.{ended_line}
 use Rattle.fx_machine.proofs.RunTexts.{AreWords, IsLine, IsWord, line_join, text_of_lines, written}
@@ -30,6 +30,9 @@ axis Protocol = written (codes "protocol") refl
 axis SourcePort = written (codes "sport") refl
 axis DestinationPort = written (codes "dport") refl
 axis ClassOfService = written (codes "tos") refl
+axis Version = written (codes "version") refl
+axis Source6 = written (codes "source6") refl
+axis Destination6 = written (codes "destination6") refl
 
 plain : (i : Item) → IsItem i → AreWords (item_words i)
 plain (item.Header One) h = (written (codes "once-certificate") refl, (written (codes "1") refl, tt))

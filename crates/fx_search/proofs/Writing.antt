@@ -8,7 +8,7 @@ use Rattle.fx_cert.specs.declared.item.Version.{Version}
 use Rattle.fx_cert.specs.declared.item.Version.TheVariants.{One, Two}
 use Rattle.fx_cert.specs.ItemText.{axis_word}
 use Rattle.fx_elements.specs.declared.axis.Axis.{Axis}
-use Rattle.fx_elements.specs.declared.axis.Axis.TheVariants.{Source, Destination, Protocol, SourcePort, DestinationPort, ClassOfService}
+use Rattle.fx_elements.specs.declared.axis.Axis.TheVariants as axes
 use Rattle.fx_elements.specs.Axes.{axis_index}
 use Rattle.fx_elements.proofs.EveryAxis.{index_below, top_small}
 use Rattle.fx_check.specs.Certificates.{IsWritable}
@@ -17,12 +17,15 @@ short_number : (n : ℕ) → n < 2 ^ 128 → length (decimal n) ≤ 39
 short_number n small = length-decimal-le_wide 39 n (omega arith) (omega (arith, small)) (omega (arith, small))
 
 word_length : (axis : Axis) → length (axis_word axis) ≤ 20
-word_length Source = omega arith
-word_length Destination = omega arith
-word_length Protocol = omega arith
-word_length SourcePort = omega arith
-word_length DestinationPort = omega arith
-word_length ClassOfService = omega arith
+word_length axes.Source = omega arith
+word_length axes.Destination = omega arith
+word_length axes.Protocol = omega arith
+word_length axes.SourcePort = omega arith
+word_length axes.DestinationPort = omega arith
+word_length axes.ClassOfService = omega arith
+word_length axes.Version = omega arith
+word_length axes.Source6 = omega arith
+word_length axes.Destination6 = omega arith
 
 pub class_writable : (c p : ℕ) → c < 2 ^ 64 → p < 2 ^ 64 → IsWritable (item.Class c p)
 class_writable c p h k =
