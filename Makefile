@@ -70,6 +70,7 @@ run-rows:
 	python3 tests/long_certificates.py ./once
 	python3 tests/refused_growth.py ./once
 	python3 tests/generated_networks.py ./once
+	python3 tests/addresses.py ./once
 
 # Replays the runs of the examples, checks their certificates and confirms their refutations, and compares with what
 # they should print; then has what an audit of each answers judged.

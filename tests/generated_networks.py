@@ -26,6 +26,9 @@ AXES = {
     "sourceTransportPort": ["0-1023", "443"],
     "destinationTransportPort": ["53", "1024-65535"],
     "ipClassOfService": ["0", "184"],
+    "ipVersion": ["4", "6"],
+    "sourceIPv6Address": ["2001:db8::/32", "2001:db8::1", "::-2001:db8:ffff:ffff::"],
+    "destinationIPv6Address": ["2001:DB8::192.0.2.1", "fe80::/10"],
 }
 FILTERS = [
     ("sourceIPv4Prefix", "0.0.0.0/1"),
@@ -35,6 +38,11 @@ FILTERS = [
     ("protocolIdentifier", "6"),
     ("destinationTransportPort", "53"),
     ("ipClassOfService", "0"),
+    ("ipVersion", "4"),
+    ("ipVersion", "6"),
+    ("sourceIPv6Prefix", "::/1"),
+    ("destinationIPv6Prefix", "fe80::/10"),
+    ("sourceIPv6Address", "2001:db8::1"),
 ]
 COUNTERS = [{"name": "octets", "ieId": 1}, {"name": "packets", "ieId": 2}]
 MODULE = "ietf-ipfix-psamp:ipfix"
@@ -62,8 +70,8 @@ def exporter(draw, name, most=3):
 
 def key_field(draw, name):
     """A field of an aggregation's or the report's key: an address may be a prefix."""
-    if name.endswith("IPv4Address") and draw.random() < 0.4:
-        return {"ieName": name.replace("Address", "Prefix"), "prefixLength": draw.choice([8, 16, 24])}
+    if name.endswith("Address") and draw.random() < 0.4:
+        return {"ieName": name.replace("Address", "Prefix"), "prefixLength": draw.choice([8, 16, 24] + [64, 127] * ("IPv6" in name))}
     return {"ieName": name}
 
 
@@ -71,7 +79,7 @@ def meter(draw, name, plain):
     exporters = [exporter(draw, f"ex{k}", 1 if plain else 3) for k in range(1 if plain else draw.randint(1, 2))]
     caches = []
     for k in range(draw.randint(1, 2)):
-        keys = [{"name": it, "ieName": it, "isFlowKey": [None]} for it in some(draw, list(AXES), 6 if plain else 1)]
+        keys = [{"name": it, "ieName": it, "isFlowKey": [None]} for it in some(draw, list(AXES), len(AXES) if plain else 1)]
         named = some(draw, [it["name"] for it in exporters], 0 if draw.random() < 0.1 else 1)
         caches.append({"name": f"cache{k}", "timeoutCache": {"cacheLayout": {"cacheField": keys + COUNTERS}}, "exportingProcess": named})
     processes = []

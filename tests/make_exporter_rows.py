@@ -1,12 +1,13 @@
 #!/usr/bin/env python3
-"""make_exporter_rows.py pmacctd|softflowd [FOLDER]: makes the row of a stream that this exporter sends.
+"""make_exporter_rows.py pmacctd|softflowd [FOLDER]: makes the rows of a stream that this exporter sends, in FOLDER.
 
 The capture (250 packets of 64 flows of IPv4 and 6 packets of 2 flows of IPv6, each frame cut to 64 octets) is written
-into the row's folder, read by the exporter, and what it sends over the loopback is stored, message after message. What
-must be printed is counted over the capture: packets and the total lengths of their IPv4 headers by source, destination,
-protocol and class of service, and a record without IPv4 addresses for each flow of IPv6. The gaps are counted from the
-messages' sequence numbers and record counts (RFC 7011, section 3.1). Where a message has a template with a counter of
-another length than 8 octets, what must be printed is 618 at that message. The export times are those of the day.
+into the first row's folder, read by the exporter, and what it sends over the loopback is stored, message after message,
+in each row. What must be printed is counted over the capture: packets and the lengths that their IP headers give, in the
+first row by the addresses of IPv4, protocol and class of service, in the second by those of IPv6 and the version; the
+records of the other version's flows are unassigned. The gaps are counted from the messages' sequence numbers and record
+counts (RFC 7011, section 3.1). Where a message has a template with a counter of another length than 8 octets, what must
+be printed is 618 at that message. The export times are those of the day.
 """
 import os
 import random
@@ -17,14 +18,16 @@ import sys
 import tempfile
 
 HERE = os.path.dirname(os.path.abspath(__file__))
-ROWS = {"pmacctd": "stream-of-pmacctd", "softflowd": "stream-of-softflowd"}
-AXES = ["sourceIPv4Address", "destinationIPv4Address", "protocolIdentifier", "ipClassOfService"]
+ROWS = {"pmacctd": {"stream-of-pmacctd": 4, "stream-of-pmacctd-by-addresses-of-ipv6": 6},
+        "softflowd": {"stream-of-softflowd": 4}}
+AXES = {4: ["sourceIPv4Address", "destinationIPv4Address", "protocolIdentifier", "ipClassOfService"],
+        6: ["protocolIdentifier", "ipClassOfService", "ipVersion", "sourceIPv6Address", "destinationIPv6Address"]}
 QUIET = 10
 
 
-def network():
-    keys = "".join('{"name":"%s","ieName":"%s","isFlowKey":[null]},\n' % (axis, axis) for axis in AXES)
-    report = ",".join('{"ieName":"%s"}' % axis for axis in AXES)
+def network(version):
+    keys = "".join('{"name":"%s","ieName":"%s","isFlowKey":[null]},\n' % (axis, axis) for axis in AXES[version])
+    report = ",".join('{"ieName":"%s"}' % axis for axis in AXES[version])
     return """{"devices":[{"name":"m1","config":{"ietf-ipfix-psamp:ipfix":{
 "observationPoint":[{"name":"op","observationDomainId":0,"ifName":["eth0"],"selectionProcess":["sp"]}],
 "selectionProcess":[{"name":"sp","selector":[{"name":"a","selectAll":[null]}],"cache":"ca"}],
@@ -90,20 +93,31 @@ def write_capture(path):
 
 
 def count(path):
-    """Packets and octets by key, and the flows of IPv6, of a capture: read octet by octet, by nobody's reader but ours."""
+    """Packets and octets by key, and the number of flows, by the version: read octet by octet, by nobody's reader but ours."""
     with open(path, "rb") as file:
         octets = file.read()
-    place, sums, others = 24, {}, set()
+    place, sums, flows = 24, {4: {}, 6: {}}, {4: set(), 6: set()}
     while place < len(octets):
         caught, = struct.unpack_from("<I", octets, place + 8)
         frame, place = octets[place + 16:place + 16 + caught], place + 16 + caught
-        if frame[12:14] == b"\x08\x00":
-            key = (frame[26:30], frame[30:34], frame[23], frame[15])
-            packets, total = sums.get(key, (0, 0))
-            sums[key] = (packets + 1, total + int.from_bytes(frame[16:18], "big"))
+        version = frame[14] >> 4
+        if version == 4:
+            key, ports = (frame[26:30], frame[30:34], frame[23], frame[15]), frame[34:38]
+            total = int.from_bytes(frame[16:18], "big")
         else:
-            others.add(frame[22:58])
-    return sums, len(others)
+            key, ports = (frame[20], int.from_bytes(frame[14:16], "big") >> 4 & 255, 6, frame[22:38], frame[38:54]), frame[54:58]
+            total = 40 + int.from_bytes(frame[18:20], "big")
+        flows[version].add((key, ports))
+        packets, so_far = sums[version].get(key, (0, 0))
+        sums[version][key] = (packets + 1, so_far + total)
+    return sums, {version: len(found) for version, found in flows.items()}
+
+
+def written(value):
+    """A value of a key: a number, an address of IPv4 or one of IPv6 in its eight groups."""
+    if isinstance(value, int):
+        return str(value)
+    return socket.inet_ntoa(value) if len(value) == 4 else ":".join("%x" % group for group in struct.unpack(">8H", value))
 
 
 def sets_of(message):
@@ -157,13 +171,12 @@ def gaps(messages):
     return found
 
 
-def totals(path, messages):
-    sums, others = count(path)
-    lines = ["keys %d" % len(sums)]
-    for (source, destination, protocol, tos), (packets, octets) in sorted(sums.items()):
-        words = socket.inet_ntoa(source), socket.inet_ntoa(destination), protocol, tos, packets, octets
-        lines.append("%s %s %d %d packets %d octets %d" % words)
-    lines += ["unassigned %d" % others, "gaps %d" % gaps(messages), "skipped 0"]
+def totals(path, messages, version):
+    sums, flows = count(path)
+    lines = ["keys %d" % len(sums[version])]
+    for key, counts in sorted(sums[version].items()):
+        lines.append("%s packets %d octets %d" % (" ".join(map(written, key)), *counts))
+    lines += ["unassigned %d" % flows[10 - version], "gaps %d" % gaps(messages), "skipped 0"]
     return "\n".join(lines) + "\n"
 
 
@@ -196,20 +209,26 @@ def sent(exporter, capture):
     return messages
 
 
-def main(exporter, folder=None):
-    row = folder or os.path.join(HERE, "rows", ROWS[exporter])
-    os.makedirs(row, exist_ok=True)
-    capture = os.path.join(row, "capture.pcap")
-    write_capture(capture)
-    messages = sent(exporter, capture)
+def write_row(row, version, capture, messages):
     octets, narrow = b"".join(messages), narrow_place(messages)
-    text = totals(capture, messages) if narrow is None else "refused 618 octet %d\n" % narrow
-    contents = {"stream.ipfix": octets, "network.json": network().encode(), "stdout": text.encode(),
+    text = totals(capture, messages, version) if narrow is None else "refused 618 octet %d\n" % narrow
+    contents = {"stream.ipfix": octets, "network.json": network(version).encode(), "stdout": text.encode(),
                 "status": b"0\n" if narrow is None else b"2\n", "words": b"collect network.json stream.ipfix\n"}
+    os.makedirs(row, exist_ok=True)
     for name, content in contents.items():
         with open(os.path.join(row, name), "wb") as file:
             file.write(content)
     print("%s: %d messages, %d octets" % (row, len(messages), len(octets)))
+
+
+def main(exporter, folder=os.path.join(HERE, "rows")):
+    first = os.path.join(folder, next(iter(ROWS[exporter])))
+    os.makedirs(first, exist_ok=True)
+    capture = os.path.join(first, "capture.pcap")
+    write_capture(capture)
+    messages = sent(exporter, capture)
+    for name, version in ROWS[exporter].items():
+        write_row(os.path.join(folder, name), version, capture, messages)
 
 
 if __name__ == "__main__":

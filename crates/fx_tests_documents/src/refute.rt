@@ -89,6 +89,22 @@ const REFUTATIONS: &[(&str, &str)] = &[
         "503 line 4",
     ),
     (
+        "once-refutation 2\npacket 1 1 10.0.0.0 0.0.0.0 0 0 0 0 0 0:0:0:0:0:0:0:0 0:0:0:0:0:0:0:1 1\ncross 1 1 n\nexpire cache 1 1 1 2\nend\n",
+        "503 line 4",
+    ),
+    (
+        "once-refutation 2\npacket 1 1 10.0.0.0 0.0.0.0 0 0 0 0 1\ncross 1 1 n\nend\n",
+        "501 line 2",
+    ),
+    (
+        "once-refutation 1\npacket 1 1 10.0.0.0 0.0.0.0 0 0 0 0 0 0:0:0:0:0:0:0:0 0:0:0:0:0:0:0:1 1\ncross 1 1 n\nend\n",
+        "501 line 2",
+    ),
+    (
+        "once-refutation 2\npacket 1 1 10.0.0.0 0.0.0.0 0 0 0 0 0 :: 0:0:0:0:0:0:0:1 1\ncross 1 1 n\nend\n",
+        "501 line 2",
+    ),
+    (
         "once-refutation 1\npacket 1 1 11.0.0.0 0.0.0.0 0 0 0 0 1\ncross 1 1 n\nexpire cache 1 1 1 2\nend\n",
         "502 line 2",
     ),
@@ -102,6 +118,7 @@ const REFUTATIONS: &[(&str, &str)] = &[
     ),
     ("", "501 line 1"),
     ("once-run 1\n", "501 line 1"),
+    ("once-refutation 3\n", "501 line 1"),
     ("once-refutation 1\nend\n", "501 line 2"),
     (
         "once-refutation 1\npacket 1 1 10.0.0.0 0.0.0.0 0 0 0 0 1\n",
@@ -144,8 +161,8 @@ fn confirms_refutations(rt: HostRuntime) -> Result<(), Fail> {
 }
 
 /// A text with steps of all forms.
-const TEXT: &[u8] = b"once-refutation 1
-packet 1 2 10.0.0.1 192.0.2.255 6 1000 80 32 18446744073709551615
+const TEXT: &[u8] = b"once-refutation 2
+packet 1 2 10.0.0.1 192.0.2.255 6 1000 80 32 4 0:0:0:0:0:0:0:0 fe80:0:0:0:a:b0:c00:d000 18446744073709551615
 cross 1 1 n 3
 cross 1 2
 expire cache 1 2 3 n

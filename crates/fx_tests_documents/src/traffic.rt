@@ -1,6 +1,7 @@
 //! Declarations of traffic, and the classes that they mean.
 use crate::documents;
 use fx_boxes::{Fields, Region};
+use fx_elements::{AXES, TOPS};
 use fx_machine::{Class, Path};
 use fx_traffic::Traffic;
 use std::alloc::Global;
@@ -20,20 +21,30 @@ fn only_class(traffic: &Traffic) -> Option<&Class> {
 }
 
 /// Whether a region holds the packet with these fields.
-fn holds(region: &Region, fields: [u128; 6]) -> Option<bool> {
+fn holds(region: &Region, fields: [u128; AXES]) -> Option<bool> {
     let fields = Fields::new(fields)?;
     Some(region.holds(&fields))
 }
 
 /// Whether the region has the sources of 10.0.0.0/8.
 fn is_of_ten(region: &Region) -> bool {
-    holds(region, [0x0a00_0000, 0, 0, 0, 0, 0]) == Some(true)
+    holds(region, [0x0a00_0000, 0, 0, 0, 0, 0, 0, 0, 0]) == Some(true)
         && holds(
             region,
-            [0x0aff_ffff, 0xffff_ffff, 0xff, 0xffff, 0xffff, 0xff],
+            [
+                0x0aff_ffff,
+                0xffff_ffff,
+                0xff,
+                0xffff,
+                0xffff,
+                0xff,
+                0xff,
+                u128::MAX,
+                u128::MAX,
+            ],
         ) == Some(true)
-        && holds(region, [0x09ff_ffff, 0, 0, 0, 0, 0]) == Some(false)
-        && holds(region, [0x0b00_0000, 0, 0, 0, 0, 0]) == Some(false)
+        && holds(region, [0x09ff_ffff, 0, 0, 0, 0, 0, 0, 0, 0]) == Some(false)
+        && holds(region, [0x0b00_0000, 0, 0, 0, 0, 0, 0, 0, 0]) == Some(false)
 }
 
 /// Whether the one path of several is one crossing, into `eth0` of the second device.
@@ -64,11 +75,10 @@ fn reads_a_class(rt: HostRuntime) -> Result<(), Fail> {
 
 /// Whether the class holds the last packet and has one path, of no crossings.
 fn is_whole(class: &Class) -> bool {
-    let last = [0xffff_ffff, 0xffff_ffff, 0xff, 0xffff, 0xffff, 0xff];
     let [path] = class.paths() else {
         return false;
     };
-    holds(&class.region(), last) == Some(true) && path.as_slice().is_empty() && !class.exempt()
+    holds(&class.region(), TOPS) == Some(true) && path.as_slice().is_empty() && !class.exempt()
 }
 
 #[test]
@@ -80,7 +90,7 @@ fn reads_what_may_be_left_out(rt: HostRuntime) -> Result<(), Fail> {
 }
 
 /// Whether the class lies between these corners.
-fn is_between(class: &Class, low: [u128; 6], high: [u128; 6]) -> bool {
+fn is_between(class: &Class, low: [u128; AXES], high: [u128; AXES]) -> bool {
     let region = class.region();
     region.corner().array() == low && region.far_corner().array() == high
 }
@@ -89,9 +99,31 @@ fn is_between(class: &Class, low: [u128; 6], high: [u128; 6]) -> bool {
 fn reads_spans(rt: HostRuntime) -> Result<(), Fail> {
     let text = r#"{"classes":[{"name":"a","region":{"sourceIPv4Address":"10.0.0.1-10.0.0.9",
         "destinationIPv4Address":"192.0.2.1","protocolIdentifier":"6","sourceTransportPort":"1024-65535",
-        "destinationTransportPort":"443","ipClassOfService":"0-0"},"paths":[[]]}]}"#;
-    let low = [0x0a00_0001, 0xc000_0201, 6, 1024, 443, 0];
-    let high = [0x0a00_0009, 0xc000_0201, 6, 65535, 443, 0];
+        "destinationTransportPort":"443","ipClassOfService":"0-0","ipVersion":"4",
+        "sourceIPv6Address":"2001:DB8::1-2001:db8::192.0.2.1","destinationIPv6Address":"2001:db8::/32"},"paths":[[]]}]}"#;
+    let network = 0x2001_0db8u128 << 96;
+    let low = [
+        0x0a00_0001,
+        0xc000_0201,
+        6,
+        1024,
+        443,
+        0,
+        4,
+        network + 1,
+        network,
+    ];
+    let high = [
+        0x0a00_0009,
+        0xc000_0201,
+        6,
+        65535,
+        443,
+        0,
+        4,
+        network + 0xc000_0201,
+        network + (u128::MAX >> 32),
+    ];
     let traffic = traffic_of(rt.alloc(), text)?;
     assert!(rt; only_class(&traffic).is_some_and(|class| is_between(class, low, high)));
     Ok(())

@@ -2,7 +2,7 @@
 use fx_base::{Counts, Fault, Room};
 use fx_boxes::Fields;
 use fx_collect::{Totals, put_number_line};
-use fx_elements::Axis;
+use fx_elements::{AXES, Axis};
 use fx_layout::{Key, Layout};
 use fx_machine::Record;
 use std::alloc::Global;
@@ -14,7 +14,7 @@ fn layout() -> Result<Layout, Fail> {
 }
 
 fn key(source: u128, protocol: u128) -> Result<Key, Fail> {
-    let fields = Fields::new([source, 0, protocol, 0, 0, 0]).ok_or("fields")?;
+    let fields = Fields::new([source, 0, protocol, 0, 0, 0, 4, 0, 0]).ok_or("fields")?;
     Ok(layout()?.key_of(&fields))
 }
 
@@ -24,7 +24,7 @@ type Flow = (Option<(u128, u128)>, u64, u64);
 fn record(flow: &Flow) -> Result<Record, Fail> {
     let key = match flow.0 {
         Some((source, protocol)) => key(source, protocol)?,
-        None => Layout::new().key_of(&Fields::of([0; 6])),
+        None => Layout::new().key_of(&Fields::of([0; AXES])),
     };
     let counts = Counts {
         packets: flow.1,
@@ -97,6 +97,35 @@ fn tells_totals(rt: HostRuntime) -> Result<(), Fail> {
 fn tells_all(rt: HostRuntime) -> Result<(), Fail> {
     let mut totals = Totals::new(rt.alloc(), Layout::new())?;
     assert!(rt; tells_one(&mut totals)?);
+    Ok(())
+}
+
+/// The version, 32 bits of the source and the destination.
+fn layout_of_ipv6() -> Result<Layout, Fail> {
+    let layout = Layout::new().with(Axis::Version, 8).ok_or("version")?;
+    let layout = layout.with(Axis::Source6, 32).ok_or("source")?;
+    Ok(layout.with(Axis::Destination6, 128).ok_or("destination")?)
+}
+
+/// A record of three packets from 2001:db8::1 to 2001:db8::9.
+fn record_of_ipv6() -> Result<Record, Fail> {
+    let hosts = 0x2001_0db8u128 << 96;
+    let fields = Fields::new([0, 0, 17, 1000, 53, 0, 6, hosts + 1, hosts + 9]).ok_or("fields")?;
+    let counts = Counts {
+        packets: 3,
+        octets: 186,
+    };
+    let key = layout_of_ipv6()?.key_of(&fields);
+    Ok(Record { key, counts })
+}
+
+#[test]
+fn tells_addresses_of_ipv6(rt: HostRuntime) -> Result<(), Fail> {
+    let mut totals = Totals::new(rt.alloc(), layout_of_ipv6()?)?;
+    totals.tally(&record_of_ipv6()?)?;
+    let text =
+        b"keys 1\n6 2001:db8:0:0:0:0:0:0/32 2001:db8:0:0:0:0:0:9 packets 3 octets 186\nunassigned 0\n";
+    assert!(rt; is_text(&mut totals, text)?);
     Ok(())
 }
 

@@ -20,6 +20,8 @@ mod parts;
 #[cfg(test)]
 mod session;
 #[cfg(test)]
+mod session_addresses;
+#[cfg(test)]
 mod session_hostile;
 #[cfg(test)]
 mod wrong_runs;

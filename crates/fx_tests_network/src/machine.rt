@@ -44,7 +44,9 @@ fn classes(alloc: Global) -> Result<Classes, Fail> {
 
 /// A packet from 10.0.0.1 to 192.0.2.1.
 fn packet(octets: u64, class: u64) -> Result<Packet, &'static str> {
-    let fields = Fields::new([0x0a00_0001, 0xc000_0201, 6, 1000, 80, 0]).ok_or("no fields")?;
+    let fields = Fields::new([0x0a00_0001, 0xc000_0201, 6, 1000, 80, 0, 4, 0, 0]).ok_or(
+        "no fields",
+    )?;
     Ok(Packet {
         fields,
         octets,

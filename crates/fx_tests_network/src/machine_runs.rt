@@ -2,8 +2,8 @@
 use crate::meters::sources;
 use fx_base::{Fault, LineReader, Octets, Room};
 use fx_machine::{
-    Class, Classes, HolderName, Packet, Path, Run, RunLine, Step, put_packet_line, put_step_line,
-    read_run, read_run_line, run_lines_have_one_text, run_texts,
+    Class, Classes, HolderName, Packet, Path, Run, RunLine, Step, TextVersion, put_packet_line,
+    put_step_line, read_run, read_run_line, run_lines_have_one_text, run_texts,
 };
 use std::alloc::Global;
 use std::test::Fail;
@@ -62,7 +62,7 @@ fn are_the_packets(packets: &[Packet]) -> bool {
     };
     first.octets == 18446744073709551614
         && second.octets == 1
-        && first.fields.array() == [0x0a00_0001, 0xc000_0201, 6, 1000, 80, 0]
+        && first.fields.array() == [0x0a00_0001, 0xc000_0201, 6, 1000, 80, 0, 4, 0, 0]
         && first.class == 1
         && first.path == 1
 }
@@ -82,6 +82,40 @@ fn is_the_run(run: Run) -> bool {
     let same = are_the_packets(run.packets()) && are_the_steps(run.steps());
     let (packets, steps) = run.into_parts();
     same && packets.len() == 2 && steps.len() == 4
+}
+
+/// A packet of IPv6 from 2001:db8::1 to 2001:db8::2, which is of the class too, since that tells no version.
+const WIDE: &[u8] = b"once-run 2\n\
+packet 1 1 10.0.0.0 0.0.0.0 17 53 1000 184 6 2001:db8:0:0:0:0:0:1 2001:db8:0:0:0:0:0:2 56\n\
+end\n";
+
+/// Whether it is the only packet.
+fn is_the_wide_packet(packets: &[Packet]) -> bool {
+    let [packet] = packets else {
+        return false;
+    };
+    let network = 0x2001_0db8u128 << 96;
+    packet.octets == 56
+        && packet.fields.array()
+            == [
+                0x0a00_0000,
+                0,
+                17,
+                53,
+                1000,
+                184,
+                6,
+                network + 1,
+                network + 2,
+            ]
+}
+
+#[test]
+fn reads_packets_of_ipv6(rt: HostRuntime) -> Result<(), Fail> {
+    let run = web_run(rt.alloc(), WIDE)?;
+    assert!(rt; is_the_wide_packet(run.packets()));
+    assert!(rt; run.steps().is_empty());
+    Ok(())
 }
 
 #[test]
@@ -145,7 +179,7 @@ fn reads_each_form_of_step(rt: HostRuntime) -> Result<(), Fail> {
 
 /// Whether a line is the end of a run, if it can be read.
 fn is_end(alloc: Global, line: &[u8]) -> Result<Option<bool>, Fail> {
-    Ok(match read_run_line(alloc, line)? {
+    Ok(match read_run_line(alloc, TextVersion::Two, line)? {
         Some(RunLine::End) => Some(true),
         Some(_) => Some(false),
         None => None,
@@ -175,11 +209,23 @@ fn first_lines<'a>(run: &Run, room: &mut Room<'a>) -> Result<(), Fault> {
 fn writes_lines(rt: HostRuntime) -> Result<(), Fail> {
     run_lines_have_one_text();
     let run = web_run(rt.alloc(), TWO_PACKETS)?;
-    let mut octets = [0u8; 128];
+    let mut octets = [0u8; 256];
     let mut room = Room::new(&mut octets);
     first_lines(&run, &mut room)?;
     let wanted =
-        b"packet 1 1 10.0.0.1 192.0.2.1 6 1000 80 0 18446744073709551614\ncross 1 1 n\n".as_slice();
+        b"packet 1 1 10.0.0.1 192.0.2.1 6 1000 80 0 4 0:0:0:0:0:0:0:0 0:0:0:0:0:0:0:0 18446744073709551614\ncross 1 1 n\n".as_slice();
+    assert!(rt; room.octets() == wanted);
+    Ok(())
+}
+
+#[test]
+fn writes_packets_of_ipv6(rt: HostRuntime) -> Result<(), Fail> {
+    let run = web_run(rt.alloc(), WIDE)?;
+    let mut octets = [0u8; 256];
+    let mut room = Room::new(&mut octets);
+    first_lines(&run, &mut room)?;
+    let wanted =
+        b"packet 1 1 10.0.0.0 0.0.0.0 17 53 1000 184 6 2001:db8:0:0:0:0:0:1 2001:db8:0:0:0:0:0:2 56\n".as_slice();
     assert!(rt; room.octets() == wanted);
     Ok(())
 }
@@ -194,9 +240,35 @@ fn is_refused(alloc: Global, text: &[u8], number: u16, line: u64) -> Result<bool
 }
 
 /// Texts, the number that each is refused with, and the line.
-const REFUSED: [(&[u8], u16, u64); 18] = [
+const REFUSED: [(&[u8], u16, u64); 24] = [
     (b"", 855, 1),
-    (b"once-run 2\nend\n", 854, 1),
+    (b"once-run 3\nend\n", 854, 1),
+    (b"once-run 2", 854, 1),
+    (
+        b"once-run 1\npacket 1 1 10.0.0.1 192.0.2.1 6 1000 80 0 4 0:0:0:0:0:0:0:0 0:0:0:0:0:0:0:0 1\nend\n",
+        855,
+        2,
+    ),
+    (
+        b"once-run 2\npacket 1 1 10.0.0.1 192.0.2.1 6 1000 80 0 1\nend\n",
+        855,
+        2,
+    ),
+    (
+        b"once-run 2\npacket 1 1 10.0.0.1 0.0.0.0 6 1000 80 0 6 ::1 0:0:0:0:0:0:0:0 1\nend\n",
+        855,
+        2,
+    ),
+    (
+        b"once-run 2\npacket 1 1 10.0.0.1 0.0.0.0 6 1000 80 0 6 0:0:0:0:0:0:0:0A 0:0:0:0:0:0:0:0 1\nend\n",
+        855,
+        2,
+    ),
+    (
+        b"once-run 2\npacket 1 1 10.0.0.1 0.0.0.0 6 1000 80 0 256 0:0:0:0:0:0:0:0 0:0:0:0:0:0:0:0 1\nend\n",
+        855,
+        2,
+    ),
     (b"once-run 1", 854, 1),
     (b"once-run 1\n", 855, 2),
     (b"once-run 1\nend", 855, 2),

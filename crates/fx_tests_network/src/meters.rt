@@ -3,14 +3,17 @@ ghost use Rattle.std.specs.Prelude.{◌≡◌, All, [], ◌∷◌, Some, IfOk};
 
 use fx_base::{Fault, Name};
 use fx_boxes::{Fields, Region};
+use fx_elements::TOPS;
 use fx_machine::{Crossing, Device, Point, Selection};
 use std::alloc::Global;
 use std::test::Fail;
 
 /// The packets with sources from one to another.
 pub(crate) fn sources(low: u128, high: u128) -> Result<Region, Fail> {
-    let low = Fields::new([low, 0, 0, 0, 0, 0]).ok_or("low")?;
-    let high = Fields::new([high, 0xffff_ffff, 255, 65535, 65535, 255]).ok_or("high")?;
+    let low = Fields::new([low, 0, 0, 0, 0, 0, 0, 0, 0]).ok_or("low")?;
+    let mut highs = TOPS;
+    highs[0] = high;
+    let high = Fields::new(highs).ok_or("high")?;
     Ok(Region::between(&low, &high).ok_or("region")?)
 }
 

@@ -34,7 +34,12 @@ fn message(alloc: Global, length: u16, content: &[u8]) -> Result<Vec<u8>, AllocE
 }
 
 /// Whether a message is refused with this number.
-fn is_refused(alloc: Global, length: u16, content: &[u8], number: u16) -> Result<bool, Fault> {
+pub(crate) fn is_refused(
+    alloc: Global,
+    length: u16,
+    content: &[u8],
+    number: u16,
+) -> Result<bool, Fault> {
     let stream = message(alloc, length, content)?;
     session::is_refused(alloc, stream.as_slice(), number, 0)
 }
@@ -68,7 +73,7 @@ const PREFIX: &[u8] = &[
 ];
 
 /// The first record of a stream.
-fn first_record(alloc: Global, stream: &[u8]) -> Result<Option<Record>, Fault> {
+pub(crate) fn first_record(alloc: Global, stream: &[u8]) -> Result<Option<Record>, Fault> {
     let mut session = Session::new(alloc)?;
     session.feed(stream)?;
     Ok(session.next_record())

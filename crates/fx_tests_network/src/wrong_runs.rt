@@ -82,7 +82,7 @@ fn asked(alloc: Global, net: &Net, exempt: bool) -> Result<Option<Vec<Step>>, Fa
 {
     let classes = classes(alloc, exempt)?;
     let packet = Packet {
-        fields: Fields::new([0x0a00_0001, 0, 0, 0, 0, 0]).ok_or("fields")?,
+        fields: Fields::new([0x0a00_0001, 0, 0, 0, 0, 0, 4, 0, 0]).ok_or("fields")?,
         octets: 1,
         class: 1,
         path: 1,

@@ -36,12 +36,22 @@ fn splits_and_meets(rt: HostRuntime) -> Result<(), Fail> {
 
 /// The least fields of 10.0.0.0/8.
 fn low() -> Option<Fields> {
-    Fields::new([0x0a00_0000, 0, 0, 0, 0, 0])
+    Fields::new([0x0a00_0000, 0, 0, 0, 0, 0, 0, 0, 0])
 }
 
 /// The greatest fields of 10.0.0.0/8.
 fn high() -> Option<Fields> {
-    Fields::new([0x0aff_ffff, 0xffff_ffff, 255, 65535, 65535, 255])
+    Fields::new([
+        0x0aff_ffff,
+        0xffff_ffff,
+        255,
+        65535,
+        65535,
+        255,
+        255,
+        u128::MAX,
+        u128::MAX,
+    ])
 }
 
 /// Whether the region between two fields holds both and not the fields behind it.
@@ -56,7 +66,7 @@ fn is_bounded(low: &Fields, high: &Fields, behind: &Fields) -> bool {
 fn bounds_a_region(rt: HostRuntime) -> Result<(), Fail> {
     let low = low().ok_or("low")?;
     let high = high().ok_or("high")?;
-    let behind = Fields::new([0x0b00_0000, 0, 0, 0, 0, 0]).ok_or("fields")?;
+    let behind = Fields::new([0x0b00_0000, 0, 0, 0, 0, 0, 0, 0, 0]).ok_or("fields")?;
     assert!(rt; is_bounded(&low, &high, &behind) && Region::between(&high, &low).is_none());
     Ok(())
 }
@@ -64,8 +74,8 @@ fn bounds_a_region(rt: HostRuntime) -> Result<(), Fail> {
 #[test]
 fn holds_values_that_fit(rt: HostRuntime) -> Result<(), Fail> {
     let low = low().ok_or("low")?;
-    assert!(rt; low.value_at(0) == 0x0a00_0000 && low.values().len() == 6);
-    assert!(rt; Fields::new([0, 0, 256, 0, 0, 0]).is_none());
-    assert!(rt; Fields::of([0; 6]).get(Axis::DestinationPort) == 0);
+    assert!(rt; low.value_at(0) == 0x0a00_0000 && low.values().len() == 9);
+    assert!(rt; Fields::new([0, 0, 256, 0, 0, 0, 0, 0, 0]).is_none());
+    assert!(rt; Fields::of([0; 9]).get(Axis::DestinationPort) == 0);
     Ok(())
 }

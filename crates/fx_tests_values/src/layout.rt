@@ -5,7 +5,7 @@ use fx_layout::{Key, Layout};
 use std::test::Fail;
 
 fn web_packet() -> Option<Fields> {
-    Fields::new([0x0a01_0203, 0xc000_0201, 6, 1000, 80, 0])
+    Fields::new([0x0a01_0203, 0xc000_0201, 6, 1000, 80, 0, 4, 0, 0])
 }
 
 /// Whether a layout has two parts, the first of the source address.
@@ -25,6 +25,8 @@ fn lays_out_in_axis_order(rt: HostRuntime) -> Result<(), Fail> {
         (Axis::Protocol, 7),
         (Axis::Destination, 0),
         (Axis::Destination, 33),
+        (Axis::Version, 4),
+        (Axis::Source6, 129),
     ] {
         assert!(rt; layout.with(axis, bits).is_none());
     }

@@ -1,4 +1,4 @@
-//! Captures of one packet: its ports, or why it is passed over.
+//! Captures of one packet: its protocol and ports, or why it is passed over.
 use fx_base::{Fault, Octets, Source};
 use fx_elements::Axis;
 use fx_pcap::Capture;
@@ -42,10 +42,10 @@ pub(crate) fn capture_of(
     Ok(capture)
 }
 
-/// What a capture of one record holds: the packet's ports, or how many frames were passed over.
+/// What a capture of one record holds: the packet's protocol and ports, or how many frames were passed over.
 #[derive(Clone, Copy, Debug, PartialEq, Eq)]
 enum Holding {
-    Ports(u128, u128),
+    Packet(u128, u128, u128),
     Passed(u64, u64),
 }
 
@@ -53,7 +53,8 @@ enum Holding {
 fn first<S: Source>(capture: &mut Capture<S>) -> Result<Holding, Fault> {
     if capture.advance()? {
         let fields = capture.frame().fields;
-        return Ok(Holding::Ports(
+        return Ok(Holding::Packet(
+            fields.get(Axis::Protocol),
             fields.get(Axis::SourcePort),
             fields.get(Axis::DestinationPort),
         ));
@@ -123,7 +124,7 @@ fn passes_over_tags(rt: HostRuntime) -> Result<(), Fail> {
     for tags in 0..4u8 {
         let whole = held_in_ethernet(alloc, tags, [0x08, 0x00], &TCP)?;
         let cut = held_of_cut(alloc, tags)?;
-        assert!(rt; whole == Holding::Ports(1000, 443) && cut == Holding::Passed(0, 1));
+        assert!(rt; whole == Holding::Packet(6, 1000, 443) && cut == Holding::Passed(0, 1));
     }
     Ok(())
 }
@@ -132,7 +133,7 @@ fn passes_over_tags(rt: HostRuntime) -> Result<(), Fail> {
 fn passes_over_other_frames(rt: HostRuntime) -> Result<(), Fail> {
     let malformed = changed(0, 0x65);
     for (tags, ether_type, packet, holding) in [
-        (1, [0x86, 0xdd], [].as_slice(), Holding::Passed(1, 0)),
+        (1, [0x08, 0x06], [].as_slice(), Holding::Passed(1, 0)),
         (0, [0x08, 0x00], &[], Holding::Passed(0, 1)),
         (0, [0x08, 0x00], &malformed, Holding::Passed(0, 1)),
     ] {
@@ -145,9 +146,9 @@ fn passes_over_other_frames(rt: HostRuntime) -> Result<(), Fail> {
 fn reads_a_packet_and_passes_over_cut_ones(rt: HostRuntime) -> Result<(), Fail> {
     for (packet, holding) in [
         ([].as_slice(), Holding::Passed(0, 1)),
-        (&[0x60], Holding::Passed(1, 0)),
+        (&[0x50], Holding::Passed(1, 0)),
         (&TCP[..19], Holding::Passed(0, 1)),
-        (&TCP, Holding::Ports(1000, 443)),
+        (&TCP, Holding::Packet(6, 1000, 443)),
     ] {
         assert!(rt; held(rt.alloc(), 101, packet)? == holding);
     }
@@ -158,11 +159,11 @@ fn reads_a_packet_and_passes_over_cut_ones(rt: HostRuntime) -> Result<(), Fail> 
 fn reads_ports_of_first_fragments_and_tells_malformed_packets(rt: HostRuntime) -> Result<(), Fail> {
     for (at, octet, holding) in [
         // More fragments, and a reserved bit: the offset is 0. Then an offset of 1.
-        (6, 0xe0, Holding::Ports(1000, 443)),
-        (7, 1, Holding::Ports(0, 0)),
+        (6, 0xe0, Holding::Packet(6, 1000, 443)),
+        (7, 1, Holding::Packet(6, 0, 0)),
         // Protocols with ports and without.
-        (9, 132, Holding::Ports(1000, 443)),
-        (9, 50, Holding::Ports(0, 0)),
+        (9, 132, Holding::Packet(132, 1000, 443)),
+        (9, 50, Holding::Packet(50, 0, 0)),
         // A header of 16 octets, a total length of 19, of 20 with ports behind it, and options that are cut.
         (0, 0x44, Holding::Passed(0, 1)),
         (3, 19, Holding::Passed(0, 1)),
@@ -171,5 +172,152 @@ fn reads_ports_of_first_fragments_and_tells_malformed_packets(rt: HostRuntime) -
     ] {
         assert!(rt; held(rt.alloc(), 101, &changed(at, octet))? == holding);
     }
+    Ok(())
+}
+
+/// Behind a fixed header: hop-by-hop options (a router alert, RFC 2711), then UDP with ports 53 and 1000.
+const HOP_BY_HOP: [u8; 16] = [
+    17, 0, 5, 2, 0, 0, 1, 0, //
+    0x00, 0x35, 0x03, 0xe8, 0, 8, 0, 0,
+];
+
+/// A routing header with one address (RFC 6275, section 6.4), then TCP's ports.
+const ROUTING: [u8; 28] = [
+    6, 2, 2, 1, 0, 0, 0, 0, 0, 0, 0, 0, 0, 0, 0, 0, 0, 0, 0, 0, 0, 0, 0, 1, //
+    0x00, 0x35, 0x03, 0xe8,
+];
+
+/// Destination options of 16 octets, all of them padding, then SCTP's ports.
+const OPTIONS: [u8; 20] = [
+    132, 1, 1, 12, 0, 0, 0, 0, 0, 0, 0, 0, 0, 0, 0, 0, //
+    0x00, 0x35, 0x03, 0xe8,
+];
+
+/// A first fragment, with its reserved bits and more to come, then UDP.
+const FIRST: [u8; 16] = [
+    17, 255, 0, 7, 0, 0, 0, 1, //
+    0x00, 0x35, 0x03, 0xe8, 0, 8, 0, 0,
+];
+
+/// A fragment that is whole, options, routing, options, hop-by-hop options, then UDP.
+const MANY: [u8; 48] = [
+    60, 0, 0, 0, 0, 0, 0, 1, //
+    43, 0, 1, 4, 0, 0, 0, 0, //
+    60, 0, 253, 0, 0, 0, 0, 0, //
+    0, 0, 1, 4, 0, 0, 0, 0, //
+    17, 0, 5, 2, 0, 0, 1, 0, //
+    0x00, 0x35, 0x03, 0xe8, 0, 8, 0, 0,
+];
+
+/// A jumbo payload of 65,544 octets (RFC 2675), then UDP.
+const JUMBO: [u8; 16] = [
+    17, 0, 0xc2, 4, 0, 1, 0, 8, //
+    0x00, 0x35, 0x03, 0xe8, 0, 0, 0, 0,
+];
+
+/// A packet of version 6 with this payload length and next header, and what was captured of its payload.
+fn packet6(
+    alloc: Global,
+    length: u8,
+    next_header: u8,
+    payload: &[u8],
+) -> Result<Vec<u8>, AllocError> {
+    let mut packet = Vec::from_slice(alloc, &[0x6b, 0x80, 0, 0, 0, length, next_header, 64])?;
+    packet.extend_from_slice(&[0; 32])?;
+    packet.extend_from_slice(payload)?;
+    Ok(packet)
+}
+
+/// What a raw capture of one packet of version 6 holds.
+fn held6(alloc: Global, length: u8, next_header: u8, payload: &[u8]) -> Result<Holding, Fault> {
+    let packet = packet6(alloc, length, next_header, payload)?;
+    held(alloc, 101, packet.as_slice())
+}
+
+#[test]
+fn passes_over_extension_headers(rt: HostRuntime) -> Result<(), Fail> {
+    for (length, next_header, payload, protocol) in [
+        (8, 17, &HOP_BY_HOP[8..], 17),
+        (16, 0, &HOP_BY_HOP, 17),
+        (28, 43, &ROUTING, 6),
+        (20, 60, &OPTIONS, 132),
+        (16, 44, &FIRST, 17),
+        (48, 44, &MANY, 17),
+    ] {
+        let holding = held6(rt.alloc(), length, next_header, payload)?;
+        assert!(rt; holding == Holding::Packet(protocol, 53, 1000));
+    }
+    Ok(())
+}
+
+#[test]
+fn reads_no_ports_of_other_protocols_and_later_fragments(rt: HostRuntime) -> Result<(), Fail> {
+    for (next_header, payload, protocol) in [
+        (59, [].as_slice(), 59),
+        (58, &[128, 0, 0, 0], 58),
+        (50, &HOP_BY_HOP, 50),
+        (51, &HOP_BY_HOP, 51),
+        // Fragments of offset 1, of the greatest, and one whose first fragment has more headers.
+        (44, &[17, 0, 0, 8, 0, 0, 0, 1, 0, 53, 3, 232], 17),
+        (44, &[6, 0, 0xff, 0xf8, 0, 0, 0, 1], 6),
+        (44, &[0, 0, 1, 0, 0, 0, 0, 1, 17, 0, 0, 0], 0),
+    ] {
+        let length = payload.len().min(255) as u8;
+        let holding = held6(rt.alloc(), length, next_header, payload)?;
+        assert!(rt; holding == Holding::Packet(protocol, 0, 0));
+    }
+    Ok(())
+}
+
+#[test]
+fn passes_over_cut_packets_of_version_6(rt: HostRuntime) -> Result<(), Fail> {
+    for (length, next_header, payload, holding) in [
+        // Ports, by the captured octets and by the payload length.
+        (8, 17, &HOP_BY_HOP[8..11], Holding::Passed(0, 1)),
+        (3, 17, &HOP_BY_HOP[8..], Holding::Passed(0, 1)),
+        (4, 17, &HOP_BY_HOP[8..12], Holding::Packet(17, 53, 1000)),
+        (16, 0, &HOP_BY_HOP[..11], Holding::Passed(0, 1)),
+        (11, 0, &HOP_BY_HOP, Holding::Passed(0, 1)),
+        (12, 0, &HOP_BY_HOP[..12], Holding::Packet(17, 53, 1000)),
+        // An extension header, of which two octets are read, or four of a fragment header.
+        (16, 0, &HOP_BY_HOP[..1], Holding::Passed(0, 1)),
+        (1, 0, &HOP_BY_HOP, Holding::Passed(0, 1)),
+        (16, 44, &FIRST[..3], Holding::Passed(0, 1)),
+        (3, 44, &FIRST, Holding::Passed(0, 1)),
+        (8, 60, &[58, 0], Holding::Packet(58, 0, 0)),
+        (8, 44, &[17, 0, 0, 8], Holding::Packet(17, 0, 0)),
+        // One that ends behind the packet.
+        (8, 60, &[17, 2, 1, 4, 0, 0, 0, 0], Holding::Passed(0, 1)),
+        (0, 0, &JUMBO, Holding::Passed(0, 1)),
+    ] {
+        assert!(rt; held6(rt.alloc(), length, next_header, payload)? == holding);
+    }
+    Ok(())
+}
+
+/// What a raw capture holds of the fixed header without its last octet.
+fn held_of_cut6(alloc: Global) -> Result<Holding, Fault> {
+    let mut packet = packet6(alloc, 0, 59, &[])?;
+    packet.truncate(39);
+    held(alloc, 101, packet.as_slice())
+}
+
+/// What a capture of one Ethernet frame with a packet of version 6 holds.
+fn held6_in_ethernet(alloc: Global, tags: u8, ether_type: [u8; 2]) -> Result<Holding, Fault> {
+    let packet = packet6(alloc, 16, 0, &HOP_BY_HOP)?;
+    held_in_ethernet(alloc, tags, ether_type, packet.as_slice())
+}
+
+#[test]
+fn reads_version_6_behind_its_ether_type(rt: HostRuntime) -> Result<(), Fail> {
+    let alloc = rt.alloc();
+    for tags in 0..4u8 {
+        let holding = held6_in_ethernet(alloc, tags, [0x86, 0xdd])?;
+        assert!(rt; holding == Holding::Packet(17, 53, 1000));
+    }
+    assert!(rt; held6_in_ethernet(alloc, 0, [0x08, 0x00])? == Holding::Passed(0, 1));
+    assert!(rt; held_in_ethernet(alloc, 2, [0x86, 0xdd], &TCP)? == Holding::Passed(0, 1));
+    assert!(rt; held_in_ethernet(alloc, 0, [0x86, 0xdd], &[])? == Holding::Passed(0, 1));
+    assert!(rt; held_of_cut6(alloc)? == Holding::Passed(0, 1));
     Ok(())
 }

@@ -4,7 +4,7 @@ ghost use Rattle.std.specs.Prelude.{false, Some};
 use crate::packets::{TCP, capture_of};
 use fx_base::{Fault, Fuse, Octets, Source};
 use fx_elements::Axis;
-use fx_pcap::{Capture, Frame, records_by_cases};
+use fx_pcap::{Capture, Frame, headers_one_by_one, records_by_cases};
 use std::alloc::Global;
 use std::test::Fail;
 
@@ -250,5 +250,81 @@ fn reads_in_pieces(rt: HostRuntime) -> Result<(), Fail> {
     // 67 calls that give three octets each, and one at the end
     assert!(rt; capture.get_ref().calls == 68);
     records_by_cases();
+    headers_one_by_one();
+    Ok(())
+}
+
+/// A packet of version 6 from 2001:db8::1 to 2001:db8::2: destination options, then UDP.
+const OPTIONS: [u8; 56] = [
+    0x6b, 0x80, 0x00, 0x00, 0x00, 0x10, 0x3c, 0x40, //
+    0x20, 0x01, 0x0d, 0xb8, 0x00, 0x00, 0x00, 0x00, 0x00, 0x00, 0x00, 0x00, 0x00, 0x00, 0x00, 0x01,
+    0x20, 0x01, 0x0d, 0xb8, 0x00, 0x00, 0x00, 0x00, 0x00, 0x00, 0x00, 0x00, 0x00, 0x00, 0x00, 0x02,
+    0x11, 0x00, 0x01, 0x04, 0x00, 0x00, 0x00, 0x00, 0x00, 0x35, 0x03, 0xe8, 0x00, 0x08, 0x00, 0x00,
+];
+
+/// The same with a fragment header of offset 1 in place of the options.
+const FRAGMENT: [u8; 56] = [
+    0x6b, 0x80, 0x00, 0x00, 0x00, 0x10, 0x2c, 0x40, //
+    0x20, 0x01, 0x0d, 0xb8, 0x00, 0x00, 0x00, 0x00, 0x00, 0x00, 0x00, 0x00, 0x00, 0x00, 0x00, 0x01,
+    0x20, 0x01, 0x0d, 0xb8, 0x00, 0x00, 0x00, 0x00, 0x00, 0x00, 0x00, 0x00, 0x00, 0x00, 0x00, 0x02,
+    0x11, 0x00, 0x00, 0x08, 0x00, 0x00, 0x00, 0x01, 0x00, 0x35, 0x03, 0xe8, 0x00, 0x08, 0x00, 0x00,
+];
+
+/// A fixed header of ICMPv6 with traffic class 255 and the greatest payload length, none of which was captured.
+const LONGEST: [u8; 40] = [
+    0x6f, 0xff, 0xff, 0xff, 0xff, 0xff, 0x3a, 0x40, //
+    0x20, 0x01, 0x0d, 0xb8, 0x00, 0x00, 0x00, 0x00, 0x00, 0x00, 0x00, 0x00, 0x00, 0x00, 0x00, 0x01,
+    0x20, 0x01, 0x0d, 0xb8, 0x00, 0x00, 0x00, 0x00, 0x00, 0x00, 0x00, 0x00, 0x00, 0x00, 0x00, 0x02,
+];
+
+/// What a frame says, its version, and its addresses: of IPv4 and of IPv6.
+fn whole(frame: &Frame<'_>) -> (([u128; 4], u32, u32), u128, [u128; 4]) {
+    let addresses = [
+        frame.fields.get(Axis::Source),
+        frame.fields.get(Axis::Destination),
+        frame.fields.get(Axis::Source6),
+        frame.fields.get(Axis::Destination6),
+    ];
+    (said(frame), frame.fields.get(Axis::Version), addresses)
+}
+
+/// What the first frame of a raw capture of the packet says, with its version and addresses.
+fn whole_of(
+    alloc: Global,
+    packet: &[u8],
+) -> Result<Option<(([u128; 4], u32, u32), u128, [u128; 4])>, Fault> {
+    let octets = capture_of(alloc, true, 0xa1b2_c3d4, 101, packet)?;
+    let mut capture = Capture::new(alloc, Octets::new(octets.as_slice()))?;
+    match capture.next_packet()? {
+        Some(frame) => Ok(Some(whole(&frame))),
+        None => Ok(None),
+    }
+}
+
+#[test]
+fn reads_either_version(rt: HostRuntime) -> Result<(), Fail> {
+    let from = 0x2001_0db8_0000_0000_0000_0000_0000_0001;
+    let to = 0x2001_0db8_0000_0000_0000_0000_0000_0002;
+    for (packet, fields, octets, version, addresses) in [
+        (
+            OPTIONS.as_slice(),
+            [17, 53, 1000, 184],
+            56,
+            6,
+            [0, 0, from, to],
+        ),
+        (&FRAGMENT, [17, 0, 0, 184], 56, 6, [0, 0, from, to]),
+        (&LONGEST, [58, 0, 0, 255], 65_575, 6, [0, 0, from, to]),
+        (
+            &TCP,
+            [6, 1000, 443, 184],
+            40,
+            4,
+            [0x0a00_0001, 0xc000_0201, 0, 0],
+        ),
+    ] {
+        let frame = whole_of(rt.alloc(), packet)?;
+        assert!(rt; frame == Some(((fields, octets, 7), version, addresses)));
+    }
     Ok(())
 }

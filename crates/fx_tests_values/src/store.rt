@@ -15,7 +15,7 @@ const COUNTS: Counts = Counts {
 /// The key of packets from this address.
 fn from(source: u128) -> Result<Key, Fail> {
     let layout = Layout::new().with(Axis::Source, 32).ok_or("layout")?;
-    let fields = Fields::new([source, 0, 0, 0, 0, 0]).ok_or("fields")?;
+    let fields = Fields::new([source, 0, 0, 0, 0, 0, 4, 0, 0]).ok_or("fields")?;
     Ok(layout.key_of(&fields))
 }
 
@@ -101,7 +101,7 @@ fn is_least_of<S: FlowStore>(store: &mut S, layout: &Layout) -> bool {
 
 /// Adds at keys of two layouts that have the same value: whether both are held, this layout's first.
 fn are_apart<S: FlowStore>(store: &mut S, wide: &Layout) -> Result<bool, Fail> {
-    let fields = Fields::new([0x0a00_0000, 0, 0, 0, 0, 0]).ok_or("fields")?;
+    let fields = Fields::new([0x0a00_0000, 0, 0, 0, 0, 0, 4, 0, 0]).ok_or("fields")?;
     let left = add(store, 10)?;
     store.add(wide.key_of(&fields), COUNTS)?;
     Ok(left.is_none() && store.len() == 2 && is_least_of(store, wide))

@@ -152,6 +152,42 @@ fn refuses_a_short_address(rt: HostRuntime) {
     );
 }
 
+/// Fields of a source address, a source prefix, its length and the version.
+const IPV6: [u8; 16] = [0, 27, 0, 16, 0, 170, 0, 16, 0, 29, 0, 1, 0, 60, 0, 1];
+
+#[test]
+fn reads_fields_of_ipv6(rt: HostRuntime) {
+    let mut fields = FieldSpecifiers::new(4, &IPV6);
+    for expected in [
+        Element::OnAxis(Axis::Source6),
+        Element::Prefix(Axis::Source6),
+        Element::PrefixLength(Axis::Source6),
+        Element::OnAxis(Axis::Version),
+    ] {
+        assert!(rt; matches!(fields.next(), Some(Ok(field)) if field.element() == expected));
+    }
+    assert!(rt; fields.next().is_none() && fields.rest().is_empty());
+}
+
+#[test]
+fn takes_whole_addresses_alone(rt: HostRuntime) {
+    for (element, length, others) in [
+        (Element::OnAxis(Axis::Destination), 4, [3, 16, VARIABLE]),
+        (Element::OnAxis(Axis::Destination6), 16, [4, 15, VARIABLE]),
+        (Element::Prefix(Axis::Destination), 4, [3, 16, VARIABLE]),
+        (Element::Prefix(Axis::Destination6), 16, [4, 17, VARIABLE]),
+        (
+            Element::PrefixLength(Axis::Destination6),
+            1,
+            [0, 2, VARIABLE],
+        ),
+        (Element::OnAxis(Axis::Version), 1, [0, 2, VARIABLE]),
+    ] {
+        assert!(rt; can_have(element, length));
+        assert!(rt; others.iter().all(|other| !can_have(element, *other)));
+    }
+}
+
 /// A source address, and an interface name of variable length.
 const FIELDS: [FieldSpecifier; 2] = [
     FieldSpecifier {
