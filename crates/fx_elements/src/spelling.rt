@@ -89,8 +89,10 @@ pub fn one_spelling()
     ensures address { (v : ℕ) → v < 2 ^ 32 → quad_of (quad v) ≡ Some v }
     ensures only_address { (v : ℕ) (text : List ℕ) → quad_of text ≡ Some v → (text ≡ quad v) × (v < 2 ^ 32) }
     ensures wide { (v : ℕ) → v < 2 ^ 128 → groups_of (groups v) ≡ Some v }
-    ensures only_wide { (v : ℕ) (text : List ℕ) → groups_of text ≡ Some v → (text ≡ groups v) × (v < 2 ^ 128) }
-    ensures written { (axis : Axis) (v : ℕ) → v ≤ slice_index tops (axis_index axis) → written_on axis (value_text axis v) ≡ Some v }
+    ensures only_wide { (v : ℕ) (text : List ℕ) → groups_of text ≡ Some v
+        → (text ≡ groups v) × (v < 2 ^ 128) }
+    ensures written { (axis : Axis) (v : ℕ) → v ≤ slice_index tops (axis_index axis)
+        → written_on axis (value_text axis v) ≡ Some v }
     ensures only_written { (axis : Axis) (text : List ℕ) (v : ℕ) → written_on axis text ≡ Some v
         → (text ≡ value_text axis v) × (v ≤ slice_index tops (axis_index axis)) }
     ensures leading { (v n : ℕ) → v < 2 ^ 32 → 0 < n → n ≤ 32 → prefix_of (prefix v n) ≡ Some (v, n) }

@@ -47,7 +47,8 @@ pub fn read_on(axis: Axis, text: &[u8]) -> Option<u128>
 /// The address on the axis and the number of leading bits that the text spells; None on an axis without addresses.
 fn read_prefix_on(axis: Axis, text: &[u8]) -> Option<(u128, u128)>
     ensures value { result ≡ prefix_on axis text.now }
-    ensures bound { IfSome result (λ p. (p.0 < 2 ^ axis_width axis) × (0 < p.1) × (p.1 ≤ axis_width axis)) }
+    ensures bound { IfSome result (λ p. (p.0 < 2 ^ axis_width axis) × (0 < p.1)
+        × (p.1 ≤ axis_width axis)) }
 {
     if axis.is_wide() {
         read_prefix6(text)
@@ -107,7 +108,8 @@ pub fn read_value(element: Element, text: &str) -> Option<Range>
 
 /// What is read on an axis stands within it, and so do prefixes.
 pub fn values_fit()
-    ensures value { (axis : Axis) (text : List ℕ) (v : ℕ) → value_on axis text ≡ Some v → v ≤ slice_index tops (axis_index axis) }
+    ensures value { (axis : Axis) (text : List ℕ) (v : ℕ) → value_on axis text ≡ Some v
+        → v ≤ slice_index tops (axis_index axis) }
     ensures leading { (axis : Axis) (text : List ℕ) (p : ℕ × ℕ) → prefix_on axis text ≡ Some p
         → (p.0 < 2 ^ axis_width axis) × (0 < p.1) × (p.1 ≤ axis_width axis) }
 {}

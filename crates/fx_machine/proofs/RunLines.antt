@@ -39,7 +39,7 @@ at_line_of old new going h e = subst (λ b. Advances old new (Ok b)) e h
 short : (old new : Lines) → AtLine old new → nat_lt 4096 (length new.line) ≡ false
 short old new at = le-ltb 4096 (length new.line) at.short
 
--- what reads lines comes version to, at a line, whatever follows it
+-- what reads lines comes to, at a line, whatever follows it
 with_line : (read : List Line → Result Run Fault) (result : Result Run Fault) (old new : Lines) → AtLine old new → ((ls : List Line) → read ((new.line, new.ended) ∷ ls) ≡ result) → (text : List ℕ) × MayBeLeft old.left text × (read (text_lines text) ≡ result)
 with_line read result old new at all =
     let some = something_follows old new at in
@@ -75,7 +75,7 @@ ends_late old new run at =
 record RefusesLong (read : List Line → Result Run Fault) (n : ℕ) : Type 0 where
   long : (l : Line) (ls : List Line) → nat_lt 4096 (length l.0) ≡ true → read (l ∷ ls) ≡ Err (at_line 903 (next_number n))
 
--- the line that comes version is too long, in a text that may be left
+-- the line that comes is too long, in a text that may be left
 abbrev pub MayBeLong : Lines → Fault → Type 0
 MayBeLong old e = (e ≡ fault_at 903 (places.Line (next_number old.number))) × ((text : List ℕ) × MayBeLeft old.left text × (4096 < line_len text))
 
@@ -122,7 +122,7 @@ fails_behind : (first old new : Lines) (e : Fault) → old.stopped ≡ None → 
 fails_behind first old new e going on (inl before) = absurd (cc)
 fails_behind first old new e going on (inr (is, cut)) = inr (is, cut_off_behind first old new on cut)
 
--- what comes version of what is behind the lines that were read comes version of the whole
+-- what comes of what is behind the lines that were read comes of the whole
 comes : (version : TextVersion) (classes : List Class) (first old : Lines) (run : Run) (result : Result Run Fault) → ReadsOn version classes first old run → MayReadBehind version classes old run result → MayRead classes first result
 comes version classes first old run result reads (rest, left, is) =
     let before = reads rest left in

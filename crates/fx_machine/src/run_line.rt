@@ -66,7 +66,8 @@ struct LastFields {
 #[tactic(auto, unfolding(crate::specs::RunReading::last_first))]
 fn read_last(version: TextVersion, words: Words<'_>) -> Option<(LastFields, Words<'_>)>
     ensures value { result ≡ last_first version words.entry }
-    ensures bound { IfSome result (λ r. (r.0.version ≤ 255) × (r.0.source < 2 ^ 128) × (r.0.destination < 2 ^ 128)) }
+    ensures bound { IfSome result (λ r. (r.0.version ≤ 255) × (r.0.source < 2 ^ 128)
+        × (r.0.destination < 2 ^ 128)) }
 {
     match version {
         TextVersion::One => Some((

@@ -49,7 +49,8 @@ fn read_next<R: Source>(
     ensures ok { IfOk result (λ x. ReadsNext version lines.old lines.new x) }
     ensures smaller { OnOk result (budget lines.new < budget lines.old) }
     ensures err { IfErr result (λ e. (e ≡ fault_at 900 places.None) ⊎ (Fails lines.old lines.new e
-        ⊎ ((classes : List Class) (run : Run) → MayReadBehind version classes lines.old run (Err e)))) }
+        ⊎ ((classes : List Class) (run : Run)
+        → MayReadBehind version classes lines.old run (Err e)))) }
 {
     if !lines.advance()? {
         return Err(Fault::at_line(855, lines.number().saturating_add(1)));
@@ -79,13 +80,15 @@ fn read_end<R: Source>(lines: &mut LineReader<R>) -> Result<(), Fault>
 /// Reads a run from its text, which begins with the next line and ends with the last.
 ///
 /// The text is a line `once-run 2`; a line `packet CLASS PATH SOURCE DESTINATION PROTOCOL SOURCE-PORT
-/// DESTINATION-PORT CLASS-OF-SERVICE VERSION SOURCE6 DESTINATION6 OCTETS` for each packet, with addresses as dotted
-/// quads or as eight groups (lower case, no leading zeros, no `::`); a line for each step, which is `cross PACKET CROSSING CHOICES`, `expire cache DEVICE CACHE POSITION CHOICES`,
+/// DESTINATION-PORT CLASS-OF-SERVICE VERSION SOURCE6 DESTINATION6 OCTETS` for each packet, with addresses as
+/// dotted quads or as eight groups (lower case, no leading zeros, no `::`); a line for each step, which is
+/// `cross PACKET CROSSING CHOICES`, `expire cache DEVICE CACHE POSITION CHOICES`,
 /// `expire aggregation DEVICE PROCESS AGGREGATION POSITION CHOICES` or `arrive LINK POSITION CHOICES`; and a
 /// line `end`. One space stands between two words, a line feed ends each line, and numbers are decimal without
-/// leading zeros, below 2 to the 64 or within their axis. A choice is `n`, a new record, or a number. A text whose
-/// first line is `once-run 1` has the six values up to the class of service in a packet's line; its packets are of
-/// IPv4, with the version 4 and zeros as addresses of IPv6.
+/// leading zeros, below 2 to the 64 or within their axis. A choice is `n`, a new record, or a number.
+///
+/// A text whose first line is `once-run 1` has the six values up to the class of service in a packet's line; its
+/// packets are of IPv4, with the version 4 and zeros as addresses of IPv6.
 ///
 /// Fails, at the first line where something is wrong, with 854 where the first line is neither of these, 855
 /// where a later line isn't well-formed, is a packet behind a step, comes behind `end`, or is missing, and 856

@@ -22,8 +22,8 @@ fn put_steps<S: Sink>(sink: &mut S, steps: &[Step]) -> Result<(), Fault>
     Ok(())
 }
 
-/// Writes the text of a refutation in its second version, which [`read_refutation`](crate::read_refutation) reads as that refutation
-/// where no line has more than 4,096 octets.
+/// Writes the text of a refutation in its second version, which
+/// [`read_refutation`](crate::read_refutation) reads as that refutation where no line has more than 4,096 octets.
 ///
 /// Fails with 902, at no place, where a write fails. How much the sink has taken then is open.
 pub fn put_refutation<S: Sink>(sink: &mut S, refutation: &Refutation) -> Result<(), Fault>

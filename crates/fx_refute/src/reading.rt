@@ -139,9 +139,9 @@ fn read_steps<R: Source>(
 
 /// Reads a refutation from its text, which begins with the next line and ends with the last.
 ///
-/// The text is a line `once-refutation 2`, or `once-refutation 1`, one packet line and up to 1,000,000 step lines as in a run's text
-/// of that version
-/// ([`fx_machine::read_run`]), and a line `end`. Whether the packet is of its class isn't looked at.
+/// The text is a line `once-refutation 2`, or `once-refutation 1`, one packet line and up to 1,000,000 step lines
+/// as in a run's text of that version ([`fx_machine::read_run`]), and a line `end`. Whether the packet is of its
+/// class isn't looked at.
 ///
 /// Fails with 501 at the first line where something is wrong with its form, also at one that is missing; as the reader
 /// of lines does where that stands; and with 900, at no place, for want of memory.
