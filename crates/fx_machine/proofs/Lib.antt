@@ -16,8 +16,11 @@ pub mod RunLines
 pub mod RunStepTexts
 pub mod RunTexts
 pub mod RunPutting
+pub mod AlikePackets
+pub mod AlikeClaims
 mod SumExamples
 pub mod ClaimExamples
 mod StuckExamples
 mod ChoiceExamples
 mod MeterExamples
+mod AxisExamples

@@ -8,6 +8,8 @@ pub mod Steps
 pub mod Moves
 pub mod Sums
 pub mod Claim
+pub mod NamedAxes
+pub mod ClaimsOfSome
 pub mod Ranks
 pub mod Runnable
 pub mod CompleteRun

@@ -1,10 +1,18 @@
-//! Laws of the steps and of their text.
-ghost use Rattle.std.specs.Prelude.{◌≡◌, ℕ, List, Ok, Some, map};
+//! Laws of the steps, of what a network names, and of the text of runs.
+ghost use Rattle.std.specs.Prelude.{◌≡◌, ◌↔◌, ℕ, Bool, List, Ok, Some, map};
 ghost use Rattle.std.specs.List.{AllByRecursion};
 ghost use Rattle.fx_base.specs.Lines.{text_lines};
+ghost use Rattle.fx_boxes.specs.Boxes.{IsFields};
+ghost use Rattle.fx_elements.specs.Axes.{Fields, field};
+ghost use Rattle.fx_elements.specs.declared.axis.Axis.{Axis};
+ghost use Rattle.fx_elements.specs.declared.axis.Axis.TheVariants.{Version, Source6, Destination6};
+ghost use Rattle.fx_layout.specs.Keys.{Key};
+ghost use Rattle.fx_machine.specs.Claim.{ExactlyOnce, OnceModulo};
+ghost use Rattle.fx_machine.specs.ClaimsOfSome.{ExactlyOnceOf, OnceModuloOf};
 ghost use Rattle.fx_machine.specs.Classes as traffic;
 ghost use Rattle.fx_machine.specs.CompleteRun as complete_run;
 ghost use Rattle.fx_machine.specs.Moves as moves;
+ghost use Rattle.fx_machine.specs.NamedAxes as axes;
 ghost use Rattle.fx_machine.specs.Network as network;
 ghost use Rattle.fx_machine.specs.Ranks as ranks;
 ghost use Rattle.fx_machine.specs.RunLineText.{IsOneLine, IsRunLine, ended_line, run_line_text};
@@ -13,6 +21,7 @@ ghost use Rattle.fx_machine.specs.RunText.{lines_text};
 ghost use Rattle.fx_machine.specs.Runnable as runnable;
 ghost use Rattle.fx_machine.specs.States as states;
 ghost use Rattle.fx_machine.specs.Steps as steps;
+ghost use Rattle.fx_machine.specs.Sums.{SumsFit, plain_sum};
 ghost use Rattle.fx_machine.specs.declared.packet.Packet as of_packet;
 ghost use Rattle.fx_machine.specs.declared.run_line.RunLine as of_line;
 ghost use Rattle.fx_machine.specs.declared.step.Step as of_step;
@@ -61,4 +70,74 @@ pub fn run_lines_have_one_text()
         → text_lines (lines_text lines) ≡ map ended_line lines }
     ensures text { (text : List ℕ) (lines : List (List ℕ)) → text_lines text ≡ map ended_line lines
         → text ≡ lines_text lines }
+{}
+
+/// What a network doesn't name means nothing: it does the same with packets that are alike but for values on axes
+/// that it doesn't name, and what is promised of packets that have 0 there is promised of all.
+pub fn unnamed_axes_mean_nothing()
+    ensures all_fields_fit { (named : Axis → Bool) (f : Fields)
+        → IsFields f → axes.FitsElsewhere named f }
+    ensures of_class { (named : Axis → Bool) (classes : List traffic.Class)
+        (p : of_packet.Packet) (q : of_packet.Packet)
+        → axes.ClassesNameOnly named classes → axes.IsAlike named p q
+        → (traffic.IsOf p (network.numbered classes p.class)
+        ↔ traffic.IsOf q (network.numbered classes q.class)) }
+    ensures opening { (named : Axis → Bool) (net : network.Net) (classes : List traffic.Class)
+        (ps : List of_packet.Packet) (qs : List of_packet.Packet) → axes.AreAlike named ps qs
+        → states.opening net classes ps ≡ states.opening net classes qs }
+    ensures step { (named : Axis → Bool) (net : network.Net) (classes : List traffic.Class)
+        (ps : List of_packet.Packet) (qs : List of_packet.Packet)
+        → axes.NamesOnly named net → axes.AreAlike named ps qs
+        → (step : of_step.Step) (s : states.State)
+        → steps.after net classes ps step s ≡ steps.after net classes qs step s }
+    ensures run { (named : Axis → Bool) (net : network.Net) (classes : List traffic.Class)
+        (ps : List of_packet.Packet) (qs : List of_packet.Packet)
+        → axes.NamesOnly named net → axes.AreAlike named ps qs
+        → (written : List of_step.Step) (s : states.State)
+        → steps.run net classes ps written s ≡ steps.run net classes qs written s }
+    ensures runs { (named : Axis → Bool) (net : network.Net) (classes : List traffic.Class)
+        (ps : List of_packet.Packet) (qs : List of_packet.Packet)
+        → axes.NamesOnly named net → axes.AreAlike named ps qs
+        → (s : states.State) (last : states.State)
+        → (moves.Runs net classes ps s last ↔ moves.Runs net classes qs s last) }
+    ensures sums { (named : Axis → Bool) (net : network.Net) (classes : List traffic.Class)
+        (ps : List of_packet.Packet) (qs : List of_packet.Packet)
+        → axes.NamesOnly named net → axes.AreAlike named ps qs → (key : Key)
+        → plain_sum net.report_layout key (traffic.to_count classes ps)
+        ≡ plain_sum net.report_layout key (traffic.to_count classes qs) }
+    ensures sums_fit { (named : Axis → Bool) (net : network.Net) (classes : List traffic.Class)
+        (ps : List of_packet.Packet) (qs : List of_packet.Packet)
+        → axes.NamesOnly named net → axes.AreAlike named ps qs
+        → (SumsFit net.report_layout (traffic.to_count classes ps)
+        ↔ SumsFit net.report_layout (traffic.to_count classes qs)) }
+    // So zeros stand for all values.
+    ensures once { (named : Axis → Bool) (net : network.Net) (classes : List traffic.Class)
+        → axes.NamesOnly named net → axes.ClassesNameOnly named classes
+        → (ExactlyOnceOf (axes.HasZerosElsewhere named) net classes ↔ ExactlyOnce net classes) }
+    ensures modulo { (named : Axis → Bool) (net : network.Net) (classes : List traffic.Class)
+        → axes.NamesOnly named net → axes.ClassesNameOnly named classes
+        → (OnceModuloOf (axes.HasZerosElsewhere named) net classes ↔ OnceModulo net classes) }
+{}
+
+/// Networks and classes that name only six axes mean what they meant before the three of IPv6 stood behind these:
+/// what is promised of packets with 0 on the three, or of packets with values on the six alone, is promised of all.
+pub fn six_axes_suffice()
+    ensures once { (net : network.Net) (classes : List traffic.Class)
+        → axes.NamesOnly axes.is_of_six net → axes.ClassesNameOnly axes.is_of_six classes
+        → (ExactlyOnceOf (axes.HasZerosElsewhere axes.is_of_six) net classes
+        ↔ ExactlyOnce net classes) }
+    ensures modulo { (net : network.Net) (classes : List traffic.Class)
+        → axes.NamesOnly axes.is_of_six net → axes.ClassesNameOnly axes.is_of_six classes
+        → (OnceModuloOf (axes.HasZerosElsewhere axes.is_of_six) net classes
+        ↔ OnceModulo net classes) }
+    // Where those zeros are.
+    ensures zeros { (p : of_packet.Packet) → (axes.HasZerosElsewhere axes.is_of_six p
+        ↔ ((field p.fields Version ≡ 0) × (field p.fields Source6 ≡ 0)
+        × (field p.fields Destination6 ≡ 0))) }
+    ensures once_of_six_values { (net : network.Net) (classes : List traffic.Class)
+        → axes.NamesOnly axes.is_of_six net → axes.ClassesNameOnly axes.is_of_six classes
+        → (ExactlyOnceOf axes.HasSixValues net classes ↔ ExactlyOnce net classes) }
+    ensures modulo_of_six_values { (net : network.Net) (classes : List traffic.Class)
+        → axes.NamesOnly axes.is_of_six net → axes.ClassesNameOnly axes.is_of_six classes
+        → (OnceModuloOf axes.HasSixValues net classes ↔ OnceModulo net classes) }
 {}

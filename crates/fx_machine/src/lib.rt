@@ -33,7 +33,10 @@ pub use aggregation::{Aggregation, MatchEntry};
 pub use device::Device;
 pub use exporter::Exporter;
 pub use holder::Holder;
-pub use laws::{choices_are_free, complete_runs_exist, run_lines_have_one_text};
+pub use laws::{
+    choices_are_free, complete_runs_exist, run_lines_have_one_text, six_axes_suffice,
+    unnamed_axes_mean_nothing,
+};
 pub use net::Net;
 pub use observation::{Occurrence, Point, Selection};
 pub use packet::Packet;

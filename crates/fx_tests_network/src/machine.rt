@@ -5,7 +5,7 @@ use fx_base::Fault;
 use fx_boxes::{Fields, Region};
 use fx_machine::{
     Choices, Class, Classes, Device, HolderName, Net, Packet, Path, State, Step, choices_are_free,
-    complete_runs_exist,
+    complete_runs_exist, six_axes_suffice, unnamed_axes_mean_nothing,
 };
 use std::alloc::Global;
 use std::test::Fail;
@@ -207,6 +207,8 @@ fn runs(net: &Net, classes: &Classes, alloc: Global) -> Result<bool, Fail> {
 fn looks_up_and_runs_and_refuses_packets_of_no_class(rt: HostRuntime) -> Result<(), Fail> {
     choices_are_free();
     complete_runs_exist();
+    unnamed_axes_mean_nothing();
+    six_axes_suffice();
     let classes = classes(rt.alloc())?;
     let net = net(rt.alloc())?;
     let found = is_looked_up(&net) && is_watched(&net, &classes) && is_followed(&classes)?;
