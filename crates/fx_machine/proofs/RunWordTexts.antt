@@ -12,8 +12,8 @@ use Rattle.fx_elements.specs.Spelling.{◌>>=◌, largest, number_of, quad}
 use Rattle.fx_elements.specs.Groups.{groups}
 use Rattle.fx_elements.specs.Values.{written_on, value_text}
 use Rattle.fx_elements.proofs.Cuts.{chosen}
-use Rattle.fx_elements.proofs.Decimals.{number_64, number_text, number_found}
-use Rattle.fx_elements.proofs.Addresses.{quad_text, quad_found, by_some, some_is}
+use Rattle.fx_elements.proofs.Decimals.{number_64, number_found}
+use Rattle.fx_elements.proofs.Addresses.{by_some, some_is}
 use Rattle.fx_elements.proofs.AxisTexts.{written_text, written_found}
 use Rattle.fx_elements.proofs.EveryAxis.{fields_are}
 use Rattle.fx_boxes.specs.Boxes.{IsFields}
