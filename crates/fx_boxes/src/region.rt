@@ -80,15 +80,33 @@ impl Region {
         ensures below { IfSome result (λ parts. (f : List ℕ) → Holds parts.0 f ↔ (Holds self.now f × (slice_index f (axis_index axis) < at))) }
         ensures above { IfSome result (λ parts. (f : List ℕ) → Holds parts.1 f ↔ (Holds self.now f × (at ≤ slice_index f (axis_index axis)))) }
     {
-        let k = axis.index();
-        if at <= self.low[k] || self.high[k] < at {
+        if !self.can_split(axis, at) {
             return None;
         }
         let mut below = *self;
-        let mut above = *self;
-        below.high[k] = at - 1;
-        above.low[k] = at;
+        let above = below.split_off(axis, at);
         Some((below, above))
+    }
+
+    /// Whether a split at this value of the axis leaves fields on both sides.
+    pub fn can_split(&self, axis: Axis, at: u128) -> bool
+        ensures { IsTrue result ↔ IsStrictlyInside self.now (axis_index axis) at }
+    {
+        let k = axis.index();
+        self.low[k] < at && at <= self.high[k]
+    }
+
+    /// Keeps the fields whose value on the axis is below `at`, and answers those whose value is `at` or more.
+    pub fn split_off(&mut self, axis: Axis, at: u128) -> Region
+        requires { IsStrictlyInside self.old (axis_index axis) at }
+        ensures kept { self.new ≡ below_part self.old (axis_index axis) at }
+        ensures rest { result ≡ above_part self.old (axis_index axis) at }
+    {
+        let k = axis.index();
+        let mut above = *self;
+        above.low[k] = at;
+        self.high[k] = at - 1;
+        above
     }
 
     /// Whether all fields of this region are in the other.
@@ -107,7 +125,12 @@ impl Region {
     pub fn disjoint(&self, other: &Region) -> bool
         ensures { IsTrue result ↔ IsDisjoint self.now other.now }
     {
-        self.meet(other).is_none()
+        for k in 0..AXES {
+            if self.high[k] < other.low[k] || other.high[k] < self.low[k] {
+                return true;
+            }
+        }
+        false
     }
 
     /// The fields that are in both regions, if there are any.

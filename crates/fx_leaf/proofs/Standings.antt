@@ -282,6 +282,12 @@ to_in b fields h = is_in b fields (holds_if b fields h)
 pub from_in : (b : Bounds) (fields : Fields) → In b fields → Holds b fields
 from_in b fields h = holds_is b fields (in_holds b fields h)
 
+-- a region that is within another has fields in common with it
+pub not_disjoint : (region other : Bounds) → IsRegion region → IsInside region other → IsDisjoint region other → ⊥
+not_disjoint region other r inside apart = apart region.low held (inside region.low held) where
+  held : Holds region region.low
+  held k lt = let bounds = r k lt in (omega arith, bounds.0)
+
 pub disjoint_told : (region other : Bounds) → IsDisjoint region other → standing region other ≡ Some false
 disjoint_told region other none =
     elim (is_empty (common region other)) as (λ t. is_empty (common region other) ≡ t → cond t (Some false) (cond (is_within region other) (Some true) None) ≡ Some false) [

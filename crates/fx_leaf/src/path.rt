@@ -83,25 +83,25 @@ impl<'a> Judge<'a> {
         &self,
         told: Told,
         numbers: Counted,
-        selection: Selection,
+        selection: &Selection,
     ) -> Result<Told, (Axis, u128)>
         requires tables { by_table.AreTables self.now.tables.now }
         requires along { let t = self.now.tables.now in
-            reach.SentBySelection t.net t.numbering (reach.Marked self.now.marks.now) selection }
+            reach.SentBySelection t.net t.numbering (reach.Marked self.now.marks.now) selection.now }
         ensures ok { let net = self.now.tables.now.net in
             let region = self.now.region.now in
             IfOk result (λ after.
             leaves.Seeing told after (verdicts.seen_if
             (verdicts.verdict net region) net region numbers.crossing numbers.point
-            numbers.process selection.region selection.holder)) }
+            numbers.process selection.now.region selection.now.holder)) }
         ensures err { IfErr result (λ s. (path : List of_crossing.Crossing)
-            → splits.Meets self.now.tables.now.net path selection
+            → splits.Meets self.now.tables.now.net path selection.now
             → splits.IsSplit self.now.tables.now.net path self.now.region.now s.0 s.1) }
     {
         let Some(holder) = selection.holder else {
             return Ok(told);
         };
-        let passes = standing_to(self.region, selection.region);
+        let passes = standing_to(self.region, &selection.region);
         match where_passed(passes, self.holder(holder)) {
             Some(fate) => Ok(told.with(fate, numbers)),
             None => Err(self.bound_at(selection)),
@@ -136,7 +136,7 @@ impl<'a> Judge<'a> {
                 point,
                 process: (place + 1) as u64,
             };
-            told = self.selection(told, numbers, selections[place])?;
+            told = self.selection(told, numbers, &selections[place])?;
         }
         Ok(told)
     }

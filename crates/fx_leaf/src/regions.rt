@@ -22,10 +22,11 @@ pub(crate) fn bounded(region: &Region)
 pub fn standing(region: &Region, other: &Region) -> Option<bool>
     ensures { result ≡ standings.standing region.now other.now }
 {
-    if region.disjoint(other) {
-        Some(false)
-    } else if region.inside(other) {
+    bounded(region);
+    if region.inside(other) {
         Some(true)
+    } else if region.disjoint(other) {
+        Some(false)
     } else {
         None
     }
@@ -33,12 +34,12 @@ pub fn standing(region: &Region, other: &Region) -> Option<bool>
 
 /// Whether a selection process that selects the fields of a region, if any, selects all fields of this region or
 /// none. None where it selects some only.
-pub fn standing_to(region: &Region, selected: Option<Region>) -> Option<bool>
-    ensures { result ≡ standings.standing_to region.now selected }
+pub fn standing_to(region: &Region, selected: &Option<Region>) -> Option<bool>
+    ensures { result ≡ standings.standing_to region.now selected.now }
 {
     match selected {
         None => Some(false),
-        Some(other) => standing(region, &other),
+        Some(other) => standing(region, other),
     }
 }
 

@@ -66,42 +66,42 @@ impl<'a> Judge<'a> {
     }
 
     /// Where a selection process, or what cuts the region behind its cache, splits it.
-    fn split_at(&self, selection: Selection) -> Option<(Axis, u128)>
+    fn split_at(&self, selection: &Selection) -> Option<(Axis, u128)>
         requires tables { by_table.AreTables self.now.tables.now }
         requires along { let t = self.now.tables.now in
-            reach.SentBySelection t.net t.numbering (reach.Marked self.now.marks.now) selection }
-        ensures some { IfSome result (λ s. (path : List of_crossing.Crossing) → splits.Meets self.now.tables.now.net path selection
+            reach.SentBySelection t.net t.numbering (reach.Marked self.now.marks.now) selection.now }
+        ensures some { IfSome result (λ s. (path : List of_crossing.Crossing) → splits.Meets self.now.tables.now.net path selection.now
             → splits.IsSplit self.now.tables.now.net path self.now.region.now s.0 s.1) }
         ensures none { let net = self.now.tables.now.net in
             let region = self.now.region.now in
-            IfNone result ((crossing point process : ℕ) → splits.judged (verdicts.seen_if (verdicts.verdict net region) net region crossing point process selection.region selection.holder) ≡ None → ⊥) }
+            IfNone result ((crossing point process : ℕ) → splits.judged (verdicts.seen_if (verdicts.verdict net region) net region crossing point process selection.now.region selection.now.holder) ≡ None → ⊥) }
     {
         let Some(holder) = selection.holder else {
             return None;
         };
-        match standing_to(self.region, selection.region) {
+        match standing_to(self.region, &selection.region) {
             Some(true) => self.split_behind_holder(holder),
             Some(false) => None,
-            None => match selection.region {
+            None => match &selection.region {
                 None => None,
-                Some(other) => bound(self.region, &other),
+                Some(other) => bound(self.region, other),
             },
         }
     }
 
     /// A bound of what cuts the region there, where there is no verdict.
-    pub(crate) fn bound_at(&self, selection: Selection) -> (Axis, u128)
+    pub(crate) fn bound_at(&self, selection: &Selection) -> (Axis, u128)
         requires tables { by_table.AreTables self.now.tables.now }
         requires along { let t = self.now.tables.now in
-            reach.SentBySelection t.net t.numbering (reach.Marked self.now.marks.now) selection }
+            reach.SentBySelection t.net t.numbering (reach.Marked self.now.marks.now) selection.now }
         requires cut { let net = self.now.tables.now.net in
             let region = self.now.region.now in
             (crossing point process : ℕ)
             → splits.judged (verdicts.seen_if
-            (verdicts.verdict net region) net region crossing point process selection.region
-            selection.holder) ≡ None }
+            (verdicts.verdict net region) net region crossing point process selection.now.region
+            selection.now.holder) ≡ None }
         ensures { (path : List of_crossing.Crossing)
-            → splits.Meets self.now.tables.now.net path selection
+            → splits.Meets self.now.tables.now.net path selection.now
             → splits.IsSplit self.now.tables.now.net path self.now.region.now result.0 result.1 }
     {
         match self.split_at(selection) {

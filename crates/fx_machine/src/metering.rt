@@ -16,8 +16,8 @@ use fx_boxes::{Fields, Region};
 use std::alloc::{AllocError, Global};
 
 /// Whether the packets of this region include this one.
-fn selects(region: Option<Region>, fields: &Fields) -> bool
-    ensures { result ≡ met.selects region fields.now }
+fn selects(region: &Option<Region>, fields: &Fields) -> bool
+    ensures { result ≡ met.selects region.now fields.now }
 {
     match region {
         None => false,
@@ -51,12 +51,14 @@ fn push_met(
     found: &mut Vec<Occurrence>,
     point: usize,
     process: usize,
-    selection: Selection,
+    selection: &Selection,
     fields: &Fields,
 ) -> Result<(), AllocError>
-    ensures { OnOk result (found.new.items ≡ found.old.items ++ (if met.selects selection.region fields.now then met.occurrence point process selection.holder else [])) }
+    ensures { OnOk result (found.new.items ≡ found.old.items
+        ++ (if met.selects selection.now.region fields.now
+        then met.occurrence point process selection.now.holder else [])) }
 {
-    if selects(selection.region, fields) {
+    if selects(&selection.region, fields) {
         if let Some(holder) = selection.holder {
             found.push(Occurrence {
                 point,
@@ -78,7 +80,7 @@ fn push_met_by(
     ensures { OnOk result (found.new.items ≡ found.old.items ++ met.met_by point 1 selections.now fields.now) }
 {
     for place in 0..selections.len() {
-        push_met(found, point, place + 1, selections[place], fields)?;
+        push_met(found, point, place + 1, &selections[place], fields)?;
     }
     Ok(())
 }

@@ -34,7 +34,7 @@ fn joins_fates(rt: HostRuntime) {
 fn stand(low: u128, high: u128, expected: Option<bool>) -> Result<bool, Fail> {
     let region = sources(low, high)?;
     let half = sources(0, 0x7fff_ffff)?;
-    Ok(standing(&region, &half) == expected && standing_to(&region, Some(half)) == expected)
+    Ok(standing(&region, &half) == expected && standing_to(&region, &Some(half)) == expected)
 }
 
 /// How the sources from one to another stand to the match of those from 10.1.2.0/24.
@@ -56,7 +56,7 @@ fn stands_to_selections(rt: HostRuntime) -> Result<(), Fail> {
     ] {
         assert!(rt; stand(low, high, expected)?, "from {low} to {high}");
     }
-    assert!(rt; standing_to(&sources(0, 0x7fff_ffff)?, None) == Some(false));
+    assert!(rt; standing_to(&sources(0, 0x7fff_ffff)?, &None) == Some(false));
     Ok(())
 }
 

@@ -23,13 +23,26 @@ fn are_halves(below: &Region, above: &Region) -> bool {
         && below.far_corner().get(Axis::Source) == 0x7fff_ffff
 }
 
+/// The parts of a region that is split in place, if both are there.
+fn parts(region: &Region, axis: Axis, at: u128) -> Option<(Region, Region)> {
+    if !region.can_split(axis, at) {
+        return None;
+    }
+    let mut below = *region;
+    let above = below.split_off(axis, at);
+    Some((below, above))
+}
+
 #[test]
 fn splits_and_meets(rt: HostRuntime) -> Result<(), Fail> {
     let whole = Region::whole();
     let (below, above) = whole.split(Axis::Source, 0x8000_0000).ok_or("split")?;
     assert!(rt; are_parts(&below, &above, &whole) && are_halves(&below, &above));
+    assert!(rt; parts(&whole, Axis::Source, 0x8000_0000) == Some((below, above)));
     for at in [0, 256] {
-        assert!(rt; whole.split(Axis::Protocol, at).is_none());
+        assert!(rt;
+            whole.split(Axis::Protocol, at).is_none() && !whole.can_split(Axis::Protocol, at)
+        );
     }
     Ok(())
 }
