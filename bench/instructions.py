@@ -1,0 +1,103 @@
+#!/usr/bin/env python3
+"""What the commands cost, counted in instructions, so that neither the machine's load nor its clock matters.
+
+usage: instructions.py PROGRAM [BEFORE] [--most RATIO]
+
+For each kind of work the instructions by the unit of PROGRAM, and beside them those of BEFORE, a program of another
+commit, over the same files, with the ratio of both. Fails where a ratio is above the most (1.15 where none is given).
+A unit's instructions are those that the larger of two inputs takes more, shared among the units that it has more, so
+that the start and the reading of documents don't count.
+
+  check     a line of a certificate: 20,000 and 40,000 splits of the sources, for one meter and one collector
+  collect   a record of a stream by source, 69 to a message: 20,000 and 40,000 records
+  replay    a packet that is counted, goes along ten collectors that aggregate and is tallied: 2,000 and 4,000 packets
+  audit     a line of a certificate that is found, 125 filters that are split apart: 20 and 40 paths
+
+It needs valgrind (Debian's package) on the PATH.
+"""
+import argparse
+import os
+import re
+import subprocess
+import sys
+import tempfile
+
+TOP = os.path.dirname(os.path.dirname(os.path.abspath(__file__)))
+sys.path[:0] = [os.path.join(TOP, "tests"), os.path.dirname(os.path.abspath(__file__))]
+
+import audit
+import collect
+import replay
+from check import document
+from long_certificates import ROW, write_certificate
+
+NETWORK, TRAFFIC = os.path.join(ROW, "network.json"), os.path.join(ROW, "traffic.json")
+
+
+def instructions(words):
+    """The instructions of a run that ends well."""
+    run = subprocess.run(["valgrind", "--tool=callgrind", "--callgrind-out-file=/dev/null", *words], capture_output=True)
+    counted = re.search(rb"Collected : (\d+)", run.stderr)
+    if run.returncode != 0 or counted is None:
+        sys.exit("%s: status %d, %r" % (" ".join(words), run.returncode, run.stderr[-300:]))
+    return int(counted.group(1))
+
+
+# ---- inputs: the words of a run of this size, and its units
+
+def checked(work, size):
+    path = os.path.join(work, "certificate-%d.txt" % size)
+    write_certificate(path, size)
+    return ["check", NETWORK, TRAFFIC, path], 2 * size + 1
+
+
+def collected(work, size):
+    path = os.path.join(work, "stream-%d.ipfix" % size)
+    with open(path, "wb") as file:
+        file.writelines(collect.messages(size, 69))
+    return ["collect", NETWORK, path], size
+
+
+def replayed(work, size):
+    path = os.path.join(work, "run-%d.txt" % size)
+    with open(path, "w") as file:
+        file.writelines(replay.chain(size)[0])
+    return ["replay", *replay.chain_documents(work), path], size
+
+
+def audited(work, size):
+    network = document(work, "filters.json", audit.metered(audit.FILTERS))
+    traffic = document(work, "paths-%d.json" % size, audit.paths(size))
+    return ["audit", network, traffic], size * (4 * audit.FILTERS + 1)
+
+
+KINDS = {"check": (checked, 20_000), "collect": (collected, 20_000), "replay": (replayed, 2_000), "audit": (audited, 20)}
+
+
+def by_unit(program, small, large):
+    """The instructions of a unit, from the words and units of two inputs."""
+    more = instructions([program, *large[0]]) - instructions([program, *small[0]])
+    return more / (large[1] - small[1])
+
+
+def main(words):
+    parser = argparse.ArgumentParser(usage=__doc__.split("usage: ")[1].split("\n")[0])
+    parser.add_argument("program")
+    parser.add_argument("before", nargs="?")
+    parser.add_argument("--most", type=float, default=1.15)
+    words, dear = parser.parse_args(words), []
+    with tempfile.TemporaryDirectory() as work:
+        for name, (make, size) in KINDS.items():
+            inputs = make(work, size), make(work, 2 * size)
+            now = by_unit(words.program, *inputs)
+            if words.before is None:
+                print("%-8s %7.0f instructions" % (name, now))
+                continue
+            before = by_unit(words.before, *inputs)
+            print("%-8s %7.0f instructions, %7.0f before, %.2f times" % (name, now, before, now / before))
+            dear += [name] if now > words.most * before else []
+    return 1 if dear else 0
+
+
+if __name__ == "__main__":
+    sys.exit(main(sys.argv[1:]))
