@@ -1,5 +1,5 @@
 -- What names only the six axes of IPv4, and what doesn't, worked out by the definitions.
-use Rattle.std.proofs.Common.{◌≡◌, ℕ, ◌<◌, ◌≤◌, true, false, [], ◌∷◌, All, get_or, Some, IfSome, refl, ap, arith}
+use Rattle.std.proofs.Common.{◌≡◌, ℕ, ◌<◌, ◌≤◌, true, false, List, [], ◌∷◌, All, get_or, Some, None, Ok, IfSome, refl, ap, arith}
 use Rattle.std.specs.Prelude.{codes}
 use Rattle.fx_elements.specs.declared.axis.Axis.{Axis}
 use Rattle.fx_elements.specs.declared.axis.Axis.TheVariants.{Source, Destination, Protocol, SourcePort, DestinationPort, ClassOfService, Version, Source6, Destination6}
@@ -8,11 +8,16 @@ use Rattle.fx_layout.specs.declared.layout.Part.{Part}
 use Rattle.fx_layout.specs.Keys.{Layout, Key, key_of}
 use Rattle.fx_machine.specs.declared.observation.Selection.{Selection}
 use Rattle.fx_machine.specs.declared.packet.Packet.{Packet}
+use Rattle.fx_machine.specs.declared.step.Step.TheVariants.{Cross}
 use Rattle.fx_machine.specs.declared.traffic.Crossing.{Crossing}
-use Rattle.fx_machine.specs.Network.{Net, Device, Holder, Point}
-use Rattle.fx_machine.specs.Classes.{Class}
+use Rattle.fx_machine.specs.Network.{Net, Device, Holder, Point, numbered}
+use Rattle.fx_machine.specs.Classes.{Class, IsOf}
 use Rattle.fx_machine.specs.Occurrences.{occurrences}
+use Rattle.fx_machine.specs.States.{opening}
+use Rattle.fx_machine.specs.Acts.{Outcome}
+use Rattle.fx_machine.specs.Steps.{after}
 use Rattle.fx_machine.specs.NamedAxes.{Agree, FitsElsewhere, HasZerosElsewhere, HasSixValues, IsAlike, LayoutNamesOnly, RegionNamesOnly, PointNamesOnly, NamesOnly, ClassesNameOnly, is_of_six}
+use Rattle.fx_machine.proofs.AlikePackets.{of_class_same}
 use Rattle.fx_machine.proofs.AlikeClaims.{all_cons, all_nil}
 
 -- the fields of the versions from one to another, and all else
@@ -56,8 +61,12 @@ meter region kept reported = record {
   report_layout = reported;
 }
 
+-- into the meter
+abbrev at : Crossing
+at = record { device = 1; interface = codes "eth0"; inwards = true }
+
 abbrev class : Bounds → Class
-class region = record { region = region; paths = []; exempt = false }
+class region = record { region = region; paths = (at ∷ []) ∷ []; exempt = false }
 
 -- ---- what names only the six
 
@@ -153,15 +162,15 @@ agree v w Version is = absurd (cc)
 agree v w Source6 is = refl
 agree v w Destination6 is = refl
 
--- packets of two versions are alike but for an axis outside the six
-alike : IsAlike is_of_six (packet 4) (packet 6)
-alike = record {
+-- packets of two versions are alike on the six
+alike_to : (version : ℕ) → version < 256 → IsAlike is_of_six (packet 4) (packet version)
+alike_to version lt = record {
   octets = refl;
   class = refl;
   path = refl;
-  agree = agree 4 6;
+  agree = agree 4 version;
   first_fits = fits 4 (omega arith);
-  second_fits = fits 6 (omega arith);
+  second_fits = fits version lt;
 }
 
 -- a version past its 8 bits isn't one
@@ -174,10 +183,30 @@ zeros version h = h Version refl
 six : HasSixValues (record { fields = 167838211 ∷ 3221225985 ∷ 6 ∷ 49152 ∷ 443 ∷ 0 ∷ []; octets = 100; class = 1; path = 1 })
 six = refl
 
--- one that selects by the version does tell such packets apart
-abbrev at : Crossing
-at = record { device = 1; interface = codes "eth0"; inwards = true }
+-- so they are of the same class, and go the same way
+abbrev customers : List Class
+customers = class to_port_443 ∷ []
 
+of_class : (version : ℕ) → version < 256 → IsOf (packet version) (numbered customers 1)
+of_class version lt = of_class_same is_of_six customers (packet 4) (packet version) classes_are_of_six (alike_to version lt) (refl, λ e. absurd (cc))
+
+abbrev net : Net
+net = meter to_port_443 by_source by_source
+
+abbrev crossed : ℕ → Outcome
+crossed version =
+    let packets : List Packet = packet version ∷ [] in
+    after net customers packets (Cross 1 1 (None ∷ [])) (opening net customers packets)
+
+crosses : crossed 4 ≡ Ok (record (opening net customers []) { held = (record { key = record { layout = by_source; values = 167838211 ∷ 6 ∷ [] }; counts = record { packets = 1; octets = 100 } } ∷ []) ∷ [] })
+unfolding crossed
+crosses = refl
+
+crosses_too : crossed 6 ≡ crossed 4
+unfolding crossed
+crosses_too = refl
+
+-- one that selects by the version does tell such packets apart
 of_version_4 : occurrences (meter (of_versions 4 4) by_source by_source) at (packet 4).fields ≡ record { point = 1; process = 1; holder = 0 } ∷ []
 of_version_4 = refl
 
