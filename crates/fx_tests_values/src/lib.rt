@@ -10,6 +10,8 @@ mod cert;
 #[cfg(test)]
 mod elements;
 #[cfg(test)]
+mod frames;
+#[cfg(test)]
 mod layout;
 #[cfg(test)]
 mod packets;
