@@ -15,13 +15,7 @@ use Rattle.fx_check.specs.declared.course.Stage.{Stage}
 use Rattle.fx_check.specs.declared.course.Stage.TheVariants as stage
 use Rattle.fx_check.specs.Verdict.{Goal, tree, ahead, may_say_never, after, leaf_answer, split_answer, form_fault, at_end, at_line, Refusal}
 use Rattle.fx_base.specs.Lines.{next_number}
-use Rattle.fx_check.specs.Standing.{waiting_goals, tree_goals, goals_at, rest_of_tree, AreDeepFrom, AreDeep, IsStandingAt, IsInTree}
-
-abbrev below_waits : Waiting → ℕ → ℕ → Waiting
-below_waits w k v = record { region = below_part w.region k v; depth = w.depth + 1 }
-
-abbrev above_waits : Waiting → ℕ → ℕ → Waiting
-above_waits w k v = record { region = above_part w.region k v; depth = w.depth + 1 }
+use Rattle.fx_check.specs.Standing.{below_waits, above_waits, waiting_goals, tree_goals, goals_at, rest_of_tree, AreDeepFrom, AreDeep, IsStandingAt, IsInTree}
 
 -- where the text ends behind the line n, and something is still to be said
 abbrev ended_early : ℕ → Refusal
@@ -106,16 +100,24 @@ split_goal z judge made ts at ws s w a v h e =
     let k : IsStandingAt ts at ws (stage.Tree w) = subst (λ (x : Stage). IsStandingAt ts at ws x) e h in
     rw e (split_on z judge made (drop at ts) ws w a v (omega (arith, length-drop at ts, k.0)))
 
-pub split_end : (z : Version) (judge : Judge) (made : ℕ) (ts : List Target) (at : ℕ) (ws after_push : List Waiting) (s : Stage) (w : Waiting) (below above : Bounds) (a : Axis) (v : ℕ) (r : Result (List Goal) ℕ) → IsStandingAt ts at ws s → s ≡ stage.Tree w
-    → below ≡ below_part w.region (axis_index a) v → above ≡ above_part w.region (axis_index a) v → after_push ≡ ws ++ record { region = above; depth = w.depth + 1 } ∷ []
-    → split_answer made w.region w.depth (axis_index a) v (tree_goals z (drop at ts) (record { region = below; depth = w.depth + 1 }) after_push) ≡ r → after judge made (goals_at z ts at ws s) (item.Split a v) ≡ r
+pub split_end : (z : Version) (judge : Judge) (made : ℕ) (ts : List Target) (at : ℕ) (ws after_push : List Waiting) (s : Stage) (w below above : Waiting) (a : Axis) (v : ℕ) (r : Result (List Goal) ℕ) → IsStandingAt ts at ws s → s ≡ stage.Tree w
+    → below ≡ below_waits w (axis_index a) v → above ≡ above_waits w (axis_index a) v → after_push ≡ ws ++ above ∷ []
+    → split_answer made w.region w.depth (axis_index a) v (tree_goals z (drop at ts) below after_push) ≡ r → after judge made (goals_at z ts at ws s) (item.Split a v) ≡ r
 split_end z judge made ts at ws after_push s w below above a v r h e lower upper pushed is =
     split_goal z judge made ts at ws s w a v h e ∙ (rw (← upper, ← lower, ← pushed) is)
 
-pub stands_push : (ts : List Target) (at : ℕ) (ws after_push : List Waiting) (s : Stage) (w : Waiting) (above : Bounds) → IsStandingAt ts at ws s → s ≡ stage.Tree w → w.depth < 512 → after_push ≡ ws ++ record { region = above; depth = w.depth + 1 } ∷ [] → (at < length ts) × AreDeep after_push (w.depth + 1)
-stands_push ts at ws after_push s w above h e lt pushed =
-    let k : IsStandingAt ts at ws (stage.Tree w) = subst (λ (x : Stage). IsStandingAt ts at ws x) e h in
-    rw pushed (k.0, deep_push ws w.depth (record { region = above; depth = w.depth + 1 }) k.1 lt refl)
+pub stands_push : (ts : List Target) (at : ℕ) (ws after_push : List Waiting) (s : Stage) (w below above : Waiting) (k v : ℕ) → IsStandingAt ts at ws s → s ≡ stage.Tree w → w.depth < 512
+    → below ≡ below_waits w k v → above ≡ above_waits w k v → after_push ≡ ws ++ above ∷ [] → (at < length ts) × AreDeep after_push below.depth
+stands_push ts at ws after_push s w below above k v h e lt lower upper pushed =
+    let in_tree : IsStandingAt ts at ws (stage.Tree w) = subst (λ (x : Stage). IsStandingAt ts at ws x) e h in
+    rw (pushed, upper, lower) (in_tree.0, deep_push ws w.depth (above_waits w k v) in_tree.1 lt refl)
+
+-- in a tree there is a region
+pub region_of : (s : Stage) → IsInTree s → (w : Waiting) × (s ≡ stage.Tree w)
+region_of stage.Header h = absurd h
+region_of stage.Between h = absurd h
+region_of (stage.Tree w) h = (w, refl)
+region_of stage.Ended h = absurd h
 
 pub refuses_tree : (z : Version) (judge : Judge) (made : ℕ) (ts : List Target) (at : ℕ) (ws : List Waiting) (s : Stage) (w : Waiting) (i : Item) → IsStandingAt ts at ws s → s ≡ stage.Tree w → IsNoTree i → after judge made (goals_at z ts at ws s) i ≡ Err 403
 refuses_tree z judge made ts at ws s w i h e other =

@@ -1,5 +1,6 @@
 -- What a certificate still has to say where a checker stands.
 use Rattle.std.specs.Prelude.{◌≡◌, ℕ, ◌+◌, ◌<◌, ◌≤◌, List, [], ◌∷◌, length, drop, Result, Ok, Err}
+use Rattle.fx_boxes.specs.Boxes.{below_part, above_part}
 use Rattle.fx_cert.specs.declared.item.Version.{Version}
 use Rattle.fx_traffic.specs.Targets.{Target}
 use Rattle.fx_check.specs.declared.stack.Waiting.{Waiting}
@@ -7,6 +8,13 @@ use Rattle.fx_check.specs.declared.course.Course.{Course}
 use Rattle.fx_check.specs.declared.course.Stage.{Stage}
 use Rattle.fx_check.specs.declared.course.Stage.TheVariants as stage
 use Rattle.fx_check.specs.Verdict.{Goal, header, tree, ahead}
+
+-- the two parts of a region that waits, a step deeper
+abbrev pub below_waits : Waiting → ℕ → ℕ → Waiting
+below_waits w k v = record { region = below_part w.region k v; depth = w.depth + 1 }
+
+abbrev pub above_waits : Waiting → ℕ → ℕ → Waiting
+above_waits w k v = record { region = above_part w.region k v; depth = w.depth + 1 }
 
 -- the regions that wait, the last of them first, and then gs
 abbrev pub waiting_goals : Version → Target → List Waiting → List Goal → List Goal

@@ -1,17 +1,15 @@
 //! Where a checker stands in a certificate, and what a line does there.
 ghost use Rattle.std.specs.Prelude.{◌≡◌, ◌+◌, ◌<◌, ◌≤◌, [], List, ℕ, length, IfOk, IfErr, OnOk, Ok, Err, Some, None};
-ghost use Rattle.fx_boxes.specs.Boxes.{below_part, above_part};
 ghost use Rattle.fx_cert.specs.declared.item.Item.TheVariants as of_item;
 ghost use Rattle.fx_elements.specs.Axes.{axis_index};
 ghost use Rattle.fx_leaf.specs.Tables.{AreTables};
 ghost use Rattle.fx_check.specs.Judging.{Judge, judge_of};
-ghost use Rattle.fx_check.specs.Standing.{goals, rest_goals, IsStanding, IsInTree, map_result};
+ghost use Rattle.fx_check.specs.Standing.{goals, rest_goals, IsStanding, IsInTree, map_result, below_waits, above_waits};
 ghost use Rattle.fx_check.specs.Verdict.{Goal, after, after_reading, split_answer, made_by, made_after, form_fault, reading_of, at_end};
 
 use crate::judging::{leaf_fault, never_fault};
 use crate::stack::{Stack, Waiting};
 use fx_base::{Fault, Line};
-use fx_boxes::Region;
 use fx_cert::{Item, Version, read_item};
 use fx_elements::Axis;
 use fx_leaf::{Counted, Scratch, Tables};
@@ -116,13 +114,12 @@ impl Course {
         scratch: &mut Scratch,
         tables: &Tables<'_>,
         targets: &[Target<'_>],
-        here: &Waiting,
         leaf: &Counted,
     ) -> Result<(), u16>
         requires tables { AreTables tables.now }
         requires room { length tables.now.net.processes ≤ length scratch.old }
         requires standing { IsStanding targets.now self.old }
-        requires stage { self.old.stage ≡ Stage.Tree here.now }
+        requires stage { IsInTree self.old.stage }
         ensures after { after (judge_of tables.now.net) self.old.made (goals targets.now self.old) (of_item.Leaf leaf.now.crossing leaf.now.point leaf.now.process) ≡ map_result result (goals targets.now self.new) }
         ensures standing { OnOk result (IsStanding targets.now self.new) }
         ensures made { OnOk result (self.new.made ≡ self.old.made + 1) }
@@ -135,6 +132,9 @@ impl Course {
         if self.made >= LINES {
             return Err(414);
         }
+        let Stage::Tree(here) = &self.stage else {
+            unreachable!();
+        };
         if let Some(number) = leaf_fault(scratch, tables, target, &here.region, leaf) {
             return Err(number);
         }
@@ -149,12 +149,11 @@ impl Course {
         scratch: &mut Scratch,
         tables: &Tables<'_>,
         targets: &[Target<'_>],
-        here: &Waiting,
     ) -> Result<(), u16>
         requires tables { AreTables tables.now }
         requires room { length tables.now.net.processes ≤ length scratch.old }
         requires standing { IsStanding targets.now self.old }
-        requires stage { self.old.stage ≡ Stage.Tree here.now }
+        requires stage { IsInTree self.old.stage }
         ensures after { after (judge_of tables.now.net) self.old.made (goals targets.now self.old) of_item.Never ≡ map_result result (goals targets.now self.new) }
         ensures standing { OnOk result (IsStanding targets.now self.new) }
         ensures made { OnOk result (self.new.made ≡ self.old.made + 1) }
@@ -167,6 +166,9 @@ impl Course {
         if self.made >= LINES {
             return Err(414);
         }
+        let Stage::Tree(here) = &self.stage else {
+            unreachable!();
+        };
         if let Some(number) = never_fault(scratch, tables, target, &here.region) {
             return Err(number);
         }
@@ -176,29 +178,18 @@ impl Course {
     }
 
     /// Takes a split of a region: its lower part comes next, and its upper part waits.
-    fn split(
-        &mut self,
-        targets: &[Target<'_>],
-        here: &Waiting,
-        axis: Axis,
-        at: u128,
-    ) -> Result<(), u16>
+    fn split(&mut self, targets: &[Target<'_>], axis: Axis, at: u128) -> Result<(), u16>
         requires standing { IsStanding targets.now self.old }
-        requires stage { self.old.stage ≡ Stage.Tree here.now }
+        requires stage { IsInTree self.old.stage }
         ensures after { (judge : Judge) → after judge self.old.made (goals targets.now self.old) (of_item.Split axis at) ≡ map_result result (goals targets.now self.new) }
         ensures standing { OnOk result (IsStanding targets.now self.new) }
         ensures made { OnOk result (self.new.made ≡ self.old.made + 1) }
     {
-        let depth = here.depth;
-        let (below, above) = split_region(self.made, &here.region, depth, axis, at)?;
-        self.waiting.push(Waiting {
-            region: above,
-            depth: depth + 1,
-        });
-        self.stage = Stage::Tree(Waiting {
-            region: below,
-            depth: depth + 1,
-        });
+        let Stage::Tree(here) = &mut self.stage else {
+            unreachable!();
+        };
+        let above = split_waiting(self.made, here, axis, at)?;
+        self.waiting.push(above);
         self.made += 1;
         Ok(())
     }
@@ -209,13 +200,12 @@ impl Course {
         scratch: &mut Scratch,
         tables: &Tables<'_>,
         targets: &[Target<'_>],
-        here: &Waiting,
         item: &Item,
     ) -> Result<(), u16>
         requires tables { AreTables tables.now }
         requires room { length tables.now.net.processes ≤ length scratch.old }
         requires standing { IsStanding targets.now self.old }
-        requires stage { self.old.stage ≡ Stage.Tree here.now }
+        requires stage { IsInTree self.old.stage }
         ensures after { after (judge_of tables.now.net) self.old.made (goals targets.now self.old) item.now ≡ map_result result (goals targets.now self.new) }
         ensures standing { OnOk result (IsStanding targets.now self.new) }
         ensures made { OnOk result (self.new.made ≡ made_by self.old.made item.now) }
@@ -232,10 +222,10 @@ impl Course {
                     point: *point,
                     process: *process,
                 };
-                self.leaf(scratch, tables, targets, here, &leaf)
+                self.leaf(scratch, tables, targets, &leaf)
             }
-            Item::Never => self.never(scratch, tables, targets, here),
-            Item::Split { axis, at } => self.split(targets, here, *axis, *at),
+            Item::Never => self.never(scratch, tables, targets),
+            Item::Split { axis, at } => self.split(targets, *axis, *at),
             _ => Err(403),
         }
     }
@@ -267,7 +257,7 @@ impl Course {
                 _ => Err(401),
             },
             Stage::Between => self.between(targets, item),
-            Stage::Tree(here) => self.within(scratch, tables, targets, &here, item),
+            Stage::Tree(_) => self.within(scratch, tables, targets, item),
         }
     }
 
@@ -327,23 +317,28 @@ impl Course {
     }
 }
 
-/// The parts of a region at a depth, where a split may stand.
-fn split_region(
-    made: u32,
-    region: &Region,
-    depth: u32,
-    axis: Axis,
-    at: u128,
-) -> Result<(Region, Region), u16>
-    ensures answer { (gs : List Goal) → split_answer made region.now depth (axis_index axis) at gs ≡ map_result result gs }
-    ensures parts { IfOk result (λ p. (p.0 ≡ below_part region.now (axis_index axis) at) × (p.1 ≡ above_part region.now (axis_index axis) at)) }
-    ensures bounds { OnOk result ((depth < 512) × (made < 1000000)) }
+/// Where a split may stand, keeps the lower part of a region and answers the upper one, each a step deeper.
+fn split_waiting(made: u32, here: &mut Waiting, axis: Axis, at: u128) -> Result<Waiting, u16>
+    ensures answer { (gs : List Goal)
+        → split_answer made here.old.region here.old.depth (axis_index axis) at gs
+        ≡ map_result result gs }
+    ensures below { OnOk result (here.new ≡ below_waits here.old (axis_index axis) at) }
+    ensures above { IfOk result (λ w. w ≡ above_waits here.old (axis_index axis) at) }
+    ensures bounds { OnOk result ((here.old.depth < 512) × (made < 1000000)) }
 {
     if made >= LINES {
         return Err(414);
     }
-    if depth >= 512 {
+    if here.depth >= 512 {
         return Err(412);
     }
-    region.split(axis, at).ok_or(404)
+    if !here.region.can_split(axis, at) {
+        return Err(404);
+    }
+    let above = here.region.split_off(axis, at);
+    here.depth += 1;
+    Ok(Waiting {
+        region: above,
+        depth: here.depth,
+    })
 }
