@@ -1,23 +1,71 @@
 -- The key of what is noted on each axis.
-use Rattle.std.proofs.Common.{◌≡◌, ℕ, ◌+◌, ◌%◌, ◌^◌, ◌<◌, Bool, true, cond, List, [], ◌∷◌, ◌++◌, map, take, get_or, refl, ap, sym, ◌∙◌, Some, Result, Ok, Err}
+use Rattle.std.proofs.Common.{◌≡◌, ◌≢◌, ℕ, ◌+◌, ◌%◌, ◌^◌, ◌<◌, ◌≤◌, Bool, true, cond, List, [], ◌∷◌, ◌++◌, map, take, length, get_or, refl, ap, sym, subst, ◌∙◌, arith, eq-eqb, Some, None, inl, inr, Result, Ok, Err}
+use Rattle.std.proofs.Math.ListN.{set}
+use Rattle.std.proofs.lemmas.Bool.{cases_lt}
+use Rattle.std.proofs.lemmas.Nat.{pow_pos}
 use Rattle.std.specs.List.{flat_map}
-use Rattle.std.proofs.lemmas.Grind.{flat_map-append}
-use Rattle.std.proofs.lemmas.List.{take_more, append-nil}
+use Rattle.std.proofs.lemmas.Grind.{flat_map-append, get_or-set_at}
+use Rattle.std.proofs.lemmas.List.{take_more, append-nil, get_or-set_other}
 use Rattle.fx_elements.specs.declared.axis.Axis.{Axis}
 use Rattle.fx_elements.specs.declared.axis.Axis.TheVariants.{Source}
-use Rattle.fx_elements.specs.Axes.{axes, axis_count}
-use Rattle.fx_elements.proofs.EveryAxis.{on_some, on_no_axis}
+use Rattle.fx_elements.specs.Axes.{axes, axis_count, axis_index, axis_width, tops}
+use Rattle.fx_elements.proofs.EveryAxis.{along, axis_is, each_on, index_at, index_below, on_some, on_no_axis, top_is}
+use Rattle.fx_boxes.specs.Boxes.{IsFields}
 use Rattle.fx_layout.specs.Keys.{Layout, Key, key_of}
 use Rattle.fx_wire.specs.Values.{Value}
 use Rattle.fx_session.specs.declared.seen.Seen.{Seen}
 use Rattle.fx_session.specs.Flows.{Found, found_in, is_refused, key_by, known, layout_of, fields_of, flow_in, part_of, value_of}
-use Rattle.fx_session.specs.Parts.{found_on}
+use Rattle.fx_session.specs.Parts.{AllStand, IsTold, Stands, bits_of, layout_by}
 use Rattle.fx_session.specs.Values.{Notes, noted}
-use Rattle.fx_session.proofs.Layouts.{same_parts}
+use Rattle.fx_session.proofs.Layouts.{same_parts, layout_by-is, bits_stand}
 
 pub parts_more : (f : Axis → Layout) (i : ℕ) → i < axis_count → flat_map f (take (i + 1) axes) ≡ flat_map f (take i axes) ++ f (get_or axes i Source)
 parts_more f i lt =
     ap (flat_map f) (take_more axes i Source lt) ∙ flat_map-append f (take i axes) (get_or axes i Source ∷ []) ∙ ap (λ (l : Layout). flat_map f (take i axes) ++ l) (append-nil (f (get_or axes i Source)))
+
+-- ---- what is known along the axes
+
+values_are : (own : Axis → Found) (values : List ℕ) → length values ≡ axis_count → ((axis : Axis) → get_or values (axis_index axis) 0 ≡ value_of axis (own axis)) → values ≡ fields_of own
+values_are own values len is = along (λ axis. value_of axis (own axis)) values len (λ k lt. ap (λ (n : ℕ). get_or values n 0) (sym (index_at k lt)) ∙ is (get_or axes k Source))
+
+value_fits : (axis : Axis) (f : Found) → value_of axis f ≤ get_or tops (axis_index axis) 0
+value_fits axis None = omega arith
+value_fits axis (Some p) =
+    let pos : 0 < 2 ^ axis_width axis = pow_pos (axis_width axis) in
+    omega (arith, pos, top_is axis)
+
+pub values_fit : (part : Axis → Result Found ℕ) (bits values : List ℕ) → length values ≡ axis_count → ((axis : Axis) → IsTold bits values axis (part axis)) → IsFields values
+values_fit part bits values len told =
+    subst IsFields (sym (values_are (λ axis. known (part axis)) values len (λ axis. (told axis).value))) (each_on (λ axis. value_of axis (known (part axis))) (λ axis. value_fits axis (known (part axis))))
+
+pub all_stand : (part : Axis → Result Found ℕ) (bits values : List ℕ) → ((axis : Axis) → IsTold bits values axis (part axis)) → AllStand bits
+all_stand part bits values told = λ axis. bits_stand axis (known (part axis)) (get_or bits (axis_index axis) 0) (told axis).stands (told axis).leading
+
+-- what is known of one axis more
+pub told_more : (part : Axis → Result Found ℕ) (bits values : List ℕ) (own : Axis) (f : Found) (b v i place : ℕ) → length bits ≡ axis_count → length values ≡ axis_count
+    → place ≡ axis_index own → i ≡ axis_index own → part own ≡ Ok f → Stands own f → b ≡ bits_of f → v ≡ value_of own f
+    → ((axis : Axis) → axis_index axis < i → IsTold bits values axis (part axis))
+    → (axis : Axis) → axis_index axis < i + 1 → IsTold (set bits place b) (set values place v) axis (part axis)
+told_more part bits values own f b v i place lb lv at turn is stands bits_are value_is before axis lt = elim (cases_lt (axis_index axis) i) [
+  | inl less ↦
+      let old = before axis less in
+      let other : axis_index axis ≢ place = λ e. omega (arith, less, at, turn, e) in record {
+        read = old.read;
+        stands = old.stands;
+        leading = get_or-set_other bits place (axis_index axis) b 0 other ∙ old.leading;
+        value = get_or-set_other values place (axis_index axis) v 0 other ∙ old.value;
+      }
+  | inr more ↦
+      let below = index_below own in
+      let here : axis_index axis ≡ place = omega (arith, lt, more, at, turn) in
+      let same : own ≡ axis = axis_is own axis (eq-eqb (axis_index own) (axis_index axis) (omega (arith, here, at))) in
+      subst (λ (a : Axis). IsTold (set bits place b) (set values place v) a (part a)) same (record {
+        read = is ∙ ap (λ (r : Result Found ℕ). Ok (known r)) (sym is);
+        stands = subst (λ (r : Result Found ℕ). Stands own (known r)) (sym is) stands;
+        leading = get_or-set_at bits place (axis_index own) b 0 (sym at) (omega (arith, lb, at, below)) ∙ bits_are ∙ ap (λ (r : Result Found ℕ). bits_of (known r)) (sym is);
+        value = get_or-set_at values place (axis_index own) v 0 (sym at) (omega (arith, lv, at, below)) ∙ value_is ∙ ap (λ (r : Result Found ℕ). value_of own (known r)) (sym is);
+      })
+]
 
 -- ---- flow records
 
@@ -44,10 +92,13 @@ flow_refused seen octets packets number o p refusal vs h =
     let key = key_refused (found_in vs) refusal.1 (ap is_refused (sym (same_part seen vs h refusal.1)) ∙ refusal.2) in
     cc (o, p, h.octets, h.packets, key, refusal.0)
 
-pub flow_known : (seen : Seen) (octets packets : ℕ) (found : List Found) (key : Key) → seen.octets ≡ Some octets → seen.packets ≡ Some packets → ((axis : Axis) → noted seen axis ≡ Ok (found_on found axis))
-    → key ≡ key_of (layout_of (found_on found)) (fields_of (found_on found)) → (vs : List Value) → Notes seen vs
+pub flow_known : (seen : Seen) (octets packets : ℕ) (bits values : List ℕ) (key : Key) → seen.octets ≡ Some octets → seen.packets ≡ Some packets → length values ≡ axis_count
+    → ((axis : Axis) → IsTold bits values axis (noted seen axis)) → key ≡ key_of (layout_by bits) values → (vs : List Value) → Notes seen vs
     → Ok (Some (record { key = key; counts = record { packets = packets % 2 ^ 64; octets = octets % 2 ^ 64 } })) ≡ flow_in vs
 unfolding flow_in
-flow_known seen octets packets found key o p all is vs h =
-    let k = key_known (found_in vs) (found_on found) (λ axis. sym (same_part seen vs h axis) ∙ all axis) in
-    cc (o, p, h.octets, h.packets, k, is)
+flow_known seen octets packets bits values key o p len told is vs h =
+    let own : Axis → Found = λ axis. known (noted seen axis) in
+    let k = key_known (found_in vs) own (λ axis. sym (same_part seen vs h axis) ∙ (told axis).read) in
+    let l = layout_by-is own bits (λ axis. (told axis).stands) (λ axis. (told axis).leading) in
+    let f = values_are own values len (λ axis. (told axis).value) in
+    cc (o, p, h.octets, h.packets, k, is, l, f)

@@ -1,17 +1,15 @@
 -- Layouts that are built along the axes.
-use Rattle.std.proofs.Common.{◌≡◌, ℕ, suc, ◌≤◌, ◌<◌, Bool, true, false, ◌&&◌, not, ◌==◌, cond, le-ltb, List, [], ◌∷◌, ◌++◌, refl, ap, sym, ◌∙◌, arith, Option, Some, None, map, length, get_or}
+use Rattle.std.proofs.Common.{◌≡◌, ◌≢◌, ℕ, suc, ◌≤◌, ◌<◌, Bool, true, false, ◌&&◌, not, ◌==◌, cond, le-ltb, List, [], ◌∷◌, ◌++◌, refl, ap, sym, ◌∙◌, arith, Option, Some, None, get_or}
 use Rattle.std.specs.Prelude.{is_some, nat_le, bytes_eq}
 use Rattle.std.proofs.lemmas.Slice.Eq.{bytes_eq-Decides}
 use Rattle.std.proofs.lemmas.Bool.Decides.{nat_tests}
 use Rattle.fx_elements.specs.declared.axis.Axis.{Axis}
-use Rattle.fx_elements.specs.Axes.{axes, axis_count, axis_index}
-use Rattle.fx_elements.proofs.EveryAxis.{index_below}
+use Rattle.fx_elements.specs.Axes.{axes, axis_index}
 use Rattle.std.specs.List.{flat_map}
-use Rattle.std.proofs.lemmas.List.{get_or-map}
 use Rattle.fx_layout.specs.declared.layout.Part.{Part}
 use Rattle.fx_layout.specs.Keys.{Layout, part_at, with_part, can_stand}
 use Rattle.fx_session.specs.Flows.{Found, part_of, layout_of}
-use Rattle.fx_session.specs.Parts.{AllBefore, AllStand, Stands, bits_of, found_on, part_by, layout_by}
+use Rattle.fx_session.specs.Parts.{AllBefore, BitsStand, Stands, bits_of, part_by, layout_by}
 
 pub before-more : (l : Layout) (j k : ℕ) → AllBefore l j → j ≤ k → AllBefore l k
 before-more [] j k b h = tt
@@ -54,11 +52,17 @@ pub same_parts : (f g : Axis → Layout) (xs : List Axis) → ((axis : Axis) →
 same_parts f g [] h = refl
 same_parts f g (x ∷ xs) h = cc (h x, same_parts f g xs h)
 
-pub layout_by-is : (found : List Found) → AllStand found → length found ≡ axis_count → layout_of (found_on found) ≡ layout_by (map bits_of found)
-layout_by-is found s len =
-    same_parts (λ axis. part_of axis (found_on found axis)) (λ axis. part_by axis (get_or (map bits_of found) (axis_index axis) 0)) axes
-    (λ axis. part_by-is axis (found_on found axis) (s axis)
-    ∙ ap (part_by axis) (sym (get_or-map bits_of found (axis_index axis) None 0 (let below = index_below axis in omega (arith, len, below)))))
+pub part_by-some : (axis : Axis) (bits : ℕ) → bits ≢ 0 → part_by axis bits ≡ record { axis = axis; bits = bits } ∷ []
+part_by-some axis bits some = ap (λ (t : Bool). cond t [] (record { axis = axis; bits = bits } ∷ [])) (let no : (bits == 0) ≡ false = grind (arith, nat_tests) in no)
+
+pub layout_by-is : (own : Axis → Found) (bits : List ℕ) → ((axis : Axis) → Stands axis (own axis)) → ((axis : Axis) → get_or bits (axis_index axis) 0 ≡ bits_of (own axis)) → layout_of own ≡ layout_by bits
+layout_by-is own bits s is =
+    same_parts (λ axis. part_of axis (own axis)) (λ axis. part_by axis (get_or bits (axis_index axis) 0)) axes
+    (λ axis. part_by-is axis (own axis) (s axis) ∙ ap (part_by axis) (sym (is axis)))
+
+pub bits_stand : (axis : Axis) (f : Found) (bits : ℕ) → Stands axis f → bits ≡ bits_of f → BitsStand axis bits
+bits_stand axis None bits s is = λ some. absurd (some is)
+bits_stand axis (Some p) bits s is = λ some. ap (λ (n : ℕ). can_stand (record { axis = axis; bits = n })) is ∙ s
 
 -- the same bits have the same layout
 pub same_bits : (l : Layout) (old new : List ℕ) → l ≡ layout_by old → false ≡ not (bytes_eq old new) → l ≡ layout_by new

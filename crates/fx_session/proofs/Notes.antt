@@ -1,5 +1,5 @@
 -- What is noted of values, one after another.
-use Rattle.std.proofs.Common.{◌≡◌, ℕ, ◌+◌, ◌<◌, ◌≤◌, Bool, true, false, cond, eq-eqb, List, [], ◌∷◌, ◌++◌, length, drop, get_or, refl, ap, sym, ◌∙◌, arith, append_assoc, Option, Some, None, option_map}
+use Rattle.std.proofs.Common.{◌≡◌, ◌≢◌, ℕ, ◌+◌, ◌<◌, ◌≤◌, Bool, true, false, cond, eq-eqb, List, [], ◌∷◌, ◌++◌, length, drop, get_or, refl, ap, sym, ◌∙◌, arith, append_assoc, Option, Some, None, option_map}
 use Rattle.std.proofs.Math.ListN.{set}
 use Rattle.std.specs.List.{find}
 use Rattle.std.specs.Option.{option_or}
@@ -14,9 +14,10 @@ use Rattle.fx_wire.specs.Fields.{element_of}
 use Rattle.fx_wire.specs.Values.{Value, value_at, record_at, before_values}
 use Rattle.fx_wire.specs.declared.field.FieldSpecifier.{FieldSpecifier}
 use Rattle.fx_wire.proofs.RecordSteps.{here_and_on, none_left, record_at-first, record_at-cut, record_at-end}
+use Rattle.fx_session.specs.declared.seen.Numbers.{Numbers}
 use Rattle.fx_session.specs.declared.seen.Seen.{Seen}
 use Rattle.fx_session.specs.Flows.{first_where, is_value, is_prefix, is_prefix_length, is_octets, is_packets, number_in}
-use Rattle.fx_session.specs.Values.{Notes}
+use Rattle.fx_session.specs.Values.{Notes, number_on, first_on}
 
 -- the first number is the first so far, or else the new one if its element is meant
 first-push : (is : Element → Bool) (vs : List Value) (v : Value)
@@ -46,50 +47,69 @@ taken is vs v o own e =
     ap (λ (p : Option ℕ). option_or p (Some (number_in v.content))) e ∙ ap (λ (t : Bool). option_or (first_where is vs) (cond t (Some (number_in v.content)) None)) (sym own) ∙ sym (first-push is vs v)
 
 -- the same along the axes: the element has values of one of them
-pub taken_on : (is : Axis → Element → Bool) (vs : List Value) (v : Value) (own : Axis) (numbers : List (Option ℕ)) → length numbers ≡ axis_count
-    → ((axis : Axis) → is axis (element_of v.field) ≡ same_axis own axis) → ((axis : Axis) → get_or numbers (axis_index axis) None ≡ first_where (is axis) vs)
-    → (axis : Axis) → get_or (set numbers (axis_index own) (option_or (get_or numbers (axis_index own) None) (Some (number_in v.content)))) (axis_index axis) None ≡ first_where (is axis) (vs ++ v ∷ [])
-taken_on is vs v own numbers len meant known axis =
-    elim (same_axis own axis) as (λ t. same_axis own axis ≡ t → get_or (set numbers (axis_index own) (option_or (get_or numbers (axis_index own) None) (Some (number_in v.content)))) (axis_index axis) None ≡ first_where (is axis) (vs ++ v ∷ [])) [
-      | true ↦ λ e.
-          let here : own ≡ axis = axis_is own axis e in
-          let below = index_below own in
-          get_or-set_at numbers (axis_index own) (axis_index axis) (option_or (get_or numbers (axis_index own) None) (Some (number_in v.content))) None (ap axis_index (sym here)) (omega (arith, len, below))
-          ∙ ap (λ (a : Axis). option_or (get_or numbers (axis_index a) None) (Some (number_in v.content))) here
-          ∙ taken (is axis) vs v (get_or numbers (axis_index axis) None) (meant axis ∙ e) (known axis)
-      | false ↦ λ e.
-          get_or-set_other numbers (axis_index own) (axis_index axis) (option_or (get_or numbers (axis_index own) None) (Some (number_in v.content))) None (λ q. let yes = eq-eqb (axis_index own) (axis_index axis) (sym q) in cc (yes, e))
-          ∙ kept (is axis) vs v (get_or numbers (axis_index axis) None) (meant axis ∙ e) (known axis)
-    ] refl
+taken_on : (is : Axis → Element → Bool) (vs : List Value) (v : Value) (own : Axis) (old new : Numbers) → ((axis : Axis) → is axis (element_of v.field) ≡ same_axis own axis)
+    → ((axis : Axis) → number_on new axis ≡ first_on old own (number_in v.content) axis) → ((axis : Axis) → number_on old axis ≡ first_where (is axis) vs)
+    → (axis : Axis) → number_on new axis ≡ first_where (is axis) (vs ++ v ∷ [])
+taken_on is vs v own old new meant noted known axis = noted axis ∙ by (same_axis own axis) refl where
+  by : (t : Bool) → same_axis own axis ≡ t → cond t (option_or (number_on old axis) (Some (number_in v.content))) (number_on old axis) ≡ first_where (is axis) (vs ++ v ∷ [])
+  by true e = taken (is axis) vs v (number_on old axis) (meant axis ∙ e) (known axis)
+  by false e = kept (is axis) vs v (number_on old axis) (meant axis ∙ e) (known axis)
+
+-- ---- numbers along the axes
+
+-- a number comes to its own place and to no other
+pub noted_here : (old : Numbers) (own : Axis) (place number n : ℕ) → place ≡ axis_index own → number ≡ n → length old.noted ≡ axis_count → length old.values ≡ axis_count → get_or old.noted place false ≡ false
+    → (axis : Axis) → number_on (record { noted = set old.noted place true; values = set old.values place number }) axis ≡ first_on old own n axis
+noted_here old own place number n at is ln lv none axis = by (same_axis own axis) refl where
+  by : (t : Bool) → same_axis own axis ≡ t → number_on (record { noted = set old.noted place true; values = set old.values place number }) axis ≡ cond t (option_or (number_on old axis) (Some n)) (number_on old axis)
+  by true e =
+      let same : axis_index axis ≡ place = ap axis_index (sym (axis_is own axis e)) ∙ sym at in
+      let below = index_below axis in
+      let is_noted : get_or (set old.noted place true) (axis_index axis) false ≡ true = get_or-set_at old.noted place (axis_index axis) true false same (omega (arith, ln, below, same)) in
+      let value : get_or (set old.values place number) (axis_index axis) 0 ≡ n = get_or-set_at old.values place (axis_index axis) number 0 same (omega (arith, lv, below, same)) ∙ is in
+      let before : get_or old.noted (axis_index axis) false ≡ false = ap (λ (i : ℕ). get_or old.noted i false) same ∙ none in
+      rw (is_noted, value, before)
+  by false e =
+      let other : axis_index axis ≢ place = λ q. let yes = eq-eqb (axis_index own) (axis_index axis) (sym (q ∙ at)) in cc (yes, e) in
+      rw (get_or-set_other old.noted place (axis_index axis) true false other, get_or-set_other old.values place (axis_index axis) number 0 other)
+
+-- a number that is noted stays
+pub noted_before : (old : Numbers) (own : Axis) (place n : ℕ) → place ≡ axis_index own → get_or old.noted place false ≡ true → (axis : Axis) → number_on old axis ≡ first_on old own n axis
+noted_before old own place n at is axis = by (same_axis own axis) refl where
+  by : (t : Bool) → same_axis own axis ≡ t → number_on old axis ≡ cond t (option_or (number_on old axis) (Some n)) (number_on old axis)
+  by true e =
+      let before : get_or old.noted (axis_index axis) false ≡ true = ap (λ (i : ℕ). get_or old.noted i false) (ap axis_index (sym (axis_is own axis e)) ∙ sym at) ∙ is in
+      rw before
+  by false e = refl
 
 -- ---- a value of each kind of element
 
-pub note_value : (seen : Seen) (vs : List Value) (v : Value) (own : Axis) (new : List (Option ℕ)) → length seen.numbers ≡ axis_count → element_of v.field ≡ OnAxis own
-    → new ≡ set seen.numbers (axis_index own) (option_or (get_or seen.numbers (axis_index own) None) (Some (number_in v.content))) → Notes seen vs → Notes (record seen { numbers = new }) (vs ++ v ∷ [])
-note_value seen vs v own new len e is h = record {
-  numbers = λ axis. ap (λ (ns : List (Option ℕ)). get_or ns (axis_index axis) None) is ∙ taken_on is_value vs v own seen.numbers len (λ a. ap (is_value a) e) h.numbers axis;
+pub note_value : (seen : Seen) (vs : List Value) (v : Value) (own : Axis) (new : Numbers) → element_of v.field ≡ OnAxis own
+    → ((axis : Axis) → number_on new axis ≡ first_on seen.numbers own (number_in v.content) axis) → Notes seen vs → Notes (record seen { numbers = new }) (vs ++ v ∷ [])
+note_value seen vs v own new e is h = record {
+  numbers = taken_on is_value vs v own seen.numbers new (λ a. ap (is_value a) e) is h.numbers;
   prefixes = λ axis. kept (is_prefix axis) vs v _ (ap (is_prefix axis) e) (h.prefixes axis);
   lengths = λ axis. kept (is_prefix_length axis) vs v _ (ap (is_prefix_length axis) e) (h.lengths axis);
   octets = kept is_octets vs v _ (ap is_octets e) h.octets;
   packets = kept is_packets vs v _ (ap is_packets e) h.packets;
 }
 
-pub note_prefix : (seen : Seen) (vs : List Value) (v : Value) (own : Axis) (new : List (Option ℕ)) → length seen.prefixes ≡ axis_count → element_of v.field ≡ Prefix own
-    → new ≡ set seen.prefixes (axis_index own) (option_or (get_or seen.prefixes (axis_index own) None) (Some (number_in v.content))) → Notes seen vs → Notes (record seen { prefixes = new }) (vs ++ v ∷ [])
-note_prefix seen vs v own new len e is h = record {
+pub note_prefix : (seen : Seen) (vs : List Value) (v : Value) (own : Axis) (new : Numbers) → element_of v.field ≡ Prefix own
+    → ((axis : Axis) → number_on new axis ≡ first_on seen.prefixes own (number_in v.content) axis) → Notes seen vs → Notes (record seen { prefixes = new }) (vs ++ v ∷ [])
+note_prefix seen vs v own new e is h = record {
   numbers = λ axis. kept (is_value axis) vs v _ (ap (is_value axis) e) (h.numbers axis);
-  prefixes = λ axis. ap (λ (ns : List (Option ℕ)). get_or ns (axis_index axis) None) is ∙ taken_on is_prefix vs v own seen.prefixes len (λ a. ap (is_prefix a) e) h.prefixes axis;
+  prefixes = taken_on is_prefix vs v own seen.prefixes new (λ a. ap (is_prefix a) e) is h.prefixes;
   lengths = λ axis. kept (is_prefix_length axis) vs v _ (ap (is_prefix_length axis) e) (h.lengths axis);
   octets = kept is_octets vs v _ (ap is_octets e) h.octets;
   packets = kept is_packets vs v _ (ap is_packets e) h.packets;
 }
 
-pub note_length : (seen : Seen) (vs : List Value) (v : Value) (own : Axis) (new : List (Option ℕ)) → length seen.lengths ≡ axis_count → element_of v.field ≡ PrefixLength own
-    → new ≡ set seen.lengths (axis_index own) (option_or (get_or seen.lengths (axis_index own) None) (Some (number_in v.content))) → Notes seen vs → Notes (record seen { lengths = new }) (vs ++ v ∷ [])
-note_length seen vs v own new len e is h = record {
+pub note_length : (seen : Seen) (vs : List Value) (v : Value) (own : Axis) (new : Numbers) → element_of v.field ≡ PrefixLength own
+    → ((axis : Axis) → number_on new axis ≡ first_on seen.lengths own (number_in v.content) axis) → Notes seen vs → Notes (record seen { lengths = new }) (vs ++ v ∷ [])
+note_length seen vs v own new e is h = record {
   numbers = λ axis. kept (is_value axis) vs v _ (ap (is_value axis) e) (h.numbers axis);
   prefixes = λ axis. kept (is_prefix axis) vs v _ (ap (is_prefix axis) e) (h.prefixes axis);
-  lengths = λ axis. ap (λ (ns : List (Option ℕ)). get_or ns (axis_index axis) None) is ∙ taken_on is_prefix_length vs v own seen.lengths len (λ a. ap (is_prefix_length a) e) h.lengths axis;
+  lengths = taken_on is_prefix_length vs v own seen.lengths new (λ a. ap (is_prefix_length a) e) is h.lengths;
   octets = kept is_octets vs v _ (ap is_octets e) h.octets;
   packets = kept is_packets vs v _ (ap is_packets e) h.packets;
 }

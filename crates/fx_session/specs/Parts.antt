@@ -1,10 +1,10 @@
 -- Layouts that are built along the axes.
-use Rattle.std.specs.Prelude.{◌≡◌, ℕ, ◌<◌, ◌==◌, if◌then◌else◌, true, List, [], ◌∷◌, Some, None, slice_index, slice_index_or, Result, Ok, Err}
+use Rattle.std.specs.Prelude.{◌≡◌, ◌≢◌, ℕ, ◌<◌, ◌==◌, if◌then◌else◌, true, List, [], ◌∷◌, Some, None, slice_index, Result, Ok, Err}
 use Rattle.std.specs.List.{flat_map}
 use Rattle.fx_elements.specs.declared.axis.Axis.{Axis}
 use Rattle.fx_elements.specs.Axes.{axes, axis_index}
 use Rattle.fx_layout.specs.Keys.{Layout, can_stand}
-use Rattle.fx_session.specs.Flows.{Found, is_refused}
+use Rattle.fx_session.specs.Flows.{Found, is_refused, known, value_of}
 
 -- all parts are of axes before this place
 abbrev pub AllBefore : Layout → ℕ → Type 0
@@ -20,23 +20,30 @@ abbrev pub PartStands : Axis → Result Found ℕ → Type 0
 PartStands axis (Ok found) = Stands axis found
 PartStands axis (Err n) = n ≡ 620
 
--- what is found, by the place of the axis
-abbrev pub found_on : List Found → Axis → Found
-found_on found axis = slice_index_or found (axis_index axis) None
-
--- a layout may have what is known on each axis
-abbrev pub AllStand : List Found → Type 0
-AllStand found = (axis : Axis) → Stands axis (found_on found axis)
-
--- what is read on each axis, or the refusal on one
-abbrev pub Gathers : (Axis → Result Found ℕ) → Result (List Found) ℕ → Type 0
-Gathers part (Ok found) = ((axis : Axis) → part axis ≡ Ok (found_on found axis)) × AllStand found
-Gathers part (Err n) = (n ≡ 620) × (axis : Axis) × (is_refused (part axis) ≡ true)
-
 -- how many leading bits are known, 0 where none is
 abbrev pub bits_of : Found → ℕ
 bits_of (Some leading) = leading.bits
 bits_of None = 0
+
+-- what is known of an axis is at its place: so many leading bits, 0 where nothing is, and the value
+pub record IsTold (bits values : List ℕ) (axis : Axis) (part : Result Found ℕ) : Type 0 where
+  pub read : part ≡ Ok (known part)
+  pub stands : Stands axis (known part)
+  pub leading : slice_index bits (axis_index axis) ≡ bits_of (known part)
+  pub value : slice_index values (axis_index axis) ≡ value_of axis (known part)
+
+-- what is read on each axis, or the refusal on one
+abbrev pub Gathers : (Axis → Result Found ℕ) → List ℕ → List ℕ → Result (Unit {0}) ℕ → Type 0
+Gathers part bits values (Ok done) = (axis : Axis) → IsTold bits values axis (part axis)
+Gathers part bits values (Err n) = (n ≡ 620) × (axis : Axis) × (is_refused (part axis) ≡ true)
+
+-- a layout may have so many bits of the axis, if there are any
+abbrev pub BitsStand : Axis → ℕ → Type 0
+BitsStand axis bits = bits ≢ 0 → can_stand (record { axis = axis; bits = bits }) ≡ true
+
+-- a layout may have these bits on each axis
+abbrev pub AllStand : List ℕ → Type 0
+AllStand bits = (axis : Axis) → BitsStand axis (slice_index bits (axis_index axis))
 
 abbrev pub part_by : Axis → ℕ → Layout
 part_by axis bits = if bits == 0 then [] else record { axis = axis; bits = bits } ∷ []

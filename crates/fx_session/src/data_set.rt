@@ -6,7 +6,7 @@ ghost use Rattle.fx_session.specs.Calls.{Does, Grows};
 
 use crate::flow::flow_of;
 use crate::key::LastLayout;
-use crate::seen::read_record;
+use crate::seen::{Seen, read_record};
 use crate::taken::Taken;
 use crate::template::Template;
 use fx_wire::{FieldSpecifier, cut_record};
@@ -17,6 +17,7 @@ use fx_wire::{FieldSpecifier, cut_record};
 /// want of memory; nothing is taken then.
 fn take_flow<'a>(
     fields: &[FieldSpecifier],
+    seen: &mut Seen,
     last: &mut LastLayout,
     taken: &mut Taken,
     octets: &'a [u8],
@@ -24,10 +25,10 @@ fn take_flow<'a>(
     ensures done { reading.Follows (sets.flow_record fields.now taken.old octets.now) taken.new result }
     ensures grows { Grows taken.old.waiting taken.new.waiting }
 {
-    let Some((seen, rest)) = read_record(fields, octets) else {
+    let Some(rest) = read_record(seen, fields, octets) else {
         return Err(619);
     };
-    match flow_of(last, &seen) {
+    match flow_of(last, seen) {
         Ok(flow) => match taken.take(flow) {
             Ok(()) => Ok(rest),
             Err(number) => Err(number),
@@ -44,10 +45,11 @@ pub(crate) fn take_flows(template: &Template, taken: &mut Taken, octets: &[u8]) 
     ensures grows { Grows taken.old.waiting taken.new.waiting }
 {
     let shortest = template.shortest();
+    let mut seen = Seen::new();
     let mut last = LastLayout::new();
     let mut rest = octets;
     while rest.len() >= shortest {
-        match take_flow(template.fields(), &mut last, taken, rest) {
+        match take_flow(template.fields(), &mut seen, &mut last, taken, rest) {
             Ok(behind) => rest = behind,
             Err(number) => return Err(number),
         }

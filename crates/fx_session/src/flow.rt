@@ -4,42 +4,50 @@ ghost use Rattle.fx_session.specs.Flows as flows;
 ghost use Rattle.fx_session.specs.Parts as parts;
 ghost use Rattle.fx_session.specs.Values as values;
 
-use crate::key::{LastLayout, Leading, part_on};
+use crate::key::{LastLayout, Leading, bits_of, prefix_part, value_of};
 use crate::seen::Seen;
 use fx_base::Counts;
-use fx_elements::{AXES, Axis, EVERY_AXIS};
+use fx_boxes::Fields;
+use fx_elements::{AXES, Axis, EVERY_AXIS, width};
 use fx_machine::Record;
 
-/// What is known on the axis.
+/// What is known on the axis: its value, or what a prefix of it tells.
 ///
 /// Fails with 620 where a prefix that is read is longer than the address.
 fn noted_on(axis: Axis, seen: &Seen) -> Result<Option<Leading>, u16>
     ensures part { result ≡ values.noted seen.now axis }
     ensures stands { parts.PartStands axis result }
 {
-    let place = axis.index();
-    part_on(
-        axis,
-        seen.numbers[place],
-        seen.prefixes[place],
-        seen.lengths[place],
-    )
+    if let Some(value) = seen.numbers.get(axis) {
+        return Ok(Some(Leading {
+            bits: width(axis),
+            value,
+        }));
+    }
+    if axis.is_address() {
+        prefix_part(axis, seen.prefixes.get(axis), seen.lengths.get(axis))
+    } else {
+        Ok(None)
+    }
 }
 
-/// What is known on each axis.
+/// What is known on each axis is written down: how many leading bits, 0 where nothing is, and the value.
 ///
 /// Fails with 620 where a prefix that is read is longer than the address.
-fn noted(seen: &Seen) -> Result<[Option<Leading>; AXES], u16>
-    ensures { parts.Gathers (values.noted seen.now) result }
+fn gather(seen: &Seen, bits: &mut [u32; AXES], numbers: &mut [u128; AXES]) -> Result<(), u16>
+    ensures { parts.Gathers (values.noted seen.now) bits.new numbers.new result }
 {
-    let mut found = [None; AXES];
     for axis in EVERY_AXIS {
         match noted_on(axis, seen) {
-            Ok(part) => found[axis.index()] = part,
+            Ok(found) => {
+                let place = axis.index();
+                bits[place] = bits_of(&found);
+                numbers[place] = value_of(axis, found);
+            }
             Err(number) => return Err(number),
         }
     }
-    Ok(found)
+    Ok(())
 }
 
 /// The flow record of a data record of which this is noted, None without both counters.
@@ -55,15 +63,16 @@ pub(crate) fn flow_of(last: &mut LastLayout, seen: &Seen) -> Result<Option<Recor
     let Some(packets) = seen.packets else {
         return Ok(None);
     };
-    let found = match noted(seen) {
-        Ok(found) => found,
-        Err(number) => return Err(number),
-    };
-    Ok(Some(Record {
-        key: last.key_of(&found),
-        counts: Counts {
-            packets: (packets % (1u128 << 64)) as u64,
-            octets: (octets % (1u128 << 64)) as u64,
-        },
-    }))
+    let mut bits = [0; AXES];
+    let mut numbers = [0; AXES];
+    match gather(seen, &mut bits, &mut numbers) {
+        Ok(()) => Ok(Some(Record {
+            key: last.key_of(&bits, &Fields::of(numbers)),
+            counts: Counts {
+                packets: (packets % (1u128 << 64)) as u64,
+                octets: (octets % (1u128 << 64)) as u64,
+            },
+        })),
+        Err(number) => Err(number),
+    }
 }

@@ -1,7 +1,8 @@
 //! Keys of flow records.
-ghost use Rattle.std.specs.Prelude.{◌≡◌, suc, ◌≤◌, ◌++◌, Ok, Err, Option, Some, None, map, slice_index};
+ghost use Rattle.std.specs.Prelude.{◌≡◌, suc, ◌≤◌, ◌++◌, true, Ok, Err, Option, Some, None, map, slice_index};
 ghost use Rattle.fx_elements.specs.Axes.{axis_index, tops};
 ghost use Rattle.fx_elements.specs.Axes as every;
+ghost use Rattle.fx_layout.specs.Keys as keys;
 ghost use Rattle.fx_session.specs.Flows as flows;
 ghost use Rattle.fx_session.specs.Parts as parts;
 
@@ -20,8 +21,13 @@ pub(crate) struct Leading {
 /// What is known of an address by a prefix and its length.
 ///
 /// Fails with 620 where the prefix is longer than the address.
-fn prefix_part(axis: Axis, prefix: Option<u128>, bits: Option<u128>) -> Result<Option<Leading>, u16>
-    ensures { result ≡ flows.prefix_part axis prefix bits }
+pub(crate) fn prefix_part(
+    axis: Axis,
+    prefix: Option<u128>,
+    bits: Option<u128>,
+) -> Result<Option<Leading>, u16>
+    ensures part { result ≡ flows.prefix_part axis prefix bits }
+    ensures stands { every.is_address axis ≡ true → parts.PartStands axis result }
 {
     let (Some(value), Some(bits)) = (prefix, bits) else {
         return Ok(None);
@@ -38,33 +44,8 @@ fn prefix_part(axis: Axis, prefix: Option<u128>, bits: Option<u128>) -> Result<O
     }))
 }
 
-/// What is known on an axis: its value, or what a prefix of it tells.
-///
-/// Fails with 620 where a prefix that is read is longer than the address.
-pub(crate) fn part_on(
-    axis: Axis,
-    value: Option<u128>,
-    prefix: Option<u128>,
-    bits: Option<u128>,
-) -> Result<Option<Leading>, u16>
-    ensures part { result ≡ flows.part_on axis value prefix bits }
-    ensures stands { parts.PartStands axis result }
-{
-    if let Some(value) = value {
-        return Ok(Some(Leading {
-            bits: width(axis),
-            value,
-        }));
-    }
-    if axis.is_address() {
-        prefix_part(axis, prefix, bits)
-    } else {
-        Ok(None)
-    }
-}
-
 /// The value on an axis, 0 where none is known.
-fn value_of(axis: Axis, found: Option<Leading>) -> u128
+pub(crate) fn value_of(axis: Axis, found: Option<Leading>) -> u128
     ensures value { result ≡ flows.value_of axis found }
     ensures bound { result ≤ slice_index tops (axis_index axis) }
 {
@@ -76,24 +57,8 @@ fn value_of(axis: Axis, found: Option<Leading>) -> u128
     }
 }
 
-/// The layout and what is known of a later axis.
-fn add_part(layout: &Layout, axis: Axis, found: Option<Leading>) -> Layout
-    requires later { parts.AllBefore layout.now (axis_index axis) }
-    requires stands { parts.Stands axis found }
-    ensures value { result ≡ layout.now ++ flows.part_of axis found }
-    ensures before { parts.AllBefore result (suc (axis_index axis)) }
-{
-    match found {
-        None => layout.copy(),
-        Some(leading) => match layout.with(axis, leading.bits) {
-            Some(next) => next,
-            None => unreachable!(),
-        },
-    }
-}
-
 /// How many leading bits are known on an axis, 0 where none is.
-fn bits_of(found: &Option<Leading>) -> u32
+pub(crate) fn bits_of(found: &Option<Leading>) -> u32
     ensures { result ≡ parts.bits_of found.now }
 {
     match found {
@@ -102,41 +67,32 @@ fn bits_of(found: &Option<Leading>) -> u32
     }
 }
 
-/// The layout of what is known on each axis.
-fn layout_of(found: &[Option<Leading>; AXES]) -> Layout
-    requires { parts.AllStand found.now }
-    ensures { result ≡ flows.layout_of (parts.found_on found.now) }
+/// The layout and so many leading bits of a later axis, no part where there are none.
+fn add_part(layout: &Layout, axis: Axis, bits: u32) -> Layout
+    requires later { parts.AllBefore layout.now (axis_index axis) }
+    requires stands { parts.BitsStand axis bits }
+    ensures value { result ≡ layout.now ++ parts.part_by axis bits }
+    ensures before { parts.AllBefore result (suc (axis_index axis)) }
 {
-    let mut layout = Layout::new();
-    for axis in EVERY_AXIS {
-        layout = add_part(&layout, axis, found[axis.index()]);
+    if bits == 0 {
+        return layout.copy();
     }
-    layout
-}
-
-/// The fields of what is known on each axis, 0 where nothing is.
-fn fields_of(found: &[Option<Leading>; AXES]) -> Fields
-    ensures { result ≡ flows.fields_of (parts.found_on found.now) }
-{
-    let mut values = [0; AXES];
-    for axis in EVERY_AXIS {
-        values[axis.index()] = value_of(axis, found[axis.index()]);
-    }
-    match Fields::new(values) {
-        Some(fields) => fields,
+    match layout.with(axis, bits) {
+        Some(next) => next,
         None => unreachable!(),
     }
 }
 
-/// How many leading bits are known on each axis.
-fn bits_along(found: &[Option<Leading>; AXES]) -> [u32; AXES]
-    ensures { result ≡ map parts.bits_of found.now }
+/// The layout with so many leading bits on each axis.
+fn layout_of(bits: &[u32; AXES]) -> Layout
+    requires { parts.AllStand bits.now }
+    ensures { result ≡ parts.layout_by bits.now }
 {
-    let mut bits = [0; AXES];
-    for place in 0..AXES {
-        bits[place] = bits_of(&found[place]);
+    let mut layout = Layout::new();
+    for axis in EVERY_AXIS {
+        layout = add_part(&layout, axis, bits[axis.index()]);
     }
-    bits
+    layout
 }
 
 /// The layout of the last key that was made, seen as its bits on each axis: the next record under a template mostly has
@@ -169,16 +125,15 @@ impl LastLayout {
         }
     }
 
-    /// The key of what is known on each axis.
-    pub fn key_of(&mut self, found: &[Option<Leading>; AXES]) -> Key
-        requires { parts.AllStand found.now }
-        ensures { result ≡ flows.key_along (parts.found_on found.now) }
+    /// The key of these fields with so many leading bits on each axis.
+    pub fn key_of(&mut self, bits: &[u32; AXES], fields: &Fields) -> Key
+        requires { parts.AllStand bits.now }
+        ensures { result ≡ keys.key_of (parts.layout_by bits.now) fields.now }
     {
-        let bits = bits_along(found);
-        if self.bits != bits {
-            self.layout = layout_of(found);
-            self.bits = bits;
+        if self.bits != *bits {
+            self.layout = layout_of(bits);
+            self.bits = *bits;
         }
-        self.layout.key_of(&fields_of(found))
+        self.layout.key_of(fields)
     }
 }

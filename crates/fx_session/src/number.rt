@@ -8,6 +8,8 @@ pub(crate) fn number_in(octets: &[u8]) -> u128
     ensures { result ≡ flows.number_in octets.now }
 {
     match octets {
+        [a] => u128::from(*a),
+        [a, b] => u128::from(u16::from_be_bytes([*a, *b])),
         [a, b, c, d] => u128::from(u32::from_be_bytes([*a, *b, *c, *d])),
         [a, b, c, d, e, f, g, h] => {
             u128::from(u64::from_be_bytes([*a, *b, *c, *d, *e, *f, *g, *h]))

@@ -1,6 +1,7 @@
 //! What is noted of a data record.
 ghost use Rattle.std.specs.Prelude.{◌≡◌, ◌++◌, [], ◌∷◌, Option, Some, None, IfSome, IfNone};
 ghost use Rattle.std.specs.Option.{option_or};
+ghost use Rattle.fx_elements.specs.declared.axis.Axis as axes;
 ghost use Rattle.fx_wire.specs.Values as wire;
 ghost use Rattle.fx_session.specs.Flows as flows;
 ghost use Rattle.fx_session.specs.Values as values;
@@ -8,17 +9,6 @@ ghost use Rattle.fx_session.specs.Values as values;
 use crate::number::number_in;
 use fx_elements::{AXES, Axis, Element};
 use fx_wire::{FieldSpecifier, cut_value};
-
-/// The first number of each element that is read: the values on the axes, prefixes and their lengths by
-/// the place of the axis, and the counters.
-#[derive(Drop)]
-pub(crate) struct Seen {
-    pub numbers: [Option<u128>; AXES],
-    pub prefixes: [Option<u128>; AXES],
-    pub lengths: [Option<u128>; AXES],
-    pub octets: Option<u128>,
-    pub packets: Option<u128>,
-}
 
 /// The number is noted, if none is.
 fn note_first(noted: &mut Option<u128>, content: &[u8])
@@ -29,25 +19,90 @@ fn note_first(noted: &mut Option<u128>, content: &[u8])
     }
 }
 
-/// The number is noted for the axis, if none is.
-fn note_on(noted: &mut [Option<u128>; AXES], axis: Axis, content: &[u8])
-    ensures { noted.new ≡ values.with_first noted.old axis (flows.number_in content.now) }
-{
-    note_first(&mut noted[axis.index()], content);
+/// A number for each axis where one is noted; a value where none is means nothing.
+#[derive(Drop)]
+pub(crate) struct Numbers {
+    noted: [bool; AXES],
+    values: [u128; AXES],
+}
+
+impl Numbers {
+    /// None is noted.
+    fn new() -> Numbers
+        ensures { (axis : axes.Axis) → values.number_on result axis ≡ None }
+    {
+        Numbers {
+            noted: [false; AXES],
+            values: [0; AXES],
+        }
+    }
+
+    /// None is noted any more.
+    fn clear(&mut self)
+        ensures { (axis : axes.Axis) → values.number_on self.new axis ≡ None }
+    {
+        self.noted = [false; AXES];
+    }
+
+    /// The number is noted for the axis, if none is.
+    fn note(&mut self, axis: Axis, content: &[u8])
+        ensures { (other : axes.Axis) → values.number_on self.new other
+            ≡ values.first_on self.old axis (flows.number_in content.now) other }
+    {
+        let place = axis.index();
+        if !self.noted[place] {
+            self.noted[place] = true;
+            self.values[place] = number_in(content);
+        }
+    }
+
+    /// The number that is noted for the axis.
+    pub fn get(&self, axis: Axis) -> Option<u128>
+        ensures { result ≡ values.number_on self.now axis }
+    {
+        let place = axis.index();
+        if self.noted[place] {
+            Some(self.values[place])
+        } else {
+            None
+        }
+    }
+}
+
+/// The first number of each element that is read: the values on the axes, prefixes and their lengths, and the
+/// counters. It is kept from record to record, so that none has to make room for it.
+#[derive(Drop)]
+pub(crate) struct Seen {
+    pub numbers: Numbers,
+    pub prefixes: Numbers,
+    pub lengths: Numbers,
+    pub octets: Option<u128>,
+    pub packets: Option<u128>,
 }
 
 impl Seen {
     /// Nothing is noted.
-    fn new() -> Seen
+    pub fn new() -> Seen
         ensures { values.Notes result [] }
     {
         Seen {
-            numbers: [None; AXES],
-            prefixes: [None; AXES],
-            lengths: [None; AXES],
+            numbers: Numbers::new(),
+            prefixes: Numbers::new(),
+            lengths: Numbers::new(),
             octets: None,
             packets: None,
         }
+    }
+
+    /// Nothing is noted any more.
+    fn clear(&mut self)
+        ensures { values.Notes self.new [] }
+    {
+        self.numbers.clear();
+        self.prefixes.clear();
+        self.lengths.clear();
+        self.octets = None;
+        self.packets = None;
     }
 
     /// A field's value is noted, if it is read and none of its element is noted.
@@ -56,27 +111,27 @@ impl Seen {
             → values.Notes self.new (vs ++ record { field = field.now; content = content.now } ∷ []) }
     {
         match field.element() {
-            Element::OnAxis(axis) => note_on(&mut self.numbers, axis, content),
+            Element::OnAxis(axis) => self.numbers.note(axis, content),
             Element::OctetDeltaCount => note_first(&mut self.octets, content),
             Element::PacketDeltaCount => note_first(&mut self.packets, content),
-            Element::Prefix(axis) => note_on(&mut self.prefixes, axis, content),
-            Element::PrefixLength(axis) => note_on(&mut self.lengths, axis, content),
+            Element::Prefix(axis) => self.prefixes.note(axis, content),
+            Element::PrefixLength(axis) => self.lengths.note(axis, content),
             Element::OctetTotalCount | Element::PacketTotalCount | Element::Other => {}
         }
     }
 }
 
-/// What is noted of the record at the front under a template's fields, and the octets behind it; None where it is
-/// cut.
+/// The record at the front is noted under a template's fields; answers the octets behind it, None where it is cut.
 pub(crate) fn read_record<'a>(
+    seen: &mut Seen,
     fields: &[FieldSpecifier],
     octets: &'a [u8],
-) -> Option<(Seen, &'a [u8])>
+) -> Option<&'a [u8]>
     ensures none { IfNone result (wire.record_at fields.now octets.now ≡ None) }
-    ensures some { IfSome result (λ p. (vs : values.Values)
-        × (wire.record_at fields.now octets.now ≡ Some (vs, p.1.now)) × values.Notes p.0 vs) }
+    ensures some { IfSome result (λ rest. (vs : values.Values)
+        × (wire.record_at fields.now octets.now ≡ Some (vs, rest.now)) × values.Notes seen.new vs) }
 {
-    let mut seen = Seen::new();
+    seen.clear();
     let mut rest = octets;
     for field in fields {
         match cut_value(field.field_length, rest) {
@@ -87,5 +142,5 @@ pub(crate) fn read_record<'a>(
             None => return None,
         }
     }
-    Some((seen, rest))
+    Some(rest)
 }

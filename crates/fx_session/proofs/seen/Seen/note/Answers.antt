@@ -1,4 +1,4 @@
-use Rattle.std.proofs.Common.{◌≡◌, ◌∙◌, ◌++◌, ◌∷◌, [], arith, false, inl, inr, refl, sym}
+use Rattle.std.proofs.Common.{◌≡◌, ◌∙◌, ◌++◌, ◌∷◌, [], false, inl, inr, refl, sym}
 use Rattle.fx_elements.specs.declared.axis.Axis.{Axis}
 use Rattle.fx_elements.specs.declared.element.Element.{Element}
 use Rattle.fx_session.specs.Flows.{is_value, is_prefix, is_prefix_length, is_octets, is_packets}
@@ -8,7 +8,7 @@ use Rattle.fx_session.proofs.Notes.{note_value, note_prefix, note_length, note_o
 use Rattle.fx_session.proofs.seen.Seen.note.Goals as goal
 
 pub returns-in-OnAxis : goal.returns-in-OnAxis
-returns-in-OnAxis c = λ vs known. note_value c.args.self.now vs (record { field = c.args.field.now; content = c.args.content.now }) c.in-OnAxis.axis c.note_on.new.noted (omega arith) (sym c.element.ensures ∙ c.in-OnAxis.is) c.note_on.ensures known
+returns-in-OnAxis c = λ vs known. note_value c.args.self.now vs (record { field = c.args.field.now; content = c.args.content.now }) c.in-OnAxis.axis c.note.new.self (sym c.element.ensures ∙ c.in-OnAxis.is) c.note.ensures known
 
 pub returns-in-OctetDeltaCount : goal.returns-in-OctetDeltaCount
 returns-in-OctetDeltaCount c = λ vs known. note_octets c.args.self.now vs (record { field = c.args.field.now; content = c.args.content.now }) c.note_first.new.noted (sym c.element.ensures ∙ c.in-OctetDeltaCount.is) c.note_first.ensures known
@@ -17,10 +17,10 @@ pub returns-in-PacketDeltaCount : goal.returns-in-PacketDeltaCount
 returns-in-PacketDeltaCount c = λ vs known. note_packets c.args.self.now vs (record { field = c.args.field.now; content = c.args.content.now }) c.note_first-in-PacketDeltaCount.new.noted (sym c.element.ensures ∙ c.in-PacketDeltaCount.is) c.note_first-in-PacketDeltaCount.ensures known
 
 pub returns-in-Prefix : goal.returns-in-Prefix
-returns-in-Prefix c = λ vs known. note_prefix c.args.self.now vs (record { field = c.args.field.now; content = c.args.content.now }) c.in-Prefix.axis c.note_on-in-Prefix.new.noted (omega arith) (sym c.element.ensures ∙ c.in-Prefix.is) c.note_on-in-Prefix.ensures known
+returns-in-Prefix c = λ vs known. note_prefix c.args.self.now vs (record { field = c.args.field.now; content = c.args.content.now }) c.in-Prefix.axis c.note-in-Prefix.new.self (sym c.element.ensures ∙ c.in-Prefix.is) c.note-in-Prefix.ensures known
 
 pub returns-in-PrefixLength : goal.returns-in-PrefixLength
-returns-in-PrefixLength c = λ vs known. note_length c.args.self.now vs (record { field = c.args.field.now; content = c.args.content.now }) c.in-PrefixLength.axis c.note_on-in-PrefixLength.new.noted (omega arith) (sym c.element.ensures ∙ c.in-PrefixLength.is) c.note_on-in-PrefixLength.ensures known
+returns-in-PrefixLength c = λ vs known. note_length c.args.self.now vs (record { field = c.args.field.now; content = c.args.content.now }) c.in-PrefixLength.axis c.note-in-PrefixLength.new.self (sym c.element.ensures ∙ c.in-PrefixLength.is) c.note-in-PrefixLength.ensures known
 
 pub returns-in-OctetTotalCount : goal.returns-in-OctetTotalCount
 returns-in-OctetTotalCount c = λ vs known.
