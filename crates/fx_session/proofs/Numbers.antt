@@ -1,6 +1,6 @@
--- Numbers in eight octets.
+-- Numbers in eight octets, and in sixteen.
 use Rattle.std.proofs.Common.{◌≡◌, ℕ, ◌+◌, ◌*◌, ◌^◌, ◌<◌, List, [], ◌∷◌, length, arith, get_or, fold, ◌∙◌}
-use Rattle.std.specs.Int.{from_be_bytes, w64}
+use Rattle.std.specs.Int.{from_be_bytes, w64, w128}
 use Rattle.std.proofs.Math.Nat.{mod-eq_of_lt}
 use Rattle.fx_session.specs.Flows.{number_in}
 
@@ -24,3 +24,33 @@ eight (a ∷ b ∷ c ∷ d ∷ e ∷ f ∷ []) small is = absurd (omega (arith, 
 eight (a ∷ b ∷ c ∷ d ∷ e ∷ f ∷ g ∷ []) small is = absurd (omega (arith, is))
 eight (a ∷ b ∷ c ∷ d ∷ e ∷ f ∷ g ∷ h ∷ []) small is = eight_of a b c d e f g h small
 eight (a ∷ b ∷ c ∷ d ∷ e ∷ f ∷ g ∷ h ∷ i ∷ rest) small is = absurd (omega (arith, is))
+
+-- ---- of sixteen neither
+
+sixteen_of : (a b c d e f g h i j k l m n o p : ℕ) → ((x : ℕ) → get_or (a ∷ b ∷ c ∷ d ∷ e ∷ f ∷ g ∷ h ∷ i ∷ j ∷ k ∷ l ∷ m ∷ n ∷ o ∷ p ∷ []) x 0 < 256)
+    → number_in (a ∷ b ∷ c ∷ d ∷ e ∷ f ∷ g ∷ h ∷ i ∷ j ∷ k ∷ l ∷ m ∷ n ∷ o ∷ p ∷ []) ≡ from_be_bytes w128 (a ∷ b ∷ c ∷ d ∷ e ∷ f ∷ g ∷ h ∷ i ∷ j ∷ k ∷ l ∷ m ∷ n ∷ o ∷ p ∷ [])
+unfolding number_in
+sixteen_of a b c d e f g h i j k l m n o p small =
+    let whole : ℕ = fold (λ n b. n * 256 + b) 0 (a ∷ b ∷ c ∷ d ∷ e ∷ f ∷ g ∷ h ∷ i ∷ j ∷ k ∷ l ∷ m ∷ n ∷ o ∷ p ∷ []) in
+    let below : whole < 2 ^ 128 = omega (arith, small 0, small 1, small 2, small 3, small 4, small 5, small 6, small 7, small 8, small 9, small 10, small 11, small 12, small 13, small 14, small 15) in
+    mod-eq_of_lt below ∙ (let same : whole ≡ from_be_bytes w128 (a ∷ b ∷ c ∷ d ∷ e ∷ f ∷ g ∷ h ∷ i ∷ j ∷ k ∷ l ∷ m ∷ n ∷ o ∷ p ∷ []) = omega arith in same)
+
+pub sixteen : (bs : List ℕ) → ((i : ℕ) → get_or bs i 0 < 256) → length bs ≡ 16 → number_in bs ≡ from_be_bytes w128 bs
+sixteen ([]) small is = absurd (omega (arith, is))
+sixteen (a ∷ []) small is = absurd (omega (arith, is))
+sixteen (a ∷ b ∷ []) small is = absurd (omega (arith, is))
+sixteen (a ∷ b ∷ c ∷ []) small is = absurd (omega (arith, is))
+sixteen (a ∷ b ∷ c ∷ d ∷ []) small is = absurd (omega (arith, is))
+sixteen (a ∷ b ∷ c ∷ d ∷ e ∷ []) small is = absurd (omega (arith, is))
+sixteen (a ∷ b ∷ c ∷ d ∷ e ∷ f ∷ []) small is = absurd (omega (arith, is))
+sixteen (a ∷ b ∷ c ∷ d ∷ e ∷ f ∷ g ∷ []) small is = absurd (omega (arith, is))
+sixteen (a ∷ b ∷ c ∷ d ∷ e ∷ f ∷ g ∷ h ∷ []) small is = absurd (omega (arith, is))
+sixteen (a ∷ b ∷ c ∷ d ∷ e ∷ f ∷ g ∷ h ∷ i ∷ []) small is = absurd (omega (arith, is))
+sixteen (a ∷ b ∷ c ∷ d ∷ e ∷ f ∷ g ∷ h ∷ i ∷ j ∷ []) small is = absurd (omega (arith, is))
+sixteen (a ∷ b ∷ c ∷ d ∷ e ∷ f ∷ g ∷ h ∷ i ∷ j ∷ k ∷ []) small is = absurd (omega (arith, is))
+sixteen (a ∷ b ∷ c ∷ d ∷ e ∷ f ∷ g ∷ h ∷ i ∷ j ∷ k ∷ l ∷ []) small is = absurd (omega (arith, is))
+sixteen (a ∷ b ∷ c ∷ d ∷ e ∷ f ∷ g ∷ h ∷ i ∷ j ∷ k ∷ l ∷ m ∷ []) small is = absurd (omega (arith, is))
+sixteen (a ∷ b ∷ c ∷ d ∷ e ∷ f ∷ g ∷ h ∷ i ∷ j ∷ k ∷ l ∷ m ∷ n ∷ []) small is = absurd (omega (arith, is))
+sixteen (a ∷ b ∷ c ∷ d ∷ e ∷ f ∷ g ∷ h ∷ i ∷ j ∷ k ∷ l ∷ m ∷ n ∷ o ∷ []) small is = absurd (omega (arith, is))
+sixteen (a ∷ b ∷ c ∷ d ∷ e ∷ f ∷ g ∷ h ∷ i ∷ j ∷ k ∷ l ∷ m ∷ n ∷ o ∷ p ∷ []) small is = sixteen_of a b c d e f g h i j k l m n o p small
+sixteen (a ∷ b ∷ c ∷ d ∷ e ∷ f ∷ g ∷ h ∷ i ∷ j ∷ k ∷ l ∷ m ∷ n ∷ o ∷ p ∷ q ∷ rest) small is = absurd (omega (arith, is))

@@ -14,6 +14,9 @@ pub(crate) fn number_in(octets: &[u8]) -> u128
         [a, b, c, d, e, f, g, h] => {
             u128::from(u64::from_be_bytes([*a, *b, *c, *d, *e, *f, *g, *h]))
         }
+        [a, b, c, d, e, f, g, h, i, j, k, l, m, n, o, p] => u128::from_be_bytes([
+            *a, *b, *c, *d, *e, *f, *g, *h, *i, *j, *k, *l, *m, *n, *o, *p,
+        ]),
         _ => number_by_octets(octets),
     }
 }
