@@ -1,5 +1,5 @@
 -- What is noted of values, one after another.
-use Rattle.std.proofs.Common.{◌≡◌, ◌≢◌, ℕ, ◌+◌, ◌<◌, ◌≤◌, Bool, true, false, cond, eq-eqb, List, [], ◌∷◌, ◌++◌, length, drop, get_or, refl, ap, sym, ◌∙◌, arith, append_assoc, Option, Some, None, option_map}
+use Rattle.std.proofs.Common.{◌≡◌, ◌≢◌, ℕ, ◌+◌, ◌<◌, ◌≤◌, Bool, true, false, cond, eq-eqb, List, [], ◌∷◌, ◌++◌, length, drop, map, get_or, refl, ap, sym, ◌∙◌, arith, append_assoc, Option, Some, None, option_map}
 use Rattle.std.proofs.Math.ListN.{set}
 use Rattle.std.specs.List.{find}
 use Rattle.std.specs.Option.{option_or}
@@ -8,7 +8,7 @@ use Rattle.fx_elements.specs.declared.axis.Axis.{Axis}
 use Rattle.fx_elements.specs.declared.element.Element.{Element}
 use Rattle.fx_elements.specs.declared.element.Element.TheVariants.{OnAxis, OctetDeltaCount, PacketDeltaCount, Prefix, PrefixLength}
 use Rattle.fx_elements.proofs.EveryAxis.{axis_is, index_below}
-use Rattle.std.proofs.lemmas.List.{get_or-set_other}
+use Rattle.std.proofs.lemmas.List.{get_or-set_other, get_or-map}
 use Rattle.std.proofs.lemmas.Grind.{get_or-set_at}
 use Rattle.fx_wire.specs.Fields.{element_of}
 use Rattle.fx_wire.specs.Values.{Value, value_at, record_at, before_values}
@@ -159,3 +159,8 @@ record_at-all fields i bs h = ap (λ (fs : List FieldSpecifier). record_at fs bs
 pub before_values-again : (xs : List Value) (v : Value) (r : Option (List Value × List ℕ)) → before_values xs (before_values (v ∷ []) r) ≡ before_values (xs ++ v ∷ []) r
 before_values-again xs v (Some p) = ap (λ (l : List Value). Some (l, p.1)) (sym (append_assoc xs (v ∷ []) p.0))
 before_values-again xs v None = refl
+
+-- the element at a place is that of the field there
+pub element_at : (fields all : List FieldSpecifier) (elements : List Element) (i : ℕ) (d : FieldSpecifier) (e : Element) → fields ≡ all → elements ≡ map element_of all → i < length fields → element_of (get_or fields i d) ≡ get_or elements i e
+element_at fields all elements i d e same are lt =
+    sym (ap (λ (es : List Element). get_or es i e) (are ∙ ap (λ (fs : List FieldSpecifier). map element_of fs) (sym same)) ∙ get_or-map element_of fields i d e lt)

@@ -9,23 +9,24 @@ use crate::key::LastLayout;
 use crate::seen::{Seen, read_record};
 use crate::taken::Taken;
 use crate::template::Template;
-use fx_wire::{FieldSpecifier, cut_record};
+use fx_wire::cut_record;
 
 /// The data record at the front is taken; answers the octets behind it.
 ///
 /// Fails with 619 where it is cut, with 620 where a prefix that is read is longer than the address, and with 900 for
 /// want of memory; nothing is taken then.
 fn take_flow<'a>(
-    fields: &[FieldSpecifier],
+    template: &Template,
     seen: &mut Seen,
     last: &mut LastLayout,
     taken: &mut Taken,
     octets: &'a [u8],
 ) -> Result<&'a [u8], u16>
-    ensures done { reading.Follows (sets.flow_record fields.now taken.old octets.now) taken.new result }
+    ensures done { reading.Follows
+        (sets.flow_record template.now.fields taken.old octets.now) taken.new result }
     ensures grows { Grows taken.old.waiting taken.new.waiting }
 {
-    let Some(rest) = read_record(seen, fields, octets) else {
+    let Some(rest) = read_record(seen, template, octets) else {
         return Err(619);
     };
     match flow_of(last, seen) {
@@ -49,7 +50,7 @@ pub(crate) fn take_flows(template: &Template, taken: &mut Taken, octets: &[u8]) 
     let mut last = LastLayout::new();
     let mut rest = octets;
     while rest.len() >= shortest {
-        match take_flow(template.fields(), &mut seen, &mut last, taken, rest) {
+        match take_flow(template, &mut seen, &mut last, taken, rest) {
             Ok(behind) => rest = behind,
             Err(number) => return Err(number),
         }

@@ -2,13 +2,16 @@
 ghost use Rattle.std.specs.Prelude.{◌≡◌, ◌++◌, [], ◌∷◌, Option, Some, None, IfSome, IfNone};
 ghost use Rattle.std.specs.Option.{option_or};
 ghost use Rattle.fx_elements.specs.declared.axis.Axis as axes;
+ghost use Rattle.fx_wire.specs.Fields.{element_of};
 ghost use Rattle.fx_wire.specs.Values as wire;
+ghost use Rattle.fx_wire.specs.declared.field.FieldSpecifier as specifiers;
 ghost use Rattle.fx_session.specs.Flows as flows;
 ghost use Rattle.fx_session.specs.Values as values;
 
 use crate::number::number_in;
+use crate::template::Template;
 use fx_elements::{AXES, Axis, Element};
-use fx_wire::{FieldSpecifier, cut_value};
+use fx_wire::cut_value;
 
 /// The number is noted, if none is.
 fn note_first(noted: &mut Option<u128>, content: &[u8])
@@ -105,12 +108,13 @@ impl Seen {
         self.packets = None;
     }
 
-    /// A field's value is noted, if it is read and none of its element is noted.
-    fn note(&mut self, field: &FieldSpecifier, content: &[u8])
-        ensures { (vs : values.Values) → values.Notes self.old vs
-            → values.Notes self.new (vs ++ record { field = field.now; content = content.now } ∷ []) }
+    /// The value of a field of this element is noted, if it is read and none of its element is noted.
+    fn note(&mut self, element: Element, content: &[u8])
+        ensures { (vs : values.Values) (field : specifiers.FieldSpecifier)
+            → element_of field ≡ element → values.Notes self.old vs
+            → values.Notes self.new (vs ++ record { field = field; content = content.now } ∷ []) }
     {
-        match field.element() {
+        match element {
             Element::OnAxis(axis) => self.numbers.note(axis, content),
             Element::OctetDeltaCount => note_first(&mut self.octets, content),
             Element::PacketDeltaCount => note_first(&mut self.packets, content),
@@ -121,22 +125,25 @@ impl Seen {
     }
 }
 
-/// The record at the front is noted under a template's fields; answers the octets behind it, None where it is cut.
+/// The record at the front is noted under a template; answers the octets behind it, None where it is cut.
 pub(crate) fn read_record<'a>(
     seen: &mut Seen,
-    fields: &[FieldSpecifier],
+    template: &Template,
     octets: &'a [u8],
 ) -> Option<&'a [u8]>
-    ensures none { IfNone result (wire.record_at fields.now octets.now ≡ None) }
+    ensures none { IfNone result (wire.record_at template.now.fields octets.now ≡ None) }
     ensures some { IfSome result (λ rest. (vs : values.Values)
-        × (wire.record_at fields.now octets.now ≡ Some (vs, rest.now)) × values.Notes seen.new vs) }
+        × (wire.record_at template.now.fields octets.now ≡ Some (vs, rest.now))
+        × values.Notes seen.new vs) }
 {
     seen.clear();
     let mut rest = octets;
-    for field in fields {
-        match cut_value(field.field_length, rest) {
+    let fields = template.fields();
+    let elements = template.elements();
+    for place in 0..fields.len() {
+        match cut_value(fields[place].field_length, rest) {
             Some((content, behind)) => {
-                seen.note(field, content);
+                seen.note(elements[place], content);
                 rest = behind;
             }
             None => return None,

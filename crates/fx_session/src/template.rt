@@ -1,17 +1,20 @@
 //! Templates.
-ghost use Rattle.std.specs.Prelude.{◌≡◌, ◌≤◌, ◌&&◌, ◌==◌, length, IfOk, IfErr};
+ghost use Rattle.std.specs.Prelude.{◌≡◌, ◌≤◌, ◌&&◌, ◌==◌, length, map, IfOk, IfErr};
+ghost use Rattle.fx_wire.specs.Fields.{element_of};
 ghost use Rattle.fx_wire.specs.Values.{shortest_record};
 ghost use Rattle.fx_session.specs.Templates as templates;
 
+use fx_elements::Element;
 use fx_wire::FieldSpecifier;
 use std::alloc::Global;
 use std::marker::Model;
 
-/// How many fields of a template are scope fields, its fields, and how few octets a record can have.
+/// How many fields of a template are scope fields, its fields and their elements, and how few octets a record can have.
 #[derive(Drop)]
 struct Body {
     scope: u16,
     fields: Vec<FieldSpecifier>,
+    elements: Vec<Element>,
     shortest: usize,
 }
 
@@ -23,7 +26,8 @@ pub(crate) struct Template {
 }
 
 impl Model for Template {
-    ghost use Rattle.std.specs.Prelude.{◌≡◌, ◌≤◌};
+    ghost use Rattle.std.specs.Prelude.{◌≡◌, ◌≤◌, map};
+    ghost use Rattle.fx_wire.specs.Fields.{element_of};
     ghost use Rattle.fx_wire.specs.Values.{shortest_record};
     ghost use Rattle.fx_session.specs.Templates as templates;
 
@@ -31,7 +35,9 @@ impl Model for Template {
 
     ghost view = { λ t. record { scope = t.body.value.scope; fields = t.body.value.fields.items } };
 
-    ghost invariant = { λ t. (t.body.value.shortest ≡ shortest_record t.body.value.fields.items) × (1 ≤ t.body.value.shortest) };
+    ghost invariant = { λ t. (t.body.value.shortest ≡ shortest_record t.body.value.fields.items)
+        × (1 ≤ t.body.value.shortest)
+        × (t.body.value.elements.items ≡ map element_of t.body.value.fields.items) };
 }
 
 /// Whether two fields are written in the same way.
@@ -63,6 +69,21 @@ fn same_fields(a: &[FieldSpecifier], b: &[FieldSpecifier]) -> bool
     true
 }
 
+/// The element of each field. Fails with 900 for want of memory.
+fn elements_of(alloc: Global, fields: &[FieldSpecifier]) -> Result<Vec<Element>, u16>
+    ensures ok { IfOk result (λ elements. elements.items ≡ map element_of fields.now) }
+    ensures err { IfErr result (λ n. n ≡ 900) }
+{
+    let mut elements: Vec<Element> = Vec::new(alloc);
+    for field in fields {
+        if let Err(_) = elements.push(field.element()) {
+            return Err(900);
+        }
+    }
+    elements.shrink_to_fit();
+    Ok(elements)
+}
+
 impl Template {
     /// A template of these fields, whose records have `shortest` octets at least. Fails with 900 for want of memory.
     pub fn new(
@@ -76,9 +97,11 @@ impl Template {
         ensures ok { IfOk result (λ t. t ≡ record { scope = scope; fields = fields.items }) }
         ensures err { IfErr result (λ n. n ≡ 900) }
     {
+        let elements = elements_of(alloc, fields.as_slice())?;
         let body = Body {
             scope,
             fields,
+            elements,
             shortest,
         };
         match Box::new(alloc, body) {
@@ -92,6 +115,13 @@ impl Template {
         ensures { result.now ≡ self.now.fields }
     {
         self.body.fields.as_slice()
+    }
+
+    /// The element of each field.
+    pub fn elements(&self) -> &[Element]
+        ensures { result.now ≡ map element_of self.now.fields }
+    {
+        self.body.elements.as_slice()
     }
 
     /// How few octets a record can have.
