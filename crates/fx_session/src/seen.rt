@@ -60,7 +60,7 @@ impl Numbers {
     }
 
     /// The number that is noted for the axis.
-    pub fn get(&self, axis: Axis) -> Option<u128>
+    pub(crate) fn get(&self, axis: Axis) -> Option<u128>
         ensures { result ≡ values.number_on self.now axis }
     {
         let place = axis.index();
@@ -85,7 +85,7 @@ pub(crate) struct Seen {
 
 impl Seen {
     /// Nothing is noted.
-    pub fn new() -> Seen
+    pub(crate) fn new() -> Seen
         ensures { values.Notes result [] }
     {
         Seen {
