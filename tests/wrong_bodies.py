@@ -27,7 +27,8 @@ that they name what the edit took away. One line an edit; the last line is `N pa
   --as-built  take the libraries as they lie in out/rlib: right after `rt ci` in a fresh clone
   --control   try each function that an edit changes, on a twin or in place, with its own body: all must be proved
   --jobs N    jobs of each check
-  --show FILE write all that the checks print to the file
+  --show FILE write all that the checks print to the file, each line behind the second at which it came: with one job,
+              what comes between two lines `checked ..` is what the second function took
   NAME/WORD   of this crate the edits alone whose name contains WORD
 """
 import argparse

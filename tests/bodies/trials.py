@@ -2,6 +2,7 @@
 import os
 import subprocess
 import tempfile
+import time
 
 from bodies.copies import MARK, Copies
 from bodies.edits import BAD, CONSTANT, IN_PLACE, TWIN, proof_paths, read, sources
@@ -49,16 +50,19 @@ class Trial:
         words = self.crate.words(["--jobs", str(self.jobs), "--allow-holes", *words], keeps=False)
         how = {"cwd": room, "stdin": subprocess.DEVNULL, "stdout": subprocess.PIPE, "stderr": subprocess.STDOUT}
         whole = [*self.rtlib.guarded(), self.rtlib.RATTLE, "check", *words, "--incremental", self.kept]
+        began, lines = time.monotonic(), []
         with subprocess.Popen(whole, **how) as ran:
-            said = ran.stdout.read().decode(errors="replace")
+            for line in ran.stdout:
+                lines.append((time.monotonic() - began, line.decode(errors="replace")))
             _, status, used = os.wait4(ran.pid, 0)
             ran.returncode = os.waitstatus_to_exitcode(status)
         self.seconds += used.ru_utime + used.ru_stime
         self.checks, self.peak = self.checks + 1, max(self.peak, used.ru_maxrss // 1024)
         if self.shown:
             with open(self.shown, "a", encoding="utf-8") as it:
-                it.write(f"==== {self.crate.name} {' '.join(only)}\n{said}\n")
-        return said, ran.returncode
+                it.write(f"==== {self.crate.name} {' '.join(only)}\n")
+                it.writelines("%6.1f %s" % line for line in lines)
+        return "".join(text for _, text in lines), ran.returncode
 
     def judge_parts(self, parts, with_own_bodies=False):
         """Judges these parts in one check, each on a twin of its function or in place; once more without those that don't compile."""
