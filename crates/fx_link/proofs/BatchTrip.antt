@@ -10,14 +10,13 @@ use Rattle.fx_elements.proofs.EveryAxis.{on_axis, index_below}
 use Rattle.fx_layout.specs.declared.layout.Part.{Part}
 use Rattle.fx_layout.specs.Keys.{Layout, IsLayout, Ascends}
 use Rattle.fx_machine.specs.declared.record.Record.{Record}
-use Rattle.fx_wire.specs.Sets.{SetParts, set_parts, is_reserved}
+use Rattle.fx_wire.specs.Sets.{SetParts, is_reserved}
 use Rattle.fx_wire.specs.Messages.{Message, front, complete}
 use Rattle.fx_wire.specs.Writing.{set_octets, sets_length, sets_octets, message_length, version_octets, origin_octets, message_octets, HaveIds, IsMessage}
 use Rattle.fx_wire.specs.declared.header.Header.{Header}
 use Rattle.fx_wire.specs.declared.field.FieldSpecifier.{FieldSpecifier}
-use Rattle.fx_wire.specs.declared.set.Set.{Set}
 use Rattle.fx_wire.specs.declared.template.TemplateKind.TheVariants as kinds
-use Rattle.fx_wire.proofs.RoundTrip.{message_back}
+use Rattle.fx_wire.proofs.RoundTrip.{message_back, message_octets-length}
 use Rattle.fx_session.specs.Templates.{Template, Templates, at_number}
 use Rattle.fx_session.specs.TemplateSets.{template_set}
 use Rattle.fx_session.specs.DataSets.{Taken, flow_set}
@@ -28,7 +27,7 @@ use Rattle.fx_session.specs.declared.domain.Domain.{Domain}
 use Rattle.fx_session.proofs.MessageSteps.{sets_read-first, sets_read-end}
 use Rattle.fx_session.proofs.StreamSteps.{fed_on, all_goes, all_none}
 use Rattle.fx_link.specs.Records.{axis_octets, is_whole, whole_octets, prefix_of, fields_of, specifiers_octets, value_octets, key_octets, record_octets, records_octets, template_octets}
-use Rattle.fx_link.specs.Sending.{Sender, layout_of, knows, template_id, set_of, message_sets, header_at, batch_octets, layouts_with, after_batch, IsSendable, IsBatch, IsSender, template_of, templates_from, domain_of, domains_of, KeepsUp, ReadsOn}
+use Rattle.fx_link.specs.Sending.{Sender, layout_of, knows, template_id, message_sets, header_at, batch_octets, layouts_with, after_batch, IsSendable, IsBatch, IsSender, template_of, templates_from, domain_of, domains_of, KeepsUp, ReadsOn}
 use Rattle.fx_link.proofs.DataTrip.{with_flows, flows_back}
 use Rattle.fx_link.proofs.TemplateTrip.{template_back, few_fields}
 use Rattle.fx_link.proofs.RecordTrip.{length-bytes}
@@ -58,7 +57,7 @@ templates_for layouts = record { plain = templates_from 256 layouts; options = [
 
 -- the sets of a message: the layout's template is there behind them, and the records wait
 sets_back : (layouts : List Layout) (batch : List Record) (t : Taken) → 256 + length layouts < 2 ^ 16 → IsBatch batch → t.count + length batch < 2 ^ 32
-    → sets_read (record { templates = templates_for layouts; taken = t }) (map set_parts (message_sets layouts batch)) ≡ Ok (record { templates = templates_for (layouts_with layouts (layout_of batch)); taken = with_flows t batch })
+    → sets_read (record { templates = templates_for layouts; taken = t }) (message_sets layouts batch) ≡ Ok (record { templates = templates_for (layouts_with layouts (layout_of batch)); taken = with_flows t batch })
 sets_back layouts batch t few b h = by (knows layouts (layout_of batch)) refl where
   data_back : (after : List Layout) → at_number (templates_from 256 after) (template_id layouts (layout_of batch)) ≡ Some (template_of (layout_of batch))
       → sets_read (record { templates = templates_for after; taken = t }) (record { id = template_id layouts (layout_of batch); content = records_octets batch } ∷ []) ≡ Ok (record { templates = templates_for after; taken = with_flows t batch })
@@ -70,7 +69,7 @@ sets_back layouts batch t few b h = by (knows layouts (layout_of batch)) refl wh
       ∙ sets_read-end next [] refl
 
   by : (k : Bool) → knows layouts (layout_of batch) ≡ k
-      → sets_read (record { templates = templates_for layouts; taken = t }) (map set_parts (cond k [] (set_of 2 (template_octets (256 + length layouts) (layout_of batch)) ∷ []) ++ set_of (template_id layouts (layout_of batch)) (records_octets batch) ∷ []))
+      → sets_read (record { templates = templates_for layouts; taken = t }) (cond k [] (record { id = 2; content = template_octets (256 + length layouts) (layout_of batch) } ∷ []) ++ record { id = template_id layouts (layout_of batch); content = records_octets batch } ∷ [])
       ≡ Ok (record { templates = templates_for (cond k layouts (layouts ++ layout_of batch ∷ [])); taken = with_flows t batch })
   by true k = data_back layouts (ap (λ (u : Bool). at_number (templates_from 256 (cond u layouts (layouts ++ layout_of batch ∷ []))) (template_id layouts (layout_of batch))) (sym k) ∙ at_template layouts (layout_of batch))
   by false k =
@@ -117,7 +116,7 @@ domain_after s batch = by (knows s.layouts (layout_of batch)) s.layouts refl whe
   by false (l ∷ ls) e = refl
 
 abbrev message_of : ℕ → Sender → List Record → Message
-message_of time s batch = record { octets = message_length (message_sets s.layouts batch); header = header_at time s; sets = map set_parts (message_sets s.layouts batch) }
+message_of time s batch = record { octets = message_length (message_sets s.layouts batch); header = header_at time s; sets = message_sets s.layouts batch }
 
 abbrev known_then : Known → Sender → List Record → Known
 known_then k s batch = record { domains = domains_of (after_batch s batch); waiting = k.waiting ++ batch; gaps = k.gaps; skipped = k.skipped }
@@ -196,7 +195,7 @@ records_few layout (r ∷ rs) is h =
 
 pub sets_few : (layouts : List Layout) (batch : List Record) → IsBatch batch → message_length (message_sets layouts batch) ≤ 65535
 sets_few layouts batch b = by (knows layouts (layout_of batch)) where
-  by : (k : Bool) → message_length (cond k [] (set_of 2 (template_octets (256 + length layouts) (layout_of batch)) ∷ []) ++ set_of (template_id layouts (layout_of batch)) (records_octets batch) ∷ []) ≤ 65535
+  by : (k : Bool) → message_length (cond k [] (record { id = 2; content = template_octets (256 + length layouts) (layout_of batch) } ∷ []) ++ record { id = template_id layouts (layout_of batch); content = records_octets batch } ∷ []) ≤ 65535
   by true = let few : length batch ≤ 64 = b.few in omega (arith, records_few (layout_of batch) batch b.layout b.records)
   by false = let few : length batch ≤ 64 = b.few in omega (arith, records_few (layout_of batch) batch b.layout b.records, template_few (256 + length layouts) (layout_of batch) b.layout)
 
@@ -205,18 +204,9 @@ data_id id h = ap (λ (t : Bool). t && (not (id == 2) && not (id == 3))) (le-ltb
 
 ids_are : (layouts : List Layout) (batch : List Record) → 256 + length layouts < 2 ^ 16 → HaveIds (message_sets layouts batch)
 ids_are layouts batch h = by (knows layouts (layout_of batch)) where
-  by : (k : Bool) → HaveIds (cond k [] (set_of 2 (template_octets (256 + length layouts) (layout_of batch)) ∷ []) ++ set_of (template_id layouts (layout_of batch)) (records_octets batch) ∷ [])
+  by : (k : Bool) → HaveIds (cond k [] (record { id = 2; content = template_octets (256 + length layouts) (layout_of batch) } ∷ []) ++ record { id = template_id layouts (layout_of batch); content = records_octets batch } ∷ [])
   by true = ((omega (arith, id_few layouts (layout_of batch)), data_id (template_id layouts (layout_of batch)) (omega arith)), tt)
   by false = ((omega arith, refl), ((omega (arith, id_few layouts (layout_of batch)), data_id (template_id layouts (layout_of batch)) (omega arith)), tt))
-
-sets_long : (ss : List Set) → length (sets_octets ss) ≡ sets_length ss
-unfolding set_octets
-sets_long [] = refl
-sets_long (s ∷ ss) = omega (arith, sets_long ss, length-append s.content.now (sets_octets ss), length-append (set_octets s) (sets_octets ss))
-
-message_long : (h : Header) (ss : List Set) → length (message_octets h ss) ≡ message_length ss
-unfolding version_octets origin_octets
-message_long h ss = omega (arith, sets_long ss)
 
 -- ---- the law
 
@@ -228,7 +218,7 @@ waits_then st time s batch h is b up =
     let bs : List ℕ = message_octets (header_at time s) (message_sets s.layouts batch) in
     let whole : IsMessage (header_at time s) (message_sets s.layouts batch) = record { time = h; sequence = is.sent; domain = omega arith; ids = ids_are s.layouts batch is.few; length_is = sets_few s.layouts batch b } in
     let first : front bs ≡ complete m = message_back (header_at time s) (message_sets s.layouts batch) whole in
-    let end : drop m.octets bs ≡ [] = drop_all m.octets bs (omega (arith, message_long (header_at time s) (message_sets s.layouts batch))) in (
+    let end : drop m.octets bs ≡ [] = drop_all m.octets bs (omega (arith, message_octets-length (header_at time s) (message_sets s.layouts batch))) in (
       moved st.place m.octets,
       fed_on st bs up.fault ∙ ap (λ (r : List ℕ). read_all st.known st.place (r ++ bs)) up.rest
           ∙ all_goes st.known (known_then st.known s batch) st.place m bs first (message_done st.known time s batch up.domains is b)

@@ -3,9 +3,9 @@ use Rattle.std.specs.Prelude.{◌≡◌, ℕ, suc, ◌+◌, ◌%◌, ◌^◌, �
 use Rattle.std.specs.List.{list_any, position_or_len, AllByRecursion}
 use Rattle.fx_layout.specs.Keys.{Layout, HasBits, IsLayout, same_layout}
 use Rattle.fx_machine.specs.declared.record.Record.{Record}
+use Rattle.fx_wire.specs.Sets.{SetParts}
 use Rattle.fx_wire.specs.Writing.{message_octets}
 use Rattle.fx_wire.specs.declared.header.Header.{Header}
-use Rattle.fx_wire.specs.declared.set.Set.{Set}
 use Rattle.fx_session.specs.Streams.{Standing, fed}
 use Rattle.fx_session.specs.Templates.{Template}
 use Rattle.fx_session.specs.declared.domain.Domain.{Domain}
@@ -35,16 +35,15 @@ knows layouts layout = list_any (same_layout layout) layouts
 abbrev pub template_id : List Layout → Layout → ℕ
 template_id layouts layout = 256 + position_or_len (same_layout layout) layouts
 
--- a set's octets, wherever they stand
-abbrev pub set_of : ℕ → List ℕ → Set
-set_of id content = record { id = id; content = record { ref_ptr = (0, 0); now = content } }
-
 -- a template set comes first where the link hasn't used the layout yet (section 8.4)
-abbrev pub template_sets : List Layout → Layout → List Set
-template_sets layouts layout = if knows layouts layout then [] else set_of 2 (template_octets (256 + length layouts) layout) ∷ []
+abbrev pub template_sets : List Layout → Layout → List SetParts
+template_sets layouts layout =
+    if knows layouts layout then [] else record { id = 2; content = template_octets (256 + length layouts) layout } ∷ []
 
-abbrev pub message_sets : List Layout → List Record → List Set
-message_sets layouts rs = template_sets layouts (layout_of rs) ++ set_of (template_id layouts (layout_of rs)) (records_octets rs) ∷ []
+-- then the records
+abbrev pub message_sets : List Layout → List Record → List SetParts
+message_sets layouts rs =
+    template_sets layouts (layout_of rs) ++ record { id = template_id layouts (layout_of rs); content = records_octets rs } ∷ []
 
 -- the sequence number is that of the records that were put on the link before, and the observation domain is 0
 abbrev pub header_at : ℕ → Sender → Header
