@@ -11,3 +11,5 @@ pub mod StreamTrip
 pub mod Flushing
 pub mod Carrying
 pub mod WireTrip
+pub mod Putting
+pub mod SetsTrip
