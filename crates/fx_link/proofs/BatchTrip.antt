@@ -1,5 +1,5 @@
 -- The message of a batch of records is read as those records.
-use Rattle.std.proofs.Common.{◌≡◌, ℕ, suc, ◌+◌, ◌-◌, ◌*◌, ◌/◌, ◌%◌, ◌^◌, ◌≤◌, ◌<◌, Bool, true, false, ◌&&◌, not, ◌==◌, cond, ltb, ltb-true, le-ltb, List, [], ◌∷◌, ◌++◌, length, map, drop, refl, ap, sym, ◌∙◌, arith, length-append, Option, Some, Result, Ok}
+use Rattle.std.proofs.Common.{◌≡◌, ℕ, suc, ◌+◌, ◌*◌, ◌%◌, ◌^◌, ◌≤◌, ◌<◌, Bool, true, false, ◌&&◌, not, ◌==◌, cond, ltb, ltb-true, le-ltb, List, [], ◌∷◌, ◌++◌, length, drop, refl, ap, sym, ◌∙◌, arith, length-append, Option, Some, Result, Ok}
 use Rattle.std.specs.Int.{bytes_high_first}
 use Rattle.std.specs.List.{AllByRecursion}
 use Rattle.std.proofs.lemmas.Bool.Decides.{nat_tests}
@@ -12,8 +12,7 @@ use Rattle.fx_layout.specs.Keys.{Layout, IsLayout, Ascends}
 use Rattle.fx_machine.specs.declared.record.Record.{Record}
 use Rattle.fx_wire.specs.Sets.{SetParts, is_reserved}
 use Rattle.fx_wire.specs.Messages.{Message, front, complete}
-use Rattle.fx_wire.specs.Writing.{set_octets, sets_length, sets_octets, message_length, version_octets, origin_octets, message_octets, HaveIds, IsMessage}
-use Rattle.fx_wire.specs.declared.header.Header.{Header}
+use Rattle.fx_wire.specs.Writing.{message_length, message_octets, HaveIds, IsMessage}
 use Rattle.fx_wire.specs.declared.field.FieldSpecifier.{FieldSpecifier}
 use Rattle.fx_wire.specs.declared.template.TemplateKind.TheVariants as kinds
 use Rattle.fx_wire.proofs.RoundTrip.{message_back, message_octets-length}

@@ -1,6 +1,6 @@
 -- The flow record of a data record that is written.
-use Rattle.std.proofs.Common.{◌≡◌, ℕ, ◌-◌, ◌*◌, ◌/◌, ◌%◌, ◌^◌, ◌≤◌, ◌<◌, Bool, true, false, ◌==◌, cond, ltb, le-ltb, List, [], ◌∷◌, ◌++◌, map, refl, ap, sym, ◌∙◌, subst, arith, Option, Some, None, Result, Ok, Err}
-use Rattle.std.specs.List.{list_all, list_any, flat_map}
+use Rattle.std.proofs.Common.{◌≡◌, ℕ, ◌-◌, ◌/◌, ◌%◌, ◌^◌, ◌≤◌, ◌<◌, Bool, true, false, ◌==◌, cond, ltb, le-ltb, List, [], ◌∷◌, ◌++◌, map, refl, ap, sym, ◌∙◌, subst, arith, Option, Some, None, Result, Ok, Err}
+use Rattle.std.specs.List.{flat_map}
 use Rattle.std.proofs.Math.Nat.{mod-eq_of_lt, mul-div_cancel}
 use Rattle.std.proofs.lemmas.Nat.{pow_pos}
 use Rattle.std.proofs.lemmas.Bool.Decides.{nat_tests}
@@ -12,7 +12,7 @@ use Rattle.fx_layout.specs.declared.layout.Part.{Part}
 use Rattle.fx_layout.specs.Keys.{Layout, Key, HasBits, IsLayout, leading, key_of, can_stand}
 use Rattle.fx_machine.specs.declared.record.Record.{Record}
 use Rattle.fx_wire.specs.Values.{Value}
-use Rattle.fx_session.specs.Flows.{Found, prefix_part, part_on, found_in, part_of, value_of, layout_of, fields_of, key_along, known, is_refused, key_by, counted, flow_by, first_where, is_value, is_prefix, is_prefix_length, is_octets, is_packets, flow_in}
+use Rattle.fx_session.specs.Flows.{Found, prefix_part, part_on, found_in, part_of, value_of, layout_of, fields_of, key_along, known, is_refused, key_by, counted, flow_by, first_where, is_prefix, is_prefix_length, is_packets, flow_in}
 use Rattle.fx_link.specs.Records.{is_whole, prefix_of}
 use Rattle.fx_link.proofs.RecordTrip.{key_values, counts_values}
 use Rattle.fx_link.proofs.OnAxes.{Held, held, part_in, Stands, held_stands, Gives, parts_are, values_are}

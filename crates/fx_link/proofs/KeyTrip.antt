@@ -1,19 +1,19 @@
 -- What is noted of the values that are written: on each axis what the key has there, and the counts.
-use Rattle.std.proofs.Common.{◌≡◌, ℕ, zero, suc, ◌+◌, ◌-◌, ◌*◌, ◌/◌, ◌%◌, ◌^◌, ◌≤◌, ◌<◌, Bool, true, false, ◌&&◌, ◌||◌, ◌==◌, cond, ltb, le-ltb, List, [], ◌∷◌, ◌++◌, refl, ap, sym, ◌∙◌, subst, arith, eqb-true, Option, Some, None, append_assoc}
+use Rattle.std.proofs.Common.{◌≡◌, ℕ, suc, ◌+◌, ◌-◌, ◌*◌, ◌^◌, ◌≤◌, ◌<◌, Bool, true, false, ◌&&◌, ◌||◌, ◌==◌, cond, List, [], ◌∷◌, ◌++◌, refl, ap, sym, ◌∙◌, subst, arith, eqb-true, Option, Some, None, append_assoc}
 use Rattle.std.specs.List.{list_all, find}
 use Rattle.std.specs.Prelude.{nat_le, option_map}
 use Rattle.std.specs.Int.{bytes_high_first}
 use Rattle.std.proofs.lemmas.Bool.{and_parts}
 use Rattle.std.proofs.lemmas.Bool.Decides.{nat_tests}
 use Rattle.std.proofs.lemmas.Nat.{pow-add, pow_pos}
-use Rattle.std.proofs.Math.Nat.{mul-lt-mul_of_pos_right, mod-eq_of_lt}
+use Rattle.std.proofs.Math.Nat.{mul-lt-mul_of_pos_right}
 use Rattle.fx_base.specs.declared.counts.Counts.{Counts}
 use Rattle.fx_elements.specs.declared.axis.Axis.{Axis}
 use Rattle.fx_elements.specs.declared.element.Element.{Element}
 use Rattle.fx_elements.specs.declared.element.Element.TheVariants.{OnAxis, OctetDeltaCount, PacketDeltaCount, Prefix, PrefixLength}
 use Rattle.fx_elements.specs.Axes.{axis_index, axis_width, is_address, same_axis}
 use Rattle.fx_elements.specs.Elements.{element_number, prefix_number, prefix_length_number}
-use Rattle.fx_elements.proofs.EveryAxis.{axis_is, on_axis, width_most}
+use Rattle.fx_elements.proofs.EveryAxis.{on_axis, width_most}
 use Rattle.fx_elements.proofs.Numbering.{element_back, prefix_back, prefix_length_back}
 use Rattle.fx_layout.specs.declared.layout.Part.{Part}
 use Rattle.fx_layout.specs.Keys.{Layout, HasBits, Ascends, can_stand}

@@ -1,10 +1,9 @@
 -- What a key has on each axis.
-use Rattle.std.proofs.Common.{◌≡◌, ℕ, zero, suc, ◌+◌, ◌-◌, ◌*◌, ◌/◌, ◌%◌, ◌^◌, ◌≤◌, ◌<◌, Bool, true, false, ◌&&◌, ◌||◌, ◌==◌, cond, ltb, ltb-true, ltb-false, le-ltb, List, [], ◌∷◌, ◌++◌, map, length, refl, ap, sym, ◌∙◌, subst, arith, eqb-true, eq-eqb, Option, Some, None}
+use Rattle.std.proofs.Common.{◌≡◌, ℕ, suc, ◌^◌, ◌≤◌, ◌<◌, Bool, true, false, cond, ltb, ltb-true, ltb-false, List, [], ◌∷◌, ◌++◌, map, refl, ap, ◌∙◌, subst, arith, eqb-true, eq-eqb, Option, Some, None}
 use Rattle.std.specs.List.{list_all, flat_map}
-use Rattle.std.specs.Prelude.{nat_le}
 use Rattle.std.proofs.lemmas.Bool.{and_parts}
 use Rattle.fx_elements.specs.declared.axis.Axis.{Axis}
-use Rattle.fx_elements.specs.Axes.{axis_count, axes, axis_index, axis_width, same_axis}
+use Rattle.fx_elements.specs.Axes.{axis_count, axes, axis_index, same_axis}
 use Rattle.fx_elements.proofs.EveryAxis.{axis_is, same_axis_refl, index_below}
 use Rattle.fx_layout.specs.declared.layout.Part.{Part}
 use Rattle.fx_layout.specs.Keys.{Layout, HasBits, Ascends, can_stand}

@@ -1,5 +1,5 @@
 -- A template set that is written is read.
-use Rattle.std.proofs.Common.{◌≡◌, ℕ, suc, ◌+◌, ◌*◌, ◌/◌, ◌^◌, ◌≤◌, ◌<◌, Bool, true, false, ◌&&◌, not, ◌==◌, cond, ltb, lt-ltb, le-ltb, eq-eqb, List, [], ◌∷◌, ◌++◌, length, refl, ap, sym, ◌∙◌, arith, append_assoc, length-append, Option, Some, None, Ok, Err}
+use Rattle.std.proofs.Common.{◌≡◌, ℕ, suc, ◌+◌, ◌*◌, ◌^◌, ◌≤◌, ◌<◌, Bool, true, false, ◌&&◌, not, ◌==◌, cond, ltb, lt-ltb, le-ltb, eq-eqb, List, [], ◌∷◌, ◌++◌, length, refl, ap, sym, ◌∙◌, arith, append_assoc, length-append, Option, Some, None, Ok, Err}
 use Rattle.std.specs.Int.{w16, to_be_bytes}
 use Rattle.std.specs.List.{list_all, AllByRecursion}
 use Rattle.std.proofs.lemmas.Bool.{and_parts}
@@ -29,7 +29,7 @@ use Rattle.fx_session.proofs.TemplateSteps.{template_set-more, template_set-padd
 use Rattle.fx_link.specs.Records.{specifier, axis_octets, is_whole, part_fields, fields_of, specifier_octets, specifiers_octets, template_octets}
 use Rattle.fx_link.specs.Sending.{template_of}
 use Rattle.fx_link.proofs.RecordTrip.{width_small}
-use Rattle.fx_link.proofs.KeyTrip.{stands_address, whole_element, prefix_element, length_element, octets_element, packets_element}
+use Rattle.fx_link.proofs.KeyTrip.{stands_address, whole_element, prefix_element, length_element}
 
 -- ---- fields
 

@@ -1,5 +1,5 @@
 -- Records that are sent come behind those on a link, and those that are carried stand before the others.
-use Rattle.std.proofs.Common.{◌≡◌, ℕ, suc, ◌+◌, ◌^◌, ◌<◌, List, ◌++◌, length, take, drop, refl, ap, sym, ◌∙◌, subst}
+use Rattle.std.proofs.Common.{◌≡◌, ℕ, suc, ◌+◌, ◌^◌, ◌<◌, List, [], ◌++◌, length, take, drop, refl, ap, sym, ◌∙◌, subst}
 use Rattle.std.specs.List.{AllByRecursion}
 use Rattle.std.proofs.lemmas.List.{take-append-drop, append-nil}
 use Rattle.fx_machine.specs.declared.record.Record.{Record}
@@ -8,6 +8,9 @@ use Rattle.fx_session.proofs.StreamSteps.{pieces}
 use Rattle.fx_session.proofs.InFront.{fed-behind}
 use Rattle.fx_link.specs.Sending.{IsSent, KeepsUp, after_sent, sent_octets}
 use Rattle.fx_link.specs.Wires.{Wire, on_link, emptied, carried, sent_on, InStep}
+use Rattle.fx_link.specs.Outgoing.{Outgoing, with_all}
+use Rattle.fx_link.specs.Ongoing.{Ongoing, at_rest, finished}
+use Rattle.fx_link.proofs.Flushing.{flushes_are_sent}
 use Rattle.fx_link.proofs.StreamTrip.{records_back, senders_stay}
 
 pub sending_adds : (time : ℕ) (rs : List Record) (wire : Wire) → time < 2 ^ 32 → InStep wire → AllByRecursion IsSent rs → 256 + length (after_sent wire.sender rs).layouts < 2 ^ 16
@@ -44,3 +47,7 @@ carrying_takes n wire step =
       },
       ap (λ (x : Standing). x.known.waiting) same,
     )
+
+pub putting_sends : (time : ℕ) (rs : List Record) (wire : Wire) → finished time (record (at_rest wire) { outgoing = with_all time (at_rest wire).outgoing rs }) ≡ at_rest (sent_on time rs wire)
+putting_sends time rs wire =
+    ap (λ (o : Outgoing). let w : Ongoing = record { outgoing = record o { octets = [] }; queue = wire.queue ++ o.octets; receiver = wire.receiver } in w) (flushes_are_sent time wire.sender [] rs)

@@ -1,4 +1,5 @@
 //! Laws of what is sent.
+ghost use Rattle.fx_link.specs.Ongoing.{PuttingSends};
 ghost use Rattle.fx_link.specs.Outgoing.{FlushesAreSent};
 ghost use Rattle.fx_link.specs.Sending.{BatchesAreRead, RecordsAreRead};
 ghost use Rattle.fx_link.specs.Wires.{CarryingTakes, SendingAdds};
@@ -12,8 +13,10 @@ pub fn records_are_read()
 {}
 
 /// On a link whose receiver would read all that was put on it, records that are sent come behind those that are
-/// there, and octets that are carried complete the first of them; its receiver still would read all.
+/// there, and octets that are carried complete the first of them; its receiver still would read all. What is put on a
+/// link, record by record, is sent once the link is finished.
 pub fn links_keep_records()
+    ensures putting { PuttingSends }
     ensures sending { SendingAdds }
     ensures carrying { CarryingTakes }
 {}

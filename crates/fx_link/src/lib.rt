@@ -2,9 +2,16 @@
 #![tactic(auto)]
 
 mod laws;
+mod link;
+mod links;
+mod outlet;
 mod records;
 mod sender;
+mod sinks;
 mod stream;
 mod templates;
 
 pub use laws::{links_keep_records, records_are_read};
+pub use link::Link;
+pub use links::{Links, Nowhere};
+pub use sinks::Sinks;

@@ -1,5 +1,5 @@
 //! Senders: records in messages.
-ghost use Rattle.std.specs.Prelude.{◌≡◌, ◌≤◌, ◌<◌, ◌+◌, ◌++◌, ◌^◌, [], ◌∷◌, length, nat_lt, map, Some, OnOk, IfErr, true, false};
+ghost use Rattle.std.specs.Prelude.{◌≡◌, ◌≤◌, ◌<◌, ◌+◌, ◌++◌, ◌^◌, [], ◌∷◌, length, nat_lt, map, Some, OnOk, OnErr, IfErr, true, false};
 ghost use Rattle.std.specs.List.{position_or_len};
 ghost use Rattle.fx_base.specs.Fault.{fault_at};
 ghost use Rattle.fx_base.specs.declared.fault.Place.TheVariants as places;
@@ -113,6 +113,7 @@ impl Sender {
             ≡ stream.old.octets.items ++ message_octets header.now (sending.message_sets self.old.layouts batch.now)) }
         ensures sender { OnOk result (self.new
             ≡ record self.old { layouts = sending.layouts_with self.old.layouts (sending.layout_of batch.now) }) }
+        ensures kept { OnErr result (self.new ≡ self.old) }
         ensures err { IfErr result (λ e. e ≡ fault_at 900 places.None) }
     {
         let layout = batch[0].layout();
@@ -139,7 +140,7 @@ impl Sender {
 
     /// Writes a message with these records, which have one layout, behind the octets of the link.
     ///
-    /// Fails with 900, at no place, for want of memory.
+    /// Fails with 900, at no place, for want of memory, and then keeps what it kept.
     #[tactic(auto, unfolding(crate::specs::Sending::batch_octets))]
     pub fn send(&mut self, time: u32, batch: &[Record], stream: &mut Stream) -> Result<(), Fault>
         requires room { sending.has_room 1 self.old ≡ true }
@@ -147,6 +148,7 @@ impl Sender {
         ensures octets { OnOk result (stream.new.octets.items
             ≡ stream.old.octets.items ++ sending.batch_octets time self.old batch.now) }
         ensures sender { OnOk result (self.new ≡ sending.after_batch self.old batch.now) }
+        ensures kept { OnErr result (self.new ≡ self.old) }
         ensures err { IfErr result (λ e. e ≡ fault_at 900 places.None) }
     {
         let header = self.header(time);

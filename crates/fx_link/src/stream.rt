@@ -1,8 +1,5 @@
 //! The octets of a link.
-ghost use Rattle.std.specs.Prelude.{◌≡◌, ◌≤◌, ◌++◌, [], length, drop, Some, OnOk, OnErr, IfOk, IfErr, true, false};
-ghost use Rattle.fx_base.specs.Device.{Writes};
-ghost use Rattle.fx_base.specs.Fault.{fault_at};
-ghost use Rattle.fx_base.specs.declared.fault.Place.TheVariants as places;
+ghost use Rattle.std.specs.Prelude.{◌≡◌, [], Some, false};
 
 use fx_base::{Fault, Sink};
 use std::alloc::Global;
@@ -26,17 +23,11 @@ impl Stream {
         }
     }
 
-    /// So many octets at the front leave.
-    pub fn remove_front(&mut self, count: usize)
-        requires { count ≤ length self.old.octets.items }
-        ensures { self.new.octets.items ≡ drop count self.old.octets.items }
+    /// No octets any more.
+    pub fn clear(&mut self)
+        ensures { self.new.octets.items ≡ [] }
     {
-        if count == 0 {
-            return;
-        }
-        let rest = self.octets.len() - count;
-        self.octets.copy_within(count.., 0);
-        self.octets.truncate(rest);
+        self.octets.clear();
     }
 
     /// The octets.
