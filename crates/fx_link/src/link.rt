@@ -79,7 +79,8 @@ impl Link {
     /// Fails with 900, at no place, for want of memory.
     pub fn put(&mut self, time: u32, flow: Record) -> Result<(), Fault>
         requires room { sending.has_room 2 self.old.outgoing.sender ≡ true }
-        ensures ok { OnOk result (self.new ≡ record self.old { outgoing = outgoing.with_one time self.old.outgoing flow }) }
+        ensures ok { OnOk result (self.new
+            ≡ record self.old { outgoing = outgoing.with_one time self.old.outgoing flow }) }
         ensures err { IfErr result (λ e. e ≡ fault_at 900 places.None) }
     {
         self.outlet.put(time, flow, &mut self.stream)
@@ -89,7 +90,8 @@ impl Link {
     ///
     /// Fails with 900, at no place, for want of memory.
     fn flush(&mut self, time: u32) -> Result<(), Fault>
-        ensures ok { OnOk result (self.new ≡ record self.old { outgoing = outgoing.flushed time self.old.outgoing }) }
+        ensures ok { OnOk result (self.new
+            ≡ record self.old { outgoing = outgoing.flushed time self.old.outgoing }) }
         ensures err { IfErr result (λ e. e ≡ fault_at 900 places.None) }
     {
         self.outlet.flush(time, &mut self.stream)
@@ -100,7 +102,8 @@ impl Link {
     /// Fails with 900, at no place, for want of memory, and as the link's octets are put out.
     pub fn finish<L: Links>(&mut self, time: u32, number: u64, links: &mut L) -> Result<(), Fault>
         ensures ok { OnOk result (self.new ≡ ongoing.finished time self.old) }
-        ensures put { OnOk result (Puts (L.put_on links.old) (L.put_on links.new) number (ongoing.to_put time self.old)) }
+        ensures put { OnOk result (Puts (L.put_on links.old) (L.put_on links.new) number
+            (ongoing.to_put time self.old)) }
         ensures going { OnOk result (L.failed links.old ≡ false → L.failed links.new ≡ false) }
         ensures err { IfErr result (λ e. (e ≡ fault_at 900 places.None)
             ⊎ ((e ≡ fault_at 902 places.None) × (L.failed links.new ≡ true))) }

@@ -47,7 +47,8 @@ fn put_value(octets: &mut Vec<u8>, part: Part, value: u128) -> Result<(), AllocE
 fn put_values(octets: &mut Vec<u8>, parts: &[Part], values: &[u128]) -> Result<(), AllocError>
     requires bits { HasBits parts.now values.now }
     requires stands { list_all can_stand parts.now ≡ true }
-    ensures { OnOk result (octets.new.items ≡ octets.old.items ++ written.key_octets parts.now values.now) }
+    ensures { OnOk result (octets.new.items
+        ≡ octets.old.items ++ written.key_octets parts.now values.now) }
 {
     match parts {
         [] => Ok(()),
@@ -81,7 +82,8 @@ fn put_record(octets: &mut Vec<u8>, flow: &Record) -> Result<(), AllocError>
 
 /// Data records, one after another, without padding.
 pub(crate) fn put_records(octets: &mut Vec<u8>, records: &[Record]) -> Result<(), AllocError>
-    ensures { OnOk result (octets.new.items ≡ octets.old.items ++ written.records_octets records.now) }
+    ensures { OnOk result (octets.new.items
+        ≡ octets.old.items ++ written.records_octets records.now) }
 {
     match records {
         [] => Ok(()),

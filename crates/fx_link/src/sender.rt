@@ -35,7 +35,10 @@ impl Model for Sender {
 
     ghost view = { λ s. record { layouts = s.layouts.items; sent = s.sent } };
 
-    ghost invariant = { λ s. sending.IsSender (record { layouts = s.layouts.items; sent = s.sent }) };
+    ghost invariant = { λ s. sending.IsSender (record {
+      layouts = s.layouts.items;
+      sent = s.sent;
+    }) };
 }
 
 /// The place of a layout among these, or behind them.
@@ -109,10 +112,11 @@ impl Sender {
     ) -> Result<(), Fault>
         requires room { sending.has_room 1 self.old ≡ true }
         requires batch { sending.IsBatch batch.now }
-        ensures octets { OnOk result (stream.new.octets.items
-            ≡ stream.old.octets.items ++ message_octets header.now (sending.message_sets self.old.layouts batch.now)) }
-        ensures sender { OnOk result (self.new
-            ≡ record self.old { layouts = sending.layouts_with self.old.layouts (sending.layout_of batch.now) }) }
+        ensures octets { OnOk result (stream.new.octets.items ≡ stream.old.octets.items
+            ++ message_octets header.now (sending.message_sets self.old.layouts batch.now)) }
+        ensures sender { OnOk result (self.new ≡ record self.old {
+          layouts = sending.layouts_with self.old.layouts (sending.layout_of batch.now);
+        }) }
         ensures kept { OnErr result (self.new ≡ self.old) }
         ensures err { IfErr result (λ e. e ≡ fault_at 900 places.None) }
     {

@@ -9,7 +9,8 @@ use std::alloc::AllocError;
 
 /// A field specifier of the IANA registry.
 fn put_specifier(octets: &mut Vec<u8>, element: u16, length: u16) -> Result<(), AllocError>
-    ensures { OnOk result (octets.new.items ≡ octets.old.items ++ written.specifier_octets (written.specifier element length)) }
+    ensures { OnOk result (octets.new.items
+        ≡ octets.old.items ++ written.specifier_octets (written.specifier element length)) }
 {
     octets.extend_from_slice(&element.to_be_bytes())?;
     octets.extend_from_slice(&length.to_be_bytes())
@@ -17,7 +18,8 @@ fn put_specifier(octets: &mut Vec<u8>, element: u16, length: u16) -> Result<(), 
 
 /// The fields of a part of a key.
 fn put_part(octets: &mut Vec<u8>, part: Part) -> Result<(), AllocError>
-    ensures { OnOk result (octets.new.items ≡ octets.old.items ++ written.specifiers_octets (written.part_fields part)) }
+    ensures { OnOk result (octets.new.items
+        ≡ octets.old.items ++ written.specifiers_octets (written.part_fields part)) }
 {
     let axis = part.axis;
     let octets_wide = (width(axis) / 8) as u16;
@@ -30,7 +32,8 @@ fn put_part(octets: &mut Vec<u8>, part: Part) -> Result<(), AllocError>
 
 /// The fields of the parts of a key, then those of the counters.
 fn put_fields(octets: &mut Vec<u8>, parts: &[Part]) -> Result<(), AllocError>
-    ensures { OnOk result (octets.new.items ≡ octets.old.items ++ written.specifiers_octets (written.fields_of parts.now)) }
+    ensures { OnOk result (octets.new.items
+        ≡ octets.old.items ++ written.specifiers_octets (written.fields_of parts.now)) }
 {
     match parts {
         [] => {
@@ -61,7 +64,8 @@ fn field_count(parts: &[Part]) -> usize
 
 /// A template record: its id, the number of its fields, and the fields of the records of a layout.
 pub(crate) fn put_template(octets: &mut Vec<u8>, id: u16, layout: &Layout) -> Result<(), AllocError>
-    ensures { OnOk result (octets.new.items ≡ octets.old.items ++ written.template_octets id layout.now) }
+    ensures { OnOk result (octets.new.items
+        ≡ octets.old.items ++ written.template_octets id layout.now) }
 {
     let count = field_count(layout.parts()) as u16;
     octets.extend_from_slice(&id.to_be_bytes())?;
