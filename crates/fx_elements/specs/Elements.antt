@@ -1,6 +1,7 @@
 -- The information elements that are told apart, with their names and numbers in the IANA registry (RFC 7012, section 4).
 use Rattle.std.specs.Prelude.{ℕ, ◌==◌, if◌then◌else◌, List, [], ◌∷◌, codes}
 use Rattle.std.specs.Str.{bytes_eq}
+use Rattle.fx_elements.specs.declared.axis.Axis.{Axis}
 use Rattle.fx_elements.specs.declared.element.Element.{Element}
 use Rattle.fx_elements.specs.declared.element.Element.TheVariants.{OnAxis, OctetDeltaCount, PacketDeltaCount, OctetTotalCount, PacketTotalCount, Prefix, PrefixLength, Other}
 use Rattle.fx_elements.specs.declared.axis.Axis.TheVariants.{Source, Destination, Protocol, SourcePort, DestinationPort, ClassOfService, Version, Source6, Destination6}
@@ -50,3 +51,31 @@ numbered_in (line ∷ lines) number = if number == line.number then line.element
 -- an element of an enterprise is none of these
 abbrev pub element_numbered : ℕ → ℕ → Element
 element_numbered number enterprise = if enterprise == 0 then numbered_in registry number else Other
+
+-- ---- the way back: the numbers of an axis's elements
+
+abbrev pub element_number : Axis → ℕ
+element_number Source = 8
+element_number Destination = 12
+element_number Protocol = 4
+element_number SourcePort = 7
+element_number DestinationPort = 11
+element_number ClassOfService = 5
+element_number Version = 60
+element_number Source6 = 27
+element_number Destination6 = 28
+
+-- only addresses have prefixes; 0 is no element's number
+abbrev pub prefix_number : Axis → ℕ
+prefix_number Source = 44
+prefix_number Destination = 45
+prefix_number Source6 = 170
+prefix_number Destination6 = 169
+prefix_number _ = 0
+
+abbrev pub prefix_length_number : Axis → ℕ
+prefix_length_number Source = 9
+prefix_length_number Destination = 13
+prefix_length_number Source6 = 29
+prefix_length_number Destination6 = 30
+prefix_length_number _ = 0

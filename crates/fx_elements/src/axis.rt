@@ -1,6 +1,7 @@
 //! The axes: what tells packets and flows apart.
 ghost use Rattle.std.specs.Prelude.{◌≡◌, ◌^◌, ◌+◌, ◌<◌, ◌==◌, map, length, slice_index};
 ghost use Rattle.fx_elements.specs.Axes.{axis_index, axis_width, axis_count, is_address, is_wide};
+ghost use Rattle.fx_elements.specs.Elements.{element_number, prefix_number, prefix_length_number};
 
 /// How many axes there are.
 pub const AXES: usize = 9;
@@ -90,6 +91,49 @@ impl Axis {
         ensures { result ≡ is_wide self }
     {
         matches!(self, Axis::Source6 | Axis::Destination6)
+    }
+
+    /// The number of the axis's element in the IANA registry.
+    pub fn element_number(self) -> u16
+        ensures { result ≡ element_number self }
+    {
+        match self {
+            Axis::Source => 8,
+            Axis::Destination => 12,
+            Axis::Protocol => 4,
+            Axis::SourcePort => 7,
+            Axis::DestinationPort => 11,
+            Axis::ClassOfService => 5,
+            Axis::Version => 60,
+            Axis::Source6 => 27,
+            Axis::Destination6 => 28,
+        }
+    }
+
+    /// The number of the element that an address's prefix is; 0, which is no element's, where there are no addresses.
+    pub fn prefix_number(self) -> u16
+        ensures { result ≡ prefix_number self }
+    {
+        match self {
+            Axis::Source => 44,
+            Axis::Destination => 45,
+            Axis::Source6 => 170,
+            Axis::Destination6 => 169,
+            _ => 0,
+        }
+    }
+
+    /// The number of the element that such a prefix's length is.
+    pub fn prefix_length_number(self) -> u16
+        ensures { result ≡ prefix_length_number self }
+    {
+        match self {
+            Axis::Source => 9,
+            Axis::Destination => 13,
+            Axis::Source6 => 29,
+            Axis::Destination6 => 30,
+            _ => 0,
+        }
     }
 }
 

@@ -1,16 +1,15 @@
 -- What is written is read back.
-use Rattle.std.proofs.Common.{◌≡◌, ℕ, ◌+◌, ◌-◌, ◌≤◌, Bool, false, cond, ltb, le-ltb, ◌||◌, List, [], ◌∷◌, ◌++◌, length, take, drop, map, refl, ap, sym, ◌∙◌, arith, Result, Ok, Err, length-append}
+use Rattle.std.proofs.Common.{◌≡◌, ℕ, ◌+◌, ◌-◌, ◌≤◌, Bool, false, cond, ltb, le-ltb, ◌||◌, List, [], ◌∷◌, ◌++◌, length, take, drop, refl, ap, sym, ◌∙◌, arith, Result, Ok, Err, length-append}
 use Rattle.std.specs.Int.{w16, w32}
 use Rattle.std.proofs.lemmas.Nat.{from_be_bytes-to_be_bytes_2, from_be_bytes-to_be_bytes_4}
 use Rattle.std.proofs.lemmas.List.{take_all, drop-drop}
 use Rattle.std.proofs.Math.Seq.{take-append_seam, drop-append_seam}
 use Rattle.fx_wire.specs.Numbers.{number_at}
 use Rattle.fx_wire.specs.Headers.{whole, frame_of, framed, header_of}
-use Rattle.fx_wire.specs.Sets.{SetParts, set_at, set_parts, sets_of, before_sets, is_reserved}
+use Rattle.fx_wire.specs.Sets.{SetParts, set_at, sets_of, before_sets, is_reserved}
 use Rattle.fx_wire.specs.Messages.{front, front_by, with_sets, complete}
 use Rattle.fx_wire.specs.Writing.{set_length, set_octets, sets_length, sets_octets, message_length, version_octets, origin_octets, message_octets, HasId, HaveIds, IsMessage}
 use Rattle.fx_wire.specs.declared.header.Header.{Header}
-use Rattle.fx_wire.specs.declared.set.Set.{Set}
 use Rattle.fx_wire.proofs.SetLists.{sets_of-none, sets_of-first}
 
 -- ---- sets
@@ -36,22 +35,22 @@ set_back_from bs content rest id len i l n k d r =
     ∙ ap (λ (t : Bool). shape false false false t (record { id = number_at w16 0 bs; content = take (number_at w16 2 bs - 4) (drop 4 bs) }) (drop (number_at w16 2 bs) bs)) reserved
     ∙ ap (λ (s : SetParts). shape false false false false s (drop (number_at w16 2 bs) bs)) parts ∙ ap (λ (r : List ℕ). shape false false false false (record { id = id; content = content }) r) behind
 
-set_back : (s : Set) (rest : List ℕ) → HasId s → set_length s ≤ 65535 → set_at (set_octets s ++ rest) ≡ Ok (set_parts s, rest)
+set_back : (s : SetParts) (rest : List ℕ) → HasId s → set_length s ≤ 65535 → set_at (set_octets s ++ rest) ≡ Ok (s, rest)
 unfolding set_octets
 set_back s rest h le =
-    set_back_from (set_octets s ++ rest) s.content.now rest s.id (set_length s) (from_be_bytes-to_be_bytes_2 s.id h.0) (from_be_bytes-to_be_bytes_2 (set_length s) (omega arith))
-    (omega (arith, length-append s.content.now rest)) refl refl h.1
+    set_back_from (set_octets s ++ rest) s.content rest s.id (set_length s) (from_be_bytes-to_be_bytes_2 s.id h.0) (from_be_bytes-to_be_bytes_2 (set_length s) (omega arith))
+    (omega (arith, length-append s.content rest)) refl refl h.1
 
-sets_octets-length : (ss : List Set) → length (sets_octets ss) ≡ sets_length ss
+sets_octets-length : (ss : List SetParts) → length (sets_octets ss) ≡ sets_length ss
 unfolding set_octets
 sets_octets-length [] = refl
-sets_octets-length (s ∷ ss) = omega (arith, sets_octets-length ss, length-append s.content.now (sets_octets ss), length-append (set_octets s) (sets_octets ss))
+sets_octets-length (s ∷ ss) = omega (arith, sets_octets-length ss, length-append s.content (sets_octets ss), length-append (set_octets s) (sets_octets ss))
 
-sets_back : (ss : List Set) → HaveIds ss → sets_length ss ≤ 65535 → sets_of (sets_octets ss) ≡ Ok (map set_parts ss)
+sets_back : (ss : List SetParts) → HaveIds ss → sets_length ss ≤ 65535 → sets_of (sets_octets ss) ≡ Ok ss
 sets_back [] h le = sets_of-none
 sets_back (s ∷ ss) h le =
-    (sets_of-first (set_octets s ++ sets_octets ss) (set_parts s, sets_octets ss) (set_back s (sets_octets ss) h.0 (omega arith))).0
-    ∙ ap (before_sets (set_parts s)) (sets_back ss h.1 (omega arith))
+    (sets_of-first (set_octets s ++ sets_octets ss) (s, sets_octets ss) (set_back s (sets_octets ss) h.0 (omega arith))).0
+    ∙ ap (before_sets s) (sets_back ss h.1 (omega arith))
 
 -- ---- messages
 
@@ -76,12 +75,16 @@ front_back bs body h n parts f g there d e =
     ap (front_by bs) f ∙ ap (λ (x : Header). with_sets n x (sets_of (drop 16 (take n bs)))) g
     ∙ ap (λ (xs : List ℕ). with_sets n h (sets_of (drop 16 xs))) (take_all n bs (omega (arith, there))) ∙ ap (λ (xs : List ℕ). with_sets n h (sets_of xs)) d ∙ ap (with_sets n h) e
 
-pub message_back : (h : Header) (ss : List Set) → IsMessage h ss → front (message_octets h ss) ≡ complete (record { octets = message_length ss; header = h; sets = map set_parts ss })
+pub message_octets-length : (h : Header) (ss : List SetParts) → length (message_octets h ss) ≡ message_length ss
+unfolding version_octets origin_octets
+message_octets-length h ss = omega (arith, sets_octets-length ss)
+
+pub message_back : (h : Header) (ss : List SetParts) → IsMessage h ss → front (message_octets h ss) ≡ complete (record { octets = message_length ss; header = h; sets = ss })
 unfolding version_octets origin_octets
 message_back h ss m =
     let bs : List ℕ = message_octets h ss in
-    let there : length bs ≡ message_length ss = omega (arith, sets_octets-length ss) in
-    front_back bs (sets_octets ss) h (message_length ss) (map set_parts ss)
+    let there : length bs ≡ message_length ss = message_octets-length h ss in
+    front_back bs (sets_octets ss) h (message_length ss) ss
     (framed_back bs (message_length ss) refl (from_be_bytes-to_be_bytes_2 (message_length ss) (omega (arith, m.length_is))) there (omega arith))
     (header_back bs h (from_be_bytes-to_be_bytes_4 h.export_time m.time) (from_be_bytes-to_be_bytes_4 h.sequence_number m.sequence) (from_be_bytes-to_be_bytes_4 h.observation_domain m.domain))
     there refl (sets_back ss m.ids (omega (arith, m.length_is)))

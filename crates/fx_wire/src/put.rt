@@ -4,10 +4,9 @@ ghost use Rattle.fx_base.specs.Device.{Writes};
 ghost use Rattle.fx_base.specs.Fault.{fault_at};
 ghost use Rattle.fx_base.specs.declared.fault.Place.TheVariants as places;
 ghost use Rattle.fx_wire.specs.Messages.{front, complete};
-ghost use Rattle.fx_wire.specs.Sets.{set_parts};
+ghost use Rattle.fx_wire.specs.Sets.{SetParts, set_parts};
 ghost use Rattle.fx_wire.specs.Writing as writing;
 ghost use Rattle.fx_wire.specs.declared.header.Header.{Header};
-ghost use Rattle.fx_wire.specs.declared.set.Set.{Set};
 
 use crate::header::Header;
 use crate::set::Set;
@@ -16,8 +15,8 @@ use fx_base::{Fault, Sink, put_text};
 /// How many octets a message with these sets has, or none where they are more than its length can tell: 65,535
 /// (RFC 7011, section 3.1).
 pub fn message_length(sets: &[Set<'_>]) -> Option<u16>
-    ensures some { IfSome result (λ n. n ≡ writing.message_length sets.now) }
-    ensures none { IfNone result (65535 < writing.message_length sets.now) }
+    ensures some { IfSome result (λ n. n ≡ writing.message_length (map set_parts sets.now)) }
+    ensures none { IfNone result (65535 < writing.message_length (map set_parts sets.now)) }
 {
     let mut sum: u16 = 16;
     for set in sets {
@@ -53,8 +52,8 @@ fn put_origin<S: Sink>(sink: &mut S, header: &Header) -> Result<(), Fault>
 /// Writes a set: its id, its length and its content.
 #[tactic(auto, unfolding(crate::specs::Writing::set_octets))]
 fn put_set<S: Sink>(sink: &mut S, set: &Set<'_>) -> Result<(), Fault>
-    requires { writing.set_length set.now ≤ 65535 }
-    ensures ok { OnOk result (Writes (S.taken sink.old) (S.taken sink.new) (writing.set_octets set.now)) }
+    requires { writing.set_length (set_parts set.now) ≤ 65535 }
+    ensures ok { OnOk result (Writes (S.taken sink.old) (S.taken sink.new) (writing.set_octets (set_parts set.now))) }
     ensures going { OnOk result (S.failed sink.old ≡ false → S.failed sink.new ≡ false) }
     ensures err { IfErr result (λ e. (e ≡ fault_at 902 places.None) × (S.failed sink.new ≡ true)) }
 {
@@ -66,8 +65,8 @@ fn put_set<S: Sink>(sink: &mut S, set: &Set<'_>) -> Result<(), Fault>
 
 /// Writes sets, one after another.
 fn put_sets<S: Sink>(sink: &mut S, sets: &[Set<'_>]) -> Result<(), Fault>
-    requires { writing.message_length sets.now ≤ 65535 }
-    ensures ok { OnOk result (Writes (S.taken sink.old) (S.taken sink.new) (writing.sets_octets sets.now)) }
+    requires { writing.message_length (map set_parts sets.now) ≤ 65535 }
+    ensures ok { OnOk result (Writes (S.taken sink.old) (S.taken sink.new) (writing.sets_octets (map set_parts sets.now))) }
     ensures going { OnOk result (S.failed sink.old ≡ false → S.failed sink.new ≡ false) }
     ensures err { IfErr result (λ e. (e ≡ fault_at 902 places.None) × (S.failed sink.new ≡ true)) }
 {
@@ -82,8 +81,8 @@ fn put_sets<S: Sink>(sink: &mut S, sets: &[Set<'_>]) -> Result<(), Fault>
 ///
 /// Fails with 902, at no place, where a write fails. How much the sink has taken then is open.
 pub fn put_message<S: Sink>(sink: &mut S, header: &Header, sets: &[Set<'_>]) -> Result<(), Fault>
-    requires { writing.message_length sets.now ≤ 65535 }
-    ensures ok { OnOk result (Writes (S.taken sink.old) (S.taken sink.new) (writing.message_octets header.now sets.now)) }
+    requires { writing.message_length (map set_parts sets.now) ≤ 65535 }
+    ensures ok { OnOk result (Writes (S.taken sink.old) (S.taken sink.new) (writing.message_octets header.now (map set_parts sets.now))) }
     ensures going { OnOk result (S.failed sink.old ≡ false → S.failed sink.new ≡ false) }
     ensures err { IfErr result (λ e. (e ≡ fault_at 902 places.None) × (S.failed sink.new ≡ true)) }
 {
@@ -97,6 +96,6 @@ pub fn put_message<S: Sink>(sink: &mut S, header: &Header, sets: &[Set<'_>]) -> 
 
 /// What is written is that message: it is read back with its header and its sets.
 pub fn messages_are_read()
-    ensures { (header : Header) (sets : List Set) → writing.IsMessage header sets
-        → front (writing.message_octets header sets) ≡ complete (record { octets = writing.message_length sets; header = header; sets = map set_parts sets }) }
+    ensures { (header : Header) (sets : List SetParts) → writing.IsMessage header sets
+        → front (writing.message_octets header sets) ≡ complete (record { octets = writing.message_length sets; header = header; sets = sets }) }
 {}

@@ -1,0 +1,15 @@
+pub mod NumberTrip
+pub mod RecordTrip
+pub mod OnAxes
+pub mod KeyTrip
+pub mod FlowTrip
+pub mod DataTrip
+pub mod TemplateTrip
+pub mod TableTrip
+pub mod BatchTrip
+pub mod StreamTrip
+pub mod Flushing
+pub mod Carrying
+pub mod WireTrip
+pub mod Putting
+pub mod SetsTrip

@@ -1,0 +1,53 @@
+-- Records that are sent come behind those on a link, and those that are carried stand before the others.
+use Rattle.std.proofs.Common.{◌≡◌, ℕ, suc, ◌+◌, ◌^◌, ◌<◌, List, [], ◌++◌, length, take, drop, refl, ap, sym, ◌∙◌, subst}
+use Rattle.std.specs.List.{AllByRecursion}
+use Rattle.std.proofs.lemmas.List.{take-append-drop, append-nil}
+use Rattle.fx_machine.specs.declared.record.Record.{Record}
+use Rattle.fx_session.specs.Streams.{Standing, fed, behind}
+use Rattle.fx_session.proofs.StreamSteps.{pieces}
+use Rattle.fx_session.proofs.InFront.{fed-behind}
+use Rattle.fx_link.specs.Sending.{IsSent, KeepsUp, after_sent, sent_octets}
+use Rattle.fx_link.specs.Wires.{Wire, on_link, emptied, carried, sent_on, InStep}
+use Rattle.fx_link.specs.Outgoing.{Outgoing, with_all}
+use Rattle.fx_link.specs.Ongoing.{Ongoing, at_rest, finished}
+use Rattle.fx_link.proofs.Flushing.{flushes_are_sent}
+use Rattle.fx_link.proofs.StreamTrip.{records_back, senders_stay}
+
+pub sending_adds : (time : ℕ) (rs : List Record) (wire : Wire) → time < 2 ^ 32 → InStep wire → AllByRecursion IsSent rs → 256 + length (after_sent wire.sender rs).layouts < 2 ^ 16
+    → InStep (sent_on time rs wire) × (on_link (sent_on time rs wire) ≡ on_link wire ++ rs)
+sending_adds time rs wire h step all few =
+    let st : Standing = fed wire.receiver wire.queue in
+    let back = records_back time wire.sender st rs h step.sender all few step.keeps_up in
+    let whole : fed st (sent_octets time wire.sender rs) ≡ fed wire.receiver (wire.queue ++ sent_octets time wire.sender rs) = pieces wire.receiver wire.queue (sent_octets time wire.sender rs) in (
+      record { sender = senders_stay wire.sender rs step.sender all few; keeps_up = subst (λ (x : Standing). KeepsUp (after_sent wire.sender rs) x) whole back.0; handled = step.handled },
+      ap (λ (x : Standing). x.known.waiting) (sym whole) ∙ back.1.waiting,
+    )
+
+-- a session stands behind the records that it has read
+behind_emptied : (st : Standing) → behind st.known.waiting (emptied st) ≡ st
+behind_emptied st = ap (λ (w : List Record). let x : Standing = record st { known = record st.known { waiting = w } } in x) (append-nil st.known.waiting)
+
+pub carrying_takes : (n : ℕ) (wire : Wire) → InStep wire
+    → InStep (carried (suc n) wire) × (on_link wire ≡ (fed wire.receiver (take (suc n) wire.queue)).known.waiting ++ on_link (carried (suc n) wire))
+carrying_takes n wire step =
+    let front : List ℕ = take (suc n) wire.queue in
+    let rest : List ℕ = drop (suc n) wire.queue in
+    let st : Standing = fed wire.receiver front in
+    let all : fed st rest ≡ fed wire.receiver wire.queue = pieces wire.receiver front rest ∙ ap (fed wire.receiver) (take-append-drop (suc n) wire.queue) in
+    let split : fed st rest ≡ behind st.known.waiting (fed (emptied st) rest) = ap (λ (x : Standing). fed x rest) (sym (behind_emptied st)) ∙ fed-behind st.known.waiting (emptied st) rest in
+    let same : fed wire.receiver wire.queue ≡ behind st.known.waiting (fed (emptied st) rest) = sym all ∙ split in (
+      record {
+        sender = step.sender;
+        keeps_up = record {
+          domains = sym (ap (λ (x : Standing). x.known.domains) same) ∙ step.keeps_up.domains;
+          rest = sym (ap (λ (x : Standing). x.rest) same) ∙ step.keeps_up.rest;
+          fault = sym (ap (λ (x : Standing). x.fault) same) ∙ step.keeps_up.fault;
+        };
+        handled = refl;
+      },
+      ap (λ (x : Standing). x.known.waiting) same,
+    )
+
+pub putting_sends : (time : ℕ) (rs : List Record) (wire : Wire) → finished time (record (at_rest wire) { outgoing = with_all time (at_rest wire).outgoing rs }) ≡ at_rest (sent_on time rs wire)
+putting_sends time rs wire =
+    ap (λ (o : Outgoing). let w : Ongoing = record { outgoing = record o { octets = [] }; queue = wire.queue ++ o.octets; receiver = wire.receiver } in w) (flushes_are_sent time wire.sender [] rs)

@@ -1,0 +1,11 @@
+use Rattle.fx_link.proofs.WireTrip.{putting_sends, sending_adds, carrying_takes}
+use Rattle.fx_link.proofs.laws.links_keep_records.Goals as goal
+
+pub returns-clause-putting : goal.returns-clause-putting
+returns-clause-putting c = putting_sends
+
+pub returns-clause-sending : goal.returns-clause-sending
+returns-clause-sending c = sending_adds
+
+pub returns-clause-carrying : goal.returns-clause-carrying
+returns-clause-carrying c = carrying_takes

@@ -1,0 +1,42 @@
+-- Records on their way into messages.
+use Rattle.std.specs.Prelude.{◌≡◌, ℕ, true, List, [], ◌∷◌, ◌++◌, if◌then◌else◌}
+use Rattle.fx_machine.specs.declared.record.Record.{Record}
+use Rattle.fx_link.specs.Sending.{Sender, batch_octets, after_batch, joins, sent_octets, after_sent, Begun, has_room_for}
+
+-- what a sender keeps, and the records that wait for their message
+pub record Waiting : Type 0 where
+  pub sender : Sender
+  pub batch : List Record
+
+-- the records that wait can share a message, and an id is left for their layout
+pub record IsWaiting (w : Waiting) : Type 0 where
+  pub batch : Begun w.batch
+  pub room : has_room_for w.batch w.sender ≡ true
+
+-- what a sender keeps, the records that wait for their message, and the octets that were written
+pub record Outgoing : Type 0 where
+  pub sender : Sender
+  pub batch : List Record
+  pub octets : List ℕ
+
+abbrev pub with_octets : Waiting → List ℕ → Outgoing
+with_octets w octets = record { sender = w.sender; batch = w.batch; octets = octets }
+
+-- the records that wait have their message, if there are any
+abbrev pub flushed : ℕ → Outgoing → Outgoing
+flushed time o = elim o.batch [ [] ↦ o | r ∷ rs ↦ record { sender = after_batch o.sender o.batch; batch = []; octets = o.octets ++ batch_octets time o.sender o.batch } ]
+
+-- a record joins those that wait, or they have their message first
+abbrev pub with_one : ℕ → Outgoing → Record → Outgoing
+with_one time o r = if joins o.batch r then record o { batch = o.batch ++ r ∷ [] } else record (flushed time o) { batch = r ∷ [] }
+
+abbrev pub with_all : ℕ → Outgoing → List Record → Outgoing
+with_all time o [] = o
+with_all time o (r ∷ rs) = with_all time (with_one time o r) rs
+
+-- Records that are put one after another, and then flushed, have the messages of those that are sent together.
+abbrev pub FlushesAreSent : Type 0
+FlushesAreSent =
+    (time : ℕ) (s : Sender) (octets : List ℕ) (rs : List Record)
+    → flushed time (with_all time (record { sender = s; batch = []; octets = octets }) rs)
+    ≡ record { sender = after_sent s rs; batch = []; octets = octets ++ sent_octets time s rs }

@@ -1,0 +1,51 @@
+-- Links between two times at which nothing is on its way.
+use Rattle.std.specs.Prelude.{◌≡◌, ℕ, zero, suc, ◌+◌, ◌^◌, ◌<◌, List, [], ◌++◌, length, take, drop}
+use Rattle.std.specs.List.{AllByRecursion}
+use Rattle.fx_machine.specs.declared.record.Record.{Record}
+use Rattle.fx_session.specs.Streams.{Standing, fed}
+use Rattle.fx_link.specs.Sending.{Sender, IsSender, IsSent, KeepsUp, sent_octets, after_sent}
+
+-- a link: what its sender keeps, the octets that haven't been carried yet, and what its receiver has read
+pub record Wire : Type 0 where
+  pub sender : Sender
+  pub queue : List ℕ
+  pub receiver : Standing
+
+-- the records on a link: those that the receiver would read, were all octets carried
+abbrev pub on_link : Wire → List Record
+on_link wire = (fed wire.receiver wire.queue).known.waiting
+
+-- what has been read leaves
+abbrev pub emptied : Standing → Standing
+emptied st = record st { known = record st.known { waiting = [] } }
+
+-- so many octets reach the receiver, and all records that were read are handled
+abbrev pub carried : ℕ → Wire → Wire
+carried zero wire = wire
+carried (suc n) wire = record wire { queue = drop (suc n) wire.queue; receiver = emptied (fed wire.receiver (take (suc n) wire.queue)) }
+
+-- these records are sent, in messages of this export time
+abbrev pub sent_on : ℕ → List Record → Wire → Wire
+sent_on time rs wire = record wire { sender = after_sent wire.sender rs; queue = wire.queue ++ sent_octets time wire.sender rs }
+
+-- The receiver would read all that was put on the link, and has handled all that it read.
+pub record InStep (wire : Wire) : Type 0 where
+  pub sender : IsSender wire.sender
+  pub keeps_up : KeepsUp wire.sender (fed wire.receiver wire.queue)
+  pub handled : wire.receiver.known.waiting ≡ []
+
+-- ---- the laws
+
+-- Records that are sent come behind those on the link.
+abbrev pub SendingAdds : Type 0
+SendingAdds =
+    (time : ℕ) (rs : List Record) (wire : Wire)
+    → time < 2 ^ 32 → InStep wire → AllByRecursion IsSent rs → 256 + length (after_sent wire.sender rs).layouts < 2 ^ 16
+    → InStep (sent_on time rs wire) × (on_link (sent_on time rs wire) ≡ on_link wire ++ rs)
+
+-- Octets that are carried complete messages, whose records are the first on the link; the others stay.
+abbrev pub CarryingTakes : Type 0
+CarryingTakes =
+    (n : ℕ) (wire : Wire) → InStep wire
+    → InStep (carried (suc n) wire)
+    × (on_link wire ≡ (fed wire.receiver (take (suc n) wire.queue)).known.waiting ++ on_link (carried (suc n) wire))

@@ -1,0 +1,22 @@
+//! Laws of what is sent.
+ghost use Rattle.fx_link.specs.Ongoing.{PuttingSends};
+ghost use Rattle.fx_link.specs.Outgoing.{FlushesAreSent};
+ghost use Rattle.fx_link.specs.Sending.{BatchesAreRead, RecordsAreRead};
+ghost use Rattle.fx_link.specs.Wires.{CarryingTakes, SendingAdds};
+
+/// What is written for records that are sent together is read as just those records, in order, by a session
+/// that has read all that was put on the link before.
+pub fn records_are_read()
+    ensures batch { BatchesAreRead }
+    ensures all { RecordsAreRead }
+    ensures flushed { FlushesAreSent }
+{}
+
+/// On a link whose receiver would read all that was put on it, records that are sent come behind those that are
+/// there, and octets that are carried complete the first of them; its receiver still would read all. What is put on a
+/// link, record by record, is sent once the link is finished.
+pub fn links_keep_records()
+    ensures putting { PuttingSends }
+    ensures sending { SendingAdds }
+    ensures carrying { CarryingTakes }
+{}

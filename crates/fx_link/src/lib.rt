@@ -1,0 +1,17 @@
+//! What is put on a link, and read from it.
+#![tactic(auto)]
+
+mod laws;
+mod link;
+mod links;
+mod outlet;
+mod records;
+mod sender;
+mod sinks;
+mod stream;
+mod templates;
+
+pub use laws::{links_keep_records, records_are_read};
+pub use link::Link;
+pub use links::{Links, Nowhere};
+pub use sinks::Sinks;

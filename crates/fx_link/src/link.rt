@@ -1,0 +1,152 @@
+//! A link: what is being sent on it, the octets that weren't carried yet, and its receiver.
+ghost use Rattle.std.specs.Prelude.{◌≡◌, ◌⊎◌, ◌≤◌, ◌++◌, [], false, true, length, drop, Ok, Some, None, OnOk, IfErr};
+ghost use Rattle.fx_base.specs.Fault.{fault_at};
+ghost use Rattle.fx_base.specs.declared.fault.Place.TheVariants as places;
+ghost use Rattle.fx_session.specs.Streams as streams;
+ghost use Rattle.fx_link.specs.Links.{Puts};
+ghost use Rattle.fx_link.specs.Ongoing as ongoing;
+ghost use Rattle.fx_link.specs.Outgoing as outgoing;
+ghost use Rattle.fx_link.specs.Sending as sending;
+
+use crate::links::Links;
+use crate::outlet::Outlet;
+use crate::stream::Stream;
+use fx_base::Fault;
+use fx_machine::Record;
+use fx_session::Session;
+use std::alloc::Global;
+use std::marker::Model;
+
+/// A link in the middle of what is done: what is being sent, the octets that were put out and weren't carried yet, and
+/// what its receiver has read.
+#[derive(Drop)]
+pub struct Link {
+    outlet: Outlet,
+    stream: Stream,
+    queue: Vec<u8>,
+    session: Session,
+}
+
+impl Model for Link {
+    ghost use Rattle.fx_link.specs.Ongoing.{Ongoing};
+    ghost use Rattle.fx_link.specs.Outgoing.{with_octets};
+
+    ghost Value = { Ongoing };
+
+    ghost view = { λ l. record {
+      outgoing = with_octets l.outlet l.stream.octets.items;
+      queue = l.queue.items;
+      receiver = l.session;
+    } };
+}
+
+/// This many octets at the front leave.
+fn remove_front(octets: &mut Vec<u8>, count: usize)
+    requires { count ≤ length octets.old.items }
+    ensures { octets.new.items ≡ drop count octets.old.items }
+{
+    if count == 0 {
+        return;
+    }
+    let rest = octets.len() - count;
+    octets.copy_within(count.., 0);
+    octets.truncate(rest);
+}
+
+impl Link {
+    /// A link that nothing was put on.
+    pub fn new(alloc: Global) -> Result<Link, Fault>
+        ensures { result ≡ Ok (ongoing.at_rest ongoing.new_wire) }
+    {
+        Ok(Link {
+            outlet: Outlet::new(alloc),
+            stream: Stream::new(alloc),
+            queue: Vec::new(alloc),
+            session: Session::new(alloc)?,
+        })
+    }
+
+    /// Whether template ids are left for two more layouts on the link: that of the records that wait, and another.
+    pub fn has_room(&self) -> bool
+        ensures { result ≡ sending.has_room 2 self.now.outgoing.sender }
+    {
+        self.outlet.has_room()
+    }
+
+    /// A record is put on the link: it waits for its message. That ids are left, as [`Link::has_room`] answers, is the
+    /// caller's condition.
+    ///
+    /// Fails with 900, at no place, for want of memory.
+    pub fn put(&mut self, time: u32, flow: Record) -> Result<(), Fault>
+        requires room { sending.has_room 2 self.old.outgoing.sender ≡ true }
+        ensures ok { OnOk result (self.new
+            ≡ record self.old { outgoing = outgoing.with_one time self.old.outgoing flow }) }
+        ensures err { IfErr result (λ e. e ≡ fault_at 900 places.None) }
+    {
+        self.outlet.put(time, flow, &mut self.stream)
+    }
+
+    /// The records that wait have their message.
+    ///
+    /// Fails with 900, at no place, for want of memory.
+    fn flush(&mut self, time: u32) -> Result<(), Fault>
+        ensures ok { OnOk result (self.new
+            ≡ record self.old { outgoing = outgoing.flushed time self.old.outgoing }) }
+        ensures err { IfErr result (λ e. e ≡ fault_at 900 places.None) }
+    {
+        self.outlet.flush(time, &mut self.stream)
+    }
+
+    /// The records that wait have their message, and what was written is put out.
+    ///
+    /// Fails with 900, at no place, for want of memory, and as the link's octets are put out.
+    pub fn finish<L: Links>(&mut self, time: u32, number: u64, links: &mut L) -> Result<(), Fault>
+        ensures ok { OnOk result (self.new ≡ ongoing.finished time self.old) }
+        ensures put { OnOk result (Puts (L.put_on links.old) (L.put_on links.new) number
+            (ongoing.to_put time self.old)) }
+        ensures going { OnOk result (L.failed links.old ≡ false → L.failed links.new ≡ false) }
+        ensures err { IfErr result (λ e. (e ≡ fault_at 900 places.None)
+            ⊎ ((e ≡ fault_at 902 places.None) × (L.failed links.new ≡ true))) }
+    {
+        self.flush(time)?;
+        let octets = self.stream.as_slice();
+        if !octets.is_empty() {
+            links.put(number, octets)?;
+            self.queue.extend_from_slice(octets)?;
+        }
+        self.stream.clear();
+        Ok(())
+    }
+
+    /// So many octets that were put out reach the receiver.
+    ///
+    /// Fails with 900, at no place, for want of memory, where the octets of the link are messages without a fault.
+    pub fn carry(&mut self, count: usize) -> Result<(), Fault>
+        requires queue { count ≤ length self.old.queue }
+        ensures ok { OnOk result (self.new ≡ ongoing.carried_on count self.old) }
+        ensures err { (streams.fed self.old.receiver self.old.queue).fault ≡ None
+            → IfErr result (λ e. e ≡ fault_at 900 places.None) }
+    {
+        match self.session.feed(&self.queue.as_slice()[..count]) {
+            Ok(()) => {}
+            Err(fault) => return Err(fault),
+        }
+        remove_front(&mut self.queue, count);
+        Ok(())
+    }
+
+    /// How many octets were put out and weren't carried yet.
+    pub fn queued(&self) -> usize
+        ensures { result ≡ length self.now.queue }
+    {
+        self.queue.len()
+    }
+
+    /// The first record that the receiver has read leaves, if there is one.
+    pub fn next_record(&mut self) -> Option<Record>
+        ensures receiver { streams.IsNextRecord self.old.receiver self.new.receiver result }
+        ensures rest { self.new ≡ record self.old { receiver = self.new.receiver } }
+    {
+        self.session.next_record()
+    }
+}

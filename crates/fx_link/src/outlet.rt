@@ -1,0 +1,100 @@
+//! Outlets: records gathered into messages.
+ghost use Rattle.std.specs.Prelude.{◌≡◌, ◌&&◌, ◌<◌, ◌+◌, ◌++◌, [], ◌∷◌, true, OnOk, IfErr};
+ghost use Rattle.std.specs.List.{AllByRecursion};
+ghost use Rattle.fx_base.specs.Fault.{fault_at};
+ghost use Rattle.fx_base.specs.declared.fault.Place.TheVariants as places;
+ghost use Rattle.fx_link.specs.Outgoing as outgoing;
+ghost use Rattle.fx_link.specs.Sending as sending;
+
+use crate::sender::Sender;
+use crate::stream::Stream;
+use fx_base::Fault;
+use fx_machine::Record;
+use std::alloc::Global;
+use std::marker::Model;
+
+/// How many records a message has at most.
+const MOST: usize = 64;
+
+/// What puts records on a link: its sender, and the records that wait for their message, which have one layout.
+#[derive(Drop)]
+pub(crate) struct Outlet {
+    sender: Sender,
+    batch: Vec<Record>,
+}
+
+impl Model for Outlet {
+    ghost use Rattle.fx_link.specs.Outgoing.{Waiting, IsWaiting};
+
+    ghost Value = { Waiting };
+
+    ghost view = { λ o. record { sender = o.sender; batch = o.batch.items } };
+
+    ghost invariant = { λ o. IsWaiting (record { sender = o.sender; batch = o.batch.items }) };
+}
+
+impl Outlet {
+    /// An outlet to a link that nothing was put on.
+    pub fn new(alloc: Global) -> Outlet
+        ensures { result ≡ record { sender = sending.new_sender; batch = [] } }
+    {
+        Outlet {
+            sender: Sender::new(alloc),
+            batch: Vec::new(alloc),
+        }
+    }
+
+    /// Whether ids are left for two more layouts: that of the records that wait, and another.
+    pub fn has_room(&self) -> bool
+        ensures { result ≡ sending.has_room 2 self.now.sender }
+    {
+        self.sender.has_room()
+    }
+
+    /// Whether a record shares the message of those that wait.
+    fn joins(&self, flow: &Record) -> bool
+        ensures { result ≡ sending.joins self.now.batch flow.now }
+    {
+        match self.batch.as_slice() {
+            [] => true,
+            [first, ..] => flow.layout().same(first.layout()) && self.batch.len() < MOST,
+        }
+    }
+
+    /// Writes the message of the records that wait, if there are any, behind the octets of the link.
+    ///
+    /// Fails with 900, at no place, for want of memory.
+    pub fn flush(&mut self, time: u32, stream: &mut Stream) -> Result<(), Fault>
+        ensures ok { OnOk result (outgoing.with_octets self.new stream.new.octets.items
+            ≡ outgoing.flushed time (outgoing.with_octets self.old stream.old.octets.items)) }
+        ensures err { IfErr result (λ e. e ≡ fault_at 900 places.None) }
+    {
+        if self.batch.is_empty() {
+            return Ok(());
+        }
+        self.sender.send(time, self.batch.as_slice(), stream)?;
+        self.batch.clear();
+        Ok(())
+    }
+
+    /// A record waits for its message, which it shares with those that wait already, or which comes behind theirs.
+    ///
+    /// Fails with 900, at no place, for want of memory.
+    pub fn put(&mut self, time: u32, flow: Record, stream: &mut Stream) -> Result<(), Fault>
+        requires { sending.has_room 2 self.old.sender ≡ true }
+        ensures ok { OnOk result (outgoing.with_octets self.new stream.new.octets.items
+            ≡ outgoing.with_one time (outgoing.with_octets self.old stream.old.octets.items) flow) }
+        ensures err { IfErr result (λ e. e ≡ fault_at 900 places.None) }
+    {
+        // What the types of layouts, keys and counts keep is told by these.
+        let _parts = flow.layout().parts();
+        let _values = flow.key.values();
+        let _packets = flow.counts.packets;
+        let _octets = flow.counts.octets;
+        if !self.joins(&flow) {
+            self.flush(time, stream)?;
+        }
+        self.batch.push(flow)?;
+        Ok(())
+    }
+}

@@ -1,0 +1,163 @@
+//! Senders: records in messages.
+ghost use Rattle.std.specs.Prelude.{◌≡◌, ◌≤◌, ◌<◌, ◌+◌, ◌++◌, ◌^◌, [], ◌∷◌, length, nat_lt, map, Some, OnOk, OnErr, IfErr, true, false};
+ghost use Rattle.std.specs.List.{position_or_len};
+ghost use Rattle.fx_base.specs.Fault.{fault_at};
+ghost use Rattle.fx_base.specs.declared.fault.Place.TheVariants as places;
+ghost use Rattle.fx_layout.specs.Keys.{same_layout};
+ghost use Rattle.fx_wire.specs.Sets.{set_parts};
+ghost use Rattle.fx_wire.specs.Writing.{message_length, message_octets};
+ghost use Rattle.fx_link.specs.Records.{records_octets, template_octets};
+ghost use Rattle.fx_link.specs.Sending as sending;
+
+use crate::records::put_records;
+use crate::stream::Stream;
+use crate::templates::put_template;
+use fx_base::Fault;
+use fx_layout::Layout;
+use fx_machine::Record;
+use fx_wire::{Header, Set, put_message};
+use std::alloc::Global;
+use std::marker::Model;
+
+/// What the sender on a link keeps: the layouts that it has sent records of, in the order of first use, and how
+/// many records it has put on the link, modulo 2 to the 32.
+#[derive(Drop)]
+pub(crate) struct Sender {
+    alloc: Global,
+    layouts: Vec<Layout>,
+    sent: u32,
+}
+
+impl Model for Sender {
+    ghost use Rattle.fx_link.specs.Sending as sending;
+
+    ghost Value = { sending.Sender };
+
+    ghost view = { λ s. record { layouts = s.layouts.items; sent = s.sent } };
+
+    ghost invariant = { λ s. sending.IsSender (record {
+      layouts = s.layouts.items;
+      sent = s.sent;
+    }) };
+}
+
+/// The place of a layout among these, or behind them.
+fn place_of(layouts: &[Layout], layout: &Layout) -> usize
+    ensures place { result ≡ position_or_len (same_layout layout.now) layouts.now }
+    ensures bound { result ≤ length layouts.now }
+    ensures known { sending.knows layouts.now layout.now ≡ nat_lt result (length layouts.now) }
+{
+    match layouts {
+        [] => 0,
+        [used, layouts @ ..] => {
+            if layout.same(used) {
+                0
+            } else {
+                1 + place_of(layouts, layout)
+            }
+        }
+    }
+}
+
+/// Writes a message behind the octets of a link. Fails with 900, at no place, for want of memory.
+fn put_sets(stream: &mut Stream, header: &Header, sets: &[Set<'_>]) -> Result<(), Fault>
+    requires { message_length (map set_parts sets.now) ≤ 65535 }
+    ensures ok { OnOk result (stream.new.octets.items
+        ≡ stream.old.octets.items ++ message_octets header.now (map set_parts sets.now)) }
+    ensures err { IfErr result (λ e. e ≡ fault_at 900 places.None) }
+{
+    match put_message(stream, header, sets) {
+        Ok(()) => Ok(()),
+        Err(_) => Err(Fault::bare(900)),
+    }
+}
+
+impl Sender {
+    /// A sender on a link that nothing was put on.
+    pub fn new(alloc: Global) -> Sender
+        ensures { result ≡ sending.new_sender }
+    {
+        Sender {
+            alloc,
+            layouts: Vec::new(alloc),
+            sent: 0,
+        }
+    }
+
+    /// Whether ids are left for two more layouts.
+    pub fn has_room(&self) -> bool
+        ensures { result ≡ sending.has_room 2 self.now }
+    {
+        256 + 2 + self.layouts.len() < 1 << 16
+    }
+
+    /// The header of the next message.
+    fn header(&self, time: u32) -> Header
+        ensures { result ≡ sending.header_at time self.now }
+    {
+        Header {
+            export_time: time,
+            sequence_number: self.sent,
+            observation_domain: 0,
+        }
+    }
+
+    /// Writes a message with this header and these records, which have one layout. The layout's template comes first
+    /// where the link hasn't used it yet.
+    fn put_batch(
+        &mut self,
+        header: &Header,
+        batch: &[Record],
+        stream: &mut Stream,
+    ) -> Result<(), Fault>
+        requires room { sending.has_room 1 self.old ≡ true }
+        requires batch { sending.IsBatch batch.now }
+        ensures octets { OnOk result (stream.new.octets.items ≡ stream.old.octets.items
+            ++ message_octets header.now (sending.message_sets self.old.layouts batch.now)) }
+        ensures sender { OnOk result (self.new ≡ record self.old {
+          layouts = sending.layouts_with self.old.layouts (sending.layout_of batch.now);
+        }) }
+        ensures kept { OnErr result (self.new ≡ self.old) }
+        ensures err { IfErr result (λ e. e ≡ fault_at 900 places.None) }
+    {
+        let layout = batch[0].layout();
+        let mut content: Vec<u8> = Vec::new(self.alloc);
+        put_records(&mut content, batch)?;
+        let place = place_of(self.layouts.as_slice(), layout);
+        let data = Set {
+            id: 256 + place as u16,
+            content: content.as_slice(),
+        };
+        if place < self.layouts.len() {
+            return put_sets(stream, header, &[data]);
+        }
+        let mut template: Vec<u8> = Vec::new(self.alloc);
+        put_template(&mut template, data.id, layout)?;
+        let declaration = Set {
+            id: 2,
+            content: template.as_slice(),
+        };
+        put_sets(stream, header, &[declaration, data])?;
+        self.layouts.push(layout.copy())?;
+        Ok(())
+    }
+
+    /// Writes a message with these records, which have one layout, behind the octets of the link.
+    ///
+    /// Fails with 900, at no place, for want of memory, and then keeps what it kept.
+    #[tactic(auto, unfolding(crate::specs::Sending::batch_octets))]
+    pub fn send(&mut self, time: u32, batch: &[Record], stream: &mut Stream) -> Result<(), Fault>
+        requires room { sending.has_room 1 self.old ≡ true }
+        requires batch { sending.IsBatch batch.now }
+        ensures octets { OnOk result (stream.new.octets.items
+            ≡ stream.old.octets.items ++ sending.batch_octets time self.old batch.now) }
+        ensures sender { OnOk result (self.new ≡ sending.after_batch self.old batch.now) }
+        ensures kept { OnErr result (self.new ≡ self.old) }
+        ensures err { IfErr result (λ e. e ≡ fault_at 900 places.None) }
+    {
+        let header = self.header(time);
+        self.put_batch(&header, batch, stream)?;
+        self.sent = self.sent.wrapping_add(batch.len() as u32);
+        Ok(())
+    }
+}

@@ -1,0 +1,59 @@
+//! A sink for each link.
+ghost use Rattle.std.specs.Prelude.{◌≡◌, false, OnOk, IfErr};
+
+use crate::links::Links;
+use fx_base::{Fault, Sink, put_text};
+
+/// Links with a sink each, the first link's first. A link without a sink tells nothing of its octets.
+#[derive(Drop)]
+pub struct Sinks<S: Sink> {
+    sinks: Vec<S>,
+    failed: bool,
+}
+
+impl<S: Sink> Sinks<S> {
+    /// Links whose octets go to these sinks.
+    pub fn new(sinks: Vec<S>) -> Sinks<S>
+        ensures sinks { result.sinks ≡ sinks }
+        ensures going { result.failed ≡ false }
+    {
+        Sinks {
+            sinks,
+            failed: false,
+        }
+    }
+
+    /// The sinks, in the order of the links.
+    pub fn as_slice(&self) -> &[S]
+        ensures { result.now ≡ self.now.sinks.items }
+    {
+        self.sinks.as_slice()
+    }
+}
+
+impl<S: Sink> Links for Sinks<S> {
+    ghost use Rattle.fx_machine.specs.Network.{numbered};
+    ghost use Rattle.fx_link.specs.Links.{told};
+
+    ghost put_on = { λ s link. told S.taken (numbered s.sinks.items link) };
+
+    ghost failed = { λ s. s.failed };
+
+    fn put(&mut self, link: u64, octets: &[u8]) -> Result<(), Fault> {
+        if link == 0 || link > self.sinks.len() as u64 {
+            self.failed = false;
+            return Ok(());
+        }
+        let place = (link - 1) as usize;
+        match put_text(&mut self.sinks[place], octets) {
+            Ok(()) => {
+                self.failed = false;
+                Ok(())
+            }
+            Err(fault) => {
+                self.failed = true;
+                Err(fault)
+            }
+        }
+    }
+}

@@ -1,0 +1,65 @@
+//! The octets of a link.
+ghost use Rattle.std.specs.Prelude.{◌≡◌, [], Some, false};
+
+use fx_base::{Fault, Sink};
+use std::alloc::Global;
+
+/// Octets in memory, to which writes add. A write fails only for want of memory.
+#[derive(Drop)]
+pub(crate) struct Stream {
+    octets: Vec<u8>,
+    failed: bool,
+}
+
+impl Stream {
+    /// No octets.
+    pub fn new(alloc: Global) -> Stream
+        ensures octets { result.octets.items ≡ [] }
+        ensures going { result.failed ≡ false }
+    {
+        Stream {
+            octets: Vec::new(alloc),
+            failed: false,
+        }
+    }
+
+    /// No octets any more.
+    pub fn clear(&mut self)
+        ensures { self.new.octets.items ≡ [] }
+    {
+        self.octets.clear();
+    }
+
+    /// The octets.
+    pub fn as_slice(&self) -> &[u8]
+        ensures { result.now ≡ self.now.octets.items }
+    {
+        self.octets.as_slice()
+    }
+}
+
+impl Sink for Stream {
+    ghost taken = { λ s. Some s.octets.items };
+
+    ghost failed = { λ s. s.failed };
+
+    ghost holds_back = { λ _. false };
+
+    fn write(&mut self, octets: &[u8]) -> Result<usize, Fault> {
+        match self.octets.extend_from_slice(octets) {
+            Ok(()) => {
+                self.failed = false;
+                Ok(octets.len())
+            }
+            Err(_) => {
+                self.failed = true;
+                Err(Fault::bare(902))
+            }
+        }
+    }
+
+    fn flush(&mut self) -> Result<(), Fault> {
+        self.failed = false;
+        Ok(())
+    }
+}
