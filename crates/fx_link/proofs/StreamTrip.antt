@@ -9,7 +9,7 @@ use Rattle.fx_machine.specs.declared.record.Record.{Record}
 use Rattle.fx_session.specs.Messages.{Known}
 use Rattle.fx_session.specs.Streams.{Standing, waits, read_all, fed}
 use Rattle.fx_session.proofs.StreamSteps.{pieces, fed_on, all_none}
-use Rattle.fx_link.specs.Sending.{Sender, layout_of, knows, batch_octets, after_batch, most, joins, closed, batches_from, batches_of, after_batches, stream_octets, IsSendable, IsBatch, IsSender, IsSent, Begun, KeepsUp, ReadsOn, sent_octets, after_sent}
+use Rattle.fx_link.specs.Sending.{Sender, layout_of, knows, batch_octets, after_batch, most, joins, one_batch, batches_from, batches_of, after_batches, stream_octets, IsSendable, IsBatch, IsSender, IsSent, Begun, KeepsUp, ReadsOn, sent_octets, after_sent}
 use Rattle.fx_link.proofs.BatchTrip.{batch_back}
 
 -- ---- senders after batches
@@ -72,7 +72,7 @@ batches_back time s st (b ∷ bs) h is all few up =
 
 -- ---- the batches of some records
 
-closed-joined : (batch : List Record) (rest : List (List Record)) → joined (closed batch ++ rest) ≡ batch ++ joined rest
+closed-joined : (batch : List Record) (rest : List (List Record)) → joined (one_batch batch ++ rest) ≡ batch ++ joined rest
 closed-joined [] rest = refl
 closed-joined (r ∷ rs) rest = refl
 
@@ -82,7 +82,7 @@ batches-joined [] [] = refl
 batches-joined (b ∷ bs) [] = refl
 batches-joined batch (r ∷ rs) = by (batches-joined (batch ++ r ∷ []) rs) (batches-joined (r ∷ []) rs) (joins batch r) where
   by : joined (batches_from (batch ++ r ∷ []) rs) ≡ (batch ++ r ∷ []) ++ rs → joined (batches_from (r ∷ []) rs) ≡ r ∷ rs → (t : Bool)
-      → joined (cond t (batches_from (batch ++ r ∷ []) rs) (closed batch ++ batches_from (r ∷ []) rs)) ≡ batch ++ r ∷ rs
+      → joined (cond t (batches_from (batch ++ r ∷ []) rs) (one_batch batch ++ batches_from (r ∷ []) rs)) ≡ batch ++ r ∷ rs
   by on new true = on ∙ append_assoc batch (r ∷ []) rs
   by on new false = closed-joined batch (batches_from (r ∷ []) rs) ∙ ap (λ (l : List Record). batch ++ l) new
 
@@ -106,7 +106,7 @@ joins_on (x ∷ xs) r b h e =
       few = omega (arith, length-append (x ∷ xs) (r ∷ []));
     }
 
-closed_are : (batch : List Record) (rest : List (List Record)) → Begun batch → AllByRecursion IsBatch rest → AllByRecursion IsBatch (closed batch ++ rest)
+closed_are : (batch : List Record) (rest : List (List Record)) → Begun batch → AllByRecursion IsBatch rest → AllByRecursion IsBatch (one_batch batch ++ rest)
 closed_are [] rest b h = h
 closed_are (r ∷ rs) rest b h = (b, h)
 
@@ -116,7 +116,7 @@ batches_are (x ∷ xs) [] b h = (b, tt)
 batches_are batch (r ∷ rs) b h =
     by (λ e. batches_are (batch ++ r ∷ []) rs (joins_on batch r b h.0 e) h.1) (batches_are (r ∷ []) rs (alone r h.0) h.1) (joins batch r) refl where
       by : (joins batch r ≡ true → AllByRecursion IsBatch (batches_from (batch ++ r ∷ []) rs)) → AllByRecursion IsBatch (batches_from (r ∷ []) rs) → (t : Bool) → joins batch r ≡ t
-          → AllByRecursion IsBatch (cond t (batches_from (batch ++ r ∷ []) rs) (closed batch ++ batches_from (r ∷ []) rs))
+          → AllByRecursion IsBatch (cond t (batches_from (batch ++ r ∷ []) rs) (one_batch batch ++ batches_from (r ∷ []) rs))
       by on new true e = on e
       by on new false e = closed_are batch (batches_from (r ∷ []) rs) b new
 

@@ -1,15 +1,15 @@
 -- Records that are sent come behind those on a link, and those that are carried stand before the others.
-use Rattle.std.proofs.Common.{◌≡◌, ℕ, suc, ◌+◌, ◌^◌, ◌<◌, List, [], ◌++◌, length, take, drop, refl, ap, sym, ◌∙◌, subst}
+use Rattle.std.proofs.Common.{arith, ◌≡◌, ℕ, suc, ◌+◌, ◌^◌, ◌<◌, List, [], ◌++◌, length, take, drop, refl, ap, sym, ◌∙◌, subst}
 use Rattle.std.specs.List.{AllByRecursion}
 use Rattle.std.proofs.lemmas.List.{take-append-drop, append-nil}
 use Rattle.fx_machine.specs.declared.record.Record.{Record}
-use Rattle.fx_session.specs.Streams.{Standing, fed, behind}
-use Rattle.fx_session.proofs.StreamSteps.{pieces}
+use Rattle.fx_session.specs.Streams.{Standing, start, fed, behind}
+use Rattle.fx_session.proofs.StreamSteps.{pieces, fed_on, all_none}
 use Rattle.fx_session.proofs.InFront.{fed-behind}
 use Rattle.fx_link.specs.Sending.{IsSent, KeepsUp, after_sent, sent_octets}
-use Rattle.fx_link.specs.Wires.{Wire, on_link, emptied, carried, sent_on, InStep}
+use Rattle.fx_link.specs.Wires.{Wire, new_wire, on_link, without_waiting, carried, sent_on, InStep}
 use Rattle.fx_link.specs.Outgoing.{Outgoing, with_all}
-use Rattle.fx_link.specs.Ongoing.{Ongoing, at_rest, finished}
+use Rattle.fx_link.specs.Ongoing.{Ongoing, at_rest, after_finish}
 use Rattle.fx_link.proofs.Flushing.{flushes_are_sent}
 use Rattle.fx_link.proofs.StreamTrip.{records_back, senders_stay}
 
@@ -24,7 +24,7 @@ sending_adds time rs wire h step all few =
     )
 
 -- a session stands behind the records that it has read
-behind_emptied : (st : Standing) → behind st.known.waiting (emptied st) ≡ st
+behind_emptied : (st : Standing) → behind st.known.waiting (without_waiting st) ≡ st
 behind_emptied st = ap (λ (w : List Record). let x : Standing = record st { known = record st.known { waiting = w } } in x) (append-nil st.known.waiting)
 
 pub carrying_takes : (n : ℕ) (wire : Wire) → InStep wire
@@ -34,8 +34,8 @@ carrying_takes n wire step =
     let rest : List ℕ = drop (suc n) wire.queue in
     let st : Standing = fed wire.receiver front in
     let all : fed st rest ≡ fed wire.receiver wire.queue = pieces wire.receiver front rest ∙ ap (fed wire.receiver) (take-append-drop (suc n) wire.queue) in
-    let split : fed st rest ≡ behind st.known.waiting (fed (emptied st) rest) = ap (λ (x : Standing). fed x rest) (sym (behind_emptied st)) ∙ fed-behind st.known.waiting (emptied st) rest in
-    let same : fed wire.receiver wire.queue ≡ behind st.known.waiting (fed (emptied st) rest) = sym all ∙ split in (
+    let split : fed st rest ≡ behind st.known.waiting (fed (without_waiting st) rest) = ap (λ (x : Standing). fed x rest) (sym (behind_emptied st)) ∙ fed-behind st.known.waiting (without_waiting st) rest in
+    let same : fed wire.receiver wire.queue ≡ behind st.known.waiting (fed (without_waiting st) rest) = sym all ∙ split in (
       record {
         sender = step.sender;
         keeps_up = record {
@@ -48,6 +48,15 @@ carrying_takes n wire step =
       ap (λ (x : Standing). x.known.waiting) same,
     )
 
-pub putting_sends : (time : ℕ) (rs : List Record) (wire : Wire) → finished time (record (at_rest wire) { outgoing = with_all time (at_rest wire).outgoing rs }) ≡ at_rest (sent_on time rs wire)
+pub putting_sends : (time : ℕ) (rs : List Record) (wire : Wire) → after_finish time (record (at_rest wire) { outgoing = with_all time (at_rest wire).outgoing rs }) ≡ at_rest (sent_on time rs wire)
 putting_sends time rs wire =
     ap (λ (o : Outgoing). let w : Ongoing = record { outgoing = record o { octets = [] }; queue = wire.queue ++ o.octets; receiver = wire.receiver } in w) (flushes_are_sent time wire.sender [] rs)
+
+pub new_in_step : InStep new_wire
+new_in_step =
+    let same : fed start [] ≡ start = fed_on start [] refl ∙ all_none start.known start.place in
+    record {
+      sender = record { layouts = tt; few = omega arith; sent = omega arith };
+      keeps_up = record { domains = ap (λ (x : Standing). x.known.domains) same; rest = ap (λ (x : Standing). x.rest) same; fault = ap (λ (x : Standing). x.fault) same };
+      handled = refl;
+    }

@@ -1,9 +1,8 @@
 -- A link in the middle of what is done.
 use Rattle.std.specs.Prelude.{◌≡◌, ℕ, List, [], ◌++◌, take, drop}
 use Rattle.fx_machine.specs.declared.record.Record.{Record}
-use Rattle.fx_session.specs.Streams.{Standing, start, fed}
-use Rattle.fx_link.specs.Sending.{new_sender}
-use Rattle.fx_link.specs.Outgoing.{Outgoing, flushed, with_all}
+use Rattle.fx_session.specs.Streams.{Standing, fed}
+use Rattle.fx_link.specs.Outgoing.{Outgoing, after_flush, with_all}
 use Rattle.fx_link.specs.Wires.{Wire, sent_on}
 
 -- what is being sent, the octets that were put out and aren't carried yet, and what the receiver has read
@@ -20,25 +19,21 @@ at_rest wire = record {
   receiver = wire.receiver;
 }
 
--- a link that nothing was put on
-abbrev pub new_wire : Wire
-new_wire = record { sender = new_sender; queue = []; receiver = start }
-
 -- the octets that are to be put out, once no record waits
 abbrev pub to_put : ℕ → Ongoing → List ℕ
-to_put time o = (flushed time o.outgoing).octets
+to_put time o = (after_flush time o.outgoing).octets
 
 -- they were put out
-abbrev pub finished : ℕ → Ongoing → Ongoing
-finished time o = record {
-  outgoing = record (flushed time o.outgoing) { octets = [] };
+abbrev pub after_finish : ℕ → Ongoing → Ongoing
+after_finish time o = record {
+  outgoing = record (after_flush time o.outgoing) { octets = [] };
   queue = o.queue ++ to_put time o;
   receiver = o.receiver;
 }
 
 -- so many octets reach the receiver
-abbrev pub carried_on : ℕ → Ongoing → Ongoing
-carried_on n o = record o { queue = drop n o.queue; receiver = fed o.receiver (take n o.queue) }
+abbrev pub after_carry : ℕ → Ongoing → Ongoing
+after_carry n o = record o { queue = drop n o.queue; receiver = fed o.receiver (take n o.queue) }
 
 -- ---- the law
 
@@ -46,4 +41,5 @@ carried_on n o = record o { queue = drop n o.queue; receiver = fed o.receiver (t
 abbrev pub PuttingSends : Type 0
 PuttingSends =
     (time : ℕ) (rs : List Record) (wire : Wire)
-    → finished time (record (at_rest wire) { outgoing = with_all time (at_rest wire).outgoing rs }) ≡ at_rest (sent_on time rs wire)
+    → after_finish time (record (at_rest wire) { outgoing = with_all time (at_rest wire).outgoing rs })
+    ≡ at_rest (sent_on time rs wire)

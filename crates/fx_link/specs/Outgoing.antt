@@ -23,12 +23,20 @@ abbrev pub with_octets : Waiting → List ℕ → Outgoing
 with_octets w octets = record { sender = w.sender; batch = w.batch; octets = octets }
 
 -- the records that wait have their message, if there are any
-abbrev pub flushed : ℕ → Outgoing → Outgoing
-flushed time o = elim o.batch [ [] ↦ o | r ∷ rs ↦ record { sender = after_batch o.sender o.batch; batch = []; octets = o.octets ++ batch_octets time o.sender o.batch } ]
+abbrev pub after_flush : ℕ → Outgoing → Outgoing
+after_flush time o = elim o.batch [
+  | [] ↦ o
+  | r ∷ rs ↦ record {
+    sender = after_batch o.sender o.batch;
+    batch = [];
+    octets = o.octets ++ batch_octets time o.sender o.batch;
+  }
+]
 
 -- a record joins those that wait, or they have their message first
 abbrev pub with_one : ℕ → Outgoing → Record → Outgoing
-with_one time o r = if joins o.batch r then record o { batch = o.batch ++ r ∷ [] } else record (flushed time o) { batch = r ∷ [] }
+with_one time o r =
+    if joins o.batch r then record o { batch = o.batch ++ r ∷ [] } else record (after_flush time o) { batch = r ∷ [] }
 
 abbrev pub with_all : ℕ → Outgoing → List Record → Outgoing
 with_all time o [] = o
@@ -38,5 +46,5 @@ with_all time o (r ∷ rs) = with_all time (with_one time o r) rs
 abbrev pub FlushesAreSent : Type 0
 FlushesAreSent =
     (time : ℕ) (s : Sender) (octets : List ℕ) (rs : List Record)
-    → flushed time (with_all time (record { sender = s; batch = []; octets = octets }) rs)
+    → after_flush time (with_all time (record { sender = s; batch = []; octets = octets }) rs)
     ≡ record { sender = after_sent s rs; batch = []; octets = octets ++ sent_octets time s rs }

@@ -70,14 +70,16 @@ abbrev pub joins : List Record → Record → Bool
 joins [] r = true
 joins (first ∷ rest) r = same_layout r.key.layout first.key.layout && nat_lt (length (first ∷ rest)) most
 
-abbrev pub closed : List Record → List (List Record)
-closed [] = []
-closed (r ∷ rs) = (r ∷ rs) ∷ []
+-- a batch by itself, if there are records
+abbrev pub one_batch : List Record → List (List Record)
+one_batch [] = []
+one_batch (r ∷ rs) = (r ∷ rs) ∷ []
 
 -- consecutive records of one layout share a message, behind those that wait already
 abbrev pub batches_from : List Record → List Record → List (List Record)
-batches_from batch [] = closed batch
-batches_from batch (r ∷ rs) = if joins batch r then batches_from (batch ++ r ∷ []) rs else closed batch ++ batches_from (r ∷ []) rs
+batches_from batch [] = one_batch batch
+batches_from batch (r ∷ rs) =
+    if joins batch r then batches_from (batch ++ r ∷ []) rs else one_batch batch ++ batches_from (r ∷ []) rs
 
 abbrev pub batches_of : List Record → List (List Record)
 batches_of rs = batches_from [] rs
@@ -99,6 +101,7 @@ pub record IsSendable (layout : Layout) (r : Record) : Type 0 where
   pub packets : r.counts.packets < 2 ^ 64
   pub octets : r.counts.octets < 2 ^ 64
 
+-- records that can share a message
 pub record IsBatch (batch : List Record) : Type 0 where
   pub layout : IsLayout (layout_of batch)
   pub records : AllByRecursion (IsSendable (layout_of batch)) batch
@@ -110,7 +113,7 @@ abbrev pub Begun : List Record → Type 0
 Begun [] = Unit {0}
 Begun (r ∷ rs) = IsBatch (r ∷ rs)
 
--- the ids from 256 on are enough
+-- layouts, for which the ids from 256 on are enough
 pub record IsSender (s : Sender) : Type 0 where
   pub layouts : AllByRecursion IsLayout s.layouts
   pub few : 256 + length s.layouts < 2 ^ 16

@@ -2,8 +2,8 @@
 use Rattle.std.specs.Prelude.{◌≡◌, ℕ, zero, suc, ◌+◌, ◌^◌, ◌<◌, List, [], ◌++◌, length, take, drop}
 use Rattle.std.specs.List.{AllByRecursion}
 use Rattle.fx_machine.specs.declared.record.Record.{Record}
-use Rattle.fx_session.specs.Streams.{Standing, fed}
-use Rattle.fx_link.specs.Sending.{Sender, IsSender, IsSent, KeepsUp, sent_octets, after_sent}
+use Rattle.fx_session.specs.Streams.{Standing, start, fed}
+use Rattle.fx_link.specs.Sending.{Sender, new_sender, IsSender, IsSent, KeepsUp, sent_octets, after_sent}
 
 -- a link: what its sender keeps, the octets that haven't been carried yet, and what its receiver has read
 pub record Wire : Type 0 where
@@ -11,22 +11,32 @@ pub record Wire : Type 0 where
   pub queue : List ℕ
   pub receiver : Standing
 
+-- a link that nothing was put on
+abbrev pub new_wire : Wire
+new_wire = record { sender = new_sender; queue = []; receiver = start }
+
 -- the records on a link: those that the receiver would read, were all octets carried
 abbrev pub on_link : Wire → List Record
 on_link wire = (fed wire.receiver wire.queue).known.waiting
 
 -- what has been read leaves
-abbrev pub emptied : Standing → Standing
-emptied st = record st { known = record st.known { waiting = [] } }
+abbrev pub without_waiting : Standing → Standing
+without_waiting st = record st { known = record st.known { waiting = [] } }
 
 -- so many octets reach the receiver, and all records that were read are handled
 abbrev pub carried : ℕ → Wire → Wire
 carried zero wire = wire
-carried (suc n) wire = record wire { queue = drop (suc n) wire.queue; receiver = emptied (fed wire.receiver (take (suc n) wire.queue)) }
+carried (suc n) wire = record wire {
+  queue = drop (suc n) wire.queue;
+  receiver = without_waiting (fed wire.receiver (take (suc n) wire.queue));
+}
 
 -- these records are sent, in messages of this export time
 abbrev pub sent_on : ℕ → List Record → Wire → Wire
-sent_on time rs wire = record wire { sender = after_sent wire.sender rs; queue = wire.queue ++ sent_octets time wire.sender rs }
+sent_on time rs wire = record wire {
+  sender = after_sent wire.sender rs;
+  queue = wire.queue ++ sent_octets time wire.sender rs;
+}
 
 -- The receiver would read all that was put on the link, and has handled all that it read.
 pub record InStep (wire : Wire) : Type 0 where

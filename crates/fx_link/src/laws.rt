@@ -2,7 +2,7 @@
 ghost use Rattle.fx_link.specs.Ongoing.{PuttingSends};
 ghost use Rattle.fx_link.specs.Outgoing.{FlushesAreSent};
 ghost use Rattle.fx_link.specs.Sending.{BatchesAreRead, RecordsAreRead};
-ghost use Rattle.fx_link.specs.Wires.{CarryingTakes, SendingAdds};
+ghost use Rattle.fx_link.specs.Wires.{CarryingTakes, InStep, SendingAdds, new_wire};
 
 /// What is written for records that are sent together is read as just those records, in order, by a session
 /// that has read all that was put on the link before.
@@ -14,8 +14,9 @@ pub fn records_are_read()
 
 /// On a link whose receiver would read all that was put on it, records that are sent come behind those that are
 /// there, and octets that are carried complete the first of them; its receiver still would read all. What is put on a
-/// link, record by record, is sent once the link is finished.
+/// link, record by record, is sent once the link is finished. A new link is such a link.
 pub fn links_keep_records()
+    ensures begins { InStep new_wire }
     ensures putting { PuttingSends }
     ensures sending { SendingAdds }
     ensures carrying { CarryingTakes }

@@ -7,6 +7,7 @@ ghost use Rattle.fx_link.specs.Links.{Puts};
 ghost use Rattle.fx_link.specs.Ongoing as ongoing;
 ghost use Rattle.fx_link.specs.Outgoing as outgoing;
 ghost use Rattle.fx_link.specs.Sending as sending;
+ghost use Rattle.fx_link.specs.Wires.{new_wire};
 
 use crate::links::Links;
 use crate::outlet::Outlet;
@@ -56,7 +57,7 @@ fn remove_front(octets: &mut Vec<u8>, count: usize)
 impl Link {
     /// A link that nothing was put on.
     pub fn new(alloc: Global) -> Result<Link, Fault>
-        ensures { result ≡ Ok (ongoing.at_rest ongoing.new_wire) }
+        ensures { result ≡ Ok (ongoing.at_rest new_wire) }
     {
         Ok(Link {
             outlet: Outlet::new(alloc),
@@ -91,7 +92,7 @@ impl Link {
     /// Fails with 900, at no place, for want of memory.
     fn flush(&mut self, time: u32) -> Result<(), Fault>
         ensures ok { OnOk result (self.new
-            ≡ record self.old { outgoing = outgoing.flushed time self.old.outgoing }) }
+            ≡ record self.old { outgoing = outgoing.after_flush time self.old.outgoing }) }
         ensures err { IfErr result (λ e. e ≡ fault_at 900 places.None) }
     {
         self.outlet.flush(time, &mut self.stream)
@@ -101,7 +102,7 @@ impl Link {
     ///
     /// Fails with 900, at no place, for want of memory, and as the link's octets are put out.
     pub fn finish<L: Links>(&mut self, time: u32, number: u64, links: &mut L) -> Result<(), Fault>
-        ensures ok { OnOk result (self.new ≡ ongoing.finished time self.old) }
+        ensures ok { OnOk result (self.new ≡ ongoing.after_finish time self.old) }
         ensures put { OnOk result (Puts (L.put_on links.old) (L.put_on links.new) number
             (ongoing.to_put time self.old)) }
         ensures going { OnOk result (L.failed links.old ≡ false → L.failed links.new ≡ false) }
@@ -123,7 +124,7 @@ impl Link {
     /// Fails with 900, at no place, for want of memory, where the octets of the link are messages without a fault.
     pub fn carry(&mut self, count: usize) -> Result<(), Fault>
         requires queue { count ≤ length self.old.queue }
-        ensures ok { OnOk result (self.new ≡ ongoing.carried_on count self.old) }
+        ensures ok { OnOk result (self.new ≡ ongoing.after_carry count self.old) }
         ensures err { (streams.fed self.old.receiver self.old.queue).fault ≡ None
             → IfErr result (λ e. e ≡ fault_at 900 places.None) }
     {

@@ -66,7 +66,7 @@ impl Outlet {
     /// Fails with 900, at no place, for want of memory.
     pub fn flush(&mut self, time: u32, stream: &mut Stream) -> Result<(), Fault>
         ensures ok { OnOk result (outgoing.with_octets self.new stream.new.octets.items
-            ≡ outgoing.flushed time (outgoing.with_octets self.old stream.old.octets.items)) }
+            ≡ outgoing.after_flush time (outgoing.with_octets self.old stream.old.octets.items)) }
         ensures err { IfErr result (λ e. e ≡ fault_at 900 places.None) }
     {
         if self.batch.is_empty() {

@@ -23,6 +23,13 @@ impl<S: Sink> Sinks<S> {
         }
     }
 
+    /// The sinks themselves, in the order of the links.
+    pub fn into_sinks(self) -> Vec<S>
+        ensures { result ≡ self.sinks }
+    {
+        self.sinks
+    }
+
     /// The sinks, in the order of the links.
     pub fn as_slice(&self) -> &[S]
         ensures { result.now ≡ self.now.sinks.items }

@@ -10,6 +10,8 @@ mod leaf_chain;
 #[cfg(test)]
 mod leaf_filters;
 #[cfg(test)]
+mod link;
+#[cfg(test)]
 mod machine;
 #[cfg(test)]
 mod machine_runs;

@@ -1,5 +1,8 @@
-use Rattle.fx_link.proofs.WireTrip.{putting_sends, sending_adds, carrying_takes}
+use Rattle.fx_link.proofs.WireTrip.{new_in_step, putting_sends, sending_adds, carrying_takes}
 use Rattle.fx_link.proofs.laws.links_keep_records.Goals as goal
+
+pub returns-clause-begins : goal.returns-clause-begins
+returns-clause-begins c = new_in_step
 
 pub returns-clause-putting : goal.returns-clause-putting
 returns-clause-putting c = putting_sends
