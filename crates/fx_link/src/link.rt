@@ -1,5 +1,5 @@
 //! A link: what is being sent on it, the octets that weren't carried yet, and its receiver.
-ghost use Rattle.std.specs.Prelude.{◌≡◌, ◌⊎◌, ◌≤◌, ◌++◌, [], false, true, length, drop, Ok, Some, None, OnOk, IfErr};
+ghost use Rattle.std.specs.Prelude.{◌≡◌, ◌⊎◌, ◌≤◌, ◌++◌, [], false, true, length, drop, Ok, Some, None, OnOk, OnErr, IfErr, IsSome};
 ghost use Rattle.fx_base.specs.Fault.{fault_at};
 ghost use Rattle.fx_base.specs.declared.fault.Place.TheVariants as places;
 ghost use Rattle.fx_session.specs.Streams as streams;
@@ -77,7 +77,7 @@ impl Link {
     /// A record is put on the link: it waits for its message. That ids are left, as [`Link::has_room`] answers, is the
     /// caller's condition.
     ///
-    /// Fails with 900, at no place, for want of memory.
+    /// Fails with 900, at no place, for want of memory. What is being sent is open then.
     pub fn put(&mut self, time: u32, flow: Record) -> Result<(), Fault>
         requires room { sending.has_room 2 self.old.outgoing.sender ≡ true }
         ensures ok { OnOk result (self.new
@@ -100,7 +100,8 @@ impl Link {
 
     /// The records that wait have their message, and what was written is put out.
     ///
-    /// Fails with 900, at no place, for want of memory, and as the link's octets are put out.
+    /// Fails with 900, at no place, for want of memory, and as the link's octets are put out. What is being sent, and
+    /// what was put out of it, is open then.
     pub fn finish<L: Links>(&mut self, time: u32, number: u64, links: &mut L) -> Result<(), Fault>
         ensures ok { OnOk result (self.new ≡ ongoing.after_finish time self.old) }
         ensures put { OnOk result (Puts (L.put_on links.old) (L.put_on links.new) number
@@ -121,12 +122,15 @@ impl Link {
 
     /// So many octets that were put out reach the receiver.
     ///
-    /// Fails with 900, at no place, for want of memory, where the octets of the link are messages without a fault.
+    /// Fails with 900, at no place, for want of memory, where the octets of the link are messages without a fault. Its
+    /// receiver answers the fault from then on, and nothing else changes.
     pub fn carry(&mut self, count: usize) -> Result<(), Fault>
         requires queue { count ≤ length self.old.queue }
         ensures ok { OnOk result (self.new ≡ ongoing.after_carry count self.old) }
         ensures err { (streams.fed self.old.receiver self.old.queue).fault ≡ None
             → IfErr result (λ e. e ≡ fault_at 900 places.None) }
+        ensures fault { OnErr result (IsSome self.new.receiver.fault) }
+        ensures rest { OnErr result (self.new ≡ record self.old { receiver = self.new.receiver }) }
     {
         match self.session.feed(&self.queue.as_slice()[..count]) {
             Ok(()) => {}
