@@ -1,5 +1,6 @@
 pub mod Linking
 pub mod Nets
+pub mod NamedNets
 pub mod Comings
 pub mod Ranked
 pub mod Ranges

@@ -7,6 +7,7 @@ pub mod Reports
 pub mod Networks
 pub mod Labels
 pub mod Tables
+pub mod NamedByDocuments
 pub mod Feeding
 pub mod Ranks
 pub mod Layouts

@@ -1,9 +1,15 @@
 //! Laws of the networks that plans mean.
-ghost use Rattle.std.specs.Prelude.{List};
+ghost use Rattle.std.specs.Prelude.{◌↔◌, Bool, List};
+ghost use Rattle.fx_elements.specs.declared.axis.Axis.{Axis};
+ghost use Rattle.fx_machine.specs.Claim.{ExactlyOnce, OnceModulo};
+ghost use Rattle.fx_machine.specs.ClaimsOfSome.{ExactlyOnceOf, OnceModuloOf};
 ghost use Rattle.fx_machine.specs.Classes as traffic;
 ghost use Rattle.fx_machine.specs.CompleteRun.{HasCompleteRun};
+ghost use Rattle.fx_machine.specs.NamedAxes as axes;
 ghost use Rattle.fx_machine.specs.declared.packet.Packet as of_packet;
+ghost use Rattle.fx_plan.specs.NamedByDocuments.{DocumentNamesOnly};
 ghost use Rattle.fx_plan.specs.Tables as tables;
+ghost use Rattle.fx_plan.specs.declared.network.Network as documents;
 
 use crate::plan::Plan;
 use fx_machine::complete_runs_exist;
@@ -17,3 +23,21 @@ pub fn plans_have_complete_runs(plan: &Plan)
     let _net = plan.net();
     complete_runs_exist();
 }
+
+/// A network document whose filters, fields of caches, keys of aggregations and report name only some axes means a
+/// network that names only these. So where it and its classes name none of IPv6, what is promised of packets with
+/// values on the six other axes alone is promised of all.
+pub fn documents_name_axes()
+    ensures names { (named : Axis → Bool) (network : documents.Network)
+        → DocumentNamesOnly named network → axes.NamesOnly named (tables.net_of network) }
+    ensures once { (network : documents.Network) (classes : List traffic.Class)
+        → DocumentNamesOnly axes.is_of_six network
+        → axes.ClassesNameOnly axes.is_of_six classes
+        → (ExactlyOnceOf axes.HasSixValues (tables.net_of network) classes
+        ↔ ExactlyOnce (tables.net_of network) classes) }
+    ensures modulo { (network : documents.Network) (classes : List traffic.Class)
+        → DocumentNamesOnly axes.is_of_six network
+        → axes.ClassesNameOnly axes.is_of_six classes
+        → (OnceModuloOf axes.HasSixValues (tables.net_of network) classes
+        ↔ OnceModulo (tables.net_of network) classes) }
+{}

@@ -27,7 +27,7 @@ mod refuse;
 mod report;
 mod required_list;
 
-pub use laws::plans_have_complete_runs;
+pub use laws::{documents_name_axes, plans_have_complete_runs};
 pub use link::Link;
 pub use link_table::Links;
 pub use network::{Network, read_network};
