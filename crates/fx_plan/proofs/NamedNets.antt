@@ -1,26 +1,23 @@
 -- The net of a network document that names only some axes names only these.
-use Rattle.std.proofs.Common.{◌≡◌, ℕ, zero, suc, Bool, true, false, List, [], ◌∷◌, ◌++◌, map, get_or, length, All, Option, Some, None, IfSome, option_and_then, refl, sym, ap, ◌∙◌, arith, eq-eqb, if◌then◌else◌}
+use Rattle.std.proofs.Common.{◌≡◌, ℕ, Bool, true, false, List, [], ◌∷◌, map, get_or, All, Some, None, IfSome, option_and_then, refl, ap, ◌∙◌, eq-eqb, if◌then◌else◌}
 use Rattle.std.specs.List.{flat_map, fold}
 use Rattle.std.specs.Str.{bytes_eq}
 use Rattle.std.proofs.lemmas.List.{get_or-set_other}
 use Rattle.std.proofs.lemmas.List.Elements.{All-map, All-append}
 use Rattle.fx_elements.specs.declared.axis.Axis.{Axis}
-use Rattle.fx_elements.specs.Axes.{field, axis_index, tops}
+use Rattle.fx_elements.specs.Axes.{axis_index}
 use Rattle.fx_elements.proofs.EveryAxis.{axis_is, value_at}
 use Rattle.fx_boxes.specs.Boxes.{Bounds}
-use Rattle.fx_config.specs.declared.aggregation.Aggregation.{Aggregation}
-use Rattle.fx_config.specs.declared.cache.Cache.{Cache}
 use Rattle.fx_config.specs.declared.collecting_process.CollectingProcess.{CollectingProcess}
-use Rattle.fx_config.specs.declared.ipfix.Device.{Device as Configured}
 use Rattle.fx_config.specs.declared.observation_point.ObservationPoint.{ObservationPoint}
 use Rattle.fx_config.specs.declared.property_match.PropertyMatch.{PropertyMatch}
 use Rattle.fx_config.specs.declared.selection_process.SelectionProcess.{SelectionProcess}
 use Rattle.fx_config.specs.declared.selector.Method.{Method}
 use Rattle.fx_config.specs.declared.selector.Method.TheVariants.{SelectAll, FilterMatch}
 use Rattle.fx_config.specs.declared.selector.Selector.{Selector}
-use Rattle.fx_selectors.specs.Selection.{everything, narrowed, narrowed_by, has_room, region_within, region_of}
+use Rattle.fx_selectors.specs.Selection.{everything, narrowed_by, has_room, region_within, region_of}
 use Rattle.fx_machine.specs.declared.observation.Selection.{Selection}
-use Rattle.fx_machine.specs.Network.{Device, Holder, Point}
+use Rattle.fx_machine.specs.Network.{Device, Holder}
 use Rattle.fx_machine.specs.NamedAxes.{LayoutNamesOnly, RegionNamesOnly, PointNamesOnly, NamesOnly}
 use Rattle.fx_machine.proofs.AlikePackets.{all_head, all_tail}
 use Rattle.fx_machine.proofs.AlikeClaims.{all_nil}

@@ -1,5 +1,5 @@
 -- Network documents that name only some axes.
-use Rattle.std.specs.Prelude.{◌≡◌, ⊤, Bool, true, List, All}
+use Rattle.std.specs.Prelude.{◌≡◌, ⊤, Bool, true, All}
 use Rattle.fx_elements.specs.declared.axis.Axis.{Axis}
 use Rattle.fx_config.specs.declared.aggregation.Aggregation.{Aggregation}
 use Rattle.fx_config.specs.declared.cache.Cache.{Cache}

@@ -1,6 +1,6 @@
 //! Ranks of collecting processes, their order, and the numbers of layouts.
 use fx_base::Fault;
-use fx_plan::{Plan, plans_have_complete_runs, read_plan};
+use fx_plan::{Plan, documents_name_axes, plans_have_complete_runs, read_plan};
 use serde_json::Value;
 use std::alloc::{AllocError, Global};
 use std::test::Fail;
@@ -21,6 +21,7 @@ fn outcome(alloc: Global, text: &str) -> Result<String, Fail> {
     match read(alloc, text)? {
         Ok(plan) => {
             plans_have_complete_runs(&plan);
+            documents_name_axes();
             Ok(format!(in alloc; "{:?}", plan.ranked())?)
         }
         Err(Fault { number, place }) => Ok(format!(in alloc; "{number} {place}")?),
