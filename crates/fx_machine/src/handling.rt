@@ -11,6 +11,7 @@ use crate::holder::Holder;
 use crate::holding::Holding;
 use crate::lookup::{entry_at, layout_at};
 use crate::net::Net;
+use crate::process::Process;
 use fx_layout::Key;
 use std::alloc::{AllocError, Global};
 
@@ -97,4 +98,20 @@ pub fn handling_at<'a>(
         exporters: process.exporters(),
         holdings,
     })
+}
+
+impl Net {
+    /// The aggregations of a collecting process that take in a record with this key, each with the key that the record
+    /// has there, in the order of the process (RFC 7015). Fails for want of memory alone.
+    pub fn takers(
+        &self,
+        alloc: Global,
+        process: &Process,
+        key: &Key,
+    ) -> Result<Vec<Holding>, AllocError>
+        ensures { IfOk result (λ holdings. holdings.items
+            ≡ handling.aggregated self.now.holders key.now process.now.aggregations) }
+    {
+        taken(alloc, self.holders(), key, process.aggregations())
+    }
 }

@@ -33,6 +33,7 @@ pub use aggregation::{Aggregation, MatchEntry};
 pub use device::Device;
 pub use exporter::Exporter;
 pub use holder::Holder;
+pub use holding::Holding;
 pub use laws::{
     choices_are_free, complete_runs_exist, run_lines_have_one_text, six_axes_suffice,
     unnamed_axes_mean_nothing,
@@ -46,6 +47,7 @@ pub use run::Run;
 pub use run_line::{RunLine, read_run_line};
 pub use run_put::{put_packet_line, put_step_line};
 pub use run_reading::{read_run, run_texts};
+pub use run_words::{Words, is_word};
 pub use state::State;
 pub use step::{Choices, HolderName, Step};
 pub use text_version::TextVersion;

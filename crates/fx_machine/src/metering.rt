@@ -152,4 +152,19 @@ impl Net {
         let points = points_of(self.devices(), crossing.device);
         met_at(alloc, points, crossing, fields)
     }
+
+    /// The caches that meter a packet with these fields at a crossing, each with the key that the packet has there, in
+    /// the order of [`Net::occurrences`]. Fails for want of memory alone.
+    pub fn met(
+        &self,
+        alloc: Global,
+        crossing: &Crossing,
+        fields: &Fields,
+    ) -> Result<Vec<Holding>, AllocError>
+        ensures { IfOk result (λ holdings. holdings.items
+            ≡ holds.met_holdings self.now.holders fields.now (met.occurrences self.now crossing.now fields.now)) }
+    {
+        let found = self.occurrences(alloc, crossing, fields)?;
+        met_holdings(alloc, self.holders(), found.as_slice(), fields)
+    }
 }

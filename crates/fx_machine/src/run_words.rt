@@ -1,4 +1,4 @@
-//! The words of a line of a run's text.
+//! The words of a line.
 ghost use Rattle.std.specs.Prelude.{◌≡◌, ◌≤◌, slice_index, IfSome, option_map};
 ghost use Rattle.std.specs.Str.{bytes_eq};
 ghost use Rattle.fx_elements.specs.Axes.{axis_index, tops};
@@ -10,7 +10,7 @@ use std::marker::Model;
 
 /// The words of a line that are still to be read. One space stands between two of them.
 #[derive(Drop)]
-pub(crate) struct Words<'a> {
+pub struct Words<'a> {
     rest: Option<&'a [u8]>,
 }
 
@@ -25,14 +25,14 @@ impl<'a> Model for Words<'a> {
 
 impl<'a> Words<'a> {
     /// The words of a line.
-    pub(crate) fn new(line: &'a [u8]) -> Words<'a>
+    pub fn new(line: &'a [u8]) -> Words<'a>
         ensures { result ≡ words line.now }
     {
         Words { rest: Some(line) }
     }
 
     /// The first word, and the words behind it.
-    pub(crate) fn word(self) -> Option<(&'a [u8], Words<'a>)>
+    pub fn word(self) -> Option<(&'a [u8], Words<'a>)>
         ensures { option_map (λ p. (p.0.now, p.1)) result ≡ first_word self.entry }
     {
         let text = self.rest?;
@@ -43,7 +43,7 @@ impl<'a> Words<'a> {
     }
 
     /// The number in the first word, below 2 to the 64, and the words behind it.
-    pub(crate) fn number(self) -> Option<(u64, Words<'a>)>
+    pub fn number(self) -> Option<(u64, Words<'a>)>
         ensures { result ≡ number_first self.entry }
     {
         let (word, rest) = self.word()?;
@@ -52,7 +52,7 @@ impl<'a> Words<'a> {
     }
 
     /// The value on the axis whose written form the first word is, and the words behind it.
-    pub(crate) fn value(self, axis: Axis) -> Option<(u128, Words<'a>)>
+    pub fn value(self, axis: Axis) -> Option<(u128, Words<'a>)>
         ensures value { result ≡ value_first axis self.entry }
         ensures bound { IfSome result (λ p. p.0 ≤ slice_index tops (axis_index axis)) }
     {
@@ -62,7 +62,7 @@ impl<'a> Words<'a> {
     }
 
     /// Whether no word is left.
-    pub(crate) fn is_empty(self) -> bool
+    pub fn is_empty(self) -> bool
         ensures { result ≡ none_left self.entry }
     {
         self.rest.is_none()
@@ -77,7 +77,7 @@ pub(crate) fn read_whole(word: &[u8]) -> Option<u64>
 }
 
 /// Whether two words are the same.
-pub(crate) fn is_word(word: &[u8], other: &[u8]) -> bool
+pub fn is_word(word: &[u8], other: &[u8]) -> bool
     ensures { result ≡ bytes_eq word.now other.now }
 {
     word == other

@@ -1,8 +1,9 @@
 //! Classes of packets and their paths.
 ghost use Rattle.std.specs.Prelude.{◌≡◌};
+ghost use Rattle.fx_boxes.specs.Boxes.{holds};
 
 use fx_base::Name;
-use fx_boxes::Region;
+use fx_boxes::{Fields, Region};
 use std::marker::Model;
 
 /// A packet crosses an interface of a device.
@@ -82,6 +83,13 @@ impl Class {
         ensures { result ≡ self.now.region }
     {
         self.region
+    }
+
+    /// Whether its packets may have these fields.
+    pub fn holds(&self, fields: &Fields) -> bool
+        ensures { result ≡ holds self.now.region fields.now }
+    {
+        self.region.holds(fields)
     }
 
     /// The paths that its packets may take.

@@ -146,6 +146,12 @@ pub record Refuses (old new : Reading) (e : Fault) : Type 0 where
   pub again : IfSome old.stopped (λ f. e ≡ f)
   pub first : old.stopped ≡ None → Stops old new e
 
+-- what a reader of a capture answers where it fails: 901, or 703 or 704 at an octet
+pub data IsTold (e : Fault) : Type 0 where
+  not_read : e ≡ fault_at 901 places.None → IsTold e
+  cut_off : (octet : ℕ) → e ≡ fault_at 703 (places.Octet octet) → IsTold e
+  too_long : (octet : ℕ) → e ≡ fault_at 704 (places.Octet octet) → IsTold e
+
 -- what going on to the next frame does
 abbrev pub Advances : Reading → Reading → Result Bool Fault → Type 0
 Advances old new (Ok true) = AtFrame old new

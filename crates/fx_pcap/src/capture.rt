@@ -1,5 +1,6 @@
 //! The frames of a capture, one at a time.
 ghost use Rattle.std.specs.Prelude.{◌≡◌, None, IfOk, IfErr};
+ghost use Rattle.fx_pcap.specs.Captures.{IsTold};
 ghost use Rattle.fx_pcap.specs.Kept.{fault_of};
 
 use crate::content::{Content, read_content};
@@ -25,7 +26,8 @@ pub(crate) enum Taken {
 
 /// What a reader at that place answers once it has stopped.
 fn fault_of_stop(place: u64, stop: Stop) -> Fault
-    ensures { result ≡ fault_of place stop }
+    ensures value { result ≡ fault_of place stop }
+    ensures told { IsTold result }
 {
     match stop {
         Stop::Device => Fault::bare(901),
@@ -146,7 +148,9 @@ impl<R: Source> Capture<R> {
     /// calls, with 703 where the capture ends inside a record and with 704 where a record has more
     /// than 262,144 captured octets, both at the record's first octet.
     pub fn advance(&mut self) -> Result<bool, Fault>
-        ensures { Advances self.old self.new result }
+        ensures advances { Advances self.old self.new result }
+        // Whatever the source tells.
+        ensures told { IfErr result IsTold }
     {
         if let Some(stop) = self.stopped {
             return Err(fault_of_stop(self.place, stop));

@@ -13,3 +13,4 @@ pub mod Ranks
 pub mod Layouts
 pub mod Cycles
 pub mod Plans
+pub mod ExporterPlaces

@@ -3,6 +3,7 @@
 
 mod cycle;
 mod ends;
+mod exporter_place;
 mod exporters;
 mod feeders;
 mod holders;

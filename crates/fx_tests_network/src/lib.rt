@@ -26,4 +26,6 @@ mod session_addresses;
 #[cfg(test)]
 mod session_hostile;
 #[cfg(test)]
+mod words;
+#[cfg(test)]
 mod wrong_runs;

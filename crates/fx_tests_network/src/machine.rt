@@ -3,9 +3,11 @@ use crate::meters::{into, meter};
 use crate::parts::{by_source, collector, exporter, holder, process};
 use fx_base::Fault;
 use fx_boxes::{Fields, Region};
+use fx_elements::Axis;
 use fx_machine::{
-    Choices, Class, Classes, Device, HolderName, Net, Packet, Path, State, Step, choices_are_free,
-    complete_runs_exist, six_axes_suffice, unnamed_axes_mean_nothing,
+    Aggregation, Choices, Class, Classes, Device, HolderName, MatchEntry, Net, Packet, Path,
+    Process, State, Step, choices_are_free, complete_runs_exist, six_axes_suffice,
+    unnamed_axes_mean_nothing,
 };
 use std::alloc::Global;
 use std::test::Fail;
@@ -213,5 +215,47 @@ fn looks_up_and_runs_and_refuses_packets_of_no_class(rt: HostRuntime) -> Result<
     let net = net(rt.alloc())?;
     let found = is_looked_up(&net) && is_watched(&net, &classes) && is_followed(&classes)?;
     assert!(rt; found && is_exempt(&classes, rt.alloc())? && runs(&net, &classes, rt.alloc())?);
+    Ok(())
+}
+
+/// Whether a packet of the class is met by the meter's cache alone, under its source.
+fn is_met(net: &Net, classes: &Classes, alloc: Global) -> Result<bool, Fail> {
+    let packet = packet(1, 1)?;
+    let ([class], [crossing]) = (classes.as_slice(), classes.path_of(&packet)) else {
+        return Ok(false);
+    };
+    let met = net.met(alloc, crossing, &packet.fields)?;
+    let [holding] = met.as_slice() else {
+        return Ok(false);
+    };
+    Ok(
+        class.holds(&packet.fields)
+            && holding.holder == 0
+            && holding.key.values() == [0x0a00_0001u128].as_slice(),
+    )
+}
+
+/// How many aggregations of a process take in a record from this source: its one takes in those of 10.0.0.0/8.
+fn takers(net: &Net, alloc: Global, source: u128) -> Result<usize, Fail> {
+    let entry = MatchEntry {
+        axis: Axis::Source,
+        bits: 8,
+        value: 10,
+    };
+    let aggregation = Aggregation::new(0, vec![in alloc; entry]?);
+    let process = Process::new(Vec::new(alloc), vec![in alloc; aggregation]?);
+    let fields = Fields::new([source, 0, 0, 0, 0, 0, 4, 0, 0]).ok_or("no fields")?;
+    let key = by_source(32)?.key_of(&fields);
+    Ok(net.takers(alloc, &process, &key)?.len())
+}
+
+#[test]
+fn meters_and_aggregates_what_is_theirs(rt: HostRuntime) -> Result<(), Fail> {
+    let classes = classes(rt.alloc())?;
+    let net = net(rt.alloc())?;
+    let taken = takers(&net, rt.alloc(), 0x0aff_ffff)? == 1;
+    assert!(rt;
+        is_met(&net, &classes, rt.alloc())? && taken && takers(&net, rt.alloc(), 0x0b00_0000)? == 0
+    );
     Ok(())
 }
