@@ -34,6 +34,8 @@ mod plan;
 #[cfg(test)]
 mod refute;
 #[cfg(test)]
+mod running;
+#[cfg(test)]
 mod selectors;
 #[cfg(test)]
 mod traffic;

@@ -75,6 +75,11 @@ fn orders_by_falling_rank(rt: HostRuntime) -> Result<(), Fail> {
     let text = linked(rt.alloc(), &[("c2", "c1")])?;
     let plan = plan_of(rt.alloc(), text.as_str())?;
     assert!(rt; plan.rank(0) == Some(1) && plan.order() == [2, 0, 1].as_slice());
+    let (third, fourth) = (
+        plan.exporter_place(rt.alloc(), 3, 1)?,
+        plan.exporter_place(rt.alloc(), 4, 1)?,
+    );
+    assert!(rt; third == Some(2) && fourth.is_none());
     Ok(())
 }
 

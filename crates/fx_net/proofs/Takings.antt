@@ -1,0 +1,78 @@
+-- Stores that take in what comes to them.
+use Rattle.std.proofs.Common.{◌≡◌, ℕ, ◌<◌, ◌≤◌, List, [], ◌∷◌, ◌++◌, length, set, get_or, Option, Some, None, option_map, refl, sym, ap, ◌∙◌, append-nil}
+use Rattle.std.specs.Prelude.{option_and_then}
+use Rattle.fx_base.specs.declared.counts.Counts.{Counts}
+use Rattle.fx_machine.specs.declared.holding.Holding.{Holding}
+use Rattle.fx_machine.specs.Network.{Net}
+use Rattle.fx_store.specs.Flows.{Entry}
+use Rattle.fx_net.specs.declared.leaving.Leaver.{Leaver}
+use Rattle.fx_net.specs.Stores.{Stored, with_counts, makes_room}
+use Rattle.fx_net.specs.Contents.{Contents}
+use Rattle.fx_layout.specs.Keys.{Key}
+use Rattle.fx_net.specs.Leaving.{leaver, after_leave, after_leaves}
+use Rattle.fx_net.specs.Taking.{Adding, left_by, with_holding, adding, all_leave_at_once, with_stores, after_taking}
+use Rattle.fx_net.proofs.Changing.{changed_past, changed_same, changed_set, stored_is, stored_past, set_same}
+
+adding_is : (stores stores2 : List (Option Stored)) (left left2 : List Leaver) → stores ≡ stores2 → left ≡ left2 → ◌≡◌ {A = Adding} (record { stores = stores; left = left }) (record { stores = stores2; left = left2 })
+adding_is stores stores2 left left2 e f =
+    ap (λ (x : List (Option Stored)). ◌of◌ x left) e ∙ ap (λ (y : List Leaver). ◌of◌ stores2 y) f
+  where
+    ◌of◌ : List (Option Stored) → List Leaver → Adding
+    ◌of◌ x y = record { stores = x; left = y }
+
+room : Counts → Holding → Option Stored → List Leaver
+room counts h stored = left_by h.holder (option_and_then (λ s. makes_room s h.key counts) stored)
+
+-- the holder isn't there
+pub holding_past : (counts : Counts) (h : Holding) (stores : List (Option Stored)) (left : List Leaver) → length stores ≤ h.holder
+    → ◌≡◌ {A = Adding} (record { stores = stores; left = left }) (with_holding counts h (record { stores = stores; left = left }))
+unfolding room
+holding_past counts h stores left le =
+    adding_is _ _ _ _ (sym (changed_past _ stores h.holder le))
+    (sym (append-nil left) ∙ ap (λ (s : Option Stored). left ++ room counts h s) (sym (stored_past stores h.holder le)))
+
+-- it is an immediate cache
+pub holding_none : (counts : Counts) (h : Holding) (stores : List (Option Stored)) (left : List Leaver) (x : Option Stored) → h.holder < length stores → x ≡ get_or stores h.holder x → x ≡ None
+    → ◌≡◌ {A = Adding} (record { stores = set stores h.holder x; left = left }) (with_holding counts h (record { stores = stores; left = left }))
+unfolding room
+holding_none counts h stores left x lt e none =
+    let f = option_map (λ (s : Stored). with_counts s h.key counts) in
+    let is : get_or stores h.holder x ≡ x = sym e in
+    let same : f (get_or stores h.holder x) ≡ get_or stores h.holder x = ap f (is ∙ none) ∙ sym (is ∙ none) in
+    adding_is _ _ _ _ (set_same stores h.holder x lt e ∙ sym (changed_same f stores h.holder x lt same))
+    (sym (append-nil left) ∙ ap (λ (s : Option Stored). left ++ room counts h s) (sym (stored_is stores h.holder x lt e ∙ none)))
+
+-- it has a store
+pub holding_some : (counts : Counts) (h : Holding) (stores : List (Option Stored)) (left : List Leaver) (old new : Stored) (result : Option Entry) → h.holder < length stores → Some old ≡ get_or stores h.holder (Some old)
+    → new ≡ with_counts old h.key counts → result ≡ makes_room old h.key counts
+    → ◌≡◌ {A = Adding} (record { stores = set stores h.holder (Some new); left = left ++ left_by h.holder result }) (with_holding counts h (record { stores = stores; left = left }))
+unfolding room
+holding_some counts h stores left old new result lt e is leaves =
+    let f = option_map (λ (s : Stored). with_counts s h.key counts) in
+    adding_is _ _ _ _ (changed_set f stores h.holder (Some old) (Some new) lt (ap Some is ∙ ap f e))
+    (ap (λ (r : Option Entry). left ++ left_by h.holder r) leaves ∙ ap (λ (s : Option Stored). left ++ room counts h s) (sym (stored_is stores h.holder (Some old) lt e)))
+
+-- ---- what leaves
+
+stores_stay : (net : Net) (ls : List Leaver) (c : Contents) → (after_leaves net ls c).stores ≡ c.stores
+stores_stay net [] c = refl
+stores_stay net (l ∷ ls) c = stores_stay net ls (after_leave net l c)
+
+pub taken_in_is : (net : Net) (counts : Counts) (hs : List Holding) (c mid : Contents) (stores : List (Option Stored)) (left : List Leaver)
+    → ◌≡◌ {A = Adding} (record { stores = stores; left = left }) (adding c.stores counts hs)
+    → mid ≡ after_leaves net left (with_stores c stores)
+    → after_leaves net (all_leave_at_once mid.stores counts hs) mid ≡ after_taking net counts hs c
+taken_in_is net counts hs c mid stores left e f =
+    ap (λ (m : Contents). after_leaves net (all_leave_at_once m.stores counts hs) m) f
+    ∙ ap (λ (ss : List (Option Stored)). after_leaves net (all_leave_at_once ss counts hs) (after_leaves net left (with_stores c stores))) (stores_stay net left (with_stores c stores))
+    ∙ ap (λ (a : Adding). after_leaves net (all_leave_at_once a.stores counts hs) (after_leaves net a.left (with_stores c a.stores))) e
+
+-- ---- what leaves to make room comes last
+
+pub none_more : (stores : List (Option Stored)) (n : ℕ) (new : Stored) (left : List Leaver) (result : Option Entry) → result ≡ None
+    → ◌≡◌ {A = Adding} (record { stores = set stores n (Some new); left = left }) (record { stores = set stores n (Some new); left = left ++ left_by n result })
+none_more stores n new left result e = adding_is _ _ _ _ refl (sym (append-nil left) ∙ ap (λ (r : Option Entry). left ++ left_by n r) (sym e))
+
+pub one_more : (stores : List (Option Stored)) (n : ℕ) (new : Stored) (left more : List Leaver) (result : Option Entry) (key : Key) (counts : Counts) → result ≡ Some (key, counts) → more ≡ left ++ leaver n (key, counts) ∷ []
+    → ◌≡◌ {A = Adding} (record { stores = set stores n (Some new); left = more }) (record { stores = set stores n (Some new); left = left ++ left_by n result })
+one_more stores n new left more result key counts e f = adding_is _ _ _ _ refl (f ∙ ap (λ (r : Option Entry). left ++ left_by n r) (sym e))

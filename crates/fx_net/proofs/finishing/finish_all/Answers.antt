@@ -1,0 +1,30 @@
+use Rattle.std.proofs.Common.{◌≡◌, ◌∙◌, ◌+◌, ◌<◌, ◌≤◌, ap, subst, arith, set, get_or, length, List}
+use Rattle.fx_link.specs.Ongoing.{Ongoing, after_finish, to_put}
+use Rattle.fx_link.specs.Links.{Puts}
+use Rattle.fx_net.proofs.Changing.{mapped_all, mapped_at, mapped_more}
+use Rattle.fx_net.proofs.PuttingOut.{puts_more}
+use Rattle.fx_net.proofs.finishing.finish_all.Goals as goal
+
+pub loop-place-preserved : goal.loop-place-preserved
+loop-place-preserved g c =
+    let f = after_finish c.args.time in
+    let old = c.args.lines.now.items in
+    let n = c.loop-place.place in
+    let line = c.index_mut-line.result.now in
+    let lines_is = c.loop-place.invariant.lines in
+    let line_is : line ≡ get_or old n line = c.index_mut-line.ensures.value ∙ ap (λ (xs : List Ongoing). get_or xs n line) lines_is ∙ mapped_at f n old line in
+    let there : n < length old = omega (arith, c.loop-place-test.true, c.len-place-end.ensures) in
+    let before = g.L.Links.put_on c.args.links.now in
+    let mid = g.L.Links.put_on c.loop-place.links in
+    let after = g.L.Links.put_on c.finish.new.links in
+    record {
+      lines = ap (λ (xs : List Ongoing). set xs n c.finish.new.self) lines_is ∙ mapped_more f n old line c.finish.new.self there (c.in_ok-finish.ensures.ok ∙ ap f line_is);
+      put = puts_more before mid after c.args.time n old line there c.loop-place.invariant.put (subst (λ (o : Ongoing). Puts mid after (n + 1) (to_put c.args.time o)) line_is c.in_ok-finish.ensures.put);
+      going = λ h. c.in_ok-finish.ensures.going (c.loop-place.invariant.going h);
+    }
+
+pub returns-clause-ok : goal.returns-clause-ok
+returns-clause-ok g c =
+    let old = c.args.lines.now.items in
+    let all : length old ≤ c.loop-place.place = omega (arith, c.loop-place-test.false, c.len-place-end.ensures) in
+    c.loop-place.invariant.lines ∙ mapped_all (after_finish c.args.time) c.loop-place.place old all

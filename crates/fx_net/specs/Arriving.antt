@@ -1,0 +1,78 @@
+-- Records that arrive at collecting processes.
+use Rattle.std.specs.Prelude.{◌≡◌, ℕ, ◌==◌, Bool, false, List, [], ◌∷◌, length, option_map, Option, Some, None, slice_get, if◌then◌else◌}
+use Rattle.fx_layout.specs.Keys.{Key}
+use Rattle.fx_machine.specs.declared.holding.Holding.{Holding}
+use Rattle.fx_machine.specs.declared.record.Record.{Record}
+use Rattle.fx_machine.specs.Network.{Net, Process, process_at, aggregations_of}
+use Rattle.fx_machine.specs.Handling.{aggregated}
+use Rattle.fx_link.specs.Ongoing.{Ongoing, after_carry}
+use Rattle.fx_collect.specs.Totals.{with_record}
+use Rattle.fx_net.specs.Contents.{Contents, changed}
+use Rattle.fx_net.specs.Exporting.{after_send}
+use Rattle.fx_net.specs.Taking.{after_taking}
+
+-- the collecting process to which a link leads
+abbrev pub process_behind : Net → ℕ → Option Process
+process_behind net link = process_at net.processes (slice_get net.links link)
+
+-- whether it is the one that tallies
+abbrev pub leads_to_report : Net → Option ℕ → Bool
+leads_to_report net None = false
+leads_to_report net (Some process) = process == net.report
+
+abbrev pub exporters_named : Option Process → List ℕ
+exporters_named None = []
+exporters_named (Some process) = process.exporters
+
+-- the aggregations that take a record with this key in
+abbrev pub takers : Net → ℕ → Key → List Holding
+takers net link key = aggregated net.holders key (aggregations_of (process_behind net link))
+
+-- at the report it is tallied
+abbrev pub after_tally : Net → ℕ → Record → Contents → Contents
+after_tally net link r c =
+    if leads_to_report net (slice_get net.links link) then record c { totals = with_record c.totals r } else c
+
+-- it is tallied, sent on and taken in
+abbrev pub after_arrive : Net → ℕ → Record → Contents → Contents
+after_arrive net link r c =
+    after_taking net r.counts (takers net link r.key) (after_send net (exporters_named (process_behind net link)) r (after_tally net link r c))
+
+abbrev pub after_arrivals : Net → ℕ → List Record → Contents → Contents
+after_arrivals net link [] c = c
+after_arrivals net link (r ∷ rs) c = after_arrivals net link rs (after_arrive net link r c)
+
+-- the records that the receiver of a link has read and that weren't handled yet
+abbrev pub waiting_on : Option Ongoing → List Record
+waiting_on None = []
+waiting_on (Some o) = o.receiver.known.waiting
+
+-- these still wait
+abbrev pub with_left : List Record → Ongoing → Ongoing
+with_left rs o = record o { receiver = record o.receiver { known = record o.receiver.known { waiting = rs } } }
+
+-- all of them are handled
+abbrev pub after_handling : Net → ℕ → Contents → Contents
+after_handling net link c =
+    after_arrivals net link (waiting_on (slice_get c.links link)) (record c { links = changed (with_left []) c.links link })
+
+-- so many octets of a link reach its end, and every record that they complete is handled
+abbrev pub after_carrying : Net → ℕ → ℕ → Contents → Contents
+after_carrying net link n c = after_handling net link (record c { links = changed (after_carry n) c.links link })
+
+-- ---- what the links are seen as
+
+-- the first record that waits on a link leaves, if there is one
+abbrev pub IsNext : ℕ → List Ongoing → List Ongoing → Option Record → Type 0
+IsNext link old new None = (new ≡ old) × (waiting_on (slice_get old link) ≡ [])
+IsNext link old new (Some r) =
+    (rs : List Record) × (waiting_on (slice_get old link) ≡ r ∷ rs) × (new ≡ changed (with_left rs) old link)
+
+-- how many octets wait to be carried on a link, if it is there
+abbrev pub queued_at : List Ongoing → ℕ → Option ℕ
+queued_at links link = option_map (λ (o : Ongoing). length o.queue) (slice_get links link)
+
+-- and else none
+abbrev pub queued_on : Option Ongoing → ℕ
+queued_on None = 0
+queued_on (Some o) = length o.queue

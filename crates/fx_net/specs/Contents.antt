@@ -1,0 +1,47 @@
+-- What a running network holds.
+use Rattle.std.specs.Prelude.{ℕ, zero, suc, Bool, true, false, List, [], ◌∷◌, Option, Some, None, slice_get}
+use Rattle.std.specs.Option.{unwrap_or}
+use Rattle.fx_store.specs.Flows.{Flows, flows_of}
+use Rattle.fx_link.specs.Ongoing.{Ongoing}
+use Rattle.fx_collect.specs.Totals.{Totals}
+use Rattle.fx_net.specs.Stores.{Stored, flows_in}
+
+pub record Contents : Type 0 where
+  -- the store of each cache and of each aggregation; an immediate cache has none
+  pub stores : List (Option Stored)
+  -- each link
+  pub links : List Ongoing
+  -- for each exporting process the number of the destination that it uses
+  pub chosen : List ℕ
+  pub totals : Totals
+  -- the second of the last packet that was read, else 0
+  pub second : ℕ
+
+-- ---- places
+
+-- the list with another entry at this place
+abbrev pub changed : {A : Type 0} → (A → A) → List A → ℕ → List A
+changed f [] n = []
+changed f (x ∷ xs) zero = f x ∷ xs
+changed f (x ∷ xs) (suc n) = x ∷ changed f xs n
+
+-- what may stand at this place
+abbrev pub joined : {A : Type 0} → Option (Option A) → Option A
+joined None = None
+joined (Some x) = x
+
+abbrev pub stored_at : List (Option Stored) → ℕ → Option Stored
+stored_at stores place = joined (slice_get stores place)
+
+-- an immediate cache holds nothing
+abbrev pub flows_held : Option Stored → Flows
+flows_held None = flows_of []
+flows_held (Some stored) = flows_in stored
+
+abbrev pub is_immediate : Option Stored → Bool
+is_immediate None = true
+is_immediate (Some stored) = false
+
+-- the number of the destination that the exporting process at this place uses
+abbrev pub number_in_use : List ℕ → ℕ → ℕ
+number_in_use chosen place = unwrap_or (slice_get chosen place) 0

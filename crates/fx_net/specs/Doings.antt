@@ -1,0 +1,165 @@
+-- What a running network does, one thing after another.
+use Rattle.std.specs.Prelude.{◌≡◌, ◌≢◌, ℕ, zero, suc, ◌==◌, ◌≤◌, ◌<◌, Bool, true, false, List, [], ◌∷◌, map, filter, length, position, slice_get, Option, Some, None, IsSome}
+use Rattle.std.specs.List.{flat_map, range_with_len}
+use Rattle.fx_boxes.specs.Boxes.{holds}
+use Rattle.fx_machine.specs.declared.packet.Packet.{Packet}
+use Rattle.fx_machine.specs.declared.step.HolderName.{HolderName}
+use Rattle.fx_machine.specs.declared.step.HolderName.TheVariants as holder
+use Rattle.fx_machine.specs.Network.{Net, Device, Exporter, Process, Aggregation, numbered, holder_place}
+use Rattle.fx_machine.specs.Classes.{Class, path}
+use Rattle.fx_machine.specs.Steps.{one_packet}
+use Rattle.fx_link.specs.Links.{Put}
+use Rattle.fx_pcap.specs.Captures.{Seen}
+use Rattle.fx_plan.specs.declared.network.Network.{Network}
+use Rattle.fx_plan.specs.Tables.{net_of}
+use Rattle.fx_plan.specs.ExporterPlaces.{exporter_place}
+use Rattle.fx_net.specs.declared.action.Action.{Action}
+use Rattle.fx_net.specs.declared.action.Action.TheVariants as action
+use Rattle.fx_net.specs.Contents.{Contents, changed}
+use Rattle.fx_net.specs.Leaving.{least_at, after_least, after_emptying}
+use Rattle.fx_net.specs.Metering.{after_path}
+use Rattle.fx_net.specs.Arriving.{after_carrying, queued_on}
+use Rattle.fx_net.specs.Finishing.{after_finishing, PutsAll}
+
+-- ---- what is done
+
+-- what the network holds before, and once something is done whose records still wait on links
+abbrev pub Making : Type 1
+Making = Contents → Contents → Type 0
+
+-- between two times at which nothing is on its way: what was put out, and what the network holds
+abbrev pub Doing : Type 1
+Doing = Put → Contents → Put → Contents → Type 0
+
+-- something is done, and what it put on links is put out
+pub record Ended (makes : Making) (before : Put) (old : Contents) (after : Put) (new : Contents) : Type 0 where
+  pub done : Contents
+  pub made : makes old done
+  pub put : PutsAll before after done.second done.links
+  pub new_is : new ≡ after_finishing done
+
+-- ---- a packet is read
+
+-- the packet of a frame
+pub record IsFrame (packet : Packet) (frame : Seen) : Type 0 where
+  pub fields : packet.fields ≡ frame.fields
+  pub octets : packet.octets ≡ frame.octets
+
+-- the class and the path that a line gives a packet: the first class whose region holds it, and path 1, where it names none
+abbrev pub IsGiven : List Class → Action → Packet → Type 0
+IsGiven classes action.Next p =
+    (k : ℕ) × (position (λ (c : Class). holds c.region p.fields) classes ≡ Some k) × (p.class ≡ suc k) × (p.path ≡ 1)
+IsGiven classes (action.NextOf class path) p =
+    (c : Class) × (numbered classes class ≡ Some c) × (holds c.region p.fields ≡ true) × (p.class ≡ class) × (p.path ≡ path) × (numbered c.paths path ≢ None)
+IsGiven classes _ p = ⊥
+
+-- a packet of this second makes all of its crossings
+abbrev pub after_packet : Net → List Class → Packet → ℕ → Contents → Contents
+after_packet net classes p second c =
+    after_path net p.fields (one_packet p) (path classes p) (record c { second = second })
+
+-- the packet of a frame is read
+pub record Reads (net : Net) (classes : List Class) (line : Action) (frame : Seen) (old done : Contents) : Type 0 where
+  pub packet : Packet
+  pub is_frame : IsFrame packet frame
+  pub given : IsGiven classes line packet
+  pub done_is : done ≡ after_packet net classes packet frame.second old
+
+-- ---- records leave a holder, and octets are carried
+
+-- the record of the least key of a holder leaves
+pub record LeastLeaves (net : Net) (name : HolderName) (old done : Contents) : Type 0 where
+  pub place : ℕ
+  pub named : holder_place net name ≡ Some place
+  pub there : IsSome (least_at old place)
+  pub done_is : done ≡ after_least net place old
+
+-- all records of the holder at a place leave, the least key first
+abbrev pub Empties : Net → ℕ → Making
+Empties net place old done = done ≡ after_emptying net place old
+
+-- so many octets of the link at a place are carried
+pub record Carries (net : Net) (link n : ℕ) (old done : Contents) : Type 0 where
+  pub there : link < length old.links
+  pub enough : n ≤ queued_on (slice_get old.links link)
+  pub done_is : done ≡ after_carrying net link n old
+
+-- the link at a place is carried whole
+abbrev pub CarriesWhole : Net → ℕ → Making
+CarriesWhole net link old done = done ≡ after_carrying net link (queued_on (slice_get old.links link)) old
+
+-- ---- a line
+
+-- an exporting process sends to this destination from now on
+pub record Uses (network : Network) (device exporter destination : ℕ) (old done : Contents) : Type 0 where
+  pub place : ℕ
+  pub there : exporter_place network device exporter ≡ Some place
+  pub names : Exporter
+  pub exporter_is : slice_get (net_of network).exporters place ≡ Some names
+  pub destination_there : numbered names.destinations destination ≢ None
+  pub done_is : done ≡ record old { chosen = changed (λ (_ : ℕ). destination) old.chosen place }
+
+abbrev pub ReadsNext : Net → List Class → Action → Option Seen → Making
+ReadsNext net classes line None old done = ⊥
+ReadsNext net classes line (Some frame) old done = Reads net classes line frame old done
+
+abbrev pub CarriesOn : Net → ℕ → ℕ → Making
+CarriesOn net zero n old done = ⊥
+CarriesOn net (suc link) n old done = Carries net link n old done
+
+-- What a line does. The frame is the capture's next one, if there is one.
+abbrev pub Does : Network → List Class → Option Seen → Action → Making
+Does network classes frame action.Next = ReadsNext (net_of network) classes action.Next frame
+Does network classes frame (action.NextOf class path) = ReadsNext (net_of network) classes (action.NextOf class path) frame
+Does network classes frame (action.Expire device cache) = LeastLeaves (net_of network) (holder.Cache device cache)
+Does network classes frame (action.Emit device process aggregation) = LeastLeaves (net_of network) (holder.Aggregation device process aggregation)
+Does network classes frame (action.Carry link n) = CarriesOn (net_of network) link n
+Does network classes frame (action.Use device exporter destination) = Uses network device exporter destination
+
+-- whether a line reads a packet
+abbrev pub reads_packet : Action → Bool
+reads_packet action.Next = true
+reads_packet (action.NextOf class path) = true
+reads_packet _ = false
+
+-- ---- the closing phase
+
+abbrev pub Nothing : Doing
+Nothing before old after new = (after ≡ before) × (new ≡ old)
+
+-- one thing after another
+abbrev pub Then : Doing → Doing → Doing
+Then first second before old after new = (put : Put) × (mid : Contents) × first before old put mid × second put mid after new
+
+-- the same with each of these in turn
+abbrev pub Each : {A : Type 0} → (A → Doing) → List A → Doing
+Each do_ [] = Nothing
+Each do_ (x ∷ xs) = Then (do_ x) (Each do_ xs)
+
+-- the places of all caches, in document order
+abbrev pub caches_of_all : Net → List ℕ
+caches_of_all net = flat_map (λ (d : Device). d.caches) net.devices
+
+-- the places of the links into a process
+abbrev pub leads_to : Option ℕ → ℕ → Bool
+leads_to None process = false
+leads_to (Some to) process = to == process
+
+abbrev pub links_into : Net → ℕ → List ℕ
+links_into net process = filter (λ link. leads_to (slice_get net.links link) process) (range_with_len 0 (length net.links))
+
+abbrev pub holders_of : Option Process → List ℕ
+holders_of None = []
+holders_of (Some process) = map (λ (a : Aggregation). a.holder) process.aggregations
+
+-- the links into a process are carried whole, in order, and then its aggregations are emptied
+abbrev pub Finishes : Net → ℕ → Doing
+Finishes net process = Then (Each (λ link. Ended (CarriesWhole net link)) (links_into net process)) (Each (λ place. Ended (Empties net place)) (holders_of (slice_get net.processes process)))
+
+-- The remaining packets are read, all caches are emptied in document order, and then the collecting processes are finished in the
+-- order of their ranks.
+abbrev pub Closes : Network → List Class → List ℕ → List Seen → Doing
+Closes network classes ranked frames =
+    Then (Each (λ frame. Ended (Reads (net_of network) classes action.Next frame)) frames)
+    (Then (Each (λ place. Ended (Empties (net_of network) place)) (caches_of_all (net_of network)))
+    (Each (Finishes (net_of network)) ranked))

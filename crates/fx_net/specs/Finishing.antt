@@ -1,0 +1,20 @@
+-- What waits on links is put out.
+use Rattle.std.specs.Prelude.{ℕ, suc, List, [], map, Option, Some, None, slice_get}
+use Rattle.fx_base.specs.Device.{Writes}
+use Rattle.fx_link.specs.Links.{Put}
+use Rattle.fx_link.specs.Ongoing.{Ongoing, after_finish, to_put}
+use Rattle.fx_net.specs.Contents.{Contents}
+
+-- all that waits has its messages
+abbrev pub after_finishing : Contents → Contents
+after_finishing c = record c { links = map (after_finish c.second) c.links }
+
+-- what is put out on a link
+abbrev pub to_put_on : ℕ → Option Ongoing → List ℕ
+to_put_on time None = []
+to_put_on time (Some o) = to_put time o
+
+-- each link is given its messages; links have numbers from 1
+abbrev pub PutsAll : Put → Put → ℕ → List Ongoing → Type 0
+PutsAll before after time links =
+    (link : ℕ) → Writes (before (suc link)) (after (suc link)) (to_put_on time (slice_get links link))

@@ -1,0 +1,14 @@
+pub mod Schedule
+pub mod LineReading
+pub mod Stores
+pub mod Kinds
+pub mod Contents
+pub mod Exporting
+pub mod Leaving
+pub mod Taking
+pub mod Metering
+pub mod Arriving
+pub mod Finishing
+pub mod Opening
+pub mod Doings
+pub mod Running

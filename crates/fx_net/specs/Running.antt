@@ -1,0 +1,171 @@
+-- A running network as its calls see it.
+use Rattle.std.specs.Prelude.{◌≡◌, ◌⊎◌, ℕ, zero, suc, ◌<◌, Bool, true, false, ◌&&◌, is_some, List, [], ◌∷◌, length, slice_get, position, Option, Some, None, IfSome, Result, Err}
+use Rattle.fx_base.specs.declared.fault.Fault.{Fault}
+use Rattle.fx_base.specs.declared.fault.Place.{Place}
+use Rattle.fx_base.specs.declared.fault.Place.TheVariants as places
+use Rattle.fx_base.specs.Fault.{fault_at}
+use Rattle.fx_elements.specs.Axes.{Fields}
+use Rattle.fx_boxes.specs.Boxes.{holds}
+use Rattle.fx_machine.specs.declared.packet.Packet.{Packet}
+use Rattle.fx_machine.specs.declared.step.HolderName.{HolderName}
+use Rattle.fx_machine.specs.declared.step.HolderName.TheVariants as holder
+use Rattle.fx_machine.specs.Network.{Exporter, numbered, holder_place}
+use Rattle.fx_machine.specs.Classes.{Class}
+use Rattle.fx_link.specs.Links.{Put}
+use Rattle.fx_pcap.specs.Captures as captures
+use Rattle.fx_plan.specs.declared.network.Network.{Network}
+use Rattle.fx_plan.specs.Tables.{net_of}
+use Rattle.fx_plan.specs.ExporterPlaces.{exporter_place}
+use Rattle.fx_net.specs.declared.action.Action.{Action}
+use Rattle.fx_net.specs.declared.action.Action.TheVariants as action
+use Rattle.fx_net.specs.declared.stop.Stop.{Stop}
+use Rattle.fx_net.specs.declared.stop.Stop.TheVariants as stop
+use Rattle.fx_net.specs.Schedule.{Asks}
+use Rattle.fx_net.specs.Contents.{Contents}
+use Rattle.fx_net.specs.Leaving.{least_at}
+use Rattle.fx_net.specs.Arriving.{queued_on}
+use Rattle.fx_net.specs.Doings.{Does, Closes, Ended, reads_packet}
+
+pub record Running : Type 0 where
+  pub network : Network
+  pub classes : List Class
+  pub contents : Contents
+  -- what it answers from now on
+  pub fault : Option Fault
+
+-- ---- faults that are answered again
+
+abbrev pub fault_of : Stop → Fault
+fault_of (stop.Bare number) = fault_at number places.None
+fault_of (stop.Line number line) = fault_at number (places.Line line)
+fault_of (stop.Octet number octet) = fault_at number (places.Octet octet)
+
+-- a text isn't kept
+abbrev pub stop_at : ℕ → Place → Stop
+stop_at number places.None = stop.Bare number
+stop_at number (places.Line line) = stop.Line number line
+stop_at number (places.Octet octet) = stop.Octet number octet
+stop_at number (places.Text text) = stop.Bare number
+
+abbrev pub stop_of : Fault → Stop
+stop_of e = stop_at e.number e.place
+
+-- ---- a packet's class and path
+
+-- whether there is a class of this number that holds these fields, and a path of this number in it
+abbrev pub is_in_class : Option Class → Fields → ℕ → Bool
+is_in_class None fields path = false
+is_in_class (Some c) fields path = holds c.region fields && is_some (numbered c.paths path)
+
+abbrev pub is_in : List Class → Fields → ℕ → ℕ → Bool
+is_in classes fields class path = is_in_class (numbered classes class) fields path
+
+-- ---- a line is obeyed
+
+-- the frame that the capture went on to, where the line reads one; else the capture stays
+abbrev pub GoesTo : Bool → captures.Reading → captures.Reading → Option captures.Seen → Type 0
+GoesTo true old new frame = captures.AtFrame old new × (frame ≡ Some new.seen)
+GoesTo false old new frame = new ≡ old
+
+-- the packet of a frame, of this class and with this path
+abbrev pub packet_of : captures.Seen → ℕ → ℕ → Packet
+packet_of frame class path = record { fields = frame.fields; octets = frame.octets; class = class; path = path }
+
+-- What is asked for is done; what it puts on links waits there.
+pub record Acts (asked : Action) (old new : Running) (at to : captures.Reading) : Type 0 where
+  pub frame : Option captures.Seen
+  pub goes : GoesTo (reads_packet asked) at to frame
+  pub does : Does old.network old.classes frame asked old.contents new.contents
+  pub rest : new ≡ record old { contents = new.contents }
+
+-- The line asks for something, which is done.
+pub record Obeys (line : List ℕ) (old new : Running) (at to : captures.Reading) (before after : Put) : Type 0 where
+  pub asked : Action
+  pub asks : Asks line asked
+  pub frame : Option captures.Seen
+  pub goes : GoesTo (reads_packet asked) at to frame
+  pub does : Ended (Does old.network old.classes frame asked) before old.contents after new.contents
+  pub rest : new ≡ record old { contents = new.contents }
+
+-- ---- why a line is refused
+
+abbrev pub HoldsNothing : Running → HolderName → Type 0
+HoldsNothing old name = (place : ℕ) → holder_place (net_of old.network) name ≡ Some place → least_at old.contents place ≡ None
+
+-- the link isn't there, or fewer octets wait on it
+abbrev pub HasTooFew : Contents → ℕ → ℕ → Type 0
+HasTooFew c zero octets = Unit {0}
+HasTooFew c (suc link) octets = link < length c.links → queued_on (slice_get c.links link) < octets
+
+abbrev pub HasNoDestination : Network → ℕ → ℕ → ℕ → Type 0
+HasNoDestination network device exporter destination =
+    (place : ℕ) (e : Exporter) → exporter_place network device exporter ≡ Some place → slice_get (net_of network).exporters place ≡ Some e → numbered e.destinations destination ≡ None
+
+-- a number that names nothing, a holder that holds nothing, too few octets, or no packet
+abbrev pub NamesNothing : Running → captures.Reading → captures.Reading → Action → Type 0
+NamesNothing old at to action.Next = captures.AtEnd at to
+NamesNothing old at to (action.NextOf class path) = captures.AtEnd at to
+NamesNothing old at to (action.Expire device cache) = HoldsNothing old (holder.Cache device cache)
+NamesNothing old at to (action.Emit device process aggregation) = HoldsNothing old (holder.Aggregation device process aggregation)
+NamesNothing old at to (action.Carry link octets) = HasTooFew old.contents link octets
+NamesNothing old at to (action.Use device exporter destination) = HasNoDestination old.network device exporter destination
+
+-- the class and the path that a line names aren't those of the packet
+abbrev pub IsNotIn : List Class → captures.Seen → Action → Type 0
+IsNotIn classes frame (action.NextOf class path) =
+    (c : Class) → numbered classes class ≡ Some c → holds c.region frame.fields ≡ true → numbered c.paths path ≡ None
+IsNotIn classes frame _ = ⊥
+
+-- no class holds the packet
+abbrev pub IsInNone : List Class → captures.Seen → Action → Type 0
+IsInNone classes frame action.Next = position (λ (c : Class). holds c.region frame.fields) classes ≡ None
+IsInNone classes frame _ = ⊥
+
+-- 802 or the fault of a capture's record goes before 803 and 804; each stands at the schedule's line
+pub data RefusesAction (old : Running) (at to : captures.Reading) (number : ℕ) (asked : Action) (e : Fault) : Type 0 where
+  nothing_named : e ≡ fault_at 802 (places.Line number) → NamesNothing old at to asked → RefusesAction old at to number asked e
+  capture_refused : reads_packet asked ≡ true → captures.Refuses at to e → RefusesAction old at to number asked e
+  not_in : e ≡ fault_at 803 (places.Line number) → captures.AtFrame at to → IsNotIn old.classes to.seen asked → RefusesAction old at to number asked e
+  in_none : e ≡ fault_at 804 (places.Line number) → captures.AtFrame at to → IsInNone old.classes to.seen asked → RefusesAction old at to number asked e
+
+-- 801 goes first
+abbrev pub RefusesLine : List ℕ → ℕ → Running → captures.Reading → captures.Reading → Fault → Type 0
+RefusesLine line number old at to e =
+    ((e ≡ fault_at 801 (places.Line number)) × ((asked : Action) → Asks line asked → ⊥))
+    ⊎ ((asked : Action) × Asks line asked × RefusesAction old at to number asked e)
+
+-- want of memory, or what links' octets are put on failed, whatever the line
+abbrev pub FailsOutside : Bool → Fault → Type 0
+FailsOutside failed e = (e ≡ fault_at 900 places.None) ⊎ ((e ≡ fault_at 902 places.None) × (failed ≡ true))
+
+-- a network that has answered a fault answers it again, and nothing changes
+abbrev pub AnswersAgain : Running → Running → Result (Unit {0}) Fault → Type 0
+AnswersAgain old new result = IfSome old.fault (λ e. (result ≡ Err e) × (new ≡ old))
+
+-- ---- the closing phase
+
+-- a reader of a capture goes on from frame to frame, through these
+abbrev pub ReadsUpTo : captures.Reading → captures.Reading → List captures.Seen → Type 0
+ReadsUpTo at to [] = to ≡ at
+ReadsUpTo at to (frame ∷ frames) =
+    (mid : captures.Reading) × captures.AtFrame at mid × (mid.seen ≡ frame) × ReadsUpTo mid to frames
+
+-- and then to the capture's end
+abbrev pub ReadsThrough : captures.Reading → captures.Reading → List captures.Seen → Type 0
+ReadsThrough at to frames = (mid : captures.Reading) × ReadsUpTo at mid frames × captures.AtEnd mid to
+
+-- The closing phase is gone through, collecting processes in this order.
+pub record ClosesTo (ranked : List ℕ) (old new : Running) (at to : captures.Reading) (before after : Put) : Type 0 where
+  pub frames : List captures.Seen
+  pub reads : ReadsThrough at to frames
+  pub closes : Closes old.network old.classes ranked frames before old.contents after new.contents
+  pub rest : new ≡ record old { contents = new.contents }
+
+-- a reader of a capture has gone on through some frames
+abbrev pub ReadsOn : captures.Reading → captures.Reading → Type 0
+ReadsOn at to = (frames : List captures.Seen) × ReadsUpTo at to frames
+
+-- a frame that is left is of no class, or the capture is refused at one
+pub data RefusesClose (old : Running) (at to : captures.Reading) (e : Fault) : Type 0 where
+  capture_refused : (mid : captures.Reading) → ReadsOn at mid → captures.Refuses mid to e → RefusesClose old at to e
+  in_none : e ≡ fault_at 804 places.None → ReadsOn at to → position (λ (c : Class). holds c.region to.seen.fields) old.classes ≡ None → RefusesClose old at to e

@@ -1,0 +1,126 @@
+//! Records arrive at collecting processes.
+ghost use Rattle.std.specs.Prelude.{◌≡◌, ◌≤◌, None, OnOk, IfErr, slice_get};
+ghost use Rattle.fx_base.specs.Fault.{fault_at};
+ghost use Rattle.fx_base.specs.declared.fault.Place.TheVariants as places;
+ghost use Rattle.fx_machine.specs.Views.{now_of};
+ghost use Rattle.fx_link.specs.Ongoing as ongoing;
+ghost use Rattle.fx_net.specs.Arriving as arriving;
+ghost use Rattle.fx_net.specs.Contents as contents;
+
+use crate::contents::Contents;
+use fx_base::Fault;
+use fx_link::Link;
+use fx_machine::{Net, Process, Record};
+use std::alloc::Global;
+
+/// The collecting process to which the link at this place leads, if it is there.
+fn process_behind(net: &Net, link: usize) -> Option<&Process>
+    ensures { now_of result ≡ arriving.process_behind net.now link }
+{
+    match net.links().get(link) {
+        None => None,
+        Some(process) => net.processes().get(*process),
+    }
+}
+
+/// Whether the link at this place leads to the collecting process that tallies.
+fn leads_to_report(net: &Net, link: usize) -> bool
+    ensures { result ≡ arriving.leads_to_report net.now (slice_get net.now.links link) }
+{
+    match net.links().get(link) {
+        None => false,
+        Some(process) => *process == net.report(),
+    }
+}
+
+/// The first record that the receiver of the link at this place has read leaves, if there is one.
+fn next_record(links: &mut Vec<Link>, link: usize) -> Option<Record>
+    ensures { arriving.IsNext link links.old.items links.new.items result }
+{
+    match links.get_mut(link) {
+        None => None,
+        Some(link) => link.next_record(),
+    }
+}
+
+/// How many octets of the link at this place wait to be carried, if it is there.
+pub(crate) fn queued(links: &[Link], link: usize) -> Option<usize>
+    ensures { result ≡ arriving.queued_at links.now link }
+{
+    let link = links.get(link)?;
+    Some(link.queued())
+}
+
+/// So many octets of the link at this place reach its end, if it is there.
+fn carry_on(links: &mut Vec<Link>, link: usize, count: usize) -> Result<(), Fault>
+    requires { count ≤ arriving.queued_on (slice_get links.old.items link) }
+    ensures ok { OnOk result (links.new.items ≡ contents.changed (ongoing.after_carry count) links.old.items link) }
+    ensures err { IfErr result (λ e. e ≡ fault_at 900 places.None) }
+{
+    let Some(link) = links.get_mut(link) else {
+        return Ok(());
+    };
+    // The octets are those that were written for this link, which its receiver reads without a fault, so only memory can
+    // be wanting.
+    match link.carry(count) {
+        Ok(()) => Ok(()),
+        Err(_fault) => Err(Fault::bare(900)),
+    }
+}
+
+impl Contents {
+    /// A record is tallied where its link leads to the report's process.
+    fn tally(&mut self, net: &Net, link: usize, flow: &Record) -> Result<(), Fault>
+        ensures ok { OnOk result (self.new ≡ arriving.after_tally net.now link flow.now self.old) }
+        ensures err { IfErr result (λ e. e ≡ fault_at 900 places.None) }
+    {
+        if leads_to_report(net, link) {
+            self.totals.tally(flow)?;
+        }
+        Ok(())
+    }
+
+    /// A record arrives at the end of a link: it is tallied, sent on and taken in.
+    fn arrive(&mut self, alloc: Global, net: &Net, link: usize, flow: &Record) -> Result<(), Fault>
+        ensures ok { OnOk result (self.new ≡ arriving.after_arrive net.now link flow.now self.old) }
+        ensures err { IfErr result (λ e. e ≡ fault_at 900 places.None) }
+    {
+        self.tally(net, link, flow)?;
+        let Some(process) = process_behind(net, link) else {
+            return Ok(());
+        };
+        self.send(net, process.exporters(), flow)?;
+        let takers = net.takers(alloc, process, &flow.key)?;
+        self.take_in(alloc, net, takers.as_slice(), flow.counts)
+    }
+
+    /// All records that the receiver of a link has read are handled, in order.
+    fn handle(&mut self, alloc: Global, net: &Net, link: usize) -> Result<(), Fault>
+        ensures ok { OnOk result (self.new ≡ arriving.after_handling net.now link self.old) }
+        ensures err { IfErr result (λ e. e ≡ fault_at 900 places.None) }
+    {
+        while let Some(flow) = next_record(&mut self.links, link) {
+            self.arrive(alloc, net, link, &flow)?;
+        }
+        Ok(())
+    }
+
+    /// So many octets of the link at this place reach its end, and every record of a message that they complete is
+    /// handled at once, in order.
+    ///
+    /// Fails with 900, at no place, for want of memory.
+    pub(crate) fn carry(
+        &mut self,
+        alloc: Global,
+        net: &Net,
+        link: usize,
+        count: usize,
+    ) -> Result<(), Fault>
+        requires { count ≤ arriving.queued_on (slice_get self.old.links link) }
+        ensures ok { OnOk result (self.new ≡ arriving.after_carrying net.now link count self.old) }
+        ensures err { IfErr result (λ e. e ≡ fault_at 900 places.None) }
+    {
+        carry_on(&mut self.links, link, count)?;
+        self.handle(alloc, net, link)
+    }
+}

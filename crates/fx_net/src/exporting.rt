@@ -1,0 +1,178 @@
+//! Exporting processes send records.
+ghost use Rattle.std.specs.Prelude.{◌≡◌, OnOk, IfErr};
+ghost use Rattle.fx_base.specs.Fault.{fault_at};
+ghost use Rattle.fx_base.specs.declared.fault.Place.TheVariants as places;
+ghost use Rattle.fx_machine.specs.Sends as sends;
+ghost use Rattle.fx_net.specs.Contents as contents;
+ghost use Rattle.fx_net.specs.Exporting as exporting;
+
+use crate::contents::Contents;
+use fx_base::Fault;
+use fx_link::Link;
+use fx_machine::{Exporter, Net, Record};
+
+/// A record waits on the link at this place for its message, if the link is there.
+///
+/// Fails with 900, at no place, for want of memory or of template ids: a link has 65,280 of them, and a network at most 64
+/// layouts.
+fn put(links: &mut Vec<Link>, link: usize, time: u32, flow: &Record) -> Result<(), Fault>
+    ensures ok { OnOk result (links.new.items
+        ≡ contents.changed (exporting.with_waiting time flow.now) links.old.items link) }
+    ensures err { IfErr result (λ e. e ≡ fault_at 900 places.None) }
+{
+    let Some(link) = links.get_mut(link) else {
+        return Ok(());
+    };
+    if !link.has_room() {
+        return Err(Fault::bare(900));
+    }
+    link.put(time, flow.copy())?;
+    Ok(())
+}
+
+/// A record is sent to a destination; without a link it leaves the network.
+fn put_to(
+    links: &mut Vec<Link>,
+    destination: Option<usize>,
+    time: u32,
+    flow: &Record,
+) -> Result<(), Fault>
+    ensures ok { OnOk result (links.new.items
+        ≡ exporting.put_each time flow.now (sends.linked destination) links.old.items) }
+    ensures err { IfErr result (λ e. e ≡ fault_at 900 places.None) }
+{
+    match destination {
+        None => Ok(()),
+        Some(link) => put(links, link, time, flow),
+    }
+}
+
+/// A record is sent to all these destinations.
+fn put_to_all(
+    links: &mut Vec<Link>,
+    destinations: &[Option<usize>],
+    time: u32,
+    flow: &Record,
+) -> Result<(), Fault>
+    ensures ok { OnOk result (links.new.items
+        ≡ exporting.put_each time flow.now (sends.links_of destinations.now) links.old.items) }
+    ensures err { IfErr result (λ e. e ≡ fault_at 900 places.None) }
+{
+    for destination in destinations {
+        put_to(links, *destination, time, flow)?;
+    }
+    Ok(())
+}
+
+/// A record is sent to the destination of this number, from 1, if it is there.
+fn put_to_one(
+    links: &mut Vec<Link>,
+    destinations: &[Option<usize>],
+    number: u64,
+    time: u32,
+    flow: &Record,
+) -> Result<(), Fault>
+    ensures ok { OnOk result (links.new.items
+        ≡ exporting.put_each time flow.now (exporting.link_numbered destinations.now number) links.old.items) }
+    ensures err { IfErr result (λ e. e ≡ fault_at 900 places.None) }
+{
+    if number == 0 {
+        return Ok(());
+    }
+    match destinations.get((number - 1) as usize) {
+        None => Ok(()),
+        Some(destination) => put_to(links, *destination, time, flow),
+    }
+}
+
+/// An exporting process sends a record: to all its destinations, or to the one of this number.
+fn export(
+    links: &mut Vec<Link>,
+    exporter: &Exporter,
+    number: u64,
+    time: u32,
+    flow: &Record,
+) -> Result<(), Fault>
+    ensures ok { OnOk result (links.new.items
+        ≡ exporting.put_each time flow.now (exporting.links_of_exporter exporter.now number) links.old.items) }
+    ensures err { IfErr result (λ e. e ≡ fault_at 900 places.None) }
+{
+    if exporter.parallel() {
+        put_to_all(links, exporter.destinations(), time, flow)
+    } else {
+        put_to_one(links, exporter.destinations(), number, time, flow)
+    }
+}
+
+/// The number of the destination that the exporting process at this place uses.
+fn number_in_use(chosen: &[u64], place: usize) -> u64
+    ensures { result ≡ contents.number_in_use chosen.now place }
+{
+    match chosen.get(place) {
+        None => 0,
+        Some(number) => *number,
+    }
+}
+
+/// The exporting process at this place sends a record, if it is there.
+fn export_at(
+    links: &mut Vec<Link>,
+    net: &Net,
+    chosen: &[u64],
+    place: usize,
+    time: u32,
+    flow: &Record,
+) -> Result<(), Fault>
+    ensures ok { OnOk result (links.new.items
+        ≡ exporting.put_each time flow.now (exporting.used_at net.now chosen.now place) links.old.items) }
+    ensures err { IfErr result (λ e. e ≡ fault_at 900 places.None) }
+{
+    match net.exporters().get(place) {
+        None => Ok(()),
+        Some(exporter) => export(links, exporter, number_in_use(chosen, place), time, flow),
+    }
+}
+
+/// The exporting processes at these places send a record, one after another.
+fn export_all(
+    links: &mut Vec<Link>,
+    net: &Net,
+    chosen: &[u64],
+    exporters: &[usize],
+    time: u32,
+    flow: &Record,
+) -> Result<(), Fault>
+    ensures ok { OnOk result (links.new.items
+        ≡ exporting.put_each time flow.now (exporting.links_used net.now chosen.now exporters.now) links.old.items) }
+    ensures err { IfErr result (λ e. e ≡ fault_at 900 places.None) }
+{
+    for exporter in exporters {
+        export_at(links, net, chosen, *exporter, time, flow)?;
+    }
+    Ok(())
+}
+
+impl Contents {
+    /// The exporting processes at these places send a record, one after another.
+    ///
+    /// Fails with 900, at no place, for want of memory.
+    pub(crate) fn send(
+        &mut self,
+        net: &Net,
+        exporters: &[usize],
+        flow: &Record,
+    ) -> Result<(), Fault>
+        ensures ok { OnOk result (self.new ≡ exporting.after_send net.now exporters.now flow.now self.old) }
+        ensures err { IfErr result (λ e. e ≡ fault_at 900 places.None) }
+    {
+        let time = self.second;
+        export_all(
+            &mut self.links,
+            net,
+            self.chosen.as_slice(),
+            exporters,
+            time,
+            flow,
+        )
+    }
+}

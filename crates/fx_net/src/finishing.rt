@@ -1,0 +1,40 @@
+//! What waits on links is put out.
+ghost use Rattle.std.specs.Prelude.{◌≡◌, ◌⊎◌, true, false, map, OnOk, IfErr};
+ghost use Rattle.fx_base.specs.Fault.{fault_at};
+ghost use Rattle.fx_base.specs.declared.fault.Place.TheVariants as places;
+ghost use Rattle.fx_link.specs.Ongoing as ongoing;
+ghost use Rattle.fx_net.specs.Finishing as finishing;
+
+use crate::contents::Contents;
+use fx_base::Fault;
+use fx_link::{Link, Links};
+
+/// All records that wait on these links have their messages, which are put out, link by link.
+fn finish_all<L: Links>(lines: &mut Vec<Link>, time: u32, links: &mut L) -> Result<(), Fault>
+    ensures ok { OnOk result (lines.new.items ≡ map (ongoing.after_finish time) lines.old.items) }
+    ensures put { OnOk result (finishing.PutsAll (L.put_on links.old) (L.put_on links.new) time lines.old.items) }
+    ensures going { OnOk result (L.failed links.old ≡ false → L.failed links.new ≡ false) }
+    ensures err { IfErr result (λ e. (e ≡ fault_at 900 places.None)
+        ⊎ ((e ≡ fault_at 902 places.None) × (L.failed links.new ≡ true))) }
+{
+    for place in 0..lines.len() {
+        let line = &mut lines[place];
+        line.finish(time, place as u64 + 1, links)?;
+    }
+    Ok(())
+}
+
+impl Contents {
+    /// All records that wait on links have their messages, which are put out, link by link.
+    ///
+    /// Fails with 900, at no place, for want of memory, and as the links' octets are put out.
+    pub(crate) fn finish<L: Links>(&mut self, links: &mut L) -> Result<(), Fault>
+        ensures ok { OnOk result (self.new ≡ finishing.after_finishing self.old) }
+        ensures put { OnOk result (finishing.PutsAll (L.put_on links.old) (L.put_on links.new) self.old.second self.old.links) }
+        ensures going { OnOk result (L.failed links.old ≡ false → L.failed links.new ≡ false) }
+        ensures err { IfErr result (λ e. (e ≡ fault_at 900 places.None)
+            ⊎ ((e ≡ fault_at 902 places.None) × (L.failed links.new ≡ true))) }
+    {
+        finish_all(&mut self.links, self.second, links)
+    }
+}

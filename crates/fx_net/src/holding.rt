@@ -1,0 +1,35 @@
+//! The stores of holders, by place.
+ghost use Rattle.std.specs.Prelude.{◌≡◌};
+ghost use Rattle.fx_machine.specs.Views.{now_of};
+ghost use Rattle.fx_net.specs.Contents as contents;
+ghost use Rattle.fx_net.specs.Leaving as leaving;
+
+use crate::store::Store;
+use fx_store::FlowStore;
+
+/// The store of the holder at this place, and none where it is an immediate cache.
+fn store_at(stores: &[Option<Store>], place: usize) -> Option<&Store>
+    ensures { now_of result ≡ contents.stored_at stores.now place }
+{
+    match stores.get(place) {
+        None => None,
+        Some(store) => store.as_ref(),
+    }
+}
+
+/// Whether the holder at this place is an immediate cache, which holds nothing.
+pub(crate) fn is_immediate(stores: &[Option<Store>], place: usize) -> bool
+    ensures { result ≡ contents.is_immediate (contents.stored_at stores.now place) }
+{
+    store_at(stores, place).is_none()
+}
+
+/// How many records the holder at this place has.
+pub(crate) fn count_at(stores: &[Option<Store>], place: usize) -> usize
+    ensures { result ≡ leaving.count_of (contents.stored_at stores.now place) }
+{
+    match store_at(stores, place) {
+        None => 0,
+        Some(store) => store.len(),
+    }
+}

@@ -1,0 +1,93 @@
+//! Records leave caches and aggregations.
+ghost use Rattle.std.specs.Prelude.{◌≡◌, is_some, OnOk, IfOk, IfErr};
+ghost use Rattle.fx_base.specs.Fault.{fault_at};
+ghost use Rattle.fx_base.specs.declared.fault.Place.TheVariants as places;
+ghost use Rattle.fx_net.specs.Contents as contents;
+ghost use Rattle.fx_net.specs.Leaving as leaving;
+
+use crate::contents::Contents;
+use crate::holding::count_at;
+use crate::store::Store;
+use fx_base::{Counts, Fault};
+use fx_layout::Key;
+use fx_machine::{Net, Record};
+use fx_store::FlowStore;
+
+/// A record that leaves the holder at a place of the network's table.
+#[derive(Drop)]
+pub(crate) struct Leaver {
+    pub(crate) holder: usize,
+    pub(crate) flow: Record,
+}
+
+/// The entry of the least key of the holder at this place is taken out of its store, if there is one.
+fn take_least(stores: &mut Vec<Option<Store>>, place: usize) -> Option<(Key, Counts)>
+    ensures value { result ≡ leaving.least_of (contents.stored_at stores.old.items place) }
+    ensures rest { stores.new.items ≡ leaving.without_least stores.old.items place }
+{
+    match stores.get_mut(place) {
+        None => None,
+        Some(store) => match store {
+            None => None,
+            Some(store) => store.take_least(),
+        },
+    }
+}
+
+impl Contents {
+    /// The exporting processes that its holder names send a record.
+    ///
+    /// Fails with 900, at no place, for want of memory.
+    pub(crate) fn leave(&mut self, net: &Net, leaver: &Leaver) -> Result<(), Fault>
+        ensures ok { OnOk result (self.new ≡ leaving.after_leave net.now leaver.now self.old) }
+        ensures err { IfErr result (λ e. e ≡ fault_at 900 places.None) }
+    {
+        self.send(net, net.named_by(leaver.holder), &leaver.flow)
+    }
+
+    /// One record leaves after another.
+    ///
+    /// Fails with 900, at no place, for want of memory.
+    pub(crate) fn leave_all(&mut self, net: &Net, leavers: &[Leaver]) -> Result<(), Fault>
+        ensures ok { OnOk result (self.new ≡ leaving.after_leaves net.now leavers.now self.old) }
+        ensures err { IfErr result (λ e. e ≡ fault_at 900 places.None) }
+    {
+        for leaver in leavers {
+            self.leave(net, leaver)?;
+        }
+        Ok(())
+    }
+
+    /// The record of the least key of the holder at this place leaves, and whether there was one.
+    ///
+    /// Fails with 900, at no place, for want of memory.
+    pub(crate) fn expire_least(&mut self, net: &Net, place: usize) -> Result<bool, Fault>
+        ensures ok { OnOk result (self.new ≡ leaving.after_least net.now place self.old) }
+        ensures there { IfOk result (λ there. there ≡ is_some (leaving.least_at self.old place)) }
+        ensures err { IfErr result (λ e. e ≡ fault_at 900 places.None) }
+    {
+        let Some((key, counts)) = take_least(&mut self.stores, place) else {
+            return Ok(false);
+        };
+        let leaver = Leaver {
+            holder: place,
+            flow: Record { key, counts },
+        };
+        self.leave(net, &leaver)?;
+        Ok(true)
+    }
+
+    /// All records of the holder at this place leave, the least key first.
+    ///
+    /// Fails with 900, at no place, for want of memory.
+    pub(crate) fn empty(&mut self, net: &Net, place: usize) -> Result<(), Fault>
+        ensures ok { OnOk result (self.new ≡ leaving.after_emptying net.now place self.old) }
+        ensures err { IfErr result (λ e. e ≡ fault_at 900 places.None) }
+    {
+        let count = count_at(self.stores.as_slice(), place);
+        for _done in 0..count {
+            self.expire_least(net, place)?;
+        }
+        Ok(())
+    }
+}

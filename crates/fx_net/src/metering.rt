@@ -1,0 +1,52 @@
+//! Packets are metered where they cross interfaces.
+ghost use Rattle.std.specs.Prelude.{◌≡◌, OnOk, IfErr};
+ghost use Rattle.fx_base.specs.Fault.{fault_at};
+ghost use Rattle.fx_base.specs.declared.fault.Place.TheVariants as places;
+ghost use Rattle.fx_net.specs.Metering as metering;
+ghost use Rattle.fx_net.specs.Taking as taking;
+
+use crate::contents::Contents;
+use fx_base::{Counts, Fault};
+use fx_boxes::Fields;
+use fx_machine::{Crossing, Net};
+use std::alloc::Global;
+
+impl Contents {
+    /// A packet crosses an interface: each cache that meters it there takes its counts in.
+    fn cross(
+        &mut self,
+        alloc: Global,
+        net: &Net,
+        fields: &Fields,
+        counts: Counts,
+        crossing: &Crossing,
+    ) -> Result<(), Fault>
+        ensures ok { OnOk result (self.new
+            ≡ taking.after_taking net.now counts (metering.metered net.now fields.now crossing.now) self.old) }
+        ensures err { IfErr result (λ e. e ≡ fault_at 900 places.None) }
+    {
+        let met = net.met(alloc, crossing, fields)?;
+        self.take_in(alloc, net, met.as_slice(), counts)
+    }
+
+    /// A packet makes all crossings of a path, in order.
+    ///
+    /// Fails with 900, at no place, for want of memory.
+    pub(crate) fn cross_all(
+        &mut self,
+        alloc: Global,
+        net: &Net,
+        fields: &Fields,
+        counts: Counts,
+        path: &[Crossing],
+    ) -> Result<(), Fault>
+        ensures ok { OnOk result (self.new
+            ≡ metering.after_path net.now fields.now counts path.now self.old) }
+        ensures err { IfErr result (λ e. e ≡ fault_at 900 places.None) }
+    {
+        for crossing in path {
+            self.cross(alloc, net, fields, counts, crossing)?;
+        }
+        Ok(())
+    }
+}

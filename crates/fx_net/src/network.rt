@@ -1,0 +1,111 @@
+//! A running network: what the lines of a schedule do in it.
+ghost use Rattle.std.specs.Prelude.{◌≡◌, position, None, IfOk, IfErr, OnOk};
+ghost use Rattle.fx_base.specs.Fault.{fault_at};
+ghost use Rattle.fx_base.specs.declared.fault.Place.TheVariants as places;
+ghost use Rattle.fx_boxes.specs.Boxes.{holds};
+ghost use Rattle.fx_machine.specs.Classes as traffic;
+ghost use Rattle.fx_pcap.specs.Captures as captures;
+ghost use Rattle.fx_plan.specs.Tables.{net_of};
+ghost use Rattle.fx_net.specs.declared.stop.Stop.TheVariants as stop;
+ghost use Rattle.fx_net.specs.Doings as doings;
+ghost use Rattle.fx_net.specs.Opening as opening;
+ghost use Rattle.fx_net.specs.Running as running;
+
+use crate::contents::Contents;
+use crate::stop::Stop;
+use fx_base::{Counts, Fault};
+use fx_boxes::Fields;
+use fx_collect::Totals;
+use fx_machine::{Class, Packet};
+use fx_pcap::Frame;
+use fx_plan::Plan;
+use fx_traffic::Traffic;
+use std::alloc::Global;
+use std::marker::Model;
+
+/// A network that runs: it meters the packets of a capture, exports what it has metered in IPFIX messages on its links,
+/// mediates and totals them. It borrows what the network and its traffic are declared to be.
+#[derive(Drop)]
+pub struct Network<'a> {
+    pub(crate) alloc: Global,
+    pub(crate) plan: &'a Plan,
+    pub(crate) traffic: &'a Traffic,
+    pub(crate) contents: Contents,
+    pub(crate) stopped: Option<Stop>,
+}
+
+impl<'a> Model for Network<'a> {
+    ghost use Rattle.std.specs.Prelude.{option_map};
+    ghost use Rattle.fx_net.specs.Running.{Running, fault_of};
+    ghost use Rattle.std.specs.Coded.{codes};
+    ghost use Rattle.std.specs.FinMap.{code};
+
+    ghost Value = { Running };
+
+    ghost coded = { Prim.hlevel (codes, code) };
+
+    ghost view = { λ n. record {
+      network = n.plan.now;
+      classes = n.traffic.now;
+      contents = n.contents;
+      fault = option_map fault_of n.stopped;
+    } };
+}
+
+/// The place of the first class that holds these fields, from 0.
+fn class_place(classes: &[Class], fields: &Fields) -> Option<usize>
+    ensures { result ≡ position (λ (c : traffic.Class). holds c.region fields.now) classes.now }
+{
+    classes.iter().position(|class| class.holds(fields))
+}
+
+impl<'a> Network<'a> {
+    /// The network before anything is read.
+    ///
+    /// Fails with 900, at no place, for want of memory.
+    pub fn open(alloc: Global, plan: &'a Plan, traffic: &'a Traffic) -> Result<Network<'a>, Fault>
+        ensures ok { IfOk result (λ n. n ≡ record { network = plan.now; classes = traffic.now; contents = opening.opened plan.now; fault = None }) }
+        ensures err { IfErr result (λ e. e ≡ fault_at 900 places.None) }
+    {
+        Ok(Network {
+            alloc,
+            plan,
+            traffic,
+            contents: Contents::open(alloc, plan)?,
+            stopped: None,
+        })
+    }
+
+    /// A packet of a frame, of this class and with this path, makes all its crossings.
+    pub(crate) fn meter(&mut self, frame: &Frame<'_>, class: u64, path: u64) -> Result<(), Stop>
+        ensures ok { OnOk result (self.new ≡ record self.old {
+          contents = doings.after_packet (net_of self.old.network)
+              self.old.classes (running.packet_of (captures.seen_of frame.now) class path) frame.now.second self.old.contents;
+        }) }
+        ensures err { IfErr result (λ s. s ≡ stop.Bare 900) }
+    {
+        let packet = Packet {
+            fields: frame.fields,
+            octets: frame.octets as u64,
+            class,
+            path,
+        };
+        let counts = Counts {
+            packets: 1,
+            octets: frame.octets as u64,
+        };
+        let crossings = self.traffic.classes().path_of(&packet);
+        let net = self.plan.net();
+        self.contents.second = frame.second;
+        self.contents
+            .cross_all(self.alloc, net, &packet.fields, counts, crossings)?;
+        Ok(())
+    }
+
+    /// What the collector has counted so far.
+    pub fn totals(&self) -> &Totals
+        ensures { result.now ≡ self.now.contents.totals }
+    {
+        &self.contents.totals
+    }
+}

@@ -1,0 +1,134 @@
+//! A running network before anything is read.
+ghost use Rattle.std.specs.Prelude.{◌≡◌, ◌++◌, map, IfOk, IfErr, OnOk};
+ghost use Rattle.std.specs.List.{flat_map};
+ghost use Rattle.fx_base.specs.Fault.{fault_at};
+ghost use Rattle.fx_base.specs.declared.fault.Place.TheVariants as places;
+ghost use Rattle.fx_plan.specs.Tables.{net_of};
+ghost use Rattle.fx_net.specs.Opening as opening;
+
+use crate::contents::Contents;
+use crate::store::Store;
+use fx_base::Fault;
+use fx_collect::Totals;
+use fx_config::{Cache, CacheKind};
+use fx_link::Link;
+use fx_machine::{Exporter, Holder, Net};
+use fx_plan::{Network, NetworkDevice, Plan};
+use std::alloc::Global;
+
+/// The store of a cache, and none where it is immediate.
+fn store_of(alloc: Global, cache: &Cache) -> Result<Option<Store>, Fault>
+    ensures ok { IfOk result (λ store. store ≡ opening.store_of cache.now) }
+    ensures err { IfErr result (λ e. e ≡ fault_at 900 places.None) }
+{
+    if cache.kind == CacheKind::Immediate {
+        return Ok(None);
+    }
+    Ok(Some(Store::new(alloc, cache.max_flows)?))
+}
+
+/// The stores of these caches come last.
+fn push_caches(
+    alloc: Global,
+    stores: &mut Vec<Option<Store>>,
+    caches: &[Cache],
+) -> Result<(), Fault>
+    ensures ok { OnOk result (stores.new.items ≡ stores.old.items ++ map opening.store_of caches.now) }
+    ensures err { IfErr result (λ e. e ≡ fault_at 900 places.None) }
+{
+    for cache in caches {
+        stores.push(store_of(alloc, cache)?)?;
+    }
+    Ok(())
+}
+
+/// The stores of the caches of all devices.
+fn cache_stores(alloc: Global, devices: &[NetworkDevice]) -> Result<Vec<Option<Store>>, Fault>
+    ensures ok { IfOk result (λ stores. stores.items
+        ≡ map opening.store_of (flat_map (λ device. device.config.caches) devices.now)) }
+    ensures err { IfErr result (λ e. e ≡ fault_at 900 places.None) }
+{
+    let mut stores: Vec<Option<Store>> = Vec::new(alloc);
+    for device in devices {
+        push_caches(alloc, &mut stores, device.config.caches.as_slice())?;
+    }
+    Ok(stores)
+}
+
+/// A store without a bound comes last for each of these aggregations.
+fn push_aggregations(
+    alloc: Global,
+    stores: &mut Vec<Option<Store>>,
+    aggregations: &[Holder],
+) -> Result<(), Fault>
+    ensures ok { OnOk result (stores.new.items ≡ stores.old.items ++ opening.aggregation_stores aggregations.now) }
+    ensures err { IfErr result (λ e. e ≡ fault_at 900 places.None) }
+{
+    for _aggregation in aggregations {
+        stores.push(Some(Store::new(alloc, 0)?))?;
+    }
+    Ok(())
+}
+
+/// The stores of all caches, and behind them of all aggregations.
+fn stores_of(alloc: Global, plan: &Plan) -> Result<Vec<Option<Store>>, Fault>
+    ensures ok { IfOk result (λ stores. stores.items ≡ opening.stores_of plan.now) }
+    ensures err { IfErr result (λ e. e ≡ fault_at 900 places.None) }
+{
+    let mut stores = cache_stores(alloc, plan.network().devices.as_slice())?;
+    let holders = plan.net().holders();
+    let caches = stores.len().min(holders.len());
+    push_aggregations(alloc, &mut stores, &holders[caches..])?;
+    Ok(stores)
+}
+
+/// A link that nothing was put on for each of these.
+fn links_of(alloc: Global, processes: &[usize]) -> Result<Vec<Link>, Fault>
+    ensures ok { IfOk result (λ links. links.items ≡ opening.new_links processes.now) }
+    ensures err { IfErr result (λ e. e ≡ fault_at 900 places.None) }
+{
+    let mut links: Vec<Link> = Vec::new(alloc);
+    for _process in processes {
+        links.push(Link::new(alloc)?)?;
+    }
+    Ok(links)
+}
+
+/// The number of the destination that each exporting process uses in the beginning.
+fn first_destinations(alloc: Global, exporters: &[Exporter]) -> Result<Vec<u64>, Fault>
+    ensures ok { IfOk result (λ chosen. chosen.items ≡ opening.first_chosen exporters.now) }
+    ensures err { IfErr result (λ e. e ≡ fault_at 900 places.None) }
+{
+    let mut chosen: Vec<u64> = Vec::new(alloc);
+    for _exporter in exporters {
+        chosen.push(1)?;
+    }
+    Ok(chosen)
+}
+
+impl Contents {
+    /// The contents of these stores and of links that nothing was put on.
+    fn on(alloc: Global, net: &Net, stores: Vec<Option<Store>>) -> Result<Contents, Fault>
+        ensures ok { IfOk result (λ contents. contents ≡ opening.opened_on net.now stores.items) }
+        ensures err { IfErr result (λ e. e ≡ fault_at 900 places.None) }
+    {
+        Ok(Contents {
+            stores,
+            links: links_of(alloc, net.links())?,
+            chosen: first_destinations(alloc, net.exporters())?,
+            totals: Totals::new(alloc, net.report_layout().copy())?,
+            second: 0,
+        })
+    }
+
+    /// What a network holds before anything is read.
+    ///
+    /// Fails with 900, at no place, for want of memory.
+    pub(crate) fn open(alloc: Global, plan: &Plan) -> Result<Contents, Fault>
+        ensures ok { IfOk result (λ contents. contents ≡ opening.opened plan.now) }
+        ensures err { IfErr result (λ e. e ≡ fault_at 900 places.None) }
+    {
+        let stores = stores_of(alloc, plan)?;
+        Contents::on(alloc, plan.net(), stores)
+    }
+}

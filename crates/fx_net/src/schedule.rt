@@ -1,0 +1,134 @@
+//! How the lines of a schedule are read.
+ghost use Rattle.std.specs.Prelude.{◌≡◌};
+ghost use Rattle.fx_net.specs.LineReading as reading;
+ghost use Rattle.fx_net.specs.Schedule.{ReadsLine};
+
+use crate::action::Action;
+use fx_machine::{Words, is_word};
+
+/// The class and the path behind `next`.
+#[tactic(auto, unfolding(crate::specs::LineReading::next_of))]
+fn read_next(words: Words<'_>) -> Option<Action>
+    ensures { result ≡ reading.next_of words.entry }
+{
+    let (class, words) = words.number()?;
+    let (path, words) = words.number()?;
+    if !words.is_empty() {
+        return None;
+    }
+    Some(Action::NextOf { class, path })
+}
+
+/// The device and the cache behind `expire`.
+#[tactic(auto, unfolding(crate::specs::LineReading::expire_of))]
+fn read_expire(words: Words<'_>) -> Option<Action>
+    ensures { result ≡ reading.expire_of words.entry }
+{
+    let (device, words) = words.number()?;
+    let (cache, words) = words.number()?;
+    if !words.is_empty() {
+        return None;
+    }
+    Some(Action::Expire { device, cache })
+}
+
+/// The device, the collecting process and the aggregation behind `emit`.
+#[tactic(auto, unfolding(crate::specs::LineReading::emit_of))]
+fn read_emit(words: Words<'_>) -> Option<Action>
+    ensures { result ≡ reading.emit_of words.entry }
+{
+    let (device, words) = words.number()?;
+    let (process, words) = words.number()?;
+    let (aggregation, words) = words.number()?;
+    if !words.is_empty() {
+        return None;
+    }
+    Some(Action::Emit {
+        device,
+        process,
+        aggregation,
+    })
+}
+
+/// The link and the number of octets behind `carry`.
+#[tactic(auto, unfolding(crate::specs::LineReading::carry_of))]
+fn read_carry(words: Words<'_>) -> Option<Action>
+    ensures { result ≡ reading.carry_of words.entry }
+{
+    let (link, words) = words.number()?;
+    let (octets, words) = words.number()?;
+    if octets == 0 || octets > 65_535 {
+        return None;
+    }
+    if !words.is_empty() {
+        return None;
+    }
+    Some(Action::Carry { link, octets })
+}
+
+/// The device, the exporting process and the destination behind `use`.
+#[tactic(auto, unfolding(crate::specs::LineReading::use_of))]
+fn read_use(words: Words<'_>) -> Option<Action>
+    ensures { result ≡ reading.use_of words.entry }
+{
+    let (device, words) = words.number()?;
+    let (exporter, words) = words.number()?;
+    let (destination, words) = words.number()?;
+    if !words.is_empty() {
+        return None;
+    }
+    Some(Action::Use {
+        device,
+        exporter,
+        destination,
+    })
+}
+
+/// What the words behind one of this kind ask for.
+#[tactic(auto, unfolding(crate::specs::LineReading::kind_of))]
+fn read_kind(kind: &[u8], words: Words<'_>) -> Option<Action>
+    ensures { result ≡ reading.kind_of kind.now words.entry }
+{
+    if is_word(kind, b"next") {
+        return read_next(words);
+    }
+    if is_word(kind, b"expire") {
+        return read_expire(words);
+    }
+    if is_word(kind, b"emit") {
+        return read_emit(words);
+    }
+    if is_word(kind, b"carry") {
+        return read_carry(words);
+    }
+    if is_word(kind, b"use") {
+        return read_use(words);
+    }
+    None
+}
+
+/// What the words of a line ask for.
+#[tactic(auto, unfolding(crate::specs::LineReading::words_of))]
+fn read_words(words: Words<'_>) -> Option<Action>
+    ensures { result ≡ reading.words_of words.entry }
+{
+    let (kind, words) = words.word()?;
+    read_kind(kind, words)
+}
+
+/// What a line asks for.
+fn read_line(line: &[u8]) -> Option<Action>
+    ensures { result ≡ reading.action_of line.now }
+{
+    if is_word(line, b"next") {
+        return Some(Action::Next);
+    }
+    read_words(Words::new(line))
+}
+
+/// What a line of a schedule, without its line feed, asks for, and none where it asks for nothing.
+pub(crate) fn read_action(line: &[u8]) -> Option<Action>
+    ensures { ReadsLine line.now result }
+{
+    read_line(line)
+}

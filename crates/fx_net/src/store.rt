@@ -1,0 +1,110 @@
+//! The stores of caches and aggregations: with a bound or without.
+ghost use Rattle.std.specs.Prelude.{◌≡◌, ◌==◌, [], Some, None, OnOk, OnErr, IfOk, IfErr, IfSome, IfNone, IsOk, IsSome};
+ghost use Rattle.std.specs.FinMap as map;
+ghost use Rattle.fx_base.specs.Fault.{fault_at};
+ghost use Rattle.fx_base.specs.declared.fault.Place.TheVariants as places;
+ghost use Rattle.fx_store.specs.Flows.{Adds, least, without};
+ghost use Rattle.fx_net.specs.Stores.{flows_in, makes_room, new_store, with_counts, without_entry};
+
+use fx_base::{Counts, Fault};
+use fx_layout::Key;
+use fx_store::{BoundedStore, FlowStore, ListStore};
+use std::alloc::Global;
+use std::marker::Model;
+
+/// How many records a cache with a bound holds at most, whatever its bound is.
+const MOST_FLOWS: u32 = 65_536;
+
+#[derive(Drop)]
+enum Kind {
+    Unbounded(ListStore),
+    Bounded(BoundedStore),
+}
+
+/// The store of a cache or of an aggregation.
+#[derive(Drop)]
+pub(crate) struct Store {
+    kind: Kind,
+}
+
+impl Model for Store {
+    ghost use Rattle.fx_net.specs.Stores.{Stored};
+    ghost use Rattle.fx_net.specs.Kinds.{stored_of};
+    ghost use Rattle.std.specs.Coded.{codes};
+    ghost use Rattle.std.specs.FinMap.{code};
+
+    ghost Value = { Stored };
+
+    ghost coded = { Prim.hlevel (codes, code) };
+
+    ghost view = { λ s. stored_of s.kind };
+}
+
+impl Store {
+    /// A store of nothing that holds at most so many records, where 0 is no bound and more than 65,536 are 65,536.
+    ///
+    /// Fails with 900, at no place, for want of memory.
+    pub(crate) fn new(alloc: Global, max_flows: u32) -> Result<Store, Fault>
+        ensures ok { IfOk result (λ s. s ≡ new_store max_flows) }
+        ensures err { IfErr result (λ e. e ≡ fault_at 900 places.None) }
+    {
+        if max_flows == 0 {
+            return Ok(Store {
+                kind: Kind::Unbounded(ListStore::new(alloc)),
+            });
+        }
+        let capacity = max_flows.min(MOST_FLOWS) as usize;
+        Ok(Store {
+            kind: Kind::Bounded(BoundedStore::new(alloc, capacity)?),
+        })
+    }
+}
+
+impl FlowStore for Store {
+    ghost flows = { λ s. flows_in s };
+
+    /// Adds the counts at the key. Where there is a bound, the store is full and the key is new, the least
+    /// recently added-to entry leaves.
+    fn add(&mut self, key: Key, counts: Counts) -> Result<Option<(Key, Counts)>, Fault>
+        ensures ok { IfOk result (λ left. Adds (flows_in self.old) (flows_in self.new) key counts left) }
+        ensures err { IfErr result (λ e. (e ≡ fault_at 900 places.None) × (flows_in self.new ≡ flows_in self.old)) }
+        ensures held { IsSome (map.get (flows_in self.old) key) → IsOk result }
+        ensures stored { OnOk result (self.new ≡ with_counts self.old key counts) }
+        ensures leaves { IfOk result (λ left. left ≡ makes_room self.old key counts) }
+    {
+        match &mut self.kind {
+            Kind::Unbounded(store) => store.add(key, counts),
+            Kind::Bounded(store) => store.add(key, counts),
+        }
+    }
+
+    fn take(&mut self, key: &Key) -> Option<Counts>
+        ensures value { result ≡ map.get (flows_in self.old) key.now }
+        ensures rest { flows_in self.new ≡ map.remove (flows_in self.old) key.now }
+        ensures stored { self.new ≡ without_entry self.old key.now }
+    {
+        match &mut self.kind {
+            Kind::Unbounded(store) => store.take(key),
+            Kind::Bounded(store) => store.take(key),
+        }
+    }
+
+    fn take_least(&mut self) -> Option<(Key, Counts)>
+        ensures value { result ≡ least (flows_in self.old) }
+        ensures rest { flows_in self.new ≡ without (flows_in self.old) result }
+        ensures stored { IfSome result (λ e. self.new ≡ without_entry self.old e.0) }
+        ensures none { IfNone result (self.new ≡ self.old) }
+    {
+        match &mut self.kind {
+            Kind::Unbounded(store) => store.take_least(),
+            Kind::Bounded(store) => store.take_least(),
+        }
+    }
+
+    fn len(&self) -> usize {
+        match &self.kind {
+            Kind::Unbounded(store) => store.len(),
+            Kind::Bounded(store) => store.len(),
+        }
+    }
+}
