@@ -1,5 +1,5 @@
 -- Lists that are changed at a place, or up to one.
-use Rattle.std.proofs.Common.{◌≡◌, ℕ, zero, suc, ◌+◌, ◌<◌, ◌≤◌, List, [], ◌∷◌, ◌++◌, map, length, set, get_or, drop, Option, Some, None, IfSome, IfNone, option_map, refl, sym, ap, ◌∙◌, subst, arith, add-one, le_of_suc-le-suc}
+use Rattle.std.proofs.Common.{◌≡◌, ℕ, zero, suc, ◌+◌, ◌<◌, ◌≤◌, List, [], ◌∷◌, ◌++◌, map, length, set, get_or, Option, Some, None, IfSome, IfNone, option_map, refl, sym, ap, ◌∙◌, subst, arith, add-one, le_of_suc-le-suc}
 use Rattle.std.proofs.lemmas.List.{set-get_or}
 use Rattle.std.proofs.lemmas.Option.{slice_get-get_or, slice_get_past}
 use Rattle.fx_link.specs.Ongoing.{Ongoing}
@@ -28,14 +28,9 @@ changed_same f [] n d lt e = absurd (omega arith)
 changed_same f (x ∷ xs) zero d lt e = ap (λ y. y ∷ xs) e
 changed_same f (x ∷ xs) (suc n) d lt e = ap (λ ys. x ∷ ys) (changed_same f xs n d (le_of_suc-le-suc lt) e)
 
--- what is left of a list begins with the entry at the place
-pub drop_at : {A : Type 0} (xs : List A) (n : ℕ) (d : A) → n < length xs → drop n xs ≡ get_or xs n d ∷ drop (n + 1) xs
-drop_at {A} xs n d lt = subst (λ m. drop n xs ≡ get_or xs n d ∷ drop m xs) (sym (add-one n)) (go xs n lt)
-  where
-    go : (xs : List A) (n : ℕ) → n < length xs → drop n xs ≡ get_or xs n d ∷ drop (suc n) xs
-    go [] n lt = absurd (omega arith)
-    go (x ∷ xs) zero lt = refl
-    go (x ∷ xs) (suc n) lt = go xs n (le_of_suc-le-suc lt)
+-- what stood there was set
+pub set_same : {A : Type 0} (xs : List A) (n : ℕ) (x : A) → n < length xs → x ≡ get_or xs n x → set xs n x ≡ xs
+set_same xs n x lt e = ap (set xs n) e ∙ set-get_or xs n x
 
 -- ---- up to a place
 
@@ -102,8 +97,4 @@ without_some xs n old new result lt e is least_is =
     (ap Some is ∙ ap (λ r. Some (taken_out r old)) (least_is ∙ sym (ap least_of (stored_is xs n (Some old) lt e))) ∙ ap (option_map (taken_out (least_of (stored_at xs n)))) e)
 
 pub without_none_set : (xs : List (Option Stored)) (n : ℕ) (x : Option Stored) → n < length xs → x ≡ get_or xs n x → x ≡ None → set xs n x ≡ without_least xs n
-without_none_set xs n x lt e none = ap (set xs n) e ∙ set-get_or xs n x ∙ sym (without_none xs n lt (stored_is xs n x lt e ∙ none))
-
--- what stood there was set
-pub set_same : {A : Type 0} (xs : List A) (n : ℕ) (x : A) → n < length xs → x ≡ get_or xs n x → set xs n x ≡ xs
-set_same xs n x lt e = ap (set xs n) e ∙ set-get_or xs n x
+without_none_set xs n x lt e none = set_same xs n x lt e ∙ sym (without_none xs n lt (stored_is xs n x lt e ∙ none))

@@ -1,10 +1,9 @@
 -- What a running network holds.
 use Rattle.std.specs.Prelude.{ℕ, zero, suc, Bool, true, false, List, [], ◌∷◌, Option, Some, None, slice_get}
 use Rattle.std.specs.Option.{unwrap_or}
-use Rattle.fx_store.specs.Flows.{Flows, flows_of}
 use Rattle.fx_link.specs.Ongoing.{Ongoing}
 use Rattle.fx_collect.specs.Totals.{Totals}
-use Rattle.fx_net.specs.Stores.{Stored, flows_in}
+use Rattle.fx_net.specs.Stores.{Stored}
 
 pub record Contents : Type 0 where
   -- the store of each cache and of each aggregation; an immediate cache has none
@@ -34,10 +33,6 @@ abbrev pub stored_at : List (Option Stored) → ℕ → Option Stored
 stored_at stores place = joined (slice_get stores place)
 
 -- an immediate cache holds nothing
-abbrev pub flows_held : Option Stored → Flows
-flows_held None = flows_of []
-flows_held (Some stored) = flows_in stored
-
 abbrev pub is_immediate : Option Stored → Bool
 is_immediate None = true
 is_immediate (Some stored) = false

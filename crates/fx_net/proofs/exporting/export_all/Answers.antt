@@ -1,7 +1,8 @@
 use Rattle.std.proofs.Common.{◌∙◌, sym, ap, List, ℕ, drop, get_or, ◌+◌}
+use Rattle.std.proofs.lemmas.List.{drop_more}
 use Rattle.fx_link.specs.Ongoing.{Ongoing}
 use Rattle.fx_net.specs.Exporting.{put_each, links_used, used_at}
-use Rattle.fx_net.proofs.Changing.{drop_at, put_each_more}
+use Rattle.fx_net.proofs.Changing.{put_each_more}
 use Rattle.fx_net.proofs.exporting.export_all.Goals as goal
 
 pub loop-exporter-preserved : goal.loop-exporter-preserved
@@ -15,4 +16,4 @@ loop-exporter-preserved c =
     let links = c.loop-exporter.links.items in
     ap (λ (os : List Ongoing). put_each t r (links_used net chosen (drop (n + 1) ps)) os) c.in_ok-export_at.ensures.ok
     ∙ put_each_more t r (used_at net chosen (get_or ps n 0)) (links_used net chosen (drop (n + 1) ps)) links
-    ∙ ap (λ (xs : List ℕ). put_each t r (links_used net chosen xs) links) (sym (drop_at ps n 0 c.loop-exporter-test.true)) ∙ c.loop-exporter.invariant
+    ∙ ap (λ (xs : List ℕ). put_each t r (links_used net chosen xs) links) (sym (drop_more ps n 0 c.loop-exporter-test.true)) ∙ c.loop-exporter.invariant
