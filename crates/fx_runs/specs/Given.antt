@@ -1,0 +1,48 @@
+-- What a record that is put on some links gives each of them.
+use Rattle.std.specs.Prelude.{◌≡◌, ℕ, suc, ◌<◌, ◌==◌, List, [], ◌∷◌, ◌++◌, length, slice_get, slice_set, option_map, Some, if◌then◌else◌}
+use Rattle.fx_machine.specs.declared.record.Record.{Record}
+use Rattle.fx_machine.specs.declared.step.HolderName.{HolderName}
+use Rattle.fx_machine.specs.declared.step.Step.TheVariants.{Cross, Expire, Arrive}
+use Rattle.fx_machine.specs.States.{State}
+use Rattle.fx_machine.specs.Acts.{Choices}
+use Rattle.fx_machine.specs.Sends.{put_all}
+use Rattle.fx_runs.specs.PutOn.{put_by}
+
+-- the record, as often as the link is one of these
+abbrev pub given : List ℕ → Record → ℕ → List Record
+given [] r link = []
+given (l ∷ ls) r link = (if l == link then r ∷ [] else []) ++ given ls r link
+
+-- ---- the laws
+
+-- The records that a link is given come behind those that are there.
+abbrev pub GivesAll : Type 0
+GivesAll =
+    (links : List ℕ) (r : Record) (rss : List (List Record)) (link : ℕ)
+    → slice_get (put_all links r rss) link
+    ≡ option_map (λ rs. rs ++ given links r link) (slice_get rss link)
+
+-- A record that leaves a holder and is put on some links puts on each link that is there what it is given.
+abbrev pub ExpirePuts : Type 0
+ExpirePuts =
+    (name : HolderName) (number : ℕ) (choices : Choices) (s : State) (t : State)
+    (links : List ℕ) (r : Record) (link : ℕ)
+    → t.carried ≡ put_all links r s.carried → link < length s.carried
+    → put_by (Expire name number choices) link s t ≡ given links r link
+
+-- So does the first record of a link, which leaves it.
+abbrev pub ArrivePuts : Type 0
+ArrivePuts =
+    (from : ℕ) (choices : Choices) (s : State) (t : State)
+    (links : List ℕ) (r : Record) (rs : List Record) (link : ℕ)
+    → slice_get s.carried from ≡ Some (r ∷ rs)
+    → t.carried ≡ put_all links r (slice_set s.carried from rs)
+    → link < length s.carried
+    → put_by (Arrive (suc from) 1 choices) link s t ≡ given links r link
+
+-- A crossing, by which nothing is put on links, puts nothing.
+abbrev pub CrossPuts : Type 0
+CrossPuts =
+    (packet : ℕ) (crossing : ℕ) (choices : Choices) (s : State) (t : State) (link : ℕ)
+    → t.carried ≡ s.carried
+    → put_by (Cross packet crossing choices) link s t ≡ []
