@@ -10,7 +10,8 @@ use Rattle.fx_session.specs.Streams.{Standing, IsNextRecord}
 use Rattle.fx_link.specs.Ongoing.{Ongoing}
 use Rattle.fx_net.specs.declared.leaving.Leaver.{Leaver}
 use Rattle.fx_net.specs.Contents.{Contents, changed}
-use Rattle.fx_net.specs.Exporting.{with_waiting, put_each, links_used, after_send}
+use Rattle.fx_runs.specs.Destinations.{links_used}
+use Rattle.fx_net.specs.Exporting.{with_waiting, put_each, after_send}
 use Rattle.fx_net.specs.Leaving.{after_leave, after_leaves}
 use Rattle.fx_net.specs.Taking.{adding, all_leave_at_once, with_stores, after_taking}
 use Rattle.fx_net.specs.Arriving.{process_behind, leads_to_report, exporters_named, takers, after_tally, after_arrive, after_arrivals, after_handling, waiting_on, with_left, IsNext}

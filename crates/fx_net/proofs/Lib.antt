@@ -4,3 +4,8 @@ pub mod Openings
 pub mod Takings
 pub mod Handlings
 pub mod ScheduleLines
+pub mod Goings
+pub mod Readings
+pub mod Frames
+pub mod Acting
+pub mod Exits

@@ -1,6 +1,5 @@
 -- What a running network holds.
 use Rattle.std.specs.Prelude.{ℕ, zero, suc, Bool, true, false, List, [], ◌∷◌, Option, Some, None, slice_get}
-use Rattle.std.specs.Option.{unwrap_or}
 use Rattle.fx_link.specs.Ongoing.{Ongoing}
 use Rattle.fx_collect.specs.Totals.{Totals}
 use Rattle.fx_net.specs.Stores.{Stored}
@@ -36,7 +35,3 @@ stored_at stores place = joined (slice_get stores place)
 abbrev pub is_immediate : Option Stored → Bool
 is_immediate None = true
 is_immediate (Some stored) = false
-
--- the number of the destination that the exporting process at this place uses
-abbrev pub number_in_use : List ℕ → ℕ → ℕ
-number_in_use chosen place = unwrap_or (slice_get chosen place) 0

@@ -1,11 +1,11 @@
 -- What a running network does, one thing after another.
-use Rattle.std.specs.Prelude.{◌≡◌, ◌≢◌, ℕ, zero, suc, ◌==◌, ◌≤◌, ◌<◌, Bool, true, false, List, [], ◌∷◌, map, filter, length, position, slice_get, Option, Some, None, IsSome}
+use Rattle.std.specs.Prelude.{◌≡◌, ◌≢◌, ℕ, zero, suc, ◌==◌, ◌≤◌, ◌<◌, Bool, true, false, List, [], ◌∷◌, map, length, position, slice_get, Option, Some, None, IsSome}
 use Rattle.std.specs.List.{flat_map, range_with_len}
 use Rattle.fx_boxes.specs.Boxes.{holds}
 use Rattle.fx_machine.specs.declared.packet.Packet.{Packet}
 use Rattle.fx_machine.specs.declared.step.HolderName.{HolderName}
 use Rattle.fx_machine.specs.declared.step.HolderName.TheVariants as holder
-use Rattle.fx_machine.specs.Network.{Net, Device, Exporter, Process, Aggregation, numbered, holder_place}
+use Rattle.fx_machine.specs.Network.{Net, Device, Exporter, Process, Aggregation, aggregations_of, numbered, holder_place}
 use Rattle.fx_machine.specs.Classes.{Class, path}
 use Rattle.fx_machine.specs.Steps.{one_packet}
 use Rattle.fx_link.specs.Links.{Put}
@@ -140,26 +140,37 @@ Each do_ (x ∷ xs) = Then (do_ x) (Each do_ xs)
 abbrev pub caches_of_all : Net → List ℕ
 caches_of_all net = flat_map (λ (d : Device). d.caches) net.devices
 
--- the places of the links into a process
+-- only where this is so
+abbrev pub Where : Bool → Doing → Doing
+Where true do_ = do_
+Where false do_ = Nothing
+
+-- the places of all links
+abbrev pub link_places : Net → List ℕ
+link_places net = range_with_len 0 (length net.links)
+
+-- whether a link leads to a process
 abbrev pub leads_to : Option ℕ → ℕ → Bool
 leads_to None process = false
 leads_to (Some to) process = to == process
 
-abbrev pub links_into : Net → ℕ → List ℕ
-links_into net process = filter (λ link. leads_to (slice_get net.links link) process) (range_with_len 0 (length net.links))
+-- the link at a place is carried whole where it leads to this process
+abbrev pub CarriesInto : Net → ℕ → ℕ → Doing
+CarriesInto net process link = Where (leads_to (slice_get net.links link) process) (Ended (CarriesWhole net link))
 
+-- the places of a process's aggregations among the holders
 abbrev pub holders_of : Option Process → List ℕ
-holders_of None = []
-holders_of (Some process) = map (λ (a : Aggregation). a.holder) process.aggregations
+holders_of process = map (λ (a : Aggregation). a.holder) (aggregations_of process)
+
+-- the holders at these places are emptied, one after another
+abbrev pub EmptiesAll : Net → List ℕ → Doing
+EmptiesAll net places = Each (λ place. Ended (Empties net place)) places
 
 -- the links into a process are carried whole, in order, and then its aggregations are emptied
 abbrev pub Finishes : Net → ℕ → Doing
-Finishes net process = Then (Each (λ link. Ended (CarriesWhole net link)) (links_into net process)) (Each (λ place. Ended (Empties net place)) (holders_of (slice_get net.processes process)))
+Finishes net process =
+    Then (Each (CarriesInto net process) (link_places net)) (EmptiesAll net (holders_of (slice_get net.processes process)))
 
--- The remaining packets are read, all caches are emptied in document order, and then the collecting processes are finished in the
--- order of their ranks.
-abbrev pub Closes : Network → List Class → List ℕ → List Seen → Doing
-Closes network classes ranked frames =
-    Then (Each (λ frame. Ended (Reads (net_of network) classes action.Next frame)) frames)
-    (Then (Each (λ place. Ended (Empties (net_of network) place)) (caches_of_all (net_of network)))
-    (Each (Finishes (net_of network)) ranked))
+-- all caches are emptied in document order, and then the collecting processes are finished in this order
+abbrev pub EmptiesNetwork : Net → List ℕ → Doing
+EmptiesNetwork net ranked = Then (EmptiesAll net (caches_of_all net)) (Each (Finishes net) ranked)

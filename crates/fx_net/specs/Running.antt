@@ -4,6 +4,7 @@ use Rattle.fx_base.specs.declared.fault.Fault.{Fault}
 use Rattle.fx_base.specs.declared.fault.Place.{Place}
 use Rattle.fx_base.specs.declared.fault.Place.TheVariants as places
 use Rattle.fx_base.specs.Fault.{fault_at}
+use Rattle.fx_base.specs.Lines.{Lines, AtLine, AtEnd, Refuses}
 use Rattle.fx_elements.specs.Axes.{Fields}
 use Rattle.fx_boxes.specs.Boxes.{holds}
 use Rattle.fx_machine.specs.declared.packet.Packet.{Packet}
@@ -12,6 +13,7 @@ use Rattle.fx_machine.specs.declared.step.HolderName.TheVariants as holder
 use Rattle.fx_machine.specs.Network.{Exporter, numbered, holder_place}
 use Rattle.fx_machine.specs.Classes.{Class}
 use Rattle.fx_link.specs.Links.{Put}
+use Rattle.fx_collect.specs.Totals.{Totals}
 use Rattle.fx_pcap.specs.Captures as captures
 use Rattle.fx_plan.specs.declared.network.Network.{Network}
 use Rattle.fx_plan.specs.Tables.{net_of}
@@ -22,9 +24,11 @@ use Rattle.fx_net.specs.declared.stop.Stop.{Stop}
 use Rattle.fx_net.specs.declared.stop.Stop.TheVariants as stop
 use Rattle.fx_net.specs.Schedule.{Asks}
 use Rattle.fx_net.specs.Contents.{Contents}
+use Rattle.fx_net.specs.Opening.{opened}
 use Rattle.fx_net.specs.Leaving.{least_at}
 use Rattle.fx_net.specs.Arriving.{queued_on}
-use Rattle.fx_net.specs.Doings.{Does, Closes, Ended, reads_packet}
+use Rattle.fx_plan.specs.Ranks.{IsWhole}
+use Rattle.fx_net.specs.Doings.{Does, Reads, EmptiesNetwork, Ended, reads_packet}
 
 pub record Running : Type 0 where
   pub network : Network
@@ -117,8 +121,11 @@ IsNotIn classes frame (action.NextOf class path) =
 IsNotIn classes frame _ = ⊥
 
 -- no class holds the packet
+abbrev pub IsOfNone : List Class → captures.Seen → Type 0
+IsOfNone classes frame = position (λ (c : Class). holds c.region frame.fields) classes ≡ None
+
 abbrev pub IsInNone : List Class → captures.Seen → Action → Type 0
-IsInNone classes frame action.Next = position (λ (c : Class). holds c.region frame.fields) classes ≡ None
+IsInNone classes frame action.Next = IsOfNone classes frame
 IsInNone classes frame _ = ⊥
 
 -- 802 or the fault of a capture's record goes before 803 and 804; each stands at the schedule's line
@@ -144,28 +151,96 @@ AnswersAgain old new result = IfSome old.fault (λ e. (result ≡ Err e) × (new
 
 -- ---- the closing phase
 
--- a reader of a capture goes on from frame to frame, through these
-abbrev pub ReadsUpTo : captures.Reading → captures.Reading → List captures.Seen → Type 0
-ReadsUpTo at to [] = to ≡ at
-ReadsUpTo at to (frame ∷ frames) =
-    (mid : captures.Reading) × captures.AtFrame at mid × (mid.seen ≡ frame) × ReadsUpTo mid to frames
-
--- and then to the capture's end
-abbrev pub ReadsThrough : captures.Reading → captures.Reading → List captures.Seen → Type 0
-ReadsThrough at to frames = (mid : captures.Reading) × ReadsUpTo at mid frames × captures.AtEnd mid to
-
--- The closing phase is gone through, collecting processes in this order.
-pub record ClosesTo (ranked : List ℕ) (old new : Running) (at to : captures.Reading) (before after : Put) : Type 0 where
-  pub frames : List captures.Seen
-  pub reads : ReadsThrough at to frames
-  pub closes : Closes old.network old.classes ranked frames before old.contents after new.contents
+-- the packet of a frame is read, of the first class that holds it and with path 1
+pub record ReadsOne (old new : Running) (frame : captures.Seen) (before after : Put) : Type 0 where
+  pub done : Ended (Reads (net_of old.network) old.classes action.Next frame) before old.contents after new.contents
   pub rest : new ≡ record old { contents = new.contents }
 
--- a reader of a capture has gone on through some frames
-abbrev pub ReadsOn : captures.Reading → captures.Reading → Type 0
-ReadsOn at to = (frames : List captures.Seen) × ReadsUpTo at to frames
+-- the packets of these frames are read, one after another, as a reader of a capture goes on
+abbrev pub ReadsFrames : List captures.Seen → Running → Running → captures.Reading → captures.Reading → Put → Put → Type 0
+ReadsFrames [] old new at to before after = (new ≡ old) × (to ≡ at) × (after ≡ before)
+ReadsFrames (frame ∷ frames) old new at to before after =
+    (mid : Running) × (on : captures.Reading) × (put : Put)
+    × captures.AtFrame at on × (on.seen ≡ frame) × ReadsOne old mid frame before put × ReadsFrames frames mid new on to put after
 
--- a frame that is left is of no class, or the capture is refused at one
+-- some frames are read
+pub record HasRead (old new : Running) (at to : captures.Reading) (before after : Put) : Type 0 where
+  pub frames : List captures.Seen
+  pub read : ReadsFrames frames old new at to before after
+
+-- the remaining packets are read
+pub record ReadsRest (old new : Running) (at to : captures.Reading) (before after : Put) : Type 0 where
+  pub last : captures.Reading
+  pub read : HasRead old new at last before after
+  pub end : captures.AtEnd last to
+
+-- The closing phase: the remaining packets are read, all caches are emptied in document order, and then the collecting
+-- processes are finished in the order of their ranks.
+pub record Closes (old new : Running) (at to : captures.Reading) (before after : Put) : Type 0 where
+  pub mid : Running
+  pub put : Put
+  pub reads : ReadsRest old mid at to before put
+  pub ranked : List ℕ
+  pub whole : IsWhole (net_of old.network) ranked
+  pub empties : EmptiesNetwork (net_of old.network) ranked put mid.contents after new.contents
+  pub rest : new ≡ record old { contents = new.contents }
+
+-- a reader of a capture has gone on to some frames
+abbrev pub GoesOn : captures.Reading → captures.Reading → List captures.Seen → Type 0
+GoesOn at to [] = to ≡ at
+GoesOn at to (frame ∷ frames) = (on : captures.Reading) × captures.AtFrame at on × (on.seen ≡ frame) × GoesOn on to frames
+
+abbrev pub HasGoneOn : captures.Reading → captures.Reading → Type 0
+HasGoneOn at to = (frames : List captures.Seen) × GoesOn at to frames
+
+-- a frame that is left is of no class, or the capture is refused behind some frames
 pub data RefusesClose (old : Running) (at to : captures.Reading) (e : Fault) : Type 0 where
-  capture_refused : (mid : captures.Reading) → ReadsOn at mid → captures.Refuses mid to e → RefusesClose old at to e
-  in_none : e ≡ fault_at 804 places.None → ReadsOn at to → position (λ (c : Class). holds c.region to.seen.fields) old.classes ≡ None → RefusesClose old at to e
+  capture_cut : (mid : captures.Reading) → HasGoneOn at mid → captures.Refuses mid to e → RefusesClose old at to e
+  none_holds : e ≡ fault_at 804 places.None → HasGoneOn at to → IsOfNone old.classes to.seen → RefusesClose old at to e
+
+-- ---- a whole run
+
+-- the lines of a schedule are obeyed, one after another, as a reader of it goes on
+abbrev pub ObeysLines : List (List ℕ) → Running → Running → captures.Reading → captures.Reading → Lines → Lines → Put → Put → Type 0
+ObeysLines [] old new at to from last before after = (new ≡ old) × (to ≡ at) × (last ≡ from) × (after ≡ before)
+ObeysLines (line ∷ lines) old new at to from last before after =
+    (mid : Running) × (on : captures.Reading) × (next : Lines) × (put : Put)
+    × AtLine from next × (next.line ≡ line) × Obeys line old mid at on before put × ObeysLines lines mid new on to next last put after
+
+-- some lines are obeyed
+pub record HasObeyed (old new : Running) (at to : captures.Reading) (from last : Lines) (before after : Put) : Type 0 where
+  pub lines : List (List ℕ)
+  pub obeyed : ObeysLines lines old new at to from last before after
+
+-- all lines of the schedule are obeyed
+pub record ObeysAll (old new : Running) (at to : captures.Reading) (from last : Lines) (before after : Put) : Type 0 where
+  pub behind : Lines
+  pub obeyed : HasObeyed old new at to from behind before after
+  pub end : AtEnd behind last
+
+-- and then the closing phase is gone through
+pub record Runs (old new : Running) (at to : captures.Reading) (from last : Lines) (before after : Put) : Type 0 where
+  pub mid : Running
+  pub on : captures.Reading
+  pub put : Put
+  pub obeys : ObeysAll old mid at on from last before put
+  pub closes : Closes mid new on to put after
+
+-- a network before anything is read
+abbrev pub begun : Network → List Class → Running
+begun network classes = record { network = network; classes = classes; contents = opened network; fault = None }
+
+-- a run comes to these totals
+pub record RunsTo (old : Running) (at to : captures.Reading) (from last : Lines) (before after : Put) (totals : Totals) : Type 0 where
+  pub new : Running
+  pub runs : Runs old new at to from last before after
+  pub totals_are : totals ≡ new.contents.totals
+
+-- a line of the schedule is refused, or the schedule itself, or what is left for the closing phase
+pub data RefusesRun (old : Running) (at to : captures.Reading) (from last : Lines) (before : Put) (e : Fault) : Type 0 where
+  line_refused : (mid : Running) (on : captures.Reading) (behind : Lines) (put : Put) → HasObeyed old mid at on from behind before put
+      → AtLine behind last → RefusesLine last.line last.number mid on to e → RefusesRun old at to from last before e
+  not_read : (mid : Running) (behind : Lines) (put : Put) → HasObeyed old mid at to from behind before put
+      → Refuses behind last e → RefusesRun old at to from last before e
+  rest_refused : (mid : Running) (on : captures.Reading) (behind : Lines) (put : Put) → HasObeyed old mid at on from behind before put
+      → AtEnd behind last → RefusesClose mid on to e → RefusesRun old at to from last before e

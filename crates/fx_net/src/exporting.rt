@@ -3,6 +3,7 @@ ghost use Rattle.std.specs.Prelude.{◌≡◌, OnOk, IfErr};
 ghost use Rattle.fx_base.specs.Fault.{fault_at};
 ghost use Rattle.fx_base.specs.declared.fault.Place.TheVariants as places;
 ghost use Rattle.fx_machine.specs.Sends as sends;
+ghost use Rattle.fx_runs.specs.Destinations as in_use;
 ghost use Rattle.fx_net.specs.Contents as contents;
 ghost use Rattle.fx_net.specs.Exporting as exporting;
 
@@ -73,7 +74,7 @@ fn put_to_one(
     flow: &Record,
 ) -> Result<(), Fault>
     ensures ok { OnOk result (links.new.items
-        ≡ exporting.put_each time flow.now (exporting.link_numbered destinations.now number) links.old.items) }
+        ≡ exporting.put_each time flow.now (in_use.link_numbered destinations.now number) links.old.items) }
     ensures err { IfErr result (λ e. e ≡ fault_at 900 places.None) }
 {
     if number == 0 {
@@ -94,7 +95,7 @@ fn export(
     flow: &Record,
 ) -> Result<(), Fault>
     ensures ok { OnOk result (links.new.items
-        ≡ exporting.put_each time flow.now (exporting.links_of_exporter exporter.now number) links.old.items) }
+        ≡ exporting.put_each time flow.now (in_use.links_of_exporter exporter.now number) links.old.items) }
     ensures err { IfErr result (λ e. e ≡ fault_at 900 places.None) }
 {
     if exporter.parallel() {
@@ -106,7 +107,7 @@ fn export(
 
 /// The number of the destination that the exporting process at this place uses.
 fn number_in_use(chosen: &[u64], place: usize) -> u64
-    ensures { result ≡ contents.number_in_use chosen.now place }
+    ensures { result ≡ in_use.number_in_use chosen.now place }
 {
     match chosen.get(place) {
         None => 0,
@@ -124,7 +125,7 @@ fn export_at(
     flow: &Record,
 ) -> Result<(), Fault>
     ensures ok { OnOk result (links.new.items
-        ≡ exporting.put_each time flow.now (exporting.used_at net.now chosen.now place) links.old.items) }
+        ≡ exporting.put_each time flow.now (in_use.used_at net.now chosen.now place) links.old.items) }
     ensures err { IfErr result (λ e. e ≡ fault_at 900 places.None) }
 {
     match net.exporters().get(place) {
@@ -143,7 +144,7 @@ fn export_all(
     flow: &Record,
 ) -> Result<(), Fault>
     ensures ok { OnOk result (links.new.items
-        ≡ exporting.put_each time flow.now (exporting.links_used net.now chosen.now exporters.now) links.old.items) }
+        ≡ exporting.put_each time flow.now (in_use.links_used net.now chosen.now exporters.now) links.old.items) }
     ensures err { IfErr result (λ e. e ≡ fault_at 900 places.None) }
 {
     for exporter in exporters {

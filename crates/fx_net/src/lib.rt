@@ -3,6 +3,7 @@
 
 mod action;
 mod arriving;
+mod closing;
 mod contents;
 mod exporting;
 mod finishing;
@@ -10,10 +11,13 @@ mod holding;
 mod leaving;
 mod metering;
 mod network;
+mod obeying;
 mod opening;
+mod running;
 mod schedule;
 mod stop;
 mod store;
 mod taking;
 
 pub use network::Network;
+pub use running::run;

@@ -1,11 +1,12 @@
 //! A running network: what the lines of a schedule do in it.
-ghost use Rattle.std.specs.Prelude.{◌≡◌, position, None, IfOk, IfErr, OnOk};
+ghost use Rattle.std.specs.Prelude.{◌≡◌, true, false, position, None, IfOk, IfErr, OnOk};
 ghost use Rattle.fx_base.specs.Fault.{fault_at};
 ghost use Rattle.fx_base.specs.declared.fault.Place.TheVariants as places;
 ghost use Rattle.fx_boxes.specs.Boxes.{holds};
 ghost use Rattle.fx_machine.specs.Classes as traffic;
 ghost use Rattle.fx_pcap.specs.Captures as captures;
 ghost use Rattle.fx_plan.specs.Tables.{net_of};
+ghost use Rattle.fx_net.specs.declared.action.Action.TheVariants as action;
 ghost use Rattle.fx_net.specs.declared.stop.Stop.TheVariants as stop;
 ghost use Rattle.fx_net.specs.Doings as doings;
 ghost use Rattle.fx_net.specs.Opening as opening;
@@ -13,11 +14,11 @@ ghost use Rattle.fx_net.specs.Running as running;
 
 use crate::contents::Contents;
 use crate::stop::Stop;
-use fx_base::{Counts, Fault};
+use fx_base::{Counts, Fault, Source};
 use fx_boxes::Fields;
 use fx_collect::Totals;
 use fx_machine::{Class, Packet};
-use fx_pcap::Frame;
+use fx_pcap::{Capture, Frame};
 use fx_plan::Plan;
 use fx_traffic::Traffic;
 use std::alloc::Global;
@@ -100,6 +101,25 @@ impl<'a> Network<'a> {
         self.contents
             .cross_all(self.alloc, net, &packet.fields, counts, crossings)?;
         Ok(())
+    }
+
+    /// The packet of the frame that a capture is at makes all its crossings, where a class holds it: it is of the first
+    /// such class, and takes that class's first path. Answers whether there is one.
+    pub(crate) fn meter_first<R: Source>(&mut self, capture: &Capture<R>) -> Result<bool, Stop>
+        ensures read { IfOk result (λ there. there ≡ true
+            → doings.Reads (net_of self.old.network) self.old.classes action.Next capture.now.seen
+            self.old.contents self.new.contents) }
+        ensures none { IfOk result (λ there. there ≡ false → running.IsOfNone self.old.classes capture.now.seen) }
+        ensures rest { OnOk result (self.new ≡ record self.old { contents = self.new.contents }) }
+        ensures err { IfErr result (λ s. s ≡ stop.Bare 900) }
+    {
+        let frame = capture.frame();
+        let classes = self.traffic.classes().as_slice();
+        let Some(place) = class_place(classes, &frame.fields) else {
+            return Ok(false);
+        };
+        self.meter(&frame, place as u64 + 1, 1)?;
+        Ok(true)
     }
 
     /// What the collector has counted so far.

@@ -1,7 +1,8 @@
 use Rattle.std.proofs.Common.{◌∙◌, sym, ap, List, ℕ, drop, get_or, ◌+◌}
 use Rattle.std.proofs.lemmas.List.{drop_more}
 use Rattle.fx_link.specs.Ongoing.{Ongoing}
-use Rattle.fx_net.specs.Exporting.{put_each, links_used, used_at}
+use Rattle.fx_runs.specs.Destinations.{links_used, used_at}
+use Rattle.fx_net.specs.Exporting.{put_each}
 use Rattle.fx_net.proofs.Changing.{put_each_more}
 use Rattle.fx_net.proofs.exporting.export_all.Goals as goal
 

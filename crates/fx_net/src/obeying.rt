@@ -1,0 +1,279 @@
+//! The lines of a schedule are obeyed.
+ghost use Rattle.std.specs.Prelude.{◌≡◌, ◌⊎◌, true, false, Some, None, OnOk, IfErr};
+ghost use Rattle.fx_machine.specs.Network as network;
+ghost use Rattle.fx_machine.specs.Views.{now_of};
+ghost use Rattle.fx_pcap.specs.Captures as captures;
+ghost use Rattle.fx_plan.specs.Tables.{net_of};
+ghost use Rattle.fx_net.specs.declared.action.Action.TheVariants as action;
+ghost use Rattle.fx_net.specs.declared.stop.Stop.TheVariants as stop;
+ghost use Rattle.fx_net.specs.Contents.{changed};
+ghost use Rattle.fx_net.specs.Doings as doings;
+ghost use Rattle.fx_net.specs.Running as running;
+
+use crate::action::Action;
+use crate::arriving::queued;
+use crate::network::Network;
+use crate::schedule::read_action;
+use crate::stop::Stop;
+use fx_base::{Fault, Line, Source};
+use fx_boxes::Fields;
+use fx_link::Links;
+use fx_machine::{Class, HolderName};
+use fx_pcap::Capture;
+
+/// The entry of this number, from 1.
+fn numbered<T>(entries: &[T], number: u64) -> Option<&T>
+    ensures { now_of result ≡ network.numbered entries.now number }
+{
+    if number == 0 {
+        return None;
+    }
+    entries.get((number - 1) as usize)
+}
+
+/// Whether there is a path of this number, from 1, in a class that holds these fields.
+fn has_path(class: &Class, fields: &Fields, path: u64) -> bool
+    ensures { result ≡ running.is_in_class (Some class.now) fields.now path }
+{
+    match numbered(class.paths(), path) {
+        None => false,
+        Some(_path) => class.holds(fields),
+    }
+}
+
+/// Whether there are a class of this number, from 1, that holds these fields and a path of this number in it.
+fn is_in(classes: &[Class], fields: &Fields, class: u64, path: u64) -> bool
+    ensures { result ≡ running.is_in classes.now fields.now class path }
+{
+    match numbered(classes, class) {
+        None => false,
+        Some(class) => has_path(class, fields, path),
+    }
+}
+
+/// The exporting process at this place uses this destination from now on.
+fn choose(chosen: &mut Vec<u64>, place: usize, destination: u64)
+    ensures { chosen.new.items ≡ changed (λ _. destination) chosen.old.items place }
+{
+    if let Some(number) = chosen.get_mut(place) {
+        *number = destination;
+    }
+}
+
+impl<'a> Network<'a> {
+    /// The next packet is read. It is of the first class that holds it, and takes that class's first path.
+    fn read_next<R: Source>(&mut self, capture: &mut Capture<R>, line: u64) -> Result<(), Stop>
+        ensures ok { OnOk result (captures.AtFrame capture.old capture.new
+            × doings.Reads (net_of self.old.network) self.old.classes action.Next capture.new.seen
+            self.old.contents self.new.contents) }
+        ensures rest { OnOk result (self.new ≡ record self.old { contents = self.new.contents }) }
+        ensures err { IfErr result (λ s. (s ≡ stop.Bare 900)
+            ⊎ running.RefusesAction self.old capture.old capture.new line action.Next (running.fault_of s)) }
+    {
+        if !capture.advance()? {
+            return Err(Stop::Line { number: 802, line });
+        }
+        if !self.meter_first(capture)? {
+            return Err(Stop::Line { number: 804, line });
+        }
+        Ok(())
+    }
+
+    /// The next packet is read. It is of this class, and takes this path of the class.
+    fn read_of<R: Source>(
+        &mut self,
+        capture: &mut Capture<R>,
+        class: u64,
+        path: u64,
+        line: u64,
+    ) -> Result<(), Stop>
+        ensures ok { OnOk result (captures.AtFrame capture.old capture.new
+            × doings.Reads (net_of self.old.network) self.old.classes (action.NextOf class path) capture.new.seen
+            self.old.contents self.new.contents) }
+        ensures rest { OnOk result (self.new ≡ record self.old { contents = self.new.contents }) }
+        ensures err { IfErr result (λ s. (s ≡ stop.Bare 900)
+            ⊎ running.RefusesAction self.old capture.old capture.new line (action.NextOf class path) (running.fault_of s)) }
+    {
+        if !capture.advance()? {
+            return Err(Stop::Line { number: 802, line });
+        }
+        let frame = capture.frame();
+        if !is_in(
+            self.traffic.classes().as_slice(),
+            &frame.fields,
+            class,
+            path,
+        ) {
+            return Err(Stop::Line { number: 803, line });
+        }
+        self.meter(&frame, class, path)
+    }
+
+    /// The record of the least key leaves a holder.
+    fn expire(&mut self, name: HolderName, line: u64) -> Result<(), Stop>
+        ensures ok { OnOk result (doings.LeastLeaves (net_of self.old.network) name self.old.contents self.new.contents) }
+        ensures rest { OnOk result (self.new ≡ record self.old { contents = self.new.contents }) }
+        ensures err { IfErr result (λ s. (s ≡ stop.Bare 900)
+            ⊎ ((s ≡ stop.Line 802 line) × running.HoldsNothing self.old name)) }
+    {
+        let net = self.plan.net();
+        let Some(place) = net.holder_place(name) else {
+            return Err(Stop::Line { number: 802, line });
+        };
+        if !self.contents.expire_least(net, place)? {
+            return Err(Stop::Line { number: 802, line });
+        }
+        Ok(())
+    }
+
+    /// So many octets of a link reach its end, and the records that they complete are handled.
+    fn carry(&mut self, link: u64, octets: u64, line: u64) -> Result<(), Stop>
+        ensures ok { OnOk result (doings.CarriesOn (net_of self.old.network) link octets self.old.contents self.new.contents) }
+        ensures rest { OnOk result (self.new ≡ record self.old { contents = self.new.contents }) }
+        ensures err { IfErr result (λ s. (s ≡ stop.Bare 900)
+            ⊎ ((s ≡ stop.Line 802 line) × running.HasTooFew self.old.contents link octets)) }
+    {
+        if link == 0 {
+            return Err(Stop::Line { number: 802, line });
+        }
+        let place = (link - 1) as usize;
+        match queued(self.contents.links.as_slice(), place) {
+            None => return Err(Stop::Line { number: 802, line }),
+            Some(queued) => {
+                if (queued as u64) < octets {
+                    return Err(Stop::Line { number: 802, line });
+                }
+            }
+        }
+        self.contents
+            .carry(self.alloc, self.plan.net(), place, octets as usize)?;
+        Ok(())
+    }
+
+    /// An exporting process sends to this destination from now on.
+    fn use_destination(
+        &mut self,
+        device: u64,
+        exporter: u64,
+        destination: u64,
+        line: u64,
+    ) -> Result<(), Stop>
+        ensures ok { OnOk result (doings.Uses self.old.network device exporter destination self.old.contents self.new.contents) }
+        ensures rest { OnOk result (self.new ≡ record self.old { contents = self.new.contents }) }
+        ensures err { IfErr result (λ s. (s ≡ stop.Bare 900)
+            ⊎ ((s ≡ stop.Line 802 line) × running.HasNoDestination self.old.network device exporter destination)) }
+    {
+        let Ok(place) = self.plan.exporter_place(self.alloc, device, exporter) else {
+            return Err(Stop::Bare { number: 900 });
+        };
+        let Some(place) = place else {
+            return Err(Stop::Line { number: 802, line });
+        };
+        let Some(named) = self.plan.net().exporters().get(place) else {
+            return Err(Stop::Line { number: 802, line });
+        };
+        let Some(_destination) = numbered(named.destinations(), destination) else {
+            return Err(Stop::Line { number: 802, line });
+        };
+        choose(&mut self.contents.chosen, place, destination);
+        Ok(())
+    }
+
+    /// What a line asks for is done.
+    fn act<R: Source>(
+        &mut self,
+        asked: Action,
+        line: u64,
+        capture: &mut Capture<R>,
+    ) -> Result<(), Stop>
+        ensures ok { OnOk result (running.Acts asked self.old self.new capture.old capture.new) }
+        ensures err { IfErr result (λ s. (s ≡ stop.Bare 900)
+            ⊎ running.RefusesAction self.old capture.old capture.new line asked (running.fault_of s)) }
+    {
+        match asked {
+            Action::Next => self.read_next(capture, line),
+            Action::NextOf { class, path } => self.read_of(capture, class, path, line),
+            Action::Expire { device, cache } => {
+                self.expire(HolderName::Cache { device, cache }, line)
+            }
+            Action::Emit {
+                device,
+                process,
+                aggregation,
+            } => {
+                let name = HolderName::Aggregation {
+                    device,
+                    process,
+                    aggregation,
+                };
+                self.expire(name, line)
+            }
+            Action::Carry { link, octets } => self.carry(link, octets, line),
+            Action::Use {
+                device,
+                exporter,
+                destination,
+            } => self.use_destination(device, exporter, destination, line),
+        }
+    }
+
+    /// A line is obeyed, whatever was answered before.
+    fn try_line<R: Source, L: Links>(
+        &mut self,
+        line: &Line<'_>,
+        capture: &mut Capture<R>,
+        links: &mut L,
+    ) -> Result<(), Stop>
+        ensures ok { OnOk result (running.Obeys line.now.bytes.now self.old self.new capture.old capture.new
+            (L.put_on links.old) (L.put_on links.new)) }
+        ensures going { OnOk result (L.failed links.old ≡ false → L.failed links.new ≡ false) }
+        ensures err { IfErr result (λ s. running.FailsOutside (L.failed links.new) (running.fault_of s)
+            ⊎ running.RefusesLine line.now.bytes.now line.now.number self.old capture.old capture.new
+            (running.fault_of s)) }
+    {
+        let Some(asked) = read_action(line.bytes) else {
+            return Err(Stop::Line {
+                number: 801,
+                line: line.number,
+            });
+        };
+        self.act(asked, line.number, capture)?;
+        self.contents.finish(links)?;
+        Ok(())
+    }
+
+    /// Does what a line of the schedule asks for, and puts what it sends on the links.
+    ///
+    /// A line is `next` or `next CLASS PATH`, `expire DEVICE CACHE`, `emit DEVICE PROCESS AGGREGATION`, `carry LINK OCTETS`
+    /// or `use DEVICE EXPORTER DESTINATION`; numbers count from 1, in document order.
+    ///
+    /// Fails, at the line, with 801 where it is none of these; with 802 where a number names nothing, the holder holds
+    /// nothing, fewer octets wait on the link or no packet is left; with 803 where the packet isn't in the class or the
+    /// class hasn't the path, and with 804 where no class holds it. Fails as the capture does where a packet is read, with
+    /// 902 where the links fail and with 900 for want of memory. From then on it answers its fault again.
+    pub fn obey<R: Source, L: Links>(
+        &mut self,
+        line: &Line<'_>,
+        capture: &mut Capture<R>,
+        links: &mut L,
+    ) -> Result<(), Fault>
+        ensures ok { OnOk result (running.Obeys line.now.bytes.now self.old self.new capture.old capture.new
+            (L.put_on links.old) (L.put_on links.new)) }
+        ensures going { OnOk result (L.failed links.old ≡ false → L.failed links.new ≡ false) }
+        ensures err { self.old.fault ≡ None → IfErr result (λ e. running.FailsOutside (L.failed links.new) e
+            ⊎ running.RefusesLine line.now.bytes.now line.now.number self.old capture.old capture.new e) }
+        ensures stopped { IfErr result (λ e. self.new.fault ≡ Some e) }
+        ensures again { running.AnswersAgain self.old self.new result }
+    {
+        if let Some(stop) = self.stopped {
+            return Err(stop.fault());
+        }
+        match self.try_line(line, capture, links) {
+            Ok(()) => Ok(()),
+            Err(stop) => {
+                self.stopped = Some(stop);
+                Err(stop.fault())
+            }
+        }
+    }
+}
