@@ -1,0 +1,13 @@
+-- What is held before anything is read.
+use Rattle.fx_machine.specs.States.{nothing_at}
+use Rattle.fx_plan.specs.declared.network.Network.{Network}
+use Rattle.fx_plan.specs.Tables.{net_of}
+use Rattle.fx_net.specs.Opening.{stores_of}
+use Rattle.fx_conform.specs.Held.{AreHeld}
+use Rattle.fx_conform.specs.Usable.{AreUsable}
+
+-- Nothing is in the stores, and nothing is held.
+abbrev pub Begins : Type 0
+Begins =
+    (network : Network)
+    → AreHeld (stores_of network) (nothing_at (net_of network).holders) × AreUsable (stores_of network)
