@@ -98,7 +98,7 @@ impl Link {
         self.outlet.flush(time, &mut self.stream)
     }
 
-    /// The records that wait have their message, and what was written is put out.
+    /// The records that wait have their message, and what was written is put out. For their layout an id is left.
     ///
     /// Fails with 900, at no place, for want of memory, and as the link's octets are put out. What is being sent, and
     /// what was put out of it, is open then.
@@ -106,6 +106,7 @@ impl Link {
         ensures ok { OnOk result (self.new ≡ ongoing.after_finish time self.old) }
         ensures put { OnOk result (Puts (L.put_on links.old) (L.put_on links.new) number
             (ongoing.to_put time self.old)) }
+        ensures room { sending.has_room_for self.old.outgoing.batch self.old.outgoing.sender ≡ true }
         ensures going { OnOk result (L.failed links.old ≡ false → L.failed links.new ≡ false) }
         ensures err { IfErr result (λ e. (e ≡ fault_at 900 places.None)
             ⊎ ((e ≡ fault_at 902 places.None) × (L.failed links.new ≡ true))) }

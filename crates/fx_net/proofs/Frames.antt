@@ -1,5 +1,5 @@
 -- The packet of a frame, of the first class that holds it.
-use Rattle.std.proofs.Common.{◌≡◌, ℕ, ◌+◌, Bool, true, false, List, Option, Some, None, Ok, refl, sym, ap, ◌∙◌, add-one}
+use Rattle.std.proofs.Common.{◌≡◌, ℕ, ◌+◌, ◌<◌, ◌^◌, Bool, true, false, List, Option, Some, None, Ok, refl, sym, ap, ◌∙◌, subst, add-one}
 use Rattle.std.specs.Prelude.{position}
 use Rattle.fx_base.specs.declared.fault.Fault.{Fault}
 use Rattle.fx_boxes.specs.Boxes.{holds}
@@ -23,13 +23,18 @@ of_none classes fields seen place e is none = ap (first_place classes) (sym e) �
 
 -- the class at this place is the first that holds it
 pub reads_first : (net : Net) (classes : List Class) (frame seen : captures.Seen) (place : Option ℕ) (k : ℕ) (old done : Contents)
-    → frame.fields ≡ seen.fields → frame.octets ≡ seen.octets → frame.second ≡ seen.second
+    → frame.fields ≡ seen.fields → frame.octets ≡ seen.octets → frame.second ≡ seen.second → frame.octets < 2 ^ 32 → frame.second < 2 ^ 32
     → place ≡ position (λ (c : Class). holds c.region frame.fields) classes → place ≡ Some k
     → done ≡ after_packet net classes (packet_of frame (k + 1) 1) frame.second old
     → Reads net classes action.Next seen old done
-reads_first net classes frame seen place k old done fields octets second is there made = record {
+reads_first net classes frame seen place k old done fields octets second few soon is there made = record {
   packet = packet_of frame (k + 1) 1;
-  is_frame = record { fields = fields; octets = octets };
+  is_frame = record {
+        fields = fields;
+        octets = octets;
+        few = subst (λ (n : ℕ). n < 2 ^ 32) octets few;
+        second = subst (λ (n : ℕ). n < 2 ^ 32) second soon;
+      };
   given = (k, sym is ∙ there, add-one k, refl);
   done_is = made ∙ ap (λ (s : ℕ). after_packet net classes (packet_of frame (k + 1) 1) s old) second;
 }

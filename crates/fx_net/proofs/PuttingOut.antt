@@ -3,7 +3,8 @@ use Rattle.std.proofs.Common.{◌≡◌, ◌≢◌, ℕ, zero, suc, ◌+◌, ◌
 use Rattle.fx_base.specs.Device.{Writes}
 use Rattle.fx_link.specs.Links.{Put, Puts}
 use Rattle.fx_link.specs.Ongoing.{Ongoing, to_put}
-use Rattle.fx_net.specs.Finishing.{PutsAll, to_put_on}
+use Rattle.fx_link.specs.Sending.{has_room_for}
+use Rattle.fx_net.specs.Finishing.{HasRoom, PutsAll, to_put_on}
 
 pub writes_nothing : (told : Option (List ℕ)) → Writes told told []
 writes_nothing None = refl
@@ -32,13 +33,23 @@ next_put before mid after time (suc n) (x ∷ xs) d lt p here others zero =
 next_put before mid after time (suc n) (x ∷ xs) d lt p here others (suc link) =
     next_put (λ k. before (suc k)) (λ k. mid (suc k)) (λ k. after (suc k)) time n xs d (le_of_suc-le-suc lt) (λ k. p (suc k)) here (λ k ne. others (suc k) (λ e. ne (omega (arith, e)))) link
 
+-- one link more has room
+rooms_more : (n : ℕ) (links : List Ongoing) (d : Ongoing) → n < length links
+    → ((link : ℕ) → HasRoom (slice_get (take n links) link)) → HasRoom (Some (get_or links n d))
+    → (link : ℕ) → HasRoom (slice_get (take (suc n) links) link)
+rooms_more n [] d lt rooms room link = absurd (omega arith)
+rooms_more zero (x ∷ xs) d lt rooms room zero = room
+rooms_more zero (x ∷ xs) d lt rooms room (suc link) = unit
+rooms_more (suc n) (x ∷ xs) d lt rooms room zero = rooms 0
+rooms_more (suc n) (x ∷ xs) d lt rooms room (suc link) = rooms_more n xs d (le_of_suc-le-suc lt) (λ k. rooms (suc k)) room link
+
 -- the link at a place has put out what waited on it
 pub puts_more : (before mid after : Put) (time n : ℕ) (links : List Ongoing) (d : Ongoing) → n < length links
     → PutsAll before mid time (take n links) → Puts mid after (n + 1) (to_put time (get_or links n d))
-    → PutsAll before after time (take (n + 1) links)
+    → HasRoom (Some (get_or links n d)) → PutsAll before after time (take (n + 1) links)
 unfolding PutsTo
-puts_more before mid after time n links d lt p h =
-    subst (λ m. PutsAll before after time (take m links)) (sym (add-one n))
-    (next_put (λ k. before (suc k)) (λ k. mid (suc k)) (λ k. after (suc k)) time n links d lt p
+puts_more before mid after time n links d lt p h room =
+    subst (λ m. PutsAll before after time (take m links)) (sym (add-one n)) (λ link. (rooms_more n links d lt (λ k. (p k).0) room link,
+    next_put (λ k. before (suc k)) (λ k. mid (suc k)) (λ k. after (suc k)) time n links d lt (λ k. (p k).1)
     (subst (λ m. Writes (mid m) (after m) (to_put time (get_or links n d))) (add-one n) h.here)
-    (λ k ne. h.others (suc k) (λ e. ne (omega (arith, e)))))
+    (λ k ne. h.others (suc k) (λ e. ne (omega (arith, e)))) link))

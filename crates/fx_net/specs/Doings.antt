@@ -1,5 +1,5 @@
 -- What a running network does, one thing after another.
-use Rattle.std.specs.Prelude.{◌≡◌, ◌≢◌, ℕ, zero, suc, ◌==◌, ◌≤◌, ◌<◌, Bool, true, false, List, [], ◌∷◌, map, length, position, slice_get, Option, Some, None, IsSome}
+use Rattle.std.specs.Prelude.{◌≡◌, ◌≢◌, ℕ, zero, suc, ◌==◌, ◌^◌, ◌≤◌, ◌<◌, Bool, true, false, List, [], ◌∷◌, map, length, position, slice_get, Option, Some, None, IsSome}
 use Rattle.std.specs.List.{flat_map, range_with_len}
 use Rattle.fx_boxes.specs.Boxes.{holds}
 use Rattle.fx_machine.specs.declared.packet.Packet.{Packet}
@@ -40,10 +40,12 @@ pub record Ended (makes : Making) (before : Put) (old : Contents) (after : Put) 
 
 -- ---- a packet is read
 
--- the packet of a frame
+-- the packet of a frame, whose octets and second are numbers of 32 bits
 pub record IsFrame (packet : Packet) (frame : Seen) : Type 0 where
   pub fields : packet.fields ≡ frame.fields
   pub octets : packet.octets ≡ frame.octets
+  pub few : frame.octets < 2 ^ 32
+  pub second : frame.second < 2 ^ 32
 
 -- the class and the path that a line gives a packet: the first class whose region holds it, and path 1, where it names none
 abbrev pub IsGiven : List Class → Action → Packet → Type 0

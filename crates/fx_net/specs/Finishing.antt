@@ -1,8 +1,9 @@
 -- What waits on links is put out.
-use Rattle.std.specs.Prelude.{ℕ, suc, List, [], map, Option, Some, None, slice_get}
+use Rattle.std.specs.Prelude.{◌≡◌, ℕ, suc, true, List, [], map, Option, Some, None, slice_get}
 use Rattle.fx_base.specs.Device.{Writes}
 use Rattle.fx_link.specs.Links.{Put}
 use Rattle.fx_link.specs.Ongoing.{Ongoing, after_finish, to_put}
+use Rattle.fx_link.specs.Sending.{has_room_for}
 use Rattle.fx_net.specs.Contents.{Contents}
 
 -- all that waits has its messages
@@ -14,7 +15,13 @@ abbrev pub to_put_on : ℕ → Option Ongoing → List ℕ
 to_put_on time None = []
 to_put_on time (Some o) = to_put time o
 
--- each link is given its messages; links have numbers from 1
+-- a template id is left for the layout of what waits on a link
+abbrev pub HasRoom : Option Ongoing → Type 0
+HasRoom None = Unit {0}
+HasRoom (Some o) = has_room_for o.outgoing.batch o.outgoing.sender ≡ true
+
+-- each link, on which there is room for what waits, is given its messages; links have numbers from 1
 abbrev pub PutsAll : Put → Put → ℕ → List Ongoing → Type 0
 PutsAll before after time links =
-    (link : ℕ) → Writes (before (suc link)) (after (suc link)) (to_put_on time (slice_get links link))
+    (link : ℕ)
+    → HasRoom (slice_get links link) × Writes (before (suc link)) (after (suc link)) (to_put_on time (slice_get links link))

@@ -83,7 +83,7 @@ by_first e (suc n) h = absurd cc
 
 -- the first destination is there
 usable : AllUsable meter (1 ∷ [])
-usable place e h none = let f = by_first e place h in absurd cc
+usable place e h chooses none = let f = by_first e place h in absurd cc
 
 -- so a record can leave, and is put on its link
 leaves : after meter customers one (Expire (Cache 1 1) 1 (Some 1 ∷ [])) (having (first ∷ []) [] []) ≡ Ok (having [] (first ∷ []) [])
@@ -92,14 +92,14 @@ leaves =
 
 -- a third isn't, and no record can leave to it
 not_usable : AllUsable meter (3 ∷ []) → ⊥
-not_usable h = h 0 by_choice refl refl
+not_usable h = h 0 by_choice refl refl refl
 
 stays : after meter customers one (Expire (Cache 1 1) 1 (sent_by meter (3 ∷ []) (0 ∷ []))) (having (first ∷ []) [] []) ≡ Err 852
 stays = refl
 
 -- nor where none is in use
 none_usable : AllUsable meter [] → ⊥
-none_usable h = h 0 by_choice refl refl
+none_usable h = h 0 by_choice refl refl refl
 
 stays_too : after meter customers one (Expire (Cache 1 1) 1 (sent_by meter [] (0 ∷ []))) (having (first ∷ []) [] []) ≡ Err 852
 stays_too = refl

@@ -39,15 +39,15 @@ module _ (es : List Exporter) (cs more : Choices) (used : List ℕ) (e : Exporte
   abbrev chosen_with : Bool → Choices
   chosen_with parallel = (cond parallel [] (Some n ∷ []) ++ cs) ++ more
 
-  exporter_chosen : Others → (links : List ℕ) → numbered e.destinations n ≢ None
+  exporter_chosen : Others → (links : List ℕ) → (e.parallel ≡ false → numbered e.destinations n ≢ None)
       → chosen_from links (e ∷ es) ((in_use (Some e) n ++ cs) ++ more) ≡ choosing (links ++ (used_by (Some e) n ++ used)) more
-  exporter_chosen others links there = by e.parallel where
-    by : (b : Bool)
+  exporter_chosen others links there = by e.parallel there where
+    by : (b : Bool) → (b ≡ false → numbered e.destinations n ≢ None)
         → cond b (chosen_from (links ++ links_of e.destinations) es (chosen_with b)) (option_and_then (λ d. chosen_from (links ++ linked d) es (drop 1 (chosen_with b))) (next_destination e.destinations (chosen_with b)))
         ≡ choosing (links ++ (cond b (links_of e.destinations) (link_of (numbered e.destinations n)) ++ used)) more
-    by true =
+    by true there =
         others (links ++ links_of e.destinations) ∙ ap (λ (ls : List ℕ). choosing ls more) (append_assoc links (links_of e.destinations) used)
-    by false = one_chosen others links (numbered e.destinations n) there
+    by false there = one_chosen others links (numbered e.destinations n) (there refl)
 
 module _ (net : Net) (chosen : List ℕ) (usable : AllUsable net chosen) where
   place_chosen : (places : List ℕ) (links : List ℕ) (more : Choices) (place : ℕ) (o : Option Exporter) → slice_get net.exporters place ≡ o

@@ -1,5 +1,5 @@
 -- The destinations in use: the links that exporting processes send on, and the choices that say the same.
-use Rattle.std.specs.Prelude.{◌≡◌, ◌≢◌, ℕ, List, [], ◌∷◌, ◌++◌, Option, Some, None, slice_get, if◌then◌else◌}
+use Rattle.std.specs.Prelude.{◌≡◌, ◌≢◌, ℕ, false, List, [], ◌∷◌, ◌++◌, Option, Some, None, slice_get, if◌then◌else◌}
 use Rattle.std.specs.Option.{unwrap_or}
 use Rattle.fx_machine.specs.Network.{Net, Exporter, numbered}
 use Rattle.fx_machine.specs.Acts.{Choices}
@@ -9,10 +9,10 @@ use Rattle.fx_machine.specs.Sends.{linked, links_of}
 abbrev pub number_in_use : List ℕ → ℕ → ℕ
 number_in_use chosen place = unwrap_or (slice_get chosen place) 0
 
--- each exporting process has the destination that it uses
+-- each exporting process that chooses one has the destination that it uses
 abbrev pub AllUsable : Net → List ℕ → Type 0
 AllUsable net chosen =
-    (place : ℕ) (e : Exporter) → slice_get net.exporters place ≡ Some e
+    (place : ℕ) (e : Exporter) → slice_get net.exporters place ≡ Some e → e.parallel ≡ false
     → numbered e.destinations (number_in_use chosen place) ≢ None
 
 -- ---- links

@@ -1,6 +1,7 @@
-use Rattle.std.proofs.Common.{◌≡◌, ◌∙◌, ◌+◌, ◌<◌, ◌≤◌, ap, subst, arith, set, get_or, length, List}
+use Rattle.std.proofs.Common.{◌≡◌, ◌∙◌, ◌+◌, ◌<◌, ◌≤◌, ap, subst, arith, set, get_or, length, List, Some}
 use Rattle.fx_link.specs.Ongoing.{Ongoing, after_finish, to_put}
 use Rattle.fx_link.specs.Links.{Puts}
+use Rattle.fx_net.specs.Finishing.{HasRoom}
 use Rattle.fx_net.proofs.Changing.{mapped_all, mapped_at, mapped_more}
 use Rattle.fx_net.proofs.PuttingOut.{puts_more}
 use Rattle.fx_net.proofs.finishing.finish_all.Goals as goal
@@ -19,7 +20,7 @@ loop-place-preserved g c =
     let after = g.L.Links.put_on c.finish.new.links in
     record {
       lines = ap (λ (xs : List Ongoing). set xs n c.finish.new.self) lines_is ∙ mapped_more f n old line c.finish.new.self there (c.in_ok-finish.ensures.ok ∙ ap f line_is);
-      put = puts_more before mid after c.args.time n old line there c.loop-place.invariant.put (subst (λ (o : Ongoing). Puts mid after (n + 1) (to_put c.args.time o)) line_is c.in_ok-finish.ensures.put);
+      put = puts_more before mid after c.args.time n old line there c.loop-place.invariant.put (subst (λ (o : Ongoing). Puts mid after (n + 1) (to_put c.args.time o)) line_is c.in_ok-finish.ensures.put) (subst (λ (o : Ongoing). HasRoom (Some o)) line_is c.finish.ensures.room);
       going = λ h. c.in_ok-finish.ensures.going (c.loop-place.invariant.going h);
     }
 
