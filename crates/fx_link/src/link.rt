@@ -93,6 +93,7 @@ impl Link {
     fn flush(&mut self, time: u32) -> Result<(), Fault>
         ensures ok { OnOk result (self.new
             ≡ record self.old { outgoing = outgoing.after_flush time self.old.outgoing }) }
+        ensures room { sending.has_room_for self.old.outgoing.batch self.old.outgoing.sender ≡ true }
         ensures err { IfErr result (λ e. e ≡ fault_at 900 places.None) }
     {
         self.outlet.flush(time, &mut self.stream)

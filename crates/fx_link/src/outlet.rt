@@ -61,12 +61,14 @@ impl Outlet {
         }
     }
 
-    /// Writes the message of the records that wait, if there are any, behind the octets of the link.
+    /// Writes the message of the records that wait, if there are any, behind the octets of the link. For their layout an
+    /// id is left.
     ///
     /// Fails with 900, at no place, for want of memory.
     pub fn flush(&mut self, time: u32, stream: &mut Stream) -> Result<(), Fault>
         ensures ok { OnOk result (outgoing.with_octets self.new stream.new.octets.items
             ≡ outgoing.after_flush time (outgoing.with_octets self.old stream.old.octets.items)) }
+        ensures room { sending.has_room_for self.old.batch self.old.sender ≡ true }
         ensures err { IfErr result (λ e. e ≡ fault_at 900 places.None) }
     {
         if self.batch.is_empty() {

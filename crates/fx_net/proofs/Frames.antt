@@ -2,14 +2,15 @@
 use Rattle.std.proofs.Common.{◌≡◌, ℕ, ◌+◌, ◌<◌, ◌^◌, Bool, true, false, List, Option, Some, None, Ok, refl, sym, ap, ◌∙◌, subst, add-one}
 use Rattle.std.specs.Prelude.{position}
 use Rattle.fx_base.specs.declared.fault.Fault.{Fault}
-use Rattle.fx_boxes.specs.Boxes.{holds}
+use Rattle.fx_boxes.specs.Boxes.{IsFields, holds}
 use Rattle.fx_elements.specs.Axes.{Fields}
+use Rattle.fx_machine.specs.declared.packet.Packet.{Packet}
 use Rattle.fx_machine.specs.Classes.{Class}
 use Rattle.fx_machine.specs.Network.{Net}
 use Rattle.fx_pcap.specs.Captures as captures
 use Rattle.fx_net.specs.declared.action.Action.TheVariants as action
 use Rattle.fx_net.specs.Contents.{Contents}
-use Rattle.fx_net.specs.Doings.{Reads, after_packet}
+use Rattle.fx_net.specs.Doings.{Reads, IsFrame, after_packet}
 use Rattle.fx_net.specs.Running.{IsOfNone, packet_of, fault_of, stop_of}
 
 first_place : List Class → Fields → Option ℕ
@@ -21,20 +22,26 @@ pub of_none : (classes : List Class) (fields : Fields) (seen : captures.Seen) (p
 unfolding first_place
 of_none classes fields seen place e is none = ap (first_place classes) (sym e) ∙ sym is ∙ none
 
+-- the frame that is seen has the same fields, octets and second
+pub of_seen : (p : Packet) (frame seen : captures.Seen) → frame.fields ≡ seen.fields → frame.octets ≡ seen.octets → frame.second ≡ seen.second
+    → IsFrame p frame → IsFrame p seen
+of_seen p frame seen fields octets second h = record {
+  fields = h.fields ∙ fields;
+  octets = h.octets ∙ octets;
+  values = subst IsFields fields h.values;
+  few = subst (λ (n : ℕ). n < 2 ^ 32) octets h.few;
+  second = subst (λ (n : ℕ). n < 2 ^ 32) second h.second;
+}
+
 -- the class at this place is the first that holds it
 pub reads_first : (net : Net) (classes : List Class) (frame seen : captures.Seen) (place : Option ℕ) (k : ℕ) (old done : Contents)
-    → frame.fields ≡ seen.fields → frame.octets ≡ seen.octets → frame.second ≡ seen.second → frame.octets < 2 ^ 32 → frame.second < 2 ^ 32
+    → frame.fields ≡ seen.fields → frame.octets ≡ seen.octets → frame.second ≡ seen.second → IsFrame (packet_of frame (k + 1) 1) frame
     → place ≡ position (λ (c : Class). holds c.region frame.fields) classes → place ≡ Some k
     → done ≡ after_packet net classes (packet_of frame (k + 1) 1) frame.second old
     → Reads net classes action.Next seen old done
-reads_first net classes frame seen place k old done fields octets second few soon is there made = record {
+reads_first net classes frame seen place k old done fields octets second of_frame is there made = record {
   packet = packet_of frame (k + 1) 1;
-  is_frame = record {
-        fields = fields;
-        octets = octets;
-        few = subst (λ (n : ℕ). n < 2 ^ 32) octets few;
-        second = subst (λ (n : ℕ). n < 2 ^ 32) second soon;
-      };
+  is_frame = of_seen (packet_of frame (k + 1) 1) frame seen fields octets second of_frame;
   given = (k, sym is ∙ there, add-one k, refl);
   done_is = made ∙ ap (λ (s : ℕ). after_packet net classes (packet_of frame (k + 1) 1) s old) second;
 }

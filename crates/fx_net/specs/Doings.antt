@@ -1,7 +1,7 @@
 -- What a running network does, one thing after another.
 use Rattle.std.specs.Prelude.{◌≡◌, ◌≢◌, ℕ, zero, suc, ◌==◌, ◌^◌, ◌≤◌, ◌<◌, Bool, true, false, List, [], ◌∷◌, map, length, position, slice_get, Option, Some, None, IsSome}
 use Rattle.std.specs.List.{flat_map, range_with_len}
-use Rattle.fx_boxes.specs.Boxes.{holds}
+use Rattle.fx_boxes.specs.Boxes.{IsFields, holds}
 use Rattle.fx_machine.specs.declared.packet.Packet.{Packet}
 use Rattle.fx_machine.specs.declared.step.HolderName.{HolderName}
 use Rattle.fx_machine.specs.declared.step.HolderName.TheVariants as holder
@@ -40,10 +40,11 @@ pub record Ended (makes : Making) (before : Put) (old : Contents) (after : Put) 
 
 -- ---- a packet is read
 
--- the packet of a frame, whose octets and second are numbers of 32 bits
+-- the packet of a frame, which has a value on each axis; its octets and its second are numbers of 32 bits
 pub record IsFrame (packet : Packet) (frame : Seen) : Type 0 where
   pub fields : packet.fields ≡ frame.fields
   pub octets : packet.octets ≡ frame.octets
+  pub values : IsFields frame.fields
   pub few : frame.octets < 2 ^ 32
   pub second : frame.second < 2 ^ 32
 

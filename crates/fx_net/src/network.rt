@@ -60,6 +60,21 @@ fn class_place(classes: &[Class], fields: &Fields) -> Option<usize>
     classes.iter().position(|class| class.holds(fields))
 }
 
+/// The packet of a frame, of this class and with this path.
+fn packet_of(frame: &Frame<'_>, class: u64, path: u64) -> Packet
+    ensures packet { result ≡ running.packet_of (captures.seen_of frame.now) class path }
+    ensures frame { doings.IsFrame (running.packet_of (captures.seen_of frame.now) class path)
+        (captures.seen_of frame.now) }
+{
+    let _values = frame.fields.values();
+    Packet {
+        fields: frame.fields,
+        octets: frame.octets as u64,
+        class,
+        path,
+    }
+}
+
 impl<'a> Network<'a> {
     /// The network before anything is read.
     ///
@@ -83,14 +98,11 @@ impl<'a> Network<'a> {
           contents = doings.after_packet (net_of self.old.network)
               self.old.classes (running.packet_of (captures.seen_of frame.now) class path) frame.now.second self.old.contents;
         }) }
+        ensures frame { doings.IsFrame (running.packet_of (captures.seen_of frame.now) class path)
+            (captures.seen_of frame.now) }
         ensures err { IfErr result (λ s. s ≡ stop.Bare 900) }
     {
-        let packet = Packet {
-            fields: frame.fields,
-            octets: frame.octets as u64,
-            class,
-            path,
-        };
+        let packet = packet_of(frame, class, path);
         let counts = Counts {
             packets: 1,
             octets: frame.octets as u64,

@@ -1,0 +1,60 @@
+-- A running network between two calls, as the state to which a run of the abstract network has come.
+use Rattle.std.specs.Prelude.{◌≡◌, ℕ, suc, ◌^◌, ◌<◌, List, [], Option, Ok, slice_get}
+use Rattle.std.specs.List.{AllByRecursion}
+use Rattle.fx_base.specs.Device.{Writes}
+use Rattle.fx_machine.specs.declared.packet.Packet.{Packet}
+use Rattle.fx_machine.specs.declared.record.Record.{Record}
+use Rattle.fx_machine.specs.declared.step.Step.{Step}
+use Rattle.fx_machine.specs.Network.{Net, Aggregation, aggregations_of}
+use Rattle.fx_machine.specs.Classes.{Class}
+use Rattle.fx_machine.specs.Ranks.{IsNetwork}
+use Rattle.fx_machine.specs.Runnable.{IsRunnable}
+use Rattle.fx_machine.specs.States.{State, opening, told}
+use Rattle.fx_machine.specs.Steps.{run}
+use Rattle.fx_collect.specs.Totals.{totals_in}
+use Rattle.fx_link.specs.Links.{Put}
+use Rattle.fx_runs.specs.Destinations.{AllUsable}
+use Rattle.fx_runs.specs.PutOn.{put_on}
+use Rattle.fx_net.specs.Contents.{Contents, stored_at}
+use Rattle.fx_net.specs.Stores.{Stored}
+use Rattle.fx_conform.specs.Held.{AreHeld}
+use Rattle.fx_conform.specs.Usable.{AreUsable}
+use Rattle.fx_conform.specs.TakingIn.{IsUnbounded}
+use Rattle.fx_conform.specs.OnLinks.{AreStill}
+use Rattle.fx_conform.specs.Sendable.{AreSent, HaveLayouts}
+
+-- what the tables of a network keep
+pub record IsSound (net : Net) : Type 0 where
+  pub network : IsNetwork net
+  pub runnable : IsRunnable net
+  pub layouts : HaveLayouts net.holders
+
+-- aggregations have no bound
+abbrev pub AreBoundless : Net → List (Option Stored) → Type 0
+AreBoundless net stores =
+    (process : ℕ)
+    → AllByRecursion (λ (a : Aggregation). IsUnbounded (stored_at stores a.holder)) (aggregations_of (slice_get net.processes process))
+
+-- each holder holds one record for each flow of its store
+pub record StoresConform (net : Net) (stores : List (Option Stored)) (held : List (List Record)) : Type 0 where
+  pub held : AreHeld stores held
+  pub usable : AreUsable stores
+  pub boundless : AreBoundless net stores
+  pub sent : AreSent held
+
+-- all records that a run has put on a link
+abbrev pub put_by_run : Net → List Class → List Packet → List Step → ℕ → List Record
+put_by_run net classes packets steps link = put_on net classes packets link steps (opening net classes packets)
+
+-- The run's state: each store has what its holder holds, each link what it carries, and the collector has counted the
+-- same. All octets that were put on a link since the run began are those of the records that the run has put on it.
+pub record Conforms (net : Net) (classes : List Class) (begin put : Put) (c : Contents) (packets : List Packet) (steps : List Step) (s : State) : Type 0 where
+  pub history : ℕ → List ℕ
+  pub written : (link : ℕ) → Writes (begin (suc link)) (put (suc link)) (history link)
+  pub run_is : run net classes packets steps (opening net classes packets) ≡ Ok s
+  pub crossed : s.coming ≡ []
+  pub stores : StoresConform net c.stores s.held
+  pub links : AreStill history (put_by_run net classes packets steps) c.links s.carried
+  pub chosen : AllUsable net c.chosen
+  pub totals : c.totals ≡ totals_in net.report_layout (told s)
+  pub second : c.second < 2 ^ 32
