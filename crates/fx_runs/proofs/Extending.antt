@@ -194,7 +194,7 @@ coming_push classes n (q ∷ qs) p =
     ap (λ (l : List Coming). crossings_from n 1 (path classes q) ++ l) (coming_push classes (suc n) qs p ∙ ap (λ (m : ℕ). coming_from classes (suc n) qs ++ crossings_from m 1 (path classes p)) (let e : suc n + length qs ≡ n + suc (length qs) = omega arith in e))
     ∙ sym (append_assoc (crossings_from n 1 (path classes q)) (coming_from classes (suc n) qs) (crossings_from (n + suc (length qs)) 1 (path classes p)))
 
-opening_push : (net : Net) (classes : List Class) (packets : List Packet) (p : Packet) → opening net classes (packets ++ p ∷ []) ≡ with_packet classes packets p (opening net classes packets)
+pub opening_push : (net : Net) (classes : List Class) (packets : List Packet) (p : Packet) → opening net classes (packets ++ p ∷ []) ≡ with_packet classes packets p (opening net classes packets)
 opening_push net classes packets p =
     ap (λ (l : List Coming). let s : State = record { coming = l; held = nothing_at net.holders; carried = nothing_at net.links; totals = []; unassigned = 0 } in s)
     (coming_push classes 1 packets p ∙ ap (λ (m : ℕ). coming_from classes 1 packets ++ crossings_from m 1 (path classes p)) (let e : 1 + length packets ≡ suc (length packets) = omega arith in e))
