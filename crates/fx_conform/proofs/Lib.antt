@@ -12,3 +12,7 @@ pub mod Emptying
 pub mod Emptied
 pub mod Beginning
 mod Examples
+pub mod Amid
+pub mod Crossing
+pub mod Arriving
+pub mod Between

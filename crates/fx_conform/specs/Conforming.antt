@@ -1,5 +1,5 @@
 -- A running network between two calls, as the state to which a run of the abstract network has come.
-use Rattle.std.specs.Prelude.{◌≡◌, ℕ, suc, ◌^◌, ◌<◌, List, [], Option, Ok, slice_get}
+use Rattle.std.specs.Prelude.{◌≡◌, ℕ, suc, ◌^◌, ◌<◌, List, [], length, Option, Ok, slice_get}
 use Rattle.std.specs.List.{AllByRecursion}
 use Rattle.fx_base.specs.Device.{Writes}
 use Rattle.fx_machine.specs.declared.packet.Packet.{Packet}
@@ -37,6 +37,7 @@ AreBoundless net stores =
 
 -- each holder holds one record for each flow of its store
 pub record StoresConform (net : Net) (stores : List (Option Stored)) (held : List (List Record)) : Type 0 where
+  pub as_many : length stores ≡ length net.holders
   pub held : AreHeld stores held
   pub usable : AreUsable stores
   pub boundless : AreBoundless net stores
@@ -53,6 +54,7 @@ pub record Conforms (net : Net) (classes : List Class) (begin put : Put) (c : Co
   pub written : (link : ℕ) → Writes (begin (suc link)) (put (suc link)) (history link)
   pub run_is : run net classes packets steps (opening net classes packets) ≡ Ok s
   pub crossed : s.coming ≡ []
+  pub as_many : length s.carried ≡ length net.links
   pub stores : StoresConform net c.stores s.held
   pub links : AreStill history (put_by_run net classes packets steps) c.links s.carried
   pub chosen : AllUsable net c.chosen

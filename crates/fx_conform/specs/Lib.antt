@@ -4,3 +4,8 @@ pub mod Joining
 pub mod Emptying
 pub mod TakingIn
 pub mod Beginning
+pub mod OnLinks
+pub mod Sendable
+pub mod Conforming
+pub mod Rows
+pub mod Whole

@@ -1,5 +1,5 @@
 -- What a line asks for is done.
-use Rattle.std.proofs.Common.{◌≡◌, ◌≢◌, ℕ, Bool, true, false, ◌&&◌, List, Option, Some, None, Result, Ok, Err, refl, ap, ◌∙◌}
+use Rattle.std.proofs.Common.{◌≡◌, ◌≢◌, ℕ, ◌<◌, ◌^◌, Bool, true, false, ◌&&◌, List, Option, Some, None, Result, Ok, Err, refl, ap, ◌∙◌, subst}
 use Rattle.std.specs.Prelude.{OnOk, is_some}
 use Rattle.fx_boxes.specs.Boxes.{holds}
 use Rattle.fx_elements.specs.Axes.{Fields}
@@ -66,15 +66,16 @@ is_there classes class fields path e = by (numbered classes class) refl e where
       (c, is, b.0, not_none (numbered c.paths path) b.1)
 
 pub reads_given : (net : Net) (classes : List Class) (frame seen : captures.Seen) (class path : ℕ) (old done : Contents)
-    → frame.fields ≡ seen.fields → frame.octets ≡ seen.octets → frame.second ≡ seen.second → IsFrame (packet_of frame class path) frame
+    → frame.fields ≡ seen.fields → frame.octets ≡ seen.octets → frame.second ≡ seen.second → IsFrame (packet_of frame class path) frame → frame.second < 2 ^ 32
     → is_in classes frame.fields class path ≡ true
     → done ≡ after_packet net classes (packet_of frame class path) frame.second old
     → Reads net classes (action.NextOf class path) seen old done
-reads_given net classes frame seen class path old done fields octets second of_frame is made =
+reads_given net classes frame seen class path old done fields octets second of_frame soon is made =
     let t = is_there classes class frame.fields path is in
     record {
       packet = packet_of frame class path;
-      is_frame = of_seen (packet_of frame class path) frame seen fields octets second of_frame;
+      is_frame = of_seen (packet_of frame class path) frame seen fields octets of_frame;
+      soon = subst (λ (n : ℕ). n < 2 ^ 32) second soon;
       given = (t.0, t.1, t.2, refl, refl, t.3);
       done_is = made ∙ ap (λ (s : ℕ). after_packet net classes (packet_of frame class path) s old) second;
     }

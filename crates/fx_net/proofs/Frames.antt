@@ -23,25 +23,24 @@ unfolding first_place
 of_none classes fields seen place e is none = ap (first_place classes) (sym e) ∙ sym is ∙ none
 
 -- the frame that is seen has the same fields, octets and second
-pub of_seen : (p : Packet) (frame seen : captures.Seen) → frame.fields ≡ seen.fields → frame.octets ≡ seen.octets → frame.second ≡ seen.second
-    → IsFrame p frame → IsFrame p seen
-of_seen p frame seen fields octets second h = record {
+pub of_seen : (p : Packet) (frame seen : captures.Seen) → frame.fields ≡ seen.fields → frame.octets ≡ seen.octets → IsFrame p frame → IsFrame p seen
+of_seen p frame seen fields octets h = record {
   fields = h.fields ∙ fields;
   octets = h.octets ∙ octets;
   values = subst IsFields fields h.values;
   few = subst (λ (n : ℕ). n < 2 ^ 32) octets h.few;
-  second = subst (λ (n : ℕ). n < 2 ^ 32) second h.second;
 }
 
 -- the class at this place is the first that holds it
 pub reads_first : (net : Net) (classes : List Class) (frame seen : captures.Seen) (place : Option ℕ) (k : ℕ) (old done : Contents)
-    → frame.fields ≡ seen.fields → frame.octets ≡ seen.octets → frame.second ≡ seen.second → IsFrame (packet_of frame (k + 1) 1) frame
+    → frame.fields ≡ seen.fields → frame.octets ≡ seen.octets → frame.second ≡ seen.second → IsFrame (packet_of frame (k + 1) 1) frame → frame.second < 2 ^ 32
     → place ≡ position (λ (c : Class). holds c.region frame.fields) classes → place ≡ Some k
     → done ≡ after_packet net classes (packet_of frame (k + 1) 1) frame.second old
     → Reads net classes action.Next seen old done
-reads_first net classes frame seen place k old done fields octets second of_frame is there made = record {
+reads_first net classes frame seen place k old done fields octets second of_frame soon is there made = record {
   packet = packet_of frame (k + 1) 1;
-  is_frame = of_seen (packet_of frame (k + 1) 1) frame seen fields octets second of_frame;
+  is_frame = of_seen (packet_of frame (k + 1) 1) frame seen fields octets of_frame;
+      soon = subst (λ (n : ℕ). n < 2 ^ 32) second soon;
   given = (k, sym is ∙ there, add-one k, refl);
   done_is = made ∙ ap (λ (s : ℕ). after_packet net classes (packet_of frame (k + 1) 1) s old) second;
 }

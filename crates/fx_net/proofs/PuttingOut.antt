@@ -39,7 +39,7 @@ rooms_more : (n : ℕ) (links : List Ongoing) (d : Ongoing) → n < length links
     → (link : ℕ) → HasRoom (slice_get (take (suc n) links) link)
 rooms_more n [] d lt rooms room link = absurd (omega arith)
 rooms_more zero (x ∷ xs) d lt rooms room zero = room
-rooms_more zero (x ∷ xs) d lt rooms room (suc link) = unit
+rooms_more zero (x ∷ xs) d lt rooms room (suc link) = tt
 rooms_more (suc n) (x ∷ xs) d lt rooms room zero = rooms 0
 rooms_more (suc n) (x ∷ xs) d lt rooms room (suc link) = rooms_more n xs d (le_of_suc-le-suc lt) (λ k. rooms (suc k)) room link
 

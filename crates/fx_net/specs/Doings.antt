@@ -40,13 +40,12 @@ pub record Ended (makes : Making) (before : Put) (old : Contents) (after : Put) 
 
 -- ---- a packet is read
 
--- the packet of a frame, which has a value on each axis; its octets and its second are numbers of 32 bits
+-- the packet of a frame, which has a value on each axis; its octets are a number of 32 bits
 pub record IsFrame (packet : Packet) (frame : Seen) : Type 0 where
   pub fields : packet.fields ≡ frame.fields
   pub octets : packet.octets ≡ frame.octets
   pub values : IsFields frame.fields
   pub few : frame.octets < 2 ^ 32
-  pub second : frame.second < 2 ^ 32
 
 -- the class and the path that a line gives a packet: the first class whose region holds it, and path 1, where it names none
 abbrev pub IsGiven : List Class → Action → Packet → Type 0
@@ -61,11 +60,12 @@ abbrev pub after_packet : Net → List Class → Packet → ℕ → Contents →
 after_packet net classes p second c =
     after_path net p.fields (one_packet p) (path classes p) (record c { second = second })
 
--- the packet of a frame is read
+-- the packet of a frame is read, whose second is a number of 32 bits
 pub record Reads (net : Net) (classes : List Class) (line : Action) (frame : Seen) (old done : Contents) : Type 0 where
   pub packet : Packet
   pub is_frame : IsFrame packet frame
   pub given : IsGiven classes line packet
+  pub soon : frame.second < 2 ^ 32
   pub done_is : done ≡ after_packet net classes packet frame.second old
 
 -- ---- records leave a holder, and octets are carried

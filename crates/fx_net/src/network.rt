@@ -1,5 +1,5 @@
 //! A running network: what the lines of a schedule do in it.
-ghost use Rattle.std.specs.Prelude.{◌≡◌, true, false, position, None, IfOk, IfErr, OnOk};
+ghost use Rattle.std.specs.Prelude.{◌≡◌, ◌<◌, ◌^◌, true, false, position, None, IfOk, IfErr, OnOk};
 ghost use Rattle.fx_base.specs.Fault.{fault_at};
 ghost use Rattle.fx_base.specs.declared.fault.Place.TheVariants as places;
 ghost use Rattle.fx_boxes.specs.Boxes.{holds};
@@ -100,6 +100,7 @@ impl<'a> Network<'a> {
         }) }
         ensures frame { doings.IsFrame (running.packet_of (captures.seen_of frame.now) class path)
             (captures.seen_of frame.now) }
+        ensures soon { frame.now.second < 2 ^ 32 }
         ensures err { IfErr result (λ s. s ≡ stop.Bare 900) }
     {
         let packet = packet_of(frame, class, path);

@@ -19,7 +19,7 @@ returns-clause-ok g c =
     (λ made. (
       at_frame_of c.args.capture.now c.advance.new.self c.in_ok-advance.field-0 c.in_ok-advance.ensures.advances c.if-not-branch.false,
       reads_given (net_of old.network) old.classes frame c.advance.new.self.seen class path old.contents c.meter.new.self.contents
-          c.frame-frame.ensures.fields c.frame-frame.ensures.octets c.frame-frame.ensures.second c.meter.ensures.frame
+          c.frame-frame.ensures.fields c.frame-frame.ensures.octets c.frame-frame.ensures.second c.meter.ensures.frame c.meter.ensures.soon
           (ap (λ (cs : List Class). is_in cs frame.fields class path) (sym classes) ∙ sym c.is_in.ensures ∙ c.if-not-is_in.false)
           (ap (λ (r : Running). r.contents) made),
     ))

@@ -1,0 +1,80 @@
+-- A whole run of a running network, as a complete run of the abstract one.
+use Rattle.std.specs.Prelude.{◌≡◌, ℕ, suc, ◌<◌, List, [], ◌∷◌, ◌++◌, length, Ok, All}
+use Rattle.fx_base.specs.Device.{Writes}
+use Rattle.fx_base.specs.Lines.{Lines, AtEnd as LinesEnd}
+use Rattle.fx_layout.specs.Keys.{Key}
+use Rattle.fx_machine.specs.declared.packet.Packet.{Packet}
+use Rattle.fx_machine.specs.declared.step.Step.{Step}
+use Rattle.fx_machine.specs.Network.{Net, numbered}
+use Rattle.fx_machine.specs.Classes.{Class, IsOf, to_count}
+use Rattle.fx_machine.specs.Claim.{ExactlyOnce}
+use Rattle.fx_machine.specs.States.{State, Complete, opening, told}
+use Rattle.fx_machine.specs.Steps.{run}
+use Rattle.fx_machine.specs.Sums.{SumsFit, plain_sum, total_at}
+use Rattle.fx_collect.specs.Totals.{Totals, totals_in}
+use Rattle.fx_link.specs.Links.{Put}
+use Rattle.fx_pcap.specs.Captures as captures
+use Rattle.fx_plan.specs.declared.network.Network.{Network}
+use Rattle.fx_plan.specs.Ranks.{IsWhole}
+use Rattle.fx_plan.specs.Tables.{net_of}
+use Rattle.fx_net.specs.Doings.{IsFrame}
+use Rattle.fx_net.specs.Running.{RunsTo, begun, GoesOn}
+use Rattle.fx_conform.specs.Conforming.{IsSound, put_by_run}
+use Rattle.fx_conform.specs.OnLinks.{AreRead}
+use Rattle.fx_conform.specs.Rows.{AreRows, IsClosing}
+
+-- each frame has its packet, in a class that holds it and with one of its paths
+abbrev pub AreOf : List Class → List captures.Seen → List Packet → Type 0
+AreOf classes [] [] = Unit {0}
+AreOf classes (frame ∷ frames) (p ∷ packets) = IsFrame p frame × IsOf p (numbered classes p.class) × AreOf classes frames packets
+AreOf classes [] (p ∷ packets) = ⊥
+AreOf classes (frame ∷ frames) [] = ⊥
+
+-- all octets that were put on a link read as all records that the run has put on it, in the order of its steps
+abbrev pub IsReadOn : Net → List Class → List Packet → List Step → Put → Put → ℕ → Type 0
+IsReadOn net classes packets steps before after link =
+    (octets : List ℕ) × Writes (before (suc link)) (after (suc link)) octets × AreRead octets (put_by_run net classes packets steps link)
+
+-- The capture's frames in order are the packets of a complete run, whose steps are those of the schedule's lines and
+-- then of the closing phase. The totals are that run's, and the octets on each link are its records.
+pub record IsRunOf (net : Net) (classes : List Class) (at to : captures.Reading) (before after : Put) (totals : Totals) : Type 0 where
+  pub frames : List captures.Seen
+  pub last : captures.Reading
+  pub goes_on : GoesOn at last frames
+  pub end : captures.AtEnd last to
+  pub packets : List Packet
+  pub are_of : AreOf classes frames packets
+  pub steps : List Step
+  pub final : State
+  pub run_is : run net classes packets steps (opening net classes packets) ≡ Ok final
+  pub complete : Complete final
+  pub totals_are : totals ≡ totals_in net.report_layout (told final)
+  pub read : (link : ℕ) → link < length net.links → IsReadOn net classes packets steps before after link
+
+-- each class has a path
+abbrev pub HavePaths : List Class → Type 0
+HavePaths classes = All (λ (c : Class). 0 < length c.paths) classes
+
+-- ---- the laws
+
+-- Where a running network comes to totals, there is such a run.
+abbrev pub RunsAreComplete : Type 0
+RunsAreComplete =
+    (network : Network) (classes : List Class) (at to : captures.Reading) (from last : Lines) (before after : Put) (totals : Totals)
+    → IsSound (net_of network) → HavePaths classes
+    → RunsTo (begun network classes) at to from last before after totals
+    → IsRunOf (net_of network) classes at to before after totals
+
+-- the totals are the plain sums over these packets, and nothing is unassigned
+pub record ArePlainSums (net : Net) (packets : List Packet) (totals : Totals) : Type 0 where
+  pub sums : (key : Key) → total_at totals.entries key ≡ plain_sum net.report_layout key packets
+  pub assigned : totals.unassigned ≡ 0
+
+-- The totals of a network that counts each packet once are the plain sums over its packets, where these are numbers of
+-- 64 bits.
+abbrev pub TotalsArePlainSums : Type 0
+TotalsArePlainSums =
+    (net : Net) (classes : List Class) (at to : captures.Reading) (before after : Put) (totals : Totals)
+    (of_run : IsRunOf net classes at to before after totals)
+    → ExactlyOnce net classes → SumsFit net.report_layout (to_count classes of_run.packets)
+    → ArePlainSums net (to_count classes of_run.packets) totals
