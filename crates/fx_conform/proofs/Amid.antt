@@ -31,10 +31,13 @@ use Rattle.fx_runs.proofs.PutOn.{put_first, put_joins}
 use Rattle.fx_net.specs.Contents.{Contents}
 use Rattle.fx_net.specs.Leaving.{after_leave, after_leaves}
 use Rattle.fx_conform.specs.Held.{Leaver, Leave, AllLeave}
-use Rattle.fx_conform.specs.OnLinks.{AreCarried, IsCarried, PutsAreCarried}
-use Rattle.fx_conform.specs.Sendable.{AreSent, LeavingsCanBeSent}
+use Rattle.fx_conform.specs.OnLinks.{AreCarried, IsCarried}
+use Rattle.fx_conform.specs.Sendable.{AreSent}
+use Rattle.fx_conform.specs.Closing.{IsNamed}
 use Rattle.fx_conform.specs.Conforming.{put_by_run}
-use Rattle.fx_conform.specs.Rows.{AreExpiries}
+use Rattle.fx_conform.specs.Rows.{AreExpiries, IsExpiry}
+use Rattle.fx_conform.proofs.LinkLaws.{puts_carry}
+use Rattle.fx_conform.proofs.CanBeSent.{leavings_can_be_sent}
 
 -- Crossings may be to come, records may have arrived from a link that aren't handled yet, and some may wait on links.
 pub record IsAmid (net : Net) (classes : List Class) (packets : List Packet) (c : Contents) (pending : ℕ → List Record) (history : ℕ → List ℕ) (coming : List Coming) (steps : List Step) (s : State) : Type 0 where
@@ -45,10 +48,6 @@ pub record IsAmid (net : Net) (classes : List Class) (packets : List Packet) (c 
   pub chosen : AllUsable net c.chosen
   pub totals : c.totals ≡ totals_in net.report_layout (told s)
   pub second : c.second < 2 ^ 32
-
--- a step can name the holder
-abbrev pub IsNamed : Net → ℕ → Type 0
-IsNamed net holder = (name : HolderName) × (holder_place net name ≡ Some holder)
 
 -- ---- lists of what is carried
 
@@ -115,10 +114,10 @@ module _ (net : Net) (classes : List Class) (packets : List Packet) where
     pub amid : IsAmid net classes packets c pending history coming (steps ++ more) state
     pub held_is : state.held ≡ held
 
-  module _ (puts_are_carried : PutsAreCarried) (leavings_can_be_sent : LeavingsCanBeSent) (pending : ℕ → List Record) (history : ℕ → List ℕ) (coming : List Coming) where
-    one_leaves : (l : Leaver) (c : Contents) (steps : List Step) (s : State) (now : List (List Record)) → IsNamed net l.holder
+  module _ (pending : ℕ → List Record) (history : ℕ → List ℕ) (coming : List Coming) where
+    pub one_leaves : (l : Leaver) (c : Contents) (steps : List Step) (s : State) (now : List (List Record)) (named : IsNamed net l.holder)
         → IsAmid net classes packets c pending history coming steps s → AreSent s.held → Leave l s.held now
-        → Follows AreExpiries (after_leave net l c) pending history coming steps now
+        → Follows (IsExpiry named.0) (after_leave net l c) pending history coming steps now
     one_leaves l c steps s now named a sent leave =
         let name : HolderName = named.0 in
         let places : List ℕ = named_by (slice_get net.holders l.holder) in
@@ -131,14 +130,14 @@ module _ (net : Net) (classes : List Class) (packets : List Packet) where
         record {
           more = step ∷ [];
           state = t;
-          shaped = tt;
+          shaped = record { number = leave.number; choices = sent_by net c.chosen places; steps_are = refl };
           amid = record {
             run_is = run_one steps step s t a.run_is made;
             coming_is = a.coming_is;
             as_many = all_length links l.flow s.carried ∙ a.as_many;
             links = links_then c.second pending history (given links l.flow) _ steps step s t a.run_is made
                 (λ link lt. expire_puts name leave.number (sent_by net c.chosen places) s t links l.flow link refl (subst (λ (n : ℕ). link < n) (all_length links l.flow s.carried) lt))
-                (puts_are_carried c.second pending history (put_by_run net classes packets steps) c.links s.carried l.flow links a.links (leavings_can_be_sent l s.held now leave sent).0);
+                (puts_carry c.second pending history (put_by_run net classes packets steps) c.links s.carried l.flow links a.links (leavings_can_be_sent l s.held now leave sent).0);
             chosen = a.chosen;
             totals = a.totals;
             second = a.second;
@@ -151,6 +150,9 @@ module _ (net : Net) (classes : List Class) (packets : List Packet) where
     expiries_join (Expire name number choices ∷ first) rest a b = expiries_join first rest a b
     expiries_join (Cross packet crossing choices ∷ first) rest a b = absurd a
     expiries_join (Arrive link number choices ∷ first) rest a b = absurd a
+
+    expires_one : (name : HolderName) (steps : List Step) → IsExpiry name steps → AreExpiries steps
+    expires_one name steps h = subst AreExpiries (sym h.steps_are) tt
 
     -- one after another
     pub all_leave_so : (ls : List Leaver) (c : Contents) (steps : List Step) (s : State) (held now : List (List Record)) → AllByRecursion (λ (l : Leaver). IsNamed net l.holder) ls
@@ -170,7 +172,7 @@ module _ (net : Net) (classes : List Class) (packets : List Packet) where
         record {
           more = first.more ++ rest.more;
           state = rest.state;
-          shaped = expiries_join first.more rest.more first.shaped rest.shaped;
+          shaped = expiries_join first.more rest.more (expires_one named.0.0 first.more first.shaped) rest.shaped;
           amid = subst (λ (ss : List Step). IsAmid net classes packets (after_leaves net ls (after_leave net l c)) pending history coming ss rest.state) (append_assoc steps first.more rest.more) rest.amid;
           held_is = rest.held_is;
         }

@@ -29,12 +29,14 @@ use Rattle.fx_net.specs.Leaving.{after_leaves}
 use Rattle.fx_net.specs.Taking.{Adding, adding, all_leave_at_once, with_stores, after_taking}
 use Rattle.fx_conform.specs.Held.{Leaver}
 use Rattle.fx_conform.specs.TakingIn.{IsUnbounded, AreUnbounded, Join}
-use Rattle.fx_conform.specs.OnLinks.{PutsAreCarried, CarriedArrive, ArrivedLeave, NoneLeft, AreCarried, AreStill, pending_from, none_pending, arrived, with_octets_carried}
-use Rattle.fx_conform.specs.Sendable.{IsKey, TakenCanBeSent, AggregatedCanBeSent}
+use Rattle.fx_conform.specs.OnLinks.{none_pending, pending_from}
+use Rattle.fx_conform.specs.Sendable.{IsKey}
 use Rattle.fx_conform.specs.Conforming.{IsSound, AreBoundless, StoresConform, put_by_run}
 use Rattle.fx_conform.specs.Rows.{AreArrivals}
 use Rattle.fx_conform.proofs.AtOnce.{as_many}
 use Rattle.fx_conform.proofs.Takers.{takers_join}
+use Rattle.fx_conform.proofs.LinkLaws.{arrived_leaves, none_is_left, puts_carry}
+use Rattle.fx_conform.proofs.CanBeSent.{aggregated_can_be_sent, taken_can_be_sent}
 use Rattle.fx_conform.proofs.Amid.{IsAmid, run_one, links_then, all_length, set_length, there_is_below}
 use Rattle.fx_conform.proofs.Crossing.{Then, boundless_then}
 
@@ -90,17 +92,21 @@ tally_totals net to r c = by (to == net.report) where
 
 -- ---- the aggregations that take it in
 
-takers_unbounded : (holders : List Holder) (key : Key) (stores : List (Option Stored)) (xs : List Aggregation) → AllByRecursion (λ (a : Aggregation). IsUnbounded (stored_at stores a.holder)) xs → AreUnbounded stores (aggregated holders key xs)
-takers_unbounded holders key stores [] h = tt
-takers_unbounded holders key stores (a ∷ xs) h = by (takes_with holders key a) where
+one_taker : (holders : List Holder) (key : Key) (stores : List (Option Stored)) (a : Aggregation) (xs : List Aggregation) → IsUnbounded (stored_at stores a.holder) → AreUnbounded stores (aggregated holders key xs)
+    → AreUnbounded stores (aggregated holders key (a ∷ xs))
+one_taker holders key stores a xs own rest = by (takes_with holders key a) where
   one : Holding
   one = record { holder = a.holder; key = project key (layout_of (slice_get holders a.holder)) }
   by : (b : Bool) → AreUnbounded stores (cond b (one ∷ []) [] ++ aggregated holders key xs)
-  by true = (h.0, takers_unbounded holders key stores xs h.1)
-  by false = takers_unbounded holders key stores xs h.1
+  by true = (own, rest)
+  by false = rest
 
-module _ (net : Net) (sound : IsSound net) (classes : List Class) (packets : List Packet) (puts_are_carried : PutsAreCarried) (taken_can_be_sent : TakenCanBeSent) (aggregated_can_be_sent : AggregatedCanBeSent)
-    (carried_arrive : CarriedArrive) (arrived_leave : ArrivedLeave) (none_left : NoneLeft) (history : ℕ → List ℕ) (link to : ℕ) (process : Process)
+takers_unbounded : (holders : List Holder) (key : Key) (stores : List (Option Stored)) (xs : List Aggregation) → AllByRecursion (λ (a : Aggregation). IsUnbounded (stored_at stores a.holder)) xs → AreUnbounded stores (aggregated holders key xs)
+takers_unbounded holders key stores [] h = tt
+takers_unbounded holders key stores (a ∷ xs) h = one_taker holders key stores a xs h.0 (takers_unbounded holders key stores xs h.1)
+
+module _ (net : Net) (sound : IsSound net) (classes : List Class) (packets : List Packet)
+    (history : ℕ → List ℕ) (link to : ℕ) (process : Process)
     (leads : slice_get net.links link ≡ Some to) (is_there : slice_get net.processes to ≡ Some process) where
   behind : process_behind net link ≡ Some process
   behind = ap (process_at net.processes) leads ∙ is_there
@@ -138,7 +144,7 @@ module _ (net : Net) (sound : IsSound net) (classes : List Class) (packets : Lis
       → Then net classes packets (AreArrivals (suc link)) (after_arrive net link r c) (pending_from link rest) history [] steps
   arrives_one r rest c steps s a st =
       let below : link < length c.links = omega (arith, there_is_below net.links link to leads, a.as_many, a.links.as_many) in
-      let h = arrived_leave c.second link r rest history (put_by_run net classes packets steps) c.links s.carried below a.links in
+      let h = arrived_leaves c.second link r rest history (put_by_run net classes packets steps) c.links s.carried below a.links in
       let rs : List Record = h.0 in
       let sent : IsSent r = h.2 in
       let hs : List Holding = takers_of r in
@@ -164,7 +170,7 @@ module _ (net : Net) (sound : IsSound net) (classes : List Class) (packets : Lis
           as_many = long ∙ a.as_many;
           links = links_then net classes packets c.second (pending_from link rest) history (given links r) _ steps step s t a.run_is made
               (λ l lt. arrive_puts link choices s t links r rs l h.1 refl (subst (λ (n : ℕ). l < n) long lt))
-              (puts_are_carried c.second (pending_from link rest) history (put_by_run net classes packets steps) c.links (slice_set s.carried link rs) r links h.3 sent);
+              (puts_carry c.second (pending_from link rest) history (put_by_run net classes packets steps) c.links (slice_set s.carried link rs) r links h.3 sent);
           chosen = a.chosen;
           totals = tallies net to r left c.totals a.totals;
           second = a.second;
@@ -195,7 +201,7 @@ module _ (net : Net) (sound : IsSound net) (classes : List Class) (packets : Lis
       run_is = a.run_is;
       coming_is = a.coming_is;
       as_many = a.as_many;
-      links = none_left c.second link history (put_by_run net classes packets steps) c.links s.carried a.links;
+      links = none_is_left c.second link history (put_by_run net classes packets steps) c.links s.carried a.links;
       chosen = a.chosen;
       totals = a.totals;
       second = a.second;

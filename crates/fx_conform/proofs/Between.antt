@@ -25,9 +25,10 @@ use Rattle.fx_net.specs.declared.action.Action.{Action}
 use Rattle.fx_net.specs.Contents.{Contents}
 use Rattle.fx_net.specs.Doings.{Making, Doing, Ended, Reads, Nothing, Then, Each, after_packet}
 use Rattle.fx_net.specs.Finishing.{PutsAll, after_finishing, to_put_on}
-use Rattle.fx_conform.specs.OnLinks.{AreCarried, StillIsCarried, FinishingStills, none_pending}
+use Rattle.fx_conform.specs.OnLinks.{none_pending}
 use Rattle.fx_conform.specs.Conforming.{Conforms, StoresConform, put_by_run}
 use Rattle.fx_conform.specs.Rows.{InTurn, Followed}
+use Rattle.fx_conform.proofs.LinkLaws.{finishing_rests, still_carries}
 use Rattle.fx_conform.proofs.Amid.{IsAmid, carried_alike}
 use Rattle.fx_conform.proofs.Crossing.{Then as Made}
 
@@ -43,48 +44,46 @@ module _ (net : Net) (classes : List Class) (begin : Put) where
     pub shaped : shape more
     pub conforms : Conforms net classes begin put c packets (steps ++ more) state
 
-  module _ (still_is_carried : StillIsCarried) where
-    pub amid_of : (put : Put) (c : Contents) (packets : List Packet) (steps : List Step) (s : State) (h : Conforms net classes begin put c packets steps s)
-        → IsAmid net classes packets c none_pending h.history [] steps s
-    amid_of put c packets steps s h = record {
-      run_is = h.run_is;
-      coming_is = h.crossed;
-      as_many = h.as_many;
-      links = still_is_carried c.second h.history (put_by_run net classes packets steps) c.links s.carried h.links;
-      chosen = h.chosen;
-      totals = h.totals;
-      second = h.second;
-    }
+  pub amid_of : (put : Put) (c : Contents) (packets : List Packet) (steps : List Step) (s : State) (h : Conforms net classes begin put c packets steps s)
+      → IsAmid net classes packets c none_pending h.history [] steps s
+  amid_of put c packets steps s h = record {
+    run_is = h.run_is;
+    coming_is = h.crossed;
+    as_many = h.as_many;
+    links = still_carries c.second h.history (put_by_run net classes packets steps) c.links s.carried h.links;
+    chosen = h.chosen;
+    totals = h.totals;
+    second = h.second;
+  }
 
-  module _ (finishing_stills : FinishingStills) where
-    -- what waits is put out
-    pub finished : (before after : Put) (c : Contents) (packets : List Packet) (steps : List Step) (s : State) (history : ℕ → List ℕ)
-        → IsAmid net classes packets c none_pending history [] steps s → StoresConform net c.stores s.held
-        → ((link : ℕ) → Writes (begin (suc link)) (before (suc link)) (history link)) → PutsAll before after c.second c.links
-        → Conforms net classes begin after (after_finishing c) packets steps s
-    finished before after c packets steps s history a st written puts = record {
-      history = λ link. history link ++ to_put_on c.second (slice_get c.links link);
-      written = λ link. writes_join (begin (suc link)) (before (suc link)) (after (suc link)) (history link) (to_put_on c.second (slice_get c.links link)) (written link) (puts link).1;
-      run_is = a.run_is;
-      crossed = a.coming_is;
-      as_many = a.as_many;
-      stores = st;
-      links = finishing_stills c.second history (put_by_run net classes packets steps) c.links s.carried a.second a.links (λ link. (puts link).0);
-      chosen = a.chosen;
-      totals = a.totals;
-      second = a.second;
-    }
+  -- what waits is put out
+  pub finished : (before after : Put) (c : Contents) (packets : List Packet) (steps : List Step) (s : State) (history : ℕ → List ℕ)
+      → IsAmid net classes packets c none_pending history [] steps s → StoresConform net c.stores s.held
+      → ((link : ℕ) → Writes (begin (suc link)) (before (suc link)) (history link)) → PutsAll before after c.second c.links
+      → Conforms net classes begin after (after_finishing c) packets steps s
+  finished before after c packets steps s history a st written puts = record {
+    history = λ link. history link ++ to_put_on c.second (slice_get c.links link);
+    written = λ link. writes_join (begin (suc link)) (before (suc link)) (after (suc link)) (history link) (to_put_on c.second (slice_get c.links link)) (written link) (puts link).1;
+    run_is = a.run_is;
+    crossed = a.coming_is;
+    as_many = a.as_many;
+    stores = st;
+    links = finishing_rests c.second history (put_by_run net classes packets steps) c.links s.carried a.second a.links (λ link. (puts link).0);
+    chosen = a.chosen;
+    totals = a.totals;
+    second = a.second;
+  }
 
-    pub ended : (packets : List Packet) (shape : List Step → Type 0) (makes : Making) (before after : Put) (old new : Contents) (steps : List Step) (history : ℕ → List ℕ)
-        → ((link : ℕ) → Writes (begin (suc link)) (before (suc link)) (history link)) → (e : Ended makes before old after new)
-        → Made net classes packets shape e.done none_pending history [] steps → Went packets shape after new steps
-    ended packets shape makes before after old new steps history written e made = record {
-      more = made.more;
-      state = made.state;
-      shaped = made.shaped;
-      conforms = subst (λ (c : Contents). Conforms net classes begin after c packets (steps ++ made.more) made.state) (sym e.new_is)
-          (finished before after e.done packets (steps ++ made.more) made.state history made.amid made.stores written e.put);
-    }
+  pub ended : (packets : List Packet) (shape : List Step → Type 0) (makes : Making) (before after : Put) (old new : Contents) (steps : List Step) (history : ℕ → List ℕ)
+      → ((link : ℕ) → Writes (begin (suc link)) (before (suc link)) (history link)) → (e : Ended makes before old after new)
+      → Made net classes packets shape e.done none_pending history [] steps → Went packets shape after new steps
+  ended packets shape makes before after old new steps history written e made = record {
+    more = made.more;
+    state = made.state;
+    shaped = made.shaped;
+    conforms = subst (λ (c : Contents). Conforms net classes begin after c packets (steps ++ made.more) made.state) (sym e.new_is)
+        (finished before after e.done packets (steps ++ made.more) made.state history made.amid made.stores written e.put);
+  }
 
   -- ---- one thing after another
 
@@ -121,7 +120,7 @@ module _ (net : Net) (classes : List Class) (begin : Put) where
 
 -- ---- a packet is read
 
-module _ (net : Net) (classes : List Class) (begin : Put) (still_is_carried : StillIsCarried) where
+module _ (net : Net) (classes : List Class) (begin : Put) where
   -- the packet comes behind the others
   abbrev pub with_one_more : List Packet → Packet → List Packet
   with_one_more packets p = packets ++ p ∷ []
@@ -138,7 +137,7 @@ module _ (net : Net) (classes : List Class) (begin : Put) (still_is_carried : St
     run_is = runs_extend net classes packets p steps s h.run_is;
     coming_is = ap (λ (l : List Coming). l ++ crossings_of classes packets p) h.crossed;
     as_many = h.as_many;
-    links = carried_alike second none_pending h.history _ _ c.links s.carried (still_is_carried second h.history (put_by_run net classes packets steps) c.links s.carried h.links)
+    links = carried_alike second none_pending h.history _ _ c.links s.carried (still_carries second h.history (put_by_run net classes packets steps) c.links s.carried h.links)
         (λ link below. put_before packets p steps s link h.run_is);
     chosen = h.chosen;
     totals = h.totals;

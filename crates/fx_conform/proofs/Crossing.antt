@@ -1,5 +1,6 @@
 -- A packet that crosses an interface: what makes room leaves, holders take it in, and the records of immediate caches leave.
-use Rattle.std.proofs.Common.{◌≡◌, ℕ, suc, ◌+◌, ◌^◌, ◌<◌, Bool, true, false, cond, List, [], ◌∷◌, ◌++◌, length, slice_get, refl, ap, sym, ◌∙◌, subst, arith, append_assoc, append-nil, Option, Some, None, Ok, All, All-head, All-tail}
+use Rattle.std.proofs.Common.{◌≡◌, ℕ, zero, suc, ◌+◌, ◌^◌, ◌<◌, Bool, true, false, cond, List, [], ◌∷◌, ◌++◌, length, slice_get, refl, ap, sym, ◌∙◌, subst, arith, append_assoc, append-nil, Option, Some, None, Ok, All}
+use Rattle.std.proofs.lemmas.List.Elements.{All-head, All-tail}
 use Rattle.std.specs.Prelude.{IfSome, option_and_then}
 use Rattle.std.specs.List.{AllByRecursion}
 use Rattle.fx_base.specs.declared.counts.Counts.{Counts}
@@ -29,14 +30,15 @@ use Rattle.fx_net.specs.Metering.{after_path}
 use Rattle.fx_net.specs.Taking.{adding, left_by, leaves_at_once, all_leave_at_once, with_stores, after_adding, after_taking}
 use Rattle.fx_conform.specs.Held.{Leaver, AllLeave}
 use Rattle.fx_conform.specs.TakingIn.{AreThere, TakesIn, IsUnbounded, packet_key}
-use Rattle.fx_conform.specs.OnLinks.{PutsAreCarried}
-use Rattle.fx_conform.specs.Sendable.{AreCounts, AreSent, LeavingsCanBeSent, TakenCanBeSent, MetCanBeSent}
+use Rattle.fx_conform.specs.Sendable.{AreSent}
+use Rattle.fx_conform.specs.Closing.{IsNamed}
 use Rattle.fx_conform.specs.Conforming.{IsSound, AreBoundless, StoresConform}
 use Rattle.fx_conform.specs.Rows.{AreExpiries, IsCrossing, AreCrossings}
 use Rattle.fx_conform.proofs.AtOnce.{as_many, taking_in, met_have_keys}
+use Rattle.fx_conform.proofs.CanBeSent.{leavings_can_be_sent, met_can_be_sent, taken_can_be_sent}
 use Rattle.fx_conform.proofs.Takers.{stay_unbounded}
 use Rattle.fx_conform.proofs.TakingIn.{left_then}
-use Rattle.fx_conform.proofs.Amid.{IsAmid, IsNamed, Follows, all_leave_so, crosses}
+use Rattle.fx_conform.proofs.Amid.{IsAmid, Follows, all_leave_so, crosses}
 
 -- ---- what meters a packet can be named
 
@@ -51,7 +53,7 @@ all_join P (x ∷ xs) ys a b = (a.0, all_join P xs ys a.1 b)
 -- an entry that is there is one of all
 pub all_at : {A : Type 0} (P : A → Type 0) (xs : List A) (n : ℕ) → AllByRecursion P xs → IfSome (slice_get xs n) P
 all_at P [] n h = tt
-all_at P (x ∷ xs) 0 h = h.0
+all_at P (x ∷ xs) zero h = h.0
 all_at P (x ∷ xs) (suc n) h = all_at P xs n h.1
 
 module _ (net : Net) where
@@ -81,7 +83,7 @@ module _ (net : Net) where
   device_met (Some device) crossing fields h = points_met 1 device.points crossing fields h
 
   number_has : (n : ℕ) → AllByRecursion (HasCaches net) net.devices → IfSome (numbered net.devices n) (HasCaches net)
-  number_has 0 h = tt
+  number_has zero h = tt
   number_has (suc n) h = all_at (HasCaches net) net.devices n h
 
   holdings_met : (fields : Fields) (os : List Occurrence) → AllByRecursion MetBy os → AllByRecursion (λ (h : Holding). IsHolder net h.holder) (met_holdings net.holders fields os)
@@ -126,7 +128,7 @@ module _ (net : Net) where
   stores_stay [] c = refl
   stores_stay (l ∷ ls) c = stores_stay ls (after_leave net l c)
 
-  boundless_then : (counts : Counts) (hs : List Holding) (stores : List (Option Stored)) → AreBoundless net stores → AreBoundless net (adding stores counts hs).stores
+  pub boundless_then : (counts : Counts) (hs : List Holding) (stores : List (Option Stored)) → AreBoundless net stores → AreBoundless net (adding stores counts hs).stores
   boundless_then counts hs stores h process = each (aggregations_of (slice_get net.processes process)) (h process) where
     each : (xs : List Aggregation) → AllByRecursion (λ (a : Aggregation). IsUnbounded (stored_at stores a.holder)) xs → AllByRecursion (λ (a : Aggregation). IsUnbounded (stored_at (adding stores counts hs).stores a.holder)) xs
     each [] g = tt
@@ -142,7 +144,7 @@ module _ (net : Net) where
     pub amid : IsAmid net classes packets c pending history coming (steps ++ more) state
     pub stores : StoresConform net c.stores state.held
 
-  module _ (sound : IsSound net) (classes : List Class) (packets : List Packet) (puts_are_carried : PutsAreCarried) (leavings_can_be_sent : LeavingsCanBeSent) (taken_can_be_sent : TakenCanBeSent) (met_can_be_sent : MetCanBeSent)
+  module _ (sound : IsSound net) (classes : List Class) (packets : List Packet)
       (pending : ℕ → List Record) (history : ℕ → List ℕ) (i : ℕ) (p : Packet) (fields_are : IsFields p.fields) (few : p.octets < 2 ^ 64) (packet_is : numbered packets i ≡ Some p) where
     crossed : (j : ℕ) (crossing : Crossing) (rest : List Coming) (c : Contents) (steps : List Step) (s : State) → numbered (path classes p) j ≡ Some crossing
         → IsAmid net classes packets c pending history (record { packet = i; crossing = j } ∷ rest) steps s → StoresConform net c.stores s.held
@@ -157,13 +159,13 @@ module _ (net : Net) where
         let coming : List Coming = record { packet = i; crossing = j } ∷ rest in
         let amid : IsAmid net classes packets kept pending history coming steps s =
             record { run_is = a.run_is; coming_is = a.coming_is; as_many = a.as_many; links = a.links; chosen = a.chosen; totals = a.totals; second = a.second } in
-        let room = all_leave_so net classes packets puts_are_carried leavings_can_be_sent pending history coming (adding c.stores counts hs).left kept steps s s.held takes.room (adding_named counts hs c.stores met) amid refl st.sent takes.makes_room in
+        let room = all_leave_so net classes packets pending history coming (adding c.stores counts hs).left kept steps s s.held takes.room (adding_named counts hs c.stores met) amid refl st.sent takes.makes_room in
         let sent_then = all_sent (adding c.stores counts hs).left s.held takes.room takes.makes_room st.sent in
         let taken = crosses net classes packets pending history rest i j p crossing (after_adding net counts hs c) (steps ++ room.more) room.state takes.choices takes.now packet_is on room.amid
             (ap (λ (h : List (List Record)). hold_all counts hs h takes.choices) room.held_is ∙ takes.taken_in) in
         let right = met_can_be_sent net.holders p.fields (occurrences net crossing p.fields) sound.layouts fields_are in
         let sent_now = taken_can_be_sent counts hs takes.room takes.choices takes.now (record { packets = omega arith; octets = few }) right sent_then takes.taken_in in
-        let out = all_leave_so net classes packets puts_are_carried leavings_can_be_sent pending history rest (all_leave_at_once (adding c.stores counts hs).stores counts hs) (after_adding net counts hs c) ((steps ++ room.more) ++ taken.more) taken.state takes.now takes.final
+        let out = all_leave_so net classes packets pending history rest (all_leave_at_once (adding c.stores counts hs).stores counts hs) (after_adding net counts hs c) ((steps ++ room.more) ++ taken.more) taken.state takes.now takes.final
             (at_once_named counts (adding c.stores counts hs).stores hs met) taken.amid taken.held_is sent_now takes.at_once in
         let all : List Step = room.more ++ (Cross i j takes.choices ∷ out.more) in
         let joined : ((steps ++ room.more) ++ taken.more) ++ out.more ≡ steps ++ all =

@@ -11,8 +11,15 @@ pub mod Takers
 pub mod Emptying
 pub mod Emptied
 pub mod Beginning
-mod Examples
+pub mod LinkPlaces
+pub mod OneLink
+pub mod AllLinks
+pub mod LinkLaws
+pub mod CanBeSent
 pub mod Amid
 pub mod Crossing
 pub mod Arriving
 pub mod Between
+pub mod Doing
+mod Examples
+mod LinkExamples

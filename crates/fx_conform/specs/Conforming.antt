@@ -36,12 +36,12 @@ AreBoundless net stores =
     → AllByRecursion (λ (a : Aggregation). IsUnbounded (stored_at stores a.holder)) (aggregations_of (slice_get net.processes process))
 
 -- each holder holds one record for each flow of its store
-pub record StoresConform (net : Net) (stores : List (Option Stored)) (held : List (List Record)) : Type 0 where
+pub record StoresConform (net : Net) (stores : List (Option Stored)) (holding : List (List Record)) : Type 0 where
   pub as_many : length stores ≡ length net.holders
-  pub held : AreHeld stores held
+  pub held : AreHeld stores holding
   pub usable : AreUsable stores
   pub boundless : AreBoundless net stores
-  pub sent : AreSent held
+  pub sent : AreSent holding
 
 -- all records that a run has put on a link
 abbrev pub put_by_run : Net → List Class → List Packet → List Step → ℕ → List Record

@@ -9,3 +9,4 @@ pub mod Sendable
 pub mod Conforming
 pub mod Rows
 pub mod Whole
+pub mod Closing

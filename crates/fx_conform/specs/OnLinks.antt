@@ -1,5 +1,5 @@
 -- What links carry, and the records that the abstract network has on them.
-use Rattle.std.specs.Prelude.{◌≡◌, ℕ, ◌^◌, ◌<◌, ◌==◌, List, [], ◌∷◌, ◌++◌, length, map, slice_get, slice_set, Some, if◌then◌else◌}
+use Rattle.std.specs.Prelude.{◌≡◌, ℕ, ◌^◌, ◌<◌, ◌==◌, true, List, [], ◌∷◌, ◌++◌, length, map, slice_get, slice_set, Some, None, if◌then◌else◌}
 use Rattle.std.specs.List.{AllByRecursion}
 use Rattle.fx_machine.specs.declared.record.Record.{Record}
 use Rattle.fx_machine.specs.Sends.{put_all}
@@ -7,7 +7,7 @@ use Rattle.fx_machine.specs.States.{all_empty, nothing_at}
 use Rattle.fx_session.specs.Streams.{start, fed}
 use Rattle.fx_link.specs.Ongoing.{Ongoing, at_rest, after_finish, after_carry}
 use Rattle.fx_link.specs.Outgoing.{with_all}
-use Rattle.fx_link.specs.Sending.{Sender, IsSent, KeepsUp}
+use Rattle.fx_link.specs.Sending.{IsSent, KeepsUp}
 use Rattle.fx_link.specs.Wires.{Wire, on_link, InStep}
 use Rattle.fx_runs.specs.Given.{given}
 use Rattle.fx_net.specs.Arriving.{waiting_on, with_left}

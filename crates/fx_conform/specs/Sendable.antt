@@ -2,7 +2,7 @@
 use Rattle.std.specs.Prelude.{◌≡◌, ℕ, ◌^◌, ◌<◌, List, slice_get, Some}
 use Rattle.std.specs.List.{AllByRecursion}
 use Rattle.fx_base.specs.declared.counts.Counts.{Counts}
-use Rattle.fx_elements.specs.Axes.{Fields, axis_count}
+use Rattle.fx_elements.specs.Axes.{Fields}
 use Rattle.fx_boxes.specs.Boxes.{IsFields}
 use Rattle.fx_layout.specs.Keys.{Key, IsLayout, HasBits}
 use Rattle.fx_machine.specs.declared.holding.Holding.{Holding}

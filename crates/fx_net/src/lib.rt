@@ -19,5 +19,6 @@ mod stop;
 mod store;
 mod taking;
 
+pub use action::Action;
 pub use network::Network;
 pub use running::run;

@@ -1,0 +1,57 @@
+-- What the closing phase leaves: nothing.
+use Rattle.std.specs.Prelude.{◌≡◌, ◌⊎◌, ℕ, List, [], length, Option, Some}
+use Rattle.std.specs.List.{AllByRecursion}
+use Rattle.fx_base.specs.declared.counts.Counts.{Counts}
+use Rattle.fx_machine.specs.declared.holding.Holding.{Holding}
+use Rattle.fx_machine.specs.declared.step.HolderName.{HolderName}
+use Rattle.fx_machine.specs.Network.{Net, holder_place}
+use Rattle.fx_link.specs.Links.{Put}
+use Rattle.fx_link.specs.Ongoing.{Ongoing}
+use Rattle.fx_plan.specs.Ranks.{IsWhole}
+use Rattle.fx_net.specs.Contents.{Contents}
+use Rattle.fx_net.specs.Doings.{EmptiesNetwork}
+use Rattle.fx_net.specs.Stores.{Stored}
+use Rattle.fx_net.specs.Taking.{adding}
+use Rattle.fx_conform.specs.Emptying.{count_in, without_leasts}
+use Rattle.fx_conform.specs.OnLinks.{NoOctets}
+use Rattle.fx_conform.specs.Usable.{AreUsable}
+
+-- a step can name the holder
+abbrev pub IsNamed : Net → ℕ → Type 0
+IsNamed net holder = (name : HolderName) × (holder_place net name ≡ Some holder)
+
+-- what holds records can be named
+abbrev pub OnlyNamedHold : Net → List (Option Stored) → Type 0
+OnlyNamedHold net stores = (place : ℕ) → IsNamed net place ⊎ (count_in stores place ≡ 0)
+
+-- no record waits for its message, and no octets to be put out
+abbrev pub NothingWaits : List Ongoing → Type 0
+NothingWaits links = AllByRecursion (λ (o : Ongoing). (o.outgoing.batch ≡ []) × (o.outgoing.octets ≡ [])) links
+
+abbrev pub NothingIsStored : List (Option Stored) → Type 0
+NothingIsStored stores = (place : ℕ) → count_in stores place ≡ 0
+
+-- ---- the laws
+
+-- Only holders that can be named take counts in.
+abbrev pub TakingStaysNamed : Type 0
+TakingStaysNamed =
+    (net : Net) (stores : List (Option Stored)) (counts : Counts) (hs : List Holding)
+    → OnlyNamedHold net stores → AllByRecursion (λ (h : Holding). IsNamed net h.holder) hs
+    → OnlyNamedHold net (adding stores counts hs).stores
+
+-- What leaves leaves no more than there was.
+abbrev pub LeavingStaysNamed : Type 0
+LeavingStaysNamed =
+    (net : Net) (stores : List (Option Stored)) (place : ℕ) (n : ℕ)
+    → AreUsable stores → OnlyNamedHold net stores → OnlyNamedHold net (without_leasts place stores n)
+
+-- Once all caches are emptied, and then all collecting processes are finished in the order of ranks, nothing is in the
+-- stores, and no octets are on the links.
+abbrev pub ClosingEmpties : Type 0
+ClosingEmpties =
+    (net : Net) (ranked : List ℕ) (before : Put) (after : Put) (old : Contents) (new : Contents)
+    → IsWhole net ranked → length old.links ≡ length net.links
+    → AreUsable old.stores → OnlyNamedHold net old.stores → NothingWaits old.links
+    → EmptiesNetwork net ranked before old after new
+    → NothingIsStored new.stores × NoOctets new.links
