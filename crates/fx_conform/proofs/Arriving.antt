@@ -1,6 +1,7 @@
 -- Records that arrive at a collecting process: each is tallied, sent on and taken in, in one step.
 use Rattle.std.proofs.Common.{◌≡◌, ℕ, zero, suc, ◌+◌, ◌%◌, ◌^◌, ◌<◌, ◌==◌, Bool, true, false, cond, List, [], ◌∷◌, ◌++◌, length, slice_get, slice_set, refl, ap, sym, ◌∙◌, subst, arith, append_assoc, append-nil, Option, Some, None, Ok}
 use Rattle.std.specs.List.{AllByRecursion}
+use Rattle.std.specs.Prelude.{IfSome}
 use Rattle.fx_layout.specs.Keys.{Key, Layout, refines, project}
 use Rattle.fx_machine.specs.declared.holding.Holding.{Holding}
 use Rattle.fx_machine.specs.declared.packet.Packet.{Packet}
@@ -11,6 +12,7 @@ use Rattle.fx_machine.specs.Network.{Net, Holder, Aggregation, Process, aggregat
 use Rattle.fx_machine.specs.Classes.{Class}
 use Rattle.fx_machine.specs.Acts.{Choices}
 use Rattle.fx_machine.specs.Handling.{aggregating, aggregated}
+use Rattle.fx_machine.specs.Runnable.{IsHolder, HasAggregations, IsRunnable}
 use Rattle.fx_machine.specs.Sends.{put_all}
 use Rattle.fx_machine.specs.States.{State, Coming, add_at, tallied, told}
 use Rattle.fx_machine.specs.Steps.{after}
@@ -31,14 +33,16 @@ use Rattle.fx_conform.specs.Held.{Leaver}
 use Rattle.fx_conform.specs.TakingIn.{IsUnbounded, AreUnbounded, Join}
 use Rattle.fx_conform.specs.OnLinks.{none_pending, pending_from}
 use Rattle.fx_conform.specs.Sendable.{IsKey}
+use Rattle.fx_conform.specs.Closing.{IsNamed}
 use Rattle.fx_conform.specs.Conforming.{IsSound, AreBoundless, StoresConform, put_by_run}
 use Rattle.fx_conform.specs.Rows.{AreArrivals}
 use Rattle.fx_conform.proofs.AtOnce.{as_many}
 use Rattle.fx_conform.proofs.Takers.{takers_join}
 use Rattle.fx_conform.proofs.LinkLaws.{arrived_leaves, none_is_left, puts_carry}
 use Rattle.fx_conform.proofs.CanBeSent.{aggregated_can_be_sent, taken_can_be_sent}
+use Rattle.fx_conform.proofs.Named.{taking_stays_named}
 use Rattle.fx_conform.proofs.Amid.{IsAmid, run_one, links_then, all_length, set_length, there_is_below}
-use Rattle.fx_conform.proofs.Crossing.{Then, boundless_then}
+use Rattle.fx_conform.proofs.Crossing.{Then, all_at, all_to_list, boundless_then}
 
 -- ---- what is tallied
 
@@ -104,6 +108,25 @@ one_taker holders key stores a xs own rest = by (takes_with holders key a) where
 takers_unbounded : (holders : List Holder) (key : Key) (stores : List (Option Stored)) (xs : List Aggregation) → AllByRecursion (λ (a : Aggregation). IsUnbounded (stored_at stores a.holder)) xs → AreUnbounded stores (aggregated holders key xs)
 takers_unbounded holders key stores [] h = tt
 takers_unbounded holders key stores (a ∷ xs) h = one_taker holders key stores a xs h.0 (takers_unbounded holders key stores xs h.1)
+
+one_named : (net : Net) (key : Key) (a : Aggregation) (xs : List Aggregation) → IsHolder net a.holder → AllByRecursion (λ (h : Holding). IsNamed net h.holder) (aggregated net.holders key xs)
+    → AllByRecursion (λ (h : Holding). IsNamed net h.holder) (aggregated net.holders key (a ∷ xs))
+one_named net key a xs own rest = by (takes_with net.holders key a) where
+  one : Holding
+  one = record { holder = a.holder; key = project key (layout_of (slice_get net.holders a.holder)) }
+  by : (b : Bool) → AllByRecursion (λ (h : Holding). IsNamed net h.holder) (cond b (one ∷ []) [] ++ aggregated net.holders key xs)
+  by true = ((own.name, own.named), rest)
+  by false = rest
+
+takers_named : (net : Net) (key : Key) (xs : List Aggregation) → AllByRecursion (λ (a : Aggregation). IsHolder net a.holder) xs → AllByRecursion (λ (h : Holding). IsNamed net h.holder) (aggregated net.holders key xs)
+takers_named net key [] h = tt
+takers_named net key (a ∷ xs) h = one_named net key a xs h.0 (takers_named net key xs h.1)
+
+-- a process's aggregations hold what they take in
+pub aggregations_held : (net : Net) → IsRunnable net → (to : ℕ) (process : Process) → slice_get net.processes to ≡ Some process → AllByRecursion (λ (a : Aggregation). IsHolder net a.holder) process.aggregations
+aggregations_held net runnable to process is =
+    all_to_list (λ (a : Aggregation). IsHolder net a.holder) process.aggregations
+    (subst (λ (o : Option Process). IfSome o (HasAggregations net)) is (all_at (HasAggregations net) net.processes to (all_to_list (HasAggregations net) net.processes runnable.aggregations)))
 
 module _ (net : Net) (sound : IsSound net) (classes : List Class) (packets : List Packet)
     (history : ℕ → List ℕ) (link to : ℕ) (process : Process)
@@ -180,6 +203,7 @@ module _ (net : Net) (sound : IsSound net) (classes : List Class) (packets : Lis
           held = join.held_then;
           usable = join.usable_then;
           boundless = boundless_then net r.counts hs c.stores st.boundless;
+          named = taking_stays_named net c.stores r.counts hs st.named (takers_named net r.key process.aggregations (aggregations_held net sound.runnable to process is_there));
           sent = taken_can_be_sent r.counts hs s.held join.choices join.now (record { packets = sent.1.packets; octets = sent.1.octets }) right st.sent join.taken_in;
         };
       })

@@ -38,11 +38,12 @@ use Rattle.fx_conform.proofs.AtOnce.{as_many, taking_in, met_have_keys}
 use Rattle.fx_conform.proofs.CanBeSent.{leavings_can_be_sent, met_can_be_sent, taken_can_be_sent}
 use Rattle.fx_conform.proofs.Takers.{stay_unbounded}
 use Rattle.fx_conform.proofs.TakingIn.{left_then}
+use Rattle.fx_conform.proofs.Named.{taking_stays_named}
 use Rattle.fx_conform.proofs.Amid.{IsAmid, Follows, all_leave_so, crosses}
 
 -- ---- what meters a packet can be named
 
-all_to_list : {A : Type 0} (P : A → Type 0) (xs : List A) → All P xs → AllByRecursion P xs
+pub all_to_list : {A : Type 0} (P : A → Type 0) (xs : List A) → All P xs → AllByRecursion P xs
 all_to_list P [] h = tt
 all_to_list P (x ∷ xs) h = (All-head P x xs h, all_to_list P xs (All-tail P x xs h))
 
@@ -94,6 +95,10 @@ module _ (net : Net) where
   metered_by fields crossing runnable =
       holdings_met fields (occurrences net crossing fields)
       (device_met (numbered net.devices crossing.device) crossing fields (number_has crossing.device (all_to_list (HasCaches net) net.devices runnable.caches)))
+
+  pub all_named : (hs : List Holding) → AllByRecursion (λ (h : Holding). IsHolder net h.holder) hs → AllByRecursion (λ (h : Holding). IsNamed net h.holder) hs
+  all_named [] h = tt
+  all_named (x ∷ hs) h = ((h.0.name, h.0.named), all_named hs h.1)
 
   -- ---- what leaves then can be named
 
@@ -185,6 +190,7 @@ module _ (net : Net) where
                 held = takes.held_then;
                 usable = takes.usable_then;
                 boundless = boundless_then counts hs c.stores st.boundless;
+                named = taking_stays_named net c.stores counts hs st.named (all_named hs met);
                 sent = all_sent (all_leave_at_once (adding c.stores counts hs).stores counts hs) takes.now takes.final takes.at_once sent_now;
               }));
         } where

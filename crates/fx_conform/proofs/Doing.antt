@@ -40,6 +40,7 @@ use Rattle.fx_conform.proofs.Emptied.{emptying_is_leaving}
 use Rattle.fx_conform.proofs.Emptying.{least_leaves, leasts_leave}
 use Rattle.fx_conform.proofs.Places.{stored_here, stored_other}
 use Rattle.fx_conform.proofs.TakingIn.{changed_length}
+use Rattle.fx_conform.proofs.Named.{leaving_stays_named}
 use Rattle.fx_conform.proofs.Amid.{IsAmid, Follows, one_leaves, all_leave_so, there_is_below}
 use Rattle.fx_conform.proofs.Crossing.{Then as Made, all_join, stores_stay, left_named, crosses_path}
 use Rattle.fx_conform.proofs.Arriving.{arrive_all}
@@ -120,6 +121,7 @@ module _ (net : Net) (sound : IsSound net) (classes : List Class) (begin : Put) 
         held = left.2;
         usable = left.3;
         boundless = boundless_leasts net place n c.stores h.stores.boundless;
+        named = leaving_stays_named net c.stores place n h.stores.usable h.stores.named;
         sent = all_sent ls s.held left.0 left.1 h.stores.sent;
       } in
       subst (λ (d : Contents). Made net classes packets AreExpiries d none_pending h.history [] steps) (sym (e ∙ emptying_is_leaving net place c))
@@ -141,6 +143,7 @@ module _ (net : Net) (sound : IsSound net) (classes : List Class) (begin : Put) 
           held = left.2;
           usable = left.3;
           boundless = boundless_least net c.stores place h.stores.boundless;
+          named = leaving_stays_named net c.stores place 1 h.stores.usable h.stores.named;
           sent = (leavings_can_be_sent l s.held left.0 left.1 h.stores.sent).1;
         } in
         let a = amid_of net classes begin put c packets steps s h in

@@ -59,7 +59,7 @@ no_records held (t ∷ ts) h none =
     let no : ◌≡◌ {A = Option Counts} (Some t.counts) None = sym here ∙ h.same t.key ∙ gone in
     absurd (cc)
 
-holds_nothing : (s : Option Stored) (rs : List Record) → HeldAt s rs → count_of s ≡ 0 → rs ≡ []
+pub holds_nothing : (s : Option Stored) (rs : List Record) → HeldAt s rs → count_of s ≡ 0 → rs ≡ []
 holds_nothing None rs h none = h
 holds_nothing (Some s) rs h none = no_records (flows_in s) rs h none
 

@@ -16,10 +16,14 @@ pub mod OneLink
 pub mod AllLinks
 pub mod LinkLaws
 pub mod CanBeSent
+pub mod Named
 pub mod Amid
 pub mod Crossing
 pub mod Arriving
 pub mod Between
 pub mod Doing
+pub mod Lines
+pub mod Starting
+pub mod Ending
 mod Examples
 mod LinkExamples

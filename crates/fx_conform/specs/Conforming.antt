@@ -13,6 +13,7 @@ use Rattle.fx_machine.specs.States.{State, opening, told}
 use Rattle.fx_machine.specs.Steps.{run}
 use Rattle.fx_collect.specs.Totals.{totals_in}
 use Rattle.fx_link.specs.Links.{Put}
+use Rattle.fx_plan.specs.Ranks.{LinksLead}
 use Rattle.fx_runs.specs.Destinations.{AllUsable}
 use Rattle.fx_runs.specs.PutOn.{put_on}
 use Rattle.fx_net.specs.Contents.{Contents, stored_at}
@@ -20,6 +21,7 @@ use Rattle.fx_net.specs.Stores.{Stored}
 use Rattle.fx_conform.specs.Held.{AreHeld}
 use Rattle.fx_conform.specs.Usable.{AreUsable}
 use Rattle.fx_conform.specs.TakingIn.{IsUnbounded}
+use Rattle.fx_conform.specs.Closing.{OnlyNamedHold}
 use Rattle.fx_conform.specs.OnLinks.{AreStill}
 use Rattle.fx_conform.specs.Sendable.{AreSent, HaveLayouts}
 
@@ -27,6 +29,7 @@ use Rattle.fx_conform.specs.Sendable.{AreSent, HaveLayouts}
 pub record IsSound (net : Net) : Type 0 where
   pub network : IsNetwork net
   pub runnable : IsRunnable net
+  pub leads : LinksLead net
   pub layouts : HaveLayouts net.holders
 
 -- aggregations have no bound
@@ -41,6 +44,7 @@ pub record StoresConform (net : Net) (stores : List (Option Stored)) (holding : 
   pub held : AreHeld stores holding
   pub usable : AreUsable stores
   pub boundless : AreBoundless net stores
+  pub named : OnlyNamedHold net stores
   pub sent : AreSent holding
 
 -- all records that a run has put on a link

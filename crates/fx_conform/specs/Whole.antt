@@ -1,7 +1,7 @@
 -- A whole run of a running network, as a complete run of the abstract one.
 use Rattle.std.specs.Prelude.{◌≡◌, ℕ, suc, ◌<◌, List, [], ◌∷◌, ◌++◌, length, Ok, All}
 use Rattle.fx_base.specs.Device.{Writes}
-use Rattle.fx_base.specs.Lines.{Lines, AtEnd as LinesEnd}
+use Rattle.fx_base.specs.Lines.{Lines, AtLine, AtEnd as LinesEnd}
 use Rattle.fx_layout.specs.Keys.{Key}
 use Rattle.fx_machine.specs.declared.packet.Packet.{Packet}
 use Rattle.fx_machine.specs.declared.step.Step.{Step}
@@ -35,9 +35,31 @@ abbrev pub IsReadOn : Net → List Class → List Packet → List Step → Put �
 IsReadOn net classes packets steps before after link =
     (octets : List ℕ) × Writes (before (suc link)) (after (suc link)) octets × AreRead octets (put_by_run net classes packets steps link)
 
+-- a reader of lines goes on to these
+abbrev pub ReadsLines : Lines → Lines → List (List ℕ) → Type 0
+ReadsLines from to [] = to ≡ from
+ReadsLines from to (line ∷ lines) = (next : Lines) × AtLine from next × (next.line ≡ line) × ReadsLines next to lines
+
+-- the steps of the schedule's lines, over the packets that these read, and then those of the closing phase
+pub record AreInOrder (net : Net) (classes : List Class) (from to : Lines) (packets : List Packet) (steps : List Step) : Type 0 where
+  pub lines : List (List ℕ)
+  pub behind : Lines
+  pub read : ReadsLines from behind lines
+  pub end : LinesEnd behind to
+  pub by_lines : List Packet
+  pub left : List Packet
+  pub packets_are : packets ≡ by_lines ++ left
+  pub of_lines : List Step
+  pub of_closing : List Step
+  pub steps_are : steps ≡ of_lines ++ of_closing
+  pub rows : AreRows classes lines 1 by_lines of_lines
+  pub ranked : List ℕ
+  pub whole : IsWhole net ranked
+  pub closing : IsClosing net classes ranked (suc (length by_lines)) left of_closing
+
 -- The capture's frames in order are the packets of a complete run, whose steps are those of the schedule's lines and
 -- then of the closing phase. The totals are that run's, and the octets on each link are its records.
-pub record IsRunOf (net : Net) (classes : List Class) (at to : captures.Reading) (before after : Put) (totals : Totals) : Type 0 where
+pub record IsRunOf (net : Net) (classes : List Class) (at to : captures.Reading) (from_line to_line : Lines) (before after : Put) (totals : Totals) : Type 0 where
   pub frames : List captures.Seen
   pub last : captures.Reading
   pub goes_on : GoesOn at last frames
@@ -48,6 +70,7 @@ pub record IsRunOf (net : Net) (classes : List Class) (at to : captures.Reading)
   pub final : State
   pub run_is : run net classes packets steps (opening net classes packets) ≡ Ok final
   pub complete : Complete final
+  pub in_order : AreInOrder net classes from_line to_line packets steps
   pub totals_are : totals ≡ totals_in net.report_layout (told final)
   pub read : (link : ℕ) → link < length net.links → IsReadOn net classes packets steps before after link
 
@@ -63,7 +86,7 @@ RunsAreComplete =
     (network : Network) (classes : List Class) (at to : captures.Reading) (from last : Lines) (before after : Put) (totals : Totals)
     → IsSound (net_of network) → HavePaths classes
     → RunsTo (begun network classes) at to from last before after totals
-    → IsRunOf (net_of network) classes at to before after totals
+    → IsRunOf (net_of network) classes at to from last before after totals
 
 -- the totals are the plain sums over these packets, and nothing is unassigned
 pub record ArePlainSums (net : Net) (packets : List Packet) (totals : Totals) : Type 0 where
@@ -74,7 +97,7 @@ pub record ArePlainSums (net : Net) (packets : List Packet) (totals : Totals) : 
 -- 64 bits.
 abbrev pub TotalsArePlainSums : Type 0
 TotalsArePlainSums =
-    (net : Net) (classes : List Class) (at to : captures.Reading) (before after : Put) (totals : Totals)
-    (of_run : IsRunOf net classes at to before after totals)
+    (net : Net) (classes : List Class) (at to : captures.Reading) (from last : Lines) (before after : Put) (totals : Totals)
+    (of_run : IsRunOf net classes at to from last before after totals)
     → ExactlyOnce net classes → SumsFit net.report_layout (to_count classes of_run.packets)
     → ArePlainSums net (to_count classes of_run.packets) totals
