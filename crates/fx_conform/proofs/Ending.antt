@@ -25,7 +25,7 @@ use Rattle.fx_conform.proofs.Lines.{none_below}
 
 -- ---- what is emptied can be named
 
-all_by_index : {A : Type 0} (P : A → Type 0) (xs : List A) → ((n : ℕ) (x : A) → slice_get xs n ≡ Some x → P x) → AllByRecursion P xs
+pub all_by_index : {A : Type 0} (P : A → Type 0) (xs : List A) → ((n : ℕ) (x : A) → slice_get xs n ≡ Some x → P x) → AllByRecursion P xs
 all_by_index P [] h = tt
 all_by_index P (x ∷ xs) h = (h 0 x refl, all_by_index P xs (λ n y e. h (suc n) y e))
 

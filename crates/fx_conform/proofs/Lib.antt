@@ -25,5 +25,6 @@ pub mod Doing
 pub mod Lines
 pub mod Starting
 pub mod Ending
+pub mod WholeRuns
 mod Examples
 mod LinkExamples

@@ -3,8 +3,10 @@
 
 mod links;
 mod stores;
+mod whole;
 
 pub use links::{held_can_be_sent, links_are_carried};
 pub use stores::{
     holders_are_emptied, nothing_is_held, records_are_kept, stores_stay_usable, stores_take_in,
 };
+pub use whole::runs_are_complete;
