@@ -16,7 +16,6 @@ use Rattle.fx_audit.specs.declared.answer.Answer.{Answer}
 use Rattle.fx_audit.specs.declared.answer.Answer.TheVariants.{Yes}
 use Rattle.fx_audit.specs.Documents.{IsNetwork, IsRefusedByDocuments, IsTraffic}
 use Rattle.fx_audit.specs.Metering.{IsMetered, IsMeteredIn, IsRefusedIn, IsRefusedMetering}
-use Rattle.fx_audit.specs.Texts.{IsRunText}
 use Rattle.fx_audit.proofs.Documents.{both_mapped, both_told}
 
 -- ---- a capture that was opened
@@ -37,6 +36,11 @@ pub refused_behind : (network : Network) (classes : List Class) (left : Option (
     → FailsOutside failed e ⊎ RefusesRun (begun network classes) at to from last before e → FailsOutside failed e ⊎ IsRefusedIn network classes left asked from last before e
 refused_behind network classes left asked at to from last before failed e opened (inl outside) = inl outside
 refused_behind network classes left asked at to from last before failed e opened (inr refused) = inr (inr (at, to, opened, refused))
+
+-- so nothing is written
+pub unmetered : (O W R : Type 0) → O ⊎ R → O ⊎ (W ⊎ R)
+unmetered O W R (inl outside) = inl outside
+unmetered O W R (inr refused) = inr (inr refused)
 
 -- ---- two documents and a run
 
@@ -77,12 +81,3 @@ run_unread left_n left_t left asked from last before failed e N T W h =
       | inr (inr (inl t)) ↦ inr (inr (inl t))
       | inr (inr (inr f)) ↦ inr (inr (inr (inr (both_mapped left_n left_t (λ n t. IsRefusedByDocuments n t e) (λ n t. IsRefusedMetering n t left asked from last before e) (λ n t p. inl p) f))))
     ]
-
--- ---- what is printed
-
-pub run_told : (left : Option (List ℕ)) (asked : ℕ) (network : Network) (classes : List Class) (from last : Lines) (before after : Put) (W : List ℕ → Type 0) (result : Result Answer Fault)
-    → IfOk result (λ a. (a ≡ Yes) × ((text : List ℕ) × IsMeteredIn network classes left asked from last before after text × W text)) → IfOk result (λ a. (text : List ℕ) × IsRunText a text × W text)
-run_told left asked network classes from last before after W (Err e) h = tt
-run_told left asked network classes from last before after W (Ok a) h =
-    let metered : IsMeteredIn network classes left asked from last before after h.1.0 = h.1.1 in
-    (h.1.0, (h.0, (metered.totals, metered.skipped.other, metered.skipped.malformed, metered.text_is)), h.1.2)
