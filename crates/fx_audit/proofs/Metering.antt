@@ -53,8 +53,7 @@ run_done left_n left_t left asked network classes from last before after W (Ok a
     let text = h.1.0 in
     let metered : IsMeteredIn network classes left asked from last before after text = h.1.1 in
     let written : W text = h.1.2 in
-    (h.0, both_told left_n left_t (λ o. IsNetwork o network) (λ o. IsTraffic network o classes) (λ x y. (text' : List ℕ) × IsMetered x y left asked from last before after text' × W text') n t
-      (λ x y p q. (text, record { network = network; classes = classes; network_is = p; traffic_is = q; metered = metered }, written)))
+    (h.0, both_told left_n left_t (λ o. IsNetwork o network) (λ o. IsTraffic network o classes) (λ x y. (text' : List ℕ) × IsMetered x y left asked from last before after text' × W text') n t (λ x y p q. (text, record { network = network; classes = classes; network_is = p; traffic_is = q; metered = metered }, written)))
 
 -- the run is refused, in the network and traffic that were read
 pub run_refused : (left_n left_t left : Option (List ℕ)) (asked : ℕ) (network : Network) (classes : List Class) (from last : Lines) (before : Put) (M N T W : Fault → Type 0) (result : Result Answer Fault)

@@ -9,12 +9,12 @@ use std::test::Fail;
 /// A capture of three packets of raw IP from 10.0.0.1, of 100, 200 and 300 octets, in the seconds 1, 2 and 3.
 const CAPTURE: [u8; 132] = [
     0xa1, 0xb2, 0xc3, 0xd4, 0, 2, 0, 4, 0, 0, 0, 0, 0, 0, 0, 0, 0, 4, 0, 0, 0, 0, 0, 0x65, // the file header
-    0, 0, 0, 1, 0, 0, 0, 0, 0, 0, 0, 0x14, 0, 0, 0, 0x64, // the first record, and its packet
-    0x45, 0, 0, 0x64, 0, 0, 0, 0, 0x40, 1, 0, 0, 10, 0, 0, 1, 192, 0, 2, 1,
+    0, 0, 0, 1, 0, 0, 0, 0, 0, 0, 0, 0x14, 0, 0, 0, 0x64, // the first record
+    0x45, 0, 0, 0x64, 0, 0, 0, 0, 0x40, 1, 0, 0, 10, 0, 0, 1, 192, 0, 2, 1, // its packet
     0, 0, 0, 2, 0, 0, 0, 0, 0, 0, 0, 0x14, 0, 0, 0, 0xc8, // the second one
-    0x45, 0, 0, 0xc8, 0, 0, 0, 0, 0x40, 1, 0, 0, 10, 0, 0, 1, 192, 0, 2, 1,
+    0x45, 0, 0, 0xc8, 0, 0, 0, 0, 0x40, 1, 0, 0, 10, 0, 0, 1, 192, 0, 2, 1, // its packet
     0, 0, 0, 3, 0, 0, 0, 0, 0, 0, 0, 0x14, 0, 0, 1, 0x2c, // the third one
-    0x45, 0, 1, 0x2c, 0, 0, 0, 0, 0x40, 1, 0, 0, 10, 0, 0, 1, 192, 0, 2, 1,
+    0x45, 0, 1, 0x2c, 0, 0, 0, 0, 0x40, 1, 0, 0, 10, 0, 0, 1, 192, 0, 2, 1, // its packet
 ];
 
 /// What is put on the link: a message with a template and a record of 2 packets and 300 octets, which left the cache
