@@ -8,3 +8,4 @@ pub mod Checks
 pub mod Confirms
 pub mod Texts
 pub mod Audits
+pub mod Metering

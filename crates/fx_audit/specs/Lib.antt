@@ -7,3 +7,4 @@ pub mod Replay
 pub mod Streams
 pub mod Texts
 pub mod Audits
+pub mod Metering

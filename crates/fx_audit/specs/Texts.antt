@@ -14,6 +14,7 @@ use Rattle.fx_search.specs.Found.{certificate_text}
 use Rattle.fx_audit.specs.Audits.{unknown_line}
 use Rattle.fx_audit.specs.Checks.{MeansNo, no_line, yes_line}
 use Rattle.fx_audit.specs.Confirms.{RefutesNothing, refuted_text}
+use Rattle.fx_audit.specs.Metering.{IsMeteredText}
 use Rattle.fx_audit.specs.Replay.{IsTextOf}
 use Rattle.fx_audit.specs.Streams.{IsTotalsText}
 
@@ -24,6 +25,10 @@ IsReplayText answer text = (answer ≡ Yes) × ((layout : Layout) × (s : State)
 -- a stream's totals, and how many gaps and skipped records it had
 abbrev pub IsCollectText : Answer → List ℕ → Type 0
 IsCollectText answer text = (answer ≡ Yes) × ((totals : Totals) × (gaps : ℕ) × (skipped : ℕ) × IsTotalsText totals gaps skipped text)
+
+-- a run's totals, and how many frames of its capture were skipped
+abbrev pub IsRunText : Answer → List ℕ → Type 0
+IsRunText answer text = (answer ≡ Yes) × ((totals : Totals) × (other : ℕ) × (malformed : ℕ) × IsMeteredText totals other malformed text)
 
 -- a check prints `yes` or `no`, as it answers
 abbrev pub IsCheckText : Answer → List ℕ → Type 0

@@ -12,6 +12,7 @@ mod confirm_command;
 mod document;
 mod replay_command;
 mod replaying;
+mod run_command;
 
 pub use answer::Answer;
 pub use audit_command::{AUDIT_LIMIT, audit_bytes};
@@ -20,3 +21,4 @@ pub use check_command::check_bytes;
 pub use collect_command::collect_bytes;
 pub use confirm_command::confirm_bytes;
 pub use replay_command::replay_bytes;
+pub use run_command::run_bytes;

@@ -14,6 +14,8 @@ mod audit_confirms;
 #[cfg(test)]
 mod audit_replays;
 #[cfg(test)]
+mod audit_runs;
+#[cfg(test)]
 mod audit_texts;
 #[cfg(test)]
 mod check;

@@ -1,0 +1,82 @@
+-- What a run over a capture comes to.
+use Rattle.std.proofs.Common.{◌≡◌, ◌⊎◌, ℕ, Bool, List, drop, Option, Some, None, Result, Ok, Err, IfSome, IfOk, IfErr, refl, sym, subst, inl, inr}
+use Rattle.fx_base.specs.declared.fault.Fault.{Fault}
+use Rattle.fx_base.specs.declared.fault.Place.TheVariants as places
+use Rattle.fx_base.specs.Device.{MayBeLeft, MayHaveLeft}
+use Rattle.fx_base.specs.Fault.{fault_at}
+use Rattle.fx_base.specs.Lines.{Lines}
+use Rattle.fx_machine.specs.Classes.{Class}
+use Rattle.fx_link.specs.Links.{Put}
+use Rattle.fx_pcap.specs.Captures.{IsOpened, Reading}
+use Rattle.fx_pcap.specs.Records.{format_of}
+use Rattle.fx_pcap.specs.declared.header.Format.{Format}
+use Rattle.fx_plan.specs.declared.network.Network.{Network}
+use Rattle.fx_net.specs.Running.{FailsOutside, RefusesRun, begun}
+use Rattle.fx_audit.specs.declared.answer.Answer.{Answer}
+use Rattle.fx_audit.specs.declared.answer.Answer.TheVariants.{Yes}
+use Rattle.fx_audit.specs.Documents.{IsNetwork, IsRefusedByDocuments, IsTraffic}
+use Rattle.fx_audit.specs.Metering.{IsMetered, IsMeteredIn, IsRefusedIn, IsRefusedMetering}
+use Rattle.fx_audit.proofs.Documents.{both_mapped, both_told}
+
+-- ---- a capture that was opened
+
+one_format : (r : Result Format Fault) (format : Format) (e : Fault) → r ≡ Ok format → r ≡ Err e → ⊥
+one_format r format e ok err = absurd cc
+
+-- has a file header, so what holds of one whose header is refused holds of it
+pub header_faultless : (left : Option (List ℕ)) (asked : ℕ) (at : Reading) (A : Type 0) → IsOpened left asked at → IfSome left (λ c. (e : Fault) → format_of c ≡ Err e → A)
+header_faultless None asked at A h = tt
+header_faultless (Some c) asked at A h = λ e refused.
+    let behind : MayBeLeft at.left (drop 24 c) = subst (λ (o : Option (List ℕ)). MayBeLeft o (drop 24 c)) (sym h.rest) refl in
+    let there = h.format (drop 24 c) behind in
+    absurd (one_format (format_of c) at.format e (subst (λ (o : List ℕ). format_of o ≡ Ok at.format) there.1 there.2.0) refused)
+
+-- a run over it is refused
+pub refused_behind : (network : Network) (classes : List Class) (left : Option (List ℕ)) (asked : ℕ) (at to : Reading) (from last : Lines) (before : Put) (failed : Bool) (e : Fault) → IsOpened left asked at
+    → FailsOutside failed e ⊎ RefusesRun (begun network classes) at to from last before e → FailsOutside failed e ⊎ IsRefusedIn network classes left asked from last before e
+refused_behind network classes left asked at to from last before failed e opened (inl outside) = inl outside
+refused_behind network classes left asked at to from last before failed e opened (inr refused) = inr (inr (at, to, opened, refused))
+
+-- so nothing is written
+pub unmetered : (O W R : Type 0) → O ⊎ R → O ⊎ (W ⊎ R)
+unmetered O W R (inl outside) = inl outside
+unmetered O W R (inr refused) = inr (inr refused)
+
+-- ---- two documents and a run
+
+pub run_done : (left_n left_t left : Option (List ℕ)) (asked : ℕ) (network : Network) (classes : List Class) (from last : Lines) (before after : Put) (W : List ℕ → Type 0) (result : Result Answer Fault)
+    → MayHaveLeft left_n (λ n. IsNetwork n network) → MayHaveLeft left_t (λ t. IsTraffic network t classes)
+    → IfOk result (λ a. (a ≡ Yes) × ((text : List ℕ) × IsMeteredIn network classes left asked from last before after text × W text))
+    → IfOk result (λ a. (a ≡ Yes) × MayHaveLeft left_n (λ n. MayHaveLeft left_t (λ t. (text : List ℕ) × IsMetered n t left asked from last before after text × W text)))
+run_done left_n left_t left asked network classes from last before after W (Err e) n t h = tt
+run_done left_n left_t left asked network classes from last before after W (Ok a) n t h =
+    let text = h.1.0 in
+    let metered : IsMeteredIn network classes left asked from last before after text = h.1.1 in
+    let written : W text = h.1.2 in
+    (h.0, both_told left_n left_t (λ o. IsNetwork o network) (λ o. IsTraffic network o classes) (λ x y. (text' : List ℕ) × IsMetered x y left asked from last before after text' × W text') n t (λ x y p q. (text, record { network = network; classes = classes; network_is = p; traffic_is = q; metered = metered }, written)))
+
+-- the run is refused, in the network and traffic that were read
+pub run_refused : (left_n left_t left : Option (List ℕ)) (asked : ℕ) (network : Network) (classes : List Class) (from last : Lines) (before : Put) (M N T W : Fault → Type 0) (result : Result Answer Fault)
+    → MayHaveLeft left_n (λ n. IsNetwork n network) → MayHaveLeft left_t (λ t. IsTraffic network t classes)
+    → IfErr result (λ e. M e ⊎ (W e ⊎ IsRefusedIn network classes left asked from last before e))
+    → IfErr result (λ e. M e ⊎ (N e ⊎ (T e ⊎ (W e ⊎ MayHaveLeft left_n (λ n. MayHaveLeft left_t (λ t. IsRefusedMetering n t left asked from last before e))))))
+run_refused left_n left_t left asked network classes from last before M N T W (Ok a) n t h = tt
+run_refused left_n left_t left asked network classes from last before M N T W (Err e) n t h =
+    elim h [
+      | inl m ↦ inl m
+      | inr (inl w) ↦ inr (inr (inr (inl w)))
+      | inr (inr r) ↦
+          inr (inr (inr (inr (both_told left_n left_t (λ o. IsNetwork o network) (λ o. IsTraffic network o classes) (λ x y. IsRefusedMetering x y left asked from last before e) n t (λ x y p q. inr (network, classes, p, q, r))))))
+    ]
+
+-- a document is refused
+pub run_unread : (left_n left_t left : Option (List ℕ)) (asked : ℕ) (from last : Lines) (before : Put) (failed : Bool) (e : Fault) (N T W : Type 0)
+    → (e ≡ fault_at 900 places.None) ⊎ (N ⊎ (T ⊎ MayHaveLeft left_n (λ n. MayHaveLeft left_t (λ t. IsRefusedByDocuments n t e))))
+    → FailsOutside failed e ⊎ (N ⊎ (T ⊎ (W ⊎ MayHaveLeft left_n (λ n. MayHaveLeft left_t (λ t. IsRefusedMetering n t left asked from last before e)))))
+run_unread left_n left_t left asked from last before failed e N T W h =
+    elim h [
+      | inl m ↦ inl (inl m)
+      | inr (inl n) ↦ inr (inl n)
+      | inr (inr (inl t)) ↦ inr (inr (inl t))
+      | inr (inr (inr f)) ↦ inr (inr (inr (inr (both_mapped left_n left_t (λ n t. IsRefusedByDocuments n t e) (λ n t. IsRefusedMetering n t left asked from last before e) (λ n t p. inl p) f))))
+    ]

@@ -1,0 +1,70 @@
+-- What a run over a capture prints, and why it is refused.
+use Rattle.std.specs.Prelude.{◌≡◌, ◌⊎◌, ℕ, List, ◌++◌, codes, Option, IsPermutation}
+use Rattle.std.specs.Fmt.{decimal}
+use Rattle.fx_base.specs.declared.fault.Fault.{Fault}
+use Rattle.fx_base.specs.Lines.{Lines}
+use Rattle.fx_machine.specs.Classes.{Class}
+use Rattle.fx_link.specs.Links.{Put}
+use Rattle.fx_collect.specs.Totals.{Totals}
+use Rattle.fx_collect.specs.Report.{Ascends, number_line, totals_text}
+use Rattle.fx_pcap.specs.declared.skipped.Skipped.{Skipped}
+use Rattle.fx_pcap.specs.Captures.{IsOpened, IsRefused, Reading}
+use Rattle.fx_plan.specs.declared.network.Network.{Network}
+use Rattle.fx_net.specs.Running.{RefusesRun, RunsTo, begun}
+use Rattle.fx_audit.specs.Documents.{IsNetwork, IsRefusedByDocuments, IsTraffic}
+
+-- ---- the text
+
+-- the line that says how many frames were skipped
+abbrev pub skipped_line : ℕ → ℕ → List ℕ
+skipped_line other malformed = codes "skipped other " ++ (decimal other ++ number_line (codes " malformed ") malformed)
+
+-- the text of totals, with their keys in ascending order, and of the numbers of skipped frames
+pub record IsMeteredText (tallied : Totals) (other malformed : ℕ) (text : List ℕ) : Type 0 where
+  pub totals : Totals
+  pub entries : IsPermutation tallied.entries totals.entries
+  pub ascending : Ascends totals.entries
+  pub layout_is : totals.layout ≡ tallied.layout
+  pub unassigned : totals.unassigned ≡ tallied.unassigned
+  pub text_is : text ≡ totals_text totals ++ skipped_line other malformed
+
+-- ---- a run in a network and traffic, over a capture that has these octets left, where they are told, and of which so
+-- many calls were made
+
+-- the reader of the capture begins behind the file header; the run comes to these totals, and skips so many frames
+pub record IsRun (network : Network) (classes : List Class) (left : Option (List ℕ)) (asked : ℕ) (from last : Lines) (before after : Put) (totals : Totals) (skipped : Skipped) : Type 0 where
+  pub at : Reading
+  pub to : Reading
+  pub opened : IsOpened left asked at
+  pub runs : RunsTo (begun network classes) at to from last before after totals
+  pub skipped_is : skipped ≡ to.skipped
+
+-- the text that it prints
+pub record IsMeteredIn (network : Network) (classes : List Class) (left : Option (List ℕ)) (asked : ℕ) (from last : Lines) (before after : Put) (text : List ℕ) : Type 0 where
+  pub totals : Totals
+  pub skipped : Skipped
+  pub ran : IsRun network classes left asked from last before after totals skipped
+  pub text_is : IsMeteredText totals skipped.other skipped.malformed text
+
+-- the capture isn't opened, or the run over it is refused
+abbrev pub IsRefusedIn : Network → List Class → Option (List ℕ) → ℕ → Lines → Lines → Put → Fault → Type 0
+IsRefusedIn network classes left asked from last before e =
+    IsRefused left e
+    ⊎ ((at : Reading) × (to : Reading) × IsOpened left asked at × RefusesRun (begun network classes) at to from last before e)
+
+-- ---- the same in the network and traffic that two documents say
+
+-- the text that the run prints there
+pub record IsMetered (network_octets traffic_octets : List ℕ) (left : Option (List ℕ)) (asked : ℕ) (from last : Lines) (before after : Put) (text : List ℕ) : Type 0 where
+  pub network : Network
+  pub classes : List Class
+  pub network_is : IsNetwork network_octets network
+  pub traffic_is : IsTraffic network traffic_octets classes
+  pub metered : IsMeteredIn network classes left asked from last before after text
+
+-- the first refusal: that of the documents, then the capture's file header's, then the run's
+abbrev pub IsRefusedMetering : List ℕ → List ℕ → Option (List ℕ) → ℕ → Lines → Lines → Put → Fault → Type 0
+IsRefusedMetering network_octets traffic_octets left asked from last before e =
+    IsRefusedByDocuments network_octets traffic_octets e
+    ⊎ ((network : Network) × (classes : List Class) × IsNetwork network_octets network × IsTraffic network traffic_octets classes
+    × IsRefusedIn network classes left asked from last before e)

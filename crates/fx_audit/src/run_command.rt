@@ -1,0 +1,171 @@
+//! The command that runs a network over a capture, from octets to octets.
+ghost use Rattle.std.specs.Prelude.{◌≡◌, ◌⊎◌, ℕ, List, Err, OnOk, IfOk, IfErr, IfSome, true, false};
+ghost use Rattle.fx_base.specs.Device.{MayHaveLeft, Writes};
+ghost use Rattle.fx_base.specs.Fault.{fault_at};
+ghost use Rattle.fx_base.specs.declared.fault.Fault.{Fault};
+ghost use Rattle.fx_base.specs.declared.fault.Place.TheVariants as places;
+ghost use Rattle.fx_pcap.specs.Records.{format_of};
+ghost use Rattle.fx_net.specs.Running.{FailsOutside};
+ghost use Rattle.fx_audit.specs.Documents.{IsRefusedByDocuments, IsRefusedNetwork, ReadFails};
+ghost use Rattle.fx_audit.specs.Metering.{IsMetered, IsMeteredIn, IsMeteredText, IsRun, skipped_line};
+ghost use Rattle.fx_audit.specs.Metering.{IsRefusedIn, IsRefusedMetering};
+ghost use Rattle.fx_audit.specs.Texts.{IsRunText};
+ghost use Rattle.fx_audit.specs.declared.answer.Answer.TheVariants.{Yes};
+
+use crate::answer::Answer;
+use crate::document::{Documents, read_documents};
+use fx_base::{Fault, LineReader, Sink, Source, put_number, put_text};
+use fx_collect::{Totals, put_number_line};
+use fx_link::Links;
+use fx_net::run;
+use fx_pcap::{Capture, Skipped};
+use std::alloc::Global;
+
+/// What a run has metered: what the collector has counted, and the frames of the capture that were skipped.
+#[derive(Drop)]
+struct Metered {
+    totals: Totals,
+    skipped: Skipped,
+}
+
+/// Opens a capture, and runs a network over it as the lines of a schedule say.
+fn meter<C: Source, Q: Source, L: Links>(
+    alloc: Global,
+    documents: &Documents,
+    capture: C,
+    schedule: &mut LineReader<Q>,
+    links: &mut L,
+) -> Result<Metered, Fault>
+    ensures ok { IfOk result (λ metered. IsRun documents.now.plan documents.now.traffic
+        (C.left capture) (C.calls capture) schedule.old schedule.new (L.put_on links.old) (L.put_on links.new)
+        metered.totals metered.skipped) }
+    ensures going { OnOk result (L.failed links.old ≡ false → L.failed links.new ≡ false) }
+    ensures err { IfErr result (λ e. FailsOutside (L.failed links.new) e
+        ⊎ IsRefusedIn documents.now.plan documents.now.traffic (C.left capture) (C.calls capture)
+        schedule.old schedule.new (L.put_on links.old) e) }
+    ensures untouched { IfSome (C.left capture) (λ c. (e : Fault)
+        → format_of c ≡ Err e → (schedule.new ≡ schedule.old) × (links.new ≡ links.old)) }
+{
+    let mut capture = Capture::new(alloc, capture)?;
+    let totals = run(
+        alloc,
+        &documents.plan,
+        &documents.traffic,
+        &mut capture,
+        schedule,
+        links,
+    )?;
+    Ok(Metered {
+        totals,
+        skipped: capture.skipped(),
+    })
+}
+
+/// Writes the line that says how many frames were skipped.
+fn put_skipped<S: Sink>(sink: &mut S, skipped: Skipped) -> Result<(), Fault>
+    ensures ok { OnOk result (Writes (S.taken sink.old) (S.taken sink.new)
+        (skipped_line skipped.other skipped.malformed)) }
+    ensures going { OnOk result (S.failed sink.old ≡ false → S.failed sink.new ≡ false) }
+    ensures err { IfErr result (λ e. (e ≡ fault_at 902 places.None) × (S.failed sink.new ≡ true)) }
+{
+    put_text(sink, b"skipped other ")?;
+    put_number(sink, skipped.other)?;
+    put_number_line(sink, b" malformed ", skipped.malformed)
+}
+
+/// Writes the text of what was metered: the totals with their keys in ascending order, and how many frames were
+/// skipped. Nothing is written before all that takes memory is done.
+///
+/// Fails with 900 for want of memory and with 902 where a write fails, each at no place.
+fn put_metered<S: Sink>(metered: Metered, sink: &mut S) -> Result<(), Fault>
+    ensures ok { OnOk result ((text : List ℕ)
+        × IsMeteredText metered.totals metered.skipped.other metered.skipped.malformed text
+        × Writes (S.taken sink.old) (S.taken sink.new) text) }
+    ensures going { OnOk result (S.failed sink.old ≡ false → S.failed sink.new ≡ false) }
+    ensures err { IfErr result (λ e. (e ≡ fault_at 900 places.None)
+        ⊎ ((e ≡ fault_at 902 places.None) × (S.failed sink.new ≡ true))) }
+    ensures quiet { IfErr result (λ e. ((e ≡ fault_at 902 places.None) × (S.failed sink.new ≡ true))
+        ⊎ (sink.new ≡ sink.old)) }
+{
+    let Metered {
+        mut totals,
+        skipped,
+    } = metered;
+    totals.sort()?;
+    totals.put_report(sink)?;
+    put_skipped(sink, skipped)
+}
+
+/// Runs a network over a capture, and writes the text of what it has metered.
+fn run_capture<C: Source, Q: Source, L: Links, S: Sink>(
+    alloc: Global,
+    documents: &Documents,
+    capture: C,
+    schedule: &mut LineReader<Q>,
+    links: &mut L,
+    sink: &mut S,
+) -> Result<Answer, Fault>
+    ensures ok { IfOk result (λ answer. (answer ≡ Yes) × ((text : List ℕ)
+        × IsMeteredIn documents.now.plan documents.now.traffic (C.left capture) (C.calls capture)
+        schedule.old schedule.new (L.put_on links.old) (L.put_on links.new) text
+        × Writes (S.taken sink.old) (S.taken sink.new) text)) }
+    ensures going { OnOk result (S.failed sink.old ≡ false → S.failed sink.new ≡ false) }
+    ensures links_going { OnOk result (L.failed links.old ≡ false → L.failed links.new ≡ false) }
+    ensures err { IfErr result (λ e. FailsOutside (L.failed links.new) e
+        ⊎ (((e ≡ fault_at 902 places.None) × (S.failed sink.new ≡ true))
+        ⊎ IsRefusedIn documents.now.plan documents.now.traffic (C.left capture) (C.calls capture)
+        schedule.old schedule.new (L.put_on links.old) e)) }
+    ensures untouched { IfSome (C.left capture) (λ c. (e : Fault)
+        → format_of c ≡ Err e → (schedule.new ≡ schedule.old) × (links.new ≡ links.old)) }
+    ensures quiet { IfErr result (λ e. ((e ≡ fault_at 902 places.None) × (S.failed sink.new ≡ true))
+        ⊎ (sink.new ≡ sink.old)) }
+{
+    let metered = meter(alloc, documents, capture, schedule, links)?;
+    put_metered(metered, sink)?;
+    Ok(Answer::Yes)
+}
+
+/// Reads a network document and a traffic declaration, opens a capture, and runs the network over it as the lines of a
+/// schedule say: the packets are metered, what is exported goes out on the links and is mediated, and the collector's
+/// totals are written, then how many frames of the capture were skipped.
+///
+/// Fails with the first refusal: 101 and those of [`fx_plan::read_plan`] for the network, with nothing of the traffic
+/// read before; 101 and those of [`fx_traffic::read_traffic`] for the traffic; then those of [`Capture::new`] for the
+/// capture's file header, with nothing of the schedule read and nothing put on the links before; then those of
+/// [`fx_net::run`]. 901 comes where a read fails or a reader hasn't ended after 4,294,967,296 calls, 900 for want of
+/// memory, 902 where a write fails. Nothing is written on the sink for a fault other than 902.
+pub fn run_bytes<N: Source, T: Source, C: Source, Q: Source, L: Links, S: Sink>(
+    alloc: Global,
+    network: &mut N,
+    traffic: &mut T,
+    capture: C,
+    schedule: &mut LineReader<Q>,
+    links: &mut L,
+    sink: &mut S,
+) -> Result<Answer, Fault>
+    ensures ok { IfOk result (λ answer. (answer ≡ Yes)
+        × MayHaveLeft (N.left network.old) (λ n. MayHaveLeft (T.left traffic.old) (λ t. (text : List ℕ)
+        × IsMetered n t (C.left capture) (C.calls capture) schedule.old schedule.new
+        (L.put_on links.old) (L.put_on links.new) text × Writes (S.taken sink.old) (S.taken sink.new) text))) }
+    ensures going { OnOk result (S.failed sink.old ≡ false → S.failed sink.new ≡ false) }
+    ensures links_going { OnOk result (L.failed links.old ≡ false → L.failed links.new ≡ false) }
+    ensures err { IfErr result (λ e. FailsOutside (L.failed links.new) e
+        ⊎ (ReadFails (N.left network.old) (N.calls network.old) (N.calls network.new) (N.failed network.new) e
+        ⊎ (ReadFails (T.left traffic.old) (T.calls traffic.old) (T.calls traffic.new) (T.failed traffic.new) e
+        ⊎ (((e ≡ fault_at 902 places.None) × (S.failed sink.new ≡ true))
+        ⊎ MayHaveLeft (N.left network.old) (λ n. MayHaveLeft (T.left traffic.old) (λ t. IsRefusedMetering n t
+        (C.left capture) (C.calls capture) schedule.old schedule.new (L.put_on links.old) e)))))) }
+    ensures told { IfOk result (λ answer. (text : List ℕ)
+        × IsRunText answer text × Writes (S.taken sink.old) (S.taken sink.new) text) }
+    ensures order { IfSome (N.left network.old) (λ n. (e : Fault)
+        → IsRefusedNetwork n e → traffic.new ≡ traffic.old) }
+    ensures untouched { IfSome (N.left network.old) (λ n. IfSome (T.left traffic.old) (λ t. (e : Fault)
+        → IsRefusedByDocuments n t e → (schedule.new ≡ schedule.old) × (links.new ≡ links.old))) }
+    ensures unopened { IfSome (C.left capture) (λ c. (e : Fault)
+        → format_of c ≡ Err e → (schedule.new ≡ schedule.old) × (links.new ≡ links.old)) }
+    ensures quiet { IfErr result (λ e. ((e ≡ fault_at 902 places.None) × (S.failed sink.new ≡ true))
+        ⊎ (sink.new ≡ sink.old)) }
+{
+    let documents = read_documents(alloc, network, traffic)?;
+    run_capture(alloc, &documents, capture, schedule, links, sink)
+}
