@@ -2,9 +2,11 @@
 #![tactic(auto)]
 
 mod links;
+mod networks;
 mod stores;
 mod whole;
 
+pub use networks::plans_are_sound;
 pub use links::{held_can_be_sent, links_are_carried};
 pub use stores::{
     holders_are_emptied, nothing_is_held, records_are_kept, stores_stay_usable, stores_take_in,

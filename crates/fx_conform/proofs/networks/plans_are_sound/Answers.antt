@@ -1,0 +1,14 @@
+use Rattle.std.proofs.Common.{◌∙◌, List, ap, subst}
+use Rattle.fx_machine.specs.Network.{Net, Holder}
+use Rattle.fx_machine.specs.Ranks.{IsNetwork}
+use Rattle.fx_machine.specs.Runnable.{IsRunnable}
+use Rattle.fx_conform.specs.Sendable.{HaveLayouts}
+use Rattle.fx_conform.proofs.networks.plans_are_sound.Goals as goal
+
+pub returns : goal.returns
+returns c = record {
+  network = subst IsNetwork c.net-net.ensures.value c.net-net.ensures.network;
+  runnable = subst IsRunnable c.net-net.ensures.value c.net-net.ensures.runnable;
+  leads = c.ranked-ranked.ensures.whole.leads;
+  layouts = subst HaveLayouts (c.holders.ensures ∙ ap (λ (n : Net). n.holders) c.net-net.ensures.value) c.have_layouts.ensures;
+}

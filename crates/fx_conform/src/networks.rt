@@ -1,0 +1,26 @@
+//! What the tables of a plan's network keep.
+ghost use Rattle.fx_plan.specs.Tables.{net_of};
+ghost use Rattle.fx_conform.specs.Conforming.{IsSound};
+ghost use Rattle.fx_conform.specs.Sendable.{HaveLayouts};
+
+use fx_machine::Holder;
+use fx_plan::Plan;
+
+/// Each holder has a layout.
+fn have_layouts(holders: &[Holder])
+    ensures { HaveLayouts holders.now }
+{
+    for holder in holders {
+        let _parts = holder.layout().parts();
+    }
+}
+
+/// The network of a plan has what the law of whole runs asks of one: ranks, layouts that fit, no record that is stuck,
+/// and no link that leads nowhere.
+pub fn plans_are_sound(plan: &Plan)
+    ensures { IsSound (net_of plan.now) }
+{
+    let net = plan.net();
+    let _ranked = plan.ranked();
+    have_layouts(net.holders());
+}
