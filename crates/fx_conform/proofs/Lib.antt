@@ -26,5 +26,6 @@ pub mod Lines
 pub mod Starting
 pub mod Ending
 pub mod WholeRuns
+pub mod Paths
 mod Examples
 mod LinkExamples

@@ -1,5 +1,6 @@
 -- A whole run of a running network, as a complete run of the abstract one.
 use Rattle.std.specs.Prelude.{◌≡◌, ℕ, suc, ◌<◌, List, [], ◌∷◌, ◌++◌, length, Ok, All}
+use Rattle.serde_json.specs.Data.{Data}
 use Rattle.fx_base.specs.Device.{Writes}
 use Rattle.fx_base.specs.Lines.{Lines, AtLine, AtEnd as LinesEnd}
 use Rattle.fx_layout.specs.Keys.{Key}
@@ -17,6 +18,7 @@ use Rattle.fx_pcap.specs.Captures as captures
 use Rattle.fx_plan.specs.declared.network.Network.{Network}
 use Rattle.fx_plan.specs.Ranks.{IsWhole}
 use Rattle.fx_plan.specs.Tables.{net_of}
+use Rattle.fx_traffic.specs.Classes.{traffic_faults, traffic_of}
 use Rattle.fx_net.specs.Doings.{IsFrame}
 use Rattle.fx_net.specs.Running.{RunsTo, begun, GoesOn}
 use Rattle.fx_conform.specs.Conforming.{IsSound, put_by_run}
@@ -79,6 +81,11 @@ abbrev pub HavePaths : List Class → Type 0
 HavePaths classes = All (λ (c : Class). 0 < length c.paths) classes
 
 -- ---- the laws
+
+-- The classes of a declaration without a fault have paths.
+abbrev pub DeclarationsHavePaths : Type 0
+DeclarationsHavePaths =
+    (devices : List (List ℕ)) (up : List ℕ) (d : Data) → traffic_faults devices up d ≡ [] → HavePaths (traffic_of devices d)
 
 -- Where a running network comes to totals, there is such a run.
 abbrev pub RunsAreComplete : Type 0

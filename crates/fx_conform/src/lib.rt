@@ -11,4 +11,4 @@ pub use links::{held_can_be_sent, links_are_carried};
 pub use stores::{
     holders_are_emptied, nothing_is_held, records_are_kept, stores_stay_usable, stores_take_in,
 };
-pub use whole::runs_are_complete;
+pub use whole::{declarations_have_paths, runs_are_complete};
