@@ -21,5 +21,11 @@ pub mod Crossing
 pub mod Arriving
 pub mod Between
 pub mod Doing
+pub mod ClosingFilled
+pub mod ClosingNamed
+pub mod ClosingBusy
+pub mod ClosingFed
+pub mod ClosingCalm
+pub mod ClosingRanks
 mod Examples
 mod LinkExamples

@@ -1,9 +1,11 @@
 //! What a running network does are steps of the abstract one.
 #![tactic(auto)]
 
+mod closing;
 mod links;
 mod stores;
 
+pub use closing::closing_leaves_nothing;
 pub use links::{held_can_be_sent, links_are_carried};
 pub use stores::{
     holders_are_emptied, nothing_is_held, records_are_kept, stores_stay_usable, stores_take_in,
