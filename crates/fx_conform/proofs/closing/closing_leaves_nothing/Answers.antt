@@ -1,5 +1,5 @@
 use Rattle.fx_conform.proofs.ClosingNamed.{taking_stays_named, leaving_stays_named}
-use Rattle.fx_conform.proofs.ClosingRanks.{closing_empties}
+use Rattle.fx_conform.proofs.ClosingEnd.{closing_empties}
 use Rattle.fx_conform.proofs.closing.closing_leaves_nothing.Goals as goal
 
 pub returns-clause-taking : goal.returns-clause-taking

@@ -1,0 +1,2 @@
+-- to come
+use Rattle.fx_conform.proofs.ClosingRanks.{all_finished}
