@@ -27,7 +27,7 @@ pub mod ClosingBusy
 pub mod ClosingFed
 pub mod ClosingCalm
 pub mod ClosingRanks
-pub mod ClosingNames
+pub mod ClosingHolders
 pub mod ClosingEnd
 mod Examples
 mod LinkExamples

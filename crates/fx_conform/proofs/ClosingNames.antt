@@ -1,2 +1,0 @@
--- to come
-use Rattle.fx_conform.proofs.ClosingRanks.{all_finished}
