@@ -125,8 +125,8 @@ module _ (net : Net) (classes : List Class) (packets : List Packet) where
         let step : Step = Expire name leave.number (sent_by net c.chosen places) in
         let t : State = record s { held = now; carried = put_all links l.flow s.carried } in
         let made : after net classes packets step s ≡ Ok t =
-            expires_are_made net classes packets c.chosen s name l.holder leave.number leave.rs l.flow a.chosen named.1 leave.there leave.flow_is
-            ∙ ap (λ (h : List (List Record)). let u : Outcome = Ok (record s { held = h; carried = put_all links l.flow s.carried }) in u) (sym leave.now_is) in
+        expires_are_made net classes packets c.chosen s name l.holder leave.number leave.rs l.flow a.chosen named.1 leave.there leave.flow_is
+        ∙ ap (λ (h : List (List Record)). let u : Outcome = Ok (record s { held = h; carried = put_all links l.flow s.carried }) in u) (sym leave.now_is) in
         record {
           more = step ∷ [];
           state = t;
@@ -193,8 +193,8 @@ module _ (net : Net) (classes : List Class) (packets : List Packet) where
         let step : Step = Cross i j choices in
         let t : State = record s { coming = rest; held = now } in
         let made : after net classes packets step s ≡ Ok t =
-            crosses_are_made net classes packets s i j 0 p crossing choices now is (first_place s.coming a.coming_is) on taken
-            ∙ ap (λ (cs : List Coming). let u : Outcome = Ok (record s { coming = remove cs 0; held = now }) in u) a.coming_is in
+        crosses_are_made net classes packets s i j 0 p crossing choices now is (first_place s.coming a.coming_is) on taken
+        ∙ ap (λ (cs : List Coming). let u : Outcome = Ok (record s { coming = remove cs 0; held = now }) in u) a.coming_is in
         record {
           more = step ∷ [];
           state = t;

@@ -40,7 +40,7 @@ use Rattle.fx_conform.proofs.AtOnce.{as_many}
 use Rattle.fx_conform.proofs.Takers.{takers_join}
 use Rattle.fx_conform.proofs.LinkLaws.{arrived_leaves, none_is_left, puts_carry}
 use Rattle.fx_conform.proofs.CanBeSent.{aggregated_can_be_sent, taken_can_be_sent}
-use Rattle.fx_conform.proofs.Named.{taking_stays_named}
+use Rattle.fx_conform.proofs.ClosingNamed.{taking_stays_named}
 use Rattle.fx_conform.proofs.Amid.{IsAmid, run_one, links_then, all_length, set_length, there_is_below}
 use Rattle.fx_conform.proofs.Crossing.{Then, all_at, all_to_list, boundless_then}
 
@@ -53,9 +53,10 @@ with_tallied : (net : Net) (r : Record) (s : State) → with_record (totals_in n
 with_tallied net r s = by (refines r.key.layout net.report_layout) where
   L : Layout
   L = net.report_layout
+
   by : (b : Bool)
       → cond b (let t : Totals = record { layout = L; entries = add_at s.totals (project r.key L) r.counts; unassigned = s.unassigned % 2 ^ 64 } in t)
-          (record { layout = L; entries = s.totals; unassigned = (s.unassigned % 2 ^ 64 + 1) % 2 ^ 64 })
+      (record { layout = L; entries = s.totals; unassigned = (s.unassigned % 2 ^ 64 + 1) % 2 ^ 64 })
       ≡ totals_in L (told (cond b (let t : State = record s { totals = add_at s.totals (project r.key L) r.counts } in t) (record s { unassigned = s.unassigned + 1 })))
   by true = refl
   by false = ap (λ (n : ℕ). let t : Totals = record { layout = L; entries = s.totals; unassigned = n } in t) (one_modulo s.unassigned)
@@ -101,6 +102,7 @@ one_taker : (holders : List Holder) (key : Key) (stores : List (Option Stored)) 
 one_taker holders key stores a xs own rest = by (takes_with holders key a) where
   one : Holding
   one = record { holder = a.holder; key = project key (layout_of (slice_get holders a.holder)) }
+
   by : (b : Bool) → AreUnbounded stores (cond b (one ∷ []) [] ++ aggregated holders key xs)
   by true = (own, rest)
   by false = rest
@@ -114,6 +116,7 @@ one_named : (net : Net) (key : Key) (a : Aggregation) (xs : List Aggregation) �
 one_named net key a xs own rest = by (takes_with net.holders key a) where
   one : Holding
   one = record { holder = a.holder; key = project key (layout_of (slice_get net.holders a.holder)) }
+
   by : (b : Bool) → AllByRecursion (λ (h : Holding). IsNamed net h.holder) (cond b (one ∷ []) [] ++ aggregated net.holders key xs)
   by true = ((own.name, own.named), rest)
   by false = rest
@@ -154,7 +157,7 @@ module _ (net : Net) (sound : IsSound net) (classes : List Class) (packets : Lis
       let hs : List Holding = takers_of r in
       let sends : Contents → Contents = λ d. after_send net process.exporters r d in
       let goes : Option ℕ → Option Process → Contents = λ l o. after_taking net r.counts (aggregated net.holders r.key (aggregations_of o))
-          (after_send net (exporters_named o) r (cond (leads_to_report net l) (let d : Contents = record c { totals = with_record c.totals r } in d) c)) in
+      (after_send net (exporters_named o) r (cond (leads_to_report net l) (let d : Contents = record c { totals = with_record c.totals r } in d) c)) in
       let counted : Contents = sends (record c { totals = cond (to == net.report) (with_record c.totals r) c.totals }) in
       let stores : List (Option Stored) = (adding c.stores r.counts hs).stores in
       ap (λ l. goes l (process_behind net link)) leads ∙ ap (goes (Some to)) behind
@@ -172,7 +175,7 @@ module _ (net : Net) (sound : IsSound net) (classes : List Class) (packets : Lis
       let sent : IsSent r = h.2 in
       let hs : List Holding = takers_of r in
       let own : AllByRecursion (λ (x : Aggregation). IsUnbounded (stored_at c.stores x.holder)) process.aggregations =
-          subst (λ (o : Option Process). AllByRecursion (λ (x : Aggregation). IsUnbounded (stored_at c.stores x.holder)) (aggregations_of o)) is_there (st.boundless to) in
+      subst (λ (o : Option Process). AllByRecursion (λ (x : Aggregation). IsUnbounded (stored_at c.stores x.holder)) (aggregations_of o)) is_there (st.boundless to) in
       let join : Join c.stores r.counts hs s.held = takers_join c.stores s.held r.counts hs st.held st.usable (takers_unbounded net.holders r.key c.stores process.aggregations own) in
       let links : List ℕ = links_to c in
       let choices : Choices = sent_by net c.chosen process.exporters ++ join.choices in
@@ -180,7 +183,7 @@ module _ (net : Net) (sound : IsSound net) (classes : List Class) (packets : Lis
       let left : State = record s { carried = slice_set s.carried link rs } in
       let t : State = record (tallied_at net to r left) { held = join.now; carried = put_all links r (slice_set s.carried link rs) } in
       let made : after net classes packets step s ≡ Ok t =
-          arrives_are_made net classes packets c.chosen s link to process r rs join.choices join.now a.chosen h.1 leads is_there join.taken_in in
+      arrives_are_made net classes packets c.chosen s link to process r rs join.choices join.now a.chosen h.1 leads is_there join.taken_in in
       let long : length t.carried ≡ length s.carried = all_length links r (slice_set s.carried link rs) ∙ set_length s.carried link rs in
       let right = aggregated_can_be_sent net.holders r.key process.aggregations sound.layouts (record { layout = sent.0; bits = sent.1.bits }) in
       subst (λ (d : Contents). Then net classes packets (AreArrivals (suc link)) d (pending_from link rest) history [] steps) (sym (arrives_so r c join.none_left join.none_at_once)) (record {

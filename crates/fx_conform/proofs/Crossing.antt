@@ -38,7 +38,7 @@ use Rattle.fx_conform.proofs.AtOnce.{as_many, taking_in, met_have_keys}
 use Rattle.fx_conform.proofs.CanBeSent.{leavings_can_be_sent, met_can_be_sent, taken_can_be_sent}
 use Rattle.fx_conform.proofs.Takers.{stay_unbounded}
 use Rattle.fx_conform.proofs.TakingIn.{left_then}
-use Rattle.fx_conform.proofs.Named.{taking_stays_named}
+use Rattle.fx_conform.proofs.ClosingNamed.{taking_stays_named}
 use Rattle.fx_conform.proofs.Amid.{IsAmid, Follows, all_leave_so, crosses}
 
 -- ---- what meters a packet can be named
@@ -123,9 +123,9 @@ module _ (net : Net) where
   at_once_named counts stores [] h = tt
   at_once_named counts stores (x ∷ hs) h =
       all_join (λ (l : Leaver). IsNamed net l.holder) (leaves_at_once stores counts x) _ (by (is_immediate (stored_at stores x.holder))) (at_once_named counts stores hs h.1) where
-    by : (b : Bool) → AllNamed (cond b (leaver x.holder (x.key, counts) ∷ []) [])
-    by true = ((h.0.name, h.0.named), tt)
-    by false = tt
+        by : (b : Bool) → AllNamed (cond b (leaver x.holder (x.key, counts) ∷ []) [])
+        by true = ((h.0.name, h.0.named), tt)
+        by false = tt
 
   -- ---- sending leaves the stores as they are
 
@@ -159,26 +159,26 @@ module _ (net : Net) where
         let counts : Counts = one_packet p in
         let met = metered_by p.fields crossing sound.runnable in
         let takes : TakesIn c.stores counts hs s.held =
-            taking_in c.stores s.held counts (packet_key net.holders p.fields) hs st.held st.usable (are_there (length c.stores) hs (sym st.as_many) met) (met_have_keys net.holders p.fields (occurrences net crossing p.fields)) in
+        taking_in c.stores s.held counts (packet_key net.holders p.fields) hs st.held st.usable (are_there (length c.stores) hs (sym st.as_many) met) (met_have_keys net.holders p.fields (occurrences net crossing p.fields)) in
         let kept : Contents = with_stores c (adding c.stores counts hs).stores in
         let coming : List Coming = record { packet = i; crossing = j } ∷ rest in
         let amid : IsAmid net classes packets kept pending history coming steps s =
-            record { run_is = a.run_is; coming_is = a.coming_is; as_many = a.as_many; links = a.links; chosen = a.chosen; totals = a.totals; second = a.second } in
+        record { run_is = a.run_is; coming_is = a.coming_is; as_many = a.as_many; links = a.links; chosen = a.chosen; totals = a.totals; second = a.second } in
         let room = all_leave_so net classes packets pending history coming (adding c.stores counts hs).left kept steps s s.held takes.room (adding_named counts hs c.stores met) amid refl st.sent takes.makes_room in
         let sent_then = all_sent (adding c.stores counts hs).left s.held takes.room takes.makes_room st.sent in
         let taken = crosses net classes packets pending history rest i j p crossing (after_adding net counts hs c) (steps ++ room.more) room.state takes.choices takes.now packet_is on room.amid
-            (ap (λ (h : List (List Record)). hold_all counts hs h takes.choices) room.held_is ∙ takes.taken_in) in
+        (ap (λ (h : List (List Record)). hold_all counts hs h takes.choices) room.held_is ∙ takes.taken_in) in
         let right = met_can_be_sent net.holders p.fields (occurrences net crossing p.fields) sound.layouts fields_are in
         let sent_now = taken_can_be_sent counts hs takes.room takes.choices takes.now (record { packets = omega arith; octets = few }) right sent_then takes.taken_in in
         let out = all_leave_so net classes packets pending history rest (all_leave_at_once (adding c.stores counts hs).stores counts hs) (after_adding net counts hs c) ((steps ++ room.more) ++ taken.more) taken.state takes.now takes.final
-            (at_once_named counts (adding c.stores counts hs).stores hs met) taken.amid taken.held_is sent_now takes.at_once in
+        (at_once_named counts (adding c.stores counts hs).stores hs met) taken.amid taken.held_is sent_now takes.at_once in
         let all : List Step = room.more ++ (Cross i j takes.choices ∷ out.more) in
         let joined : ((steps ++ room.more) ++ taken.more) ++ out.more ≡ steps ++ all =
-            ap (λ (l : List Step). ((steps ++ room.more) ++ l) ++ out.more) taken.shaped
-            ∙ append_assoc (steps ++ room.more) (Cross i j takes.choices ∷ []) out.more
-            ∙ append_assoc steps room.more (Cross i j takes.choices ∷ out.more) in
+        ap (λ (l : List Step). ((steps ++ room.more) ++ l) ++ out.more) taken.shaped
+        ∙ append_assoc (steps ++ room.more) (Cross i j takes.choices ∷ []) out.more
+        ∙ append_assoc steps room.more (Cross i j takes.choices ∷ out.more) in
         let stores_are : (adding c.stores counts hs).stores ≡ (after_taking net counts hs c).stores =
-            sym (stores_stay (all_leave_at_once (adding c.stores counts hs).stores counts hs) (after_adding net counts hs c) ∙ stores_stay (adding c.stores counts hs).left kept) in
+        sym (stores_stay (all_leave_at_once (adding c.stores counts hs).stores counts hs) (after_adding net counts hs c) ∙ stores_stay (adding c.stores counts hs).left kept) in
         record {
           more = all;
           state = out.state;
@@ -194,9 +194,9 @@ module _ (net : Net) where
                 sent = all_sent (all_leave_at_once (adding c.stores counts hs).stores counts hs) takes.now takes.final takes.at_once sent_now;
               }));
         } where
-      all_sent : (ls : List Leaver) (held now : List (List Record)) → AllLeave ls held now → AreSent held → AreSent now
-      all_sent [] held now e h = subst AreSent (sym e) h
-      all_sent (l ∷ ls) held now e h = all_sent ls e.0 now e.2 (leavings_can_be_sent l held e.0 e.1 h).1
+          all_sent : (ls : List Leaver) (held now : List (List Record)) → AllLeave ls held now → AreSent held → AreSent now
+          all_sent [] held now e h = subst AreSent (sym e) h
+          all_sent (l ∷ ls) held now e h = all_sent ls e.0 now e.2 (leavings_can_be_sent l held e.0 e.1 h).1
 
     -- ---- all crossings of a path, one after another
 
@@ -220,7 +220,7 @@ module _ (net : Net) where
         let next : Contents = after_taking net (one_packet p) (metered net p.fields crossing) c in
         let longer : suc (length (done ++ crossing ∷ [])) ≡ suc (suc (length done)) = ap suc (length_snoc done crossing) in
         let then = crosses_path (done ++ crossing ∷ []) rest next (steps ++ first.more) first.state (e ∙ sym (append_assoc done (crossing ∷ []) rest))
-            (subst (λ (n : ℕ). IsAmid net classes packets next pending history (crossings_from i n rest) (steps ++ first.more) first.state) (sym longer) first.amid) first.stores in
+        (subst (λ (n : ℕ). IsAmid net classes packets next pending history (crossings_from i n rest) (steps ++ first.more) first.state) (sym longer) first.amid) first.stores in
         record {
           more = first.more ++ then.more;
           state = then.state;
@@ -228,6 +228,6 @@ module _ (net : Net) where
           amid = subst (λ (ss : List Step). IsAmid net classes packets (after_path net p.fields (one_packet p) rest next) pending history [] ss then.state) (append_assoc steps first.more then.more) then.amid;
           stores = then.stores;
         } where
-      length_snoc : (xs : List Crossing) (x : Crossing) → length (xs ++ x ∷ []) ≡ suc (length xs)
-      length_snoc [] x = refl
-      length_snoc (y ∷ xs) x = ap suc (length_snoc xs x)
+          length_snoc : (xs : List Crossing) (x : Crossing) → length (xs ++ x ∷ []) ≡ suc (length xs)
+          length_snoc [] x = refl
+          length_snoc (y ∷ xs) x = ap suc (length_snoc xs x)

@@ -40,7 +40,7 @@ use Rattle.fx_conform.proofs.Emptied.{emptying_is_leaving}
 use Rattle.fx_conform.proofs.Emptying.{least_leaves, leasts_leave}
 use Rattle.fx_conform.proofs.Places.{stored_here, stored_other}
 use Rattle.fx_conform.proofs.TakingIn.{changed_length}
-use Rattle.fx_conform.proofs.Named.{leaving_stays_named}
+use Rattle.fx_conform.proofs.ClosingNamed.{leaving_stays_named}
 use Rattle.fx_conform.proofs.Amid.{IsAmid, Follows, one_leaves, all_leave_so, there_is_below}
 use Rattle.fx_conform.proofs.Crossing.{Then as Made, all_join, stores_stay, left_named, crosses_path}
 use Rattle.fx_conform.proofs.Arriving.{arrive_all}
@@ -59,6 +59,7 @@ least_unbounded : (stores : List (Option Stored)) (place n : ℕ) → IsUnbounde
 least_unbounded stores place n u = by (cases_eq n place) where
   e : Option Entry
   e = least_of (stored_at stores place)
+
   by : (n ≡ place) ⊎ (n ≡ place → ⊥) → IsUnbounded (stored_at (without_least stores place) n)
   by (inl is) = subst (λ (m : ℕ). IsUnbounded (stored_at (without_least stores place) m)) (sym is)
       (subst IsUnbounded (sym (stored_here (taken_out e) stores place)) (taken_stays e (stored_at stores place) (subst (λ (m : ℕ). IsUnbounded (stored_at stores m)) is u)))
@@ -93,7 +94,7 @@ module _ (net : Net) (sound : IsSound net) (classes : List Class) (begin : Put) 
       let a = amid_of net classes begin put c packets steps s h in
       let kept : Contents = with_stores c stores in
       let amid : IsAmid net classes packets kept none_pending h.history [] steps s =
-          record { run_is = a.run_is; coming_is = a.coming_is; as_many = a.as_many; links = a.links; chosen = a.chosen; totals = a.totals; second = a.second } in
+      record { run_is = a.run_is; coming_is = a.coming_is; as_many = a.as_many; links = a.links; chosen = a.chosen; totals = a.totals; second = a.second } in
       let out = all_leave_so net classes packets none_pending h.history [] ls kept steps s s.held now named amid refl h.stores.sent leave in
       record {
         more = out.more;
@@ -149,7 +150,7 @@ module _ (net : Net) (sound : IsSound net) (classes : List Class) (begin : Put) 
         let a = amid_of net classes begin put c packets steps s h in
         let kept : Contents = with_stores c stores in
         let amid : IsAmid net classes packets kept none_pending h.history [] steps s =
-            record { run_is = a.run_is; coming_is = a.coming_is; as_many = a.as_many; links = a.links; chosen = a.chosen; totals = a.totals; second = a.second } in
+        record { run_is = a.run_is; coming_is = a.coming_is; as_many = a.as_many; links = a.links; chosen = a.chosen; totals = a.totals; second = a.second } in
         let out = one_leaves net classes packets none_pending h.history [] l kept steps s left.0 (name, e.named) amid h.stores.sent left.1 in
         let done_is : done ≡ after_leave net l kept = e.done_is ∙ ap (λ (o : Option Entry). after_expire net place o kept) is in
         subst (λ (d : Contents). Made net classes packets (IsExpiry name) d none_pending h.history [] steps) (sym done_is) (record {
@@ -195,7 +196,7 @@ module _ (net : Net) (sound : IsSound net) (classes : List Class) (begin : Put) 
       let few : p.octets < 2 ^ 64 = omega (arith, is.octets, is.few) in
       subst (λ (d : Contents). Made net classes (packets ++ p ∷ []) (AreCrossings (suc (length packets)) 1 (length (path classes p))) d none_pending h.history [] steps) (sym e)
       (crosses_path net sound classes (packets ++ p ∷ []) none_pending h.history (suc (length packets)) p fields few (last_numbered net classes begin packets p)
-          [] (path classes p) (record c { second = frame.second }) steps (with_packet classes packets p s) refl came h.stores)
+      [] (path classes p) (record c { second = frame.second }) steps (with_packet classes packets p s) refl came h.stores)
 
 -- ---- another destination is used
 
@@ -217,13 +218,16 @@ pub uses_so : (net : Net) (chosen : List ℕ) (place destination : ℕ) (names :
 uses_so net chosen place destination names is there h n e at chooses = by (cases_eq n place) where
   new : List ℕ
   new = changed (λ (_ : ℕ). destination) chosen place
+
   by : (n ≡ place) ⊎ (n ≡ place → ⊥) → numbered e.destinations (number_in_use new n) ≢ None
   by (inr ne) = subst (λ (o : Option ℕ). numbered e.destinations (unwrap_or o 0) ≢ None) (sym (chosen_at chosen n place destination ne)) (h n e at chooses)
   by (inl same) = here (chosen_here chosen place destination) where
     own : ◌≡◌ {A = Option Exporter} (Some names) (Some e)
     own = sym is ∙ ap (slice_get net.exporters) (sym same) ∙ at
+
     names_is : names ≡ e
     names_is = let x = own in cc
+
     here : (slice_get new place ≡ Some destination) ⊎ (slice_get new place ≡ slice_get chosen place) → numbered e.destinations (number_in_use new n) ≢ None
     here (inl now) = subst (λ (m : ℕ). numbered e.destinations (number_in_use new m) ≢ None) (sym same) (subst (λ (o : Option ℕ). numbered e.destinations (unwrap_or o 0) ≢ None) (sym now) (subst (λ (x : Exporter). numbered x.destinations destination ≢ None) names_is there))
     here (inr as_was) = subst (λ (m : ℕ). numbered e.destinations (number_in_use new m) ≢ None) (sym same)

@@ -71,9 +71,11 @@ module _ (net : Net) (sound : IsSound net) (classes : List Class) (begin : Put) 
     there : (to : ℕ) (o : Option Process) → slice_get net.links link ≡ Some to → slice_get net.processes to ≡ o → Goes net classes begin packets (AreArrivals (suc link)) (Ended (CarriesWhole net link))
     there to (Some p) leads is = carries_goes link to p leads is
     there to None leads is = absurd (none_below net.processes to (sound.leads link to leads) is)
+
     if_so : (to : ℕ) → slice_get net.links link ≡ Some to → (b : Bool) → Goes net classes begin packets (ArriveIf b link) (Where b (Ended (CarriesWhole net link)))
     if_so to leads true = there to (slice_get net.processes to) leads refl
     if_so to leads false = goes_nothing net classes begin packets
+
     by : (o : Option ℕ) → slice_get net.links link ≡ o → Goes net classes begin packets (ArriveIf (leads_to o process) link) (Where (leads_to o process) (Ended (CarriesWhole net link)))
     by None is = goes_nothing net classes begin packets
     by (Some to) is = if_so to is (to == process)

@@ -115,9 +115,11 @@ module _ (network : Network) (sound : IsSound (net_of network)) (classes : List 
     made : (to : ℕ) (process : Process) → slice_get net.links link ≡ Some to → slice_get net.processes to ≡ Some process → Went net classes begin packets (AreArrivals (suc link)) after new steps
     made to process leads there =
         ended net classes begin packets _ _ before after old new steps h.history h.written e (carried_so net sound classes begin packets link n to process leads there before old e.done steps s h e.made.done_is)
+
     by_process : (to : ℕ) (o : Option Process) → slice_get net.links link ≡ Some to → slice_get net.processes to ≡ o → Went net classes begin packets (AreArrivals (suc link)) after new steps
     by_process to (Some process) leads there = made to process leads there
     by_process to None leads there = absurd (none_below net.processes to (sound.leads link to leads) there)
+
     by_link : (o : Option ℕ) → slice_get net.links link ≡ o → Went net classes begin packets (AreArrivals (suc link)) after new steps
     by_link (Some to) leads = by_process to (slice_get net.processes to) leads refl
     by_link None leads = absurd (none_below net.links link (omega (arith, e.made.there, h.as_many, h.links.as_many)) leads)
@@ -129,7 +131,7 @@ module _ (network : Network) (sound : IsSound (net_of network)) (classes : List 
       let a = amid_of net classes begin before old packets steps s h in
       let other : Contents = record old { chosen = changed (λ (_ : ℕ). destination) old.chosen u.place } in
       let amid : IsAmid net classes packets other none_pending h.history [] steps s =
-          record { run_is = a.run_is; coming_is = a.coming_is; as_many = a.as_many; links = a.links; chosen = uses_so net old.chosen u.place destination u.names u.exporter_is u.destination_there a.chosen; totals = a.totals; second = a.second } in
+      record { run_is = a.run_is; coming_is = a.coming_is; as_many = a.as_many; links = a.links; chosen = uses_so net old.chosen u.place destination u.names u.exporter_is u.destination_there a.chosen; totals = a.totals; second = a.second } in
       ended net classes begin packets _ _ before after old new steps h.history h.written e
       (subst (λ (d : Contents). Made net classes packets (λ more. more ≡ []) d none_pending h.history [] steps) (sym u.done_is) (record {
         more = [];
@@ -258,7 +260,9 @@ module _ (network : Network) (sound : IsSound (net_of network)) (classes : List 
       let obeys = e.6 in
       let others = lines_go lines mid new e.1 to e.2 last e.3 after (same_then old mid same obeys.rest) e.7 in
       let does : Ended (Does network classes obeys.frame obeys.asked) before old.contents e.3 mid.contents =
-          subst (λ (n : Network). Ended (Does n classes obeys.frame obeys.asked) before old.contents e.3 mid.contents) same.network_is
-          (subst (λ (cs : List Class). Ended (Does old.network cs obeys.frame obeys.asked) before old.contents e.3 mid.contents) same.classes_are obeys.does) in
-      (others.0, λ packets steps s h. asked_so line lines obeys.asked obeys.asks at to after new.contents packets steps
-          (line_then (AreRows classes lines) obeys.asked obeys.frame at e.1 to before e.3 after old.contents mid.contents new.contents packets steps s obeys.goes does h others.1))
+      subst (λ (n : Network). Ended (Does n classes obeys.frame obeys.asked) before old.contents e.3 mid.contents) same.network_is
+      (subst (λ (cs : List Class). Ended (Does old.network cs obeys.frame obeys.asked) before old.contents e.3 mid.contents) same.classes_are obeys.does) in (
+        others.0,
+        λ packets steps s h. asked_so line lines obeys.asked obeys.asks at to after new.contents packets steps
+            (line_then (AreRows classes lines) obeys.asked obeys.frame at e.1 to before e.3 after old.contents mid.contents new.contents packets steps s obeys.goes does h others.1),
+      )

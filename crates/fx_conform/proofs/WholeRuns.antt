@@ -35,7 +35,7 @@ use Rattle.fx_conform.specs.Rows.{AllCross, AllExpire, AreRows, Followed, InTurn
 use Rattle.fx_conform.specs.Whole.{AreOf, ArePlainSums, HavePaths, IsRunOf, ReadsLines, RunsAreComplete, TotalsArePlainSums}
 use Rattle.fx_conform.proofs.Emptied.{holds_nothing}
 use Rattle.fx_conform.proofs.LinkLaws.{history_reads, nothing_carries}
-use Rattle.fx_conform.proofs.Named.{closing_empties}
+use Rattle.fx_conform.proofs.ClosingEnd.{closing_empties}
 use Rattle.fx_conform.proofs.Amid.{there_is_below}
 use Rattle.fx_conform.proofs.Between.{Went}
 use Rattle.fx_conform.proofs.Ending.{network_goes, all_by_index}
@@ -69,9 +69,9 @@ held_empty (s ∷ stores) (rs ∷ held) h none = ap (λ (ts : List Record). all_
 links_wait : (history : ℕ → List ℕ) (all : ℕ → List Record) (links : List Ongoing) (carried : List (List Record)) → AreStill history all links carried → NothingWaits links
 links_wait history all links carried h =
     all_by_index (λ (o : Ongoing). (o.outgoing.batch ≡ []) × (o.outgoing.octets ≡ [])) links (λ n o at. by n o at (slice_get carried n) refl) where
-  by : (n : ℕ) (o : Ongoing) → slice_get links n ≡ Some o → (c : Option (List Record)) → slice_get carried n ≡ c → (o.outgoing.batch ≡ []) × (o.outgoing.octets ≡ [])
-  by n o at (Some rs) on = let s = h.each n o rs at on in (ap (λ (x : Ongoing). x.outgoing.batch) s.ongoing_is, ap (λ (x : Ongoing). x.outgoing.octets) s.ongoing_is)
-  by n o at None on = absurd (none_below carried n (let lt = there_is_below links n o at in let e = h.as_many in omega (arith, lt, e)) on)
+      by : (n : ℕ) (o : Ongoing) → slice_get links n ≡ Some o → (c : Option (List Record)) → slice_get carried n ≡ c → (o.outgoing.batch ≡ []) × (o.outgoing.octets ≡ [])
+      by n o at (Some rs) on = let s = h.each n o rs at on in (ap (λ (x : Ongoing). x.outgoing.batch) s.ongoing_is, ap (λ (x : Ongoing). x.outgoing.octets) s.ongoing_is)
+      by n o at None on = absurd (none_below carried n (let lt = there_is_below links n o at in let e = h.as_many in omega (arith, lt, e)) on)
 
 module _ (network : Network) (sound : IsSound (net_of network)) (classes : List Class) (paths : HavePaths classes) (begin : Put) where
   abbrev net : Net
@@ -97,12 +97,14 @@ module _ (network : Network) (sound : IsSound (net_of network)) (classes : List 
       let one = e.5 in
       let others = frames_go frames mid new e.1 to e.2 after (same_then network sound classes paths begin old mid same one.rest) e.6 in
       let done : Ended (Reads net classes action.Next frame) before old.contents e.2 mid.contents =
-          subst (λ (n : Network). Ended (Reads (net_of n) classes action.Next frame) before old.contents e.2 mid.contents) same.network_is
-          (subst (λ (cs : List Class). Ended (Reads (net_of old.network) cs action.Next frame) before old.contents e.2 mid.contents) same.classes_are one.done) in
-      (others.0, λ packets steps s h.
-          let read = reads_one network sound classes paths begin action.Next frame before e.2 old.contents mid.contents packets steps s h done in
-          read_then network sound classes paths begin (AllCross classes) (AllCross classes) frame at e.1 to e.2 after mid.contents new.contents packets steps e.3 e.4 read
-          (others.1 (packets ++ read.packet ∷ []) (steps ++ read.went.more) read.went.state read.went.conforms) (λ first rest more a b. (first, rest, a, b, refl)))
+      subst (λ (n : Network). Ended (Reads (net_of n) classes action.Next frame) before old.contents e.2 mid.contents) same.network_is
+      (subst (λ (cs : List Class). Ended (Reads (net_of old.network) cs action.Next frame) before old.contents e.2 mid.contents) same.classes_are one.done) in (
+        others.0,
+        λ packets steps s h.
+            let read = reads_one network sound classes paths begin action.Next frame before e.2 old.contents mid.contents packets steps s h done in
+            read_then network sound classes paths begin (AllCross classes) (AllCross classes) frame at e.1 to e.2 after mid.contents new.contents packets steps e.3 e.4 read
+            (others.1 (packets ++ read.packet ∷ []) (steps ++ read.went.more) read.went.state read.went.conforms) (λ first rest more a b. (first, rest, a, b, refl)),
+      )
 
   -- ---- all of it
 
@@ -120,7 +122,7 @@ module _ (network : Network) (sound : IsSound (net_of network)) (classes : List 
       let frames = frames_go read.frames runs.mid closes.mid runs.on closes.reads.last runs.put closes.put lines.0 read.read in
       let b = frames.1 a.read a.more a.state a.conforms in
       let own : EmptiesNetwork net closes.ranked closes.put closes.mid.contents after r.new.contents =
-          subst (λ (n : Network). EmptiesNetwork (net_of n) closes.ranked closes.put closes.mid.contents after r.new.contents) lines.0.network_is closes.empties in
+      subst (λ (n : Network). EmptiesNetwork (net_of n) closes.ranked closes.put closes.mid.contents after r.new.contents) lines.0.network_is closes.empties in
       let whole : IsWhole net closes.ranked = subst (λ (n : Network). IsWhole (net_of n) closes.ranked) lines.0.network_is closes.whole in
       let packets : List Packet = a.read ++ b.read in
       let c = network_goes net sound classes begin packets closes.ranked closes.put closes.mid.contents after r.new.contents (a.more ++ b.more) b.state b.conforms own in
@@ -129,7 +131,7 @@ module _ (network : Network) (sound : IsSound (net_of network)) (classes : List 
       let end : Conforms net classes begin after r.new.contents packets steps c.state = subst (λ (ss : List Step). Conforms net classes begin after r.new.contents packets ss c.state) joined c.conforms in
       let links : length closes.mid.contents.links ≡ length net.links = sym b.conforms.links.as_many ∙ b.conforms.as_many in
       let empty = closing_empties net closes.ranked closes.put after closes.mid.contents r.new.contents whole links b.conforms.stores.usable b.conforms.stores.named
-          (links_wait b.conforms.history _ closes.mid.contents.links b.state.carried b.conforms.links) own in
+      (links_wait b.conforms.history _ closes.mid.contents.links b.state.carried b.conforms.links) own in
       record {
         frames = a.frames ++ b.frames;
         last = closes.reads.last;

@@ -12,8 +12,10 @@ pub loop-holder-preserved : goal.loop-holder-preserved
 loop-holder-preserved c = λ n lt. by n lt (cases_eq n c.loop-holder.holder-index) where
   own : IsLayout c.holder-item.result.layout
   own = subst (λ (l : Layout). IsLayout l) (c.parts-parts.ensures.value ∙ c.layout.ensures) c.parts-parts.ensures.kept
+
   there : slice_get c.args.holders.now c.loop-holder.holder-index ≡ Some c.holder-item.result
   there = slice_get-get_or c.args.holders.now c.loop-holder.holder-index c.holder-item.result c.loop-holder-test.true ∙ ap (λ (h : Holder). Some h) (sym c.holder-item.is)
+
   by : (n : ℕ) → n < c.loop-holder.holder-index + 1 → (n ≡ c.loop-holder.holder-index) ⊎ (n ≡ c.loop-holder.holder-index → ⊥) → IsLayout (layout_of (slice_get c.args.holders.now n))
   by n lt (inl e) = subst (λ (m : ℕ). IsLayout (layout_of (slice_get c.args.holders.now m))) (sym e) (subst (λ (o : Option Holder). IsLayout (layout_of o)) (sym there) own)
   by n lt (inr ne) = c.loop-holder.invariant n (omega (arith, lt, ne))
