@@ -1,5 +1,5 @@
 -- What a run over a capture comes to.
-use Rattle.std.proofs.Common.{◌≡◌, ◌⊎◌, ℕ, Bool, List, drop, Option, Some, None, Result, Ok, Err, IfSome, IfOk, IfErr, refl, sym, subst, inl, inr}
+use Rattle.std.proofs.Common.{◌≡◌, ◌⊎◌, ℕ, Bool, List, [], drop, Option, Some, None, Result, Ok, Err, IfSome, IfOk, IfErr, refl, sym, subst, inl, inr}
 use Rattle.fx_base.specs.declared.fault.Fault.{Fault}
 use Rattle.fx_base.specs.declared.fault.Place.TheVariants as places
 use Rattle.fx_base.specs.Device.{MayBeLeft, MayHaveLeft}
@@ -12,6 +12,12 @@ use Rattle.fx_pcap.specs.Records.{format_of}
 use Rattle.fx_pcap.specs.declared.header.Format.{Format}
 use Rattle.fx_plan.specs.declared.network.Network.{Network}
 use Rattle.fx_net.specs.Running.{FailsOutside, RefusesRun, begun}
+use Rattle.fx_plan.specs.Networks.{device_names}
+use Rattle.fx_plan.specs.Tables.{net_of}
+use Rattle.fx_conform.specs.Conforming.{IsSound}
+use Rattle.fx_conform.specs.Whole.{HavePaths, IsRunOf}
+use Rattle.fx_conform.proofs.Paths.{declarations_have_paths}
+use Rattle.fx_conform.proofs.WholeRuns.{runs_are_complete}
 use Rattle.fx_audit.specs.declared.answer.Answer.{Answer}
 use Rattle.fx_audit.specs.declared.answer.Answer.TheVariants.{Yes}
 use Rattle.fx_audit.specs.Documents.{IsNetwork, IsRefusedByDocuments, IsTraffic}
@@ -44,16 +50,24 @@ unmetered O W R (inr refused) = inr (inr refused)
 
 -- ---- two documents and a run
 
+-- it is a complete run of the abstract network
+run_complete : (network : Network) (classes : List Class) (left : Option (List ℕ)) (asked : ℕ) (from last : Lines) (before after : Put) (text traffic_octets : List ℕ)
+    → IsSound (net_of network) → IsTraffic network traffic_octets classes → (metered : IsMeteredIn network classes left asked from last before after text)
+    → IsRunOf (net_of network) classes metered.ran.at metered.ran.to from last before after metered.totals
+run_complete network classes left asked from last before after text traffic_octets sound traffic metered =
+    let paths : HavePaths classes = subst HavePaths (sym traffic.means) (declarations_have_paths (device_names network) [] traffic.value traffic.faultless) in
+    runs_are_complete network classes metered.ran.at metered.ran.to from last before after metered.totals sound paths metered.ran.runs
+
 pub run_done : (left_n left_t left : Option (List ℕ)) (asked : ℕ) (network : Network) (classes : List Class) (from last : Lines) (before after : Put) (W : List ℕ → Type 0) (result : Result Answer Fault)
-    → MayHaveLeft left_n (λ n. IsNetwork n network) → MayHaveLeft left_t (λ t. IsTraffic network t classes)
+    → IsSound (net_of network) → MayHaveLeft left_n (λ n. IsNetwork n network) → MayHaveLeft left_t (λ t. IsTraffic network t classes)
     → IfOk result (λ a. (a ≡ Yes) × ((text : List ℕ) × IsMeteredIn network classes left asked from last before after text × W text))
     → IfOk result (λ a. (a ≡ Yes) × MayHaveLeft left_n (λ n. MayHaveLeft left_t (λ t. (text : List ℕ) × IsMetered n t left asked from last before after text × W text)))
-run_done left_n left_t left asked network classes from last before after W (Err e) n t h = tt
-run_done left_n left_t left asked network classes from last before after W (Ok a) n t h =
+run_done left_n left_t left asked network classes from last before after W (Err e) sound n t h = tt
+run_done left_n left_t left asked network classes from last before after W (Ok a) sound n t h =
     let text = h.1.0 in
     let metered : IsMeteredIn network classes left asked from last before after text = h.1.1 in
     let written : W text = h.1.2 in
-    (h.0, both_told left_n left_t (λ o. IsNetwork o network) (λ o. IsTraffic network o classes) (λ x y. (text' : List ℕ) × IsMetered x y left asked from last before after text' × W text') n t (λ x y p q. (text, record { network = network; classes = classes; network_is = p; traffic_is = q; metered = metered }, written)))
+    (h.0, both_told left_n left_t (λ o. IsNetwork o network) (λ o. IsTraffic network o classes) (λ x y. (text' : List ℕ) × IsMetered x y left asked from last before after text' × W text') n t (λ x y p q. (text, record { network = network; classes = classes; network_is = p; traffic_is = q; metered = metered; complete = run_complete network classes left asked from last before after text y sound q metered }, written)))
 
 -- the run is refused, in the network and traffic that were read
 pub run_refused : (left_n left_t left : Option (List ℕ)) (asked : ℕ) (network : Network) (classes : List Class) (from last : Lines) (before : Put) (M N T W : Fault → Type 0) (result : Result Answer Fault)

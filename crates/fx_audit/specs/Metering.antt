@@ -10,7 +10,9 @@ use Rattle.fx_collect.specs.Report.{Ascends, number_line, totals_text}
 use Rattle.fx_pcap.specs.declared.skipped.Skipped.{Skipped}
 use Rattle.fx_pcap.specs.Captures.{IsOpened, IsRefused, Reading}
 use Rattle.fx_plan.specs.declared.network.Network.{Network}
+use Rattle.fx_plan.specs.Tables.{net_of}
 use Rattle.fx_net.specs.Running.{RefusesRun, RunsTo, begun}
+use Rattle.fx_conform.specs.Whole.{IsRunOf}
 use Rattle.fx_audit.specs.Documents.{IsNetwork, IsRefusedByDocuments, IsTraffic}
 
 -- ---- the text
@@ -54,13 +56,14 @@ IsRefusedIn network classes left asked from last before e =
 
 -- ---- the same in the network and traffic that two documents say
 
--- the text that the run prints there
+-- The text that the run prints there. The run is a complete run of the abstract network over the capture's packets.
 pub record IsMetered (network_octets traffic_octets : List ℕ) (left : Option (List ℕ)) (asked : ℕ) (from last : Lines) (before after : Put) (text : List ℕ) : Type 0 where
   pub network : Network
   pub classes : List Class
   pub network_is : IsNetwork network_octets network
   pub traffic_is : IsTraffic network traffic_octets classes
   pub metered : IsMeteredIn network classes left asked from last before after text
+  pub complete : IsRunOf (net_of network) classes metered.ran.at metered.ran.to from last before after metered.totals
 
 -- the first refusal: that of the documents, then the capture's file header's, then the run's
 abbrev pub IsRefusedMetering : List ℕ → List ℕ → Option (List ℕ) → ℕ → Lines → Lines → Put → Fault → Type 0

@@ -16,6 +16,7 @@ use crate::answer::Answer;
 use crate::document::{Documents, read_documents};
 use fx_base::{Fault, LineReader, Sink, Source, put_number, put_text};
 use fx_collect::{Totals, put_number_line};
+use fx_conform::plans_are_sound;
 use fx_link::Links;
 use fx_net::run;
 use fx_pcap::{Capture, Skipped};
@@ -167,5 +168,6 @@ pub fn run_bytes<N: Source, T: Source, C: Source, Q: Source, L: Links, S: Sink>(
         ⊎ (sink.new ≡ sink.old)) }
 {
     let documents = read_documents(alloc, network, traffic)?;
+    plans_are_sound(&documents.plan);
     run_capture(alloc, &documents, capture, schedule, links, sink)
 }

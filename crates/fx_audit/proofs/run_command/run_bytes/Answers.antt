@@ -5,7 +5,7 @@ use Rattle.fx_audit.proofs.run_command.run_bytes.Goals as goal
 
 pub returns-clause-ok : goal.returns-clause-ok
 returns-clause-ok g c =
-    run_done (g.N.Source.left c.args.network.now) (g.T.Source.left c.args.traffic.now) (g.C.Source.left c.args.capture) (g.C.Source.calls c.args.capture) c.in_ok-documents.documents.plan c.in_ok-documents.documents.traffic c.args.schedule.now c.run_capture.new.schedule _ _ _ c.run_capture.result c.in_ok-documents.ensures.network c.in_ok-documents.ensures.traffic c.run_capture.ensures.ok
+    run_done (g.N.Source.left c.args.network.now) (g.T.Source.left c.args.traffic.now) (g.C.Source.left c.args.capture) (g.C.Source.calls c.args.capture) c.in_ok-documents.documents.plan c.in_ok-documents.documents.traffic c.args.schedule.now c.run_capture.new.schedule _ _ _ c.run_capture.result c.plans_are_sound.ensures c.in_ok-documents.ensures.network c.in_ok-documents.ensures.traffic c.run_capture.ensures.ok
 
 pub returns-clause-err : goal.returns-clause-err
 returns-clause-err g c =
