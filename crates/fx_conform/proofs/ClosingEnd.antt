@@ -1,5 +1,5 @@
 -- Once the closing phase is over, nothing is in the stores, and no octets are on the links.
-use Rattle.std.proofs.Common.{◌≡◌, ◌⊎◌, inl, inr, ℕ, zero, suc, ◌<◌, true, false, List, [], ◌∷◌, length, Option, Some, None, refl, subst, slice_get}
+use Rattle.std.proofs.Common.{◌≡◌, inl, inr, ℕ, zero, suc, ◌<◌, true, false, List, [], ◌∷◌, length, Option, Some, None, refl, subst, slice_get}
 use Rattle.std.specs.List.{AllByRecursion}
 use Rattle.std.proofs.lemmas.Bool.{both_ways}
 use Rattle.fx_machine.specs.Network.{Net, Process, named_by}
@@ -10,12 +10,10 @@ use Rattle.fx_plan.specs.Ranks.{IsWhole, is_in}
 use Rattle.fx_runs.specs.Destinations.{links_used}
 use Rattle.fx_net.specs.Contents.{Contents}
 use Rattle.fx_net.specs.Doings.{EmptiesNetwork, caches_of_all, holders_of}
-use Rattle.fx_net.specs.Stores.{Stored}
 use Rattle.fx_conform.specs.Closing.{IsNamed, NothingIsStored, NothingWaits, OnlyNamedHold}
 use Rattle.fx_conform.specs.OnLinks.{NoOctets}
 use Rattle.fx_conform.specs.Usable.{AreUsable}
 use Rattle.fx_conform.proofs.Amid.{there_is_below}
-use Rattle.fx_conform.proofs.ClosingBusy.{IsIdle}
 use Rattle.fx_conform.proofs.ClosingCalm.{LeavesOn, Rests, rests_once_all_emptied, holds_in_more}
 use Rattle.fx_conform.proofs.ClosingHolders.{cache_or_aggregation}
 use Rattle.fx_conform.proofs.ClosingRanks.{IsToCome, LeadsOn, all_finished}
@@ -45,7 +43,7 @@ module _ (net : Net) where
       let caches : List ℕ = caches_of_all net in
       let any : (link : ℕ) → LeadsOn net [] link = λ link to at. refl in
       let leave : AllByRecursion (LeavesOn net (LeadsOn net [])) caches =
-          all_so (LeavesOn net (LeadsOn net [])) caches (λ place chosen. all_so (LeadsOn net []) (links_used net chosen (named_by (slice_get net.holders place))) any) in
+      all_so (LeavesOn net (LeadsOn net [])) caches (λ place chosen. all_so (LeadsOn net []) (links_used net chosen (named_by (slice_get net.holders place))) any) in
       let first : Rests net (LeadsOn net []) (IsNamed net) old = (record { links = λ link o at. inl (any link); stores = named; usable = usable; as_many = many }, still) in
       holds_in_more net (LeadsOn net []) (λ n. IsNamed net n × (is_in caches n ≡ false)) (IsToCome net []) e.1 (λ place h. to_come place h.0 h.1)
       (rests_once_all_emptied net (LeadsOn net []) (IsNamed net) caches before old e.0 e.1 leave first e.2)

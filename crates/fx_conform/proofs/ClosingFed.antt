@@ -67,8 +67,10 @@ module _ (net : Net) where
   exporters_lead chosen (place ∷ places) = by (exporters_lead chosen places) (slice_get net.exporters place) where
     n : ℕ
     n = number_in_use chosen place
+
     rest : List Exporter
     rest = at_places net.exporters places
+
     later : List ℕ
     later = links_used net chosen places
 

@@ -92,9 +92,9 @@ one_fewer n (Some s) u many = by (least (flows_in s)) refl where
   by None low =
       let same : len (flows_in s) ≡ length (entries (flows_in s)) = len-entries (flows_in s) in
       absurd (first_there (entries (flows_in s)) n (sym same ∙ many) low) where
-    first_there : (es : List Entry) (n : ℕ) → length es ≡ suc n → slice_get es 0 ≡ None → ⊥
-    first_there [] n many e = omega arith
-    first_there (x ∷ es) n many e = cc
+        first_there : (es : List Entry) (n : ℕ) → length es ≡ suc n → slice_get es 0 ≡ None → ⊥
+        first_there [] n many e = omega arith
+        first_there (x ∷ es) n many e = cc
   by (Some e) low =
       let there : contains_key (flows_in s) e.0 ≡ true = ap is_some (least_there (flows_in s) e low) in
       ap (λ (m : Flows). len m) (without_flows s e.0 u) ∙ len-remove key_cmp_total (flows_in s) e.0 ∙ ap (λ (b : Bool). cond b (len (flows_in s) - 1) (len (flows_in s))) there ∙ omega arith

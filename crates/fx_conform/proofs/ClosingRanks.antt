@@ -10,7 +10,7 @@ use Rattle.fx_plan.proofs.Comings.{come_more, come_kept, come_last, IsReady, nex
 use Rattle.fx_runs.specs.Destinations.{links_used}
 use Rattle.fx_net.specs.Arriving.{process_behind, exporters_named}
 use Rattle.fx_net.specs.Contents.{Contents}
-use Rattle.fx_net.specs.Doings.{Each, Ended, CarriesWhole, CarriesInto, Finishes, Where, holders_of, leads_to, link_places}
+use Rattle.fx_net.specs.Doings.{Each, Ended, CarriesWhole, CarriesInto, Finishes, Where, holders_of, leads_to}
 use Rattle.fx_conform.proofs.Amid.{there_is_below}
 use Rattle.fx_conform.proofs.ClosingBusy.{busy_in_more}
 use Rattle.fx_conform.proofs.ClosingCalm.{IsOfThese, LeavesOn, Rests, rests_once_carried, rests_once_all_emptied, holds_in_more}
@@ -108,7 +108,7 @@ module _ (net : Net) (done : List ℕ) (process : ℕ) (ready : IsReady net done
         λ same. both_ways (is_in now process) (on process (ap (slice_get net.links) same ∙ is)) (come_last done process),
       ) in
       let these : IsOfThese net less (IsToCome net done) (process_behind net from) =
-          subst (λ (o : Option ℕ). IsOfThese net less (IsToCome net done) (process_at net.processes o)) (sym is) (of_these less goes) in
+      subst (λ (o : Option ℕ). IsOfThese net less (IsToCome net done) (process_at net.processes o)) (sym is) (of_these less goes) in
       busy_more net less (LeadsOnFrom (from + 1)) (IsToCome net done) new
       (λ link on to at. elim (on.0 to at) [
         | inl e ↦ inl e
@@ -116,8 +116,8 @@ module _ (net : Net) (done : List ℕ) (process : ℕ) (ready : IsReady net done
       ])
       (rests_once_carried net (LeadsOnFrom from) (IsToCome net done) from before old after new these h e)
     where
-    next_up : (m n : ℕ) → m ≤ n → (n ≡ m → ⊥) → m + 1 ≤ n
-    next_up m n le ne = elim (cases_eq n m) [ inl e ↦ absurd (ne e) | inr other ↦ omega arith ]
+      next_up : (m n : ℕ) → m ≤ n → (n ≡ m → ⊥) → m + 1 ≤ n
+      next_up m n le ne = elim (cases_eq n m) [ inl e ↦ absurd (ne e) | inr other ↦ omega arith ]
   carried_on from false led before old after new h e =
       let same : Rests net (LeadsOnFrom from) (IsToCome net done) new = subst (Rests net (LeadsOnFrom from) (IsToCome net done)) (sym e.1) h in
       busy_more net (LeadsOnFrom from) (LeadsOnFrom (from + 1)) (IsToCome net done) new
@@ -152,16 +152,16 @@ module _ (net : Net) (done : List ℕ) (process : ℕ) (ready : IsReady net done
       let many : ℕ = length net.links in
       let o : Option Process = slice_get net.processes process in
       let first : Rests net (LeadsOnFrom 0) (IsToCome net done) old =
-          busy_more net (LeadsOn net done) (LeadsOnFrom 0) (IsToCome net done) old (λ link on to at. elim (cases_eq to process) [
-            | inl same ↦ inr (same, omega arith)
-            | inr other ↦ inl (false_from_ne_true (is_in now to) (λ there. elim (come_more done process to there) [ inl e ↦ both_ways (is_in done to) (on to at) e | inr e ↦ other (sym e) ]))
-          ]) h in
+      busy_more net (LeadsOn net done) (LeadsOnFrom 0) (IsToCome net done) old (λ link on to at. elim (cases_eq to process) [
+        | inl same ↦ inr (same, omega arith)
+        | inr other ↦ inl (false_from_ne_true (is_in now to) (λ there. elim (come_more done process to there) [ inl e ↦ both_ways (is_in done to) (on to at) e | inr e ↦ other (sym e) ]))
+      ]) h in
       let carried : Rests net (LeadsOnFrom (0 + many)) (IsToCome net done) e.1 = all_carried_on many 0 before old e.0 e.1 first e.2 in
       let on : Rests net (LeadsOn net now) (IsToCome net done) e.1 =
-          busy_more net (LeadsOnFrom (0 + many)) (LeadsOn net now) (IsToCome net done) e.1 (λ link on to at. elim (on to at) [
-            | inl e ↦ e
-            | inr into ↦ (let below = there_is_below net.links link to at in let past : 0 + many ≤ link = into.1 in absurd (omega arith))
-          ]) carried in
+      busy_more net (LeadsOnFrom (0 + many)) (LeadsOn net now) (IsToCome net done) e.1 (λ link on to at. elim (on to at) [
+        | inl e ↦ e
+        | inr into ↦ (let below = there_is_below net.links link to at in let past : 0 + many ≤ link = into.1 in absurd (omega arith))
+      ]) carried in
       let these = of_these (LeadsOn net now) (λ link on. on) in
       holds_in_more net (LeadsOn net now) (λ n. IsToCome net done n × (is_in (holders_of o) n ≡ false)) (IsToCome net now) new
       (λ place there. (

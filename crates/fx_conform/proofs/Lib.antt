@@ -31,3 +31,4 @@ pub mod ClosingHolders
 pub mod ClosingEnd
 mod Examples
 mod LinkExamples
+mod ClosingExamples
