@@ -1,10 +1,10 @@
 -- Links of which only some are busy: on the others there are no octets, and nothing waits.
-use Rattle.std.proofs.Common.{◌≡◌, ◌⊎◌, inl, inr, ℕ, zero, suc, List, [], ◌∷◌, ◌++◌, length, drop, map, Option, Some, option_map, refl, sym, ap, ◌∙◌, subst, slice_get}
+use Rattle.std.proofs.Common.{◌≡◌, ◌⊎◌, inl, inr, ℕ, zero, suc, List, [], ◌∷◌, ◌++◌, drop, map, Option, Some, option_map, refl, sym, ap, ◌∙◌, subst, slice_get}
 use Rattle.std.specs.List.{AllByRecursion}
 use Rattle.std.proofs.Math.Seq.{drop-length}
 use Rattle.std.proofs.lemmas.Bool.{cases_eq}
 use Rattle.fx_machine.specs.declared.record.Record.{Record}
-use Rattle.fx_link.specs.Outgoing.{Outgoing, after_flush}
+use Rattle.fx_link.specs.Outgoing.{after_flush}
 use Rattle.fx_link.specs.Sending.{Sender}
 use Rattle.fx_link.specs.Ongoing.{Ongoing, after_carry, after_finish}
 use Rattle.fx_net.specs.Arriving.{queued_on, with_left}

@@ -1,5 +1,5 @@
 -- What stays so where records arrive and leave: only some links are busy, and only some holders hold records.
-use Rattle.std.proofs.Common.{◌≡◌, ℕ, zero, suc, Bool, true, false, cond, List, [], ◌∷◌, ◌++◌, ◌==◌, length, Option, Some, None, refl, sym, ap, ◌∙◌, subst, slice_get, option_and_then}
+use Rattle.std.proofs.Common.{◌≡◌, ℕ, zero, suc, Bool, true, false, cond, List, [], ◌∷◌, ◌++◌, ◌==◌, length, Option, Some, None, refl, sym, ◌∙◌, subst, slice_get, option_and_then}
 use Rattle.std.specs.List.{AllByRecursion}
 use Rattle.std.proofs.lemmas.Bool.{eqb-true, false_from_ne_true, or_from}
 use Rattle.fx_base.specs.declared.counts.Counts.{Counts}
@@ -19,7 +19,7 @@ use Rattle.fx_net.specs.Contents.{Contents, changed, stored_at, is_immediate}
 use Rattle.fx_net.specs.Doings.{Ended, Empties, EmptiesAll, CarriesWhole}
 use Rattle.fx_net.specs.Exporting.{after_send}
 use Rattle.fx_net.specs.Finishing.{after_finishing}
-use Rattle.fx_net.specs.Leaving.{leaver, least_of, without_least, count_at, after_leave, after_leaves, after_emptying}
+use Rattle.fx_net.specs.Leaving.{leaver, least_of, without_least, count_at, after_leave, after_leaves}
 use Rattle.fx_net.specs.Stores.{Stored, makes_room}
 use Rattle.fx_net.specs.Taking.{adding, left_by, leaves_at_once, all_leave_at_once, after_adding, after_taking, with_stores}
 use Rattle.fx_conform.specs.Closing.{NothingWaits}

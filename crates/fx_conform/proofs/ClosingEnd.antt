@@ -1,5 +1,5 @@
 -- Once the closing phase is over, nothing is in the stores, and no octets are on the links.
-use Rattle.std.proofs.Common.{◌≡◌, ◌⊎◌, inl, inr, ℕ, zero, suc, ◌<◌, true, false, List, [], ◌∷◌, length, Option, Some, None, refl, subst, slice_get}
+use Rattle.std.proofs.Common.{◌≡◌, inl, inr, ℕ, zero, suc, ◌<◌, true, false, List, [], ◌∷◌, length, Option, Some, None, refl, subst, slice_get}
 use Rattle.std.specs.List.{AllByRecursion}
 use Rattle.std.proofs.lemmas.Bool.{both_ways}
 use Rattle.fx_machine.specs.Network.{Net, Process, named_by}
@@ -10,12 +10,10 @@ use Rattle.fx_plan.specs.Ranks.{IsWhole, is_in}
 use Rattle.fx_runs.specs.Destinations.{links_used}
 use Rattle.fx_net.specs.Contents.{Contents}
 use Rattle.fx_net.specs.Doings.{EmptiesNetwork, caches_of_all, holders_of}
-use Rattle.fx_net.specs.Stores.{Stored}
 use Rattle.fx_conform.specs.Closing.{IsNamed, NothingIsStored, NothingWaits, OnlyNamedHold}
 use Rattle.fx_conform.specs.OnLinks.{NoOctets}
 use Rattle.fx_conform.specs.Usable.{AreUsable}
 use Rattle.fx_conform.proofs.Amid.{there_is_below}
-use Rattle.fx_conform.proofs.ClosingBusy.{IsIdle}
 use Rattle.fx_conform.proofs.ClosingCalm.{LeavesOn, Rests, rests_once_all_emptied, holds_in_more}
 use Rattle.fx_conform.proofs.ClosingHolders.{cache_or_aggregation}
 use Rattle.fx_conform.proofs.ClosingRanks.{IsToCome, LeadsOn, all_finished}

@@ -10,7 +10,7 @@ use Rattle.fx_plan.proofs.Comings.{come_more, come_kept, come_last, IsReady, nex
 use Rattle.fx_runs.specs.Destinations.{links_used}
 use Rattle.fx_net.specs.Arriving.{process_behind, exporters_named}
 use Rattle.fx_net.specs.Contents.{Contents}
-use Rattle.fx_net.specs.Doings.{Each, Ended, CarriesWhole, CarriesInto, Finishes, Where, holders_of, leads_to, link_places}
+use Rattle.fx_net.specs.Doings.{Each, Ended, CarriesWhole, CarriesInto, Finishes, Where, holders_of, leads_to}
 use Rattle.fx_conform.proofs.Amid.{there_is_below}
 use Rattle.fx_conform.proofs.ClosingBusy.{busy_in_more}
 use Rattle.fx_conform.proofs.ClosingCalm.{IsOfThese, LeavesOn, Rests, rests_once_carried, rests_once_all_emptied, holds_in_more}

@@ -36,3 +36,4 @@ pub mod WholeRuns
 pub mod Paths
 mod Examples
 mod LinkExamples
+mod ClosingExamples
