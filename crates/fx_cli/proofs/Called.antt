@@ -1,5 +1,5 @@
 -- What the words' call prints, whichever call they are read as.
-use Rattle.std.proofs.Common.{◌≡◌, ◌∙◌, ◌⊎◌, ℕ, Bool, true, false, refl, sym, ap, subst, List, Option, inl, inr, true≢false, codes}
+use Rattle.std.proofs.Common.{◌≡◌, ◌∙◌, ◌⊎◌, ℕ, Bool, true, false, refl, sym, ap, subst, List, Option, Some, None, inl, inr, true≢false, codes}
 use Rattle.std.specs.Prelude.{IfErr, IfOk, OnOk, Result, Ok, Err}
 use Rattle.std.specs.Str.{bytes_eq}
 use Rattle.std.proofs.lemmas.Slice.Eq.{bytes_eq-Decides}
@@ -12,11 +12,12 @@ use Rattle.fx_cli.specs.Ending.{refusal_line, refusal_status, status}
 use Rattle.fx_audit.specs.Commands.{IsAudited}
 use Rattle.fx_audit.specs.declared.answer.Answer.{Answer}
 use Rattle.fx_cli.specs.Running.{EndsAs, HasFailedToWrite, IsCallText, IsTextWithin}
-use Rattle.fx_cli.specs.Words.{Names, NamesAudit, NamesFiles, NamesWithin}
+use Rattle.fx_cli.specs.Words.{Names, NamesAudit, NamesFiles, NamesRun, NamesWith, IsLimit, IsLimitSet}
 use Rattle.fx_cli.specs.declared.words.Call.{Call}
-use Rattle.fx_cli.specs.declared.words.Call.TheVariants.{Audit, Check, Collect, Confirm, Replay}
-use Rattle.fx_cli.proofs.LimitWords.{limit_alone}
+use Rattle.fx_cli.specs.declared.words.Call.TheVariants.{Audit, Check, Collect, Confirm, Replay, Run}
+use Rattle.fx_cli.proofs.AuditWords.{limit_name}
 use Rattle.fx_cli.proofs.Naming.{behind, second}
+use Rattle.fx_cli.proofs.OptionNames.{option_alone}
 
 -- words name files of one command alone
 two_commands : {words files others : List Text} {name other : Text} → NamesFiles words name files → NamesFiles words other others → bytes_eq name other ≡ false → ⊥
@@ -29,11 +30,27 @@ audit_and_other {words} {files} {others} {name} n m differ =
     let same : codes "audit" ≡ name = sym (ap second n.words_are) ∙ ap second m.words_are in
     true≢false (sym ((bytes_eq-Decides (codes "audit") name).1 same) ∙ differ)
 
+run_and_other : {words files others : List Text} {name : Text} {links : Option Text} → NamesRun words files links → NamesFiles words name others → bytes_eq (codes "run") name ≡ false → ⊥
+run_and_other {words} {files} {others} {name} n m differ =
+    let same : codes "run" ≡ name = sym (ap second n.words_are) ∙ ap second m.words_are in
+    true≢false (sym ((bytes_eq-Decides (codes "run") name).1 same) ∙ differ)
+
+run_and_audit : {words files others : List Text} {links : Option Text} {limit : ℕ} → NamesRun words files links → NamesAudit words others limit → ⊥
+run_and_audit {words} {files} {others} n m =
+    let same : codes "run" ≡ codes "audit" = sym (ap second n.words_are) ∙ ap second m.words_are in
+    true≢false (sym ((bytes_eq-Decides (codes "run") (codes "audit")).1 same))
+
+-- an option sets one limit alone
+limit_alone : (o p : Option Text) (limit other : ℕ) → o ≡ p → IsLimitSet o limit → IsLimitSet p other → limit ≡ other
+limit_alone o None limit other same a b = let none : limit ≡ 1000000 = subst (λ (x : Option Text). IsLimitSet x limit) same a in none ∙ sym b
+limit_alone o (Some text) limit other same a b = let set : IsLimit text limit = subst (λ (x : Option Text). IsLimitSet x limit) same a in sym set.1 ∙ b.1
+
 -- words set one limit alone
 one_limit : {words files others : List Text} {limit other : ℕ} → NamesAudit words files limit → NamesAudit words others other → limit ≡ other
 one_limit {words} {files} {others} {limit} {other} n m =
     let same : n.rest ≡ m.rest = sym (ap behind n.words_are) ∙ ap behind m.words_are in
-    limit_alone m.rest files others limit other (subst (λ (rest : List Text). NamesWithin rest files limit) same n.within) m.within
+    let named : NamesWith (codes "limit") m.rest files n.option = subst (λ (rest : List Text). NamesWith (codes "limit") rest files n.option) same n.named in
+    limit_alone n.option m.option limit other (option_alone (codes "limit") m.rest files others n.option m.option limit_name named m.named) n.limit_is m.limit_is
 
 same_text : (words : List Text) (one other : Call) → Names words one → Names words other → (answer : Answer) (text : List ℕ) → IsCallText one answer text → IsCallText other answer text
 same_text words (Replay a b c) (Replay d e f) n m answer text is = is
@@ -41,26 +58,37 @@ same_text words (Replay a b c) (Collect d e) n m answer text is = absurd (two_co
 same_text words (Replay a b c) (Check d e f) n m answer text is = absurd (two_commands n m refl)
 same_text words (Replay a b c) (Confirm d e f) n m answer text is = absurd (two_commands n m refl)
 same_text words (Replay a b c) (Audit d e l) n m answer text is = absurd (audit_and_other m n refl)
+same_text words (Replay a b c) (Run d e f g l) n m answer text is = absurd (run_and_other m n refl)
 same_text words (Collect a b) (Replay d e f) n m answer text is = absurd (two_commands n m refl)
 same_text words (Collect a b) (Collect d e) n m answer text is = is
 same_text words (Collect a b) (Check d e f) n m answer text is = absurd (two_commands n m refl)
 same_text words (Collect a b) (Confirm d e f) n m answer text is = absurd (two_commands n m refl)
 same_text words (Collect a b) (Audit d e l) n m answer text is = absurd (audit_and_other m n refl)
+same_text words (Collect a b) (Run d e f g l) n m answer text is = absurd (run_and_other m n refl)
 same_text words (Check a b c) (Replay d e f) n m answer text is = absurd (two_commands n m refl)
 same_text words (Check a b c) (Collect d e) n m answer text is = absurd (two_commands n m refl)
 same_text words (Check a b c) (Check d e f) n m answer text is = is
 same_text words (Check a b c) (Confirm d e f) n m answer text is = absurd (two_commands n m refl)
 same_text words (Check a b c) (Audit d e l) n m answer text is = absurd (audit_and_other m n refl)
+same_text words (Check a b c) (Run d e f g l) n m answer text is = absurd (run_and_other m n refl)
 same_text words (Confirm a b c) (Replay d e f) n m answer text is = absurd (two_commands n m refl)
 same_text words (Confirm a b c) (Collect d e) n m answer text is = absurd (two_commands n m refl)
 same_text words (Confirm a b c) (Check d e f) n m answer text is = absurd (two_commands n m refl)
 same_text words (Confirm a b c) (Confirm d e f) n m answer text is = is
 same_text words (Confirm a b c) (Audit d e l) n m answer text is = absurd (audit_and_other m n refl)
+same_text words (Confirm a b c) (Run d e f g l) n m answer text is = absurd (run_and_other m n refl)
 same_text words (Audit a b k) (Replay d e f) n m answer text is = absurd (audit_and_other n m refl)
 same_text words (Audit a b k) (Collect d e) n m answer text is = absurd (audit_and_other n m refl)
 same_text words (Audit a b k) (Check d e f) n m answer text is = absurd (audit_and_other n m refl)
 same_text words (Audit a b k) (Confirm d e f) n m answer text is = absurd (audit_and_other n m refl)
 same_text words (Audit a b k) (Audit d e l) n m answer text is = subst (λ (limit : ℕ). IsTextWithin limit answer text) (one_limit n m) is
+same_text words (Audit a b k) (Run d e f g l) n m answer text is = absurd (run_and_audit m n)
+same_text words (Run a b c h k) (Replay d e f) n m answer text is = absurd (run_and_other n m refl)
+same_text words (Run a b c h k) (Collect d e) n m answer text is = absurd (run_and_other n m refl)
+same_text words (Run a b c h k) (Check d e f) n m answer text is = absurd (run_and_other n m refl)
+same_text words (Run a b c h k) (Confirm d e f) n m answer text is = absurd (run_and_other n m refl)
+same_text words (Run a b c h k) (Audit d e l) n m answer text is = absurd (run_and_audit n m)
+same_text words (Run a b c h k) (Run d e f g l) n m answer text is = is
 
 -- a program that ends as one call of the words does ends as any does
 pub ends_as : (words : List Text) (one other : Call) → Names words one → Names words other → (old new : Option (List ℕ)) (Going Failed : Type 0) (code : ℕ)

@@ -1,5 +1,3 @@
-pub mod AuditFiles
-pub mod AuditWalk
 pub mod AuditWords
 pub mod Called
 pub mod CheckWords
@@ -10,6 +8,14 @@ pub mod FileWords
 pub mod LimitWords
 pub mod Matching
 pub mod Naming
+pub mod OptionCommand
+pub mod OptionFiles
+pub mod OptionHeld
+pub mod OptionNames
+pub mod OptionSaid
+pub mod OptionWalk
+pub mod OptionWords
 pub mod ReplayWords
+pub mod RunWords
 pub mod SingleWords
 mod WordExamples

@@ -19,14 +19,14 @@ use Rattle.clap.specs.declared.error.kind.ErrorKind.TheVariants.{OutOfMemory}
 use Rattle.std.specs.Prelude.{Box, IfErr, IfOk, IfSome, IsSome, Result, Ok, Err, MatchResult, IsErrAnd, string_bytes}
 use Rattle.std.specs.Box.{box_value}
 use Rattle.fx_cli.specs.declared.words.Call.{Call}
-use Rattle.fx_cli.specs.declared.words.Call.TheVariants.{Audit, Check, Collect, Confirm, Replay}
+use Rattle.fx_cli.specs.declared.words.Call.TheVariants.{Audit, Check, Collect, Confirm, Replay, Run}
 use Rattle.clap.proofs.WalkLemmas.{first_value-rows, one_text-rows}
 use Rattle.std.proofs.lemmas.Slice.Eq.{bytes_eq-Decides}
-use Rattle.fx_cli.specs.Words.{IsLimit, Names, NamesAudit, NamesFiles, NamesNoCall}
-use Rattle.fx_cli.specs.CommandLine.{AreMatchesOf, file_rule, limit_rule, once_app, over_documents, over_network, wants_command}
-use Rattle.fx_cli.specs.Matches.{HoldsLimit, HasFile, IsAuditOf, IsCheckOf, IsCollectOf, IsConfirmOf, IsReplayOf}
+use Rattle.fx_cli.specs.Words.{IsLimit, Names, NamesAudit, NamesFiles, NamesNoCall, NamesRun}
+use Rattle.fx_cli.specs.CommandLine.{AreMatchesOf, file_rule, limit_rule, links_rule, once_app, over_capture, over_documents, over_network, wants_command}
+use Rattle.fx_cli.specs.Matches.{HoldsLimit, HasFile, IsAuditOf, IsCheckOf, IsCollectOf, IsConfirmOf, IsReplayOf, IsRunOf}
 use Rattle.fx_cli.proofs.SingleWords.{Fails}
-use Rattle.fx_cli.proofs.Naming.{Refuses, Takes, TakesAudit, decide_words}
+use Rattle.fx_cli.proofs.Naming.{Refuses, Takes, TakesAudit, TakesRun, decide_words}
 use Rattle.fx_cli.proofs.CheckWords.{check_rows}
 use Rattle.fx_cli.proofs.CollectWords.{collect_rows}
 use Rattle.fx_cli.proofs.ConfirmWords.{confirm_rows}
@@ -74,9 +74,25 @@ pub record IsAudit (words : List Text) (m : ArgMatches) : Type 0 where
   pub traffic_is : first_of (codes "TRAFFIC") rows ≡ Some traffic
   pub limit_is : one_of (codes "limit") rows ≡ Some text
 
+-- the matches of a run's words
+pub record IsRun (words : List Text) (m : ArgMatches) : Type 0 where
+  pub network : Text
+  pub traffic : Text
+  pub capture : Text
+  pub schedule : Text
+  pub links : Option Text
+  pub named : NamesRun words (network ∷ traffic ∷ capture ∷ schedule ∷ []) links
+  pub rows : List Row
+  pub entered : subcommand_rows_of m ≡ Some (codes "run", rows)
+  pub network_is : first_of (codes "NETWORK") rows ≡ Some network
+  pub traffic_is : first_of (codes "TRAFFIC") rows ≡ Some traffic
+  pub capture_is : first_of (codes "CAPTURE") rows ≡ Some capture
+  pub schedule_is : first_of (codes "SCHEDULE") rows ≡ Some schedule
+  pub links_is : first_of (codes "links") rows ≡ links
+
 -- the matches of words that were taken, by one of the commands
 abbrev IsTaken : List Text → ArgMatches → Type 0
-IsTaken words m = IsReplay words m ⊎ (IsCollect words m ⊎ (IsCheck words m ⊎ (IsConfirm words m ⊎ IsAudit words m)))
+IsTaken words m = IsReplay words m ⊎ (IsCollect words m ⊎ (IsCheck words m ⊎ (IsConfirm words m ⊎ (IsAudit words m ⊎ IsRun words m))))
 
 not_both : (k : Kinds) → k ≡ [] → Fails k → ⊥
 not_both k none fails = subst Fails none fails
@@ -104,14 +120,32 @@ takes_audit a words m same matches t = record {
   limit_is = t.limit_is;
 }
 
+takes_run : (a : App) (words : List Text) (m : ArgMatches) → a ≡ once_app → HasMatchesOf a words m → TakesRun words → IsRun words m
+takes_run a words m same matches t = record {
+  network = t.network;
+  traffic = t.traffic;
+  capture = t.capture;
+  schedule = t.schedule;
+  links = t.links;
+  named = t.named;
+  rows = t.rows;
+  entered = (matches (ap is_simple same ∙ once_is_simple)).1 ∙ ap (λ (x : App). subcommand_of x words) same ∙ t.entered;
+  network_is = t.network_is;
+  traffic_is = t.traffic_is;
+  capture_is = t.capture_is;
+  schedule_is = t.schedule_is;
+  links_is = t.links_is;
+}
+
 taken : (a : App) (words : List Text) (m : ArgMatches) → a ≡ once_app → HasMatchesOf a words m → (is_simple_and_free a ≡ true → fault_of a words ≡ []) → IsTaken words m
 taken a words m same matches kinds = elim (decide_words words) [
   | inl t ↦ inl (takes_it a (codes "replay") 3 replay_rows words m same matches t)
   | inr (inl t) ↦ inr (inl (takes_it a (codes "collect") 2 collect_rows words m same matches t))
   | inr (inr (inl t)) ↦ inr (inr (inl (takes_it a (codes "check") 3 check_rows words m same matches t)))
   | inr (inr (inr (inl t))) ↦ inr (inr (inr (inl (takes_it a (codes "confirm") 3 confirm_rows words m same matches t))))
-  | inr (inr (inr (inr (inl t)))) ↦ inr (inr (inr (inr (takes_audit a words m same matches t))))
-  | inr (inr (inr (inr (inr r)))) ↦ absurd (not_both (fault_of once_app words) (ap (λ (x : App). fault_of x words) (sym same) ∙ kinds (ap is_simple_and_free same ∙ once_is_free)) r.fails)
+  | inr (inr (inr (inr (inl t)))) ↦ inr (inr (inr (inr (inl (takes_audit a words m same matches t)))))
+  | inr (inr (inr (inr (inr (inl t))))) ↦ inr (inr (inr (inr (inr (takes_run a words m same matches t)))))
+  | inr (inr (inr (inr (inr (inr r))))) ↦ absurd (not_both (fault_of once_app words) (ap (λ (x : App). fault_of x words) (sym same) ∙ kinds (ap is_simple_and_free same ∙ once_is_free)) r.fails)
 ]
 
 none_named : (words : List Text) → Refuses words → NamesNoCall words
@@ -120,6 +154,8 @@ none_named words r (Collect network stream) n = r.collect (string_bytes network 
 none_named words r (Check network traffic certificate) n = r.check (string_bytes network ∷ string_bytes traffic ∷ string_bytes certificate ∷ []) refl n
 none_named words r (Confirm network traffic refutation) n = r.confirm (string_bytes network ∷ string_bytes traffic ∷ string_bytes refutation ∷ []) refl n
 none_named words r (Audit network traffic limit) n = r.audit (string_bytes network) (string_bytes traffic) limit n
+none_named words r (Run network traffic capture schedule links) n =
+    r.run (string_bytes network) (string_bytes traffic) (string_bytes capture) (string_bytes schedule) (option_map string_bytes links) n
 
 memory_alone : (a : App) (words : List Text) (e : Error) → a ≡ once_app → (is_simple_and_free a ≡ true → HasKind (fault_of a words) e) → fault_of once_app words ≡ [] → kind_of e ≡ OutOfMemory
 memory_alone a words e same kinds takes =
@@ -135,7 +171,8 @@ refused a words e same kinds = elim (decide_words words) [
   | inr (inr (inl t)) ↦ inl (memory_alone a words e same kinds t.takes)
   | inr (inr (inr (inl t))) ↦ inl (memory_alone a words e same kinds t.takes)
   | inr (inr (inr (inr (inl t)))) ↦ inl (memory_alone a words e same kinds t.takes)
-  | inr (inr (inr (inr (inr r)))) ↦ inr (none_named words r)
+  | inr (inr (inr (inr (inr (inl t))))) ↦ inl (memory_alone a words e same kinds t.takes)
+  | inr (inr (inr (inr (inr (inr r))))) ↦ inr (none_named words r)
 ]
 
 pub passed_on : {T : Type 0} (r : Result T Error) (e : Error) (P : T → Type 0) (Q : Error → Type 0) → IsErrAnd r (λ y. y ≡ e) → Q e → MatchResult r P Q
@@ -165,6 +202,9 @@ some_same a b o x y = ap (λ (v : Option Text). unwrap_or v a) (sym x ∙ y)
 audit_name : (words : List Text) (m : ArgMatches) → IsAudit words m → subcommand_name_of m ≡ Some (codes "audit")
 audit_name words m t = name_of_rows m ∙ ap (option_map (λ p. p.0)) t.entered
 
+run_name : (words : List Text) (m : ArgMatches) → IsRun words m → subcommand_name_of m ≡ Some (codes "run")
+run_name words m t = name_of_rows m ∙ ap (option_map (λ p. p.0)) t.entered
+
 -- matches of one command are no matches of another
 one_name : (name other : Text) (m : ArgMatches) → subcommand_name_of m ≡ Some name → subcommand_name_of m ≡ Some other → bytes_eq name other ≡ false → ⊥
 one_name name other m first is differ =
@@ -180,7 +220,8 @@ taken_collect words m are name = elim (taken once_app words m refl are.matches (
   | inr (inl t) ↦ t
   | inr (inr (inl t)) ↦ absurd (other_name (codes "check") (codes "collect") 3 check_rows words m t name refl)
   | inr (inr (inr (inl t))) ↦ absurd (other_name (codes "confirm") (codes "collect") 3 confirm_rows words m t name refl)
-  | inr (inr (inr (inr t))) ↦ absurd (one_name (codes "audit") (codes "collect") m (audit_name words m t) name refl)
+  | inr (inr (inr (inr (inl t)))) ↦ absurd (one_name (codes "audit") (codes "collect") m (audit_name words m t) name refl)
+  | inr (inr (inr (inr (inr t)))) ↦ absurd (one_name (codes "run") (codes "collect") m (run_name words m t) name refl)
 ]
 
 pub taken_check : (words : List Text) (m : ArgMatches) → AreMatchesOf words m → subcommand_name_of m ≡ Some (codes "check") → IsCheck words m
@@ -189,7 +230,8 @@ taken_check words m are name = elim (taken once_app words m refl are.matches (λ
   | inr (inl t) ↦ absurd (other_name (codes "collect") (codes "check") 2 collect_rows words m t name refl)
   | inr (inr (inl t)) ↦ t
   | inr (inr (inr (inl t))) ↦ absurd (other_name (codes "confirm") (codes "check") 3 confirm_rows words m t name refl)
-  | inr (inr (inr (inr t))) ↦ absurd (one_name (codes "audit") (codes "check") m (audit_name words m t) name refl)
+  | inr (inr (inr (inr (inl t)))) ↦ absurd (one_name (codes "audit") (codes "check") m (audit_name words m t) name refl)
+  | inr (inr (inr (inr (inr t)))) ↦ absurd (one_name (codes "run") (codes "check") m (run_name words m t) name refl)
 ]
 
 pub taken_confirm : (words : List Text) (m : ArgMatches) → AreMatchesOf words m → subcommand_name_of m ≡ Some (codes "confirm") → IsConfirm words m
@@ -198,7 +240,8 @@ taken_confirm words m are name = elim (taken once_app words m refl are.matches (
   | inr (inl t) ↦ absurd (other_name (codes "collect") (codes "confirm") 2 collect_rows words m t name refl)
   | inr (inr (inl t)) ↦ absurd (other_name (codes "check") (codes "confirm") 3 check_rows words m t name refl)
   | inr (inr (inr (inl t))) ↦ t
-  | inr (inr (inr (inr t))) ↦ absurd (one_name (codes "audit") (codes "confirm") m (audit_name words m t) name refl)
+  | inr (inr (inr (inr (inl t)))) ↦ absurd (one_name (codes "audit") (codes "confirm") m (audit_name words m t) name refl)
+  | inr (inr (inr (inr (inr t)))) ↦ absurd (one_name (codes "run") (codes "confirm") m (run_name words m t) name refl)
 ]
 
 pub taken_audit : (words : List Text) (m : ArgMatches) → AreMatchesOf words m → subcommand_name_of m ≡ Some (codes "audit") → IsAudit words m
@@ -207,7 +250,18 @@ taken_audit words m are name = elim (taken once_app words m refl are.matches (λ
   | inr (inl t) ↦ absurd (other_name (codes "collect") (codes "audit") 2 collect_rows words m t name refl)
   | inr (inr (inl t)) ↦ absurd (other_name (codes "check") (codes "audit") 3 check_rows words m t name refl)
   | inr (inr (inr (inl t))) ↦ absurd (other_name (codes "confirm") (codes "audit") 3 confirm_rows words m t name refl)
-  | inr (inr (inr (inr t))) ↦ t
+  | inr (inr (inr (inr (inl t)))) ↦ t
+  | inr (inr (inr (inr (inr t)))) ↦ absurd (one_name (codes "run") (codes "audit") m (run_name words m t) name refl)
+]
+
+pub taken_run : (words : List Text) (m : ArgMatches) → AreMatchesOf words m → subcommand_name_of m ≡ Some (codes "run") → IsRun words m
+taken_run words m are name = elim (taken once_app words m refl are.matches (λ _. are.fine)) [
+  | inl t ↦ absurd (other_name (codes "replay") (codes "run") 3 replay_rows words m t name refl)
+  | inr (inl t) ↦ absurd (other_name (codes "collect") (codes "run") 2 collect_rows words m t name refl)
+  | inr (inr (inl t)) ↦ absurd (other_name (codes "check") (codes "run") 3 check_rows words m t name refl)
+  | inr (inr (inr (inl t))) ↦ absurd (other_name (codes "confirm") (codes "run") 3 confirm_rows words m t name refl)
+  | inr (inr (inr (inr (inl t)))) ↦ absurd (one_name (codes "audit") (codes "run") m (audit_name words m t) name refl)
+  | inr (inr (inr (inr (inr t)))) ↦ t
 ]
 
 -- where none of the others was found
@@ -215,13 +269,14 @@ abbrev IsNotFound : Text → ArgMatches → Type 0
 IsNotFound name m = subcommand_name_of m ≡ Some name → false ≡ true
 
 pub taken_replay : (words : List Text) (m : ArgMatches) → AreMatchesOf words m → IsNotFound (codes "collect") m → IsNotFound (codes "check") m → IsNotFound (codes "confirm") m
-    → IsNotFound (codes "audit") m → IsReplay words m
-taken_replay words m are collect check confirm audit = elim (taken once_app words m refl are.matches (λ _. are.fine)) [
+    → IsNotFound (codes "audit") m → IsNotFound (codes "run") m → IsReplay words m
+taken_replay words m are collect check confirm audit run = elim (taken once_app words m refl are.matches (λ _. are.fine)) [
   | inl t ↦ t
   | inr (inl t) ↦ absurd (true≢false (sym (collect (taken_name (codes "collect") 2 collect_rows words m t))))
   | inr (inr (inl t)) ↦ absurd (true≢false (sym (check (taken_name (codes "check") 3 check_rows words m t))))
   | inr (inr (inr (inl t))) ↦ absurd (true≢false (sym (confirm (taken_name (codes "confirm") 3 confirm_rows words m t))))
-  | inr (inr (inr (inr t))) ↦ absurd (true≢false (sym (audit (audit_name words m t))))
+  | inr (inr (inr (inr (inl t)))) ↦ absurd (true≢false (sym (audit (audit_name words m t))))
+  | inr (inr (inr (inr (inr t)))) ↦ absurd (true≢false (sym (run (run_name words m t))))
 ]
 
 pub replay_name : (words : List Text) (m : ArgMatches) → IsReplay words m → subcommand_name_of m ≡ Some (codes "replay")
@@ -347,6 +402,38 @@ audit_files words m found are name e =
       limit_is = one_text-rows found (codes "limit") ∙ ap (one_of (codes "limit")) same ∙ t.limit_is;
     }
 
+-- the values of a run
+pub record HasRun (words : List Text) (found : Found) : Type 0 where
+  pub network : Text
+  pub traffic : Text
+  pub capture : Text
+  pub schedule : Text
+  pub links : Option Text
+  pub named : NamesRun words (network ∷ traffic ∷ capture ∷ schedule ∷ []) links
+  pub network_is : first_value found (codes "NETWORK") ≡ Some network
+  pub traffic_is : first_value found (codes "TRAFFIC") ≡ Some traffic
+  pub capture_is : first_value found (codes "CAPTURE") ≡ Some capture
+  pub schedule_is : first_value found (codes "SCHEDULE") ≡ Some schedule
+  pub links_is : first_value found (codes "links") ≡ links
+
+pub run_files : (words : List Text) (m : ArgMatches) (found : Found) → AreMatchesOf words m → subcommand_name_of m ≡ Some (codes "run") → HasRows m found → HasRun words found
+run_files words m found are name e =
+    let t = taken_run words m are name in
+    let same : rows_of found ≡ t.rows = ap (λ (o : Option (List Row)). unwrap_or o t.rows) (sym e ∙ ap (option_map (λ p. p.1)) t.entered) in
+    record {
+      network = t.network;
+      traffic = t.traffic;
+      capture = t.capture;
+      schedule = t.schedule;
+      links = t.links;
+      named = t.named;
+      network_is = value_by found (codes "NETWORK") t.network t.rows same t.network_is;
+      traffic_is = value_by found (codes "TRAFFIC") t.traffic t.rows same t.traffic_is;
+      capture_is = value_by found (codes "CAPTURE") t.capture t.rows same t.capture_is;
+      schedule_is = value_by found (codes "SCHEDULE") t.schedule t.rows same t.schedule_is;
+      links_is = first_value-rows found (codes "links") ∙ ap (first_of (codes "links")) same ∙ t.links_is;
+    }
+
 has_value : (found : Found) (id name : Text) → first_value found id ≡ Some name → HasFile found id
 has_value found id name is = subst (λ (o : Option Text). IsSome o) (sym is) refl
 
@@ -359,6 +446,11 @@ both_found {command} {second} found f = (has_value found (codes "NETWORK") f.net
 
 pub audit_found : {words : List Text} (found : Found) → HasAudit words found → HasFile found (codes "NETWORK") × HasFile found (codes "TRAFFIC") × ((n : ℕ) × HoldsLimit found n)
 audit_found found f = (has_value found (codes "NETWORK") f.network f.network_is, has_value found (codes "TRAFFIC") f.traffic f.traffic_is, (f.limit, (f.text, f.limit_is, f.is)))
+
+pub run_found : {words : List Text} (found : Found) → HasRun words found
+    → HasFile found (codes "NETWORK") × HasFile found (codes "TRAFFIC") × HasFile found (codes "CAPTURE") × HasFile found (codes "SCHEDULE")
+run_found found f =
+    (has_value found (codes "NETWORK") f.network f.network_is, has_value found (codes "TRAFFIC") f.traffic f.traffic_is, has_value found (codes "CAPTURE") f.capture f.capture_is, has_value found (codes "SCHEDULE") f.schedule f.schedule_is)
 
 same_file : (found : Found) (id name file : Text) → first_value found id ≡ Some file → first_value found id ≡ Some name → file ≡ name
 same_file found id name file a b = ap (λ (o : Option Text). unwrap_or o file) (sym a ∙ b)
@@ -397,6 +489,7 @@ names_replay words found f (Collect a b) h = absurd h
 names_replay words found f (Check a b c) h = absurd h
 names_replay words found f (Confirm a b c) h = absurd h
 names_replay words found f (Audit a b n) h = absurd h
+names_replay words found f (Run a b c d l) h = absurd h
 
 pub names_collect : (words : List Text) (found : Found) → HasFiles (codes "collect") (codes "STREAM") words found → (call : Call) → IsCollectOf found call → Names words call
 names_collect words found f (Replay a b c) h = absurd h
@@ -404,6 +497,7 @@ names_collect words found f (Collect a b) h = with_files (codes "collect") (code
 names_collect words found f (Check a b c) h = absurd h
 names_collect words found f (Confirm a b c) h = absurd h
 names_collect words found f (Audit a b n) h = absurd h
+names_collect words found f (Run a b c d l) h = absurd h
 
 pub names_check : (words : List Text) (found : Found) → HasDocuments (codes "check") (codes "CERTIFICATE") words found → (call : Call) → IsCheckOf found call → Names words call
 names_check words found f (Replay a b c) h = absurd h
@@ -411,6 +505,7 @@ names_check words found f (Collect a b) h = absurd h
 names_check words found f (Check a b c) h = with_documents (codes "check") (codes "CERTIFICATE") words found f (string_bytes a) (string_bytes b) (string_bytes c) h.0 h.1 h.2
 names_check words found f (Confirm a b c) h = absurd h
 names_check words found f (Audit a b n) h = absurd h
+names_check words found f (Run a b c d l) h = absurd h
 
 pub names_confirm : (words : List Text) (found : Found) → HasDocuments (codes "confirm") (codes "REFUTATION") words found → (call : Call) → IsConfirmOf found call → Names words call
 names_confirm words found f (Replay a b c) h = absurd h
@@ -418,6 +513,7 @@ names_confirm words found f (Collect a b) h = absurd h
 names_confirm words found f (Check a b c) h = absurd h
 names_confirm words found f (Confirm a b c) h = with_documents (codes "confirm") (codes "REFUTATION") words found f (string_bytes a) (string_bytes b) (string_bytes c) h.0 h.1 h.2
 names_confirm words found f (Audit a b n) h = absurd h
+names_confirm words found f (Run a b c d l) h = absurd h
 
 -- a limit that is held is the one that the words set
 limit_held : (words : List Text) (found : Found) (f : HasAudit words found) (n : ℕ) → HoldsLimit found n → f.limit ≡ n
@@ -430,12 +526,30 @@ names_audit words found f (Replay a b c) h = absurd h
 names_audit words found f (Collect a b) h = absurd h
 names_audit words found f (Check a b c) h = absurd h
 names_audit words found f (Confirm a b c) h = absurd h
+names_audit words found f (Run a b c d l) h = absurd h
 names_audit words found f (Audit a b n) h =
     subst (λ (p : List Text × ℕ). NamesAudit words p.0 p.1)
     (λ i. (
       same_file found (codes "NETWORK") (string_bytes a) f.network f.network_is h.0 i
           ∷ same_file found (codes "TRAFFIC") (string_bytes b) f.traffic f.traffic_is h.1 i ∷ [],
       limit_held words found f n h.2 i,
+    ))
+    f.named
+
+pub names_run : (words : List Text) (found : Found) → HasRun words found → (call : Call) → IsRunOf found call → Names words call
+names_run words found f (Replay a b c) h = absurd h
+names_run words found f (Collect a b) h = absurd h
+names_run words found f (Check a b c) h = absurd h
+names_run words found f (Confirm a b c) h = absurd h
+names_run words found f (Audit a b n) h = absurd h
+names_run words found f (Run a b c d l) (n, t, k, s, links) =
+    subst (λ (p : List Text × Option Text). NamesRun words p.0 p.1)
+    (λ i. (
+      same_file found (codes "NETWORK") (string_bytes a) f.network f.network_is n i
+          ∷ same_file found (codes "TRAFFIC") (string_bytes b) f.traffic f.traffic_is t i
+          ∷ same_file found (codes "CAPTURE") (string_bytes c) f.capture f.capture_is k i
+          ∷ same_file found (codes "SCHEDULE") (string_bytes d) f.schedule f.schedule_is s i ∷ [],
+      (sym f.links_is ∙ links) i,
     ))
     f.named
 
@@ -446,27 +560,29 @@ pub record IsBuilt (c : Command) (a : App) : Type 0 where
   pub app : app_of c ≡ a
   pub local : (out-Command c).has_globals ≡ false
 
-abbrev AreBuilt : Command → Command → Command → Command → Command → Type 0
-AreBuilt replay collect check confirm audit =
+abbrev AreBuilt : Command → Command → Command → Command → Command → Command → Type 0
+AreBuilt replay collect check confirm audit run =
     IsBuilt replay (over_documents (codes "replay") (file_rule (codes "RUN")))
     × IsBuilt collect (over_network (codes "collect") (file_rule (codes "STREAM")))
     × IsBuilt check (over_documents (codes "check") (file_rule (codes "CERTIFICATE")))
     × IsBuilt confirm (over_documents (codes "confirm") (file_rule (codes "REFUTATION")))
     × IsBuilt audit (with_rule (over_network (codes "audit") (file_rule (codes "TRAFFIC"))) limit_rule)
+    × IsBuilt run (with_rule (over_capture (codes "run")) links_rule)
 
-with_five : (once replay collect check confirm audit whole : Command) → AddsInTurn AddsSubcommand once (replay ∷ collect ∷ check ∷ confirm ∷ audit ∷ []) whole
-    → app_of once ≡ on_top wants_command (new_app (codes "once")) → AreBuilt replay collect check confirm audit → app_of whole ≡ once_app
-with_five once replay collect check confirm audit whole (one, first, (two, second, (three, third, (four, fourth, (five, fifth, is))))) o (r, l, k, c, a) =
+with_six : (once replay collect check confirm audit run whole : Command) → AddsInTurn AddsSubcommand once (replay ∷ collect ∷ check ∷ confirm ∷ audit ∷ run ∷ []) whole
+    → app_of once ≡ on_top wants_command (new_app (codes "once")) → AreBuilt replay collect check confirm audit run → app_of whole ≡ once_app
+with_six once replay collect check confirm audit run whole (one, first, (two, second, (three, third, (four, fourth, (five, fifth, (six, sixth, is)))))) o (r, l, k, c, a, u) =
     let step = λ (x y : App). with_subcommand x y.top in
     let to_one = first.shape r.local ∙ ap₂ step o r.app in
     let to_two = second.shape l.local ∙ ap₂ step to_one l.app in
     let to_three = third.shape k.local ∙ ap₂ step to_two k.app in
     let to_four = fourth.shape c.local ∙ ap₂ step to_three c.app in
-    ap app_of (sym is) ∙ fifth.shape a.local ∙ ap₂ step to_four a.app
+    let to_five = fifth.shape a.local ∙ ap₂ step to_four a.app in
+    ap app_of (sym is) ∙ sixth.shape u.local ∙ ap₂ step to_five u.app
 
-pub five_commands : {Z : Type 0} (once replay collect check confirm audit : Command) (items : List Command) (r : Result Command Z) → IfOk r (λ whole. AddsInTurn AddsSubcommand once items whole)
-    → items ≡ replay ∷ collect ∷ check ∷ confirm ∷ audit ∷ [] → app_of once ≡ on_top wants_command (new_app (codes "once")) → AreBuilt replay collect check confirm audit
+pub six_commands : {Z : Type 0} (once replay collect check confirm audit run : Command) (items : List Command) (r : Result Command Z) → IfOk r (λ whole. AddsInTurn AddsSubcommand once items whole)
+    → items ≡ replay ∷ collect ∷ check ∷ confirm ∷ audit ∷ run ∷ [] → app_of once ≡ on_top wants_command (new_app (codes "once")) → AreBuilt replay collect check confirm audit run
     → IfOk r (λ whole. app_of whole ≡ once_app)
-five_commands once replay collect check confirm audit items (Ok whole) adds are o built =
-    with_five once replay collect check confirm audit whole (subst (λ (xs : List Command). AddsInTurn AddsSubcommand once xs whole) are adds) o built
-five_commands once replay collect check confirm audit items (Err error) adds are o built = tt
+six_commands once replay collect check confirm audit run items (Ok whole) adds are o built =
+    with_six once replay collect check confirm audit run whole (subst (λ (xs : List Command). AddsInTurn AddsSubcommand once xs whole) are adds) o built
+six_commands once replay collect check confirm audit run items (Err error) adds are o built = tt

@@ -59,6 +59,9 @@ confirm = first_of (behind_first (behind_first (behind_first (built once_app).su
 abbrev pub audit : Shape
 audit = first_of (behind_first (behind_first (behind_first (behind_first (built once_app).subs))))
 
+abbrev pub run : Shape
+run = first_of (behind_first (behind_first (behind_first (behind_first (behind_first (built once_app).subs)))))
+
 -- ---- flags: help is answered with an error too, and no other is known
 
 abbrev pub help : Rule

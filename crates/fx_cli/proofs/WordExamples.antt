@@ -5,7 +5,7 @@ use Rattle.clap.specs.Faults.{fault_of}
 use Rattle.clap.specs.declared.error.kind.ErrorKind.TheVariants.{ArgumentConflict, DisplayHelp, InvalidValue, ValueValidation, MissingRequiredArgument, MissingSubcommand, InvalidSubcommand, UnknownArgument}
 use Rattle.clap.proofs.OnLiterals.{clap_on_literals}
 use Rattle.fx_cli.specs.CommandLine.{once_app}
-use Rattle.fx_cli.specs.Words.{NamesWithin, file_names}
+use Rattle.fx_cli.specs.Words.{IsLimitSet, NamesWith, file_names}
 use Rattle.fx_cli.proofs.LimitWords.{limit_read}
 
 three_files_are_named : file_names (codes "net.json" ∷ codes "-" ∷ codes "run" ∷ []) ≡ Some (codes "net.json" ∷ codes "-" ∷ codes "run" ∷ [])
@@ -49,40 +49,42 @@ a_limit_in_one_word_has_no_fault : fault_of once_app (codes "once" ∷ codes "au
 unfolding clap_on_literals
 a_limit_in_one_word_has_no_fault = refl
 
-files_alone_have_the_longest_limit : NamesWithin (codes "a" ∷ codes "b" ∷ []) (codes "a" ∷ codes "b" ∷ []) 1000000
-unfolding chars
-files_alone_have_the_longest_limit = inl (refl, refl)
+files_alone_have_the_longest_limit : IsLimitSet None 1000000
+files_alone_have_the_longest_limit = refl
 
-a_limit_stands_among_the_files : NamesWithin (codes "a" ∷ codes "--limit" ∷ codes "+07" ∷ codes "b" ∷ []) (codes "a" ∷ codes "b" ∷ []) 7
+a_limit_may_have_a_plus_and_zeros : IsLimitSet (Some (codes "+07")) 7
+a_limit_may_have_a_plus_and_zeros = limit_read (codes "+07") refl
+
+a_limit_stands_among_the_files : NamesWith (codes "limit") (codes "a" ∷ codes "--limit" ∷ codes "+07" ∷ codes "b" ∷ []) (codes "a" ∷ codes "b" ∷ []) (Some (codes "+07"))
 unfolding chars
-a_limit_stands_among_the_files = inr (record {
+a_limit_stands_among_the_files = record {
   before = codes "a" ∷ [];
   option = codes "--limit" ∷ codes "+07" ∷ [];
   after = codes "b" ∷ [];
   others = codes "b" ∷ [];
   words_are = refl;
   before_are = refl;
-  option_is = (codes "+07", limit_read (codes "+07") refl, inl refl);
+  option_is = inl (refl, refl);
   after_are = refl;
   files_are = refl;
-})
+}
 
-a_limit_stands_behind_the_files : NamesWithin (codes "a" ∷ codes "b" ∷ codes "--limit=7" ∷ []) (codes "a" ∷ codes "b" ∷ []) 7
+a_limit_stands_behind_the_files : NamesWith (codes "limit") (codes "a" ∷ codes "b" ∷ codes "--limit=7" ∷ []) (codes "a" ∷ codes "b" ∷ []) (Some (codes "7"))
 unfolding chars
-a_limit_stands_behind_the_files = inr (record {
+a_limit_stands_behind_the_files = record {
   before = codes "a" ∷ codes "b" ∷ [];
   option = codes "--limit=7" ∷ [];
   after = [];
   others = [];
   words_are = refl;
   before_are = refl;
-  option_is = (codes "7", limit_read (codes "7") refl, inr refl);
+  option_is = inr refl;
   after_are = refl;
   files_are = refl;
-})
+}
 
-no_limit_behind_a_double_hyphen : NamesWithin (codes "--" ∷ codes "--limit" ∷ codes "7" ∷ []) (codes "--limit" ∷ codes "7" ∷ []) 1000000
-no_limit_behind_a_double_hyphen = inl (refl, refl)
+no_limit_behind_a_double_hyphen : NamesWith (codes "limit") (codes "--" ∷ codes "--limit" ∷ codes "7" ∷ []) (codes "--limit" ∷ codes "7" ∷ []) None
+no_limit_behind_a_double_hyphen = refl
 
 a_limit_of_0_is_refused : fault_of once_app (codes "once" ∷ codes "audit" ∷ codes "a" ∷ codes "b" ∷ codes "--limit" ∷ codes "0" ∷ []) ≡ ValueValidation ∷ []
 unfolding clap_on_literals
@@ -103,6 +105,73 @@ no_number_is_no_limit = refl
 two_limits_are_too_many : fault_of once_app (codes "once" ∷ codes "audit" ∷ codes "--limit" ∷ codes "7" ∷ codes "a" ∷ codes "b" ∷ codes "--limit=7" ∷ []) ≡ ArgumentConflict ∷ []
 unfolding clap_on_literals
 two_limits_are_too_many = refl
+
+-- a run keeps no links where no prefix is set, and else in files of that prefix
+a_run_has_no_fault : fault_of once_app (codes "once" ∷ codes "run" ∷ codes "a" ∷ codes "b" ∷ codes "c" ∷ codes "d" ∷ []) ≡ []
+unfolding clap_on_literals
+a_run_has_no_fault = refl
+
+a_run_that_keeps_its_links_has_no_fault : fault_of once_app (codes "once" ∷ codes "run" ∷ codes "a" ∷ codes "b" ∷ codes "--links" ∷ codes "e" ∷ codes "c" ∷ codes "d" ∷ []) ≡ []
+unfolding clap_on_literals
+a_run_that_keeps_its_links_has_no_fault = refl
+
+files_alone_keep_no_links : NamesWith (codes "links") (codes "a" ∷ codes "b" ∷ codes "c" ∷ codes "d" ∷ []) (codes "a" ∷ codes "b" ∷ codes "c" ∷ codes "d" ∷ []) None
+unfolding chars
+files_alone_keep_no_links = refl
+
+links_stand_before_the_files : NamesWith (codes "links") (codes "--links" ∷ codes "e" ∷ codes "a" ∷ codes "b" ∷ codes "c" ∷ codes "d" ∷ []) (codes "a" ∷ codes "b" ∷ codes "c" ∷ codes "d" ∷ []) (Some (codes "e"))
+unfolding chars
+links_stand_before_the_files = record {
+  before = [];
+  option = codes "--links" ∷ codes "e" ∷ [];
+  after = codes "a" ∷ codes "b" ∷ codes "c" ∷ codes "d" ∷ [];
+  others = codes "a" ∷ codes "b" ∷ codes "c" ∷ codes "d" ∷ [];
+  words_are = refl;
+  before_are = refl;
+  option_is = inl (refl, refl);
+  after_are = refl;
+  files_are = refl;
+}
+
+links_stand_between_the_files : NamesWith (codes "links") (codes "a" ∷ codes "b" ∷ codes "--links=-e" ∷ codes "c" ∷ codes "d" ∷ []) (codes "a" ∷ codes "b" ∷ codes "c" ∷ codes "d" ∷ []) (Some (codes "-e"))
+unfolding chars
+links_stand_between_the_files = record {
+  before = codes "a" ∷ codes "b" ∷ [];
+  option = codes "--links=-e" ∷ [];
+  after = codes "c" ∷ codes "d" ∷ [];
+  others = codes "c" ∷ codes "d" ∷ [];
+  words_are = refl;
+  before_are = refl;
+  option_is = inr refl;
+  after_are = refl;
+  files_are = refl;
+}
+
+links_stand_behind_the_files : NamesWith (codes "links") (codes "a" ∷ codes "b" ∷ codes "c" ∷ codes "d" ∷ codes "--links" ∷ codes "e" ∷ []) (codes "a" ∷ codes "b" ∷ codes "c" ∷ codes "d" ∷ []) (Some (codes "e"))
+unfolding chars
+links_stand_behind_the_files = record {
+  before = codes "a" ∷ codes "b" ∷ codes "c" ∷ codes "d" ∷ [];
+  option = codes "--links" ∷ codes "e" ∷ [];
+  after = [];
+  others = [];
+  words_are = refl;
+  before_are = refl;
+  option_is = inl (refl, refl);
+  after_are = refl;
+  files_are = refl;
+}
+
+no_prefix_is_no_option : fault_of once_app (codes "once" ∷ codes "run" ∷ codes "a" ∷ codes "b" ∷ codes "c" ∷ codes "d" ∷ codes "--links" ∷ []) ≡ InvalidValue ∷ []
+unfolding clap_on_literals
+no_prefix_is_no_option = refl
+
+two_prefixes_are_too_many : fault_of once_app (codes "once" ∷ codes "run" ∷ codes "--links=e" ∷ codes "a" ∷ codes "b" ∷ codes "c" ∷ codes "d" ∷ codes "--links=e" ∷ []) ≡ ArgumentConflict ∷ []
+unfolding clap_on_literals
+two_prefixes_are_too_many = refl
+
+three_files_are_too_few_for_a_run : fault_of once_app (codes "once" ∷ codes "run" ∷ codes "a" ∷ codes "b" ∷ codes "c" ∷ []) ≡ MissingRequiredArgument ∷ []
+unfolding clap_on_literals
+three_files_are_too_few_for_a_run = refl
 
 -- help is asked for by a flag or as a command
 help_flag : fault_of once_app (codes "once" ∷ codes "--help" ∷ []) ≡ DisplayHelp ∷ []

@@ -25,6 +25,14 @@ limit_rule = record (new_rule (codes "limit")) {
   parser = Some (parsers.Unsigned 1 1000000);
 }
 
+-- a command over a network, traffic, a capture and a schedule
+abbrev pub over_capture : Text → App
+over_capture command = with_rule (over_documents command (file_rule (codes "CAPTURE"))) (file_rule (codes "SCHEDULE"))
+
+-- the option of the prefix that the links' files have in their names
+abbrev pub links_rule : Rule
+links_rule = record (new_rule (codes "links")) { long = Some (codes "links"); value_names = 1 }
+
 abbrev pub wants_command : Shape → Shape
 wants_command s = record s { subcommand_required = true }
 
@@ -36,7 +44,8 @@ once_app =
     let confirm = over_documents (codes "confirm") (file_rule (codes "REFUTATION")) in
     let audit = with_rule (over_network (codes "audit") (file_rule (codes "TRAFFIC"))) limit_rule in
     let three = with_subcommand (with_subcommand (with_subcommand (on_top wants_command (new_app (codes "once"))) replay.top) collect.top) check.top in
-    with_subcommand (with_subcommand three confirm.top) audit.top
+    let run = with_rule (over_capture (codes "run")) links_rule in
+    with_subcommand (with_subcommand (with_subcommand three confirm.top) audit.top) run.top
 
 -- what the program's command line makes of these words, which have no fault
 pub record AreMatchesOf (words : List Text) (m : ArgMatches) : Type 0 where

@@ -1,10 +1,10 @@
 -- The call that the matches of a command's words hold.
-use Rattle.std.specs.Prelude.{◌≡◌, ℕ, IsSome, Some, codes, string_bytes}
+use Rattle.std.specs.Prelude.{◌≡◌, ℕ, IsSome, Option, Some, codes, option_map, string_bytes}
 use Rattle.clap.specs.Words.{Text, first_value, one_text}
 use Rattle.clap.specs.declared.parser.matches.Found.{Found}
 use Rattle.fx_cli.specs.Words.{IsLimit}
 use Rattle.fx_cli.specs.declared.words.Call.{Call}
-use Rattle.fx_cli.specs.declared.words.Call.TheVariants.{Audit, Check, Collect, Confirm, Replay}
+use Rattle.fx_cli.specs.declared.words.Call.TheVariants.{Audit, Check, Collect, Confirm, Replay, Run}
 
 -- there is a value under this name
 abbrev pub HasFile : Found → Text → Type 0
@@ -41,3 +41,13 @@ abbrev pub IsAuditOf : Found → Call → Type 0
 IsAuditOf found (Audit network traffic limit) =
     HoldsFile found (codes "NETWORK") (string_bytes network) × HoldsFile found (codes "TRAFFIC") (string_bytes traffic) × HoldsLimit found limit
 IsAuditOf found _ = ⊥
+
+-- the text under an option's name, if there is one, is this one
+abbrev pub HoldsOption : Found → Text → Option Text → Type 0
+HoldsOption found name text = first_value found name ≡ text
+
+abbrev pub IsRunOf : Found → Call → Type 0
+IsRunOf found (Run network traffic capture schedule links) =
+    HoldsFile found (codes "NETWORK") (string_bytes network) × HoldsFile found (codes "TRAFFIC") (string_bytes traffic) × HoldsFile found (codes "CAPTURE") (string_bytes capture)
+    × HoldsFile found (codes "SCHEDULE") (string_bytes schedule) × HoldsOption found (codes "links") (option_map string_bytes links)
+IsRunOf found _ = ⊥

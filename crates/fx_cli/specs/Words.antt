@@ -4,7 +4,7 @@ use Rattle.std.specs.Str.Parse.{IsNumeral, digits_value, without_leading_plus}
 use Rattle.std.specs.Str.{bytes_eq, chars}
 use Rattle.clap.specs.Words.{Text}
 use Rattle.fx_cli.specs.declared.words.Call.{Call}
-use Rattle.fx_cli.specs.declared.words.Call.TheVariants.{Audit, Check, Collect, Confirm, Replay}
+use Rattle.fx_cli.specs.declared.words.Call.TheVariants.{Audit, Check, Collect, Confirm, Replay, Run}
 
 -- a word that begins with `-` (45) and goes on
 abbrev pub is_flag : Text → Bool
@@ -35,36 +35,53 @@ abbrev pub IsLimit : Text → ℕ → Type 0
 IsLimit text limit =
     IsNumeral 10 (without_leading_plus text) × (digits_value 10 (without_leading_plus text) ≡ limit) × (1 ≤ limit) × (limit ≤ 1000000)
 
--- `--limit N` or `--limit=N`
-abbrev pub SetsLimit : List Text → ℕ → Type 0
-SetsLimit words limit =
-    (text : Text) × IsLimit text limit × ((words ≡ codes "--limit" ∷ text ∷ []) ⊎ (words ≡ (codes "--limit=" ++ text) ∷ []))
+-- `--NAME TEXT`, where the text is no flag, or `--NAME=TEXT` (61 is `=`)
+abbrev pub SetsOption : Text → List Text → Text → Type 0
+SetsOption name words text =
+    ((words ≡ (codes "--" ++ name) ∷ text ∷ []) × (is_flag text ≡ false)) ⊎ (words ≡ (codes "--" ++ (name ++ 61 ∷ text)) ∷ [])
 
--- The words behind `audit` name these files and set this limit: it stands among the files' names, with no `--` before it.
-pub record NamesWithLimit (rest : List Text) (files : List Text) (limit : ℕ) : Type 0 where
+-- The words behind a command name these files and set this option to this text: it stands among the files' names, with no
+-- `--` before it.
+pub record NamesWithOption (name : Text) (rest files : List Text) (text : Text) : Type 0 where
   pub before : List Text
   pub option : List Text
   pub after : List Text
   pub others : List Text
   pub words_are : rest ≡ before ++ (option ++ after)
   pub before_are : file_names before ≡ Some before
-  pub option_is : SetsLimit option limit
+  pub option_is : SetsOption name option text
   pub after_are : file_names after ≡ Some others
   pub files_are : files ≡ before ++ others
 
--- the words behind `audit` name these files, and set this limit or none, which is 1,000,000 then
-abbrev pub NamesWithin : List Text → List Text → ℕ → Type 0
-NamesWithin rest files limit = ((file_names rest ≡ Some files) × (limit ≡ 1000000)) ⊎ NamesWithLimit rest files limit
+-- the words behind a command name these files, and set this option to this text or leave it out
+abbrev pub NamesWith : Text → List Text → List Text → Option Text → Type 0
+NamesWith name rest files None = file_names rest ≡ Some files
+NamesWith name rest files (Some text) = NamesWithOption name rest files text
+
+-- an audit's limit by its option; where that is left out it is 1,000,000
+abbrev pub IsLimitSet : Option Text → ℕ → Type 0
+IsLimitSet None limit = limit ≡ 1000000
+IsLimitSet (Some text) limit = IsLimit text limit
 
 -- the words are the program's own name, `audit`, and words that name these files and this limit
 pub record NamesAudit (words : List Text) (files : List Text) (limit : ℕ) : Type 0 where
   pub program : Text
   pub rest : List Text
+  pub option : Option Text
   pub words_are : words ≡ program ∷ codes "audit" ∷ rest
-  pub within : NamesWithin rest files limit
+  pub named : NamesWith (codes "limit") rest files option
+  pub limit_is : IsLimitSet option limit
+
+-- the words are the program's own name, `run`, and words that name these files and this prefix of the links' files, if any
+pub record NamesRun (words : List Text) (files : List Text) (links : Option Text) : Type 0 where
+  pub program : Text
+  pub rest : List Text
+  pub words_are : words ≡ program ∷ codes "run" ∷ rest
+  pub named : NamesWith (codes "links") rest files links
 
 -- `once replay NETWORK TRAFFIC RUN`, `once collect NETWORK STREAM`, `once check NETWORK TRAFFIC CERTIFICATE`,
--- `once confirm NETWORK TRAFFIC REFUTATION` and `once audit NETWORK TRAFFIC [--limit N]`
+-- `once confirm NETWORK TRAFFIC REFUTATION`, `once audit NETWORK TRAFFIC [--limit N]` and
+-- `once run NETWORK TRAFFIC CAPTURE SCHEDULE [--links PREFIX]`
 abbrev pub Names : List Text → Call → Type 0
 Names words (Replay network traffic run) =
     NamesFiles words (codes "replay") (string_bytes network ∷ string_bytes traffic ∷ string_bytes run ∷ [])
@@ -74,6 +91,8 @@ Names words (Check network traffic certificate) =
 Names words (Confirm network traffic refutation) =
     NamesFiles words (codes "confirm") (string_bytes network ∷ string_bytes traffic ∷ string_bytes refutation ∷ [])
 Names words (Audit network traffic limit) = NamesAudit words (string_bytes network ∷ string_bytes traffic ∷ []) limit
+Names words (Run network traffic capture schedule links) =
+    NamesRun words (string_bytes network ∷ string_bytes traffic ∷ string_bytes capture ∷ string_bytes schedule ∷ []) (option_map string_bytes links)
 
 abbrev pub NamesNoCall : List Text → Type 0
 NamesNoCall words = (call : Call) → Names words call → ⊥

@@ -1,4 +1,4 @@
-//! Files that are read.
+//! Files that are read, and files that are written.
 ghost use Rattle.std.specs.Prelude.{◌≡◌, IfErr};
 ghost use Rattle.fx_base.specs.Fault.{fault_at};
 ghost use Rattle.fx_base.specs.declared.fault.Place.TheVariants as places;
@@ -16,5 +16,17 @@ pub fn open<R: Files>(rt: &R, path: &str) -> Result<Outside<R::File>, Fault>
     match fs::open(rt, path) {
         Ok(file) => Ok(Outside::new(file)),
         Err(_) => Err(Fault::bare(901)),
+    }
+}
+
+/// A file, made to be written from its beginning, or emptied where it is there.
+///
+/// Fails with 902, at no place, where it can't be made.
+pub fn make<R: Files>(rt: &R, path: &str) -> Result<Outside<R::File>, Fault>
+    ensures { IfErr result (λ e. e ≡ fault_at 902 places.None) }
+{
+    match fs::File::create(rt, path) {
+        Ok(file) => Ok(Outside::new(file)),
+        Err(_) => Err(Fault::bare(902)),
     }
 }

@@ -3,6 +3,7 @@
 
 mod ending;
 mod files;
+mod link_files;
 mod running;
 mod words;
 mod words_ending;

@@ -4,7 +4,7 @@ ghost use Rattle.fx_base.specs.Device.{Writes};
 ghost use Rattle.fx_base.specs.Fault.{fault_at};
 ghost use Rattle.fx_base.specs.declared.fault.Place.TheVariants as places;
 ghost use Rattle.fx_cli.specs.Ending.{IsExitStatus};
-ghost use Rattle.fx_audit.specs.Texts.{IsBundleText, IsCheckText, IsCollectText, IsConfirmText, IsReplayText};
+ghost use Rattle.fx_audit.specs.Texts.{IsBundleText, IsCheckText, IsCollectText, IsConfirmText, IsReplayText, IsRunText};
 ghost use Rattle.fx_cli.specs.Running.{EndsAs, HasFailedToWrite, IsCallText, IsTextWithin};
 ghost use Rattle.fx_cli.specs.Words.{Names, NamesNoCall};
 ghost use Rattle.fx_cli.specs.declared.words.Call.{Call};
@@ -12,12 +12,15 @@ ghost use Rattle.fx_cli.specs.WordsEnding.{IsWordsStatus};
 
 use crate::ending::finish;
 use crate::files::open;
+use crate::link_files::LinkFiles;
 use crate::words::{Call, read_words};
 use crate::words_ending::{finish_unread, finish_words};
 use fx_audit::{
     Answer, audit_bytes, bundle_bytes, check_bytes, collect_bytes, confirm_bytes, replay_bytes,
+    run_bytes,
 };
 use fx_base::{Fault, LineReader, Outside, Sink};
+use fx_link::Nowhere;
 use std::env;
 use std::io::{self, BufWriter};
 use std::rt::{Env, Files};
@@ -125,6 +128,54 @@ fn audit<R: AllocGlobal + Files, S: Sink>(
     audit_bytes(rt.alloc(), &mut network, &mut traffic, limit, sink)
 }
 
+/// Runs the network over the capture in these files, as the schedule says. The octets of each link go to a file of its
+/// own where a prefix of their names is given, and nowhere else.
+fn run_capture<R: AllocGlobal + Files, S: Sink>(
+    rt: &R,
+    network: &str,
+    traffic: &str,
+    capture: &str,
+    schedule: &str,
+    links: Option<&str>,
+    sink: &mut S,
+) -> Result<Answer, Fault>
+    ensures told { IfOk result (λ answer. (text : List ℕ)
+        × IsRunText answer text × Writes (S.taken sink.old) (S.taken sink.new) text) }
+    ensures going { OnOk result (S.failed sink.old ≡ false → S.failed sink.new ≡ false) }
+    ensures quiet { IfErr result (λ e. ((e ≡ fault_at 902 places.None) × (S.failed sink.new ≡ true))
+        ⊎ (sink.new ≡ sink.old)) }
+{
+    let mut network = open(rt, network)?;
+    let mut traffic = open(rt, traffic)?;
+    let capture = open(rt, capture)?;
+    let schedule = open(rt, schedule)?;
+    let mut lines = LineReader::new(rt.alloc(), schedule)?;
+    let alloc = rt.alloc();
+    match links {
+        Some(prefix) => {
+            let mut files = LinkFiles::new(alloc, rt, prefix);
+            run_bytes(
+                alloc,
+                &mut network,
+                &mut traffic,
+                capture,
+                &mut lines,
+                &mut files,
+                sink,
+            )
+        }
+        None => run_bytes(
+            alloc,
+            &mut network,
+            &mut traffic,
+            capture,
+            &mut lines,
+            &mut Nowhere,
+            sink,
+        ),
+    }
+}
+
 /// Opens the files that a call names, in the order of its words, and only then reads them and answers.
 ///
 /// Fails with 901 where a file can't be opened, with 900 for want of memory, else as the command does.
@@ -173,6 +224,21 @@ fn answer_call<R: AllocGlobal + Files, S: Sink>(
             traffic,
             limit,
         } => audit(rt, network.as_str(), traffic.as_str(), *limit, sink),
+        Call::Run {
+            network,
+            traffic,
+            capture,
+            schedule,
+            links,
+        } => run_capture(
+            rt,
+            network.as_str(),
+            traffic.as_str(),
+            capture.as_str(),
+            schedule.as_str(),
+            links.as_deref(),
+            sink,
+        ),
     }
 }
 

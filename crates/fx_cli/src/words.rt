@@ -1,10 +1,10 @@
 //! The words of the command line.
-ghost use Rattle.std.specs.Prelude.{◌≡◌, ◌⊎◌, ℕ, IfErr, IfOk, List, MatchResult, codes, false, map, string_bytes};
+ghost use Rattle.std.specs.Prelude.{◌≡◌, ◌⊎◌, ℕ, IfErr, IfOk, List, MatchResult, codes, false, map, option_map, string_bytes};
 ghost use Rattle.clap.specs.Simple.{on_top};
 ghost use Rattle.clap.specs.Words.{app_of, fault_of, found_of, HasKind, kind_of, new_app, rule_of, Text, with_rule};
 ghost use Rattle.clap.specs.declared.builder.command.Command.TheViews.{out-Command};
-ghost use Rattle.fx_cli.specs.CommandLine.{AreMatchesOf, file_rule, limit_rule, once_app, over_documents, over_network, wants_command};
-ghost use Rattle.fx_cli.specs.Matches.{HoldsFile, HoldsLimit, IsAuditOf, IsCheckOf, IsCollectOf, IsConfirmOf, HasFile, IsReplayOf};
+ghost use Rattle.fx_cli.specs.CommandLine.{AreMatchesOf, file_rule, limit_rule, links_rule, once_app, over_capture, over_documents, over_network, wants_command};
+ghost use Rattle.fx_cli.specs.Matches.{HoldsFile, HoldsLimit, HoldsOption, IsAuditOf, IsCheckOf, IsCollectOf, IsConfirmOf, HasFile, IsReplayOf, IsRunOf};
 ghost use Rattle.fx_cli.specs.Words.{Names, NamesNoCall};
 
 use clap::error::ErrorKind;
@@ -56,6 +56,19 @@ pub enum Call {
         traffic: String,
         /// The most split and leaf lines of a certificate, from 1 to 1,000,000.
         limit: u64,
+    },
+    /// Runs a network over a capture, as a schedule says.
+    Run {
+        /// The network document.
+        network: String,
+        /// The traffic declaration.
+        traffic: String,
+        /// The capture of frames.
+        capture: String,
+        /// The schedule's text.
+        schedule: String,
+        /// What the names of the links' files begin with, where the links are kept.
+        links: Option<String>,
     },
 }
 
@@ -200,6 +213,33 @@ fn audit_command<'a>(alloc: Global) -> Result<Command<'a>, AllocError>
     command.arg(limit(alloc))
 }
 
+/// The option of the prefix that the links' files have in their names.
+fn links<'a>(alloc: Global) -> Arg<'a>
+    ensures rule { rule_of result ≡ links_rule }
+    ensures local { result.global ≡ false }
+{
+    Arg::new(alloc, "links")
+        .long("links")
+        .value_name("PREFIX")
+        .help("Keeps the octets of each link in a file: PREFIX and the link's number")
+}
+
+/// The command `run`.
+fn run_command<'a>(alloc: Global) -> Result<Command<'a>, AllocError>
+    ensures app { IfOk result (λ c. app_of c ≡ with_rule (over_capture (codes "run")) links_rule) }
+    ensures local { IfOk result (λ c. (out-Command c).has_globals ≡ false) }
+{
+    let command = over_documents(
+        alloc,
+        "run",
+        "Runs a network over a capture, and prints the totals of what it metered",
+        "CAPTURE",
+        "The capture of frames (pcap)",
+    )?;
+    let command = with_file(alloc, command, "SCHEDULE", "The text of a schedule")?;
+    command.arg(links(alloc))
+}
+
 /// The program, before its commands are added.
 fn program<'a>(alloc: Global) -> Command<'a>
     ensures { app_of result ≡ on_top wants_command (new_app (codes "once")) }
@@ -222,6 +262,7 @@ fn command_line<'a>(alloc: Global) -> Result<Command<'a>, AllocError>
     commands.push(check_command(alloc)?)?;
     commands.push(confirm_command(alloc)?)?;
     commands.push(audit_command(alloc)?)?;
+    commands.push(run_command(alloc)?)?;
     program(alloc).subcommands(commands)
 }
 
@@ -309,6 +350,34 @@ fn audit_call(alloc: Global, matches: &ArgMatches<'_>) -> Result<Call, AllocErro
     })
 }
 
+/// The prefix of the links' files, by the matches of its words, if they set one.
+fn links_of(alloc: Global, matches: &ArgMatches<'_>) -> Result<Option<String>, AllocError>
+    ensures { IfOk result (λ prefix.
+        HoldsOption (found_of matches.now) (codes "links") (option_map string_bytes prefix)) }
+{
+    match matches.get_str("links") {
+        Some(prefix) => Ok(Some(String::from_str(alloc, prefix)?)),
+        None => Ok(None),
+    }
+}
+
+/// The call of `run`, by the matches of its words.
+fn run_call(alloc: Global, matches: &ArgMatches<'_>) -> Result<Call, AllocError>
+    requires { HasFile (found_of matches.now) (codes "NETWORK")
+        × HasFile (found_of matches.now) (codes "TRAFFIC")
+        × HasFile (found_of matches.now) (codes "CAPTURE")
+        × HasFile (found_of matches.now) (codes "SCHEDULE") }
+    ensures { IfOk result (IsRunOf (found_of matches.now)) }
+{
+    Ok(Call::Run {
+        network: file_name(alloc, matches, "NETWORK")?,
+        traffic: file_name(alloc, matches, "TRAFFIC")?,
+        capture: file_name(alloc, matches, "CAPTURE")?,
+        schedule: file_name(alloc, matches, "SCHEDULE")?,
+        links: links_of(alloc, matches)?,
+    })
+}
+
 /// The call that these matches of the program's words name.
 fn call_of(alloc: Global, matches: &ArgMatches<'_>) -> Result<Call, AllocError>
     requires { (words : List Text) × AreMatchesOf words matches.now }
@@ -325,6 +394,9 @@ fn call_of(alloc: Global, matches: &ArgMatches<'_>) -> Result<Call, AllocError>
     }
     if let Some(audit) = matches.subcommand_matches("audit") {
         return audit_call(alloc, audit);
+    }
+    if let Some(run) = matches.subcommand_matches("run") {
+        return run_call(alloc, run);
     }
     replay_call(alloc, matches.subcommand_matches("replay").unwrap())
 }

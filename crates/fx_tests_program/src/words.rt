@@ -13,12 +13,17 @@ fn words(alloc: Global, line: &str) -> Result<Vec<String>, AllocError> {
     Ok(words)
 }
 
-/// The command of the call that the words name, and its files, each behind a bar.
+/// The command of the call that the words name, and its files and option, each behind a bar.
 fn call(alloc: Global, line: &str) -> Result<String, AllocError> {
     let words = words(alloc, line)?;
-    let Ok(call) = read_words(alloc, words.as_slice()) else {
-        return Ok(String::new(alloc));
-    };
+    match read_words(alloc, words.as_slice()) {
+        Ok(call) => parts(alloc, &call),
+        Err(_) => Ok(String::new(alloc)),
+    }
+}
+
+/// A call's command, and its files and option, each behind a bar.
+fn parts(alloc: Global, call: &Call) -> Result<String, AllocError> {
     match call {
         Call::Replay {
             network,
@@ -41,6 +46,16 @@ fn call(alloc: Global, line: &str) -> Result<String, AllocError> {
             traffic,
             limit,
         } => format!(in alloc; "audit|{network}|{traffic}|{limit}"),
+        Call::Run {
+            network,
+            traffic,
+            capture,
+            schedule,
+            links,
+        } => {
+            let links = links.as_deref().unwrap_or("");
+            format!(in alloc; "run|{network}|{traffic}|{capture}|{schedule}|{links}")
+        }
     }
 }
 
@@ -72,6 +87,9 @@ fn reads_words(rt: HostRuntime) -> Result<(), Fail> {
         ("once audit a --limit=1000000 b", "audit|a|b|1000000"),
         ("once audit a b --limit +001", "audit|a|b|1"),
         ("once audit -- --limit 7", "audit|--limit|7|1000000"),
+        ("once run A B C D --links E", "run|A|B|C|D|E"),
+        ("once run A B --links=-E C D", "run|A|B|C|D|-E"),
+        ("once run A B C D", "run|A|B|C|D|"),
     ] {
         assert!(rt; call(rt.alloc(), line)?.as_str() == wanted);
     }
@@ -113,6 +131,11 @@ fn ends_words_that_name_no_call(rt: HostRuntime) -> Result<(), Fail> {
         ("once audit a b --limit -7", 6),
         ("once audit a b --lim 7", 6),
         ("once audit --limit 7 a --limit 7 b", 6),
+        ("once run a b c", 6),
+        ("once run a b c d e", 6),
+        ("once run a b c d --links", 6),
+        ("once run a b c d --links -e", 6),
+        ("once run --links e a b c d --links e", 6),
     ] {
         assert!(rt; ends_words(rt.alloc(), line)? == Some((status, true)));
     }

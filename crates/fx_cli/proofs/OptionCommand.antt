@@ -1,0 +1,172 @@
+-- A command that takes files and one option, with a text: its arguments, and how they are found.
+use Rattle.std.proofs.Common.{◌≡◌, ◌∙◌, ◌⊎◌, ◌≤◌, ◌==◌, ◌+◌, ℕ, suc, Bool, true, false, refl, sym, ap, subst, arith, List, [], ◌∷◌, ◌++◌, length, length-append, Option, Some, None, inl, inr, true≢false}
+use Rattle.std.specs.Prelude.{⊤}
+use Rattle.std.specs.Str.{bytes_eq}
+use Rattle.std.proofs.lemmas.Bool.{eq-eqb, eqb-true}
+use Rattle.std.proofs.lemmas.Bool.Decides.{nat_tests}
+use Rattle.std.proofs.lemmas.Slice.Eq.{bytes_eq-Decides}
+use Rattle.clap.specs.Kinds.{values_kinds}
+use Rattle.clap.specs.Simple.{Shape, filled, new_rule, new_shape, with_index}
+use Rattle.clap.specs.Values.{reading_of}
+use Rattle.clap.specs.Walk.{Rule, Text, arg_by_id, arg_by_index, arg_by_long, arg_by_short}
+use Rattle.clap.specs.declared.builder.value_parser.Reading.TheVariants.{AsWritten}
+use Rattle.clap.specs.declared.builder.value_parser.ValueParser.{ValueParser}
+use Rattle.fx_cli.specs.CommandLine.{file_rule}
+use Rattle.fx_cli.proofs.SingleWords.{bool_cases, help}
+use Rattle.fx_cli.proofs.OptionNames.{IsName}
+
+-- ---- the command
+
+-- its name, the names of its files, and its option: what reads its text, and the text that stands where it is left out
+pub record Taking : Type 0 where
+  pub command : Text
+  pub ids : List Text
+  pub option : Text
+  pub parser : ValueParser
+  pub default : List Text
+
+abbrev pub file_argument : ℕ → Text → Rule
+file_argument position id = with_index position (filled (file_rule id))
+
+abbrev pub file_arguments : ℕ → List Text → List Rule
+file_arguments position [] = []
+file_arguments position (id ∷ rest) = file_argument position id ∷ file_arguments (position + 1) rest
+
+abbrev pub option_argument : Taking → Rule
+option_argument c = record (filled (record (new_rule c.option) { long = Some c.option; value_names = 1; parser = Some c.parser })) { defaults = c.default }
+
+abbrev pub others : Taking → List Rule
+others c = option_argument c ∷ help ∷ []
+
+abbrev pub arguments : Taking → List Rule
+arguments c = file_arguments 1 c.ids ++ others c
+
+abbrev pub taking : Taking → Shape
+taking c = record (new_shape c.command) { rules = arguments c; disable_help_subcommand = true; is_built = true }
+
+-- ---- names that differ
+
+abbrev pub Differs : Text → List Text → Type 0
+Differs x [] = ⊤
+Differs x (y ∷ ys) = (bytes_eq x y ≡ false) × Differs x ys
+
+abbrev pub AllDiffer : List Text → Text → Type 0
+AllDiffer [] y = ⊤
+AllDiffer (x ∷ xs) y = (bytes_eq x y ≡ false) × AllDiffer xs y
+
+abbrev pub AreApart : List Text → Type 0
+AreApart [] = ⊤
+AreApart (x ∷ xs) = Differs x xs × AreApart xs
+
+-- what such a command has to be
+pub record IsTaking (c : Taking) : Type 0 where
+  pub few : length c.ids ≤ 1000
+  pub apart : AreApart (c.option ∷ c.ids)
+  pub name : IsName c.option
+  pub reading : reading_of c.parser ≡ AsWritten
+  pub default_fine : values_kinds false c.parser c.default ≡ []
+
+pub same_text : (t : Text) → bytes_eq t t ≡ true
+same_text t = (bytes_eq-Decides t t).1 refl
+
+pub differ_back : (a b : Text) → bytes_eq a b ≡ false → bytes_eq b a ≡ false
+differ_back a b differ = elim (bool_cases (bytes_eq b a)) [
+  | inl is ↦ absurd (true≢false (sym ((bytes_eq-Decides a b).1 (sym ((bytes_eq-Decides b a).0 is))) ∙ differ))
+  | inr other ↦ other
+]
+
+pub all_differ : (x : Text) (ys : List Text) → Differs x ys → AllDiffer ys x
+all_differ x [] d = tt
+all_differ x (y ∷ ys) d = (differ_back x y d.0, all_differ x ys d.1)
+
+pub differs_at : (x : Text) (done : List Text) (id : Text) (left : List Text) → Differs x (done ++ id ∷ left) → bytes_eq x id ≡ false
+differs_at x [] id left d = d.0
+differs_at x (y ∷ ys) id left d = differs_at x ys id left d.1
+
+pub apart_before : (done : List Text) (id : Text) (left : List Text) → AreApart (done ++ id ∷ left) → AllDiffer done id
+apart_before [] id left a = tt
+apart_before (d ∷ ds) id left a = (differs_at d ds id left a.0, apart_before ds id left a.1)
+
+pub apart_behind : (done : List Text) (id : Text) (left : List Text) → AreApart (done ++ id ∷ left) → Differs id left
+apart_behind [] id left a = a.0
+apart_behind (d ∷ ds) id left a = apart_behind ds id left a.1
+
+-- ---- arguments that are found
+
+pub index_at : (p q : ℕ) (done : List Text) (id : Text) (left : List Text) (tail : List Rule) → q ≡ p + length done
+    → arg_by_index (file_arguments p (done ++ id ∷ left) ++ tail) q ≡ Some (file_argument q id)
+index_at p q [] id left tail is =
+    let same : q ≡ p = omega (arith, is) in
+    subst (λ (n : ℕ). arg_by_index (file_arguments n (id ∷ left) ++ tail) q ≡ Some (file_argument q id)) same (rw (eq-eqb q q refl) refl)
+index_at p q (d ∷ ds) id left tail is =
+    let other : (p == q) ≡ false = grind (arith, nat_tests, is) in
+    rw other (index_at (p + 1) q ds id left tail (omega (arith, is)))
+
+pub no_index : (p q : ℕ) (ids : List Text) (tail : List Rule) → p + length ids ≤ q → arg_by_index (file_arguments p ids ++ tail) q ≡ arg_by_index tail q
+no_index p q [] tail past = refl
+no_index p q (id ∷ rest) tail past =
+    let less : suc p ≤ q = omega (arith, past) in
+    let other : (p == q) ≡ false = grind (arith, nat_tests, less) in
+    rw other (no_index (p + 1) q rest tail (omega (arith, past)))
+
+-- an argument at a position is a file's, if there is one
+pub some_index : (p q : ℕ) (ids : List Text) (tail : List Rule) → (arg_by_index (file_arguments p ids ++ tail) q ≡ arg_by_index tail q)
+    ⊎ ((n : ℕ) × (id : Text) × (arg_by_index (file_arguments p ids ++ tail) q ≡ Some (file_argument n id)))
+some_index p q [] tail = inl refl
+some_index p q (id ∷ rest) tail = elim (bool_cases (p == q)) [
+  | inl is ↦ inr (p, id, rw is refl)
+  | inr other ↦ rw other (some_index (p + 1) q rest tail)
+]
+
+pub id_at : (p q : ℕ) (done : List Text) (id : Text) (left : List Text) (tail : List Rule) → q ≡ p + length done → AllDiffer done id
+    → arg_by_id (file_arguments p (done ++ id ∷ left) ++ tail) id ≡ Some (file_argument q id)
+id_at p q [] id left tail is differ =
+    let same : p ≡ q = omega (arith, is) in
+    rw (same_text id) (ap (λ (n : ℕ). Some (file_argument n id)) same)
+id_at p q (d ∷ ds) id left tail is differ = rw differ.0 (id_at (p + 1) q ds id left tail (omega (arith, is)) differ.1)
+
+pub no_id : (p : ℕ) (ids : List Text) (tail : List Rule) (id : Text) → AllDiffer ids id → arg_by_id (file_arguments p ids ++ tail) id ≡ arg_by_id tail id
+no_id p [] tail id differ = refl
+no_id p (d ∷ ds) tail id differ = rw differ.0 (no_id (p + 1) ds tail id differ.1)
+
+pub no_long : (p : ℕ) (ids : List Text) (tail : List Rule) (name : Text) → arg_by_long (file_arguments p ids ++ tail) name ≡ arg_by_long tail name
+no_long p [] tail name = refl
+no_long p (d ∷ ds) tail name = no_long (p + 1) ds tail name
+
+pub no_short : (p : ℕ) (ids : List Text) (tail : List Rule) (x : ℕ) → arg_by_short (file_arguments p ids ++ tail) x ≡ arg_by_short tail x
+no_short p [] tail x = refl
+no_short p (d ∷ ds) tail x = no_short (p + 1) ds tail x
+
+-- ---- in the command
+
+-- the position of the file behind these
+abbrev pub place : List Text → ℕ
+place done = suc (length done)
+
+pub apart_files : (c : Taking) (done : List Text) (id : Text) (left : List Text) → IsTaking c → c.ids ≡ done ++ id ∷ left → AreApart (done ++ id ∷ left)
+apart_files c done id left is ids = subst AreApart ids is.apart.1
+
+pub from_option : (c : Taking) (done : List Text) (id : Text) (left : List Text) → IsTaking c → c.ids ≡ done ++ id ∷ left → bytes_eq c.option id ≡ false
+from_option c done id left is ids = differs_at c.option done id left (subst (Differs c.option) ids is.apart.0)
+
+pub file_by_index : (c : Taking) (done : List Text) (id : Text) (left : List Text) → c.ids ≡ done ++ id ∷ left → arg_by_index (arguments c) (place done) ≡ Some (file_argument (place done) id)
+file_by_index c done id left ids =
+    ap (λ (xs : List Text). arg_by_index (file_arguments 1 xs ++ others c) (place done)) ids ∙ index_at 1 (place done) done id left (others c) (omega arith)
+
+pub stray_index : (c : Taking) (done : List Text) → c.ids ≡ done ++ [] → arg_by_index (arguments c) (place done) ≡ None
+stray_index c done ids = no_index 1 (place done) c.ids (others c) (omega (arith, ap length ids, length-append done []))
+
+pub file_by_id : (c : Taking) (done : List Text) (id : Text) (left : List Text) → IsTaking c → c.ids ≡ done ++ id ∷ left → arg_by_id (arguments c) id ≡ Some (file_argument (place done) id)
+file_by_id c done id left is ids =
+    ap (λ (xs : List Text). arg_by_id (file_arguments 1 xs ++ others c) id) ids
+    ∙ id_at 1 (place done) done id left (others c) (omega arith) (apart_before done id left (apart_files c done id left is ids))
+
+pub option_by_id : (c : Taking) → IsTaking c → arg_by_id (arguments c) c.option ≡ Some (option_argument c)
+option_by_id c is =
+    let here : arg_by_id (others c) c.option ≡ Some (option_argument c) = rw (same_text c.option) refl in
+    no_id 1 c.ids (others c) c.option (all_differ c.option c.ids is.apart.0) ∙ here
+
+pub option_by_long : (c : Taking) → arg_by_long (arguments c) c.option ≡ Some (option_argument c)
+option_by_long c =
+    let here : arg_by_long (others c) c.option ≡ Some (option_argument c) = rw (same_text c.option) refl in
+    no_long 1 c.ids (others c) c.option ∙ here

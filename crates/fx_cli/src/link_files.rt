@@ -1,0 +1,81 @@
+//! A file for each link.
+ghost use Rattle.std.specs.Prelude.{◌≡◌, ◌⊎◌, ◌++◌, IfErr, IfOk, None, decimal, false, string_bytes};
+ghost use Rattle.fx_base.specs.Fault.{fault_at};
+ghost use Rattle.fx_base.specs.declared.fault.Place.TheVariants as places;
+
+use crate::files::make;
+use fx_base::{Fault, Outside, put_text};
+use fx_link::Links;
+use itoa::Buffer;
+use std::alloc::{AllocError, Global};
+use std::collections::BTreeMap;
+use std::rt::Files;
+
+/// The name of a link's file: the prefix and, behind it, the link's number in decimal.
+fn link_path(alloc: Global, prefix: &str, link: u64) -> Result<String, AllocError>
+    ensures { IfOk result (λ path. string_bytes path ≡ prefix.now ++ decimal link) }
+{
+    let mut buffer = Buffer::new();
+    let mut path = String::from_str(alloc, prefix)?;
+    path.push_str(buffer.format(link))?;
+    Ok(path)
+}
+
+/// Links with a file each. A link's file is made, or emptied, when the first octets are put on the link, and is kept open.
+/// Its name is a prefix and the link's number, from 1, in decimal. Links tell none of their octets.
+#[derive(Drop)]
+pub struct LinkFiles<'a, R: Files> {
+    alloc: Global,
+    rt: &'a R,
+    prefix: &'a str,
+    files: BTreeMap<u64, Outside<R::File>>,
+    failed: bool,
+}
+
+impl<'a, R: Files> LinkFiles<'a, R> {
+    /// Links on which nothing was put yet, with this prefix of their files' names.
+    pub fn new(alloc: Global, rt: &'a R, prefix: &'a str) -> LinkFiles<'a, R>
+        ensures { result.failed ≡ false }
+    {
+        LinkFiles {
+            alloc,
+            rt,
+            prefix,
+            files: BTreeMap::new(alloc),
+            failed: false,
+        }
+    }
+
+    /// Writes the first octets of a link, into a file that is made for it.
+    fn begin(&mut self, link: u64, octets: &[u8]) -> Result<(), Fault>
+        ensures { IfErr result (λ e. (e ≡ fault_at 902 places.None) ⊎ (e ≡ fault_at 900 places.None)) }
+    {
+        let path = link_path(self.alloc, self.prefix, link)?;
+        let mut file = make(self.rt, path.as_str())?;
+        put_text(&mut file, octets)?;
+        self.files.insert(link, file)?;
+        Ok(())
+    }
+
+    /// Writes octets behind those that were put on the link before.
+    fn append(&mut self, link: u64, octets: &[u8]) -> Result<(), Fault>
+        ensures { IfErr result (λ e. (e ≡ fault_at 902 places.None) ⊎ (e ≡ fault_at 900 places.None)) }
+    {
+        match self.files.get_mut(&link) {
+            Some(file) => put_text(file, octets),
+            None => self.begin(link, octets),
+        }
+    }
+}
+
+impl<'a, R: Files> Links for LinkFiles<'a, R> {
+    ghost put_on = { λ s link. None };
+
+    ghost failed = { λ s. s.failed };
+
+    fn put(&mut self, link: u64, octets: &[u8]) -> Result<(), Fault> {
+        let result = self.append(link, octets);
+        self.failed = result.is_err();
+        result
+    }
+}
