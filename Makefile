@@ -72,8 +72,8 @@ run-rows:
 	python3 tests/generated_networks.py ./once
 	python3 tests/addresses.py ./once
 
-# Replays the runs of the examples, checks their certificates and confirms their refutations, and compares with what
-# they should print; then has what an audit of each answers judged.
+# Replays the runs of the examples, checks their certificates, confirms their refutations and meters their captures, and
+# compares with what they should print; then has what an audit of each answers judged.
 examples: once run-examples
 
 run-examples:
@@ -88,6 +88,10 @@ run-examples:
 	for refutation in examples/*/refutation*.txt; do \
 	  example=$$(dirname $$refutation); \
 	  ./once confirm $$example/network.json $$example/traffic.json $$refutation | diff - $$example/refuted$${refutation##*/refutation} || exit 1; \
+	done
+	for capture in examples/*/capture.pcap; do \
+	  example=$$(dirname $$capture); \
+	  ./once run $$example/network.json $$example/traffic.json $$capture $$example/schedule.txt | diff - $$example/metered.txt || exit 1; \
 	done
 	python3 tests/generated_networks.py ./once --examples
 

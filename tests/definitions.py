@@ -27,6 +27,7 @@ COMMANDS = [
     ("`fx_audit::check_bytes`", [("fx_audit", "check_bytes", [])]),
     ("`fx_audit::replay_bytes`", [("fx_audit", "replay_bytes", [])]),
     ("`fx_audit::collect_bytes`", [("fx_audit", "collect_bytes", [])]),
+    ("`fx_audit::run_bytes`", [("fx_audit", "run_bytes", [])]),
     ("`fx_audit::confirm_bytes`", [("fx_audit", "confirm_bytes", [])]),
     ("`fx_audit::audit_bytes`", [("fx_audit", "audit_bytes", [])]),
     ("`fx_audit::bundle_bytes`", [("fx_audit", "bundle_bytes", [])]),

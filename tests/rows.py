@@ -8,12 +8,18 @@
   status   its exit status
   refutes  stands there where it must print a refutation that `confirm` accepts, over the same documents; with a
            number: one of so many steps
+  linkN.hex, linkN.len, nolink.N
+           the octets that must stand in the file linkN, how many they must be, or that it must not be there; the
+           program runs in a copy of the folder
+  cuts     the name of a file that is cut to each of the lengths of cuts.txt: a line has the length, the exit status and
+           what must be printed, with `\n` for the ends of lines
 
 Prints a line for each row that fails, and last `N passed, M failed`. The exit status is 1 where a row failed.
 """
 import contextlib
 import os
 import shlex
+import shutil
 import subprocess
 import sys
 import tempfile
@@ -30,6 +36,45 @@ def octets_of(row, name, default=b""):
 
 
 def faults(program, row):
+    with contextlib.ExitStack() as folders:
+        folder = row
+        if "--links" in octets_of(row, "words").decode() or os.path.exists(os.path.join(row, "cuts")):
+            folder = os.path.join(folders.enter_context(tempfile.TemporaryDirectory()), "row")
+            shutil.copytree(row, folder)
+        if os.path.exists(os.path.join(row, "cuts")):
+            yield from faults_of_cuts(program, folder)
+        else:
+            yield from faults_in(program, folder)
+            yield from faults_of_links(folder)
+
+
+def faults_of_cuts(program, folder):
+    name = octets_of(folder, "cuts").decode().strip()
+    whole, words = octets_of(folder, name), shlex.split(octets_of(folder, "words").decode())
+    for line in octets_of(folder, "cuts.txt").decode().splitlines():
+        length, status, text = line.split(" ", 2)
+        with open(os.path.join(folder, name), "wb") as file:
+            file.write(whole[: int(length)])
+        run = subprocess.run([program] + words, cwd=folder, stdout=subprocess.PIPE, stderr=subprocess.PIPE, timeout=120)
+        wanted = text.replace("\\n", "\n").encode()
+        if run.returncode != int(status) or run.stdout != wanted or run.stderr:
+            yield "cut to %s octets: status %d and %r" % (length, run.returncode, run.stdout[:300])
+
+
+def faults_of_links(folder):
+    for name in sorted(os.listdir(folder)):
+        link, _, kind = name.partition(".")
+        if kind == "hex":
+            wanted, found = bytes.fromhex(octets_of(folder, name).decode()), octets_of(folder, link)
+            if found != wanted:
+                yield "%s has %s in place of %s" % (link, found.hex()[:300], wanted.hex()[:300])
+        elif kind == "len" and len(octets_of(folder, link)) != int(octets_of(folder, name)):
+            yield "%s has %d octets in place of %d" % (link, len(octets_of(folder, link)), int(octets_of(folder, name)))
+        elif link == "nolink" and os.path.exists(os.path.join(folder, "link" + kind)):
+            yield "link%s is there" % kind
+
+
+def faults_in(program, row):
     words = shlex.split(octets_of(row, "words").decode())
     output = octets_of(row, "output").decode().strip()
     with contextlib.ExitStack() as files:

@@ -7,7 +7,7 @@ use std::alloc::Global;
 use std::test::Fail;
 
 /// A capture of three packets of raw IP from 10.0.0.1, of 100, 200 and 300 octets, in the seconds 1, 2 and 3.
-const CAPTURE: [u8; 132] = [
+pub(crate) const CAPTURE: [u8; 132] = [
     0xa1, 0xb2, 0xc3, 0xd4, 0, 2, 0, 4, 0, 0, 0, 0, 0, 0, 0, 0, 0, 4, 0, 0, 0, 0, 0, 0x65, // the file header
     0, 0, 0, 1, 0, 0, 0, 0, 0, 0, 0, 0x14, 0, 0, 0, 0x64, // the first record
     0x45, 0, 0, 0x64, 0, 0, 0, 0, 0x40, 1, 0, 0, 10, 0, 0, 1, 192, 0, 2, 1, // its packet
@@ -29,7 +29,7 @@ const ON_THE_LINK: [u8; 100] = [
 ];
 
 /// A schedule under which the first two packets are exported before the third is read.
-const SCHEDULE: &[u8] = b"next\nnext\nexpire 1 1\nnext\n";
+pub(crate) const SCHEDULE: &[u8] = b"next\nnext\nexpire 1 1\nnext\n";
 
 /// What the collector has counted then.
 const TOTALS: &[u8] =

@@ -325,3 +325,10 @@ fn refuses_at_the_line(rt: HostRuntime) -> Result<(), Fail> {
     }
     Ok(())
 }
+
+#[test]
+fn runs_grow_by_packets_and_steps() {
+    fx_runs::runs_go_on();
+    fx_runs::steps_are_made();
+    fx_runs::puts_are_given();
+}
