@@ -21,8 +21,8 @@ fn link_path(alloc: Global, prefix: &str, link: u64) -> Result<String, AllocErro
     Ok(path)
 }
 
-/// Links with a file each. A link's file is made, or emptied, when the first octets are put on the link, and is kept open.
-/// Its name is a prefix and the link's number, from 1, in decimal. Links tell none of their octets.
+/// Links with a file each. A link's file is made, or emptied, when the first octets are put on the link, and is kept
+/// open. Its name is a prefix and the link's number, from 1, in decimal. Links tell none of their octets.
 #[derive(Drop)]
 pub struct LinkFiles<'a, R: Files> {
     alloc: Global,

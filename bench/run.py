@@ -1,0 +1,93 @@
+"""Times runs over a capture. See run.sh."""
+import json
+import os
+import resource
+import shutil
+import subprocess
+import sys
+
+KEY = ["sourceIPv4Address", "destinationIPv4Address", "protocolIdentifier", "sourceTransportPort",
+       "destinationTransportPort"]
+
+
+def network():
+    """A meter with a timeout cache, and a collector that reports by the same key."""
+    fields = [{"name": name, "ieName": name, "isFlowKey": [None]} for name in KEY]
+    fields += [{"name": name, "ieName": name} for name in ["octetDeltaCount", "packetDeltaCount"]]
+    meter = {
+        "observationPoint": [{"name": "uplink", "observationDomainId": 0, "ifName": ["eth0"], "selectionProcess": ["all"]}],
+        "selectionProcess": [{"name": "all", "selector": [{"name": "all", "selectAll": [None]}], "cache": "flows"}],
+        "cache": [{"name": "flows", "timeoutCache": {"cacheLayout": {"cacheField": fields}}, "exportingProcess": ["out"]}],
+        "exportingProcess": [{"name": "out", "destination": [{"name": "collector", "tcpExporter": {}}]}],
+    }
+    collector = {"collectingProcess": [{"name": "billing"}]}
+    return {
+        "devices": [{"name": name, "config": {"ietf-ipfix-psamp:ipfix": config}} for name, config in
+                    [("meter", meter), ("collector", collector)]],
+        "links": [{"device": "meter", "exportingProcess": "out", "destination": "collector", "toDevice": "collector",
+                   "toProcess": "billing"}],
+        "report": {"device": "collector", "collectingProcess": "billing", "key": [{"ieName": name} for name in KEY]},
+    }
+
+
+TRAFFIC = {"classes": [{"name": "all", "paths": [[{"device": "meter", "interface": "eth0", "direction": "ingress"}]]}]}
+
+
+def processor_time(words, folder, limit=None):
+    """The processor time of a run, and what it prints."""
+    def limits():
+        if limit:
+            resource.setrlimit(resource.RLIMIT_AS, (limit, limit))
+
+    before = resource.getrusage(resource.RUSAGE_CHILDREN)
+    run = subprocess.run(words, cwd=folder, stdout=subprocess.PIPE, stderr=subprocess.STDOUT, preexec_fn=limits)
+    after = resource.getrusage(resource.RUSAGE_CHILDREN)
+    if run.returncode:
+        raise SystemExit("%s: status %d: %s" % (words[0], run.returncode, run.stdout[:300]))
+    return after.ru_utime + after.ru_stime - before.ru_utime - before.ru_stime, run.stdout.decode(errors="replace")
+
+
+def least_space(words, folder):
+    """The least address space in which the program runs, to a MiB."""
+    low, high = 0, 4096
+    while high - low > 1:
+        middle = (low + high) // 2
+        try:
+            processor_time(words, folder, middle << 20)
+            high = middle
+        except SystemExit:
+            low = middle
+    return high
+
+
+def main(program, frames, flows, folder):
+    make = os.path.join(os.path.dirname(os.path.abspath(__file__)), "make_capture.py")
+    for name, count in [("capture.pcap", frames), ("twice.pcap", 2 * frames)]:
+        subprocess.run([sys.executable, make, os.path.join(folder, name), str(count), str(flows)], check=True)
+    for name, value in [("network.json", network()), ("traffic.json", TRAFFIC)]:
+        with open(os.path.join(folder, name), "w") as file:
+            json.dump(value, file)
+    with open(os.path.join(folder, "schedule"), "w"):
+        pass
+    ours = [program, "run", "network.json", "traffic.json", "capture.pcap", "schedule"]
+    programs = {"once run": ours}
+    if shutil.which("softflowd"):
+        programs["softflowd"] = ["softflowd", "-m", str(2 * flows), "-r", "capture.pcap"]
+    if shutil.which("nfpcapd"):
+        os.mkdir(os.path.join(folder, "flows"))
+        programs["nfpcapd"] = ["nfpcapd", "-r", "capture.pcap", "-w", "flows"]
+    least = {}
+    for _ in range(5):
+        for name, words in programs.items():
+            took, printed = processor_time(words, folder)
+            least[name] = min(took, least.get(name, took))
+            if name == "once run" and not ("keys %d\n" % flows in printed and "skipped other 0 malformed 0" in printed):
+                raise SystemExit("once run: " + printed[:200])
+    for name, took in least.items():
+        print("%-12s %7.3f s of processor time, %5.0f ns a packet" % (name, took, took / frames * 1e9))
+    spaces = [least_space(ours[:4] + [name] + ours[5:], folder) for name in ["capture.pcap", "twice.pcap"]]
+    print("address space: %d MiB, and %d MiB for twice the frames" % tuple(spaces))
+
+
+if __name__ == "__main__":
+    main(sys.argv[1], int(sys.argv[2]), int(sys.argv[3]), sys.argv[4])

@@ -1,0 +1,143 @@
+#!/usr/bin/env python3
+"""link_octets.py PROGRAM: has other programs read what `run` puts on links.
+
+Runs the program over captures in some networks, and has each link's octets read by tshark (as datagrams of a capture
+that is made for it) and by ipfixDump (as an IPFIX file, RFC 5655), of Debian's packages tshark and libfixbuf-tools;
+where one isn't there, says so and goes without it. Both must read the same records, and `collect` the same sums as they.
+On a link that carries each packet of the capture once the sums must be those of its packets, and at the report's the
+totals those that `run` prints.
+
+Prints `N links, M failed`; the exit status is 1 where one failed.
+"""
+import ipaddress
+import os
+import re
+import shutil
+import struct
+import subprocess
+import sys
+import tempfile
+
+HERE = os.path.dirname(os.path.abspath(__file__))
+# The folders of the networks, and the files of their schedules.
+NETWORKS = [
+    ("../examples/mediator-by-network", "schedule.txt"),
+    ("rows/run-with-an-aggregation", "schedule"),
+    ("rows/run-with-ipv6-on-the-link", "schedule"),
+    ("rows/run-with-65-records-of-one-holder", "schedule"),
+]
+
+
+def messages(octets):
+    """The messages of a stream (RFC 7011, section 3.1: the length stands behind the version)."""
+    while octets:
+        length = struct.unpack(">H", octets[2:4])[0]
+        yield octets[:length]
+        octets = octets[length:]
+
+
+def as_datagrams(octets):
+    """A capture of raw IP in which each message is a datagram to port 4739."""
+    capture = struct.pack("<IHHiIII", 0xA1B2C3D4, 2, 4, 0, 0, 262144, 101)
+    here = bytes([127, 0, 0, 1])
+    for number, message in enumerate(messages(octets)):
+        packet = struct.pack(">BBHHHBBH4s4s", 0x45, 0, 28 + len(message), number, 0, 64, 17, 0, here, here)
+        packet += struct.pack(">HHHH", 4739, 4739, 8 + len(message), 0) + message
+        capture += struct.pack("<IIII", number, 0, len(packet), len(packet)) + packet
+    return capture
+
+
+def of_tshark(folder, octets):
+    """The records, as tshark reads them: key, packets, octets."""
+    with open(os.path.join(folder, "link.pcap"), "wb") as file:
+        file.write(as_datagrams(octets))
+    words = ["tshark", "-n", "-r", "link.pcap", "-d", "udp.port==4739,cflow", "-V", "-O", "cflow"]
+    text = subprocess.run(words, cwd=folder, stdout=subprocess.PIPE, stderr=subprocess.DEVNULL, check=True).stdout.decode()
+    if "Malformed" in text or "No template" in text:
+        raise SystemExit("tshark doesn't read the octets:\n" + text[:2000])
+    for flow in re.split(r"^ +Flow \d+$", text, flags=re.M)[1:]:
+        found = dict(re.findall(r"^ +(\w+): (\S+)$", flow, flags=re.M))
+        key = found.get("SrcAddr") or "%s/%s" % (found["SrcPrefix"], found["SrcMask"])
+        yield spelled(key), int(found["Packets"]), int(found["Octets"])
+
+
+def of_ipfix_dump(folder, octets):
+    """The records, as ipfixDump reads them."""
+    with open(os.path.join(folder, "link.ipfix"), "wb") as file:
+        file.write(octets)
+    words = ["ipfixDump", "--in", "link.ipfix", "--data"]
+    text = subprocess.run(words, cwd=folder, stdout=subprocess.PIPE, stderr=subprocess.DEVNULL, check=True).stdout.decode()
+    for flow in text.split("--- data record ")[1:]:
+        found = dict(re.findall(r"(\w+) : (\S+)$", flow, flags=re.M))
+        key = found.get("sourceIPv4Address") or found.get("sourceIPv6Address")
+        if key is None:
+            key = "%s/%s" % (found["sourceIPv4Prefix"], found["sourceIPv4PrefixLength"])
+        yield spelled(key), int(found["packetDeltaCount"]), int(found["octetDeltaCount"])
+
+
+def spelled(key):
+    """The key as the program prints it."""
+    if ":" not in key:
+        return key
+    return ":".join("%x" % int(group, 16) for group in ipaddress.IPv6Address(key).exploded.split(":"))
+
+
+def lines_of(records):
+    """The lines of their sums, by key."""
+    sums = {}
+    for key, packets, octets in records:
+        before = sums.get(key, (0, 0))
+        sums[key] = (before[0] + packets, before[1] + octets)
+    return {"%s packets %d octets %d" % (key, packets, octets) for key, (packets, octets) in sums.items()}
+
+
+def totals_in(text):
+    return {line for line in text.splitlines() if " packets " in line}
+
+
+def faults(program, folder, schedule, readers):
+    """Yields what is wrong, link by link; None where nothing is."""
+    words = ["network.json", "traffic.json", "capture.pcap", schedule, "--links", "link"]
+    run = subprocess.run([program, "run", *words], cwd=folder, stdout=subprocess.PIPE, check=True)
+    links = sorted(name for name in os.listdir(folder) if re.fullmatch(r"link\d+", name))
+    for link in links:
+        with open(os.path.join(folder, link), "rb") as file:
+            octets = file.read()
+        read = {name: list(reader(folder, octets)) for name, reader in readers.items()}
+        collect = subprocess.run([program, "collect", "network.json", link], cwd=folder, stdout=subprocess.PIPE, check=True)
+        collected = collect.stdout.decode()
+        if "gaps 0\nskipped 0\n" not in collected:
+            yield "%s: `collect` finds gaps or skips records" % link
+        elif any(records != list(read.values())[0] for records in read.values()):
+            yield "%s: the records differ: %r" % (link, read)
+        elif link == links[-1] and totals_in(collected) != totals_in(run.stdout.decode()):
+            yield "%s: `collect` prints %r, and `run` %r" % (link, collected, run.stdout.decode())
+        elif link == links[-1] and any(lines_of(records) != totals_in(collected) for records in read.values()):
+            yield "%s: the sums are %r in place of %r" % (link, read, collected)
+        else:
+            yield None
+
+
+def main(program):
+    readers = {"tshark": of_tshark, "ipfixDump": of_ipfix_dump}
+    for name in [name for name in readers if not shutil.which(name)]:
+        print("%s isn't there: the links are read without it" % name)
+        del readers[name]
+    found = []
+    for network, schedule in NETWORKS:
+        with tempfile.TemporaryDirectory() as folder:
+            copy = os.path.join(folder, "network")
+            shutil.copytree(os.path.join(HERE, network), copy)
+            for fault in faults(os.path.abspath(program), copy, schedule, readers):
+                found.append(fault)
+                if fault:
+                    print("%s: %s" % (network, fault))
+    failed = len([fault for fault in found if fault])
+    print("%d links, %d failed" % (len(found), failed))
+    return 1 if failed else 0
+
+
+if __name__ == "__main__":
+    if len(sys.argv) != 2:
+        sys.exit(__doc__)
+    sys.exit(main(sys.argv[1]))
