@@ -71,6 +71,8 @@ run-rows:
 	python3 tests/refused_growth.py ./once
 	python3 tests/generated_networks.py ./once
 	python3 tests/addresses.py ./once
+	python3 tests/carried_in_pieces.py ./once
+	python3 tests/link_octets.py ./once
 
 # Replays the runs of the examples, checks their certificates, confirms their refutations and meters their captures, and
 # compares with what they should print; then has what an audit of each answers judged.
