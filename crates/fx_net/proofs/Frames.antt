@@ -40,7 +40,7 @@ pub reads_first : (net : Net) (classes : List Class) (frame seen : captures.Seen
 reads_first net classes frame seen place k old done fields octets second of_frame soon is there made = record {
   packet = packet_of frame (k + 1) 1;
   is_frame = of_seen (packet_of frame (k + 1) 1) frame seen fields octets of_frame;
-      soon = subst (λ (n : ℕ). n < 2 ^ 32) second soon;
+  soon = subst (λ (n : ℕ). n < 2 ^ 32) second soon;
   given = (k, sym is ∙ there, add-one k, refl);
   done_is = made ∙ ap (λ (s : ℕ). after_packet net classes (packet_of frame (k + 1) 1) s old) second;
 }
