@@ -32,58 +32,53 @@ fn opens_with_nothing_counted(rt: HostRuntime) -> Result<(), Fail> {
     Ok(())
 }
 
-/// A line at a time, and then the closing phase; what stands on a link is counted only once it is carried.
-#[test]
-fn obeys_lines_and_closes(rt: HostRuntime) -> Result<(), Fail> {
-    let plan = plan_of(rt.alloc(), audit_texts::NETWORK)?;
-    let traffic = declared(rt.alloc(), &plan)?;
-    let mut network = Network::open(rt.alloc(), &plan, &traffic)?;
-    let mut capture = Capture::new(rt.alloc(), Octets::new(&CAPTURE))?;
-    let mut schedule = LineReader::new(rt.alloc(), Octets::new(b"next\nnext\nexpire 1 1\n"))?;
-    for _line in 0..3 {
-        assert!(rt; schedule.advance()?);
-        network.obey(&schedule.line(), &mut capture, &mut Nowhere)?;
-    }
-    assert!(rt; network.totals().len() == 0);
-    let mut rest = LineReader::new(rt.alloc(), Octets::new(b"carry 1 60\nexpire 1 1\n"))?;
-    assert!(rt; rest.advance()?);
-    network.obey(&rest.line(), &mut capture, &mut Nowhere)?;
-    assert!(rt; network.totals().len() == 1);
-    assert!(rt; rest.advance()?);
-    let refused = network.obey(&rest.line(), &mut capture, &mut Nowhere);
-    assert!(rt; refused == Err(Fault::at_line(802, 2)));
+/// Obeys the one line of a text.
+fn obeyed(
+    alloc: Global,
+    network: &mut Network<'_>,
+    capture: &mut Capture<Octets<'_>>,
+    text: &[u8],
+) -> Result<(), Fault> {
+    let mut lines = LineReader::new(alloc, Octets::new(text))?;
+    lines.advance()?;
+    network.obey(&lines.line(), capture, &mut Nowhere)
+}
+
+/// Whether a network obeys a line, refuses one, and then answers that again.
+fn obeys_and_stops(alloc: Global, plan: &Plan, traffic: &Traffic) -> Result<bool, Fault> {
+    let mut network = Network::open(alloc, plan, traffic)?;
+    let mut capture = Capture::new(alloc, Octets::new(&CAPTURE))?;
+    let first = obeyed(alloc, &mut network, &mut capture, b"next\n");
+    let refused = obeyed(alloc, &mut network, &mut capture, b"expire 1 2\n");
     let again = network.close(&mut capture, &mut Nowhere);
-    assert!(rt; again == Err(Fault::at_line(802, 2)));
-    Ok(())
+    Ok(first == Ok(()) && refused == Err(Fault::at_line(802, 1)) && again == refused)
 }
 
-#[test]
-fn closes_over_the_whole_capture(rt: HostRuntime) -> Result<(), Fail> {
-    let plan = plan_of(rt.alloc(), audit_texts::NETWORK)?;
-    let traffic = declared(rt.alloc(), &plan)?;
-    let mut network = Network::open(rt.alloc(), &plan, &traffic)?;
-    let mut capture = Capture::new(rt.alloc(), Octets::new(&CAPTURE))?;
+/// How many keys are counted once a network was closed over the capture.
+fn keys_when_closed(alloc: Global, plan: &Plan, traffic: &Traffic) -> Result<usize, Fault> {
+    let mut network = Network::open(alloc, plan, traffic)?;
+    let mut capture = Capture::new(alloc, Octets::new(&CAPTURE))?;
     network.close(&mut capture, &mut Nowhere)?;
-    assert!(rt; network.totals().len() == 1 && network.totals().unassigned() == 0);
-    Ok(())
+    Ok(network.totals().len())
+}
+
+/// How many keys are counted where a network runs over the capture.
+fn keys_of_run(alloc: Global, plan: &Plan, traffic: &Traffic) -> Result<usize, Fault> {
+    let mut capture = Capture::new(alloc, Octets::new(&CAPTURE))?;
+    let mut lines = LineReader::new(alloc, Octets::new(SCHEDULE))?;
+    let totals = run(alloc, plan, traffic, &mut capture, &mut lines, &mut Nowhere)?;
+    Ok(totals.len())
 }
 
 #[test]
-fn runs_to_totals(rt: HostRuntime) -> Result<(), Fail> {
+fn obeys_closes_and_runs(rt: HostRuntime) -> Result<(), Fail> {
     let plan = plan_of(rt.alloc(), audit_texts::NETWORK)?;
     let traffic = declared(rt.alloc(), &plan)?;
-    let mut capture = Capture::new(rt.alloc(), Octets::new(&CAPTURE))?;
-    let mut schedule = LineReader::new(rt.alloc(), Octets::new(SCHEDULE))?;
-    let totals = run(
-        rt.alloc(),
-        &plan,
-        &traffic,
-        &mut capture,
-        &mut schedule,
-        &mut Nowhere,
-    )?;
-    assert!(rt; totals.len() == 1 && totals.unassigned() == 0);
     plans_are_sound(&plan);
+    let obeys = obeys_and_stops(rt.alloc(), &plan, &traffic)?;
+    let closed = keys_when_closed(rt.alloc(), &plan, &traffic)?;
+    let run_whole = keys_of_run(rt.alloc(), &plan, &traffic)?;
+    assert!(rt; obeys && closed == 1 && run_whole == 1);
     Ok(())
 }
 
