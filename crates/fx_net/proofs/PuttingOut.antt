@@ -3,7 +3,6 @@ use Rattle.std.proofs.Common.{◌≡◌, ◌≢◌, ℕ, zero, suc, ◌+◌, ◌
 use Rattle.fx_base.specs.Device.{Writes}
 use Rattle.fx_link.specs.Links.{Put, Puts}
 use Rattle.fx_link.specs.Ongoing.{Ongoing, to_put}
-use Rattle.fx_link.specs.Sending.{has_room_for}
 use Rattle.fx_net.specs.Finishing.{HasRoom, PutsAll, to_put_on}
 
 pub writes_nothing : (told : Option (List ℕ)) → Writes told told []

@@ -1,16 +1,16 @@
 -- Stores that take in what comes to them.
-use Rattle.std.proofs.Common.{◌≡◌, ℕ, ◌<◌, ◌≤◌, List, [], ◌∷◌, ◌++◌, length, set, get_or, Option, Some, None, option_map, refl, sym, ap, ◌∙◌, append-nil}
-use Rattle.std.specs.Prelude.{option_and_then}
+use Rattle.std.proofs.Common.{◌≡◌, ℕ, zero, suc, ◌<◌, ◌≤◌, List, [], ◌∷◌, ◌++◌, length, set, get_or, Option, Some, None, option_map, refl, sym, ap, ◌∙◌, append-nil}
+use Rattle.std.specs.Prelude.{option_and_then, if◌then◌else◌}
 use Rattle.fx_base.specs.declared.counts.Counts.{Counts}
 use Rattle.fx_machine.specs.declared.holding.Holding.{Holding}
 use Rattle.fx_machine.specs.Network.{Net}
 use Rattle.fx_store.specs.Flows.{Entry}
 use Rattle.fx_net.specs.declared.leaving.Leaver.{Leaver}
 use Rattle.fx_net.specs.Stores.{Stored, with_counts, makes_room}
-use Rattle.fx_net.specs.Contents.{Contents}
+use Rattle.fx_net.specs.Contents.{Contents, changed, stored_at, is_immediate}
 use Rattle.fx_layout.specs.Keys.{Key}
-use Rattle.fx_net.specs.Leaving.{leaver, after_leave, after_leaves}
-use Rattle.fx_net.specs.Taking.{Adding, left_by, with_holding, adding, all_leave_at_once, with_stores, after_taking}
+use Rattle.fx_net.specs.Leaving.{leaver, after_leaves}
+use Rattle.fx_net.specs.Taking.{Adding, left_by, with_holding, with_holdings, adding, leaves_at_once, all_leave_at_once, with_stores, after_taking}
 use Rattle.fx_net.proofs.Changing.{changed_past, changed_same, changed_set, stored_is, stored_past, set_same}
 
 adding_is : (stores stores2 : List (Option Stored)) (left left2 : List Leaver) → stores ≡ stores2 → left ≡ left2 → ◌≡◌ {A = Adding} (record { stores = stores; left = left }) (record { stores = stores2; left = left2 })
@@ -52,20 +52,37 @@ holding_some counts h stores left old new result lt e is leaves =
     adding_is _ _ _ _ (changed_set f stores h.holder (Some old) (Some new) lt (ap Some is ∙ ap f e))
     (ap (λ (r : Option Entry). left ++ left_by h.holder r) leaves ∙ ap (λ (s : Option Stored). left ++ room counts h s) (sym (stored_is stores h.holder (Some old) lt e)))
 
--- ---- what leaves
+-- ---- what leaves at once
 
-stores_stay : (net : Net) (ls : List Leaver) (c : Contents) → (after_leaves net ls c).stores ≡ c.stores
-stores_stay net [] c = refl
-stores_stay net (l ∷ ls) c = stores_stay net ls (after_leave net l c)
+-- whether the holder at a place is an immediate cache doesn't change where something is added
+immediate_still : (f : Stored → Stored) (stores : List (Option Stored)) (n p : ℕ) → is_immediate (stored_at (changed (option_map f) stores n) p) ≡ is_immediate (stored_at stores p)
+immediate_still f [] n p = refl
+immediate_still f (x ∷ xs) zero zero = elim x as (λ y. is_immediate (option_map f y) ≡ is_immediate y) [ None ↦ refl | Some s ↦ refl ]
+immediate_still f (x ∷ xs) zero (suc p) = refl
+immediate_still f (x ∷ xs) (suc n) zero = refl
+immediate_still f (x ∷ xs) (suc n) (suc p) = immediate_still f xs n p
 
-pub taken_in_is : (net : Net) (counts : Counts) (hs : List Holding) (c mid : Contents) (stores : List (Option Stored)) (left : List Leaver)
+immediate_after : (counts : Counts) (hs : List Holding) (a : Adding) (p : ℕ) → is_immediate (stored_at (with_holdings counts hs a).stores p) ≡ is_immediate (stored_at a.stores p)
+immediate_after counts [] a p = refl
+immediate_after counts (h ∷ hs) a p =
+    immediate_after counts hs (with_holding counts h a) p ∙ immediate_still (λ s. with_counts s h.key counts) a.stores h.holder p
+
+-- what leaves at once is told as well before anything was added
+same_leave : (counts : Counts) (hs : List Holding) (before after : List (Option Stored)) → ((p : ℕ) → is_immediate (stored_at after p) ≡ is_immediate (stored_at before p)) → all_leave_at_once before counts hs ≡ all_leave_at_once after counts hs
+same_leave counts [] before after h = refl
+same_leave counts (x ∷ xs) before after h =
+    ap (λ b. (if b then leaver x.holder (x.key, counts) ∷ [] else []) ++ all_leave_at_once before counts xs) (sym (h x.holder))
+    ∙ ap (λ ls. leaves_at_once after counts x ++ ls) (same_leave counts xs before after h)
+
+pub taken_in_is : (net : Net) (counts : Counts) (hs : List Holding) (c mid : Contents) (stores : List (Option Stored)) (left passing : List Leaver)
     → ◌≡◌ {A = Adding} (record { stores = stores; left = left }) (adding c.stores counts hs)
+    → passing ≡ all_leave_at_once c.stores counts hs
     → mid ≡ after_leaves net left (with_stores c stores)
-    → after_leaves net (all_leave_at_once mid.stores counts hs) mid ≡ after_taking net counts hs c
-taken_in_is net counts hs c mid stores left e f =
-    ap (λ (m : Contents). after_leaves net (all_leave_at_once m.stores counts hs) m) f
-    ∙ ap (λ (ss : List (Option Stored)). after_leaves net (all_leave_at_once ss counts hs) (after_leaves net left (with_stores c stores))) (stores_stay net left (with_stores c stores))
-    ∙ ap (λ (a : Adding). after_leaves net (all_leave_at_once a.stores counts hs) (after_leaves net a.left (with_stores c a.stores))) e
+    → after_leaves net passing mid ≡ after_taking net counts hs c
+taken_in_is net counts hs c mid stores left passing e is f =
+    ap (after_leaves net passing) f
+    ∙ ap (λ ls. after_leaves net ls (after_leaves net left (with_stores c stores))) (is ∙ same_leave counts hs c.stores (adding c.stores counts hs).stores (immediate_after counts hs (record { stores = c.stores; left = [] })))
+    ∙ ap (λ (a : Adding). after_leaves net (all_leave_at_once (adding c.stores counts hs).stores counts hs) (after_leaves net a.left (with_stores c a.stores))) e
 
 -- ---- what leaves to make room comes last
 

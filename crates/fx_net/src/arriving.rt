@@ -91,7 +91,7 @@ impl Contents {
         };
         self.send(net, process.exporters(), flow)?;
         let takers = net.takers(alloc, process, &flow.key)?;
-        self.take_in(alloc, net, takers.as_slice(), flow.counts)
+        self.take_in(alloc, net, takers, flow.counts)
     }
 
     /// All records that the receiver of a link has read are handled, in order.

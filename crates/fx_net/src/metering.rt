@@ -27,7 +27,7 @@ impl Contents {
         ensures err { IfErr result (λ e. e ≡ fault_at 900 places.None) }
     {
         let met = net.met(alloc, crossing, fields)?;
-        self.take_in(alloc, net, met.as_slice(), counts)
+        self.take_in(alloc, net, met, counts)
     }
 
     /// A packet makes all crossings of a path, in order.
