@@ -2,21 +2,25 @@
 """link_octets.py PROGRAM: has other programs read what `run` puts on links.
 
 Runs the program over captures in some networks, and has each link's octets read by tshark (as datagrams of a capture
-that is made for it) and by ipfixDump (as an IPFIX file, RFC 5655), of Debian's packages tshark and libfixbuf-tools;
-where one isn't there, says so and goes without it. Both must read the same records, and `collect` the same sums as they.
-On a link that carries each packet of the capture once the sums must be those of its packets, and at the report's the
-totals those that `run` prints.
+that is made for it), by ipfixDump (as an IPFIX file, RFC 5655) and by nfcapd (as datagrams over the loopback), of
+Debian's packages tshark, libfixbuf-tools and nfdump; where one isn't there, says so and goes without it. All must read
+the same records, nfcapd with no gap in the sequence numbers, and `collect` the same sums as they. nfcapd knows no
+prefixes: of records by prefix it reads the counts alone. On a link that carries each packet of the capture once the sums
+must be those of its packets, and at the report's the totals those that `run` prints.
 
 Prints `N links, M failed`; the exit status is 1 where one failed.
 """
 import ipaddress
+import itertools
 import os
 import re
 import shutil
+import socket
 import struct
 import subprocess
 import sys
 import tempfile
+import time
 
 HERE = os.path.dirname(os.path.abspath(__file__))
 # The folders of the networks, and the files of their schedules.
@@ -75,11 +79,60 @@ def of_ipfix_dump(folder, octets):
         yield spelled(key), int(found["packetDeltaCount"]), int(found["octetDeltaCount"])
 
 
+def has_read_all(port):
+    """Whether no datagram waits at this port of the loopback."""
+    with open("/proc/net/udp") as file:
+        sockets = [line.split() for line in file.readlines()[1:]]
+    waiting = [fields[4].split(":")[1] for fields in sockets if fields[1] == "0100007F:%04X" % port]
+    return waiting == ["00000000"]
+
+
+def of_nfcapd(folder, octets):
+    """The records, as nfcapd reads them and nfdump prints them; the key of a prefix is None."""
+    flows = tempfile.mkdtemp(dir=folder)
+    with socket.socket(socket.AF_INET, socket.SOCK_DGRAM) as free:
+        free.bind(("127.0.0.1", 0))
+        port = free.getsockname()[1]
+    words = ["nfcapd", "-b", "127.0.0.1", "-p", str(port), "-w", flows, "-t", "86400"]
+    with subprocess.Popen(words, stdout=subprocess.DEVNULL, stderr=subprocess.PIPE, text=True) as collector:
+        said = ""
+        while "Startup" not in said:
+            line = collector.stderr.readline()
+            said += line or sys.exit("nfcapd doesn't start:\n" + said)
+        with socket.socket(socket.AF_INET, socket.SOCK_DGRAM) as sender:
+            for message in messages(octets):
+                sender.sendto(message, ("127.0.0.1", port))
+                while not has_read_all(port):
+                    time.sleep(0.001)
+        collector.terminate()
+        said += collector.stderr.read()
+    if "Sequence Errors: 0, Bad Packets: 0" not in said:
+        raise SystemExit("nfcapd finds a gap or a message that it can't read:\n" + said)
+    words = ["nfdump", "-R", flows, "-q", "-N", "-6", "-o", "fmt:%sa %pkt %byt"]
+    text = subprocess.run(words, stdout=subprocess.PIPE, stderr=subprocess.DEVNULL, check=True).stdout.decode()
+    for flow in text.splitlines():
+        if flow.strip():
+            key, packets, counted = flow.split()
+            yield None if key == "0.0.0.0" else spelled(key), int(packets), int(counted)
+
+
+def agree(records, others):
+    """Whether two programs read the same records; where one knows no key, the counts decide."""
+    return len(records) == len(others) and all(
+        record[1:] == other[1:] and (record[0] == other[0] or None in (record[0], other[0]))
+        for record, other in zip(records, others))
+
+
 def spelled(key):
     """The key as the program prints it."""
     if ":" not in key:
         return key
     return ":".join("%x" % int(group, 16) for group in ipaddress.IPv6Address(key).exploded.split(":"))
+
+
+def has_keys(records):
+    """Whether the program knows the keys of the records."""
+    return all(key is not None for key, _, _ in records)
 
 
 def lines_of(records):
@@ -108,18 +161,19 @@ def faults(program, folder, schedule, readers):
         collected = collect.stdout.decode()
         if "gaps 0\nskipped 0\n" not in collected:
             yield "%s: `collect` finds gaps or skips records" % link
-        elif any(records != list(read.values())[0] for records in read.values()):
+        elif not all(agree(records, others) for records, others in itertools.combinations(read.values(), 2)):
             yield "%s: the records differ: %r" % (link, read)
         elif link == links[-1] and totals_in(collected) != totals_in(run.stdout.decode()):
             yield "%s: `collect` prints %r, and `run` %r" % (link, collected, run.stdout.decode())
-        elif link == links[-1] and any(lines_of(records) != totals_in(collected) for records in read.values()):
+        elif link == links[-1] and any(
+                lines_of(records) != totals_in(collected) for records in read.values() if has_keys(records)):
             yield "%s: the sums are %r in place of %r" % (link, read, collected)
         else:
             yield None
 
 
 def main(program):
-    readers = {"tshark": of_tshark, "ipfixDump": of_ipfix_dump}
+    readers = {"tshark": of_tshark, "ipfixDump": of_ipfix_dump, "nfcapd": of_nfcapd}
     for name in [name for name in readers if not shutil.which(name)]:
         print("%s isn't there: the links are read without it" % name)
         del readers[name]
