@@ -5,11 +5,13 @@ Of each row the first growth is refused with all behind it, then the second with
 meets no refusal: each must print `memory 900` alone and end with status 4, but the last, which prints what the row does.
 Then each growth is refused alone. That must come to the same, but where the program makes up for the growth by a smaller
 one: std's `collect` asks for as many elements as it expects, and where that is refused for one. Then the row's own
-answer must be printed; how many growths are made up for is told. Last, of certificates of one leaf and of 1,000,000
+answer must be printed; how many growths are made up for is told. What a refused run has put on a link is the beginning of
+what it should be, of whole messages. Last, of certificates of one leaf and of 1,000,000
 lines: as many growths are asked for; none is asked for from the first read of the certificate on; and where all from
 there on would be refused the answer is the same. Prints a line for each run and ends with 1 where one fails.
 """
 import os
+import re
 import shutil
 import subprocess
 import sys
@@ -27,6 +29,13 @@ SWEPT = (
     "two-packets-in-one-record",
     "two-packets-in-one-record-as-bundle",
     "stream-of-two-messages",
+    "audit-that-finds-a-certificate",
+    "refutation-where-nobody-collects-the-fallback",
+    "refutation-where-nobody-collects-the-fallback-as-bundle",
+    "certificate-found-as-bundle",
+    "run-with-a-schedule",
+    "run-with-a-bounded-cache",
+    "run-with-an-aggregation",
 )
 
 
@@ -66,19 +75,48 @@ class Shim:
         return done.stdout + done.stderr, done.returncode, told
 
 
+def has_whole_messages(octets):
+    """Whether these are whole messages (RFC 7011, section 3.1: the length stands behind the version)."""
+    while octets:
+        length = int.from_bytes(octets[2:4], "big")
+        if not 16 <= length <= len(octets):
+            return False
+        octets = octets[length:]
+    return True
+
+
+def wrong_links(row, folder, is_whole):
+    """The links whose files don't hold what the row puts on them, or its beginning where the run was refused; they go."""
+    wrong = []
+    for name in [name[:-4] for name in os.listdir(folder) if re.fullmatch(r"link\d+\.hex", name)]:
+        wanted, path = bytes.fromhex(octets_of(row, name + ".hex").decode()), os.path.join(folder, name)
+        held = octets_of(folder, name)
+        if not (held == wanted if is_whole else wanted.startswith(held) and has_whole_messages(held)):
+            wrong.append(name)
+        if os.path.exists(path):
+            os.remove(path)
+    return wrong
+
+
 def sweep(shim, row, behind):
     """Whether each growth of a row that is refused is answered 900, and what to say of it."""
-    words, given, folder = octets_of(row, "words").decode().split(), octets_of(row, "stdin"), os.path.join(ROWS, row)
+    words, given = octets_of(row, "words").decode().split(), octets_of(row, "stdin")
     wanted, number, made_up = (octets_of(row, "stdout"), int(octets_of(row, "status"))), 1, []
-    while True:
-        said, status, told = shim.run(words, given, folder, refused=number, behind=behind)
-        if told[0] < number:
-            return number > 1 and (said, status) == wanted, "%d growths, made up for: %s" % (told[0], made_up or "none")
-        if (said, status) == wanted and not behind:
-            made_up.append(number)
-        elif (said, status) != (b"memory 900\n", 4):
-            return False, "growth %d refused: status %d, printed %r" % (number, status, said[:200])
-        number += 1
+    with tempfile.TemporaryDirectory() as room:
+        folder = shutil.copytree(os.path.join(ROWS, row), os.path.join(room, "row"))
+        while True:
+            said, status, told = shim.run(words, given, folder, refused=number, behind=behind)
+            is_answered = (said, status) == wanted
+            links = wrong_links(row, folder, is_answered)
+            if links:
+                return False, "growth %d refused: wrong octets on %s" % (number, links)
+            if told[0] < number:
+                return number > 1 and is_answered, "%d growths, made up for: %s" % (told[0], made_up or "none")
+            if is_answered and not behind:
+                made_up.append(number)
+            elif (said, status) != (b"memory 900\n", 4):
+                return False, "growth %d refused: status %d, printed %r" % (number, status, said[:200])
+            number += 1
 
 
 def lengths(shim, folder):
