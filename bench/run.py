@@ -10,14 +10,15 @@ KEY = ["sourceIPv4Address", "destinationIPv4Address", "protocolIdentifier", "sou
        "destinationTransportPort"]
 
 
-def network():
-    """A meter with a timeout cache, and a collector that reports by the same key."""
+def network(most=None):
+    """A meter with a timeout cache, of at most so many flows, and a collector that reports by the same key."""
     fields = [{"name": name, "ieName": name, "isFlowKey": [None]} for name in KEY]
     fields += [{"name": name, "ieName": name} for name in ["octetDeltaCount", "packetDeltaCount"]]
+    bound = {} if most is None else {"maxFlows": most}
     meter = {
         "observationPoint": [{"name": "uplink", "observationDomainId": 0, "ifName": ["eth0"], "selectionProcess": ["all"]}],
         "selectionProcess": [{"name": "all", "selector": [{"name": "all", "selectAll": [None]}], "cache": "flows"}],
-        "cache": [{"name": "flows", "timeoutCache": {"cacheLayout": {"cacheField": fields}}, "exportingProcess": ["out"]}],
+        "cache": [{"name": "flows", "timeoutCache": {**bound, "cacheLayout": {"cacheField": fields}}, "exportingProcess": ["out"]}],
         "exportingProcess": [{"name": "out", "destination": [{"name": "collector", "tcpExporter": {}}]}],
     }
     collector = {"collectingProcess": [{"name": "billing"}]}
@@ -60,6 +61,37 @@ def least_space(words, folder):
     return high
 
 
+def write_inputs(folder, frames, flows, most, lines):
+    """A capture, documents and a schedule in a folder of their own; the words of a run over them."""
+    os.makedirs(folder)
+    make = os.path.join(os.path.dirname(os.path.abspath(__file__)), "make_capture.py")
+    subprocess.run([sys.executable, make, os.path.join(folder, "capture.pcap"), str(frames), str(flows)], check=True)
+    for name, value in [("network.json", network(most)), ("traffic.json", TRAFFIC)]:
+        with open(os.path.join(folder, name), "w") as file:
+            json.dump(value, file)
+    with open(os.path.join(folder, "schedule"), "w") as file:
+        file.writelines(lines)
+    return ["run", "network.json", "traffic.json", "capture.pcap", "schedule"]
+
+
+def by_flows(program, frames, folder):
+    """What a packet costs that pushes another flow's record out, and a line that expires one, by the flows that are held:
+    the least processor time of three runs."""
+    for name in ["evictions", "expiries"]:
+        for flows in [500, 5_000, 50_000]:
+            here = os.path.join(folder, "%s-%d" % (name, flows))
+            if name == "evictions":
+                words = write_inputs(here, frames, 2 * flows, flows, [])
+                units = frames
+            else:
+                units = (frames - flows) // 2
+                lines = ["next\n"] * flows + ["expire 1 1\nnext\n"] * units
+                words = write_inputs(here, flows + units, flows, None, lines)
+            took = min(processor_time([program, *words], here)[0] for _ in range(3))
+            print("%-9s where %6d flows are held: %5.0f ns each" % (name, flows, took / units * 1e9))
+            shutil.rmtree(here)
+
+
 def main(program, frames, flows, folder):
     make = os.path.join(os.path.dirname(os.path.abspath(__file__)), "make_capture.py")
     for name, count in [("capture.pcap", frames), ("twice.pcap", 2 * frames)]:
@@ -87,6 +119,7 @@ def main(program, frames, flows, folder):
         print("%-12s %7.3f s of processor time, %5.0f ns a packet" % (name, took, took / frames * 1e9))
     spaces = [least_space(ours[:4] + [name] + ours[5:], folder) for name in ["capture.pcap", "twice.pcap"]]
     print("address space: %d MiB, and %d MiB for twice the frames" % tuple(spaces))
+    by_flows(program, frames, folder)
 
 
 if __name__ == "__main__":

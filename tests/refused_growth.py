@@ -85,13 +85,15 @@ def has_whole_messages(octets):
     return True
 
 
-def wrong_links(row, folder, is_whole):
-    """The links whose files don't hold what the row puts on them, or its beginning where the run was refused; they go."""
+def wrong_links(row, folder, is_whole, messages=True):
+    """The links whose files don't hold what the row puts on them, or the beginning of it, of whole messages or just any,
+    where the run was refused; the files go."""
     wrong = []
     for name in [name[:-4] for name in os.listdir(folder) if re.fullmatch(r"link\d+\.hex", name)]:
         wanted, path = bytes.fromhex(octets_of(row, name + ".hex").decode()), os.path.join(folder, name)
         held = octets_of(folder, name)
-        if not (held == wanted if is_whole else wanted.startswith(held) and has_whole_messages(held)):
+        is_beginning = wanted.startswith(held) and (has_whole_messages(held) or not messages)
+        if not (held == wanted if is_whole else is_beginning):
             wrong.append(name)
         if os.path.exists(path):
             os.remove(path)

@@ -1,0 +1,88 @@
+#!/usr/bin/env python3
+"""failed_devices.py PROGRAM: runs the program with reads and writes failed, by failed_devices.c, which `cc` builds.
+
+Of each row the first call that reads fails, alone and with all behind it, then the second, and so on until a run meets
+no failure: each must print `device 901` alone and end with status 5, but the last, which prints what the row does. The
+same with the calls that write: each must end with status 5, having printed `device 902` alone, or nothing but the
+beginning of the answer where it is the answer's own write that fails. What a run that ends so has put on a link is the
+beginning of what it should be; where it is a read that fails, whole messages of it. Prints a line for each run and ends
+with 1 where one fails.
+"""
+import os
+import shutil
+import subprocess
+import sys
+import tempfile
+
+from refused_growth import ROWS, SWEPT, octets_of, wrong_links
+
+HERE = os.path.dirname(os.path.abspath(__file__))
+
+
+class Shim:
+    """The program with calls failed."""
+
+    def __init__(self, program, folder):
+        self.program, self.told = program, os.path.join(folder, "calls.txt")
+        self.library = os.path.join(folder, "failed_devices.so")
+        source = os.path.join(HERE, "failed_devices.c")
+        subprocess.run(["cc", "-O2", "-Wall", "-shared", "-fPIC", "-o", self.library, source], check=True)
+
+    def run(self, words, given, folder, kind, number, behind):
+        """What is printed, the status, and how many calls of this kind were made."""
+        asked = {"LD_PRELOAD": self.library, "DEVICES": self.told, kind + "_FAILED": str(number)}
+        if behind:
+            asked["DEVICES_FAILED"] = "1"
+        done = subprocess.run([self.program] + words, input=given, capture_output=True, cwd=folder, env={**os.environ, **asked}, timeout=120)
+        with open(self.told) as file:
+            told = list(map(int, file.read().split()))
+        os.remove(self.told)
+        return done.stdout + done.stderr, done.returncode, told[kind == "WRITE"]
+
+
+def is_right(kind, said, status, wanted):
+    """Whether a run of which a call failed ends as it should."""
+    if status != 5:
+        return False
+    return said == b"device 901\n" if kind == "READ" else said == b"device 902\n" or wanted.startswith(said)
+
+
+def sweep(shim, row, kind, behind):
+    """Whether each call of this kind that fails is answered, and what to say of it."""
+    words, given = octets_of(row, "words").decode().split(), octets_of(row, "stdin")
+    wanted, number = (octets_of(row, "stdout"), int(octets_of(row, "status"))), 1
+    with tempfile.TemporaryDirectory() as room:
+        folder = shutil.copytree(os.path.join(ROWS, row), os.path.join(room, "row"))
+        while True:
+            said, status, calls = shim.run(words, given, folder, kind, number, behind)
+            is_whole = calls < number
+            links = wrong_links(row, folder, is_whole, messages=kind == "READ")
+            if links:
+                return False, "call %d failed: wrong octets on %s" % (number, links)
+            if is_whole:
+                return number > 1 and (said, status) == wanted, "%d calls" % calls
+            if not is_right(kind, said, status, wanted[0]):
+                return False, "call %d failed: status %d, printed %r" % (number, status, said[:200])
+            number += 1
+
+
+def main(program):
+    if not shutil.which("cc"):
+        print("cc is missing: it builds failed_devices.c")
+        return 1
+    failed = 0
+    with tempfile.TemporaryDirectory() as folder:
+        shim = Shim(os.path.abspath(program), folder)
+        for row in SWEPT:
+            for kind in ("READ", "WRITE"):
+                for behind, end in ((False, "alone"), (True, "and all behind")):
+                    right, said = sweep(shim, row, kind, behind)
+                    failed += not right
+                    print("%-84s %s%s" % ("%s, each %s, %s" % (row, kind.lower(), end), said, "" if right else "   FAILED"))
+    return 1 if failed else 0
+
+
+if __name__ == "__main__":
+    if len(sys.argv) != 2:
+        sys.exit(__doc__)
+    sys.exit(main(sys.argv[1]))
