@@ -69,6 +69,7 @@ run-rows:
 	python3 tests/rows.py ./once
 	python3 tests/long_certificates.py ./once
 	python3 tests/refused_growth.py ./once
+	python3 tests/failed_devices.py ./once
 	python3 tests/generated_networks.py ./once
 	python3 tests/addresses.py ./once
 	python3 tests/carried_in_pieces.py ./once

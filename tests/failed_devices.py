@@ -3,8 +3,8 @@
 
 Of each row the first call that reads fails, alone and with all behind it, then the second, and so on until a run meets
 no failure: each must print `device 901` alone and end with status 5, but the last, which prints what the row does. The
-same with the calls that write: each must end with status 5, having printed `device 902` alone, or nothing but the
-beginning of the answer where it is the answer's own write that fails. What a run that ends so has put on a link is the
+same with the calls that write: each must end with status 5, having printed `device 902` alone, or nothing but a part of
+the answer, its beginning, where it is the answer's own write that fails. What a run that ends so has put on a link is the
 beginning of what it should be; where it is a read that fails, whole messages of it. Prints a line for each run and ends
 with 1 where one fails.
 """
@@ -44,7 +44,9 @@ def is_right(kind, said, status, wanted):
     """Whether a run of which a call failed ends as it should."""
     if status != 5:
         return False
-    return said == b"device 901\n" if kind == "READ" else said == b"device 902\n" or wanted.startswith(said)
+    if kind == "READ":
+        return said == b"device 901\n"
+    return said == b"device 902\n" or (wanted.startswith(said) and said != wanted)
 
 
 def sweep(shim, row, kind, behind):

@@ -21,9 +21,9 @@ use fx_audit::{
 };
 use fx_base::{Fault, LineReader, Outside, Sink};
 use fx_link::Nowhere;
-use std::env;
 use std::io::{self, BufWriter};
 use std::rt::{Env, Files};
+use std::{env, mem};
 
 /// The exit status of a write that failed.
 const WRITE_FAILED: u8 = 5;
@@ -324,7 +324,14 @@ pub fn run<R: AllocGlobal + Env + Files + Input + Print>(rt: &R) -> u8
     ensures { IsExitStatus result }
 {
     match BufWriter::new(rt.alloc(), io::writer(rt)) {
-        Ok(writer) => answer(rt, &mut Outside::new(writer)),
+        Ok(writer) => {
+            let mut sink = Outside::new(writer);
+            let code = answer(rt, &mut sink);
+            // What couldn't be handed on isn't tried again, as it would be where the writer is let go: no answer stands
+            // behind a write that failed.
+            mem::forget(sink);
+            code
+        }
         Err(_) => finish(&Err(Fault::bare(900)), &mut Outside::new(io::writer(rt))),
     }
 }
