@@ -3,7 +3,7 @@
 
 SHELL := /bin/bash
 .DEFAULT_GOAL := help
-.PHONY: help kit replay once test proofs run-wrong wrong rows examples run-rows run-examples clean
+.PHONY: help kit replay once test proofs run-wrong wrong rows examples run-rows run-examples torture clean
 
 # The libraries that the program stands on, lowest first.
 LIBRARIES = $(shell sed -n 's/^once: //p' crates.txt | tr ' ' '\n' | grep '^fx_' | tac)
@@ -18,6 +18,7 @@ help:
 	@echo 'make wrong NAME=CRATE  tries the wrong bodies of one crate; NAME=CRATE/WORD those with WORD in their names'
 	@echo 'make rows              proves and builds the program, and runs it over the worked rows'
 	@echo 'make examples          the same over the examples'
+	@echo 'make torture           the same over inputs that are made to do harm, for an hour or more'
 	@echo 'make clean             removes what was built'
 
 kit:
@@ -60,8 +61,8 @@ run-wrong:
 wrong: kit
 	python3 tests/wrong_bodies.py --kept --jobs 2 $(NAME)
 
-# Compares the lists of definitions to believe, then runs the program over the worked rows, over long certificates, and
-# with growths of its memory refused.
+# Compares the lists of definitions to believe, then runs the program over the worked rows, over long certificates, with
+# growths of its memory refused, with reads and writes failed, and over inputs that were changed.
 rows: once run-rows
 
 run-rows:
@@ -70,6 +71,7 @@ run-rows:
 	python3 tests/long_certificates.py ./once
 	python3 tests/refused_growth.py ./once
 	python3 tests/failed_devices.py ./once
+	python3 tests/mutated_inputs.py ./once
 	python3 tests/generated_networks.py ./once
 	python3 tests/addresses.py ./once
 	python3 tests/carried_in_pieces.py ./once
@@ -97,6 +99,11 @@ run-examples:
 	  ./once run $$example/network.json $$example/traffic.json $$capture $$example/schedule.txt | diff - $$example/metered.txt || exit 1; \
 	done
 	python3 tests/generated_networks.py ./once --examples
+
+# What takes hours: the program over 100,000 changed inputs of each kind, and over streams that are made to cost.
+torture: once
+	python3 tests/mutated_inputs.py ./once --each 100000
+	python3 tests/hostile_streams.py ./once
 
 clean:
 	rm -rf out crates/*/out once
