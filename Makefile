@@ -100,9 +100,11 @@ run-examples:
 	done
 	python3 tests/generated_networks.py ./once --examples
 
-# What takes hours: the program over 100,000 changed inputs of each kind, and over streams that are made to cost.
+# What takes an hour or more: the program over 100,000 changed inputs of each kind, over a capture of 50,000,000 frames, and
+# over streams that are made to cost.
 torture: once
 	python3 tests/mutated_inputs.py ./once --each 100000
+	python3 tests/long_runs.py ./once
 	python3 tests/hostile_streams.py ./once
 
 clean:

@@ -1,0 +1,156 @@
+#!/usr/bin/env python3
+"""long_runs.py PROGRAM [FRAMES]: runs over captures that come through a pipe, and runs that are broken off.
+
+First a capture of so many frames (50,000,000 where none are given) of 10,000 flows through a pipe, in 32 MiB of address
+space: the totals must be the sums. Then runs of a million frames that don't come to their end: ended by SIGTERM in the
+middle; with standard output closed before the answer; with links on a disk that is full (/dev/full); with a pipe that
+ends in the middle of a record. None of them may leave anything on standard output that looks like an answer, and what is
+answered must be its refusal. Prints a line for each and ends with 1 where one fails.
+"""
+import json
+import os
+import resource
+import signal
+import subprocess
+import sys
+import tempfile
+import time
+
+TOP = os.path.dirname(os.path.dirname(os.path.abspath(__file__)))
+FLOWS = 10_000
+SPACE = 32 << 20
+MILLION = 1_000_000
+
+
+def documents(folder):
+    """A meter with a timeout cache by source, and a collector that reports by it."""
+    field = [{"name": "s", "ieName": "sourceIPv4Address", "isFlowKey": [None]}]
+    counters = [{"name": name, "ieName": name} for name in ("octetDeltaCount", "packetDeltaCount")]
+    meter = {
+        "observationPoint": [{"name": "op", "observationDomainId": 0, "ifName": ["eth0"], "selectionProcess": ["all"]}],
+        "selectionProcess": [{"name": "all", "selector": [{"name": "all", "selectAll": [None]}], "cache": "flows"}],
+        "cache": [{"name": "flows", "timeoutCache": {"cacheLayout": {"cacheField": field + counters}}, "exportingProcess": ["out"]}],
+        "exportingProcess": [{"name": "out", "destination": [{"name": "d", "tcpExporter": {}}]}],
+    }
+    network = {
+        "devices": [{"name": name, "config": {"ietf-ipfix-psamp:ipfix": config}}
+                    for name, config in (("m", meter), ("c", {"collectingProcess": [{"name": "cp"}]}))],
+        "links": [{"device": "m", "exportingProcess": "out", "destination": "d", "toDevice": "c", "toProcess": "cp"}],
+        "report": {"device": "c", "collectingProcess": "cp", "key": [{"ieName": "sourceIPv4Address"}]},
+    }
+    traffic = {"classes": [{"name": "all", "paths": [[{"device": "m", "interface": "eth0", "direction": "ingress"}]]}]}
+    for name, value in (("network.json", network), ("traffic.json", traffic)):
+        with open(os.path.join(folder, name), "w") as file:
+            json.dump(value, file)
+    open(os.path.join(folder, "schedule"), "w").close()
+
+
+def capture(folder):
+    """A capture's header, and one round of frames over all flows, which can stand behind itself."""
+    make = os.path.join(TOP, "bench", "make_capture.py")
+    path = os.path.join(folder, "round.pcap")
+    subprocess.run([sys.executable, make, path, str(FLOWS), str(FLOWS)], check=True)
+    with open(path, "rb") as file:
+        octets = file.read()
+    return octets[:24], octets[24:]
+
+
+def limit():
+    resource.setrlimit(resource.RLIMIT_AS, (SPACE, SPACE))
+
+
+def begin(program, folder, *more, **how):
+    words = [program, "run", "network.json", "traffic.json", "/dev/stdin", "schedule", *more]
+    return subprocess.Popen(words, cwd=folder, stdin=subprocess.PIPE, preexec_fn=limit, **{"stdout": subprocess.PIPE, **how})
+
+
+def feed(run, octets, rounds):
+    """Hands so many rounds of frames to a run; whether it took them all."""
+    try:
+        run.stdin.write(octets[0])
+        for _ in range(rounds):
+            run.stdin.write(octets[1])
+        run.stdin.flush()
+    except BrokenPipeError:
+        return False
+    return True
+
+
+def ended(run):
+    try:
+        run.stdin.close()
+    except BrokenPipeError:
+        pass
+    said = run.stdout.read() if run.stdout else b""
+    return said, run.wait(timeout=600)
+
+
+def whole(program, folder, octets, frames):
+    run = begin(program, folder)
+    began = time.monotonic()
+    feed(run, octets, frames // FLOWS)
+    said, status = ended(run)
+    lines = said.decode().splitlines()
+    wanted = " packets %d octets %d" % (frames // FLOWS, frames // FLOWS * 46)
+    right = status == 0 and lines[0] == "keys %d" % FLOWS and all(line.endswith(wanted) for line in lines[1 : FLOWS + 1])
+    return right and lines[-1] == "skipped other 0 malformed 0", "%d frames in %.1f s" % (frames, time.monotonic() - began)
+
+
+def terminated(program, folder, octets):
+    run = begin(program, folder)
+    feed(run, octets, MILLION // FLOWS)
+    run.send_signal(signal.SIGTERM)
+    said, status = ended(run)
+    return (said, status) == (b"", -signal.SIGTERM), "status %d, printed %r" % (status, said[:80])
+
+
+def unread(program, folder, octets):
+    near, far = os.pipe()
+    os.close(near)
+    run = begin(program, folder, stdout=far)
+    os.close(far)
+    feed(run, octets, MILLION // FLOWS)
+    _, status = ended(run)
+    return status in (5, -signal.SIGPIPE), "status %d" % status
+
+
+def full(program, folder, octets):
+    link = os.path.join(folder, "full1")
+    os.symlink("/dev/full", link)
+    run = begin(program, folder, "--links", "full")
+    feed(run, octets, MILLION // FLOWS)
+    said, status = ended(run)
+    return (said, status) == (b"device 902\n", 5), "status %d, printed %r" % (status, said[:80])
+
+
+def broken_off(program, folder, octets):
+    run = begin(program, folder)
+    feed(run, (octets[0], octets[1][:-1]), 1)
+    said, status = ended(run)
+    at = len(octets[0]) + len(octets[1]) // FLOWS * (FLOWS - 1)
+    return (said, status) == (b"refused 703 octet %d\n" % at, 2), "status %d, printed %r" % (status, said[:80])
+
+
+def main(program, frames):
+    failed = 0
+    with tempfile.TemporaryDirectory() as folder:
+        documents(folder)
+        octets = capture(folder)
+        ways = [
+            ("through a pipe", lambda: whole(program, folder, octets, frames)),
+            ("ended by SIGTERM", lambda: terminated(program, folder, octets)),
+            ("with nobody to read the answer", lambda: unread(program, folder, octets)),
+            ("with links on a full disk", lambda: full(program, folder, octets)),
+            ("of a pipe that breaks off", lambda: broken_off(program, folder, octets)),
+        ]
+        for name, way in ways:
+            right, said = way()
+            failed += not right
+            print("a run %-32s %s%s" % (name, said, "" if right else "   FAILED"), flush=True)
+    return 1 if failed else 0
+
+
+if __name__ == "__main__":
+    if len(sys.argv) not in (2, 3):
+        sys.exit(__doc__)
+    sys.exit(main(os.path.abspath(sys.argv[1]), int(sys.argv[2]) if len(sys.argv) == 3 else 50 * MILLION))
