@@ -1,3 +1,4 @@
 pub mod FlowMaps
 pub mod Recency
 pub mod Orders
+pub mod Hashed

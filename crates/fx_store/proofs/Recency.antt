@@ -19,7 +19,7 @@ use Rattle.fx_store.proofs.FlowMaps.{found, remove_is}
 
 -- ---- look-ups
 
-same_test : (q : Key) → same_key q ≡ is_at (key_cmp q)
+pub same_test : (q : Key) → same_key q ≡ is_at (key_cmp q)
 same_test q = λ i k. same_key_ties q k i
 
 pub same_tests : same_key ≡ eq_by_cmp key_cmp

@@ -1,31 +1,39 @@
 //! A store that nothing leaves by itself.
-ghost use Rattle.std.specs.Prelude.{◌≡◌, [], None, OnErr, IfOk, IfErr, IsOk, IsSome};
+ghost use Rattle.std.specs.Prelude.{◌≡◌, [], None, OnOk, OnErr, IfOk, IfErr, IsOk, IsSome};
 ghost use Rattle.std.specs.FinMap as map;
 ghost use Rattle.fx_base.specs.Fault.{fault_at};
 ghost use Rattle.fx_base.specs.declared.fault.Place.TheVariants as places;
 ghost use Rattle.fx_store.specs.Flows.{Adds, flows_of, least, without};
+ghost use Rattle.fx_store.specs.Recent.{counts_at};
 
 use crate::ordered::Ordered;
 use crate::store::FlowStore;
 use fx_base::{Counts, Fault};
 use fx_layout::Key;
+use indexmap::IndexMap;
 use std::alloc::Global;
-use std::collections::BTreeMap;
+use std::collections::BTreeSet;
 use std::marker::Model;
 
-/// A store without a bound, seen as the list of its entries, keys ascending.
+/// A store without a bound, seen as the list of its entries, in no order that matters.
+///
+/// Keys are found by a hash with a fixed seed, and the least one by their order.
 #[derive(Drop)]
 pub struct ListStore {
-    flows: BTreeMap<Ordered, Counts>,
+    flows: IndexMap<Ordered, Counts>,
+    order: BTreeSet<Ordered>,
 }
 
 impl Model for ListStore {
     ghost use Rattle.std.specs.Prelude.{List};
-    ghost use Rattle.fx_store.specs.Flows.{Entry};
+    ghost use Rattle.fx_store.specs.Flows.{Entry, flows_of};
+    ghost use Rattle.fx_store.specs.Recent.{IsKept};
 
     ghost Value = { List Entry };
 
     ghost view = { λ s. s.flows.entries };
+
+    ghost invariant = { λ s. IsKept (flows_of s.flows.entries) s.order.keys };
 }
 
 impl ListStore {
@@ -34,7 +42,24 @@ impl ListStore {
         ensures { result ≡ [] }
     {
         ListStore {
-            flows: BTreeMap::new(alloc),
+            flows: IndexMap::new(alloc),
+            order: BTreeSet::new(alloc),
+        }
+    }
+
+    /// Adds the counts at a key that isn't there.
+    fn add_new(&mut self, key: Ordered, counts: Counts) -> Result<(), Fault>
+        requires { counts_at self.old key ≡ None }
+        ensures ok { OnOk result (Adds (flows_of self.old) (flows_of self.new) key counts None) }
+        ensures err { IfErr result (λ e. (e ≡ fault_at 900 places.None) × (self.new ≡ self.old)) }
+    {
+        self.order.insert(key.copy())?;
+        match self.flows.insert(key, counts) {
+            Ok(_) => Ok(()),
+            Err(refused) => {
+                self.order.remove(&refused.value.0);
+                Err(Fault::from(refused))
+            }
         }
     }
 }
@@ -53,19 +78,20 @@ impl FlowStore for ListStore {
         let key = Ordered::new(key);
         match self.flows.get_mut(&key) {
             Some(held) => *held = held.add(&counts),
-            None => {
-                self.flows.insert(key, counts)?;
-            }
+            None => self.add_new(key, counts)?,
         }
         Ok(None)
     }
 
     fn take(&mut self, key: &Key) -> Option<Counts> {
-        self.flows.remove(&Ordered::new(key.copy()))
+        let key = Ordered::new(key.copy());
+        self.order.remove(&key);
+        self.flows.swap_remove(&key)
     }
 
     fn take_least(&mut self) -> Option<(Key, Counts)> {
-        let (key, counts) = self.flows.pop_first()?;
+        let key = self.order.pop_first()?;
+        let counts = self.flows.swap_remove(&key)?;
         Some((key.into_key(), counts))
     }
 

@@ -1,8 +1,6 @@
 //! Flow keys in their order.
 ghost use Rattle.std.specs.Prelude.{◌≡◌, Some, refl};
 ghost use Rattle.std.specs.Cmp.{partial_equiv_from_equiv, po};
-ghost use Rattle.std.specs.Cmp.Lexicographic.{slice_cmp};
-ghost use Rattle.std.specs.Ordering.{nat_cmp};
 ghost use Rattle.fx_layout.specs.Keys.{same_key};
 ghost use Rattle.fx_store.specs.Order.{key_cmp, layout_cmp, part_cmp};
 ghost use Rattle.fx_store.specs.KeyOrder.{key_cmp_total, same_key_equiv, same_key_ties, hashed, hashes_alike};
@@ -26,26 +24,6 @@ impl Model for Ordered {
     ghost view = { λ k. k.key };
 
     ghost inverse = { λ k. record { key = k } };
-}
-
-/// The order of two lists of values: by the first value that differs.
-fn compare_values(a: &[u128], b: &[u128]) -> Ordering
-    ensures { result ≡ slice_cmp nat_cmp a.now b.now }
-{
-    match a {
-        [] => match b {
-            [] => Ordering::Equal,
-            [_, ..] => Ordering::Less,
-        },
-        [v, vs @ ..] => match b {
-            [] => Ordering::Greater,
-            [w, ws @ ..] => match v.cmp(w) {
-                Ordering::Less => Ordering::Less,
-                Ordering::Equal => compare_values(vs, ws),
-                Ordering::Greater => Ordering::Greater,
-            },
-        },
-    }
 }
 
 /// The order of two parts: by the axis, then by the bits.
@@ -138,7 +116,7 @@ impl Ord for Ordered {
     ghost matches_eq = { same_key_ties };
 
     fn cmp(&self, other: &Self) -> Ordering {
-        match compare_values(self.key.values(), other.key.values()) {
+        match self.key.values().cmp(other.key.values()) {
             Ordering::Less => Ordering::Less,
             Ordering::Equal => compare_parts(self.key.layout().parts(), other.key.layout().parts()),
             Ordering::Greater => Ordering::Greater,

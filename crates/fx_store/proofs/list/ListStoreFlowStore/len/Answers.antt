@@ -1,8 +1,12 @@
-use Rattle.std.proofs.Common.{sym, ◌∙◌}
-use Rattle.std.proofs.lemmas.Map.Keys.{IsDistinct-from_sorted}
-use Rattle.fx_store.specs.Order.{key_cmp}
+use Rattle.std.proofs.Common.{Bool, sym, ◌∙◌, subst}
+use Rattle.std.specs.List.{IsDistinct}
+use Rattle.std.specs.Map.{keys_of}
+use Rattle.fx_layout.specs.Keys.{Key}
 use Rattle.fx_store.proofs.FlowMaps.{len_is}
+use Rattle.fx_store.proofs.Recency.{same_tests}
 use Rattle.fx_store.proofs.list.ListStoreFlowStore.len.Goals as goal
 
 pub returns : goal.returns
-returns c = rw (← c.self.view_is) (c.len.ensures.len ∙ sym (len_is _ (IsDistinct-from_sorted key_cmp _ c.len.ensures.ordered)))
+returns c =
+    let es = c.self.inside.flows.entries in
+    rw (← c.self.view_is) (c.len.ensures.len ∙ sym (len_is es (subst (λ (e : Key → Key → Bool). IsDistinct e (keys_of es)) same_tests c.len.ensures.unique)))
