@@ -4,7 +4,7 @@
 Takes the rows of `rows/`, and in each of N runs of a kind changes one file of a row (N is 200 where none is given): some
 octets become others, go, come, or come twice, numbers become others, lines or pieces change places, or it is cut. Kinds
 are network, traffic, certificate, refutation, run, capture, schedule, stream and bundle. Each run must end by itself,
-within a second and a microsecond for each octet, in 64 MiB of address space, with a status of the table and what is
+within ten seconds and a microsecond for each octet, in 64 MiB of address space, with a status of the table and what is
 printed with it: 0 an answer, 1 `no N PLACE` or a refutation, 2 `refused N PLACE`, 3 `unknown 601`, and nothing on
 standard error. Memory (4) and devices (5) don't fail here, and the words parse (no 6). Prints each run that doesn't, and
 keeps its files in a folder that it names; last a line for each kind with how many runs ended with each status.
@@ -15,7 +15,6 @@ import concurrent.futures
 import os
 import random
 import re
-import resource
 import shutil
 import subprocess
 import sys
@@ -33,7 +32,7 @@ FILES = {
     "collect": ["network", "stream"],
 }
 KINDS = ["network", "traffic", "certificate", "refutation", "run", "capture", "schedule", "stream", "bundle"]
-SPACE = 64 << 20
+SPACE, SECONDS = 64 << 20, 10
 NUMBERS = [b"0", b"1", b"255", b"256", b"65535", b"65536", b"4294967295", b"4294967296", b"18446744073709551615",
            b"18446744073709551616", b"340282366920938463463374607431768211456", b"-1", b"01", b"1e9", b"0.5"]
 PLACE = rb"( line \d+| octet \d+| /[^\n]*| [0-9. ]+| )?\n"
@@ -139,10 +138,6 @@ def mutated(chance, octets):
     return octets
 
 
-def limit():
-    resource.setrlimit(resource.RLIMIT_AS, (SPACE, SPACE))
-
-
 def try_one(program, seed, given):
     """The status of a run over a changed row, and what is wrong with it, if anything is."""
     words, files, name = given
@@ -152,12 +147,12 @@ def try_one(program, seed, given):
     for own, octets in files.items():
         with open(os.path.join(folder, own), "wb") as file:
             file.write(octets)
-    stdin = files.get("stdin", b"")
-    size = sum(map(len, files.values()))
+    seconds = SECONDS + sum(map(len, files.values())) / 1e6
+    limited = ["prlimit", "--as=%d" % SPACE, program, *words]
     try:
-        run = subprocess.run([program, *words], input=stdin, capture_output=True, cwd=folder, timeout=1 + size / 1e6, preexec_fn=limit)
+        run = subprocess.run(limited, input=files.get("stdin", b""), capture_output=True, cwd=folder, timeout=seconds)
     except subprocess.TimeoutExpired:
-        return None, "%s %s: no end within %.1f s" % (folder, words, 1 + size / 1e6)
+        return None, "%s %s: no end within %.1f s" % (folder, words, seconds)
     form = PRINTED.get(run.returncode)
     if form is None or not form.fullmatch(run.stdout) or run.stderr:
         return run.returncode, "%s %s: status %d, %r, %r" % (folder, words, run.returncode, run.stdout[:200], run.stderr[:200])
