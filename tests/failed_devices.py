@@ -10,34 +10,10 @@ with 1 where one fails.
 """
 import os
 import shutil
-import subprocess
 import sys
 import tempfile
 
-from refused_growth import ROWS, SWEPT, octets_of, wrong_links
-
-HERE = os.path.dirname(os.path.abspath(__file__))
-
-
-class Shim:
-    """The program with calls failed."""
-
-    def __init__(self, program, folder):
-        self.program, self.told = program, os.path.join(folder, "calls.txt")
-        self.library = os.path.join(folder, "failed_devices.so")
-        source = os.path.join(HERE, "failed_devices.c")
-        subprocess.run(["cc", "-O2", "-Wall", "-shared", "-fPIC", "-o", self.library, source], check=True)
-
-    def run(self, words, given, folder, kind, number, behind):
-        """What is printed, the status, and how many calls of this kind were made."""
-        asked = {"LD_PRELOAD": self.library, "DEVICES": self.told, kind + "_FAILED": str(number)}
-        if behind:
-            asked["DEVICES_FAILED"] = "1"
-        done = subprocess.run([self.program] + words, input=given, capture_output=True, cwd=folder, env={**os.environ, **asked}, timeout=120)
-        with open(self.told) as file:
-            told = list(map(int, file.read().split()))
-        os.remove(self.told)
-        return done.stdout + done.stderr, done.returncode, told[kind == "WRITE"]
+from refused_growth import ROWS, SWEPT, Shim, octets_of, wrong_links
 
 
 def is_right(kind, said, status, wanted):
@@ -56,7 +32,9 @@ def sweep(shim, row, kind, behind):
     with tempfile.TemporaryDirectory() as room:
         folder = shutil.copytree(os.path.join(ROWS, row), os.path.join(room, "row"))
         while True:
-            said, status, calls = shim.run(words, given, folder, kind, number, behind)
+            asked = {kind + "_FAILED": number, "DEVICES_FAILED": int(behind)}
+            said, status, told = shim.run(words, given, folder, **asked)
+            calls = told[kind == "WRITE"]
             is_whole = calls < number
             links = wrong_links(row, folder, is_whole, messages=kind == "READ")
             if links:
@@ -74,7 +52,7 @@ def main(program):
         return 1
     failed = 0
     with tempfile.TemporaryDirectory() as folder:
-        shim = Shim(os.path.abspath(program), folder)
+        shim = Shim(os.path.abspath(program), folder, "failed_devices", "DEVICES")
         for row in SWEPT:
             for kind in ("READ", "WRITE"):
                 for behind, end in ((False, "alone"), (True, "and all behind")):

@@ -48,30 +48,27 @@ def octets_of(row, name, default=b""):
 
 
 class Shim:
-    """The program with growths refused."""
+    """The program with a library of this folder in front of the C library, which `cc` builds and which tells what it
+    counted in a file that the variable `tells` names."""
 
-    def __init__(self, program, folder):
-        self.program, self.told = program, os.path.join(folder, "growths.txt")
-        self.library = os.path.join(folder, "refused_growth.so")
-        source = os.path.join(HERE, "refused_growth.c")
+    def __init__(self, program, folder, name, tells):
+        self.program, self.name, self.tells = program, name, tells
+        self.library, self.told = os.path.join(folder, name + ".so"), os.path.join(folder, name + ".txt")
+        source = os.path.join(HERE, name + ".c")
         subprocess.run(["cc", "-O2", "-Wall", "-shared", "-fPIC", "-o", self.library, source], check=True)
 
-    def run(self, words, given=b"", folder=None, refused=0, behind=False, watched=""):
-        """What is printed, the status, and the numbers that the shim tells: growths, those after the first read of the
-        watched file, and whether it was read."""
-        asked = {"LD_PRELOAD": self.library, "GROWTHS": self.told, "GROWTH_REFUSED": str(refused)}
-        if behind:
-            asked["GROWTHS_REFUSED"] = "1"
-        if watched:
-            asked["GROWTH_WATCHED"] = watched
+    def run(self, words, given=b"", folder=None, **asked):
+        """What is printed, the status, and the numbers that the library tells; what is asked of it are its variables."""
+        asked = {name: str(value) for name, value in asked.items() if value}
+        how = {**os.environ, **asked, "LD_PRELOAD": self.library, self.tells: self.told}
         if os.path.exists(self.told):
             os.remove(self.told)
-        done = subprocess.run([self.program] + words, input=given, capture_output=True, cwd=folder, env={**os.environ, **asked}, timeout=120)
+        done = subprocess.run([self.program] + words, input=given, capture_output=True, cwd=folder, env=how, timeout=120)
         try:
             with open(self.told) as file:
                 told = list(map(int, file.read().split()))
         except FileNotFoundError:
-            sys.exit("refused_growth.so wasn't loaded, or the program didn't end by itself: %r" % done)
+            sys.exit("%s.so wasn't loaded, or the program didn't end by itself: %r" % (self.name, done))
         return done.stdout + done.stderr, done.returncode, told
 
 
@@ -107,7 +104,7 @@ def sweep(shim, row, behind):
     with tempfile.TemporaryDirectory() as room:
         folder = shutil.copytree(os.path.join(ROWS, row), os.path.join(room, "row"))
         while True:
-            said, status, told = shim.run(words, given, folder, refused=number, behind=behind)
+            said, status, told = shim.run(words, given, folder, GROWTH_REFUSED=number, GROWTHS_REFUSED=int(behind))
             is_answered = (said, status) == wanted
             links = wrong_links(row, folder, is_answered)
             if links:
@@ -129,7 +126,7 @@ def lengths(shim, folder):
         write_certificate(path, splits)
         words = ["check", os.path.join(ROW, "network.json"), os.path.join(ROW, "traffic.json"), path]
         for watched in ("", path):
-            said, status, told = shim.run(words, watched=watched)
+            said, status, told = shim.run(words, GROWTH_WATCHED=watched)
             if (said, status, told[1], told[2]) != (b"yes\n", 0, 0, int(watched == path)):
                 return False, "%d splits: status %d, printed %r, told %r" % (splits, status, said[:200], told)
             counts.append(told[0])
@@ -142,7 +139,7 @@ def main(program):
         return 1
     failed = 0
     with tempfile.TemporaryDirectory() as folder:
-        shim = Shim(os.path.abspath(program), folder)
+        shim = Shim(os.path.abspath(program), folder, "refused_growth", "GROWTHS")
         runs = [
             (row + end, lambda row=row, behind=behind: sweep(shim, row, behind))
             for row in SWEPT
