@@ -61,11 +61,15 @@ def least_space(words, folder):
     return high
 
 
-def write_inputs(folder, frames, flows, most, lines):
-    """A capture, documents and a schedule in a folder of their own; the words of a run over them."""
-    os.makedirs(folder)
+def write_capture(path, frames, flows):
     make = os.path.join(os.path.dirname(os.path.abspath(__file__)), "make_capture.py")
-    subprocess.run([sys.executable, make, os.path.join(folder, "capture.pcap"), str(frames), str(flows)], check=True)
+    subprocess.run([sys.executable, make, path, str(frames), str(flows)], check=True)
+
+
+def write_inputs(folder, frames, flows, most=None, lines=()):
+    """A capture, documents and a schedule in a folder; the words of a run over them."""
+    os.makedirs(folder, exist_ok=True)
+    write_capture(os.path.join(folder, "capture.pcap"), frames, flows)
     for name, value in [("network.json", network(most)), ("traffic.json", TRAFFIC)]:
         with open(os.path.join(folder, name), "w") as file:
             json.dump(value, file)
@@ -81,27 +85,20 @@ def by_flows(program, frames, folder):
         for flows in [500, 5_000, 50_000]:
             here = os.path.join(folder, "%s-%d" % (name, flows))
             if name == "evictions":
-                words = write_inputs(here, frames, 2 * flows, flows, [])
+                words = write_inputs(here, frames, 2 * flows, flows)
                 units = frames
             else:
                 units = (frames - flows) // 2
                 lines = ["next\n"] * flows + ["expire 1 1\nnext\n"] * units
-                words = write_inputs(here, flows + units, flows, None, lines)
+                words = write_inputs(here, flows + units, flows, lines=lines)
             took = min(processor_time([program, *words], here)[0] for _ in range(3))
             print("%-9s where %6d flows are held: %5.0f ns each" % (name, flows, took / units * 1e9))
             shutil.rmtree(here)
 
 
 def main(program, frames, flows, folder):
-    make = os.path.join(os.path.dirname(os.path.abspath(__file__)), "make_capture.py")
-    for name, count in [("capture.pcap", frames), ("twice.pcap", 2 * frames)]:
-        subprocess.run([sys.executable, make, os.path.join(folder, name), str(count), str(flows)], check=True)
-    for name, value in [("network.json", network()), ("traffic.json", TRAFFIC)]:
-        with open(os.path.join(folder, name), "w") as file:
-            json.dump(value, file)
-    with open(os.path.join(folder, "schedule"), "w"):
-        pass
-    ours = [program, "run", "network.json", "traffic.json", "capture.pcap", "schedule"]
+    ours = [program, *write_inputs(folder, frames, flows)]
+    write_capture(os.path.join(folder, "twice.pcap"), 2 * frames, flows)
     programs = {"once run": ours}
     if shutil.which("softflowd"):
         programs["softflowd"] = ["softflowd", "-m", str(2 * flows), "-r", "capture.pcap"]

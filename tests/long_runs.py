@@ -17,29 +17,18 @@ import tempfile
 import time
 
 TOP = os.path.dirname(os.path.dirname(os.path.abspath(__file__)))
+sys.path.insert(0, os.path.join(TOP, "bench"))
+
+import run
+
 FLOWS = 10_000
 SPACE = 32 << 20
 MILLION = 1_000_000
 
 
 def documents(folder):
-    """A meter with a timeout cache by source, and a collector that reports by it."""
-    field = [{"name": "s", "ieName": "sourceIPv4Address", "isFlowKey": [None]}]
-    counters = [{"name": name, "ieName": name} for name in ("octetDeltaCount", "packetDeltaCount")]
-    meter = {
-        "observationPoint": [{"name": "op", "observationDomainId": 0, "ifName": ["eth0"], "selectionProcess": ["all"]}],
-        "selectionProcess": [{"name": "all", "selector": [{"name": "all", "selectAll": [None]}], "cache": "flows"}],
-        "cache": [{"name": "flows", "timeoutCache": {"cacheLayout": {"cacheField": field + counters}}, "exportingProcess": ["out"]}],
-        "exportingProcess": [{"name": "out", "destination": [{"name": "d", "tcpExporter": {}}]}],
-    }
-    network = {
-        "devices": [{"name": name, "config": {"ietf-ipfix-psamp:ipfix": config}}
-                    for name, config in (("m", meter), ("c", {"collectingProcess": [{"name": "cp"}]}))],
-        "links": [{"device": "m", "exportingProcess": "out", "destination": "d", "toDevice": "c", "toProcess": "cp"}],
-        "report": {"device": "c", "collectingProcess": "cp", "key": [{"ieName": "sourceIPv4Address"}]},
-    }
-    traffic = {"classes": [{"name": "all", "paths": [[{"device": "m", "interface": "eth0", "direction": "ingress"}]]}]}
-    for name, value in (("network.json", network), ("traffic.json", traffic)):
+    """A meter with a timeout cache, and a collector that reports by its key."""
+    for name, value in (("network.json", run.network()), ("traffic.json", run.TRAFFIC)):
         with open(os.path.join(folder, name), "w") as file:
             json.dump(value, file)
     open(os.path.join(folder, "schedule"), "w").close()
@@ -47,9 +36,8 @@ def documents(folder):
 
 def capture(folder):
     """A capture's header, and one round of frames over all flows, which can stand behind itself."""
-    make = os.path.join(TOP, "bench", "make_capture.py")
     path = os.path.join(folder, "round.pcap")
-    subprocess.run([sys.executable, make, path, str(FLOWS), str(FLOWS)], check=True)
+    run.write_capture(path, FLOWS, FLOWS)
     with open(path, "rb") as file:
         octets = file.read()
     return octets[:24], octets[24:]
@@ -64,32 +52,32 @@ def begin(program, folder, *more, **how):
     return subprocess.Popen(words, cwd=folder, stdin=subprocess.PIPE, preexec_fn=limit, **{"stdout": subprocess.PIPE, **how})
 
 
-def feed(run, octets, rounds):
+def feed(ongoing, octets, rounds):
     """Hands so many rounds of frames to a run; whether it took them all."""
     try:
-        run.stdin.write(octets[0])
+        ongoing.stdin.write(octets[0])
         for _ in range(rounds):
-            run.stdin.write(octets[1])
-        run.stdin.flush()
+            ongoing.stdin.write(octets[1])
+        ongoing.stdin.flush()
     except BrokenPipeError:
         return False
     return True
 
 
-def ended(run):
+def ended(ongoing):
     try:
-        run.stdin.close()
+        ongoing.stdin.close()
     except BrokenPipeError:
         pass
-    said = run.stdout.read() if run.stdout else b""
-    return said, run.wait(timeout=600)
+    said = ongoing.stdout.read() if ongoing.stdout else b""
+    return said, ongoing.wait(timeout=600)
 
 
 def whole(program, folder, octets, frames):
-    run = begin(program, folder)
+    ongoing = begin(program, folder)
     began = time.monotonic()
-    feed(run, octets, frames // FLOWS)
-    said, status = ended(run)
+    feed(ongoing, octets, frames // FLOWS)
+    said, status = ended(ongoing)
     lines = said.decode().splitlines()
     wanted = " packets %d octets %d" % (frames // FLOWS, frames // FLOWS * 46)
     right = status == 0 and lines[0] == "keys %d" % FLOWS and all(line.endswith(wanted) for line in lines[1 : FLOWS + 1])
@@ -97,36 +85,36 @@ def whole(program, folder, octets, frames):
 
 
 def terminated(program, folder, octets):
-    run = begin(program, folder)
-    feed(run, octets, MILLION // FLOWS)
-    run.send_signal(signal.SIGTERM)
-    said, status = ended(run)
+    ongoing = begin(program, folder)
+    feed(ongoing, octets, MILLION // FLOWS)
+    ongoing.send_signal(signal.SIGTERM)
+    said, status = ended(ongoing)
     return (said, status) == (b"", -signal.SIGTERM), "status %d, printed %r" % (status, said[:80])
 
 
 def unread(program, folder, octets):
     near, far = os.pipe()
     os.close(near)
-    run = begin(program, folder, stdout=far)
+    ongoing = begin(program, folder, stdout=far)
     os.close(far)
-    feed(run, octets, MILLION // FLOWS)
-    _, status = ended(run)
+    feed(ongoing, octets, MILLION // FLOWS)
+    _, status = ended(ongoing)
     return status in (5, -signal.SIGPIPE), "status %d" % status
 
 
 def full(program, folder, octets):
     link = os.path.join(folder, "full1")
     os.symlink("/dev/full", link)
-    run = begin(program, folder, "--links", "full")
-    feed(run, octets, MILLION // FLOWS)
-    said, status = ended(run)
+    ongoing = begin(program, folder, "--links", "full")
+    feed(ongoing, octets, MILLION // FLOWS)
+    said, status = ended(ongoing)
     return (said, status) == (b"device 902\n", 5), "status %d, printed %r" % (status, said[:80])
 
 
 def broken_off(program, folder, octets):
-    run = begin(program, folder)
-    feed(run, (octets[0], octets[1][:-1]), 1)
-    said, status = ended(run)
+    ongoing = begin(program, folder)
+    feed(ongoing, (octets[0], octets[1][:-1]), 1)
+    said, status = ended(ongoing)
     at = len(octets[0]) + len(octets[1]) // FLOWS * (FLOWS - 1)
     return (said, status) == (b"refused 703 octet %d\n" % at, 2), "status %d, printed %r" % (status, said[:80])
 
