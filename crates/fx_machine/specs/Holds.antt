@@ -14,10 +14,13 @@ use Rattle.fx_machine.specs.Acts.{Choices, Act, Hold, taken_in}
 abbrev pub hold_act : Holding → Act
 hold_act h = Hold h.holder h.key
 
+-- the cache of an occurrence, with the packet's key there
+abbrev pub holding_of : List Holder → Fields → Occurrence → Holding
+holding_of holders fields o = record { holder = o.holder; key = key_of (layout_of (slice_get holders o.holder)) fields }
+
 -- the caches of these occurrences, with the packet's keys
 abbrev pub met_holdings : List Holder → Fields → List Occurrence → List Holding
-met_holdings holders fields os =
-    map (λ (o : Occurrence). record { holder = o.holder; key = key_of (layout_of (slice_get holders o.holder)) fields }) os
+met_holdings holders fields os = map (λ o. holding_of holders fields o) os
 
 -- ---- taking in
 

@@ -1,18 +1,20 @@
 //! Packets are metered where they cross an interface.
-ghost use Rattle.std.specs.Prelude.{◌≡◌, ◌++◌, [], OnOk, IfOk, if◌then◌else◌, bytes_eq};
+ghost use Rattle.std.specs.Prelude.{◌≡◌, ◌++◌, [], OnOk, IfOk, if◌then◌else◌, bytes_eq, slice_get};
 ghost use Rattle.std.specs.List.{list_any};
+ghost use Rattle.fx_layout.specs.Keys as keys;
 ghost use Rattle.fx_machine.specs.Holds as holds;
 ghost use Rattle.fx_machine.specs.Network as network;
 ghost use Rattle.fx_machine.specs.Occurrences as met;
 
 use crate::holder::Holder;
 use crate::holding::Holding;
-use crate::lookup::{layout_at, points_of};
+use crate::lookup::points_of;
 use crate::net::Net;
 use crate::observation::{Occurrence, Point, Selection};
 use crate::traffic::Crossing;
 use fx_base::Name;
 use fx_boxes::{Fields, Region};
+use fx_layout::{Key, Layout};
 use std::alloc::{AllocError, Global};
 
 /// Whether the packets of this region include this one.
@@ -101,20 +103,39 @@ fn push_met_at(
     Ok(())
 }
 
-/// The occurrences of a packet at the points of a device.
-fn met_at(
-    alloc: Global,
+/// The occurrences of a packet at the points of a device come last.
+fn push_met_of(
+    found: &mut Vec<Occurrence>,
     points: &[Point],
     crossing: &Crossing,
     fields: &Fields,
-) -> Result<Vec<Occurrence>, AllocError>
-    ensures { IfOk result (λ found. found.items ≡ met.met_at 1 points.now crossing.now fields.now) }
+) -> Result<(), AllocError>
+    ensures { OnOk result (found.new.items ≡ found.old.items ++ met.met_at 1 points.now crossing.now fields.now) }
 {
-    let mut found: Vec<Occurrence> = Vec::new(alloc);
     for place in 0..points.len() {
-        push_met_at(&mut found, place + 1, &points[place], crossing, fields)?;
+        push_met_at(found, place + 1, &points[place], crossing, fields)?;
     }
-    Ok(found)
+    Ok(())
+}
+
+/// The key that a packet with these fields has in the holder at a place.
+fn key_at(holders: &[Holder], place: usize, fields: &Fields) -> Key
+    ensures { result ≡ keys.key_of (network.layout_of (slice_get holders.now place)) fields.now }
+{
+    match holders.get(place) {
+        None => Layout::new().key_of(fields),
+        Some(holder) => holder.layout.key_of(fields),
+    }
+}
+
+/// The cache of an occurrence, and the key that a packet with these fields has there.
+fn holding_of(holders: &[Holder], occurrence: &Occurrence, fields: &Fields) -> Holding
+    ensures { result ≡ holds.holding_of holders.now fields.now occurrence.now }
+{
+    Holding {
+        holder: occurrence.holder,
+        key: key_at(holders, occurrence.holder, fields),
+    }
 }
 
 /// The caches of these occurrences, and the keys that the packet has there.
@@ -128,11 +149,7 @@ pub fn met_holdings(
 {
     let mut holdings: Vec<Holding> = Vec::new(alloc);
     for occurrence in occurrences {
-        let holder = occurrence.holder;
-        holdings.push(Holding {
-            holder,
-            key: layout_at(holders, holder).key_of(fields),
-        })?;
+        holdings.push(holding_of(holders, occurrence, fields))?;
     }
     Ok(holdings)
 }
@@ -149,22 +166,29 @@ impl Net {
     ) -> Result<Vec<Occurrence>, AllocError>
         ensures { IfOk result (λ found. found.items ≡ met.occurrences self.now crossing.now fields.now) }
     {
-        let points = points_of(self.devices(), crossing.device);
-        met_at(alloc, points, crossing, fields)
+        let mut found: Vec<Occurrence> = Vec::new(alloc);
+        self.push_occurrences(&mut found, crossing, fields)?;
+        Ok(found)
     }
 
-    /// The caches that meter a packet with these fields at a crossing, each with the key that the packet has there, in
-    /// the order of [`Net::occurrences`]. Fails for want of memory alone.
-    pub fn met(
+    /// The same, behind what the list has. Fails for want of memory alone.
+    pub fn push_occurrences(
         &self,
-        alloc: Global,
+        found: &mut Vec<Occurrence>,
         crossing: &Crossing,
         fields: &Fields,
-    ) -> Result<Vec<Holding>, AllocError>
-        ensures { IfOk result (λ holdings. holdings.items
-            ≡ holds.met_holdings self.now.holders fields.now (met.occurrences self.now crossing.now fields.now)) }
+    ) -> Result<(), AllocError>
+        ensures { OnOk result (found.new.items ≡ found.old.items ++ met.occurrences self.now crossing.now fields.now) }
     {
-        let found = self.occurrences(alloc, crossing, fields)?;
-        met_holdings(alloc, self.holders(), found.as_slice(), fields)
+        let points = points_of(self.devices(), crossing.device);
+        push_met_of(found, points, crossing, fields)
+    }
+
+    /// The cache that meters a packet with these fields at an occurrence, and the key that the packet has there: that of
+    /// the cache's layout, and of the empty one where the network has no such cache.
+    pub fn holding(&self, occurrence: &Occurrence, fields: &Fields) -> Holding
+        ensures { result ≡ holds.holding_of self.now.holders fields.now occurrence.now }
+    {
+        holding_of(self.holders(), occurrence, fields)
     }
 }

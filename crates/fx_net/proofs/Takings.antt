@@ -1,5 +1,5 @@
 -- Stores that take in what comes to them.
-use Rattle.std.proofs.Common.{◌≡◌, ℕ, zero, suc, ◌<◌, ◌≤◌, List, [], ◌∷◌, ◌++◌, length, set, get_or, Option, Some, None, option_map, refl, sym, ap, ◌∙◌, append-nil}
+use Rattle.std.proofs.Common.{◌≡◌, ℕ, zero, suc, ◌<◌, ◌≤◌, List, [], ◌∷◌, ◌++◌, length, set, get_or, Option, Some, None, option_map, refl, sym, ap, ◌∙◌, append-nil, append_assoc}
 use Rattle.std.specs.Prelude.{option_and_then, if◌then◌else◌}
 use Rattle.fx_base.specs.declared.counts.Counts.{Counts}
 use Rattle.fx_machine.specs.declared.holding.Holding.{Holding}
@@ -74,6 +74,24 @@ same_leave counts (x ∷ xs) before after h =
     ap (λ b. (if b then leaver x.holder (x.key, counts) ∷ [] else []) ++ all_leave_at_once before counts xs) (sym (h x.holder))
     ∙ ap (λ ls. leaves_at_once after counts x ++ ls) (same_leave counts xs before after h)
 
+-- what leaves at once, one holder on
+pub passing_next : (counts : Counts) (h : Holding) (rest : List Holding) (before stores : List (Option Stored)) (passing more all : List Leaver)
+    → more ≡ passing ++ leaves_at_once stores counts h
+    → is_immediate (stored_at stores h.holder) ≡ is_immediate (stored_at before h.holder)
+    → passing ++ all_leave_at_once before counts (h ∷ rest) ≡ all
+    → more ++ all_leave_at_once before counts rest ≡ all
+passing_next counts h rest before stores passing more all e still is =
+    ap (λ ls. ls ++ all_leave_at_once before counts rest) (e ∙ ap (λ b. passing ++ (if b then leaver h.holder (h.key, counts) ∷ [] else [])) still)
+    ∙ append_assoc passing (leaves_at_once before counts h) (all_leave_at_once before counts rest) ∙ is
+
+-- which holders are immediate caches, one holder on
+pub still_next : (counts : Counts) (h : Holding) (before stores stores2 : List (Option Stored)) (left left2 : List Leaver)
+    → ◌≡◌ {A = Adding} (record { stores = stores2; left = left2 }) (with_holding counts h (record { stores = stores; left = left }))
+    → ((p : ℕ) → is_immediate (stored_at stores p) ≡ is_immediate (stored_at before p))
+    → (p : ℕ) → is_immediate (stored_at stores2 p) ≡ is_immediate (stored_at before p)
+still_next counts h before stores stores2 left left2 e still p =
+    ap (λ (a : Adding). is_immediate (stored_at a.stores p)) e ∙ immediate_still (λ s. with_counts s h.key counts) stores h.holder p ∙ still p
+
 pub taken_in_is : (net : Net) (counts : Counts) (hs : List Holding) (c mid : Contents) (stores : List (Option Stored)) (left passing : List Leaver)
     → ◌≡◌ {A = Adding} (record { stores = stores; left = left }) (adding c.stores counts hs)
     → passing ≡ all_leave_at_once c.stores counts hs
@@ -83,6 +101,19 @@ taken_in_is net counts hs c mid stores left passing e is f =
     ap (after_leaves net passing) f
     ∙ ap (λ ls. after_leaves net ls (after_leaves net left (with_stores c stores))) (is ∙ same_leave counts hs c.stores (adding c.stores counts hs).stores (immediate_after counts hs (record { stores = c.stores; left = [] })))
     ∙ ap (λ (a : Adding). after_leaves net (all_leave_at_once (adding c.stores counts hs).stores counts hs) (after_leaves net a.left (with_stores c a.stores))) e
+
+-- the same of what was taken in from nothing on
+pub taken_in_by : (net : Net) (counts : Counts) (hs : List Holding) (c old : Contents) (stores : List (Option Stored)) (left0 passing0 left passing : List Leaver)
+    → c ≡ old → left0 ≡ [] → passing0 ≡ []
+    → ◌≡◌ {A = Adding} (record { stores = stores; left = left }) (with_holdings counts hs (record { stores = c.stores; left = left0 }))
+    → passing ≡ passing0 ++ all_leave_at_once c.stores counts hs
+    → after_leaves net passing (after_leaves net left (with_stores c stores)) ≡ after_taking net counts hs old
+taken_in_by net counts hs c old stores left0 passing0 left passing same none none2 e is =
+    taken_in_is net counts hs c (after_leaves net left (with_stores c stores)) stores left passing
+    (e ∙ ap (λ ls. with_holdings counts hs (record { stores = c.stores; left = ls })) none)
+    (is ∙ ap (λ ls. ls ++ all_leave_at_once c.stores counts hs) none2)
+    refl
+    ∙ ap (after_taking net counts hs) same
 
 -- ---- what leaves to make room comes last
 

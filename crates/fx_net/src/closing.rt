@@ -15,7 +15,7 @@ use crate::network::Network;
 use crate::stop::Stop;
 use fx_base::{Fault, Source};
 use fx_link::{Link, Links};
-use fx_machine::{Aggregation, Device, Net, Process};
+use fx_machine::{Aggregation, Device, Net, Occurrence, Process};
 use fx_pcap::Capture;
 use std::alloc::Global;
 
@@ -237,13 +237,14 @@ impl<'a> Network<'a> {
         &mut self,
         capture: &Capture<R>,
         links: &mut L,
+        met: &mut Vec<Occurrence>,
     ) -> Result<(), Stop>
         ensures ok { OnOk result (running.ReadsOne self.old self.new capture.now.seen (L.put_on links.old) (L.put_on links.new)) }
         ensures going { OnOk result (L.failed links.old ≡ false → L.failed links.new ≡ false) }
         ensures err { IfErr result (λ s. running.FailsOutside (L.failed links.new) (running.fault_of s)
             ⊎ ((s ≡ stop.Bare 804) × running.IsOfNone self.old.classes capture.now.seen)) }
     {
-        if !self.meter_first(capture)? {
+        if !self.meter_first(capture, met)? {
             return Err(Stop::Bare { number: 804 });
         }
         self.contents.finish(links)?;
@@ -262,8 +263,9 @@ impl<'a> Network<'a> {
         ensures err { IfErr result (λ s. running.FailsOutside (L.failed links.new) (running.fault_of s)
             ⊎ running.RefusesClose self.old capture.old capture.new (running.fault_of s)) }
     {
+        let mut met: Vec<Occurrence> = Vec::new(self.alloc);
         while capture.advance()? {
-            self.read_one(capture, links)?;
+            self.read_one(capture, links, &mut met)?;
         }
         Ok(())
     }

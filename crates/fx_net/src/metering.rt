@@ -9,11 +9,12 @@ ghost use Rattle.fx_net.specs.Taking as taking;
 use crate::contents::Contents;
 use fx_base::{Counts, Fault};
 use fx_boxes::Fields;
-use fx_machine::{Crossing, Net};
+use fx_machine::{Crossing, Net, Occurrence};
 use std::alloc::Global;
 
 impl Contents {
-    /// A packet crosses an interface: each cache that meters it there takes its counts in.
+    /// A packet crosses an interface: each cache that meters it there takes its counts in. The list is used for where it is
+    /// metered; what it has before is of no account.
     fn cross(
         &mut self,
         alloc: Global,
@@ -21,16 +22,19 @@ impl Contents {
         fields: &Fields,
         counts: Counts,
         crossing: &Crossing,
+        met: &mut Vec<Occurrence>,
     ) -> Result<(), Fault>
         ensures ok { OnOk result (self.new
             ≡ taking.after_taking net.now counts (metered net.now fields.now crossing.now) self.old) }
         ensures err { IfErr result (λ e. e ≡ fault_at 900 places.None) }
     {
-        let met = net.met(alloc, crossing, fields)?;
-        self.take_in(alloc, net, met, counts)
+        met.clear();
+        net.push_occurrences(met, crossing, fields)?;
+        self.meet(alloc, net, met.as_slice(), fields, counts)
     }
 
-    /// A packet makes all crossings of a path, in order.
+    /// A packet makes all crossings of a path, in order. The list is used for where it is metered, so that no packet
+    /// asks for memory of its own.
     ///
     /// Fails with 900, at no place, for want of memory.
     pub(crate) fn cross_all(
@@ -40,13 +44,14 @@ impl Contents {
         fields: &Fields,
         counts: Counts,
         path: &[Crossing],
+        met: &mut Vec<Occurrence>,
     ) -> Result<(), Fault>
         ensures ok { OnOk result (self.new
             ≡ metering.after_path net.now fields.now counts path.now self.old) }
         ensures err { IfErr result (λ e. e ≡ fault_at 900 places.None) }
     {
         for crossing in path {
-            self.cross(alloc, net, fields, counts, crossing)?;
+            self.cross(alloc, net, fields, counts, crossing, met)?;
         }
         Ok(())
     }

@@ -17,7 +17,7 @@ use crate::stop::Stop;
 use fx_base::{Counts, Fault, Source};
 use fx_boxes::Fields;
 use fx_collect::Totals;
-use fx_machine::{Class, Packet};
+use fx_machine::{Class, Occurrence, Packet};
 use fx_pcap::{Capture, Frame};
 use fx_plan::Plan;
 use fx_traffic::Traffic;
@@ -92,8 +92,15 @@ impl<'a> Network<'a> {
         })
     }
 
-    /// A packet of a frame, of this class and with this path, makes all its crossings.
-    pub(crate) fn meter(&mut self, frame: &Frame<'_>, class: u64, path: u64) -> Result<(), Stop>
+    /// A packet of a frame, of this class and with this path, makes all its crossings. The list is used for where it is
+    /// metered.
+    pub(crate) fn meter(
+        &mut self,
+        frame: &Frame<'_>,
+        class: u64,
+        path: u64,
+        met: &mut Vec<Occurrence>,
+    ) -> Result<(), Stop>
         ensures ok { OnOk result (self.new ≡ record self.old {
           contents = doings.after_packet (net_of self.old.network)
               self.old.classes (running.packet_of (captures.seen_of frame.now) class path) frame.now.second self.old.contents;
@@ -112,13 +119,18 @@ impl<'a> Network<'a> {
         let net = self.plan.net();
         self.contents.second = frame.second;
         self.contents
-            .cross_all(self.alloc, net, &packet.fields, counts, crossings)?;
+            .cross_all(self.alloc, net, &packet.fields, counts, crossings, met)?;
         Ok(())
     }
 
     /// The packet of the frame that a capture is at makes all its crossings, where a class holds it: it is of the first
-    /// such class, and takes that class's first path. Answers whether there is one.
-    pub(crate) fn meter_first<R: Source>(&mut self, capture: &Capture<R>) -> Result<bool, Stop>
+    /// such class, and takes that class's first path. Answers whether there is one. The list is used for where it is
+    /// metered.
+    pub(crate) fn meter_first<R: Source>(
+        &mut self,
+        capture: &Capture<R>,
+        met: &mut Vec<Occurrence>,
+    ) -> Result<bool, Stop>
         ensures read { IfOk result (λ there. there ≡ true
             → doings.Reads (net_of self.old.network) self.old.classes action.Next capture.now.seen
             self.old.contents self.new.contents) }
@@ -131,7 +143,7 @@ impl<'a> Network<'a> {
         let Some(place) = class_place(classes, &frame.fields) else {
             return Ok(false);
         };
-        self.meter(&frame, place as u64 + 1, 1)?;
+        self.meter(&frame, place as u64 + 1, 1, met)?;
         Ok(true)
     }
 

@@ -18,7 +18,7 @@ use crate::stop::Stop;
 use fx_base::{Fault, Line, Source};
 use fx_boxes::Fields;
 use fx_link::Links;
-use fx_machine::{Class, HolderName};
+use fx_machine::{Class, HolderName, Occurrence};
 use fx_pcap::Capture;
 
 /// The entry of this number, from 1.
@@ -73,7 +73,8 @@ impl<'a> Network<'a> {
         if !capture.advance()? {
             return Err(Stop::Line { number: 802, line });
         }
-        if !self.meter_first(capture)? {
+        let mut met: Vec<Occurrence> = Vec::new(self.alloc);
+        if !self.meter_first(capture, &mut met)? {
             return Err(Stop::Line { number: 804, line });
         }
         Ok(())
@@ -106,7 +107,8 @@ impl<'a> Network<'a> {
         ) {
             return Err(Stop::Line { number: 803, line });
         }
-        self.meter(&frame, class, path)
+        let mut met: Vec<Occurrence> = Vec::new(self.alloc);
+        self.meter(&frame, class, path, &mut met)
     }
 
     /// The record of the least key leaves a holder.

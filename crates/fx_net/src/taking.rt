@@ -1,7 +1,9 @@
 //! Caches and aggregations take in what comes to them.
-ghost use Rattle.std.specs.Prelude.{◌≡◌, ◌++◌, OnOk, IfOk, IfErr};
+ghost use Rattle.std.specs.Prelude.{◌≡◌, ◌++◌, [], ◌∷◌, OnOk, IfErr};
 ghost use Rattle.fx_base.specs.Fault.{fault_at};
 ghost use Rattle.fx_base.specs.declared.fault.Place.TheVariants as places;
+ghost use Rattle.fx_machine.specs.Holds.{met_holdings};
+ghost use Rattle.fx_net.specs.Leaving as leaving;
 ghost use Rattle.fx_net.specs.Taking as taking;
 
 use crate::contents::Contents;
@@ -9,9 +11,28 @@ use crate::holding::is_immediate;
 use crate::leaving::Leaver;
 use crate::store::Store;
 use fx_base::{Counts, Fault};
-use fx_machine::{Holding, Net, Record};
+use fx_boxes::Fields;
+use fx_layout::Key;
+use fx_machine::{Holding, Net, Occurrence, Record};
 use fx_store::FlowStore;
 use std::alloc::Global;
+
+/// A record that leaves a holder comes last.
+fn push_leaver(
+    leavers: &mut Vec<Leaver>,
+    holder: usize,
+    key: Key,
+    counts: Counts,
+) -> Result<(), Fault>
+    ensures ok { OnOk result (leavers.new.items ≡ leavers.old.items ++ leaving.leaver holder (key, counts) ∷ []) }
+    ensures err { IfErr result (λ e. e ≡ fault_at 900 places.None) }
+{
+    leavers.push(Leaver {
+        holder,
+        flow: Record { key, counts },
+    })?;
+    Ok(())
+}
 
 /// The counts are added at a key of a holder, and what leaves to make room comes last.
 fn add(
@@ -30,31 +51,11 @@ fn add(
     let Some(store) = store else {
         return Ok(());
     };
-    let Some((key, counts)) = store.add(holding.key, counts)? else {
-        return Ok(());
-    };
-    left.push(Leaver {
-        holder: holding.holder,
-        flow: Record { key, counts },
-    })?;
-    Ok(())
-}
-
-/// The counts are added at these keys in turn, and what leaves to make room comes last.
-fn add_all(
-    stores: &mut Vec<Option<Store>>,
-    left: &mut Vec<Leaver>,
-    holdings: Vec<Holding>,
-    counts: Counts,
-) -> Result<(), Fault>
-    ensures ok { OnOk result (record { stores = stores.new.items; left = left.new.items }
-        ≡ taking.with_holdings counts holdings.items (record { stores = stores.old.items; left = left.old.items })) }
-    ensures err { IfErr result (λ e. e ≡ fault_at 900 places.None) }
-{
-    for holding in holdings {
-        add(stores, left, holding, counts)?;
+    match store.add(holding.key, counts) {
+        Err(fault) => Err(fault),
+        Ok(None) => Ok(()),
+        Ok(Some((key, counts))) => push_leaver(left, holding.holder, key, counts),
     }
-    Ok(())
 }
 
 /// The record of a holding comes last where its holder is an immediate cache.
@@ -69,36 +70,99 @@ fn push_passing(
     ensures err { IfErr result (λ e. e ≡ fault_at 900 places.None) }
 {
     if is_immediate(stores, holding.holder) {
-        passing.push(Leaver {
-            holder: holding.holder,
-            flow: Record {
-                key: holding.key.copy(),
-                counts,
-            },
-        })?;
+        push_leaver(passing, holding.holder, holding.key.copy(), counts)?;
     }
     Ok(())
 }
 
-/// The records of immediate caches, which leave at once.
-fn passing(
-    alloc: Global,
-    stores: &[Option<Store>],
-    holdings: &[Holding],
+/// What leaves while holders take something in: what makes room, and the records of immediate caches, which leave behind
+/// it.
+#[derive(Drop)]
+struct Leavers {
+    left: Vec<Leaver>,
+    passing: Vec<Leaver>,
+}
+
+impl Leavers {
+    fn new(alloc: Global) -> Leavers
+        ensures { (result.left.items ≡ []) × (result.passing.items ≡ []) }
+    {
+        Leavers {
+            left: Vec::new(alloc),
+            passing: Vec::new(alloc),
+        }
+    }
+}
+
+/// A holder takes the counts in at a key, and what leaves comes last.
+fn take(
+    stores: &mut Vec<Option<Store>>,
+    leavers: &mut Leavers,
+    holding: Holding,
     counts: Counts,
-) -> Result<Vec<Leaver>, Fault>
-    ensures ok { IfOk result (λ passing. passing.items
-        ≡ taking.all_leave_at_once stores.now counts holdings.now) }
+) -> Result<(), Fault>
+    ensures ok { OnOk result (record { stores = stores.new.items; left = leavers.new.left.items }
+        ≡ taking.with_holding counts holding (record { stores = stores.old.items; left = leavers.old.left.items })) }
+    ensures passing { OnOk result (leavers.new.passing.items
+        ≡ leavers.old.passing.items ++ taking.leaves_at_once stores.old.items counts holding) }
     ensures err { IfErr result (λ e. e ≡ fault_at 900 places.None) }
 {
-    let mut passing: Vec<Leaver> = Vec::new(alloc);
+    push_passing(&mut leavers.passing, stores.as_slice(), &holding, counts)?;
+    add(stores, &mut leavers.left, holding, counts)
+}
+
+/// Holders take the counts in, one after another, each at its key.
+fn take_all(
+    stores: &mut Vec<Option<Store>>,
+    leavers: &mut Leavers,
+    holdings: Vec<Holding>,
+    counts: Counts,
+) -> Result<(), Fault>
+    ensures ok { OnOk result (record { stores = stores.new.items; left = leavers.new.left.items }
+        ≡ taking.with_holdings counts holdings.items (record { stores = stores.old.items; left = leavers.old.left.items })) }
+    ensures passing { OnOk result (leavers.new.passing.items
+        ≡ leavers.old.passing.items ++ taking.all_leave_at_once stores.old.items counts holdings.items) }
+    ensures err { IfErr result (λ e. e ≡ fault_at 900 places.None) }
+{
     for holding in holdings {
-        push_passing(&mut passing, stores, holding, counts)?;
+        take(stores, leavers, holding, counts)?;
     }
-    Ok(passing)
+    Ok(())
+}
+
+/// The caches of these occurrences take the counts in, one after another, each at the packet's key there.
+fn meet_all(
+    stores: &mut Vec<Option<Store>>,
+    leavers: &mut Leavers,
+    net: &Net,
+    met: &[Occurrence],
+    fields: &Fields,
+    counts: Counts,
+) -> Result<(), Fault>
+    ensures ok { OnOk result (record { stores = stores.new.items; left = leavers.new.left.items }
+        ≡ taking.with_holdings counts (met_holdings net.now.holders fields.now met.now)
+        (record { stores = stores.old.items; left = leavers.old.left.items })) }
+    ensures passing { OnOk result (leavers.new.passing.items ≡ leavers.old.passing.items
+        ++ taking.all_leave_at_once stores.old.items counts (met_holdings net.now.holders fields.now met.now)) }
+    ensures err { IfErr result (λ e. e ≡ fault_at 900 places.None) }
+{
+    for occurrence in met {
+        take(stores, leavers, net.holding(occurrence, fields), counts)?;
+    }
+    Ok(())
 }
 
 impl Contents {
+    /// What makes room leaves, and then the records of immediate caches.
+    fn leave_both(&mut self, net: &Net, leavers: &Leavers) -> Result<(), Fault>
+        ensures ok { OnOk result (self.new ≡ leaving.after_leaves net.now leavers.now.passing.items
+            (leaving.after_leaves net.now leavers.now.left.items self.old)) }
+        ensures err { IfErr result (λ e. e ≡ fault_at 900 places.None) }
+    {
+        self.leave_all(net, leavers.left.as_slice())?;
+        self.leave_all(net, leavers.passing.as_slice())
+    }
+
     /// Holders take the counts in, each at its key: what makes room leaves first, then the records of immediate caches.
     ///
     /// Fails with 900, at no place, for want of memory.
@@ -112,11 +176,29 @@ impl Contents {
         ensures ok { OnOk result (self.new ≡ taking.after_taking net.now counts holdings.items self.old) }
         ensures err { IfErr result (λ e. e ≡ fault_at 900 places.None) }
     {
-        let passing = passing(alloc, self.stores.as_slice(), holdings.as_slice(), counts)?;
-        let mut left: Vec<Leaver> = Vec::new(alloc);
-        add_all(&mut self.stores, &mut left, holdings, counts)?;
-        self.leave_all(net, left.as_slice())?;
-        self.leave_all(net, passing.as_slice())?;
-        Ok(())
+        let mut leavers = Leavers::new(alloc);
+        take_all(&mut self.stores, &mut leavers, holdings, counts)?;
+        self.leave_both(net, &leavers)
+    }
+
+    /// The caches of these occurrences take the counts in, each at the packet's key there, and records leave as in
+    /// [`Contents::take_in`].
+    ///
+    /// Fails with 900, at no place, for want of memory.
+    pub(crate) fn meet(
+        &mut self,
+        alloc: Global,
+        net: &Net,
+        met: &[Occurrence],
+        fields: &Fields,
+        counts: Counts,
+    ) -> Result<(), Fault>
+        ensures ok { OnOk result (self.new
+            ≡ taking.after_taking net.now counts (met_holdings net.now.holders fields.now met.now) self.old) }
+        ensures err { IfErr result (λ e. e ≡ fault_at 900 places.None) }
+    {
+        let mut leavers = Leavers::new(alloc);
+        meet_all(&mut self.stores, &mut leavers, net, met, fields, counts)?;
+        self.leave_both(net, &leavers)
     }
 }

@@ -218,18 +218,21 @@ fn looks_up_and_runs_and_refuses_packets_of_no_class(rt: HostRuntime) -> Result<
     Ok(())
 }
 
-/// Whether a packet of the class is met by the meter's cache alone, under its source.
+/// Whether a packet of the class is met by the meter's cache alone, each time that it is asked, under its source.
 fn is_met(net: &Net, classes: &Classes, alloc: Global) -> Result<bool, Fail> {
     let packet = packet(1, 1)?;
     let ([class], [crossing]) = (classes.as_slice(), classes.path_of(&packet)) else {
         return Ok(false);
     };
-    let met = net.met(alloc, crossing, &packet.fields)?;
-    let [holding] = met.as_slice() else {
+    let mut met = net.occurrences(alloc, crossing, &packet.fields)?;
+    net.push_occurrences(&mut met, crossing, &packet.fields)?;
+    let [occurrence, again] = met.as_slice() else {
         return Ok(false);
     };
+    let holding = net.holding(occurrence, &packet.fields);
     Ok(
-        class.holds(&packet.fields)
+        *occurrence == *again
+            && class.holds(&packet.fields)
             && holding.holder == 0
             && holding.key.values() == [0x0a00_0001u128].as_slice(),
     )

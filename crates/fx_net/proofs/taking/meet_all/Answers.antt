@@ -1,0 +1,32 @@
+use Rattle.std.proofs.Common.{◌≡◌, ℕ, ◌+◌, ◌++◌, ◌∷◌, ◌∙◌, sym, ap, drop, List}
+use Rattle.std.proofs.lemmas.List.{drop_more}
+use Rattle.fx_machine.specs.declared.holding.Holding.{Holding}
+use Rattle.fx_machine.specs.Holds.{met_holdings}
+use Rattle.fx_net.specs.Taking.{with_holdings, all_leave_at_once}
+use Rattle.fx_net.proofs.Takings.{passing_next, still_next}
+use Rattle.fx_net.proofs.taking.meet_all.Goals as goal
+
+pub loop-occurrence-preserved : goal.loop-occurrence-preserved
+loop-occurrence-preserved c =
+    let holders = c.args.net.now.holders in
+    let fields = c.args.fields.now in
+    let counts = c.args.counts in
+    let met = c.args.met.now in
+    let n = c.loop-occurrence.occurrence-index in
+    let h = c.holding.result in
+    let before = c.args.stores.now.items in
+    let stores = c.loop-occurrence.stores.items in
+    let left = c.loop-occurrence.leavers.left.items in
+    let passing = c.loop-occurrence.leavers.passing.items in
+    let rest = met_holdings holders fields (drop (n + 1) met) in
+    let here : met_holdings holders fields (drop n met) ≡ h ∷ rest =
+    ap (met_holdings holders fields) (drop_more met n _ c.loop-occurrence-test.true)
+    ∙ ap (λ (x : Holding). x ∷ rest) (sym c.holding.ensures) in
+    record {
+      adding = ap (with_holdings counts rest) c.in_ok-take.ensures.ok
+          ∙ ap (λ (hs : List Holding). with_holdings counts hs (record { stores = stores; left = left })) (sym here)
+          ∙ c.loop-occurrence.invariant.adding;
+      passing = passing_next counts h rest before stores passing c.take.new.leavers.passing.items _ c.in_ok-take.ensures.passing (c.loop-occurrence.invariant.still h.holder)
+          (ap (λ (hs : List Holding). passing ++ all_leave_at_once before counts hs) (sym here) ∙ c.loop-occurrence.invariant.passing);
+      still = still_next counts h before stores c.take.new.stores.items left c.take.new.leavers.left.items c.in_ok-take.ensures.ok c.loop-occurrence.invariant.still;
+    }
