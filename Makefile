@@ -62,7 +62,7 @@ wrong: kit
 	python3 tests/wrong_bodies.py --kept --jobs 2 $(NAME)
 
 # Compares the lists of definitions to believe, then runs the program over the worked rows, over long certificates, with
-# growths of its memory refused, with reads and writes failed, and over inputs that were changed.
+# growths of its memory refused, with reads and writes failed, and over inputs that were changed or cut.
 rows: once run-rows
 
 run-rows:
@@ -72,6 +72,7 @@ run-rows:
 	python3 tests/refused_growth.py ./once
 	python3 tests/failed_devices.py ./once
 	python3 tests/mutated_inputs.py ./once
+	python3 tests/cut_inputs.py ./once
 	python3 tests/generated_networks.py ./once
 	python3 tests/addresses.py ./once
 	python3 tests/carried_in_pieces.py ./once
@@ -100,10 +101,11 @@ run-examples:
 	done
 	python3 tests/generated_networks.py ./once --examples
 
-# What takes an hour or more: the program over 100,000 changed inputs of each kind, over a capture of 50,000,000 frames, and
-# over streams that are made to cost.
+# What takes an hour or more: the program over 100,000 changed inputs of each kind, over all cuts of the rows' files, over a
+# capture of 50,000,000 frames, and over streams that are made to cost.
 torture: once
 	python3 tests/mutated_inputs.py ./once --each 100000
+	python3 tests/cut_inputs.py ./once --all
 	python3 tests/long_runs.py ./once
 	python3 tests/hostile_streams.py ./once
 
