@@ -62,7 +62,7 @@ wrong: kit
 	python3 tests/wrong_bodies.py --kept --jobs 2 $(NAME)
 
 # Compares the lists of definitions to believe, then runs the program over the worked rows, over long certificates, with
-# growths of its memory refused, with reads and writes failed, and over inputs that were changed or cut.
+# growths of its memory refused, with reads and writes failed, with full files, and over inputs that were changed or cut.
 rows: once run-rows
 
 run-rows:
@@ -71,6 +71,7 @@ run-rows:
 	python3 tests/long_certificates.py ./once
 	python3 tests/refused_growth.py ./once
 	python3 tests/failed_devices.py ./once
+	python3 tests/full_files.py ./once
 	python3 tests/mutated_inputs.py ./once
 	python3 tests/cut_inputs.py ./once
 	python3 tests/generated_networks.py ./once

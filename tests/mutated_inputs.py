@@ -6,8 +6,9 @@ octets become others, go, come, or come twice, numbers become others, lines or p
 are network, traffic, certificate, refutation, run, capture, schedule, stream and bundle. Each run must end by itself,
 within ten seconds and a microsecond for each octet, in 64 MiB of address space, with a status of the table and what is
 printed with it: 0 an answer, 1 `no N PLACE` or a refutation, 2 `refused N PLACE`, 3 `unknown 601`, and nothing on
-standard error. Memory (4) and devices (5) don't fail here, and the words parse (no 6). Prints each run that doesn't, and
-keeps its files in a folder that it names; last a line for each kind with how many runs ended with each status.
+standard error. Devices (5) don't fail here, and the words parse (no 6). Memory (4) fails only where an audit comes to a
+refutation of more than 500,000 steps, which has 1,000,000 at most: it must be written in 96 MiB. Prints each run that
+doesn't, and keeps its files in a folder that it names; last a line for each kind with how many runs ended with each status.
 """
 import argparse
 import collections
@@ -33,6 +34,8 @@ FILES = {
 }
 KINDS = ["network", "traffic", "certificate", "refutation", "run", "capture", "schedule", "stream", "bundle"]
 SPACE, SECONDS = 64 << 20, 10
+# What the longest refutations take.
+MORE_SPACE, MANY_STEPS = 96 << 20, 500_000
 NUMBERS = [b"0", b"1", b"255", b"256", b"65535", b"65536", b"4294967295", b"4294967296", b"18446744073709551615",
            b"18446744073709551616", b"340282366920938463463374607431768211456", b"-1", b"01", b"1e9", b"0.5"]
 PLACE = rb"( line \d+| octet \d+| /[^\n]*| [0-9. ]+| )?\n"
@@ -138,6 +141,11 @@ def mutated(chance, octets):
     return octets
 
 
+def run_in(space, program, words, given, folder, seconds):
+    limited = ["prlimit", "--as=%d" % space, program, *words]
+    return subprocess.run(limited, input=given, capture_output=True, cwd=folder, timeout=seconds)
+
+
 def try_one(program, seed, given):
     """The status of a run over a changed row, and what is wrong with it, if anything is."""
     words, files, name = given
@@ -148,9 +156,11 @@ def try_one(program, seed, given):
         with open(os.path.join(folder, own), "wb") as file:
             file.write(octets)
     seconds = SECONDS + sum(map(len, files.values())) / 1e6
-    limited = ["prlimit", "--as=%d" % SPACE, program, *words]
     try:
-        run = subprocess.run(limited, input=files.get("stdin", b""), capture_output=True, cwd=folder, timeout=seconds)
+        run = run_in(SPACE, program, words, files.get("stdin", b""), folder, seconds)
+        if run.returncode == 4:
+            longest = run_in(MORE_SPACE, program, words, files.get("stdin", b""), folder, seconds)
+            run = longest if longest.stdout.count(b"\n") > MANY_STEPS else run
     except subprocess.TimeoutExpired:
         return None, "%s %s: no end within %.1f s" % (folder, words, seconds)
     form = PRINTED.get(run.returncode)

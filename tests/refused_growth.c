@@ -1,5 +1,6 @@
 /* Refuses growths of a program into which it is loaded (LD_PRELOAD), and counts them. A growth is a call of malloc, calloc,
-   realloc, aligned_alloc, memalign or posix_memalign.
+   aligned_alloc, memalign or posix_memalign, or one of realloc for more octets than there are: one for fewer, by which a
+   list gives back what it doesn't need, takes nothing.
 
    GROWTH_REFUSED   the number, from 1, of the growth that is refused (nothing or 0: none)
    GROWTHS_REFUSED  where it is set, all growths behind that one are refused too
@@ -9,6 +10,7 @@
 #define _GNU_SOURCE
 #include <errno.h>
 #include <fcntl.h>
+#include <malloc.h>
 #include <stdio.h>
 #include <stdlib.h>
 #include <string.h>
@@ -39,7 +41,12 @@ static int is_refused(void) {
 
 void *malloc(size_t size) { return is_refused() ? NULL : __libc_malloc(size); }
 void *calloc(size_t count, size_t size) { return is_refused() ? NULL : __libc_calloc(count, size); }
-void *realloc(void *old, size_t size) { return is_refused() ? NULL : __libc_realloc(old, size); }
+
+void *realloc(void *old, size_t size) {
+    int is_growth = old == NULL || size > malloc_usable_size(old);
+    return is_growth && is_refused() ? NULL : __libc_realloc(old, size);
+}
+
 void *memalign(size_t alignment, size_t size) { return is_refused() ? NULL : __libc_memalign(alignment, size); }
 void *aligned_alloc(size_t alignment, size_t size) { return memalign(alignment, size); }
 

@@ -3,12 +3,10 @@
 
 Of each row the first growth is refused with all behind it, then the second with all behind it, and so on until a run
 meets no refusal: each must print `memory 900` alone and end with status 4, but the last, which prints what the row does.
-Then each growth is refused alone. That must come to the same, but where the program makes up for the growth by a smaller
-one: std's `collect` asks for as many elements as it expects, and where that is refused for one. Then the row's own
-answer must be printed; how many growths are made up for is told. What a refused run has put on a link is the beginning of
-what it should be, of whole messages. Last, of certificates of one leaf and of 1,000,000
-lines: as many growths are asked for; none is asked for from the first read of the certificate on; and where all from
-there on would be refused the answer is the same. Prints a line for each run and ends with 1 where one fails.
+Then the same with each growth refused alone. What a refused run has put on a link is the beginning of what it should be,
+of whole messages. Last, of certificates of one leaf and of 1,000,000 lines: as many growths are asked for; none is asked
+for from the first read of the certificate on; and where all from there on would be refused the answer is the same.
+Prints a line for each run and ends with 1 where one fails.
 """
 import os
 import re
@@ -100,7 +98,7 @@ def wrong_links(row, folder, is_whole, messages=True):
 def sweep(shim, row, behind):
     """Whether each growth of a row that is refused is answered 900, and what to say of it."""
     words, given = octets_of(row, "words").decode().split(), octets_of(row, "stdin")
-    wanted, number, made_up = (octets_of(row, "stdout"), int(octets_of(row, "status"))), 1, []
+    wanted, number = (octets_of(row, "stdout"), int(octets_of(row, "status"))), 1
     with tempfile.TemporaryDirectory() as room:
         folder = shutil.copytree(os.path.join(ROWS, row), os.path.join(room, "row"))
         while True:
@@ -110,10 +108,8 @@ def sweep(shim, row, behind):
             if links:
                 return False, "growth %d refused: wrong octets on %s" % (number, links)
             if told[0] < number:
-                return number > 1 and is_answered, "%d growths, made up for: %s" % (told[0], made_up or "none")
-            if is_answered and not behind:
-                made_up.append(number)
-            elif (said, status) != (b"memory 900\n", 4):
+                return number > 1 and is_answered, "%d growths" % told[0]
+            if (said, status) != (b"memory 900\n", 4):
                 return False, "growth %d refused: status %d, printed %r" % (number, status, said[:200])
             number += 1
 

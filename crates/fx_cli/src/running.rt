@@ -288,7 +288,11 @@ fn answer_words<R: AllocGlobal + Files + Input, S: Sink>(
 
 /// The words of the command line, of which the first is the program's own name.
 fn all_words<R: AllocGlobal + Env>(rt: &R) -> io::Result<Vec<String>> {
-    Ok(env::args(rt)?.collect(rt.alloc())?)
+    let mut words: Vec<String> = Vec::new(rt.alloc());
+    for word in env::args(rt)? {
+        words.push(word)?;
+    }
+    Ok(words)
 }
 
 /// Reads the words, answers them and hands on all that was written. Gives the exit status.

@@ -32,7 +32,10 @@ fn all_have_come(come: &[bool]) -> bool
 fn turned(alloc: Global, ranked: &[usize]) -> Result<Vec<usize>, AllocError>
     ensures { IfOk result (λ v. v.items ≡ reverse ranked.now) }
 {
-    ranked.iter().rev().copied().collect(alloc)
+    let mut order: Vec<usize> = Vec::new(alloc);
+    order.extend_from_slice(ranked)?;
+    order.reverse();
+    Ok(order)
 }
 
 /// The ranks of a network's collecting processes, where links lead to processes that are there.
