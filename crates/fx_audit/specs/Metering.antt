@@ -48,10 +48,10 @@ pub record IsMeteredIn (network : Network) (classes : List Class) (left : Option
   pub ran : IsRun network classes left asked from last before after totals skipped
   pub text_is : IsMeteredText totals skipped.other skipped.malformed text
 
--- the capture isn't opened, or the run over it is refused
-abbrev pub IsRefusedIn : Network → List Class → Option (List ℕ) → ℕ → Lines → Lines → Put → Fault → Type 0
-IsRefusedIn network classes left asked from last before e =
-    IsRefused left e
+-- the capture isn't opened, since its source can't be read or for its header, or the run over it is refused
+abbrev pub IsRefusedIn : Network → List Class → Option (List ℕ) → ℕ → Type 0 → Lines → Lines → Put → Fault → Type 0
+IsRefusedIn network classes left asked unread from last before e =
+    IsRefused left unread e
     ⊎ ((at : Reading) × (to : Reading) × IsOpened left asked at × RefusesRun (begun network classes) at to from last before e)
 
 -- ---- the same in the network and traffic that two documents say
@@ -66,8 +66,8 @@ pub record IsMetered (network_octets traffic_octets : List ℕ) (left : Option (
   pub complete : IsRunOf (net_of network) classes metered.ran.at metered.ran.to from last before after metered.totals
 
 -- the first refusal: that of the documents, then the capture's file header's, then the run's
-abbrev pub IsRefusedMetering : List ℕ → List ℕ → Option (List ℕ) → ℕ → Lines → Lines → Put → Fault → Type 0
-IsRefusedMetering network_octets traffic_octets left asked from last before e =
+abbrev pub IsRefusedMetering : List ℕ → List ℕ → Option (List ℕ) → ℕ → Type 0 → Lines → Lines → Put → Fault → Type 0
+IsRefusedMetering network_octets traffic_octets left asked unread from last before e =
     IsRefusedByDocuments network_octets traffic_octets e
     ⊎ ((network : Network) × (classes : List Class) × IsNetwork network_octets network × IsTraffic network traffic_octets classes
-    × IsRefusedIn network classes left asked from last before e)
+    × IsRefusedIn network classes left asked unread from last before e)

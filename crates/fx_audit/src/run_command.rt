@@ -4,6 +4,7 @@ ghost use Rattle.fx_base.specs.Device.{MayHaveLeft, Writes};
 ghost use Rattle.fx_base.specs.Fault.{fault_at};
 ghost use Rattle.fx_base.specs.declared.fault.Fault.{Fault};
 ghost use Rattle.fx_base.specs.declared.fault.Place.TheVariants as places;
+ghost use Rattle.fx_pcap.specs.Captures.{IsUnreadable};
 ghost use Rattle.fx_pcap.specs.Records.{format_of};
 ghost use Rattle.fx_net.specs.Running.{FailsOutside};
 ghost use Rattle.fx_audit.specs.Documents.{IsRefusedByDocuments, IsRefusedNetwork, ReadFails};
@@ -43,6 +44,7 @@ fn meter<C: Source, Q: Source, L: Links>(
     ensures going { OnOk result (L.failed links.old ≡ false → L.failed links.new ≡ false) }
     ensures err { IfErr result (λ e. FailsOutside (L.failed links.new) e
         ⊎ IsRefusedIn documents.now.plan documents.now.traffic (C.left capture) (C.calls capture)
+        (IsUnreadable C.calls C.failed (C.left capture) (C.calls capture))
         schedule.old schedule.new (L.put_on links.old) e) }
     ensures untouched { IfSome (C.left capture) (λ c. (e : Fault)
         → format_of c ≡ Err e → (schedule.new ≡ schedule.old) × (links.new ≡ links.old)) }
@@ -115,6 +117,7 @@ fn run_capture<C: Source, Q: Source, L: Links, S: Sink>(
     ensures err { IfErr result (λ e. FailsOutside (L.failed links.new) e
         ⊎ (((e ≡ fault_at 902 places.None) × (S.failed sink.new ≡ true))
         ⊎ IsRefusedIn documents.now.plan documents.now.traffic (C.left capture) (C.calls capture)
+        (IsUnreadable C.calls C.failed (C.left capture) (C.calls capture))
         schedule.old schedule.new (L.put_on links.old) e)) }
     ensures untouched { IfSome (C.left capture) (λ c. (e : Fault)
         → format_of c ≡ Err e → (schedule.new ≡ schedule.old) × (links.new ≡ links.old)) }
@@ -155,7 +158,8 @@ pub fn run_bytes<N: Source, T: Source, C: Source, Q: Source, L: Links, S: Sink>(
         ⊎ (ReadFails (T.left traffic.old) (T.calls traffic.old) (T.calls traffic.new) (T.failed traffic.new) e
         ⊎ (((e ≡ fault_at 902 places.None) × (S.failed sink.new ≡ true))
         ⊎ MayHaveLeft (N.left network.old) (λ n. MayHaveLeft (T.left traffic.old) (λ t. IsRefusedMetering n t
-        (C.left capture) (C.calls capture) schedule.old schedule.new (L.put_on links.old) e)))))) }
+        (C.left capture) (C.calls capture) (IsUnreadable C.calls C.failed (C.left capture) (C.calls capture))
+        schedule.old schedule.new (L.put_on links.old) e)))))) }
     ensures told { IfOk result (λ answer. (text : List ℕ)
         × IsRunText answer text × Writes (S.taken sink.old) (S.taken sink.new) text) }
     ensures order { IfSome (N.left network.old) (λ n. (e : Fault)

@@ -2,7 +2,7 @@
 use Rattle.std.specs.Prelude.{◌≡◌, ℕ, ◌+◌, ◌-◌, ◌*◌, ◌%◌, ◌^◌, ◌≤◌, ◌<◌, Bool, true, false, List, [], ◌∷◌, length, drop, Option, Some, None, IfSome, IsSome, Result, Ok, Err, ◌⊎◌}
 use Rattle.fx_base.specs.declared.fault.Fault.{Fault}
 use Rattle.fx_base.specs.declared.fault.Place.TheVariants as places
-use Rattle.fx_base.specs.Device.{MayBeLeft, MayHaveLeft, IsAsked}
+use Rattle.fx_base.specs.Device.{MayBeLeft, MayHaveLeft, IsAsked, IsUnread}
 use Rattle.fx_base.specs.Fault.{fault_at}
 use Rattle.fx_pcap.specs.declared.content.Content.{Content}
 use Rattle.fx_pcap.specs.declared.content.Content.TheVariants.{Packet, Other, Malformed}
@@ -177,9 +177,13 @@ pub record IsOpened (left : Option (List ℕ)) (asked : ℕ) (new : Reading) : T
   -- each call gave an octet
   pub gains : IfSome left (λ octets. new.calls + unread new (drop 24 octets) ≤ length octets)
 
--- why a capture isn't opened
-abbrev pub IsRefused : Option (List ℕ) → Fault → Type 0
-IsRefused left e =
+-- a source that has these octets left, of which so many calls were made, can't be read: so it says at last
+abbrev pub IsUnreadable : {R : Type 0} → (R → ℕ) → (R → Bool) → Option (List ℕ) → ℕ → Type 0
+IsUnreadable {R} calls failed left asked = (last : R) × IsUnread left asked (calls last) (failed last)
+
+-- why a capture isn't opened: want of memory, a source that can't be read, or its file header
+abbrev pub IsRefused : Option (List ℕ) → Type 0 → Fault → Type 0
+IsRefused left unread e =
     (e ≡ fault_at 900 places.None)
-    ⊎ ((e ≡ fault_at 901 places.None)
+    ⊎ (((e ≡ fault_at 901 places.None) × unread)
     ⊎ (((e ≡ fault_at 701 (places.Octet 0)) ⊎ (e ≡ fault_at 702 places.None)) × MayHaveLeft left (λ octets. format_of octets ≡ Err e)))

@@ -68,7 +68,7 @@ impl<R: Source> Model for Capture<R> {
 }
 
 impl<R: Source> Capture<R> {
-    ghost use Rattle.fx_pcap.specs.Captures.{Advances, NextFrameIs, IsOpened, IsRefused};
+    ghost use Rattle.fx_pcap.specs.Captures.{Advances, NextFrameIs, IsOpened, IsRefused, IsUnreadable};
     ghost use Rattle.fx_pcap.specs.Kept.{Takes, GoesOn};
 
     /// A reader of the capture that a source has.
@@ -78,10 +78,12 @@ impl<R: Source> Capture<R> {
     /// 901 and 702 at no place.
     pub fn new(alloc: Global, source: R) -> Result<Capture<R>, Fault>
         ensures ok { IfOk result (IsOpened (R.left source) (R.calls source)) }
-        ensures err { IfErr result (IsRefused (R.left source)) }
+        ensures err { IfErr result (IsRefused (R.left source) (IsUnreadable R.calls R.failed (R.left source) (R.calls source))) }
     {
         let mut window = Window::new(alloc, source)?;
         let Ok(()) = window.fill(FILE_HEADER) else {
+            // So that the contract can speak of the source as it is now.
+            window.get_ref();
             return Err(Fault::bare(901));
         };
         let format = read_format(window.octets())?;

@@ -9,11 +9,11 @@ returns-clause-ok g c =
 
 pub returns-clause-err : goal.returns-clause-err
 returns-clause-err g c =
-    run_refused (g.N.Source.left c.args.network.now) (g.T.Source.left c.args.traffic.now) (g.C.Source.left c.args.capture) (g.C.Source.calls c.args.capture) c.in_ok-documents.documents.plan c.in_ok-documents.documents.traffic c.args.schedule.now c.run_capture.new.schedule _ _ _ _ _ c.run_capture.result c.in_ok-documents.ensures.network c.in_ok-documents.ensures.traffic c.run_capture.ensures.err
+    run_refused (g.N.Source.left c.args.network.now) (g.T.Source.left c.args.traffic.now) (g.C.Source.left c.args.capture) (g.C.Source.calls c.args.capture) _ c.in_ok-documents.documents.plan c.in_ok-documents.documents.traffic c.args.schedule.now c.run_capture.new.schedule _ _ _ _ _ c.run_capture.result c.in_ok-documents.ensures.network c.in_ok-documents.ensures.traffic c.run_capture.ensures.err
 
 pub returns-in_err-documents-clause-err : goal.returns-in_err-documents-clause-err
 returns-in_err-documents-clause-err g c =
-    exit_with _ _ _ c.from_residual.ensures (run_unread (g.N.Source.left c.args.network.now) (g.T.Source.left c.args.traffic.now) (g.C.Source.left c.args.capture) (g.C.Source.calls c.args.capture) c.args.schedule.now _ _ _ _ _ _ _ c.in_err-documents.ensures.err)
+    exit_with _ _ _ c.from_residual.ensures (run_unread (g.N.Source.left c.args.network.now) (g.T.Source.left c.args.traffic.now) (g.C.Source.left c.args.capture) (g.C.Source.calls c.args.capture) _ c.args.schedule.now _ _ _ _ _ _ _ c.in_err-documents.ensures.err)
 
 pub returns-clause-untouched : goal.returns-clause-untouched
 returns-clause-untouched g c =
