@@ -4,7 +4,7 @@ use crate::check::traffic_of;
 use crate::plan::plan_of;
 use crate::refute::{EXEMPT, WITH_FALLBACK};
 use fx_audit::{Answer, audit_bytes, confirm_bytes};
-use fx_base::{Fault, LineReader, Octets, Room};
+use fx_base::{Fault, Fuse, LineReader, Octets, Room};
 use fx_search::{Found, search};
 use std::alloc::Global;
 use std::test::Fail;
@@ -86,4 +86,28 @@ fn finds_a_certificate(rt: HostRuntime) -> Result<(), Fail> {
     };
     assert!(rt; lines == 4);
     Ok(())
+}
+
+/// How an audit ends where its devices fail at these calls, the network, the traffic and the answer, or at none for 0.
+fn failing(alloc: Global, calls: [u64; 3]) -> Result<Answer, u16> {
+    let [network, traffic, answer] = calls;
+    let mut network = Fuse::new(Octets::new(NETWORK.as_bytes()), network);
+    let mut traffic = Fuse::new(Octets::new(TRAFFIC.as_bytes()), traffic);
+    let mut octets = [0u8; 64];
+    let mut sink = Fuse::new(Room::new(&mut octets), answer);
+    ending(audit_bytes(alloc, &mut network, &mut traffic, 1, &mut sink))
+}
+
+#[test]
+fn fails_with_its_devices(rt: HostRuntime) {
+    for (calls, wanted) in [
+        ([0, 0, 0], Ok(Answer::Yes)),
+        ([1, 0, 0], Err(901)),
+        ([2, 0, 0], Err(901)),
+        ([0, 1, 0], Err(901)),
+        ([0, 0, 1], Err(902)),
+        ([0, 0, 2], Err(902)),
+    ] {
+        assert!(rt; failing(rt.alloc(), calls) == wanted);
+    }
 }

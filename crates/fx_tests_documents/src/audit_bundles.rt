@@ -1,7 +1,7 @@
 //! Bundles: how a command and its texts are told apart, and what has another shape.
 use crate::audit_texts::{CERTIFICATE, NETWORK, RUN, TOTALS, TRAFFIC, ending};
 use fx_audit::{Answer, bundle_bytes};
-use fx_base::{Octets, Room};
+use fx_base::{Fuse, Octets, Room};
 use std::alloc::{AllocError, Global};
 use std::test::Fail;
 
@@ -88,6 +88,35 @@ fn refuses_texts_of_bundles(rt: HostRuntime) -> Result<(), Fail> {
     for (traffic, number) in [("[]\n%%%\n", 101), ("[]\n", 104), (TRAFFIC, 855)] {
         let traffic = traffic.as_bytes();
         assert!(rt; ends_over_network(rt.alloc(), b"replay\n", traffic, b"", Err(number), b"")?);
+    }
+    Ok(())
+}
+
+/// A bundle is read in one call, and a second one finds its end; its answer is written in one.
+#[test]
+fn fails_with_its_devices(rt: HostRuntime) -> Result<(), Fail> {
+    let alloc = rt.alloc();
+    let (network, traffic, end) = (NETWORK.as_bytes(), TRAFFIC.as_bytes(), b"%%\n".as_slice());
+    let bundle = [
+        b"check\n".as_slice(),
+        network,
+        end,
+        traffic,
+        end,
+        CERTIFICATE,
+        end,
+    ]
+    .concat(alloc)?;
+    for (read, write, wanted) in [
+        (0, 0, Ok(Answer::Yes)),
+        (1, 0, Err(901)),
+        (2, 0, Err(901)),
+        (0, 1, Err(902)),
+    ] {
+        let mut source = Fuse::new(Octets::new(bundle.as_slice()), read);
+        let mut octets = [0u8; 64];
+        let mut sink = Fuse::new(Room::new(&mut octets), write);
+        assert!(rt; ending(bundle_bytes(alloc, &mut source, &mut sink)) == wanted);
     }
     Ok(())
 }

@@ -1,7 +1,7 @@
 //! Networks that run over captures, and what refuses them.
 use crate::audit_texts::{NETWORK, TRAFFIC, ending};
 use fx_audit::{Answer, run_bytes};
-use fx_base::{Fault, LineReader, Octets, Room};
+use fx_base::{Fault, Fuse, LineReader, Octets, Room};
 use fx_link::{Nowhere, Sinks};
 use std::alloc::Global;
 use std::test::Fail;
@@ -99,6 +99,43 @@ fn refuses_what_is_wrong_first(rt: HostRuntime) -> Result<(), Fail> {
         let mut room = Room::new(&mut octets);
         let outcome = ends(rt.alloc(), traffic, capture, schedule, &mut room)?;
         assert!(rt; outcome == Err(number) && room.octets().is_empty());
+    }
+    Ok(())
+}
+
+/// How the run ends where its devices fail at these calls, the capture, the schedule, the link and the answer, or at
+/// none for 0.
+fn failing(alloc: Global, calls: [u64; 4]) -> Result<Result<Answer, u16>, Fault> {
+    let [capture, schedule, link, answer] = calls;
+    let mut network = Octets::new(NETWORK.as_bytes());
+    let mut traffic = Octets::new(TRAFFIC.as_bytes());
+    let mut schedule = LineReader::new(alloc, Fuse::new(Octets::new(SCHEDULE), schedule))?;
+    let mut store = [0u8; 128];
+    let mut sinks = Vec::new(alloc);
+    sinks.push(Fuse::new(Room::new(&mut store), link))?;
+    let mut octets = [0u8; 128];
+    Ok(ending(run_bytes(
+        alloc,
+        &mut network,
+        &mut traffic,
+        Fuse::new(Octets::new(&CAPTURE), capture),
+        &mut schedule,
+        &mut Sinks::new(sinks),
+        &mut Fuse::new(Room::new(&mut octets), answer),
+    )))
+}
+
+#[test]
+fn fails_with_its_devices(rt: HostRuntime) -> Result<(), Fail> {
+    for (calls, wanted) in [
+        ([0, 0, 0, 0], Ok(Answer::Yes)),
+        ([1, 0, 0, 0], Err(901)),
+        ([0, 1, 0, 0], Err(901)),
+        ([0, 0, 1, 0], Err(902)),
+        ([0, 0, 2, 0], Err(902)),
+        ([0, 0, 0, 1], Err(902)),
+    ] {
+        assert!(rt; failing(rt.alloc(), calls)? == wanted);
     }
     Ok(())
 }
