@@ -5,10 +5,11 @@ Takes the rows that `refused_growth.py` takes, or with --all every row of `rows/
 in all, and cuts each of a row's files at each of its octets: network, traffic, certificate, refutation, run, capture,
 schedule, stream, bundle; a file that several rows have is cut in one of them. A file that was cut must be refused, or
 answered with `no` where it is a certificate, a refutation or a run: status 1 or 2, one line with a number and a place,
-nothing on standard error. Some cuts leave a whole file: of a document those that take white space alone, of a capture
-those behind a frame, of a stream those behind a message, of a schedule all, since a schedule has no end of its own. There
-any status of the table may come with what is printed with it. Each run has ten seconds and 64 MiB of address space. Prints
-each run that does otherwise; last a line for each kind with how many runs ended with each status.
+nothing on standard error. Some cuts leave a whole file: of a document those that take white space alone, of a
+certificate, a refutation or a run those that take lines behind its last alone, of a capture those behind a frame, of a
+stream those behind a message, of a schedule all, since a schedule has no end of its own. There any status of the table
+may come with what is printed with it. Each run has ten seconds and 64 MiB of address space. Prints each run that does
+otherwise; last a line for each kind with how many runs ended with each status.
 """
 import argparse
 import collections
@@ -55,6 +56,8 @@ def whole_ends(kind, octets):
         return set(message_ends(octets))
     if kind == "schedule":
         return set(range(len(octets)))
+    if kind in ("certificate", "refutation", "run"):
+        return {line.end() for line in re.finditer(rb"(?m)^end\n", octets)}
     return set(range(len(octets.rstrip()), len(octets)))
 
 
