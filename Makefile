@@ -62,7 +62,8 @@ wrong: kit
 	python3 tests/wrong_bodies.py --kept --jobs 2 $(NAME)
 
 # Compares the lists of definitions to believe, then runs the program over the worked rows, over long certificates, with
-# growths of its memory refused, with reads and writes failed, with full files, and over inputs that were changed or cut.
+# growths of its memory refused, with reads and writes failed, with full files, over inputs that were changed or cut, and
+# over keys that were chosen to be slow to find.
 rows: once run-rows
 
 run-rows:
@@ -74,6 +75,7 @@ run-rows:
 	python3 tests/full_files.py ./once
 	python3 tests/mutated_inputs.py ./once
 	python3 tests/cut_inputs.py ./once
+	python3 tests/hostile_keys.py ./once
 	python3 tests/generated_networks.py ./once
 	python3 tests/addresses.py ./once
 	python3 tests/carried_in_pieces.py ./once

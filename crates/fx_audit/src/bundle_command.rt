@@ -18,6 +18,7 @@ use crate::check_command::check_bytes;
 use crate::confirm_command::confirm_bytes;
 use crate::replay_command::replay_bytes;
 use fx_base::{Fault, LineReader, Octets, Sink, Source, read_whole};
+use fx_layout::Seed;
 use std::alloc::Global;
 
 /// A text in memory doesn't fail.
@@ -28,7 +29,12 @@ fn never_fails(lines: &LineReader<Octets<'_>>)
 }
 
 /// Replays the run of a bundle.
-fn replay_texts<S: Sink>(alloc: Global, bundle: &Bundle<'_>, sink: &mut S) -> Result<Answer, Fault>
+fn replay_texts<S: Sink>(
+    alloc: Global,
+    seed: Seed,
+    bundle: &Bundle<'_>,
+    sink: &mut S,
+) -> Result<Answer, Fault>
     ensures ok { IfOk result (λ answer. (text : List ℕ)
         × IsDone commands.Replay bundle.now.network.now bundle.now.traffic.now
         (lines_in bundle.now.third.now) answer text
@@ -44,7 +50,7 @@ fn replay_texts<S: Sink>(alloc: Global, bundle: &Bundle<'_>, sink: &mut S) -> Re
     let mut network = Octets::new(bundle.network);
     let mut traffic = Octets::new(bundle.traffic);
     let mut run = LineReader::new(alloc, Octets::new(bundle.third))?;
-    let answer = replay_bytes(alloc, &mut network, &mut traffic, &mut run, sink);
+    let answer = replay_bytes(alloc, seed, &mut network, &mut traffic, &mut run, sink);
     never_fails(&run);
     answer
 }
@@ -113,7 +119,12 @@ fn audit_texts<S: Sink>(alloc: Global, bundle: &Bundle<'_>, sink: &mut S) -> Res
 }
 
 /// Does what a bundle's command does with its texts.
-fn answer_bundle<S: Sink>(alloc: Global, bundle: &Bundle<'_>, sink: &mut S) -> Result<Answer, Fault>
+fn answer_bundle<S: Sink>(
+    alloc: Global,
+    seed: Seed,
+    bundle: &Bundle<'_>,
+    sink: &mut S,
+) -> Result<Answer, Fault>
     ensures ok { IfOk result (λ answer. (text : List ℕ)
         × IsDone bundle.now.command bundle.now.network.now bundle.now.traffic.now (lines_in bundle.now.third.now) answer text × Writes (S.taken sink.old) (S.taken sink.new) text) }
     ensures going { OnOk result (S.failed sink.old ≡ false → S.failed sink.new ≡ false) }
@@ -124,7 +135,7 @@ fn answer_bundle<S: Sink>(alloc: Global, bundle: &Bundle<'_>, sink: &mut S) -> R
         ⊎ (sink.new ≡ sink.old)) }
 {
     match bundle.command {
-        Command::Replay => replay_texts(alloc, bundle, sink),
+        Command::Replay => replay_texts(alloc, seed, bundle, sink),
         Command::Check => check_texts(alloc, bundle, sink),
         Command::Confirm => confirm_texts(alloc, bundle, sink),
         Command::Audit => audit_texts(alloc, bundle, sink),
@@ -132,13 +143,14 @@ fn answer_bundle<S: Sink>(alloc: Global, bundle: &Bundle<'_>, sink: &mut S) -> R
 }
 
 /// Reads a bundle, a command with its texts, and does what the command does with them; an audit has the limit
-/// [`AUDIT_LIMIT`].
+/// [`AUDIT_LIMIT`]. Totals hash keys by the seed.
 ///
 /// Fails with 801, at no place, where the octets are no bundle, else as the command does; with 901 where a read
 /// fails or the source hasn't ended after 4,294,967,296 calls, 900 for want of memory and 902 where a write
 /// fails. Nothing is written for a fault other than 902.
 pub fn bundle_bytes<B: Source, S: Sink>(
     alloc: Global,
+    seed: Seed,
     bundle: &mut B,
     sink: &mut S,
 ) -> Result<Answer, Fault>
@@ -159,5 +171,5 @@ pub fn bundle_bytes<B: Source, S: Sink>(
     let Some(bundle) = read_bundle(octets.as_slice()) else {
         return Err(Fault::bare(801));
     };
-    answer_bundle(alloc, &bundle, sink)
+    answer_bundle(alloc, seed, &bundle, sink)
 }

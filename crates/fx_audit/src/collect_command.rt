@@ -13,17 +13,20 @@ use crate::answer::Answer;
 use crate::collecting::collect;
 use crate::document::network_from;
 use fx_base::{Fault, Sink, Source};
+use fx_layout::Seed;
 use std::alloc::Global;
 
 /// Reads a network document, collects an IPFIX stream at the network's report and writes the totals of its flow
 /// records, then `gaps` with the number of messages whose sequence number isn't the one that comes next, and `skipped`
-/// with the number of data records that aren't flow records since their template lacks a counter.
+/// with the number of data records that aren't flow records since their template lacks a counter. Totals hash keys by
+/// the seed.
 ///
 /// Fails with the first refusal: 101 and those of [`fx_plan::read_plan`] for the network, with nothing of the stream
 /// read before; then, for the stream, those of [`collect`]. 901 comes where a read fails or a reader hasn't ended after
 /// 4,294,967,296 calls, 900 for want of memory, 902 where a write fails. Nothing is written for a fault other than 902.
 pub fn collect_bytes<N: Source, R: Source, S: Sink>(
     alloc: Global,
+    seed: Seed,
     network: &mut N,
     stream: &mut R,
     sink: &mut S,
@@ -43,5 +46,5 @@ pub fn collect_bytes<N: Source, R: Source, S: Sink>(
         ⊎ (sink.new ≡ sink.old)) }
 {
     let plan = network_from(alloc, network)?;
-    collect(alloc, plan.net(), stream, sink)
+    collect(alloc, seed, plan.net(), stream, sink)
 }

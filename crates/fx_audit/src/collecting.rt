@@ -13,6 +13,7 @@ ghost use Rattle.fx_audit.specs.declared.answer.Answer.TheVariants.{Yes};
 use crate::answer::Answer;
 use fx_base::{Fault, Sink, Source};
 use fx_collect::{Totals, put_number_line};
+use fx_layout::Seed;
 use fx_machine::Net;
 use fx_session::Session;
 use std::alloc::Global;
@@ -89,7 +90,7 @@ fn put_collected<S: Sink>(session: &Session, totals: &mut Totals, sink: &mut S) 
 
 /// Tallies the flow records of an IPFIX stream under the keys of a network's report, and writes the totals and the
 /// numbers of gaps and of skipped records. The stream is read in pieces; of what was read, its templates, the
-/// unfinished message and the totals are kept.
+/// unfinished message and the totals are kept, which hash keys by the seed.
 ///
 /// Fails, at the first octet of a message, with 611 to 620 where the message is refused (see [`Session::feed`]) and
 /// with 612 where the stream ends inside it; at no place, with 901 where a read fails or the stream hasn't ended after
@@ -97,6 +98,7 @@ fn put_collected<S: Sink>(session: &Session, totals: &mut Totals, sink: &mut S) 
 /// has ended and its totals are in order.
 pub fn collect<R: Source, S: Sink>(
     alloc: Global,
+    seed: Seed,
     net: &Net,
     stream: &mut R,
     sink: &mut S,
@@ -114,7 +116,7 @@ pub fn collect<R: Source, S: Sink>(
         ⊎ (sink.new ≡ sink.old)) }
 {
     let mut session = Session::new(alloc)?;
-    let mut totals = Totals::new(alloc, net.report_layout().copy())?;
+    let mut totals = Totals::new(alloc, seed, net.report_layout().copy())?;
     tally_stream(&mut session, &mut totals, stream)?;
     if session.left() > 0 {
         return Err(Fault::at_octet(612, session.place()));

@@ -14,12 +14,14 @@ use crate::answer::Answer;
 use crate::document::{Documents, read_documents};
 use crate::replaying::replay;
 use fx_base::{Fault, LineReader, Sink, Source};
+use fx_layout::Seed;
 use fx_machine::read_run;
 use std::alloc::Global;
 
 /// Replays the run that a reader's lines say, and writes the text of its last state.
 fn replay_lines<R: Source, S: Sink>(
     alloc: Global,
+    seed: Seed,
     documents: &Documents,
     run: &mut LineReader<R>,
     sink: &mut S,
@@ -36,11 +38,11 @@ fn replay_lines<R: Source, S: Sink>(
 {
     let classes = documents.traffic.classes();
     let run = read_run(alloc, classes, run)?;
-    replay(alloc, documents.plan.net(), classes, run, sink)
+    replay(alloc, seed, documents.plan.net(), classes, run, sink)
 }
 
 /// Reads a network document, a traffic declaration and the text of a run, replays the run and writes the
-/// collector's totals in its last state, then whether the run is complete.
+/// collector's totals in its last state, then whether the run is complete. Totals hash keys by the seed.
 ///
 /// Fails with the first refusal: 101 and those of [`fx_plan::read_plan`] for the network, with nothing of the traffic
 /// read before; 101 and those of [`fx_traffic::read_traffic`] for the traffic; then, with nothing of the run's text
@@ -49,6 +51,7 @@ fn replay_lines<R: Source, S: Sink>(
 /// other than 902.
 pub fn replay_bytes<N: Source, T: Source, R: Source, S: Sink>(
     alloc: Global,
+    seed: Seed,
     network: &mut N,
     traffic: &mut T,
     run: &mut LineReader<R>,
@@ -73,5 +76,5 @@ pub fn replay_bytes<N: Source, T: Source, R: Source, S: Sink>(
         ⊎ (sink.new ≡ sink.old)) }
 {
     let documents = read_documents(alloc, network, traffic)?;
-    replay_lines(alloc, &documents, run, sink)
+    replay_lines(alloc, seed, &documents, run, sink)
 }

@@ -13,6 +13,7 @@ ghost use Rattle.fx_audit.specs.declared.answer.Answer.TheVariants.{Yes};
 use crate::answer::Answer;
 use fx_base::{Fault, Sink, put_text};
 use fx_collect::Totals;
+use fx_layout::Seed;
 use fx_machine::{Classes, Net, Run, State, Step};
 use std::alloc::Global;
 
@@ -48,7 +49,12 @@ fn put_complete<S: Sink>(sink: &mut S, complete: bool) -> Result<(), Fault>
 /// and whether it is complete. Nothing is written before all that takes memory is done.
 ///
 /// Fails with 900 for want of memory and with 902 where a write fails, each at no place.
-fn put_state<S: Sink>(alloc: Global, state: &State<'_>, sink: &mut S) -> Result<(), Fault>
+fn put_state<S: Sink>(
+    alloc: Global,
+    seed: Seed,
+    state: &State<'_>,
+    sink: &mut S,
+) -> Result<(), Fault>
     requires own { totals_of state.now.net.report_layout state.now.state ≡ totals_in state.now.net.report_layout state.now.state }
     ensures ok { OnOk result ((text : List ℕ) × IsTextOf state.now.net.report_layout state.now.state text × Writes (S.taken sink.old) (S.taken sink.new) text) }
     ensures going { OnOk result (S.failed sink.old ≡ false → S.failed sink.new ≡ false) }
@@ -56,20 +62,21 @@ fn put_state<S: Sink>(alloc: Global, state: &State<'_>, sink: &mut S) -> Result<
     ensures quiet { IfErr result (λ e. ((e ≡ fault_at 902 places.None) × (S.failed sink.new ≡ true))
         ⊎ (sink.new ≡ sink.old)) }
 {
-    let mut totals = Totals::of(alloc, state)?;
+    let mut totals = Totals::of(alloc, seed, state)?;
     totals.sort()?;
     totals.put_report(sink)?;
     put_complete(sink, state.complete())
 }
 
 /// Replays a run over the tables of a network and writes the collector's totals in its last state, then whether
-/// the run is complete.
+/// the run is complete. Totals hash keys by the seed.
 ///
 /// Fails, at no place, with 856 where a packet isn't in its class; with the number of the first step that is
 /// refused (851, 853, 852); with 900 for want of memory and 902 where a write fails. Nothing is written before
 /// the last state is known and its totals are in order.
 pub fn replay<S: Sink>(
     alloc: Global,
+    seed: Seed,
     net: &Net,
     classes: &Classes,
     run: Run,
@@ -87,6 +94,6 @@ pub fn replay<S: Sink>(
     let mut state = State::open(alloc, net, classes, packets)?;
     make_steps(&mut state, steps.as_slice())?;
     let _layout = net.report_layout();
-    put_state(alloc, &state, sink)?;
+    put_state(alloc, seed, &state, sink)?;
     Ok(Answer::Yes)
 }

@@ -18,6 +18,7 @@ use crate::document::{Documents, read_documents};
 use fx_base::{Fault, LineReader, Sink, Source, put_number, put_text};
 use fx_collect::{Totals, put_number_line};
 use fx_conform::plans_are_sound;
+use fx_layout::Seed;
 use fx_link::Links;
 use fx_net::run;
 use fx_pcap::{Capture, Skipped};
@@ -33,6 +34,7 @@ struct Metered {
 /// Opens a capture, and runs a network over it as the lines of a schedule say.
 fn meter<C: Source, Q: Source, L: Links>(
     alloc: Global,
+    seed: Seed,
     documents: &Documents,
     capture: C,
     schedule: &mut LineReader<Q>,
@@ -52,6 +54,7 @@ fn meter<C: Source, Q: Source, L: Links>(
     let mut capture = Capture::new(alloc, capture)?;
     let totals = run(
         alloc,
+        seed,
         &documents.plan,
         &documents.traffic,
         &mut capture,
@@ -102,6 +105,7 @@ fn put_metered<S: Sink>(metered: Metered, sink: &mut S) -> Result<(), Fault>
 /// Runs a network over a capture, and writes the text of what it has metered.
 fn run_capture<C: Source, Q: Source, L: Links, S: Sink>(
     alloc: Global,
+    seed: Seed,
     documents: &Documents,
     capture: C,
     schedule: &mut LineReader<Q>,
@@ -124,14 +128,14 @@ fn run_capture<C: Source, Q: Source, L: Links, S: Sink>(
     ensures quiet { IfErr result (λ e. ((e ≡ fault_at 902 places.None) × (S.failed sink.new ≡ true))
         ⊎ (sink.new ≡ sink.old)) }
 {
-    let metered = meter(alloc, documents, capture, schedule, links)?;
+    let metered = meter(alloc, seed, documents, capture, schedule, links)?;
     put_metered(metered, sink)?;
     Ok(Answer::Yes)
 }
 
 /// Reads a network document and a traffic declaration, opens a capture, and runs the network over it as the lines of a
 /// schedule say: the packets are metered, what is exported goes out on the links and is mediated, and the collector's
-/// totals are written, then how many frames of the capture were skipped.
+/// totals are written, then how many frames of the capture were skipped. Stores and totals hash keys by the seed.
 ///
 /// Fails with the first refusal: 101 and those of [`fx_plan::read_plan`] for the network, with nothing of the traffic
 /// read before; 101 and those of [`fx_traffic::read_traffic`] for the traffic; then those of [`Capture::new`] for the
@@ -140,6 +144,7 @@ fn run_capture<C: Source, Q: Source, L: Links, S: Sink>(
 /// memory, 902 where a write fails. Nothing is written on the sink for a fault other than 902.
 pub fn run_bytes<N: Source, T: Source, C: Source, Q: Source, L: Links, S: Sink>(
     alloc: Global,
+    seed: Seed,
     network: &mut N,
     traffic: &mut T,
     capture: C,
@@ -173,5 +178,5 @@ pub fn run_bytes<N: Source, T: Source, C: Source, Q: Source, L: Links, S: Sink>(
 {
     let documents = read_documents(alloc, network, traffic)?;
     plans_are_sound(&documents.plan);
-    run_capture(alloc, &documents, capture, schedule, links, sink)
+    run_capture(alloc, seed, &documents, capture, schedule, links, sink)
 }

@@ -5,6 +5,7 @@ mod ending;
 mod files;
 mod link_files;
 mod running;
+mod seeds;
 mod words;
 mod words_ending;
 

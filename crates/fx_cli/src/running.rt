@@ -13,6 +13,7 @@ ghost use Rattle.fx_cli.specs.WordsEnding.{IsWordsStatus};
 use crate::ending::finish;
 use crate::files::open;
 use crate::link_files::LinkFiles;
+use crate::seeds::seed_at_random;
 use crate::words::{Call, read_words};
 use crate::words_ending::{finish_unread, finish_words};
 use fx_audit::{
@@ -22,6 +23,7 @@ use fx_audit::{
 use fx_base::{Fault, LineReader, Outside, Sink};
 use fx_link::Nowhere;
 use std::io::{self, BufWriter};
+use std::random::RandomSource;
 use std::rt::{Env, Files};
 use std::{env, mem};
 
@@ -29,7 +31,7 @@ use std::{env, mem};
 const WRITE_FAILED: u8 = 5;
 
 /// Replays the run in these files.
-fn replay<R: AllocGlobal + Files, S: Sink>(
+fn replay<R: AllocGlobal + Files + RandomSource, S: Sink>(
     rt: &R,
     network: &str,
     traffic: &str,
@@ -42,15 +44,23 @@ fn replay<R: AllocGlobal + Files, S: Sink>(
     ensures quiet { IfErr result (λ e. ((e ≡ fault_at 902 places.None) × (S.failed sink.new ≡ true))
         ⊎ (sink.new ≡ sink.old)) }
 {
+    let seed = seed_at_random(rt)?;
     let mut network = open(rt, network)?;
     let mut traffic = open(rt, traffic)?;
     let run = open(rt, run)?;
     let mut lines = LineReader::new(rt.alloc(), run)?;
-    replay_bytes(rt.alloc(), &mut network, &mut traffic, &mut lines, sink)
+    replay_bytes(
+        rt.alloc(),
+        seed,
+        &mut network,
+        &mut traffic,
+        &mut lines,
+        sink,
+    )
 }
 
 /// Collects the stream in these files.
-fn collect<R: AllocGlobal + Files, S: Sink>(
+fn collect<R: AllocGlobal + Files + RandomSource, S: Sink>(
     rt: &R,
     network: &str,
     stream: &str,
@@ -62,9 +72,10 @@ fn collect<R: AllocGlobal + Files, S: Sink>(
     ensures quiet { IfErr result (λ e. ((e ≡ fault_at 902 places.None) × (S.failed sink.new ≡ true))
         ⊎ (sink.new ≡ sink.old)) }
 {
+    let seed = seed_at_random(rt)?;
     let mut network = open(rt, network)?;
     let mut stream = open(rt, stream)?;
-    collect_bytes(rt.alloc(), &mut network, &mut stream, sink)
+    collect_bytes(rt.alloc(), seed, &mut network, &mut stream, sink)
 }
 
 /// Checks the certificate in these files.
@@ -130,7 +141,7 @@ fn audit<R: AllocGlobal + Files, S: Sink>(
 
 /// Runs the network over the capture in these files, as the schedule says. The octets of each link go to a file of its
 /// own where a prefix of their names is given, and nowhere else.
-fn run_capture<R: AllocGlobal + Files, S: Sink>(
+fn run_capture<R: AllocGlobal + Files + RandomSource, S: Sink>(
     rt: &R,
     network: &str,
     traffic: &str,
@@ -145,6 +156,7 @@ fn run_capture<R: AllocGlobal + Files, S: Sink>(
     ensures quiet { IfErr result (λ e. ((e ≡ fault_at 902 places.None) × (S.failed sink.new ≡ true))
         ⊎ (sink.new ≡ sink.old)) }
 {
+    let seed = seed_at_random(rt)?;
     let mut network = open(rt, network)?;
     let mut traffic = open(rt, traffic)?;
     let capture = open(rt, capture)?;
@@ -156,6 +168,7 @@ fn run_capture<R: AllocGlobal + Files, S: Sink>(
             let mut files = LinkFiles::new(alloc, rt, prefix);
             run_bytes(
                 alloc,
+                seed,
                 &mut network,
                 &mut traffic,
                 capture,
@@ -166,6 +179,7 @@ fn run_capture<R: AllocGlobal + Files, S: Sink>(
         }
         None => run_bytes(
             alloc,
+            seed,
             &mut network,
             &mut traffic,
             capture,
@@ -178,8 +192,9 @@ fn run_capture<R: AllocGlobal + Files, S: Sink>(
 
 /// Opens the files that a call names, in the order of its words, and only then reads them and answers.
 ///
-/// Fails with 901 where a file can't be opened, with 900 for want of memory, else as the command does.
-fn answer_call<R: AllocGlobal + Files, S: Sink>(
+/// Fails with 901 where a file can't be opened, or the system gives no octets at random to a call that finds keys by a
+/// hash, with 900 for want of memory, else as the command does.
+fn answer_call<R: AllocGlobal + Files + RandomSource, S: Sink>(
     rt: &R,
     call: &Call,
     sink: &mut S,
@@ -243,21 +258,25 @@ fn answer_call<R: AllocGlobal + Files, S: Sink>(
 }
 
 /// Answers the bundle on standard input.
-fn answer_input<R: AllocGlobal + Input, S: Sink>(rt: &R, sink: &mut S) -> Result<Answer, Fault>
+fn answer_input<R: AllocGlobal + Input + RandomSource, S: Sink>(
+    rt: &R,
+    sink: &mut S,
+) -> Result<Answer, Fault>
     ensures told { IfOk result (λ answer. (text : List ℕ)
         × IsBundleText answer text × Writes (S.taken sink.old) (S.taken sink.new) text) }
     ensures going { OnOk result (S.failed sink.old ≡ false → S.failed sink.new ≡ false) }
     ensures quiet { IfErr result (λ e. ((e ≡ fault_at 902 places.None) × (S.failed sink.new ≡ true))
         ⊎ (sink.new ≡ sink.old)) }
 {
+    let seed = seed_at_random(rt)?;
     let mut input = Outside::new(rt.reader());
-    bundle_bytes(rt.alloc(), &mut input, sink)
+    bundle_bytes(rt.alloc(), seed, &mut input, sink)
 }
 
 /// Answers words, of which the first is the program's own name: the call that they name, or, where there is no
 /// other, the bundle on standard input. Gives the exit status: with an answer's text that of the answer, with the line
 /// of a refusal that of the refusal, and 5 where a write failed.
-fn answer_words<R: AllocGlobal + Files + Input, S: Sink>(
+fn answer_words<R: AllocGlobal + Files + Input + RandomSource, S: Sink>(
     rt: &R,
     words: &[String],
     sink: &mut S,
@@ -296,7 +315,7 @@ fn all_words<R: AllocGlobal + Env>(rt: &R) -> io::Result<Vec<String>> {
 }
 
 /// Reads the words, answers them and hands on all that was written. Gives the exit status.
-fn answer<R: AllocGlobal + Env + Files + Input, S: Sink>(rt: &R, sink: &mut S) -> u8
+fn answer<R: AllocGlobal + Env + Files + Input + RandomSource, S: Sink>(rt: &R, sink: &mut S) -> u8
     ensures handed_on { (result ≡ 5)
         ⊎ ((S.failed sink.new ≡ false) × (S.holds_back sink.new ≡ false)) }
     ensures exit { IsExitStatus result }
@@ -324,7 +343,7 @@ fn flush<S: Sink>(sink: &mut S, code: u8) -> u8
 ///
 /// With no words it answers the bundle on standard input. 0 is an answer of yes, or help that was asked for, 1 no,
 /// 3 unknown; 2 a refusal, 4 want of memory, 5 a device that failed, 6 words that don't parse.
-pub fn run<R: AllocGlobal + Env + Files + Input + Print>(rt: &R) -> u8
+pub fn run<R: AllocGlobal + Env + Files + Input + Print + RandomSource>(rt: &R) -> u8
     ensures { IsExitStatus result }
 {
     match BufWriter::new(rt.alloc(), io::writer(rt)) {

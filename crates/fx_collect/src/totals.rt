@@ -9,7 +9,7 @@ ghost use Rattle.fx_collect.specs.Totals.{nothing, with_record, with_records, to
 ghost use Rattle.fx_collect.specs.Report.{Ascends};
 
 use fx_base::{Counts, Fault};
-use fx_layout::{Key, Layout, Values};
+use fx_layout::{Key, Layout, Seed, Values};
 use fx_machine::{Record, State};
 use indexmap::IndexMap;
 use std::alloc::Global;
@@ -19,7 +19,7 @@ use std::marker::Model;
 #[derive(Drop)]
 pub struct Totals {
     pub(crate) layout: Layout,
-    pub(crate) counts: IndexMap<Values, Counts>,
+    pub(crate) counts: IndexMap<Values, Counts, Seed>,
     pub(crate) unassigned: u64,
 }
 
@@ -34,16 +34,16 @@ impl Model for Totals {
 }
 
 impl Totals {
-    /// Totals under the keys of this layout, of nothing so far.
+    /// Totals under the keys of this layout, of nothing so far, which hash keys by the seed.
     ///
     /// Fails with 900, at no place, for want of memory.
-    pub fn new(alloc: Global, layout: Layout) -> Result<Totals, Fault>
+    pub fn new(alloc: Global, seed: Seed, layout: Layout) -> Result<Totals, Fault>
         ensures ok { IfOk result (λ totals. totals ≡ nothing layout) }
         ensures err { IfErr result (λ e. e ≡ fault_at 900 places.None) }
     {
         Ok(Totals {
             layout,
-            counts: IndexMap::new(alloc),
+            counts: IndexMap::with_hasher(alloc, seed),
             unassigned: 0,
         })
     }
@@ -87,11 +87,11 @@ impl Totals {
     /// records that had none.
     ///
     /// Fails with 900, at no place, for want of memory.
-    pub fn of(alloc: Global, state: &State<'_>) -> Result<Totals, Fault>
+    pub fn of(alloc: Global, seed: Seed, state: &State<'_>) -> Result<Totals, Fault>
         ensures ok { IfOk result (λ totals. totals ≡ totals_of state.now.net.report_layout state.now.state) }
         ensures err { IfErr result (λ e. e ≡ fault_at 900 places.None) }
     {
-        let mut totals = Totals::new(alloc, state.net().report_layout().copy())?;
+        let mut totals = Totals::new(alloc, seed, state.net().report_layout().copy())?;
         totals.tally_all(state.totals())?;
         totals.unassigned = state.unassigned();
         Ok(totals)

@@ -1,3 +1,4 @@
 pub mod Projections
+pub mod Words
 pub mod Layouts
 mod Examples

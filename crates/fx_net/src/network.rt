@@ -17,6 +17,7 @@ use crate::stop::Stop;
 use fx_base::{Counts, Fault, Source};
 use fx_boxes::Fields;
 use fx_collect::Totals;
+use fx_layout::Seed;
 use fx_machine::{Class, Occurrence, Packet};
 use fx_pcap::{Capture, Frame};
 use fx_plan::Plan;
@@ -76,10 +77,15 @@ fn packet_of(frame: &Frame<'_>, class: u64, path: u64) -> Packet
 }
 
 impl<'a> Network<'a> {
-    /// The network before anything is read.
+    /// The network before anything is read. Its stores and totals hash keys by the seed.
     ///
     /// Fails with 900, at no place, for want of memory.
-    pub fn open(alloc: Global, plan: &'a Plan, traffic: &'a Traffic) -> Result<Network<'a>, Fault>
+    pub fn open(
+        alloc: Global,
+        seed: Seed,
+        plan: &'a Plan,
+        traffic: &'a Traffic,
+    ) -> Result<Network<'a>, Fault>
         ensures ok { IfOk result (λ n. n ≡ record { network = plan.now; classes = traffic.now; contents = opening.opened plan.now; fault = None }) }
         ensures err { IfErr result (λ e. e ≡ fault_at 900 places.None) }
     {
@@ -87,7 +93,7 @@ impl<'a> Network<'a> {
             alloc,
             plan,
             traffic,
-            contents: Contents::open(alloc, plan)?,
+            contents: Contents::open(alloc, seed, plan)?,
             stopped: None,
         })
     }

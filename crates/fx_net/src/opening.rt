@@ -11,25 +11,27 @@ use crate::store::Store;
 use fx_base::Fault;
 use fx_collect::Totals;
 use fx_config::{Cache, CacheKind};
+use fx_layout::Seed;
 use fx_link::Link;
 use fx_machine::{Exporter, Holder, Net};
 use fx_plan::{Network, NetworkDevice, Plan};
 use std::alloc::Global;
 
 /// The store of a cache, and none where it is immediate.
-fn store_of(alloc: Global, cache: &Cache) -> Result<Option<Store>, Fault>
+fn store_of(alloc: Global, seed: Seed, cache: &Cache) -> Result<Option<Store>, Fault>
     ensures ok { IfOk result (λ store. store ≡ opening.store_of cache.now) }
     ensures err { IfErr result (λ e. e ≡ fault_at 900 places.None) }
 {
     if cache.kind == CacheKind::Immediate {
         return Ok(None);
     }
-    Ok(Some(Store::new(alloc, cache.max_flows)?))
+    Ok(Some(Store::new(alloc, seed, cache.max_flows)?))
 }
 
 /// The stores of these caches come last.
 fn push_caches(
     alloc: Global,
+    seed: Seed,
     stores: &mut Vec<Option<Store>>,
     caches: &[Cache],
 ) -> Result<(), Fault>
@@ -37,20 +39,24 @@ fn push_caches(
     ensures err { IfErr result (λ e. e ≡ fault_at 900 places.None) }
 {
     for cache in caches {
-        stores.push(store_of(alloc, cache)?)?;
+        stores.push(store_of(alloc, seed, cache)?)?;
     }
     Ok(())
 }
 
 /// The stores of the caches of all devices.
-fn cache_stores(alloc: Global, devices: &[NetworkDevice]) -> Result<Vec<Option<Store>>, Fault>
+fn cache_stores(
+    alloc: Global,
+    seed: Seed,
+    devices: &[NetworkDevice],
+) -> Result<Vec<Option<Store>>, Fault>
     ensures ok { IfOk result (λ stores. stores.items
         ≡ map opening.store_of (flat_map (λ device. device.config.caches) devices.now)) }
     ensures err { IfErr result (λ e. e ≡ fault_at 900 places.None) }
 {
     let mut stores: Vec<Option<Store>> = Vec::new(alloc);
     for device in devices {
-        push_caches(alloc, &mut stores, device.config.caches.as_slice())?;
+        push_caches(alloc, seed, &mut stores, device.config.caches.as_slice())?;
     }
     Ok(stores)
 }
@@ -58,6 +64,7 @@ fn cache_stores(alloc: Global, devices: &[NetworkDevice]) -> Result<Vec<Option<S
 /// A store without a bound comes last for each of these aggregations.
 fn push_aggregations(
     alloc: Global,
+    seed: Seed,
     stores: &mut Vec<Option<Store>>,
     aggregations: &[Holder],
 ) -> Result<(), Fault>
@@ -65,20 +72,20 @@ fn push_aggregations(
     ensures err { IfErr result (λ e. e ≡ fault_at 900 places.None) }
 {
     for _aggregation in aggregations {
-        stores.push(Some(Store::new(alloc, 0)?))?;
+        stores.push(Some(Store::new(alloc, seed, 0)?))?;
     }
     Ok(())
 }
 
 /// The stores of all caches, and behind them of all aggregations.
-fn stores_of(alloc: Global, plan: &Plan) -> Result<Vec<Option<Store>>, Fault>
+fn stores_of(alloc: Global, seed: Seed, plan: &Plan) -> Result<Vec<Option<Store>>, Fault>
     ensures ok { IfOk result (λ stores. stores.items ≡ opening.stores_of plan.now) }
     ensures err { IfErr result (λ e. e ≡ fault_at 900 places.None) }
 {
-    let mut stores = cache_stores(alloc, plan.network().devices.as_slice())?;
+    let mut stores = cache_stores(alloc, seed, plan.network().devices.as_slice())?;
     let holders = plan.net().holders();
     let caches = stores.len().min(holders.len());
-    push_aggregations(alloc, &mut stores, &holders[caches..])?;
+    push_aggregations(alloc, seed, &mut stores, &holders[caches..])?;
     Ok(stores)
 }
 
@@ -108,7 +115,12 @@ fn first_destinations(alloc: Global, exporters: &[Exporter]) -> Result<Vec<u64>,
 
 impl Contents {
     /// The contents of these stores and of links that nothing was put on.
-    fn on(alloc: Global, net: &Net, stores: Vec<Option<Store>>) -> Result<Contents, Fault>
+    fn on(
+        alloc: Global,
+        seed: Seed,
+        net: &Net,
+        stores: Vec<Option<Store>>,
+    ) -> Result<Contents, Fault>
         ensures ok { IfOk result (λ contents. contents ≡ opening.opened_on net.now stores.items) }
         ensures err { IfErr result (λ e. e ≡ fault_at 900 places.None) }
     {
@@ -116,7 +128,7 @@ impl Contents {
             stores,
             links: links_of(alloc, net.links())?,
             chosen: first_destinations(alloc, net.exporters())?,
-            totals: Totals::new(alloc, net.report_layout().copy())?,
+            totals: Totals::new(alloc, seed, net.report_layout().copy())?,
             second: 0,
         })
     }
@@ -124,11 +136,11 @@ impl Contents {
     /// What a network holds before anything is read.
     ///
     /// Fails with 900, at no place, for want of memory.
-    pub(crate) fn open(alloc: Global, plan: &Plan) -> Result<Contents, Fault>
+    pub(crate) fn open(alloc: Global, seed: Seed, plan: &Plan) -> Result<Contents, Fault>
         ensures ok { IfOk result (λ contents. contents ≡ opening.opened plan.now) }
         ensures err { IfErr result (λ e. e ≡ fault_at 900 places.None) }
     {
-        let stores = stores_of(alloc, plan)?;
-        Contents::on(alloc, plan.net(), stores)
+        let stores = stores_of(alloc, seed, plan)?;
+        Contents::on(alloc, seed, plan.net(), stores)
     }
 }

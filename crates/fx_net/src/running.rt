@@ -6,6 +6,7 @@ ghost use Rattle.fx_net.specs.Running as running;
 use crate::network::Network;
 use fx_base::{Fault, LineReader, Source};
 use fx_collect::Totals;
+use fx_layout::Seed;
 use fx_link::Links;
 use fx_pcap::Capture;
 use fx_plan::Plan;
@@ -61,12 +62,13 @@ impl<'a> Network<'a> {
 }
 
 /// Runs a network over a capture: it obeys the lines of a schedule, goes through the closing phase, and answers the
-/// collector's totals. The capture then tells how many frames were skipped.
+/// collector's totals. The capture then tells how many frames were skipped. Stores and totals hash keys by the seed.
 ///
 /// Fails with the first refusal: at a line of the schedule as [`Network::obey`], in the closing phase as
 /// [`Network::close`], and where the schedule can't be read as its reader does.
 pub fn run<R: Source, Q: Source, L: Links>(
     alloc: Global,
+    seed: Seed,
     plan: &Plan,
     traffic: &Traffic,
     capture: &mut Capture<R>,
@@ -80,7 +82,7 @@ pub fn run<R: Source, Q: Source, L: Links>(
         ⊎ running.RefusesRun (running.begun plan.now traffic.now) capture.old capture.new
         schedule.old schedule.new (L.put_on links.old) e) }
 {
-    let mut network = Network::open(alloc, plan, traffic)?;
+    let mut network = Network::open(alloc, seed, plan, traffic)?;
     network.obey_and_close(capture, schedule, links)?;
     Ok(network.into_totals())
 }

@@ -7,7 +7,7 @@ ghost use Rattle.fx_store.specs.Flows.{Adds, least, without};
 ghost use Rattle.fx_net.specs.Stores.{flows_in, makes_room, new_store, with_counts, without_entry};
 
 use fx_base::{Counts, Fault};
-use fx_layout::Key;
+use fx_layout::{Key, Seed};
 use fx_store::{BoundedStore, FlowStore, ListStore};
 use std::alloc::Global;
 use std::marker::Model;
@@ -41,21 +41,22 @@ impl Model for Store {
 }
 
 impl Store {
-    /// A store of nothing that holds at most so many records, where 0 is no bound and more than 65,536 are 65,536.
+    /// A store of nothing that holds at most so many records, where 0 is no bound and more than 65,536 are 65,536, and
+    /// hashes keys by the seed.
     ///
     /// Fails with 900, at no place, for want of memory.
-    pub(crate) fn new(alloc: Global, max_flows: u32) -> Result<Store, Fault>
+    pub(crate) fn new(alloc: Global, seed: Seed, max_flows: u32) -> Result<Store, Fault>
         ensures ok { IfOk result (λ s. s ≡ new_store max_flows) }
         ensures err { IfErr result (λ e. e ≡ fault_at 900 places.None) }
     {
         if max_flows == 0 {
             return Ok(Store {
-                kind: Kind::Unbounded(ListStore::new(alloc)),
+                kind: Kind::Unbounded(ListStore::new(alloc, seed)),
             });
         }
         let capacity = max_flows.min(MOST_FLOWS) as usize;
         Ok(Store {
-            kind: Kind::Bounded(BoundedStore::new(alloc, capacity)?),
+            kind: Kind::Bounded(BoundedStore::new(alloc, seed, capacity)?),
         })
     }
 }

@@ -14,7 +14,7 @@ ghost use Rattle.fx_refute.specs.Refutations as refutations;
 use crate::refutation::Refutation;
 use fx_base::{Counts, Fault};
 use fx_collect::Totals;
-use fx_layout::{Key, Layout};
+use fx_layout::{Key, Layout, Seed};
 use fx_machine::{Classes, Net, Packet, Record, State, Step};
 use fx_plan::Plan;
 use fx_traffic::Traffic;
@@ -87,6 +87,13 @@ fn own_record(layout: &Layout, packet: &Packet) -> Record
     }
 }
 
+/// The seed of totals that have one key at most, as those over one packet: any finds it at once.
+fn of_one_key() -> Seed
+    ensures { result ≡ record { first = 0; second = 0 } }
+{
+    Seed::new(0, 0)
+}
+
 /// The plain sums over one packet, which are empty where its class is exempt.
 fn plain_sums(alloc: Global, net: &Net, classes: &Classes, packet: &Packet) -> Result<Totals, Fault>
     ensures ok { IfOk result (λ t. t ≡ confirming.plain_totals net.now.report_layout
@@ -94,7 +101,7 @@ fn plain_sums(alloc: Global, net: &Net, classes: &Classes, packet: &Packet) -> R
     ensures err { IfErr result (λ e. e ≡ fault_at 900 places.None) }
 {
     let layout = net.report_layout();
-    let mut totals = Totals::new(alloc, layout.copy())?;
+    let mut totals = Totals::new(alloc, of_one_key(), layout.copy())?;
     if !classes.exempts(packet) {
         totals.tally(&own_record(layout, packet))?;
     }
@@ -128,7 +135,7 @@ fn confirm_over(
     if !state.complete() {
         return Err(Fault::bare(504));
     }
-    let ran = Totals::of(alloc, &state)?;
+    let ran = Totals::of(alloc, of_one_key(), &state)?;
     let plain = plain_sums(alloc, net, classes, packet)?;
     if agree(&ran, &plain, &layout.key_of(&packet.fields)) {
         return Err(Fault::bare(505));

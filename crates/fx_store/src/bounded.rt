@@ -9,7 +9,7 @@ ghost use Rattle.fx_store.specs.Recent.{after_add, counts_at, pushed_out, withou
 use crate::ordered::Ordered;
 use crate::store::FlowStore;
 use fx_base::{Counts, Fault};
-use fx_layout::Key;
+use fx_layout::{Key, Seed};
 use lru::LruCache;
 use std::alloc::Global;
 use std::collections::BTreeSet;
@@ -19,10 +19,10 @@ use std::num::NonZeroUsize;
 /// A store of at most so many entries, seen as the list of its entries, the latest added-to first.
 ///
 /// Where it is full and a new key comes, the least recently added-to entry leaves. Keys are found by
-/// a hash with a fixed seed.
+/// a hash of its seed.
 #[derive(Drop)]
 pub struct BoundedStore {
-    recent: LruCache<Ordered, Counts>,
+    recent: LruCache<Ordered, Counts, Seed>,
     order: BTreeSet<Ordered>,
 }
 
@@ -38,17 +38,19 @@ impl Model for BoundedStore {
 }
 
 impl BoundedStore {
-    /// A store of nothing, with room for so many entries.
+    /// A store of nothing, with room for so many entries, which hashes keys by the seed.
     ///
     /// Fails with 900, at no place, for want of memory.
-    pub fn new(alloc: Global, capacity: usize) -> Result<BoundedStore, Fault>
+    pub fn new(alloc: Global, seed: Seed, capacity: usize) -> Result<BoundedStore, Fault>
         requires { 1 ≤ capacity }
         ensures ok { IfOk result (λ s. s ≡ record { entries = []; capacity = capacity }) }
         ensures err { IfErr result (λ e. e ≡ fault_at 900 places.None) }
     {
         let capacity = NonZeroUsize::new(capacity).unwrap();
+        let mut recent = LruCache::unbounded_with_hasher(alloc, seed)?;
+        recent.resize(capacity);
         Ok(BoundedStore {
-            recent: LruCache::sparse(alloc, capacity)?,
+            recent,
             order: BTreeSet::new(alloc),
         })
     }

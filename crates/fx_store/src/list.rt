@@ -9,7 +9,7 @@ ghost use Rattle.fx_store.specs.Recent.{counts_at};
 use crate::ordered::Ordered;
 use crate::store::FlowStore;
 use fx_base::{Counts, Fault};
-use fx_layout::Key;
+use fx_layout::{Key, Seed};
 use indexmap::IndexMap;
 use std::alloc::Global;
 use std::collections::BTreeSet;
@@ -17,10 +17,10 @@ use std::marker::Model;
 
 /// A store without a bound, seen as the list of its entries, in no order that matters.
 ///
-/// Keys are found by a hash with a fixed seed, and the least one by their order.
+/// Keys are found by a hash of its seed, and the least one by their order.
 #[derive(Drop)]
 pub struct ListStore {
-    flows: IndexMap<Ordered, Counts>,
+    flows: IndexMap<Ordered, Counts, Seed>,
     order: BTreeSet<Ordered>,
 }
 
@@ -37,12 +37,12 @@ impl Model for ListStore {
 }
 
 impl ListStore {
-    /// A store of nothing.
-    pub fn new(alloc: Global) -> ListStore
+    /// A store of nothing, which hashes keys by the seed.
+    pub fn new(alloc: Global, seed: Seed) -> ListStore
         ensures { result ≡ [] }
     {
         ListStore {
-            flows: IndexMap::new(alloc),
+            flows: IndexMap::with_hasher(alloc, seed),
             order: BTreeSet::new(alloc),
         }
     }

@@ -1,5 +1,5 @@
 //! Bundles: how a command and its texts are told apart, and what has another shape.
-use crate::audit_texts::{CERTIFICATE, NETWORK, RUN, TOTALS, TRAFFIC, ending};
+use crate::audit_texts::{CERTIFICATE, NETWORK, RUN, TOTALS, TRAFFIC, ending, seed};
 use fx_audit::{Answer, bundle_bytes};
 use fx_base::{Fuse, Octets, Room};
 use std::alloc::{AllocError, Global};
@@ -10,7 +10,7 @@ fn ends(alloc: Global, bundle: &[u8], wanted: Result<Answer, u16>, text: &[u8]) 
     let mut source = Octets::new(bundle);
     let mut octets = [0u8; 256];
     let mut room = Room::new(&mut octets);
-    let found = ending(bundle_bytes(alloc, &mut source, &mut room));
+    let found = ending(bundle_bytes(alloc, seed(), &mut source, &mut room));
     found == wanted && room.octets() == text
 }
 
@@ -116,7 +116,7 @@ fn fails_with_its_devices(rt: HostRuntime) -> Result<(), Fail> {
         let mut source = Fuse::new(Octets::new(bundle.as_slice()), read);
         let mut octets = [0u8; 64];
         let mut sink = Fuse::new(Room::new(&mut octets), write);
-        assert!(rt; ending(bundle_bytes(alloc, &mut source, &mut sink)) == wanted);
+        assert!(rt; ending(bundle_bytes(alloc, seed(), &mut source, &mut sink)) == wanted);
     }
     Ok(())
 }

@@ -1,5 +1,5 @@
 //! Streams collected at the network's report, and devices that fail.
-use crate::audit_texts::{NETWORK, ending};
+use crate::audit_texts::{NETWORK, ending, seed};
 use fx_audit::{Answer, collect_bytes};
 use fx_base::{Fault, Fuse, Octets, Room};
 use std::alloc::Global;
@@ -32,7 +32,7 @@ fn ends(
     let mut stream = Fuse::new(Octets::new(stream), call);
     let mut octets = [0u8; 256];
     let mut room = Room::new(&mut octets);
-    let outcome = collect_bytes(alloc, &mut network, &mut stream, &mut room);
+    let outcome = collect_bytes(alloc, seed(), &mut network, &mut stream, &mut room);
     outcome == *wanted && room.octets() == text
 }
 
@@ -93,6 +93,6 @@ fn fails_without_room(rt: HostRuntime) {
     let mut stream = Octets::new(&FIRST);
     let mut octets = [0u8; 8];
     let mut room = Room::new(&mut octets);
-    let outcome = collect_bytes(rt.alloc(), &mut network, &mut stream, &mut room);
+    let outcome = collect_bytes(rt.alloc(), seed(), &mut network, &mut stream, &mut room);
     assert!(rt; ending(outcome) == Err(902));
 }

@@ -1,5 +1,5 @@
 //! Runs replayed over documents, and devices that fail.
-use crate::audit_texts::{NETWORK, RUN, TOTALS, TRAFFIC, ending};
+use crate::audit_texts::{NETWORK, RUN, TOTALS, TRAFFIC, ending, seed};
 use fx_audit::{Answer, replay_bytes};
 use fx_base::{Fault, Fuse, LineReader, Octets, Room};
 use std::alloc::Global;
@@ -16,7 +16,7 @@ fn replayed(
     let mut network = Fuse::new(Octets::new(network), call);
     let mut traffic = Octets::new(traffic);
     let mut lines = LineReader::new(alloc, Octets::new(run))?;
-    Ok(ending(replay_bytes(alloc, &mut network, &mut traffic, &mut lines, room)))
+    Ok(ending(replay_bytes(alloc, seed(), &mut network, &mut traffic, &mut lines, room)))
 }
 
 /// Whether replaying three texts ends like this, with this written.

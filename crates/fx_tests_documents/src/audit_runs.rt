@@ -1,5 +1,5 @@
 //! Networks that run over captures, and what refuses them.
-use crate::audit_texts::{NETWORK, TRAFFIC, ending};
+use crate::audit_texts::{NETWORK, TRAFFIC, ending, seed};
 use fx_audit::{Answer, run_bytes};
 use fx_base::{Fault, Fuse, LineReader, Octets, Room};
 use fx_link::{Nowhere, Sinks};
@@ -48,6 +48,7 @@ fn runs_over_a_capture(rt: HostRuntime) -> Result<(), Fail> {
     let mut room = Room::new(&mut octets);
     let outcome = run_bytes(
         rt.alloc(),
+        seed(),
         &mut network,
         &mut traffic,
         Octets::new(&CAPTURE),
@@ -75,6 +76,7 @@ fn ends(
     let mut schedule = LineReader::new(alloc, Octets::new(schedule))?;
     Ok(ending(run_bytes(
         alloc,
+        seed(),
         &mut network,
         &mut traffic,
         Octets::new(capture),
@@ -116,6 +118,7 @@ fn failing(alloc: Global, calls: [u64; 4]) -> Result<Result<Answer, u16>, Fault>
     let mut octets = [0u8; 128];
     Ok(ending(run_bytes(
         alloc,
+        seed(),
         &mut network,
         &mut traffic,
         Fuse::new(Octets::new(&CAPTURE), capture),

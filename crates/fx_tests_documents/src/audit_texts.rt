@@ -1,6 +1,7 @@
 //! Documents of a meter at one interface, which exports to the collector that reports; and how commands end.
 use fx_audit::Answer;
 use fx_base::Fault;
+use fx_layout::Seed;
 
 /// The network.
 pub(crate) const NETWORK: &str = r#"{"devices":[{"name":"m1","config":{"ietf-ipfix-psamp:ipfix":{
@@ -37,6 +38,11 @@ pub(crate) const TOTALS: &[u8] =
 
 /// A certificate that the packets of the class are counted exactly once.
 pub(crate) const CERTIFICATE: &[u8] = b"once-certificate 1\nclass 1 path 1\nL 1 1 1\nend\n";
+
+/// The seed by which stores and totals hash keys here.
+pub(crate) fn seed() -> Seed {
+    Seed::new(1, 2)
+}
 
 /// How a command ended: its answer, or the number of its fault.
 pub(crate) fn ending(outcome: Result<Answer, Fault>) -> Result<Answer, u16> {

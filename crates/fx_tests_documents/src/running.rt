@@ -27,7 +27,7 @@ fn declared(alloc: Global, plan: &Plan) -> Result<Traffic, Fail> {
 fn opens_with_nothing_counted(rt: HostRuntime) -> Result<(), Fail> {
     let plan = plan_of(rt.alloc(), audit_texts::NETWORK)?;
     let traffic = declared(rt.alloc(), &plan)?;
-    let network = Network::open(rt.alloc(), &plan, &traffic)?;
+    let network = Network::open(rt.alloc(), audit_texts::seed(), &plan, &traffic)?;
     assert!(rt; network.totals().len() == 0 && network.totals().unassigned() == 0);
     Ok(())
 }
@@ -46,7 +46,7 @@ fn obeyed(
 
 /// Whether a network obeys a line, refuses one, and then answers that again.
 fn obeys_and_stops(alloc: Global, plan: &Plan, traffic: &Traffic) -> Result<bool, Fault> {
-    let mut network = Network::open(alloc, plan, traffic)?;
+    let mut network = Network::open(alloc, audit_texts::seed(), plan, traffic)?;
     let mut capture = Capture::new(alloc, Octets::new(&CAPTURE))?;
     let first = obeyed(alloc, &mut network, &mut capture, b"next\n");
     let refused = obeyed(alloc, &mut network, &mut capture, b"expire 1 2\n");
@@ -56,7 +56,7 @@ fn obeys_and_stops(alloc: Global, plan: &Plan, traffic: &Traffic) -> Result<bool
 
 /// How many keys are counted once a network was closed over the capture.
 fn keys_when_closed(alloc: Global, plan: &Plan, traffic: &Traffic) -> Result<usize, Fault> {
-    let mut network = Network::open(alloc, plan, traffic)?;
+    let mut network = Network::open(alloc, audit_texts::seed(), plan, traffic)?;
     let mut capture = Capture::new(alloc, Octets::new(&CAPTURE))?;
     network.close(&mut capture, &mut Nowhere)?;
     Ok(network.totals().len())
@@ -66,7 +66,15 @@ fn keys_when_closed(alloc: Global, plan: &Plan, traffic: &Traffic) -> Result<usi
 fn keys_of_run(alloc: Global, plan: &Plan, traffic: &Traffic) -> Result<usize, Fault> {
     let mut capture = Capture::new(alloc, Octets::new(&CAPTURE))?;
     let mut lines = LineReader::new(alloc, Octets::new(SCHEDULE))?;
-    let totals = run(alloc, plan, traffic, &mut capture, &mut lines, &mut Nowhere)?;
+    let totals = run(
+        alloc,
+        audit_texts::seed(),
+        plan,
+        traffic,
+        &mut capture,
+        &mut lines,
+        &mut Nowhere,
+    )?;
     Ok(totals.len())
 }
 

@@ -3,10 +3,15 @@ use fx_base::{Counts, Fault, Room};
 use fx_boxes::Fields;
 use fx_collect::{Totals, put_number_line};
 use fx_elements::{AXES, Axis};
-use fx_layout::{Key, Layout};
+use fx_layout::{Key, Layout, Seed};
 use fx_machine::Record;
 use std::alloc::Global;
 use std::test::Fail;
+
+/// The seed of all totals here.
+fn seed() -> Seed {
+    Seed::new(1, 2)
+}
 
 fn layout() -> Result<Layout, Fail> {
     let layout = Layout::new().with(Axis::Source, 24).ok_or("source")?;
@@ -88,14 +93,14 @@ fn tells_one(totals: &mut Totals) -> Result<bool, Fail> {
 
 #[test]
 fn tells_totals(rt: HostRuntime) -> Result<(), Fail> {
-    let mut totals = Totals::new(rt.alloc(), layout()?)?;
+    let mut totals = Totals::new(rt.alloc(), seed(), layout()?)?;
     assert!(rt; tells_keys(&mut totals)?);
     Ok(())
 }
 
 #[test]
 fn tells_all(rt: HostRuntime) -> Result<(), Fail> {
-    let mut totals = Totals::new(rt.alloc(), Layout::new())?;
+    let mut totals = Totals::new(rt.alloc(), seed(), Layout::new())?;
     assert!(rt; tells_one(&mut totals)?);
     Ok(())
 }
@@ -121,7 +126,7 @@ fn record_of_ipv6() -> Result<Record, Fail> {
 
 #[test]
 fn tells_addresses_of_ipv6(rt: HostRuntime) -> Result<(), Fail> {
-    let mut totals = Totals::new(rt.alloc(), layout_of_ipv6()?)?;
+    let mut totals = Totals::new(rt.alloc(), seed(), layout_of_ipv6()?)?;
     totals.tally(&record_of_ipv6()?)?;
     let text =
         b"keys 1\n6 2001:db8:0:0:0:0:0:0/32 2001:db8:0:0:0:0:0:9 packets 3 octets 186\nunassigned 0\n";

@@ -1,7 +1,8 @@
 //! Layouts in the order of the axes, and keys that are projected.
 use fx_boxes::Fields;
 use fx_elements::Axis;
-use fx_layout::{Key, Layout};
+use fx_layout::{Key, Layout, Seed};
+use std::hash::{BuildHasher, Hasher};
 use std::test::Fail;
 
 fn web_packet() -> Option<Fields> {
@@ -76,4 +77,15 @@ fn projects_a_key(rt: HostRuntime) -> Result<(), Fail> {
             && is_projected(&fine.key_of(&fields), &coarse, &fine)
     );
     Ok(())
+}
+
+/// The numbers were worked out in Python.
+#[test]
+fn hashes_by_a_seed(rt: HostRuntime) {
+    let mut hasher = Seed::new(0x0123_4567_89ab_cdef, 0xfedc_ba98_7654_3210).build_hasher();
+    hasher.write_u128(0x2001_0db8_0000_0000_0000_0000_0000_0001);
+    assert!(rt; hasher.finish() == 0xc531_8fe5_81f9_0941);
+    hasher.write_usize(5);
+    hasher.write(b"0123456789");
+    assert!(rt; hasher.finish() == 0x6544_275f_ab45_1509);
 }

@@ -2,7 +2,7 @@
 use fx_base::{Counts, Fault};
 use fx_boxes::Fields;
 use fx_elements::Axis;
-use fx_layout::{Key, Layout};
+use fx_layout::{Key, Layout, Seed};
 use fx_store::{BoundedStore, FlowStore, ListStore};
 use std::test::Fail;
 
@@ -11,6 +11,11 @@ const COUNTS: Counts = Counts {
     packets: 1,
     octets: 10,
 };
+
+/// The seed of all stores here.
+fn seed() -> Seed {
+    Seed::new(1, 2)
+}
 
 /// The key of packets from this address.
 fn from(source: u128) -> Result<Key, Fail> {
@@ -51,19 +56,19 @@ fn is_filled_and_emptied<S: FlowStore>(store: &mut S) -> Result<bool, Fail> {
 
 #[test]
 fn fills_and_empties_a_list(rt: HostRuntime) -> Result<(), Fail> {
-    assert!(rt; is_filled_and_emptied(&mut ListStore::new(rt.alloc()))?);
+    assert!(rt; is_filled_and_emptied(&mut ListStore::new(rt.alloc(), seed()))?);
     Ok(())
 }
 
 #[test]
 fn fills_and_empties_a_bounded_store(rt: HostRuntime) -> Result<(), Fail> {
-    assert!(rt; is_filled_and_emptied(&mut BoundedStore::new(rt.alloc(), 2)?)?);
+    assert!(rt; is_filled_and_emptied(&mut BoundedStore::new(rt.alloc(), seed(), 2)?)?);
     Ok(())
 }
 
 #[test]
 fn lets_the_least_recently_added_to_leave(rt: HostRuntime) -> Result<(), Fail> {
-    let mut store = BoundedStore::new(rt.alloc(), 2)?;
+    let mut store = BoundedStore::new(rt.alloc(), seed(), 2)?;
     for (source, left) in [(1, None), (2, None), (1, None), (3, Some(2))] {
         assert!(rt; add(&mut store, source)? == left);
     }
@@ -85,8 +90,8 @@ fn is_taken<S: FlowStore>(store: &mut S) -> Result<bool, Fail> {
 
 #[test]
 fn takes_a_key_out(rt: HostRuntime) -> Result<(), Fail> {
-    assert!(rt; is_taken(&mut ListStore::new(rt.alloc()))?);
-    let mut bounded = BoundedStore::new(rt.alloc(), 1)?;
+    assert!(rt; is_taken(&mut ListStore::new(rt.alloc(), seed()))?);
+    let mut bounded = BoundedStore::new(rt.alloc(), seed(), 1)?;
     assert!(rt; is_taken(&mut bounded)? && add(&mut bounded, 8)?.is_none());
     Ok(())
 }
@@ -110,13 +115,13 @@ fn are_apart<S: FlowStore>(store: &mut S, wide: &Layout) -> Result<bool, Fail> {
 #[test]
 fn tells_layouts_apart(rt: HostRuntime) -> Result<(), Fail> {
     let wide = Layout::new().with(Axis::Source, 8).ok_or("layout")?;
-    assert!(rt; are_apart(&mut ListStore::new(rt.alloc()), &wide)?);
+    assert!(rt; are_apart(&mut ListStore::new(rt.alloc(), seed()), &wide)?);
     Ok(())
 }
 
 #[test]
 fn makes_a_large_store(rt: HostRuntime) -> Result<(), Fault> {
-    let store = BoundedStore::new(rt.alloc(), 65_536)?;
+    let store = BoundedStore::new(rt.alloc(), seed(), 65_536)?;
     assert!(rt; store.len() == 0);
     Ok(())
 }

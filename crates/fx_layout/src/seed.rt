@@ -1,0 +1,106 @@
+//! A hash of keys that whoever sends packets doesn't know.
+ghost use Rattle.std.specs.Prelude.{◌≡◌, ◌+◌, ◌≤◌, length};
+ghost use Rattle.fx_layout.specs.Seeds as seeds;
+
+use std::hash::{BuildHasher, Hasher};
+
+/// How many octets are hashed at once.
+const WORD: usize = 8;
+
+/// Two numbers by which keys are hashed.
+///
+/// Stores and totals find keys by a hash, and keys whose hashes are alike one after another. Whoever knows the numbers
+/// can choose such keys, so a program that reads what others send takes numbers at random. What is answered doesn't
+/// depend on them.
+#[derive(Clone, Copy)]
+pub struct Seed {
+    first: u64,
+    second: u64,
+}
+
+impl Seed {
+    /// The seed of two numbers.
+    pub fn new(first: u64, second: u64) -> Seed
+        ensures { result ≡ record { first = first; second = second } }
+    {
+        Seed { first, second }
+    }
+}
+
+impl BuildHasher for Seed {
+    type Hasher = SeededHasher;
+
+    ghost build_hasher = { seeds.begun };
+
+    fn build_hasher(&self) -> SeededHasher {
+        SeededHasher {
+            state: self.first,
+            second: self.second,
+        }
+    }
+}
+
+/// The hash of the octets so far, by a [`Seed`].
+#[derive(Clone, Copy)]
+pub struct SeededHasher {
+    state: u64,
+    second: u64,
+}
+
+/// The halves of the product, joined by an exclusive or.
+fn folded(a: u64, b: u64) -> u64
+    ensures { result ≡ seeds.folded a b }
+{
+    let product = a as u128 * b as u128;
+    (product & 0xFFFF_FFFF_FFFF_FFFF) as u64 ^ (product >> 64) as u64
+}
+
+/// The number of eight octets, the lowest first.
+fn read_word(octets: &[u8], at: usize) -> u64
+    requires { at + 8 ≤ length octets.now }
+    ensures { result ≡ seeds.word octets.now at }
+{
+    u64::from_le_bytes([
+        octets[at],
+        octets[at + 1],
+        octets[at + 2],
+        octets[at + 3],
+        octets[at + 4],
+        octets[at + 5],
+        octets[at + 6],
+        octets[at + 7],
+    ])
+}
+
+impl Hasher for SeededHasher {
+    ghost write = { seeds.with_octets };
+
+    ghost finish = { λ h. h.state };
+
+    fn finish(&self) -> u64 {
+        self.state
+    }
+
+    fn write(&mut self, bytes: &[u8]) {
+        let mut state = self.state;
+        let mut at = 0;
+        while bytes.len() - at >= WORD {
+            state = folded(read_word(bytes, at) ^ state, self.second);
+            at += WORD;
+        }
+        for octet in &bytes[at..] {
+            state = folded(*octet as u64 ^ state, self.second);
+        }
+        self.state = state;
+    }
+
+    // Numbers that keys have are hashed without being written as octets first.
+    fn write_usize(&mut self, i: usize) {
+        self.state = folded(i as u64 ^ self.state, self.second);
+    }
+
+    fn write_u128(&mut self, i: u128) {
+        let low = folded((i & 0xFFFF_FFFF_FFFF_FFFF) as u64 ^ self.state, self.second);
+        self.state = folded((i >> 64) as u64 ^ low, self.second);
+    }
+}
