@@ -171,7 +171,7 @@ impl Net {
         Ok(found)
     }
 
-    /// The same, behind what the list has. Fails for want of memory alone.
+    /// The same, behind what the list has. Fails for want of memory alone; the list may have some of them then.
     pub fn push_occurrences(
         &self,
         found: &mut Vec<Occurrence>,
