@@ -13,10 +13,10 @@ import shutil
 import sys
 import tempfile
 
-from refused_growth import ROWS, SWEPT, Shim, octets_of, wrong_links
+from refused_growth import ROWS, SWEPT, Shim, is_right, octets_of, wrong_links
 
 
-def is_right(kind, said, status, wanted):
+def ends_right(kind, said, status, wanted):
     """Whether a run of which a call failed ends as it should."""
     if status != 5:
         return False
@@ -41,7 +41,7 @@ def sweep(shim, row, kind, behind):
                 return False, "call %d failed: wrong octets on %s" % (number, links)
             if is_whole:
                 return number > 1 and (said, status) == wanted, "%d calls" % calls
-            if not is_right(kind, said, status, wanted[0]):
+            if not ends_right(kind, said, status, wanted[0]):
                 return False, "call %d failed: status %d, printed %r" % (number, status, said[:200])
             number += 1
 
@@ -56,9 +56,7 @@ def main(program):
         for row in SWEPT:
             for kind in ("READ", "WRITE"):
                 for behind, end in ((False, "alone"), (True, "and all behind")):
-                    right, said = sweep(shim, row, kind, behind)
-                    failed += not right
-                    print("%-84s %s%s" % ("%s, each %s, %s" % (row, kind.lower(), end), said, "" if right else "   FAILED"))
+                    failed += not is_right("%s, each %s, %s" % (row, kind.lower(), end), sweep(shim, row, kind, behind))
     return 1 if failed else 0
 
 

@@ -16,7 +16,7 @@ import subprocess
 import sys
 import tempfile
 
-from refused_growth import ROWS, SWEPT, octets_of, wrong_links
+from refused_growth import ROWS, SWEPT, is_right, octets_of, wrong_links
 
 
 def limited(most):
@@ -65,17 +65,15 @@ def full_answer(program, row, folder):
     return run(program, row, folder, most, os.path.join(folder, "answer")) == wanted, "full answers at %d octets" % most
 
 
+def tried(program, row):
+    """A row with links is tried with full links, another with a full answer."""
+    way = full_links if any(re.fullmatch(r"link\d+\.hex", name) for name in os.listdir(os.path.join(ROWS, row))) else full_answer
+    with tempfile.TemporaryDirectory() as room:
+        return way(program, row, shutil.copytree(os.path.join(ROWS, row), os.path.join(room, "row")))
+
+
 def main(program):
-    program, failed = os.path.abspath(program), 0
-    for row in SWEPT:
-        files = os.listdir(os.path.join(ROWS, row))
-        has_links = any(re.fullmatch(r"link\d+\.hex", name) for name in files)
-        for way in [full_links] * has_links + [full_answer] * (not has_links):
-            with tempfile.TemporaryDirectory() as room:
-                folder = shutil.copytree(os.path.join(ROWS, row), os.path.join(room, "row"))
-                right, said = way(program, row, folder)
-            failed += not right
-            print("%-56s %s%s" % (row, said, "" if right else "   FAILED"))
+    failed = sum(not is_right(row, tried(os.path.abspath(program), row)) for row in SWEPT)
     return 1 if failed else 0
 
 

@@ -129,11 +129,17 @@ def lengths(shim, folder):
     return len(set(counts)) == 1 and counts[0] > 0, "%s growths, none once it is read" % " and ".join(map(str, sorted(set(counts))))
 
 
+def is_right(name, outcome):
+    """Whether a sweep of this name came out right; prints what is to say of it."""
+    right, said = outcome
+    print("%-84s %s%s" % (name, said, "" if right else "   FAILED"))
+    return right
+
+
 def main(program):
     if not shutil.which("cc"):
         print("cc is missing: it builds refused_growth.c")
         return 1
-    failed = 0
     with tempfile.TemporaryDirectory() as folder:
         shim = Shim(os.path.abspath(program), folder, "refused_growth", "GROWTHS")
         runs = [
@@ -142,10 +148,7 @@ def main(program):
             for behind, end in ((True, ", and all behind"), (False, ", alone"))
         ]
         runs.append(("certificates of one leaf and of 1,000,000 lines", lambda: lengths(shim, folder)))
-        for name, way in runs:
-            right, said = way()
-            failed += not right
-            print("%-56s %s%s" % (name, said, "" if right else "   FAILED"))
+        failed = sum(not is_right(name, way()) for name, way in runs)
     return 1 if failed else 0
 
 

@@ -5,12 +5,13 @@ use Rattle.std.specs.Int.{w64, from_le_bytes}
 use Rattle.fx_layout.specs.declared.seed.Seed.{Seed}
 use Rattle.fx_layout.specs.declared.seed.SeededHasher.{SeededHasher}
 
-abbrev pub begun : Seed → SeededHasher
-begun s = record { state = s.first; second = s.second }
+-- what has hashed nothing
+abbrev pub first_hasher : Seed → SeededHasher
+first_hasher s = record { state = s.first; second = s.second }
 
 -- the two halves of the 128 bits of a product, joined by an exclusive or
-abbrev pub folded : ℕ → ℕ → ℕ
-folded a b = bit_xor (bit_and (a * b) (2 ^ 64 - 1)) (a * b / 2 ^ 64)
+abbrev pub folded_product : ℕ → ℕ → ℕ
+folded_product a b = bit_xor (bit_and (a * b) (2 ^ 64 - 1)) (a * b / 2 ^ 64)
 
 -- the number of the eight octets from here on, the lowest first
 abbrev pub word : List ℕ → ℕ → ℕ
@@ -20,11 +21,11 @@ word os i = from_le_bytes w64 (slice_index os i ∷ slice_index os (i + 1) ∷ s
 -- the state after the first n words
 unfoldable pub after_words : List ℕ → ℕ → ℕ → ℕ → ℕ
 after_words os second state zero = state
-after_words os second state (suc n) = folded (bit_xor (word os (8 * n)) (after_words os second state n)) second
+after_words os second state (suc n) = folded_product (bit_xor (word os (8 * n)) (after_words os second state n)) second
 
 -- the state after octets one by one
 abbrev pub after_octets : ℕ → ℕ → List ℕ → ℕ
-after_octets second state os = fold (λ s o. folded (bit_xor o s) second) state os
+after_octets second state os = fold (λ s o. folded_product (bit_xor o s) second) state os
 
 -- words first, then what is left
 abbrev pub with_octets : SeededHasher → List ℕ → SeededHasher

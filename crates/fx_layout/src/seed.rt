@@ -30,7 +30,7 @@ impl Seed {
 impl BuildHasher for Seed {
     type Hasher = SeededHasher;
 
-    ghost build_hasher = { seeds.begun };
+    ghost build_hasher = { seeds.first_hasher };
 
     fn build_hasher(&self) -> SeededHasher {
         SeededHasher {
@@ -48,8 +48,8 @@ pub struct SeededHasher {
 }
 
 /// The halves of the product, joined by an exclusive or.
-fn folded(a: u64, b: u64) -> u64
-    ensures { result ≡ seeds.folded a b }
+fn folded_product(a: u64, b: u64) -> u64
+    ensures { result ≡ seeds.folded_product a b }
 {
     let product = a as u128 * b as u128;
     (product & 0xFFFF_FFFF_FFFF_FFFF) as u64 ^ (product >> 64) as u64
@@ -85,22 +85,22 @@ impl Hasher for SeededHasher {
         let mut state = self.state;
         let mut at = 0;
         while bytes.len() - at >= WORD {
-            state = folded(read_word(bytes, at) ^ state, self.second);
+            state = folded_product(read_word(bytes, at) ^ state, self.second);
             at += WORD;
         }
         for octet in &bytes[at..] {
-            state = folded(*octet as u64 ^ state, self.second);
+            state = folded_product(*octet as u64 ^ state, self.second);
         }
         self.state = state;
     }
 
     // Numbers that keys have are hashed without being written as octets first.
     fn write_usize(&mut self, i: usize) {
-        self.state = folded(i as u64 ^ self.state, self.second);
+        self.state = folded_product(i as u64 ^ self.state, self.second);
     }
 
     fn write_u128(&mut self, i: u128) {
-        let low = folded((i & 0xFFFF_FFFF_FFFF_FFFF) as u64 ^ self.state, self.second);
-        self.state = folded((i >> 64) as u64 ^ low, self.second);
+        let low = folded_product((i & 0xFFFF_FFFF_FFFF_FFFF) as u64 ^ self.state, self.second);
+        self.state = folded_product((i >> 64) as u64 ^ low, self.second);
     }
 }

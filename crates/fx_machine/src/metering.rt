@@ -110,7 +110,8 @@ fn push_met_of(
     crossing: &Crossing,
     fields: &Fields,
 ) -> Result<(), AllocError>
-    ensures { OnOk result (found.new.items ≡ found.old.items ++ met.met_at 1 points.now crossing.now fields.now) }
+    ensures { OnOk result (found.new.items
+        ≡ found.old.items ++ met.met_at 1 points.now crossing.now fields.now) }
 {
     for place in 0..points.len() {
         push_met_at(found, place + 1, &points[place], crossing, fields)?;
@@ -178,7 +179,8 @@ impl Net {
         crossing: &Crossing,
         fields: &Fields,
     ) -> Result<(), AllocError>
-        ensures { OnOk result (found.new.items ≡ found.old.items ++ met.occurrences self.now crossing.now fields.now) }
+        ensures { OnOk result (found.new.items
+            ≡ found.old.items ++ met.occurrences self.now crossing.now fields.now) }
     {
         let points = points_of(self.devices(), crossing.device);
         push_met_of(found, points, crossing, fields)

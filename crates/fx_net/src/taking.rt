@@ -24,7 +24,8 @@ fn push_leaver(
     key: Key,
     counts: Counts,
 ) -> Result<(), Fault>
-    ensures ok { OnOk result (leavers.new.items ≡ leavers.old.items ++ leaving.leaver holder (key, counts) ∷ []) }
+    ensures ok { OnOk result (leavers.new.items
+        ≡ leavers.old.items ++ leaving.leaver holder (key, counts) ∷ []) }
     ensures err { IfErr result (λ e. e ≡ fault_at 900 places.None) }
 {
     leavers.push(Leaver {

@@ -78,7 +78,8 @@ impl<R: Source> Capture<R> {
     /// 901 and 702 at no place.
     pub fn new(alloc: Global, source: R) -> Result<Capture<R>, Fault>
         ensures ok { IfOk result (IsOpened (R.left source) (R.calls source)) }
-        ensures err { IfErr result (IsRefused (R.left source) (IsUnreadable R.calls R.failed (R.left source) (R.calls source))) }
+        ensures err { IfErr result (IsRefused (R.left source)
+            (IsUnreadable R.calls R.failed (R.left source) (R.calls source))) }
     {
         let mut window = Window::new(alloc, source)?;
         let Ok(()) = window.fill(FILE_HEADER) else {

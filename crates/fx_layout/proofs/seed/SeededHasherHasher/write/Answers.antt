@@ -14,5 +14,5 @@ loop-at-preserved c =
     let more : (at + 8) / 8 ≡ suc (at / 8) = omega arith in (
       omega (arith, c.loop-at.invariant.0),
       omega (arith, c.loop-at.invariant.1, c.loop-at-test.true),
-      rw (more, c.folded-state.ensures, c.read_word.ensures, ← c.loop-at.invariant.2, ← whole) refl,
+      rw (more, c.folded_product-state.ensures, c.read_word.ensures, ← c.loop-at.invariant.2, ← whole) refl,
     )
