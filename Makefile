@@ -5,8 +5,8 @@ SHELL := /bin/bash
 .DEFAULT_GOAL := help
 .PHONY: help kit replay once test proofs run-wrong wrong rows examples run-rows run-examples torture clean
 
-# The libraries that the program stands on, lowest first.
-LIBRARIES = $(shell sed -n 's/^once: //p' crates.txt | tr ' ' '\n' | grep '^fx_' | tac)
+# The libraries that the program stands on, lowest first, as crates.txt has them.
+LIBRARIES = $(shell sed -n 's/^\(fx_[a-z_]*\):.*/\1/p' crates.txt | grep -v '^fx_tests_')
 
 # Prints what the part took when it ends.
 part = TIMEFORMAT='part $(1): %0R s, %0U and %0S s of processor time'; time

@@ -21,7 +21,7 @@ for name in fx_base fx_elements fx_boxes fx_layout fx_store fx_pcap; do
 done
 mkdir -p "$work/crates/capture_bench/src"
 cp "$here/capture/main.rt.txt" "$work/crates/capture_bench/src/main.rt"
-echo "capture_bench: fx_store fx_pcap fx_layout fx_boxes fx_elements fx_base itoa thiserror arrayvec indexmap lru byteorder anyhow" >> "$work/crates.txt"
+echo "capture_bench: fx_store fx_pcap fx_layout fx_boxes fx_elements fx_base anyhow" >> "$work/crates.txt"
 
 python3 "$here/make_capture.py" "$work/capture.pcap" "$frames" "$flows"
 (cd "$work/crates/capture_bench" && rt run --jobs 1 -- "$work/capture.pcap" > "$work/build.txt" 2>&1) || {

@@ -12,13 +12,14 @@ work=$(mktemp -d)
 trap 'rm -rf "$work"' EXIT
 
 mkdir -p "$work/crates" "$work/documents"
-for name in fx_base fx_elements fx_boxes fx_layout fx_machine fx_config fx_selectors fx_plan; do
+for name in fx_base fx_elements fx_boxes fx_layout fx_tables fx_run_text fx_machine fx_walk fx_config fx_selectors fx_topology \
+    fx_ranks fx_plan; do
     cp -a "$top/crates/$name" "$work/crates/$name"
     grep "^$name:" "$top/crates.txt" >> "$work/crates.txt"
 done
 mkdir -p "$work/crates/documents_bench/src"
 cp "$here/documents/main.rt.txt" "$work/crates/documents_bench/src/main.rt"
-echo "documents_bench: fx_plan fx_selectors fx_config fx_machine fx_layout fx_boxes fx_elements fx_base itoa thiserror arrayvec indexmap serde_json anyhow" >> "$work/crates.txt"
+echo "documents_bench: fx_plan fx_topology fx_config fx_base serde_json anyhow" >> "$work/crates.txt"
 
 python3 "$here/make_documents.py" "$work/documents"
 (cd "$work/crates/documents_bench" && rt run --jobs 1 -- "$work/documents/long-text.json" > "$work/build.txt" 2>&1) || {

@@ -23,7 +23,7 @@ BELIEVE = os.path.join(ROOT, "docs", "BELIEVE.md")
 COMMANDS = [
     ("The headline: clause `once` of `fx_check::check`", [("fx_check", "check", ["once"])]),
     ("What the documents mean: `network_of` and `traffic_of`, by which a yes of `once check` speaks of octets",
-     [("fx_plan/Networks", "network_of"), ("fx_traffic/Classes", "traffic_of")]),
+     [("fx_topology/Networks", "network_of"), ("fx_traffic/Classes", "traffic_of")]),
     ("`fx_audit::check_bytes`", [("fx_audit", "check_bytes", [])]),
     ("`fx_audit::replay_bytes`", [("fx_audit", "replay_bytes", [])]),
     ("`fx_audit::collect_bytes`", [("fx_audit", "collect_bytes", [])]),

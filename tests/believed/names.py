@@ -51,8 +51,8 @@ def read_module(path):
     imports, definitions, current = {}, {}, None
     for line in without_comments(open(path, encoding="utf-8").read()):
         head = HEAD.match(line)
-        if line.startswith("use "):
-            imports.update((here, (where, there)) for here, where, there in imported(line[4:]))
+        if line.startswith(("use ", "pub use ")):
+            imports.update((here, (where, there)) for here, where, there in imported(line.split("use ", 1)[1]))
         elif line.startswith(("pub mod ", "mod ", "infix")):
             continue
         elif head and line[0] not in " }])":
@@ -86,8 +86,15 @@ class Library:
                     self.owner[(definition.module, name)] = definition.key()
 
     def find(self, module, name):
+        """The definition of this name in a file, or the one of another file that it hands on."""
         key = (module, name)
-        return key if key in self.definitions else self.owner.get(key)
+        if key in self.definitions:
+            return key
+        path, there = self.imports.get(module, {}).get(name, (None, None))
+        if there and path.startswith("Rattle.fx_") and ".specs.declared." not in path:
+            words = path.split(".")
+            return self.find("%s/%s" % (words[1], words[3]), there)
+        return self.owner.get(key)
 
     def target(self, path, name):
         """What a name under a path is: ours, a Rust type of ours, or a name of a library."""

@@ -3,8 +3,8 @@ use Rattle.std.proofs.Common.{◌≡◌, ◌⊎◌, inl, inr, ℕ, List, Option,
 use Rattle.fx_base.specs.declared.fault.Fault.{Fault}
 use Rattle.fx_base.specs.Device.{MayHaveLeft}
 use Rattle.fx_base.specs.Lines.{text_lines}
-use Rattle.fx_machine.specs.Classes.{Class}
-use Rattle.fx_plan.specs.declared.network.Network.{Network}
+use Rattle.fx_tables.specs.Classes.{Class}
+use Rattle.fx_topology.specs.declared.network.Network.{Network}
 use Rattle.fx_plan.specs.Tables.{net_of}
 use Rattle.fx_check.specs.Certificates.{IsCertificate}
 use Rattle.fx_search.specs.Found.{IsRight, Settles}

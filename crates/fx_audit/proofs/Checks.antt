@@ -4,15 +4,14 @@ use Rattle.fx_base.specs.declared.fault.Fault.{Fault}
 use Rattle.fx_base.specs.declared.fault.Place.TheVariants as places
 use Rattle.fx_base.specs.Device.{MayHaveLeft}
 use Rattle.fx_base.specs.Fault.{fault_at}
-use Rattle.fx_base.specs.Lines.{Lines, text_lines}
+use Rattle.fx_base.specs.Lines.{Lines, text_lines, Fails}
 use Rattle.fx_check.specs.Judging.{judge_of}
 use Rattle.fx_check.specs.Outcomes.{IsRefusal, IsCheckFault, IsToldBy, MayBeRefused}
 use Rattle.fx_check.specs.Outcomes as of_check
 use Rattle.fx_traffic.specs.Targets.{targets_of}
 use Rattle.fx_check.specs.Verdict.{Refusal, first_refusal, whole}
-use Rattle.fx_machine.specs.Classes.{Class}
-use Rattle.fx_machine.specs.RunReading.{Fails}
-use Rattle.fx_plan.specs.declared.network.Network.{Network}
+use Rattle.fx_tables.specs.Classes.{Class}
+use Rattle.fx_topology.specs.declared.network.Network.{Network}
 use Rattle.fx_plan.specs.Tables.{net_of}
 use Rattle.fx_audit.specs.declared.answer.Answer.{Answer}
 use Rattle.fx_audit.specs.declared.answer.Answer.TheVariants.{No}

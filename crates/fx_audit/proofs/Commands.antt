@@ -5,13 +5,13 @@ use Rattle.fx_base.specs.declared.fault.Fault.{Fault}
 use Rattle.fx_base.specs.declared.fault.Place.TheVariants as places
 use Rattle.fx_base.specs.Fault.{fault_at}
 use Rattle.fx_base.specs.Device.{MayBeLeft, MayHaveLeft}
-use Rattle.fx_base.specs.Lines.{Lines, lines_in, new_lines}
+use Rattle.fx_base.specs.Lines.{Lines, lines_in, new_lines, Fails}
 use Rattle.fx_check.specs.Verdict.{line_limit}
-use Rattle.fx_machine.specs.Network.{Net}
-use Rattle.fx_machine.specs.Classes.{Class}
-use Rattle.fx_machine.specs.RunText.{Run}
-use Rattle.fx_machine.specs.RunReading.{Fails, MayRead}
-use Rattle.fx_plan.specs.declared.network.Network.{Network}
+use Rattle.fx_tables.specs.Network.{Net}
+use Rattle.fx_tables.specs.Classes.{Class}
+use Rattle.fx_run_text.specs.RunText.{Run}
+use Rattle.fx_run_text.specs.RunReading.{MayRead}
+use Rattle.fx_topology.specs.declared.network.Network.{Network}
 use Rattle.fx_plan.specs.Tables.{net_of}
 use Rattle.fx_audit.specs.declared.answer.Answer.{Answer}
 use Rattle.fx_audit.specs.declared.answer.Answer.TheVariants.{Yes}

@@ -4,11 +4,10 @@ use Rattle.fx_base.specs.declared.fault.Fault.{Fault}
 use Rattle.fx_base.specs.declared.fault.Place.TheVariants as places
 use Rattle.fx_base.specs.Device.{MayHaveLeft}
 use Rattle.fx_base.specs.Fault.{fault_at}
-use Rattle.fx_base.specs.Lines.{Lines}
+use Rattle.fx_base.specs.Lines.{Lines, Fails}
 use Rattle.fx_collect.specs.Totals.{Totals}
-use Rattle.fx_machine.specs.Classes.{Class}
-use Rattle.fx_machine.specs.RunReading.{Fails}
-use Rattle.fx_plan.specs.declared.network.Network.{Network}
+use Rattle.fx_tables.specs.Classes.{Class}
+use Rattle.fx_topology.specs.declared.network.Network.{Network}
 use Rattle.fx_audit.specs.declared.answer.Answer.{Answer}
 use Rattle.fx_audit.specs.declared.answer.Answer.TheVariants.{Yes, No, Unknown}
 use Rattle.fx_audit.specs.Checks.{no_line}

@@ -8,9 +8,9 @@ use Rattle.fx_base.specs.declared.fault.Place.TheVariants as places
 use Rattle.fx_base.specs.Device.{MayBeLeft, MayHaveLeft}
 use Rattle.fx_base.specs.Fault.{fault_at}
 use Rattle.fx_base.proofs.GoingOn.{something_left}
-use Rattle.fx_config.specs.Walk.{Found, Reads, refuses}
-use Rattle.fx_plan.specs.declared.network.Network.{Network}
-use Rattle.fx_plan.specs.Networks.{device_names, network_faults, network_of}
+use Rattle.fx_walk.specs.Walk.{Found, Reads, refuses}
+use Rattle.fx_topology.specs.declared.network.Network.{Network}
+use Rattle.fx_topology.specs.Networks.{device_names, network_faults, network_of}
 use Rattle.fx_plan.specs.Plans.{ReadsPlan}
 use Rattle.fx_traffic.specs.Classes.{traffic_faults}
 use Rattle.fx_audit.specs.Documents.{IsDocument, IsFirstFault, IsJson, IsNetwork, IsRefusedByDocuments, IsRefusedNetwork, by_walk, by_plan, is_found}

@@ -5,14 +5,14 @@ use Rattle.fx_base.specs.declared.fault.Place.TheVariants as places
 use Rattle.fx_base.specs.Device.{MayBeLeft, MayHaveLeft}
 use Rattle.fx_base.specs.Fault.{fault_at}
 use Rattle.fx_base.specs.Lines.{Lines}
-use Rattle.fx_machine.specs.Classes.{Class}
+use Rattle.fx_tables.specs.Classes.{Class}
 use Rattle.fx_link.specs.Links.{Put}
 use Rattle.fx_pcap.specs.Captures.{IsOpened, Reading}
 use Rattle.fx_pcap.specs.Records.{format_of}
 use Rattle.fx_pcap.specs.declared.header.Format.{Format}
-use Rattle.fx_plan.specs.declared.network.Network.{Network}
+use Rattle.fx_topology.specs.declared.network.Network.{Network}
 use Rattle.fx_net.specs.Running.{FailsOutside, RefusesRun, begun}
-use Rattle.fx_plan.specs.Networks.{device_names}
+use Rattle.fx_topology.specs.Networks.{device_names}
 use Rattle.fx_plan.specs.Tables.{net_of}
 use Rattle.fx_conform.specs.Conforming.{IsSound}
 use Rattle.fx_conform.specs.Whole.{HavePaths, IsRunOf}

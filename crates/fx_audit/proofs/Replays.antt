@@ -1,10 +1,10 @@
 -- A run that was replayed step by step.
 use Rattle.std.proofs.Common.{◌≡◌, ℕ, List, Ok, refl, sym, ap, ◌∙◌, subst}
 use Rattle.fx_layout.specs.Keys.{IsLayout}
-use Rattle.fx_machine.specs.Network.{Net}
-use Rattle.fx_machine.specs.Classes.{Class}
-use Rattle.fx_machine.specs.declared.packet.Packet.{Packet}
-use Rattle.fx_machine.specs.declared.step.Step.{Step}
+use Rattle.fx_tables.specs.Network.{Net}
+use Rattle.fx_tables.specs.Classes.{Class}
+use Rattle.fx_tables.specs.declared.packet.Packet.{Packet}
+use Rattle.fx_run_text.specs.declared.step.Step.{Step}
 use Rattle.fx_machine.specs.States.{State, opening, told}
 use Rattle.fx_machine.specs.Steps.{run}
 use Rattle.fx_machine.specs.Stores.{Running}

@@ -7,7 +7,7 @@ use Rattle.fx_base.proofs.Reading.{read_more, read_end, held_within}
 use Rattle.fx_base.proofs.Writing.{writes_both}
 use Rattle.fx_base.specs.Device.{MayBeLeft, MayHaveLeft, Reads, Writes}
 use Rattle.fx_base.specs.declared.fault.Fault.{Fault}
-use Rattle.fx_machine.specs.declared.record.Record.{Record}
+use Rattle.fx_tables.specs.declared.record.Record.{Record}
 use Rattle.fx_collect.specs.Report.{number_line}
 use Rattle.fx_collect.specs.Totals.{Totals, with_record, with_records}
 use Rattle.fx_session.proofs.InFront.{fed-behind}

@@ -3,11 +3,11 @@ use Rattle.std.specs.Prelude.{◌≡◌, ℕ, List, [], ◌∷◌, ◌++◌, cod
 use Rattle.fx_base.specs.Lines.{text_lines}
 use Rattle.fx_cert.specs.declared.item.Item.{Item}
 use Rattle.fx_machine.specs.Claim.{ExactlyOnce, OnceModulo}
-use Rattle.fx_machine.specs.Classes.{Class}
-use Rattle.fx_plan.specs.declared.network.Network.{Network}
+use Rattle.fx_tables.specs.Classes.{Class}
+use Rattle.fx_topology.specs.declared.network.Network.{Network}
 use Rattle.fx_plan.specs.Tables.{net_of}
 use Rattle.fx_check.specs.Certificates.{IsCertificate}
-use Rattle.fx_machine.specs.declared.text_version.TextVersion.TheVariants.{Two}
+use Rattle.fx_run_text.specs.declared.text_version.TextVersion.TheVariants.{Two}
 use Rattle.fx_refute.specs.RefutationText.{refutation_text}
 use Rattle.fx_refute.specs.Refutations.{Refutation, Refutes}
 use Rattle.fx_search.specs.Found.{IsFound, certificate_text}

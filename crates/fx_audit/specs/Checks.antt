@@ -6,8 +6,8 @@ use Rattle.fx_base.specs.Device.{MayHaveLeft}
 use Rattle.fx_base.specs.Fault.{fault_at, fault_text}
 use Rattle.fx_base.specs.Lines.{Lines, text_lines}
 use Rattle.fx_machine.specs.Claim.{ExactlyOnce, OnceModulo}
-use Rattle.fx_machine.specs.Classes.{Class}
-use Rattle.fx_plan.specs.declared.network.Network.{Network}
+use Rattle.fx_tables.specs.Classes.{Class}
+use Rattle.fx_topology.specs.declared.network.Network.{Network}
 use Rattle.fx_plan.specs.Tables.{net_of}
 use Rattle.fx_check.specs.Judging.{judge_of}
 use Rattle.fx_check.specs.Outcomes.{MayBeAccepted, MayBeCertificate}

@@ -2,8 +2,8 @@
 use Rattle.std.specs.Prelude.{◌≡◌, ◌⊎◌, ℕ, ◌≤◌, List, ◌++◌, codes, Some, Ok, Err, IsPermutation}
 use Rattle.fx_base.specs.declared.fault.Fault.{Fault}
 use Rattle.fx_base.specs.Lines.{Lines}
-use Rattle.fx_machine.specs.Classes.{Class}
-use Rattle.fx_plan.specs.declared.network.Network.{Network}
+use Rattle.fx_tables.specs.Classes.{Class}
+use Rattle.fx_topology.specs.declared.network.Network.{Network}
 use Rattle.fx_plan.specs.Tables.{net_of}
 use Rattle.fx_collect.specs.Totals.{Totals}
 use Rattle.fx_collect.specs.Report.{Ascends, totals_text}

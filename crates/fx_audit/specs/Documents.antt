@@ -7,14 +7,14 @@ use Rattle.fx_base.specs.declared.fault.Place.{Place}
 use Rattle.fx_base.specs.declared.fault.Place.TheVariants as places
 use Rattle.fx_base.specs.Device.{IsUnread}
 use Rattle.fx_base.specs.Fault.{fault_at}
-use Rattle.fx_config.specs.Walk.{Found, first}
-use Rattle.fx_machine.specs.Classes.{Class}
-use Rattle.fx_machine.specs.Limits.{layout_limit}
-use Rattle.fx_plan.specs.declared.network.Network.{Network}
+use Rattle.fx_walk.specs.Walk.{Found, first}
+use Rattle.fx_tables.specs.Classes.{Class}
+use Rattle.fx_tables.specs.Limits.{layout_limit}
+use Rattle.fx_topology.specs.declared.network.Network.{Network}
 use Rattle.fx_plan.specs.Layouts.{layouts_of}
-use Rattle.fx_plan.specs.Networks.{device_names, network_faults, network_of}
+use Rattle.fx_topology.specs.Networks.{device_names, network_faults, network_of}
 use Rattle.fx_plan.specs.Plans.{RefusesNetwork}
-use Rattle.fx_plan.specs.Ranks.{IsStuck}
+use Rattle.fx_ranks.specs.Ranks.{IsStuck}
 use Rattle.fx_plan.specs.Tables.{net_of}
 use Rattle.fx_traffic.specs.Classes.{traffic_faults, traffic_of}
 

@@ -4,11 +4,12 @@ use Rattle.fx_layout.specs.Keys.{Layout}
 use Rattle.fx_base.specs.declared.fault.Fault.{Fault}
 use Rattle.fx_base.specs.declared.fault.Place.TheVariants as places
 use Rattle.fx_base.specs.Fault.{fault_at}
-use Rattle.fx_machine.specs.Network.{Net, numbered}
-use Rattle.fx_machine.specs.Classes.{Class, IsOf}
+use Rattle.fx_tables.specs.Network.{Net}
+use Rattle.fx_base.specs.Entries.{numbered}
+use Rattle.fx_tables.specs.Classes.{Class, IsOf}
 use Rattle.fx_machine.specs.States.{State, Complete, opening}
 use Rattle.fx_machine.specs.Steps.{run}
-use Rattle.fx_machine.specs.RunText.{Run}
+use Rattle.fx_run_text.specs.RunText.{Run}
 use Rattle.fx_collect.specs.Totals.{Totals}
 use Rattle.fx_collect.specs.Report.{Ascends, totals_text}
 

@@ -7,7 +7,7 @@ use Rattle.fx_collect.specs.Totals.{Totals}
 use Rattle.fx_audit.specs.declared.answer.Answer.{Answer}
 use Rattle.fx_audit.specs.declared.answer.Answer.TheVariants.{Yes, No, Unknown}
 use Rattle.fx_cert.specs.declared.item.Item.{Item}
-use Rattle.fx_machine.specs.declared.text_version.TextVersion.TheVariants.{Two}
+use Rattle.fx_run_text.specs.declared.text_version.TextVersion.TheVariants.{Two}
 use Rattle.fx_refute.specs.RefutationText.{refutation_text}
 use Rattle.fx_refute.specs.Refutations.{Refutation}
 use Rattle.fx_search.specs.Found.{certificate_text}

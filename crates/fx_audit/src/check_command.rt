@@ -4,7 +4,7 @@ ghost use Rattle.fx_base.specs.Device.{MayHaveLeft, Writes};
 ghost use Rattle.fx_base.specs.Fault.{fault_at};
 ghost use Rattle.fx_base.specs.declared.fault.Fault.{Fault};
 ghost use Rattle.fx_base.specs.declared.fault.Place.TheVariants as places;
-ghost use Rattle.fx_machine.specs.RunReading.{Fails};
+ghost use Rattle.fx_base.specs.Lines.{Fails};
 ghost use Rattle.fx_audit.specs.Checks.{IsAnswered, IsRefusedCertificate, IsUnanswered, MeansNo, no_line};
 ghost use Rattle.fx_audit.specs.Commands.{IsChecked, IsRefusedCheck};
 ghost use Rattle.fx_audit.specs.Documents.{IsRefusedByDocuments, IsRefusedNetwork, ReadFails};

@@ -14,7 +14,7 @@ use crate::answer::Answer;
 use fx_base::{Fault, Sink, Source};
 use fx_collect::{Totals, put_number_line};
 use fx_layout::Seed;
-use fx_machine::Net;
+use fx_tables::Net;
 use fx_session::Session;
 use std::alloc::Global;
 

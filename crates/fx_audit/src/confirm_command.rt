@@ -5,7 +5,7 @@ ghost use Rattle.fx_base.specs.Fault.{fault_at};
 ghost use Rattle.fx_base.specs.declared.fault.Fault.{Fault};
 ghost use Rattle.fx_base.specs.declared.fault.Place.TheVariants as places;
 ghost use Rattle.fx_collect.specs.Report.{Ascends};
-ghost use Rattle.fx_machine.specs.RunReading.{Fails};
+ghost use Rattle.fx_base.specs.Lines.{Fails};
 ghost use Rattle.fx_audit.specs.Checks.{no_line};
 ghost use Rattle.fx_audit.specs.Commands.{IsConfirmed, IsRefusedConfirm};
 ghost use Rattle.fx_audit.specs.Confirms.{IsConfirmedIn, IsRefusedOtherwise, IsRefusedRefutation, IsRefuted, RefutesNothing, refuted_text};

@@ -6,7 +6,7 @@ ghost use Rattle.fx_base.specs.Device.{MayHaveLeft};
 ghost use Rattle.fx_base.specs.Fault.{fault_at};
 ghost use Rattle.fx_base.specs.declared.fault.Fault.{Fault};
 ghost use Rattle.fx_base.specs.declared.fault.Place.TheVariants as places;
-ghost use Rattle.fx_plan.specs.Networks.{device_names};
+ghost use Rattle.fx_topology.specs.Networks.{device_names};
 ghost use Rattle.fx_traffic.specs.Classes.{traffic_faults};
 ghost use Rattle.fx_audit.specs.Documents.{IsFirstFault, IsJson, IsNetwork, IsRefusedByDocuments, IsRefusedNetwork, IsTraffic, ReadFails};
 

@@ -4,7 +4,7 @@ ghost use Rattle.fx_base.specs.Device.{MayHaveLeft, Writes};
 ghost use Rattle.fx_base.specs.Fault.{fault_at};
 ghost use Rattle.fx_base.specs.declared.fault.Fault.{Fault};
 ghost use Rattle.fx_base.specs.declared.fault.Place.TheVariants as places;
-ghost use Rattle.fx_machine.specs.RunReading.{Fails};
+ghost use Rattle.fx_base.specs.Lines.{Fails};
 ghost use Rattle.fx_audit.specs.Commands.{IsRefusedReplay, IsRefusedRun, IsReplayed, IsReplayedIn};
 ghost use Rattle.fx_audit.specs.Documents.{IsRefusedByDocuments, IsRefusedNetwork, ReadFails};
 ghost use Rattle.fx_audit.specs.Texts.{IsReplayText};
@@ -15,7 +15,7 @@ use crate::document::{Documents, read_documents};
 use crate::replaying::replay;
 use fx_base::{Fault, LineReader, Sink, Source};
 use fx_layout::Seed;
-use fx_machine::read_run;
+use fx_run_text::read_run;
 use std::alloc::Global;
 
 /// Replays the run that a reader's lines say, and writes the text of its last state.

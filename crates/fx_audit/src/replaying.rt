@@ -14,7 +14,9 @@ use crate::answer::Answer;
 use fx_base::{Fault, Sink, put_text};
 use fx_collect::Totals;
 use fx_layout::Seed;
-use fx_machine::{Classes, Net, Run, State, Step};
+use fx_machine::State;
+use fx_run_text::{Run, Step};
+use fx_tables::{Classes, Net};
 use std::alloc::Global;
 
 /// Makes one step after another, up to the first that is refused.

@@ -8,8 +8,7 @@ ghost use Rattle.fx_pcap.specs.Captures.{IsUnreadable};
 ghost use Rattle.fx_pcap.specs.Records.{format_of};
 ghost use Rattle.fx_net.specs.Running.{FailsOutside};
 ghost use Rattle.fx_audit.specs.Documents.{IsRefusedByDocuments, IsRefusedNetwork, ReadFails};
-ghost use Rattle.fx_audit.specs.Metering.{IsMetered, IsMeteredIn, IsMeteredText, IsRun, skipped_line};
-ghost use Rattle.fx_audit.specs.Metering.{IsRefusedIn, IsRefusedMetering};
+ghost use Rattle.fx_audit.specs.Metering.{IsMetered, IsMeteredIn, IsMeteredText, IsRun, skipped_line, IsRefusedIn, IsRefusedMetering};
 ghost use Rattle.fx_audit.specs.Texts.{IsRunText};
 ghost use Rattle.fx_audit.specs.declared.answer.Answer.TheVariants.{Yes};
 

@@ -1,9 +1,7 @@
 //! Reading a line of a certificate.
 ghost use Rattle.std.specs.Prelude.{◌≡◌, IfOk, IfErr};
-ghost use Rattle.std.specs.Str.{bytes_eq};
 ghost use Rattle.fx_base.specs.Fault.{fault_at};
 ghost use Rattle.fx_base.specs.declared.fault.Place.TheVariants as places;
-ghost use Rattle.fx_elements.specs.Spelling.{largest, number_of};
 ghost use Rattle.fx_cert.specs.declared.item.Item as of_item;
 ghost use Rattle.fx_cert.specs.ItemText.{IsText};
 ghost use Rattle.fx_cert.specs.ItemReading.{axis_of, class_of, split_of, leaf_of, item_of};
@@ -11,21 +9,7 @@ ghost use Rattle.fx_cert.specs.ItemReading.{axis_of, class_of, split_of, leaf_of
 use crate::item::{Item, Version};
 use crate::put::word;
 use fx_base::{Fault, Line};
-use fx_elements::{Axis, EVERY_AXIS, cut, read_number, top};
-
-/// Whether two words are the same.
-fn is_word(word: &[u8], other: &[u8]) -> bool
-    ensures { result ≡ bytes_eq word.now other.now }
-{
-    word == other
-}
-
-/// A number below 2 to the 64.
-fn read_whole(word: &[u8]) -> Option<u64>
-    ensures { result ≡ number_of largest word.now }
-{
-    Some(read_number(word, 0xffff_ffff_ffff_ffff)? as u64)
-}
+use fx_elements::{Axis, EVERY_AXIS, cut, is_word, read_number, read_u64, top};
 
 /// The axis with this word.
 fn read_axis(text: &[u8]) -> Option<Axis>
@@ -49,8 +33,8 @@ fn read_class(text: &[u8]) -> Option<Item>
     if !is_word(word, b"path") {
         return None;
     }
-    let class = read_whole(class)?;
-    let path = read_whole(path)?;
+    let class = read_u64(class)?;
+    let path = read_u64(path)?;
     Some(Item::Class { class, path })
 }
 
@@ -72,9 +56,9 @@ fn read_leaf(text: &[u8]) -> Option<Item>
 {
     let (crossing, rest) = cut(text, b' ')?;
     let (point, process) = cut(rest, b' ')?;
-    let crossing = read_whole(crossing)?;
-    let point = read_whole(point)?;
-    let process = read_whole(process)?;
+    let crossing = read_u64(crossing)?;
+    let point = read_u64(point)?;
+    let process = read_u64(process)?;
     Some(Item::Leaf {
         crossing,
         point,

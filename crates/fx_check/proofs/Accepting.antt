@@ -8,10 +8,10 @@ use Rattle.fx_cert.specs.declared.item.Version.TheVariants.{One}
 use Rattle.fx_cert.specs.ItemText.{IsText, item_text}
 use Rattle.fx_cert.specs.ItemReading.{item_of}
 use Rattle.fx_cert.proofs.Texts.{item_found}
-use Rattle.fx_machine.specs.Classes.{Class}
+use Rattle.fx_tables.specs.Classes.{Class}
 use Rattle.fx_machine.specs.Claim.{ExactlyOnce, OnceModulo}
-use Rattle.fx_machine.specs.Network.{Net}
-use Rattle.fx_machine.specs.Ranks.{IsNetwork}
+use Rattle.fx_tables.specs.Network.{Net}
+use Rattle.fx_tables.specs.Ranks.{IsNetwork}
 use Rattle.fx_leaf.proofs.Headline as headline
 use Rattle.fx_check.specs.Judging.{Judge, judge_of}
 use Rattle.fx_traffic.specs.Targets.{targets_of, AreRegions}

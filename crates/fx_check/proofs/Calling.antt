@@ -3,12 +3,11 @@ use Rattle.std.proofs.Common.{◌≡◌, ℕ, ◌⊎◌, List, Option, Result, O
 use Rattle.fx_base.specs.declared.fault.Fault.{Fault}
 use Rattle.fx_base.specs.declared.fault.Place.TheVariants as places
 use Rattle.fx_base.specs.Fault.{fault_at}
-use Rattle.fx_base.specs.Lines.{Lines, text_lines}
-use Rattle.fx_machine.specs.Classes.{Class}
+use Rattle.fx_base.specs.Lines.{Lines, text_lines, Fails}
+use Rattle.fx_tables.specs.Classes.{Class}
 use Rattle.fx_machine.specs.Claim.{ExactlyOnce, OnceModulo}
-use Rattle.fx_machine.specs.Network.{Net}
-use Rattle.fx_machine.specs.Ranks.{IsNetwork}
-use Rattle.fx_machine.specs.RunReading.{Fails}
+use Rattle.fx_tables.specs.Network.{Net}
+use Rattle.fx_tables.specs.Ranks.{IsNetwork}
 use Rattle.fx_check.specs.Judging.{judge_of}
 use Rattle.fx_check.specs.Outcomes.{IsRefusal, Accepts, MayBeAccepted, MayBeCertificate, MayBeRefused}
 use Rattle.fx_traffic.specs.Targets.{Target, targets_of, AreRegions}

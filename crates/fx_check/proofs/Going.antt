@@ -4,10 +4,9 @@ use Rattle.fx_base.specs.declared.fault.Fault.{Fault}
 use Rattle.fx_base.specs.declared.fault.Place.TheVariants as places
 use Rattle.fx_base.specs.Fault.{fault_at}
 use Rattle.fx_base.specs.Device.{MayBeLeft}
-use Rattle.fx_base.specs.Lines.{Lines, AtLine, AtEnd, GoesOn, Refuses, Stops, text_lines, next_number, line_len, Advances}
+use Rattle.fx_base.specs.Lines.{Lines, AtLine, AtEnd, GoesOn, Refuses, Stops, text_lines, next_number, line_len, Advances, Fails}
 use Rattle.fx_base.proofs.GoingOn.{cut_off_behind, may_follow, nothing_left, something_follows}
-use Rattle.fx_machine.specs.RunReading.{Fails}
-use Rattle.fx_machine.proofs.RunLines.{long_first}
+use Rattle.fx_run_text.proofs.RunLines.{long_first}
 use Rattle.fx_check.specs.Judging.{Judge}
 use Rattle.fx_check.specs.Outcomes.{Continues, IsRefusal, StandsBehind}
 use Rattle.fx_check.specs.Verdict as verdict

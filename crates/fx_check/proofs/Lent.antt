@@ -2,11 +2,11 @@
 use Rattle.std.proofs.Common.{◌≡◌, ℕ, zero, suc, ◌<◌, ◌≤◌, List, [], ◌∷◌, length, Some, slice_get, sym, subst}
 use Rattle.std.specs.List.{AllByRecursion}
 use Rattle.fx_layout.specs.Keys.{Layout}
-use Rattle.fx_machine.specs.Network.{Net, Holder, Process, aggregations_of}
-use Rattle.fx_machine.specs.Ranks.{IsNetwork}
-use Rattle.fx_machine.specs.Matches.{AreEntries, AllHaveEntries, HasEntries}
+use Rattle.fx_tables.specs.Network.{Net, Holder, Process, aggregations_of}
+use Rattle.fx_tables.specs.Ranks.{IsNetwork}
+use Rattle.fx_tables.specs.Matches.{AreEntries, AllHaveEntries, HasEntries}
 use Rattle.fx_leaf.specs.Tables.{AreTables, or_first}
-use Rattle.fx_plan.specs.Ranks as plan
+use Rattle.fx_ranks.specs.Ranks as plan
 use Rattle.fx_plan.specs.Layouts.{AreNumbers}
 
 numbered : (layouts : List Layout) (holders : List Holder) (numbers : List ℕ) → AreNumbers layouts holders numbers → (holder : ℕ) (h : Holder) → slice_get holders holder ≡ Some h → slice_get layouts (or_first (slice_get numbers holder)) ≡ Some h.layout

@@ -6,8 +6,8 @@ use Rattle.fx_cert.specs.declared.item.Item.TheVariants as item
 use Rattle.fx_cert.specs.declared.item.Version.{Version}
 use Rattle.fx_cert.specs.declared.item.Version.TheVariants.{One}
 use Rattle.fx_cert.specs.ItemText.{IsItem, item_text}
-use Rattle.fx_machine.specs.Classes.{Class}
-use Rattle.fx_machine.specs.Network.{Net}
+use Rattle.fx_tables.specs.Classes.{Class}
+use Rattle.fx_tables.specs.Network.{Net}
 use Rattle.fx_leaf.specs.Certificates.{Tree, Leaf, Uncounted, Split, Sound}
 use Rattle.fx_traffic.specs.Targets.{Target, targets_of}
 use Rattle.fx_check.specs.Verdict.{Line, line_limit, depth_limit}

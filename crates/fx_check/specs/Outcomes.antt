@@ -4,10 +4,9 @@ use Rattle.fx_base.specs.declared.fault.Fault.{Fault}
 use Rattle.fx_base.specs.declared.fault.Place.TheVariants as places
 use Rattle.fx_base.specs.Device.{MayBeLeft, MayHaveLeft}
 use Rattle.fx_base.specs.Fault.{fault_at}
-use Rattle.fx_base.specs.Lines.{Lines, text_lines}
-use Rattle.fx_machine.specs.Classes.{Class}
-use Rattle.fx_machine.specs.Network.{Net}
-use Rattle.fx_machine.specs.RunReading.{Fails}
+use Rattle.fx_base.specs.Lines.{Lines, text_lines, Fails}
+use Rattle.fx_tables.specs.Classes.{Class}
+use Rattle.fx_tables.specs.Network.{Net}
 use Rattle.fx_traffic.specs.Targets.{Target}
 use Rattle.fx_check.specs.Certificates.{IsCertificate}
 use Rattle.fx_check.specs.Judging.{Judge, judge_of}

@@ -4,7 +4,7 @@ ghost use Rattle.fx_base.specs.Fault.{fault_at};
 ghost use Rattle.fx_base.specs.declared.fault.Place.TheVariants as places;
 ghost use Rattle.fx_leaf.specs.Tables.{AreTables};
 ghost use Rattle.fx_machine.specs.Claim.{ExactlyOnce, OnceModulo};
-ghost use Rattle.fx_machine.specs.RunReading.{Fails};
+ghost use Rattle.fx_base.specs.Lines.{Fails};
 ghost use Rattle.fx_plan.specs.Tables.{net_of};
 ghost use Rattle.fx_check.specs.Outcomes.{IsToldBy, Accepts, MayBeAccepted, MayBeCertificate, MayBeRefused};
 ghost use Rattle.fx_check.specs.Standing.{goals, IsStanding};

@@ -5,7 +5,7 @@ use Rattle.std.proofs.lemmas.List.{append_assoc, append-nil}
 use Rattle.fx_base.specs.declared.counts.Counts.{Counts}
 use Rattle.fx_base.specs.Counts.{add_counts}
 use Rattle.fx_layout.specs.Keys.{Layout, Key, IsLayout, refines, project, same_key}
-use Rattle.fx_machine.specs.declared.record.Record.{Record}
+use Rattle.fx_tables.specs.declared.record.Record.{Record}
 use Rattle.fx_machine.specs.States.{add_at}
 use Rattle.fx_collect.specs.Totals.{Totals, IsUnder, Differ, IsTable, with_record, with_records, nothing}
 use Rattle.fx_collect.proofs.OwnKeys.{refines_own, project_own}

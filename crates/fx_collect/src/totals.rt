@@ -10,7 +10,8 @@ ghost use Rattle.fx_collect.specs.Report.{Ascends};
 
 use fx_base::{Counts, Fault};
 use fx_layout::{Key, Layout, Seed, Values};
-use fx_machine::{Record, State};
+use fx_machine::State;
+use fx_tables::Record;
 use indexmap::IndexMap;
 use std::alloc::Global;
 use std::marker::Model;

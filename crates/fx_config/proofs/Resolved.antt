@@ -8,20 +8,14 @@ use Rattle.std.specs.Str.{bytes_eq}
 use Rattle.serde_json.specs.Data.{Data, null, Members}
 use Rattle.serde_json.specs.Find.{get, as_object}
 use Rattle.fx_base.specs.declared.fault.Fault.{Fault}
-use Rattle.fx_config.specs.Pointer.{below, nth}
-use Rattle.fx_config.specs.Walk.{Found, Row, Reads, fault_if, row_faults, of_kind, others, faults_or_missing}
+use Rattle.fx_walk.specs.Pointer.{below, nth}
+use Rattle.fx_walk.specs.Walk.{Found, Row, Reads, fault_if, row_faults, of_kind, others, faults_or_missing}
 use Rattle.fx_config.specs.Devices.{ipfix_rows, ipfix_faults, lists_of, device_rows, device_faults, device_of}
-use Rattle.fx_config.specs.Lists.{items_faults, is_among}
-use Rattle.fx_config.specs.References.{unknown, unknown_if_there, reference_faults, point_references, process_references, cache_references, collecting_references, aggregation_references, IsKnown, Resolves}
+use Rattle.fx_walk.specs.Lists.{items_faults, is_among}
+use Rattle.fx_walk.specs.KnownNames.{unknown, unknown_if_there, IsKnown}
+use Rattle.fx_config.specs.References.{reference_faults, point_references, process_references, cache_references, collecting_references, aggregation_references, Resolves}
+use Rattle.fx_walk.proofs.Faults.{none_before, none_behind}
 use Rattle.fx_config.specs.declared.ipfix.Device.{Device}
-
-pub none_before : (a b : List Found) → a ++ b ≡ [] → a ≡ []
-none_before [] b h = refl
-none_before (f ∷ a) b h = absurd cc
-
-pub none_behind : (a b : List Found) → a ++ b ≡ [] → b ≡ []
-none_behind [] b h = h
-none_behind (f ∷ a) b h = absurd cc
 
 -- what each item has that has no fault, all items have
 items_all : {X : Type 0} (faults : List ℕ → X → List Found) (P : X → Type 0) → ((up : List ℕ) (x : X) → faults up x ≡ [] → P x) → (up : List ℕ) (i : ℕ) (xs : List X) → items_faults faults up i xs ≡ [] → All P xs

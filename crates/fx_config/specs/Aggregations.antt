@@ -1,9 +1,9 @@
 -- Aggregations of collecting processes (RFC 7015): an augmentation of the module.
 use Rattle.std.specs.Prelude.{ℕ, List, [], ◌∷◌, codes, map}
 use Rattle.serde_json.specs.Data.{Data}
-use Rattle.fx_config.specs.Walk.{Found, Row, object_faults, required, member_of}
-use Rattle.fx_config.specs.Lists.{entries, items, items_of, name_once}
-use Rattle.fx_config.specs.Scalars.{text_of}
+use Rattle.fx_walk.specs.Walk.{Found, Row, object_faults, required, member_of}
+use Rattle.fx_walk.specs.Lists.{entries, items, items_of, name_once}
+use Rattle.fx_walk.specs.Scalars.{text_of}
 use Rattle.fx_config.specs.PropertyMatches.{property_match_faults, property_match_of}
 use Rattle.fx_config.specs.Keys.{key_row, with_fields}
 use Rattle.fx_config.specs.Limits.{entry_limit}

@@ -2,11 +2,11 @@
 use Rattle.std.specs.Prelude.{ℕ, ◌==◌, ◌/◌, if◌then◌else◌, List, [], ◌∷◌, ◌++◌, codes, Bool, true, false, not, ◌&&◌, Option, Some, None, option_map, is_some}
 use Rattle.serde_json.specs.Data.{Data}
 use Rattle.serde_json.specs.Find.{get}
-use Rattle.fx_config.specs.Pointer.{below}
-use Rattle.fx_config.specs.Walk.{Found, Row, object_faults, required, optional, then_check, member_of, fault_if}
-use Rattle.fx_config.specs.Choice.{one_of}
-use Rattle.fx_config.specs.Lists.{entries, name_once}
-use Rattle.fx_config.specs.Scalars.{text_of, number_of, text_faults, whole_faults, empty_faults}
+use Rattle.fx_walk.specs.Pointer.{below}
+use Rattle.fx_walk.specs.Walk.{Found, Row, object_faults, required, optional, then_check, member_of, fault_if}
+use Rattle.fx_walk.specs.Choice.{one_of}
+use Rattle.fx_walk.specs.Lists.{entries, name_once}
+use Rattle.fx_walk.specs.Scalars.{text_of, number_of, text_faults, whole_faults, empty_faults}
 use Rattle.fx_elements.specs.declared.element.Element.{Element}
 use Rattle.fx_elements.specs.declared.element.Element.TheVariants.{OnAxis, OctetDeltaCount, PacketDeltaCount, OctetTotalCount, PacketTotalCount}
 use Rattle.fx_config.specs.GivenElements.{element_in}

@@ -2,8 +2,8 @@
 use Rattle.std.specs.Prelude.{ℕ, List, [], ◌∷◌, codes, map, Bool, true, false, not, ◌&&◌, is_some, if◌then◌else◌}
 use Rattle.std.specs.List.{list_any, fold}
 use Rattle.serde_json.specs.Data.{Data}
-use Rattle.fx_config.specs.Walk.{Found, Row, object_faults, then_check, member_of, fault_if}
-use Rattle.fx_config.specs.Lists.{items_of}
+use Rattle.fx_walk.specs.Walk.{Found, Row, object_faults, then_check, member_of, fault_if}
+use Rattle.fx_walk.specs.Lists.{items_of}
 use Rattle.fx_config.specs.CacheFields.{cache_field_of, fields_row}
 use Rattle.fx_config.specs.declared.cache_field.CacheField.{CacheField}
 use Rattle.fx_elements.specs.Axes.{axis_width}

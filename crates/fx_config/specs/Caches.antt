@@ -3,10 +3,10 @@ use Rattle.std.specs.Prelude.{ℕ, List, [], ◌∷◌, codes, map, Bool, true, 
 use Rattle.std.specs.Option.{unwrap_or}
 use Rattle.serde_json.specs.Data.{Data}
 use Rattle.serde_json.specs.Find.{get}
-use Rattle.fx_config.specs.Walk.{Found, Row, object_faults, required, optional, member_of}
-use Rattle.fx_config.specs.Choice.{one_of}
-use Rattle.fx_config.specs.Lists.{entries, items_of, name_once}
-use Rattle.fx_config.specs.Scalars.{text_of, number_of, whole_faults}
+use Rattle.fx_walk.specs.Walk.{Found, Row, object_faults, required, optional, member_of}
+use Rattle.fx_walk.specs.Choice.{one_of}
+use Rattle.fx_walk.specs.Lists.{entries, items_of, name_once}
+use Rattle.fx_walk.specs.Scalars.{text_of, number_of, whole_faults}
 use Rattle.fx_config.specs.CacheLayouts.{cache_layout_faults, cache_layout_of}
 use Rattle.fx_config.specs.Limits.{entry_limit}
 use Rattle.fx_config.specs.declared.cache.CacheKind.{CacheKind}

@@ -1,10 +1,10 @@
 -- Collecting processes (RFC 6728, section 4.5).
 use Rattle.std.specs.Prelude.{ℕ, List, [], ◌∷◌, codes, map}
 use Rattle.serde_json.specs.Data.{Data}
-use Rattle.fx_config.specs.Walk.{Found, Row, object_faults, required, unread, member_of}
-use Rattle.fx_config.specs.Choice.{none_of}
-use Rattle.fx_config.specs.Lists.{entries, items_of, name_once}
-use Rattle.fx_config.specs.Scalars.{text_of}
+use Rattle.fx_walk.specs.Walk.{Found, Row, object_faults, required, unread, member_of}
+use Rattle.fx_walk.specs.Choice.{none_of}
+use Rattle.fx_walk.specs.Lists.{entries, items_of, name_once}
+use Rattle.fx_walk.specs.Scalars.{text_of}
 use Rattle.fx_config.specs.Aggregations.{aggregation_faults, aggregation_of}
 use Rattle.fx_config.specs.Limits.{entry_limit}
 use Rattle.fx_config.specs.declared.collecting_process.CollectingProcess.{CollectingProcess}

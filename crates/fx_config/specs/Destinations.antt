@@ -2,10 +2,10 @@
 use Rattle.std.specs.Prelude.{ℕ, List, [], ◌∷◌, codes, is_some, if◌then◌else◌}
 use Rattle.serde_json.specs.Data.{Data}
 use Rattle.serde_json.specs.Find.{get}
-use Rattle.fx_config.specs.Walk.{Found, Row, object_faults, required, unread, member_of}
-use Rattle.fx_config.specs.Choice.{none_of, one_of}
-use Rattle.fx_config.specs.Lists.{name_once}
-use Rattle.fx_config.specs.Scalars.{text_of}
+use Rattle.fx_walk.specs.Walk.{Found, Row, object_faults, required, unread, member_of}
+use Rattle.fx_walk.specs.Choice.{none_of, one_of}
+use Rattle.fx_walk.specs.Lists.{name_once}
+use Rattle.fx_walk.specs.Scalars.{text_of}
 use Rattle.fx_config.specs.declared.destination.Destination.{Destination}
 use Rattle.fx_config.specs.declared.destination.Transport.{Transport}
 use Rattle.fx_config.specs.declared.destination.Transport.TheVariants.{Tcp, Sctp, Udp}

@@ -1,8 +1,8 @@
 -- A device's configuration document (RFC 6728, section 6, in the JSON of RFC 7951).
 use Rattle.std.specs.Prelude.{ℕ, List, [], ◌∷◌, codes, map}
 use Rattle.serde_json.specs.Data.{Data}
-use Rattle.fx_config.specs.Walk.{Found, Row, object_faults, open_object_faults, required, then_check, member_of}
-use Rattle.fx_config.specs.Lists.{entries, items_of}
+use Rattle.fx_walk.specs.Walk.{Found, Row, object_faults, open_object_faults, required, then_check, member_of}
+use Rattle.fx_walk.specs.Lists.{entries, items_of}
 use Rattle.fx_config.specs.ObservationPoints.{observation_point_faults, observation_point_of}
 use Rattle.fx_config.specs.SelectionProcesses.{selection_process_faults, selection_process_of}
 use Rattle.fx_config.specs.Caches.{cache_faults, cache_of}

@@ -4,9 +4,9 @@ use Rattle.std.specs.Option.{unwrap_or}
 use Rattle.std.specs.Str.{bytes_eq}
 use Rattle.serde_json.specs.Data.{Data}
 use Rattle.serde_json.specs.Find.{get}
-use Rattle.fx_config.specs.Walk.{Found, Row, object_faults, required, optional, unread, member_of}
-use Rattle.fx_config.specs.Lists.{entries, items_of, name_once}
-use Rattle.fx_config.specs.Scalars.{text_of, word_faults}
+use Rattle.fx_walk.specs.Walk.{Found, Row, object_faults, required, optional, unread, member_of}
+use Rattle.fx_walk.specs.Lists.{entries, items_of, name_once}
+use Rattle.fx_walk.specs.Scalars.{text_of, word_faults}
 use Rattle.fx_config.specs.Destinations.{destination_faults, destination_of}
 use Rattle.fx_config.specs.Limits.{entry_limit}
 use Rattle.fx_config.specs.declared.exporting_process.ExportingProcess.{ExportingProcess}

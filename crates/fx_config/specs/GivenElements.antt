@@ -3,7 +3,7 @@ use Rattle.std.specs.Prelude.{ℕ, ◌==◌, codes, Option, Some, None, option_m
 use Rattle.std.specs.Option.{unwrap_or}
 use Rattle.serde_json.specs.Data.{Data}
 use Rattle.serde_json.specs.Find.{get}
-use Rattle.fx_config.specs.Scalars.{text_of, number_of}
+use Rattle.fx_walk.specs.Scalars.{text_of, number_of}
 use Rattle.fx_elements.specs.declared.element.Element.{Element}
 use Rattle.fx_elements.specs.declared.element.Element.TheVariants.{Other}
 use Rattle.fx_elements.specs.Elements.{element_named, element_numbered}

@@ -2,10 +2,10 @@
 use Rattle.std.specs.Prelude.{ℕ, List, [], ◌∷◌, codes, Bool, true, false, nat_lt, Option, Some, None, option_map}
 use Rattle.serde_json.specs.Data.{Data}
 use Rattle.serde_json.specs.Find.{get}
-use Rattle.fx_config.specs.Pointer.{below}
-use Rattle.fx_config.specs.Walk.{Found, Row, object_faults, optional, then_check, fault_if}
-use Rattle.fx_config.specs.Choice.{one_of}
-use Rattle.fx_config.specs.Scalars.{number_of, text_faults, whole_faults}
+use Rattle.fx_walk.specs.Pointer.{below}
+use Rattle.fx_walk.specs.Walk.{Found, Row, object_faults, optional, then_check, fault_if}
+use Rattle.fx_walk.specs.Choice.{one_of}
+use Rattle.fx_walk.specs.Scalars.{number_of, text_faults, whole_faults}
 use Rattle.fx_config.specs.GivenElements.{element_given, name_in, number_in}
 use Rattle.fx_elements.specs.Axes.{axis_width}
 use Rattle.fx_elements.specs.declared.axis.Axis.{Axis}

@@ -2,9 +2,9 @@
 use Rattle.std.specs.Prelude.{ℕ, ◌+◌, List, [], ◌∷◌, ◌++◌, codes, not, ◌&&◌, Option, Some, None, is_some, option_and_then, if◌then◌else◌}
 use Rattle.std.specs.Option.{unwrap_or}
 use Rattle.serde_json.specs.Data.{Data}
-use Rattle.fx_config.specs.Pointer.{nth}
-use Rattle.fx_config.specs.Walk.{Found, Row, fault_if}
-use Rattle.fx_config.specs.Lists.{list_row}
+use Rattle.fx_walk.specs.Pointer.{nth}
+use Rattle.fx_walk.specs.Walk.{Found, Row, fault_if}
+use Rattle.fx_walk.specs.Lists.{list_row}
 use Rattle.fx_config.specs.KeyFields.{key_field_faults, key_field_of, part_of}
 use Rattle.fx_config.specs.Limits.{field_limit}
 use Rattle.fx_config.specs.declared.key_field.KeyField.{KeyField}

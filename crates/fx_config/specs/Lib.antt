@@ -1,12 +1,8 @@
+pub use Rattle.fx_walk.specs.Pointer
+pub use Rattle.fx_walk.specs.Walk
 pub mod Limits
-pub mod Pointer
-pub mod Walk
-pub mod Scalars
-pub mod Lists
-pub mod Choice
 pub mod Destinations
 pub mod ExportingProcesses
-pub mod NamedEntries
 pub mod ObservationPoints
 pub mod GivenElements
 pub mod PropertyMatches

@@ -2,9 +2,9 @@
 use Rattle.std.specs.Prelude.{ℕ, List, [], ◌∷◌, codes, not, Option, Some, None, is_some, option_map, option_and_then}
 use Rattle.std.specs.Option.{unwrap_or}
 use Rattle.serde_json.specs.Data.{Data}
-use Rattle.fx_config.specs.Walk.{Found, Row, object_faults, required, optional, then_check, member_of, fault_if}
-use Rattle.fx_config.specs.Choice.{one_of}
-use Rattle.fx_config.specs.Scalars.{text_of, text_faults, whole_faults}
+use Rattle.fx_walk.specs.Walk.{Found, Row, object_faults, required, optional, then_check, member_of, fault_if}
+use Rattle.fx_walk.specs.Choice.{one_of}
+use Rattle.fx_walk.specs.Scalars.{text_of, text_faults, whole_faults}
 use Rattle.fx_config.specs.GivenElements.{element_in}
 use Rattle.fx_elements.specs.declared.axis.Axis.{Axis}
 use Rattle.fx_elements.specs.declared.axis.Axis.TheVariants.{Source}

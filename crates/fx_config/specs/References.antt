@@ -1,22 +1,15 @@
 -- References by name (the leafrefs of RFC 6728, section 6).
-use Rattle.std.specs.Prelude.{ℕ, List, [], ◌++◌, codes, map, not, Option, Some, None, All, IsSome, IfSome}
-use Rattle.fx_config.specs.Pointer.{below}
-use Rattle.fx_config.specs.Walk.{Found, fault_if}
-use Rattle.fx_config.specs.Lists.{is_among, items_faults, place_in}
+use Rattle.std.specs.Prelude.{ℕ, List, ◌++◌, codes, map, All, IfSome}
+use Rattle.fx_walk.specs.Pointer.{below}
+use Rattle.fx_walk.specs.Walk.{Found}
+use Rattle.fx_walk.specs.Lists.{items_faults}
+use Rattle.fx_walk.specs.KnownNames.{unknown, unknown_if_there, IsKnown}
 use Rattle.fx_config.specs.declared.observation_point.ObservationPoint.{ObservationPoint}
 use Rattle.fx_config.specs.declared.selection_process.SelectionProcess.{SelectionProcess}
 use Rattle.fx_config.specs.declared.cache.Cache.{Cache}
 use Rattle.fx_config.specs.declared.aggregation.Aggregation.{Aggregation}
 use Rattle.fx_config.specs.declared.collecting_process.CollectingProcess.{CollectingProcess}
 use Rattle.fx_config.specs.declared.ipfix.Device.{Device}
-
--- a name that is not among those that are known
-abbrev pub unknown : List (List ℕ) → List ℕ → List ℕ → List Found
-unknown known up name = fault_if (not (is_among known name)) 107 up
-
-abbrev pub unknown_if_there : List (List ℕ) → List ℕ → Option (List ℕ) → List Found
-unknown_if_there known up None = []
-unknown_if_there known up (Some name) = unknown known up name
 
 -- a point's selection processes
 abbrev pub point_references : List (List ℕ) → List ℕ → ObservationPoint → List Found
@@ -52,10 +45,6 @@ references_among processes caches exporters up device =
 abbrev pub reference_faults : List ℕ → Device → List Found
 reference_faults up device =
     references_among (map (λ x. x.name) device.selection_processes) (map (λ x. x.name) device.caches) (map (λ x. x.name) device.exporting_processes) up device
-
--- a name stands for one of those that have these names
-abbrev pub IsKnown : List (List ℕ) → List ℕ → Type 0
-IsKnown known name = IsSome (place_in known name)
 
 -- each name that stands for a thing of the device is the name of one in its list
 pub record Resolves (device : Device) : Type 0 where

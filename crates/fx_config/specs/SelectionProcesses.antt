@@ -2,9 +2,9 @@
 use Rattle.std.specs.Prelude.{ℕ, List, [], ◌∷◌, codes, map, option_map}
 use Rattle.serde_json.specs.Data.{Data}
 use Rattle.serde_json.specs.Find.{get}
-use Rattle.fx_config.specs.Walk.{Found, Row, object_faults, required, optional, member_of}
-use Rattle.fx_config.specs.Lists.{entries, items_of, name_once}
-use Rattle.fx_config.specs.Scalars.{text_of, name_faults}
+use Rattle.fx_walk.specs.Walk.{Found, Row, object_faults, required, optional, member_of}
+use Rattle.fx_walk.specs.Lists.{entries, items_of, name_once}
+use Rattle.fx_walk.specs.Scalars.{text_of, name_faults}
 use Rattle.fx_config.specs.Selectors.{selector_faults, selector_of}
 use Rattle.fx_config.specs.Limits.{selector_limit}
 use Rattle.fx_config.specs.declared.selection_process.SelectionProcess.{SelectionProcess}

@@ -2,10 +2,10 @@
 use Rattle.std.specs.Prelude.{ℕ, List, [], ◌∷◌, codes, Bool, true, false, not, Option, Some, None, option_map}
 use Rattle.serde_json.specs.Data.{Data, object, Members, no_members, member}
 use Rattle.serde_json.specs.Find.{get}
-use Rattle.fx_config.specs.Walk.{Found, Row, object_faults, required, optional, member_of, fault_if}
-use Rattle.fx_config.specs.Choice.{none_of, one_of}
-use Rattle.fx_config.specs.Lists.{name_once}
-use Rattle.fx_config.specs.Scalars.{text_of, is_empty_type}
+use Rattle.fx_walk.specs.Walk.{Found, Row, object_faults, required, optional, member_of, fault_if}
+use Rattle.fx_walk.specs.Choice.{none_of, one_of}
+use Rattle.fx_walk.specs.Lists.{name_once}
+use Rattle.fx_walk.specs.Scalars.{text_of, is_empty_type}
 use Rattle.fx_config.specs.PropertyMatches.{property_match_faults, property_match_of}
 use Rattle.fx_config.specs.declared.property_match.PropertyMatch.{PropertyMatch}
 use Rattle.fx_config.specs.declared.selector.Selector.{Selector}

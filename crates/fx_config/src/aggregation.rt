@@ -4,7 +4,7 @@ ghost use Rattle.fx_config.specs.Aggregations.{aggregation_faults, aggregation_o
 use crate::key::key_member;
 use crate::limits::ENTRIES;
 use crate::property_match::PropertyMatch;
-use crate::walk::{
+use fx_walk::{
     Entry, Named, Names, Path, Sequence, entries_member, items_member, name_member, object_of,
 };
 use fx_base::{Fault, Name};

@@ -2,13 +2,13 @@
 ghost use Rattle.std.specs.Prelude.{◌≡◌, ℕ, option_map};
 ghost use Rattle.serde_json.specs.View.{view};
 ghost use Rattle.serde_json.specs.Find.{get};
-ghost use Rattle.fx_config.specs.Pointer.{pointer};
-ghost use Rattle.fx_config.specs.Walk.{Reads, optional};
+ghost use Rattle.fx_walk.specs.Pointer.{pointer};
+ghost use Rattle.fx_walk.specs.Walk.{Reads, optional};
 ghost use Rattle.fx_config.specs.Caches.{cache_faults, cache_of, kind_given, max_flows_given, of_kind, settings_faults, settings_of};
 
 use crate::cache_layout::layout_member;
 use crate::limits::ENTRIES;
-use crate::walk::{
+use fx_walk::{
     Entry, Named, Names, Path, Sequence, Whole, entries_member, name_member, object_of, one_of,
     optional_member,
 };

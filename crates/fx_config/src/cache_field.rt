@@ -1,14 +1,14 @@
 //! Fields of caches' records.
 ghost use Rattle.std.specs.Prelude.{◌≡◌, ℕ, List, [], ◌∷◌, ◌++◌, map, codes, OnOk};
 ghost use Rattle.serde_json.specs.View.{view};
-ghost use Rattle.fx_config.specs.Pointer.{pointer};
-ghost use Rattle.fx_config.specs.Walk.{Reads, member_of};
-ghost use Rattle.fx_config.specs.Lists.{entries_faults, items_of};
+ghost use Rattle.fx_walk.specs.Pointer.{pointer};
+ghost use Rattle.fx_walk.specs.Walk.{Reads, member_of};
+ghost use Rattle.fx_walk.specs.Lists.{entries_faults, items_of};
 ghost use Rattle.fx_config.specs.CacheFields.{cache_field_faults, cache_field_of, element_faults, field_check, fields_row, has_other_octets, is_delta_count, is_key, length_faults};
 
-use crate::element::{ElementNumber, Enterprise, element_given};
+use crate::element::{ElementNumber, Enterprise, NamedElement, element_given};
 use crate::limits::FIELDS;
-use crate::walk::{
+use fx_walk::{
     Empty, Named, Names, Path, Sequence, Whole, items_in, name_member, object_of, one_of,
     optional_member, refusal,
 };
@@ -149,7 +149,7 @@ fn read_field(
     )?;
     let name = name_member(alloc, path, value, earlier)?;
     one_of(alloc, path, value, &["ieName", "ieId"])?;
-    let named = optional_member::<Element>(alloc, path, value, "ieName")?;
+    let named = optional_member::<NamedElement>(alloc, path, value, "ieName")?;
     let numbered = optional_member::<ElementNumber>(alloc, path, value, "ieId")?;
     let length = optional_member::<Octets>(alloc, path, value, "ieLength")?;
     let enterprise = optional_member::<Enterprise>(alloc, path, value, "ieEnterpriseNumber")?;

@@ -1,12 +1,12 @@
 //! Layouts of caches' records.
 ghost use Rattle.std.specs.Prelude.{◌≡◌, ℕ, codes};
 ghost use Rattle.serde_json.specs.View.{view};
-ghost use Rattle.fx_config.specs.Pointer.{pointer};
-ghost use Rattle.fx_config.specs.Walk.{Reads, member_of, required};
+ghost use Rattle.fx_walk.specs.Pointer.{pointer};
+ghost use Rattle.fx_walk.specs.Walk.{Reads, member_of, required};
 ghost use Rattle.fx_config.specs.CacheLayouts.{add_axis, add_key, cache_layout_faults, cache_layout_of, counter_faults, counts_octets, counts_packets, layout_of};
 
 use crate::cache_field::{CacheField, fields_member};
-use crate::walk::{Path, object_of, refusal};
+use fx_walk::{Path, object_of, refusal};
 use fx_base::Fault;
 use fx_elements::{Element, width};
 use fx_layout::Layout;

@@ -3,7 +3,7 @@ ghost use Rattle.fx_config.specs.CollectingProcesses.{collecting_process_faults,
 
 use crate::aggregation::Aggregation;
 use crate::limits::ENTRIES;
-use crate::walk::{
+use fx_walk::{
     Entry, Named, Names, Path, Refused, Sequence, entries_member, name_member, none_of, object_of,
 };
 use fx_base::{Fault, Name};

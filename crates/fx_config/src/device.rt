@@ -1,12 +1,12 @@
 //! A device's whole document.
 ghost use Rattle.std.specs.Prelude.{[], IfOk};
 ghost use Rattle.serde_json.specs.View.{view};
-ghost use Rattle.fx_config.specs.Walk.{Reads};
+ghost use Rattle.fx_walk.specs.Walk.{Reads};
 ghost use Rattle.fx_config.specs.References.{Resolves};
 ghost use Rattle.fx_config.specs.Devices.{device_faults, device_of};
 
 use crate::ipfix::{Device, Ipfix};
-use crate::walk::{FromValue, Path, document_of, required_member};
+use fx_walk::{FromValue, Path, document_of, required_member};
 use fx_base::Fault;
 use serde_json::Value;
 use std::alloc::Global;

@@ -1,24 +1,40 @@
 //! Information elements as documents give them: by name, or by number.
 ghost use Rattle.std.specs.Prelude.{◌≡◌, ℕ};
-ghost use Rattle.fx_config.specs.Scalars.{text_faults, text_of};
+ghost use Rattle.fx_walk.specs.Scalars.{text_faults, text_of};
 ghost use Rattle.fx_config.specs.GivenElements.{element_given, enterprise_given};
 ghost use Rattle.fx_elements.specs.Elements.{element_named};
 
-use crate::walk::{FromValue, Path, Whole, refusal};
 use fx_base::Fault;
 use fx_elements::{Element, by_id, by_name};
+use fx_walk::{FromValue, Path, Whole, refusal};
 use serde_json::Value;
 use std::alloc::Global;
+use std::marker::Model;
 
-/// An element by its name, which may be any text: 104 for no text.
-impl FromValue for Element {
+/// An element that is given by its name, which may be any text: 104 for no text. Contracts see the element.
+#[derive(Debug, Drop)]
+pub struct NamedElement {
+    element: Element,
+}
+
+impl Model for NamedElement {
+    ghost use Rattle.fx_elements.specs.declared.element.Element as of_element;
+
+    ghost Value = { of_element.Element };
+
+    ghost view = { λ n. n.element };
+}
+
+impl FromValue for NamedElement {
     ghost faults = { text_faults };
 
     ghost meaning = { λ d. element_named (text_of d) };
 
-    fn from_value(alloc: Global, path: &Path<'_>, value: &Value) -> Result<Element, Fault> {
+    fn from_value(alloc: Global, path: &Path<'_>, value: &Value) -> Result<NamedElement, Fault> {
         match value.as_str() {
-            Some(name) => Ok(by_name(name)),
+            Some(name) => Ok(NamedElement {
+                element: by_name(name),
+            }),
             None => Err(refusal(alloc, 104, path)),
         }
     }
@@ -42,7 +58,7 @@ fn enterprise_given(enterprise: Option<Enterprise>) -> u32
 
 /// The element that is given by its name or by its number, of an enterprise or of the registry.
 pub fn element_given(
-    named: Option<Element>,
+    named: Option<NamedElement>,
     numbered: Option<ElementNumber>,
     enterprise: Option<Enterprise>,
 ) -> Element
@@ -50,7 +66,7 @@ pub fn element_given(
 {
     let enterprise = enterprise_given(enterprise);
     match named {
-        Some(element) if enterprise == 0 => element,
+        Some(named) if enterprise == 0 => named.element,
         Some(_) => Element::Other,
         None => match numbered {
             Some(number) => by_id(number.number() as u16, enterprise),

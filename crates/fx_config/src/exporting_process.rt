@@ -4,7 +4,7 @@ ghost use Rattle.fx_config.specs.ExportingProcesses.{export_mode_faults, export_
 
 use crate::destination::Destination;
 use crate::limits::ENTRIES;
-use crate::walk::{
+use fx_walk::{
     Entry, FromValue, Named, Names, Path, Sequence, entries_member, name_member, object_of,
     optional_member, refusal,
 };

@@ -1,6 +1,6 @@
 //! The container `ipfix`: a device's five lists.
-ghost use Rattle.fx_config.specs.Pointer.{pointer};
-ghost use Rattle.fx_config.specs.Walk.{Reads};
+ghost use Rattle.fx_walk.specs.Pointer.{pointer};
+ghost use Rattle.fx_walk.specs.Walk.{Reads};
 ghost use Rattle.fx_config.specs.References.{references_among};
 ghost use Rattle.fx_config.specs.Devices.{ipfix_faults, ipfix_of};
 
@@ -11,7 +11,7 @@ use crate::limits::ENTRIES;
 use crate::observation_point::ObservationPoint;
 use crate::references::{all_collecting_refer, caches_refer, points_refer, processes_refer};
 use crate::selection_process::SelectionProcess;
-use crate::walk::{EntryNames, FromValue, Path, Sequence, entries_member, named_member, object_of};
+use fx_walk::{EntryNames, FromValue, Path, Sequence, entries_member, named_member, object_of};
 use fx_base::Fault;
 use serde_json::Value;
 use std::alloc::Global;

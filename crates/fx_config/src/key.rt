@@ -1,15 +1,15 @@
 //! Keys to which records are aggregated.
 ghost use Rattle.std.specs.Prelude.{◌≡◌, ℕ, List, [], ◌∷◌, map, codes};
 ghost use Rattle.serde_json.specs.View.{view};
-ghost use Rattle.fx_config.specs.Pointer.{pointer};
-ghost use Rattle.fx_config.specs.Walk.{Reads, member_of};
-ghost use Rattle.fx_config.specs.Lists.{items_of};
+ghost use Rattle.fx_walk.specs.Pointer.{pointer};
+ghost use Rattle.fx_walk.specs.Walk.{Reads, member_of};
+ghost use Rattle.fx_walk.specs.Lists.{items_of};
 ghost use Rattle.fx_config.specs.KeyFields.{key_field_of};
 ghost use Rattle.fx_config.specs.Keys.{add_field, field_check, fields_faults, key_row, with_field, with_fields};
 
 use crate::key_field::{KeyField, part_of};
 use crate::limits::FIELDS;
-use crate::walk::{FromValue, Path, items_in, refusal};
+use fx_walk::{FromValue, Path, items_in, refusal};
 use fx_base::Fault;
 use fx_layout::Layout;
 use serde_json::Value;

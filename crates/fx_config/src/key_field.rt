@@ -1,11 +1,11 @@
 //! Fields of keys to which records are aggregated.
 ghost use Rattle.std.specs.Prelude.{◌≡◌, ℕ};
-ghost use Rattle.fx_config.specs.Pointer.{pointer};
-ghost use Rattle.fx_config.specs.Walk.{Reads};
+ghost use Rattle.fx_walk.specs.Pointer.{pointer};
+ghost use Rattle.fx_walk.specs.Walk.{Reads};
 ghost use Rattle.fx_config.specs.KeyFields.{is_prefix, key_field_faults, key_field_of, longest_prefix, part_of, prefix_check, prefix_part};
 
-use crate::element::{ElementNumber, element_given};
-use crate::walk::{FromValue, Path, Whole, object_of, one_of, optional_member, refusal};
+use crate::element::{ElementNumber, NamedElement, element_given};
+use fx_walk::{FromValue, Path, Whole, object_of, one_of, optional_member, refusal};
 use fx_base::Fault;
 use fx_elements::{Axis, Element, width};
 use fx_layout::Part;
@@ -85,7 +85,7 @@ impl FromValue for KeyField {
     fn from_value(alloc: Global, path: &Path<'_>, value: &Value) -> Result<KeyField, Fault> {
         object_of(alloc, path, value, &["ieName", "ieId", "prefixLength"])?;
         one_of(alloc, path, value, &["ieName", "ieId"])?;
-        let named = optional_member::<Element>(alloc, path, value, "ieName")?;
+        let named = optional_member::<NamedElement>(alloc, path, value, "ieName")?;
         let numbered = optional_member::<ElementNumber>(alloc, path, value, "ieId")?;
         let length = optional_member::<PrefixLength>(alloc, path, value, "prefixLength")?;
         let element = element_given(named, numbered, None);

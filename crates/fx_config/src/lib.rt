@@ -19,7 +19,6 @@ mod property_match;
 mod references;
 mod selection_process;
 mod selector;
-pub mod walk;
 
 pub use aggregation::Aggregation;
 pub use cache::{Cache, CacheKind};

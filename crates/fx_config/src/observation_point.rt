@@ -3,7 +3,7 @@ ghost use Rattle.std.specs.Prelude.{◌≡◌};
 ghost use Rattle.fx_config.specs.ObservationPoints.{direction_faults, direction_given, direction_named, direction_of, observation_point_faults, observation_point_of};
 
 use crate::limits::ENTRIES;
-use crate::walk::{
+use fx_walk::{
     Entry, FromValue, Named, Names, Path, Sequence, Whole, entries_member, name_member, object_of,
     optional_member, refusal, required_member,
 };

@@ -1,11 +1,11 @@
 //! Values that packets or records must have.
 ghost use Rattle.std.specs.Prelude.{◌≡◌, ℕ};
-ghost use Rattle.fx_config.specs.Pointer.{pointer};
-ghost use Rattle.fx_config.specs.Walk.{Reads};
+ghost use Rattle.fx_walk.specs.Pointer.{pointer};
+ghost use Rattle.fx_walk.specs.Walk.{Reads};
 ghost use Rattle.fx_config.specs.PropertyMatches.{axis_matched, property_check, property_given, property_match_faults, property_match_of, property_meant};
 
-use crate::element::{ElementNumber, Enterprise, element_given};
-use crate::walk::{
+use crate::element::{ElementNumber, Enterprise, NamedElement, element_given};
+use fx_walk::{
     FromValue, Path, Text, object_of, one_of, optional_member, refusal, required_member,
 };
 use fx_base::Fault;
@@ -70,7 +70,7 @@ impl FromValue for PropertyMatch {
             &["ieName", "ieId", "ieEnterpriseNumber", "value"],
         )?;
         one_of(alloc, path, value, &["ieName", "ieId"])?;
-        let named = optional_member::<Element>(alloc, path, value, "ieName")?;
+        let named = optional_member::<NamedElement>(alloc, path, value, "ieName")?;
         let numbered = optional_member::<ElementNumber>(alloc, path, value, "ieId")?;
         let enterprise = optional_member::<Enterprise>(alloc, path, value, "ieEnterpriseNumber")?;
         let text = required_member::<Text>(alloc, path, value, "value")?;

@@ -1,8 +1,8 @@
 //! The references of a device's configuration.
 ghost use Rattle.std.specs.Prelude.{◌≡◌, ℕ};
-ghost use Rattle.fx_config.specs.Pointer.{pointer};
-ghost use Rattle.fx_config.specs.Walk.{Reads};
-ghost use Rattle.fx_config.specs.Lists.{items_faults};
+ghost use Rattle.fx_walk.specs.Pointer.{pointer};
+ghost use Rattle.fx_walk.specs.Walk.{Reads};
+ghost use Rattle.fx_walk.specs.Lists.{items_faults};
 ghost use Rattle.fx_config.specs.References.{aggregation_references, cache_references, collecting_references, point_references, process_references};
 
 use crate::aggregation::Aggregation;
@@ -10,7 +10,7 @@ use crate::cache::Cache;
 use crate::collecting_process::CollectingProcess;
 use crate::observation_point::ObservationPoint;
 use crate::selection_process::SelectionProcess;
-use crate::walk::{Names, Path, known_name, known_names};
+use fx_walk::{Names, Path, known_name, known_names};
 use fx_base::Fault;
 use std::alloc::Global;
 

@@ -3,7 +3,7 @@ ghost use Rattle.fx_config.specs.SelectionProcesses.{selection_process_faults, s
 
 use crate::limits::SELECTORS;
 use crate::selector::Selector;
-use crate::walk::{
+use fx_walk::{
     Entry, Named, Names, Path, Sequence, entries_member, name_member, object_of, optional_member,
 };
 use fx_base::{Fault, Name};

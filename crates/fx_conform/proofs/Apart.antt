@@ -5,7 +5,7 @@ use Rattle.std.proofs.lemmas.Option.{slice_get_past}
 use Rattle.fx_base.specs.declared.counts.Counts.{Counts}
 use Rattle.fx_layout.specs.Keys.{Key}
 use Rattle.fx_layout.proofs.Projections.{key_same}
-use Rattle.fx_machine.specs.declared.holding.Holding.{Holding}
+use Rattle.fx_tables.specs.declared.holding.Holding.{Holding}
 use Rattle.fx_store.specs.Flows.{Entry, with_more}
 use Rattle.fx_store.specs.Recent.{counts_at, without_key, with_latest}
 use Rattle.fx_store.proofs.Recency.{entry_at}

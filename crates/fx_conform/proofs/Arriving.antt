@@ -3,16 +3,16 @@ use Rattle.std.proofs.Common.{◌≡◌, ℕ, zero, suc, ◌+◌, ◌%◌, ◌^�
 use Rattle.std.specs.List.{AllByRecursion}
 use Rattle.std.specs.Prelude.{IfSome}
 use Rattle.fx_layout.specs.Keys.{Key, Layout, refines, project}
-use Rattle.fx_machine.specs.declared.holding.Holding.{Holding}
-use Rattle.fx_machine.specs.declared.packet.Packet.{Packet}
-use Rattle.fx_machine.specs.declared.record.Record.{Record}
-use Rattle.fx_machine.specs.declared.step.Step.{Step}
-use Rattle.fx_machine.specs.declared.step.Step.TheVariants.{Cross, Expire, Arrive}
-use Rattle.fx_machine.specs.Network.{Net, Holder, Aggregation, Process, aggregations_of, layout_of, process_at, takes_with}
-use Rattle.fx_machine.specs.Classes.{Class}
+use Rattle.fx_tables.specs.declared.holding.Holding.{Holding}
+use Rattle.fx_tables.specs.declared.packet.Packet.{Packet}
+use Rattle.fx_tables.specs.declared.record.Record.{Record}
+use Rattle.fx_run_text.specs.declared.step.Step.{Step}
+use Rattle.fx_run_text.specs.declared.step.Step.TheVariants.{Cross, Expire, Arrive}
+use Rattle.fx_tables.specs.Network.{Net, Holder, Aggregation, Process, aggregations_of, layout_of, process_at, takes_with}
+use Rattle.fx_tables.specs.Classes.{Class}
 use Rattle.fx_machine.specs.Acts.{Choices}
-use Rattle.fx_machine.specs.Handling.{aggregating, aggregated}
-use Rattle.fx_machine.specs.Runnable.{IsHolder, HasAggregations, IsRunnable}
+use Rattle.fx_tables.specs.Takers.{aggregating, aggregated}
+use Rattle.fx_tables.specs.Runnable.{IsHolder, HasAggregations, IsRunnable}
 use Rattle.fx_machine.specs.Sends.{put_all}
 use Rattle.fx_machine.specs.States.{State, Coming, add_at, tallied, told}
 use Rattle.fx_machine.specs.Steps.{after}

@@ -3,12 +3,12 @@ use Rattle.std.proofs.Common.{◌≡◌, ℕ, Bool, true, false, cond, List, [],
 use Rattle.fx_base.specs.declared.counts.Counts.{Counts}
 use Rattle.fx_layout.specs.Keys.{Key}
 use Rattle.fx_elements.specs.Axes.{Fields}
-use Rattle.fx_machine.specs.declared.holding.Holding.{Holding}
-use Rattle.fx_machine.specs.declared.observation.Occurrence.{Occurrence}
-use Rattle.fx_machine.specs.declared.record.Record.{Record}
-use Rattle.fx_machine.specs.Network.{Holder, Aggregation, takes_with}
-use Rattle.fx_machine.specs.Handling.{aggregated}
-use Rattle.fx_machine.specs.Holds.{met_holdings}
+use Rattle.fx_tables.specs.declared.holding.Holding.{Holding}
+use Rattle.fx_tables.specs.declared.observation.Occurrence.{Occurrence}
+use Rattle.fx_tables.specs.declared.record.Record.{Record}
+use Rattle.fx_tables.specs.Network.{Holder, Aggregation, takes_with}
+use Rattle.fx_tables.specs.Takers.{aggregated}
+use Rattle.fx_tables.specs.Holdings.{met_holdings}
 use Rattle.fx_net.specs.Stores.{Stored}
 use Rattle.fx_net.specs.Contents.{joined, is_immediate}
 use Rattle.fx_net.specs.Leaving.{leaver}

@@ -5,9 +5,9 @@ use Rattle.std.proofs.lemmas.List.{length-drop, length-map}
 use Rattle.fx_config.specs.declared.cache.Cache.{Cache}
 use Rattle.fx_config.specs.declared.cache.CacheKind.{CacheKind}
 use Rattle.fx_config.specs.declared.cache.CacheKind.TheVariants as kind
-use Rattle.fx_machine.specs.Network.{Holder}
+use Rattle.fx_tables.specs.Network.{Holder}
 use Rattle.fx_machine.specs.States.{nothing_at}
-use Rattle.fx_plan.specs.declared.network.Network.{Network}
+use Rattle.fx_topology.specs.declared.network.Network.{Network}
 use Rattle.fx_plan.specs.Tables.{net_of}
 use Rattle.fx_store.specs.Flows.{flows_of}
 use Rattle.fx_store.proofs.Recency.{counted}

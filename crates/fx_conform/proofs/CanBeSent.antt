@@ -7,14 +7,16 @@ use Rattle.fx_elements.specs.Axes.{Fields}
 use Rattle.fx_boxes.specs.Boxes.{IsFields}
 use Rattle.fx_layout.specs.Keys.{Key, project, same_key}
 use Rattle.fx_layout.proofs.Layouts.{key_has_bits, cut_has_bits}
-use Rattle.fx_machine.specs.declared.holding.Holding.{Holding}
-use Rattle.fx_machine.specs.declared.observation.Occurrence.{Occurrence}
-use Rattle.fx_machine.specs.declared.record.Record.{Record}
-use Rattle.fx_machine.specs.Network.{Holder, Aggregation, layout_of, numbered, takes_with}
+use Rattle.fx_tables.specs.declared.holding.Holding.{Holding}
+use Rattle.fx_tables.specs.declared.observation.Occurrence.{Occurrence}
+use Rattle.fx_tables.specs.declared.record.Record.{Record}
+use Rattle.fx_tables.specs.Network.{Holder, Aggregation, layout_of, takes_with}
+use Rattle.fx_base.specs.Entries.{numbered}
 use Rattle.fx_machine.specs.States.{without, replaced}
 use Rattle.fx_machine.specs.Acts.{Choices, taken_in, joined}
-use Rattle.fx_machine.specs.Holds.{hold_all, held_with, take_in_at, put_in, met_holdings}
-use Rattle.fx_machine.specs.Handling.{aggregated}
+use Rattle.fx_machine.specs.Holds.{hold_all, held_with, take_in_at, put_in}
+use Rattle.fx_tables.specs.Holdings.{met_holdings}
+use Rattle.fx_tables.specs.Takers.{aggregated}
 use Rattle.fx_link.specs.Sending.{IsSent}
 use Rattle.fx_conform.specs.Held.{Leaver, Leave}
 use Rattle.fx_conform.specs.Sendable.{IsKey, AreCounts, HaveLayouts, AreSent, HaveRightKeys}

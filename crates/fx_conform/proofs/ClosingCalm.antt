@@ -5,13 +5,13 @@ use Rattle.std.proofs.lemmas.Bool.{eqb-true, false_from_ne_true, or_from}
 use Rattle.fx_base.specs.declared.counts.Counts.{Counts}
 use Rattle.fx_collect.specs.Totals.{with_record}
 use Rattle.fx_layout.specs.Keys.{Key, project}
-use Rattle.fx_machine.specs.declared.holding.Holding.{Holding}
-use Rattle.fx_machine.specs.declared.record.Record.{Record}
-use Rattle.fx_machine.specs.Handling.{aggregated}
-use Rattle.fx_machine.specs.Network.{Net, Holder, Aggregation, Process, aggregations_of, layout_of, named_by, takes_with}
+use Rattle.fx_tables.specs.declared.holding.Holding.{Holding}
+use Rattle.fx_tables.specs.declared.record.Record.{Record}
+use Rattle.fx_tables.specs.Takers.{aggregated}
+use Rattle.fx_tables.specs.Network.{Net, Holder, Aggregation, Process, aggregations_of, layout_of, named_by, takes_with}
 use Rattle.fx_link.specs.Links.{Put}
 use Rattle.fx_link.specs.Ongoing.{after_carry, after_finish}
-use Rattle.fx_plan.specs.Ranks.{is_in}
+use Rattle.fx_ranks.specs.Ranks.{is_in}
 use Rattle.fx_runs.specs.Destinations.{links_used}
 use Rattle.fx_store.specs.Flows.{Entry}
 use Rattle.fx_net.specs.Arriving.{process_behind, leads_to_report, exporters_named, takers, after_tally, after_arrive, after_arrivals, after_carrying, waiting_on, with_left, queued_on}

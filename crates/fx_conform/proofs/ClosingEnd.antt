@@ -2,11 +2,11 @@
 use Rattle.std.proofs.Common.{◌≡◌, inl, inr, ℕ, zero, suc, ◌<◌, true, false, List, [], ◌∷◌, length, Option, Some, None, refl, subst, slice_get}
 use Rattle.std.specs.List.{AllByRecursion}
 use Rattle.std.proofs.lemmas.Bool.{both_ways}
-use Rattle.fx_machine.specs.Network.{Net, Process, named_by}
+use Rattle.fx_tables.specs.Network.{Net, Process, named_by}
 use Rattle.fx_machine.proofs.Leaving.{there}
 use Rattle.fx_link.specs.Links.{Put}
 use Rattle.fx_link.specs.Ongoing.{Ongoing}
-use Rattle.fx_plan.specs.Ranks.{IsWhole, is_in}
+use Rattle.fx_ranks.specs.Ranks.{IsWhole, is_in}
 use Rattle.fx_runs.specs.Destinations.{links_used}
 use Rattle.fx_net.specs.Contents.{Contents}
 use Rattle.fx_net.specs.Doings.{EmptiesNetwork, caches_of_all, holders_of}

@@ -1,14 +1,14 @@
 -- What the closing phase leaves, worked out by the definitions.
 use Rattle.std.proofs.Common.{◌≡◌, inl, inr, ℕ, zero, suc, ◌<◌, true, List, [], ◌∷◌, Option, Some, None, refl, arith, slice_get}
-use Rattle.fx_machine.specs.declared.step.HolderName.TheVariants.{Cache}
-use Rattle.fx_machine.specs.Network.{Net}
+use Rattle.fx_tables.specs.declared.holder_name.HolderName.TheVariants.{Cache}
+use Rattle.fx_tables.specs.Network.{Net}
 use Rattle.fx_machine.proofs.ClaimExamples.{net, in_parallel, source}
 use Rattle.fx_collect.specs.Totals.{nothing}
 use Rattle.fx_link.specs.Links.{Put}
 use Rattle.fx_link.specs.Ongoing.{at_rest}
 use Rattle.fx_link.specs.Wires.{new_wire}
 use Rattle.fx_session.specs.Streams.{read_all, read_in}
-use Rattle.fx_plan.specs.Ranks.{IsWhole, is_in}
+use Rattle.fx_ranks.specs.Ranks.{IsWhole, is_in}
 use Rattle.fx_net.specs.Arriving.{after_carrying, queued_on}
 use Rattle.fx_net.specs.Contents.{Contents}
 use Rattle.fx_net.specs.Doings.{CarriesWhole, Empties, EmptiesNetwork, Ended}

@@ -2,9 +2,9 @@
 use Rattle.std.proofs.Common.{◌≡◌, ℕ, zero, suc, Bool, true, false, cond, List, [], ◌∷◌, ◌++◌, Option, Some, None, refl, ap, ◌∙◌, slice_get}
 use Rattle.std.specs.List.{AllByRecursion, list_any}
 use Rattle.std.proofs.lemmas.Bool.{or_left, or_right, eq-eqb}
-use Rattle.fx_machine.specs.Network.{Net, Exporter, Aggregation, Process, aggregations_of, at_places, before, exporters_of, named_by}
+use Rattle.fx_tables.specs.Network.{Net, Exporter, Aggregation, Process, aggregations_of, at_places, before, exporters_of, named_by}
 use Rattle.fx_machine.specs.Sends.{links_of}
-use Rattle.fx_plan.specs.Feeding.{feeds_by, is_place, lead_to, leads_to}
+use Rattle.fx_ranks.specs.Feeding.{feeds_by, is_place, lead_to, leads_to}
 use Rattle.fx_runs.specs.Destinations.{number_in_use, link_of, link_numbered, links_of_exporter, used_by, links_used}
 use Rattle.fx_net.specs.Arriving.{exporters_named}
 use Rattle.fx_conform.proofs.Crossing.{all_join}

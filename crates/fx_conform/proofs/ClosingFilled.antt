@@ -5,7 +5,7 @@ use Rattle.std.specs.List.{AllByRecursion}
 use Rattle.std.proofs.lemmas.Bool.{cases_eq}
 use Rattle.std.proofs.lemmas.Option.{slice_get_past}
 use Rattle.fx_base.specs.declared.counts.Counts.{Counts}
-use Rattle.fx_machine.specs.declared.holding.Holding.{Holding}
+use Rattle.fx_tables.specs.declared.holding.Holding.{Holding}
 use Rattle.fx_store.specs.KeyOrder.{key_cmp_total}
 use Rattle.fx_store.specs.Flows.{Flows, Entry, least}
 use Rattle.fx_net.specs.Contents.{changed, stored_at}

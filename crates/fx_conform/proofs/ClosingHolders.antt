@@ -3,10 +3,11 @@ use Rattle.std.proofs.Common.{◌≡◌, ◌⊎◌, inl, inr, ℕ, zero, suc, �
 use Rattle.std.specs.List.{flat_map}
 use Rattle.std.proofs.lemmas.Bool.{eq-eqb, or_left, or_right}
 use Rattle.std.proofs.lemmas.List.Folds.{list_any-append}
-use Rattle.fx_machine.specs.declared.step.HolderName.{HolderName}
-use Rattle.fx_machine.specs.declared.step.HolderName.TheVariants.{Cache, Aggregation as AggregationOf}
-use Rattle.fx_machine.specs.Network.{Net, Aggregation, Device, aggregations_of, caches_of, held_at, holder_place, numbered, process_at, processes_of}
-use Rattle.fx_plan.specs.Ranks.{is_in}
+use Rattle.fx_tables.specs.declared.holder_name.HolderName.{HolderName}
+use Rattle.fx_tables.specs.declared.holder_name.HolderName.TheVariants.{Cache, Aggregation as AggregationOf}
+use Rattle.fx_tables.specs.Network.{Net, Aggregation, Device, aggregations_of, caches_of, held_at, holder_place, process_at, processes_of}
+use Rattle.fx_base.specs.Entries.{numbered}
+use Rattle.fx_ranks.specs.Ranks.{is_in}
 use Rattle.fx_net.specs.Doings.{caches_of_all, holders_of}
 
 -- a process has the holder

@@ -2,8 +2,8 @@
 use Rattle.std.proofs.Common.{ℕ, List, Option}
 use Rattle.std.specs.List.{AllByRecursion}
 use Rattle.fx_base.specs.declared.counts.Counts.{Counts}
-use Rattle.fx_machine.specs.declared.holding.Holding.{Holding}
-use Rattle.fx_machine.specs.Network.{Net}
+use Rattle.fx_tables.specs.declared.holding.Holding.{Holding}
+use Rattle.fx_tables.specs.Network.{Net}
 use Rattle.fx_net.specs.Stores.{Stored}
 use Rattle.fx_net.specs.Taking.{adding}
 use Rattle.fx_conform.specs.Closing.{IsNamed, OnlyNamedHold}

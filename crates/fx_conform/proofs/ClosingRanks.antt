@@ -2,11 +2,11 @@
 use Rattle.std.proofs.Common.{◌≡◌, ◌⊎◌, inl, inr, ℕ, zero, suc, ◌+◌, ◌≤◌, ◌==◌, Bool, true, false, List, [], ◌∷◌, ◌++◌, length, map, Option, Some, None, refl, sym, ap, ◌∙◌, subst, arith, slice_get, append_assoc, append-nil, eqb-true}
 use Rattle.std.specs.List.{AllByRecursion, range_with_len}
 use Rattle.std.proofs.lemmas.Bool.{both_ways, cases_eq, eq-eqb, false_from_ne_true, or_left, or_right}
-use Rattle.fx_machine.specs.Network.{Net, Aggregation, Process, aggregations_of, process_at, named_by}
+use Rattle.fx_tables.specs.Network.{Net, Aggregation, Process, aggregations_of, process_at, named_by}
 use Rattle.fx_link.specs.Links.{Put}
-use Rattle.fx_plan.specs.Feeding.{feeds, feeds_by}
-use Rattle.fx_plan.specs.Ranks.{ComesNext, is_in}
-use Rattle.fx_plan.proofs.Comings.{come_more, come_kept, come_last, IsReady, next_is_ready}
+use Rattle.fx_ranks.specs.Feeding.{feeds, feeds_by}
+use Rattle.fx_ranks.specs.Ranks.{ComesNext, is_in}
+use Rattle.fx_ranks.proofs.Comings.{come_more, come_kept, come_last, IsReady, next_is_ready}
 use Rattle.fx_runs.specs.Destinations.{links_used}
 use Rattle.fx_net.specs.Arriving.{process_behind, exporters_named}
 use Rattle.fx_net.specs.Contents.{Contents}

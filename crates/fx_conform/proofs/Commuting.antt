@@ -1,7 +1,7 @@
 -- Records that leave some holders, and what is set at another.
 use Rattle.std.proofs.Common.{◌≡◌, ℕ, List, [], ◌∷◌, ◌++◌, refl, sym, ◌∙◌, subst, Some, slice_get, slice_set}
 use Rattle.std.proofs.lemmas.List.{set_comm}
-use Rattle.fx_machine.specs.declared.record.Record.{Record}
+use Rattle.fx_tables.specs.declared.record.Record.{Record}
 use Rattle.fx_machine.specs.States.{without}
 use Rattle.fx_conform.specs.Held.{Leaver, AllLeave}
 use Rattle.fx_conform.proofs.Places.{at_other}

@@ -6,19 +6,21 @@ use Rattle.std.specs.List.{AllByRecursion}
 use Rattle.fx_base.specs.declared.counts.Counts.{Counts}
 use Rattle.fx_elements.specs.Axes.{Fields}
 use Rattle.fx_boxes.specs.Boxes.{IsFields}
-use Rattle.fx_machine.specs.declared.holding.Holding.{Holding}
-use Rattle.fx_machine.specs.declared.observation.Occurrence.{Occurrence}
-use Rattle.fx_machine.specs.declared.observation.Selection.{Selection}
-use Rattle.fx_machine.specs.declared.packet.Packet.{Packet}
-use Rattle.fx_machine.specs.declared.record.Record.{Record}
-use Rattle.fx_machine.specs.declared.step.Step.{Step}
-use Rattle.fx_machine.specs.declared.step.Step.TheVariants.{Cross}
-use Rattle.fx_machine.specs.declared.traffic.Crossing.{Crossing}
-use Rattle.fx_machine.specs.Network.{Net, Holder, Point, Device, Aggregation, numbered, points_of, aggregations_of}
-use Rattle.fx_machine.specs.Classes.{Class, path}
-use Rattle.fx_machine.specs.Holds.{hold_all, met_holdings}
-use Rattle.fx_machine.specs.Occurrences.{occurrence, met_by, met_at, occurrences, selects, watches}
-use Rattle.fx_machine.specs.Runnable.{IsHolder, HasCaches, IsRunnable}
+use Rattle.fx_tables.specs.declared.holding.Holding.{Holding}
+use Rattle.fx_tables.specs.declared.observation.Occurrence.{Occurrence}
+use Rattle.fx_tables.specs.declared.observation.Selection.{Selection}
+use Rattle.fx_tables.specs.declared.packet.Packet.{Packet}
+use Rattle.fx_tables.specs.declared.record.Record.{Record}
+use Rattle.fx_run_text.specs.declared.step.Step.{Step}
+use Rattle.fx_run_text.specs.declared.step.Step.TheVariants.{Cross}
+use Rattle.fx_tables.specs.declared.traffic.Crossing.{Crossing}
+use Rattle.fx_tables.specs.Network.{Net, Holder, Point, Device, Aggregation, points_of, aggregations_of}
+use Rattle.fx_base.specs.Entries.{numbered}
+use Rattle.fx_tables.specs.Classes.{Class, path}
+use Rattle.fx_machine.specs.Holds.{hold_all}
+use Rattle.fx_tables.specs.Holdings.{met_holdings}
+use Rattle.fx_tables.specs.Occurrences.{occurrence, met_by, met_at, occurrences, selects, watches}
+use Rattle.fx_tables.specs.Runnable.{IsHolder, HasCaches, IsRunnable}
 use Rattle.fx_machine.specs.States.{State, Coming, crossings_from}
 use Rattle.fx_machine.specs.Steps.{one_packet}
 use Rattle.fx_store.specs.Flows.{Entry}

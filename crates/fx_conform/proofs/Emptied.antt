@@ -3,8 +3,8 @@ use Rattle.std.proofs.Common.{◌≡◌, ℕ, zero, suc, ◌-◌, ◌<◌, Bool,
 use Rattle.std.specs.FinMap.{entries, get, remove, len, get-empty, len-entries, len-remove, empty_of_len, contains_key}
 use Rattle.fx_base.specs.declared.counts.Counts.{Counts}
 use Rattle.fx_layout.proofs.Projections.{key_same}
-use Rattle.fx_machine.specs.declared.record.Record.{Record}
-use Rattle.fx_machine.specs.Network.{Net}
+use Rattle.fx_tables.specs.declared.record.Record.{Record}
+use Rattle.fx_tables.specs.Network.{Net}
 use Rattle.fx_machine.specs.Sums.{total_at}
 use Rattle.fx_store.specs.Order.{key_cmp}
 use Rattle.fx_store.specs.KeyOrder.{key_cmp_total}

@@ -4,7 +4,7 @@ use Rattle.std.specs.Cmp.{tied_itself}
 use Rattle.std.specs.Ordering.{is_eq}
 use Rattle.std.specs.FinMap.{entries, find, get, remove, get-entries}
 use Rattle.fx_layout.specs.Keys.{Key}
-use Rattle.fx_machine.specs.declared.record.Record.{Record}
+use Rattle.fx_tables.specs.declared.record.Record.{Record}
 use Rattle.fx_machine.specs.States.{without}
 use Rattle.fx_store.specs.Order.{key_cmp}
 use Rattle.fx_store.specs.KeyOrder.{key_cmp_total}

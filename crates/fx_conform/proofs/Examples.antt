@@ -1,8 +1,8 @@
 -- What stores take in and what leaves them, worked out by the definitions.
 use Rattle.std.proofs.Common.{◌≡◌, ℕ, Bool, cond, [], ◌∷◌, Option, Some, None, refl, sym, ap, ◌∙◌, arith}
 use Rattle.fx_base.specs.declared.counts.Counts.{Counts}
-use Rattle.fx_machine.specs.declared.holding.Holding.{Holding}
-use Rattle.fx_machine.specs.declared.record.Record.{Record}
+use Rattle.fx_tables.specs.declared.holding.Holding.{Holding}
+use Rattle.fx_tables.specs.declared.record.Record.{Record}
 use Rattle.fx_machine.specs.Holds.{hold_all}
 use Rattle.fx_machine.proofs.ClaimExamples.{first, second}
 use Rattle.fx_store.proofs.Recency.{counted}

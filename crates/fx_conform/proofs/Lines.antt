@@ -6,16 +6,17 @@ use Rattle.std.proofs.lemmas.List.Quantifiers.{position-Some}
 use Rattle.std.proofs.lemmas.Option.{slice_get-get_or}
 use Rattle.fx_base.specs.Lines.{Lines}
 use Rattle.fx_boxes.specs.Boxes.{holds}
-use Rattle.fx_machine.specs.declared.packet.Packet.{Packet}
-use Rattle.fx_machine.specs.declared.step.HolderName.TheVariants as holder
-use Rattle.fx_machine.specs.declared.step.Step.{Step}
-use Rattle.fx_machine.specs.declared.traffic.Crossing.{Crossing}
-use Rattle.fx_machine.specs.Network.{Net, Process, numbered}
-use Rattle.fx_machine.specs.Classes.{Class, IsOf, path}
+use Rattle.fx_tables.specs.declared.packet.Packet.{Packet}
+use Rattle.fx_tables.specs.declared.holder_name.HolderName.TheVariants as holder
+use Rattle.fx_run_text.specs.declared.step.Step.{Step}
+use Rattle.fx_tables.specs.declared.traffic.Crossing.{Crossing}
+use Rattle.fx_tables.specs.Network.{Net, Process}
+use Rattle.fx_base.specs.Entries.{numbered}
+use Rattle.fx_tables.specs.Classes.{Class, IsOf, path}
 use Rattle.fx_machine.specs.States.{State}
 use Rattle.fx_link.specs.Links.{Put}
 use Rattle.fx_pcap.specs.Captures as captures
-use Rattle.fx_plan.specs.declared.network.Network.{Network}
+use Rattle.fx_topology.specs.declared.network.Network.{Network}
 use Rattle.fx_plan.specs.Tables.{net_of}
 use Rattle.fx_net.specs.declared.action.Action.{Action}
 use Rattle.fx_net.specs.declared.action.Action.TheVariants as action

@@ -1,7 +1,7 @@
 -- What links carry and what can be sent, worked out by the definitions.
 use Rattle.std.proofs.Common.{◌≡◌, ℕ, ◌^◌, ◌<◌, List, [], ◌∷◌, Some, None, option_map, refl, ap, ◌∙◌, arith}
 use Rattle.std.specs.Prelude.{slice_get}
-use Rattle.fx_machine.specs.declared.record.Record.{Record}
+use Rattle.fx_tables.specs.declared.record.Record.{Record}
 use Rattle.fx_machine.proofs.ClaimExamples.{source, first}
 use Rattle.fx_session.specs.Streams.{Standing}
 use Rattle.fx_session.proofs.StreamSteps.{fed_on, all_none}

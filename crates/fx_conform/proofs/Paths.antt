@@ -7,11 +7,11 @@ use Rattle.std.proofs.lemmas.Bool.Decides.{nat_tests}
 use Rattle.std.proofs.lemmas.List.Elements.{All-nil, All-cons}
 use Rattle.serde_json.specs.Data.{Data, Members, null}
 use Rattle.serde_json.specs.Find.{get, as_object}
-use Rattle.fx_config.specs.Lists.{by_length, entries_faults, items_faults, items_in, items_of}
-use Rattle.fx_config.specs.Pointer.{below, nth}
-use Rattle.fx_config.specs.Walk.{Found, Row, faults_or_missing, member_of, of_kind, others, row_faults}
-use Rattle.fx_config.proofs.Resolved.{none_before, none_behind}
-use Rattle.fx_machine.specs.Classes.{Class}
+use Rattle.fx_walk.specs.Lists.{by_length, entries_faults, items_faults, items_in, items_of}
+use Rattle.fx_walk.specs.Pointer.{below, nth}
+use Rattle.fx_walk.specs.Walk.{Found, Row, faults_or_missing, member_of, of_kind, others, row_faults}
+use Rattle.fx_walk.proofs.Faults.{none_before, none_behind}
+use Rattle.fx_tables.specs.Classes.{Class}
 use Rattle.fx_traffic.specs.Classes.{class_faults, class_name, class_of, class_rows, list_of_classes_faults, paths_faults, traffic_faults, traffic_of, traffic_rows}
 use Rattle.fx_traffic.specs.Crossings.{path_faults, path_of}
 use Rattle.fx_traffic.specs.Limits.{class_limit, path_limit}

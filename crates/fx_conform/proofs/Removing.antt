@@ -7,8 +7,8 @@ use Rattle.std.specs.FinMap.{get, remove, get-remove}
 use Rattle.fx_base.specs.declared.counts.Counts.{Counts}
 use Rattle.fx_layout.specs.Keys.{Key, same_key}
 use Rattle.fx_layout.proofs.Projections.{same_key_is}
-use Rattle.fx_machine.specs.declared.record.Record.{Record}
-use Rattle.fx_machine.specs.Network.{numbered}
+use Rattle.fx_tables.specs.declared.record.Record.{Record}
+use Rattle.fx_base.specs.Entries.{numbered}
 use Rattle.fx_machine.specs.States.{without}
 use Rattle.fx_machine.specs.Sums.{total_at}
 use Rattle.fx_store.specs.Flows.{Flows}

@@ -1,6 +1,6 @@
 -- Facts of each place, of its store and of the records that are held there.
 use Rattle.std.proofs.Common.{◌≡◌, ℕ, zero, suc, ◌<◌, List, [], ◌∷◌, length, Option, Some, None, refl, arith, slice_get, slice_set, le_of_suc-le-suc}
-use Rattle.fx_machine.specs.declared.record.Record.{Record}
+use Rattle.fx_tables.specs.declared.record.Record.{Record}
 use Rattle.fx_net.specs.Stores.{Stored, flows_in}
 use Rattle.fx_conform.specs.Held.{IsHeld, AreHeld}
 use Rattle.fx_conform.specs.Usable.{IsUsable, AreUsable}

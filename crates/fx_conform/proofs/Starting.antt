@@ -9,14 +9,14 @@ use Rattle.fx_config.specs.declared.cache.CacheKind.{CacheKind}
 use Rattle.fx_config.specs.declared.cache.CacheKind.TheVariants as kind
 use Rattle.fx_config.specs.declared.aggregation.Aggregation.{Aggregation}
 use Rattle.fx_config.specs.declared.collecting_process.CollectingProcess.{CollectingProcess}
-use Rattle.fx_machine.specs.declared.record.Record.{Record}
-use Rattle.fx_machine.specs.Network as machine
-use Rattle.fx_machine.specs.Classes.{Class}
-use Rattle.fx_machine.specs.Runnable.{IsRunnable, HasDestinations}
+use Rattle.fx_tables.specs.declared.record.Record.{Record}
+use Rattle.fx_tables.specs.Network as machine
+use Rattle.fx_tables.specs.Classes.{Class}
+use Rattle.fx_tables.specs.Runnable.{IsRunnable, HasDestinations}
 use Rattle.fx_machine.specs.States.{nothing_at, opening}
 use Rattle.fx_link.specs.Links.{Put}
-use Rattle.fx_plan.specs.declared.network.Network.{Network}
-use Rattle.fx_plan.specs.declared.network_device.NetworkDevice.{NetworkDevice}
+use Rattle.fx_topology.specs.declared.network.Network.{Network}
+use Rattle.fx_topology.specs.declared.network_device.NetworkDevice.{NetworkDevice}
 use Rattle.fx_plan.specs.Labels.{Label, exporting_labels}
 use Rattle.fx_plan.specs.Tables.{net_of, aggregations_from, processes_from, processes_in, held_by, cache_holders, aggregation_holders, aggregation_holder, cache_holder}
 use Rattle.std.specs.FinMap.{len-empty}

@@ -3,13 +3,14 @@ use Rattle.std.proofs.Common.{◌≡◌, ℕ, zero, suc, ◌+◌, ◌%◌, ◌^�
 use Rattle.std.specs.List.{AllByRecursion}
 use Rattle.std.proofs.lemmas.List.Elements.{All-nil, All-cons}
 use Rattle.fx_base.specs.Lines.{Lines}
-use Rattle.fx_machine.specs.declared.packet.Packet.{Packet}
-use Rattle.fx_machine.specs.declared.record.Record.{Record}
-use Rattle.fx_machine.specs.declared.step.Step.{Step}
-use Rattle.fx_machine.specs.Network.{Net, numbered}
+use Rattle.fx_tables.specs.declared.packet.Packet.{Packet}
+use Rattle.fx_tables.specs.declared.record.Record.{Record}
+use Rattle.fx_run_text.specs.declared.step.Step.{Step}
+use Rattle.fx_tables.specs.Network.{Net}
+use Rattle.fx_base.specs.Entries.{numbered}
 use Rattle.fx_machine.proofs.Running.{runs_of}
 use Rattle.fx_machine.specs.Claim.{ExactlyOnce, CountsEachOnce}
-use Rattle.fx_machine.specs.Classes.{Class, IsOf, path, to_count}
+use Rattle.fx_tables.specs.Classes.{Class, IsOf, path, to_count}
 use Rattle.fx_machine.specs.Moves.{Runs}
 use Rattle.fx_machine.specs.States.{State, Complete, all_empty, opening}
 use Rattle.fx_machine.specs.Steps.{run}
@@ -18,8 +19,8 @@ use Rattle.fx_collect.specs.Totals.{Totals}
 use Rattle.fx_link.specs.Links.{Put}
 use Rattle.fx_link.specs.Ongoing.{Ongoing}
 use Rattle.fx_pcap.specs.Captures as captures
-use Rattle.fx_plan.specs.declared.network.Network.{Network}
-use Rattle.fx_plan.specs.Ranks.{IsWhole}
+use Rattle.fx_topology.specs.declared.network.Network.{Network}
+use Rattle.fx_ranks.specs.Ranks.{IsWhole}
 use Rattle.fx_plan.specs.Tables.{net_of}
 use Rattle.fx_net.specs.declared.action.Action.TheVariants as action
 use Rattle.fx_net.specs.Contents.{Contents}

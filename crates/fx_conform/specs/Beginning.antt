@@ -1,6 +1,6 @@
 -- What is held before anything is read.
 use Rattle.fx_machine.specs.States.{nothing_at}
-use Rattle.fx_plan.specs.declared.network.Network.{Network}
+use Rattle.fx_topology.specs.declared.network.Network.{Network}
 use Rattle.fx_plan.specs.Tables.{net_of}
 use Rattle.fx_net.specs.Opening.{stores_of}
 use Rattle.fx_conform.specs.Held.{AreHeld}

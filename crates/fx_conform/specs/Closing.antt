@@ -2,12 +2,12 @@
 use Rattle.std.specs.Prelude.{◌≡◌, ◌⊎◌, ℕ, List, [], length, Option, Some}
 use Rattle.std.specs.List.{AllByRecursion}
 use Rattle.fx_base.specs.declared.counts.Counts.{Counts}
-use Rattle.fx_machine.specs.declared.holding.Holding.{Holding}
-use Rattle.fx_machine.specs.declared.step.HolderName.{HolderName}
-use Rattle.fx_machine.specs.Network.{Net, holder_place}
+use Rattle.fx_tables.specs.declared.holding.Holding.{Holding}
+use Rattle.fx_tables.specs.declared.holder_name.HolderName.{HolderName}
+use Rattle.fx_tables.specs.Network.{Net, holder_place}
 use Rattle.fx_link.specs.Links.{Put}
 use Rattle.fx_link.specs.Ongoing.{Ongoing}
-use Rattle.fx_plan.specs.Ranks.{IsWhole}
+use Rattle.fx_ranks.specs.Ranks.{IsWhole}
 use Rattle.fx_net.specs.Contents.{Contents}
 use Rattle.fx_net.specs.Doings.{EmptiesNetwork}
 use Rattle.fx_net.specs.Stores.{Stored}

@@ -2,18 +2,18 @@
 use Rattle.std.specs.Prelude.{◌≡◌, ℕ, suc, ◌^◌, ◌<◌, List, [], length, Option, Ok, slice_get}
 use Rattle.std.specs.List.{AllByRecursion}
 use Rattle.fx_base.specs.Device.{Writes}
-use Rattle.fx_machine.specs.declared.packet.Packet.{Packet}
-use Rattle.fx_machine.specs.declared.record.Record.{Record}
-use Rattle.fx_machine.specs.declared.step.Step.{Step}
-use Rattle.fx_machine.specs.Network.{Net, Aggregation, aggregations_of}
-use Rattle.fx_machine.specs.Classes.{Class}
-use Rattle.fx_machine.specs.Ranks.{IsNetwork}
-use Rattle.fx_machine.specs.Runnable.{IsRunnable}
+use Rattle.fx_tables.specs.declared.packet.Packet.{Packet}
+use Rattle.fx_tables.specs.declared.record.Record.{Record}
+use Rattle.fx_run_text.specs.declared.step.Step.{Step}
+use Rattle.fx_tables.specs.Network.{Net, Aggregation, aggregations_of}
+use Rattle.fx_tables.specs.Classes.{Class}
+use Rattle.fx_tables.specs.Ranks.{IsNetwork}
+use Rattle.fx_tables.specs.Runnable.{IsRunnable}
 use Rattle.fx_machine.specs.States.{State, opening, told}
 use Rattle.fx_machine.specs.Steps.{run}
 use Rattle.fx_collect.specs.Totals.{totals_in}
 use Rattle.fx_link.specs.Links.{Put}
-use Rattle.fx_plan.specs.Ranks.{LinksLead}
+use Rattle.fx_ranks.specs.Ranks.{LinksLead}
 use Rattle.fx_runs.specs.Destinations.{AllUsable}
 use Rattle.fx_runs.specs.PutOn.{put_on}
 use Rattle.fx_net.specs.Contents.{Contents, stored_at}

@@ -1,7 +1,7 @@
 -- Holders from which the record of the least key leaves, once or several times.
 use Rattle.std.specs.Prelude.{◌≡◌, ℕ, zero, suc, ◌<◌, List, [], ◌++◌, length, Option, Some, slice_get}
-use Rattle.fx_machine.specs.declared.record.Record.{Record}
-use Rattle.fx_machine.specs.Network.{Net}
+use Rattle.fx_tables.specs.declared.record.Record.{Record}
+use Rattle.fx_tables.specs.Network.{Net}
 use Rattle.fx_store.specs.Flows.{Entry}
 use Rattle.fx_net.specs.Stores.{Stored}
 use Rattle.fx_net.specs.Contents.{Contents, stored_at}

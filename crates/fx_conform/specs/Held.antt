@@ -2,8 +2,8 @@
 use Rattle.std.specs.Prelude.{◌≡◌, ℕ, List, [], ◌∷◌, Option, Some, None, slice_get, slice_set}
 use Rattle.std.specs.FinMap.{get}
 use Rattle.fx_layout.specs.Keys.{Key}
-use Rattle.fx_machine.specs.declared.record.Record.{Record}
-use Rattle.fx_machine.specs.Network.{numbered}
+use Rattle.fx_tables.specs.declared.record.Record.{Record}
+use Rattle.fx_base.specs.Entries.{numbered}
 use Rattle.fx_machine.specs.States.{without}
 use Rattle.fx_machine.specs.Sums.{total_at}
 use Rattle.fx_store.specs.Flows.{Flows}

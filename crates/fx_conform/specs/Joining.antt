@@ -3,8 +3,8 @@ use Rattle.std.specs.Prelude.{◌≡◌, ℕ, true, List, Option, Some, None}
 use Rattle.std.specs.FinMap.{get, remove}
 use Rattle.fx_base.specs.declared.counts.Counts.{Counts}
 use Rattle.fx_layout.specs.Keys.{Key, same_key}
-use Rattle.fx_machine.specs.declared.record.Record.{Record}
-use Rattle.fx_machine.specs.Network.{numbered}
+use Rattle.fx_tables.specs.declared.record.Record.{Record}
+use Rattle.fx_base.specs.Entries.{numbered}
 use Rattle.fx_machine.specs.Acts.{taken_in}
 use Rattle.fx_machine.specs.States.{without}
 use Rattle.fx_machine.specs.Sums.{total_at}

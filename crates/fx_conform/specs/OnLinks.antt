@@ -1,7 +1,7 @@
 -- What links carry, and the records that the abstract network has on them.
 use Rattle.std.specs.Prelude.{◌≡◌, ℕ, ◌^◌, ◌<◌, ◌==◌, true, List, [], ◌∷◌, ◌++◌, length, map, slice_get, slice_set, Some, None, if◌then◌else◌}
 use Rattle.std.specs.List.{AllByRecursion}
-use Rattle.fx_machine.specs.declared.record.Record.{Record}
+use Rattle.fx_tables.specs.declared.record.Record.{Record}
 use Rattle.fx_machine.specs.Sends.{put_all}
 use Rattle.fx_machine.specs.States.{all_empty, nothing_at}
 use Rattle.fx_session.specs.Streams.{start, fed}

@@ -1,13 +1,13 @@
 -- The steps that what is done in a running network makes of the abstract one.
 use Rattle.std.specs.Prelude.{◌≡◌, ℕ, zero, suc, true, false, Bool, List, [], ◌∷◌, ◌++◌, length, slice_get}
-use Rattle.fx_machine.specs.declared.step.HolderName.{HolderName}
-use Rattle.fx_machine.specs.declared.step.HolderName.TheVariants as holder
-use Rattle.fx_machine.specs.declared.step.Step.{Step}
-use Rattle.fx_machine.specs.declared.step.Step.TheVariants.{Cross, Expire, Arrive}
-use Rattle.fx_machine.specs.declared.packet.Packet.{Packet}
+use Rattle.fx_tables.specs.declared.holder_name.HolderName.{HolderName}
+use Rattle.fx_tables.specs.declared.holder_name.HolderName.TheVariants as holder
+use Rattle.fx_run_text.specs.declared.step.Step.{Step}
+use Rattle.fx_run_text.specs.declared.step.Step.TheVariants.{Cross, Expire, Arrive}
+use Rattle.fx_tables.specs.declared.packet.Packet.{Packet}
 use Rattle.fx_machine.specs.Acts.{Choices}
-use Rattle.fx_machine.specs.Classes.{Class, path}
-use Rattle.fx_machine.specs.Network.{Net}
+use Rattle.fx_tables.specs.Classes.{Class, path}
+use Rattle.fx_tables.specs.Network.{Net}
 use Rattle.fx_net.specs.declared.action.Action.{Action}
 use Rattle.fx_net.specs.declared.action.Action.TheVariants as action
 use Rattle.fx_net.specs.Doings.{caches_of_all, holders_of, leads_to, link_places, reads_packet}

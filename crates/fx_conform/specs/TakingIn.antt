@@ -4,13 +4,14 @@ use Rattle.std.specs.List.{AllByRecursion}
 use Rattle.fx_base.specs.declared.counts.Counts.{Counts}
 use Rattle.fx_elements.specs.Axes.{Fields}
 use Rattle.fx_layout.specs.Keys.{Key, key_of, project}
-use Rattle.fx_machine.specs.declared.holding.Holding.{Holding}
-use Rattle.fx_machine.specs.declared.observation.Occurrence.{Occurrence}
-use Rattle.fx_machine.specs.declared.record.Record.{Record}
-use Rattle.fx_machine.specs.Network.{Holder, Aggregation, layout_of}
+use Rattle.fx_tables.specs.declared.holding.Holding.{Holding}
+use Rattle.fx_tables.specs.declared.observation.Occurrence.{Occurrence}
+use Rattle.fx_tables.specs.declared.record.Record.{Record}
+use Rattle.fx_tables.specs.Network.{Holder, Aggregation, layout_of}
 use Rattle.fx_machine.specs.Acts.{Choices}
-use Rattle.fx_machine.specs.Holds.{hold_all, met_holdings}
-use Rattle.fx_machine.specs.Handling.{aggregated}
+use Rattle.fx_machine.specs.Holds.{hold_all}
+use Rattle.fx_tables.specs.Holdings.{met_holdings}
+use Rattle.fx_tables.specs.Takers.{aggregated}
 use Rattle.fx_net.specs.Stores.{Stored, unbounded, bounded}
 use Rattle.fx_net.specs.Contents.{stored_at}
 use Rattle.fx_net.specs.Taking.{adding, all_leave_at_once}

@@ -4,10 +4,11 @@ use Rattle.serde_json.specs.Data.{Data}
 use Rattle.fx_base.specs.Device.{Writes}
 use Rattle.fx_base.specs.Lines.{Lines, AtLine, AtEnd as LinesEnd}
 use Rattle.fx_layout.specs.Keys.{Key}
-use Rattle.fx_machine.specs.declared.packet.Packet.{Packet}
-use Rattle.fx_machine.specs.declared.step.Step.{Step}
-use Rattle.fx_machine.specs.Network.{Net, numbered}
-use Rattle.fx_machine.specs.Classes.{Class, IsOf, to_count}
+use Rattle.fx_tables.specs.declared.packet.Packet.{Packet}
+use Rattle.fx_run_text.specs.declared.step.Step.{Step}
+use Rattle.fx_tables.specs.Network.{Net}
+use Rattle.fx_base.specs.Entries.{numbered}
+use Rattle.fx_tables.specs.Classes.{Class, IsOf, to_count}
 use Rattle.fx_machine.specs.Claim.{ExactlyOnce}
 use Rattle.fx_machine.specs.States.{State, Complete, opening, told}
 use Rattle.fx_machine.specs.Steps.{run}
@@ -15,8 +16,8 @@ use Rattle.fx_machine.specs.Sums.{SumsFit, plain_sum, total_at}
 use Rattle.fx_collect.specs.Totals.{Totals, totals_in}
 use Rattle.fx_link.specs.Links.{Put}
 use Rattle.fx_pcap.specs.Captures as captures
-use Rattle.fx_plan.specs.declared.network.Network.{Network}
-use Rattle.fx_plan.specs.Ranks.{IsWhole}
+use Rattle.fx_topology.specs.declared.network.Network.{Network}
+use Rattle.fx_ranks.specs.Ranks.{IsWhole}
 use Rattle.fx_plan.specs.Tables.{net_of}
 use Rattle.fx_traffic.specs.Classes.{traffic_faults, traffic_of}
 use Rattle.fx_net.specs.Doings.{IsFrame}

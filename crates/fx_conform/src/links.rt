@@ -1,6 +1,5 @@
 //! Laws of what links carry.
-ghost use Rattle.fx_conform.specs.OnLinks.{ArrivedLeave, CarriedArrive, FinishingStills, LinksBegin, PutsAreCarried};
-ghost use Rattle.fx_conform.specs.OnLinks.{HistoryIsRead, NoneLeft, NothingIsCarried, StillIsCarried};
+ghost use Rattle.fx_conform.specs.OnLinks.{ArrivedLeave, CarriedArrive, FinishingStills, LinksBegin, PutsAreCarried, HistoryIsRead, NoneLeft, NothingIsCarried, StillIsCarried};
 ghost use Rattle.fx_conform.specs.Sendable.{AggregatedCanBeSent, LeavingsCanBeSent, MetCanBeSent, TakenCanBeSent};
 
 /// The links of a running network are what the abstract one carries: a record that is put on links comes last on each,

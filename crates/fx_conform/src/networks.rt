@@ -3,7 +3,7 @@ ghost use Rattle.fx_plan.specs.Tables.{net_of};
 ghost use Rattle.fx_conform.specs.Conforming.{IsSound};
 ghost use Rattle.fx_conform.specs.Sendable.{HaveLayouts};
 
-use fx_machine::Holder;
+use fx_tables::Holder;
 use fx_plan::Plan;
 
 /// Each holder has a layout.

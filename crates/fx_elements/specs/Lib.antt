@@ -4,3 +4,4 @@ pub mod Groups
 pub mod Address6
 pub mod Elements
 pub mod Values
+pub mod Words

@@ -8,11 +8,13 @@ mod groups;
 mod put;
 mod spelling;
 mod values;
+mod words;
 
 pub use address6::{many_spellings, read_address6, read_prefix6};
 pub use axis::{AXES, Axis, EVERY_AXIS, TOPS, top, width};
 pub use element::{Element, by_id, by_name};
 pub use groups::read_groups;
 pub use put::put_value;
-pub use spelling::{cut, one_spelling, read_number, read_prefix, read_quad};
+pub use spelling::{cut, one_spelling, read_number, read_prefix, read_quad, read_u64};
 pub use values::{Range, read_on, read_value, read_written, values_fit};
+pub use words::{Words, is_word};

@@ -1,6 +1,7 @@
+//! How numbers, addresses and prefixes are spelled, and how a text is read as one.
 ghost use Rattle.std.specs.Prelude.{◌≡◌, ◌<◌, ◌≤◌, ◌^◌, ◌-◌, ◌+◌, ℕ, List, length, IfSome, IfNone, option_map, Some, ◌↔◌, slice_index};
 ghost use Rattle.std.specs.Fmt.{decimal};
-ghost use Rattle.fx_elements.specs.Spelling.{cut_at, digits_of, number_of, quad_of, prefix_of, quad, prefix};
+ghost use Rattle.fx_elements.specs.Spelling.{cut_at, digits_of, largest, number_of, quad_of, prefix_of, quad, prefix};
 ghost use Rattle.fx_elements.specs.Groups.{groups, groups_of};
 ghost use Rattle.fx_elements.specs.Axes.{axis_index, tops};
 ghost use Rattle.fx_elements.specs.Values.{written_on, value_text};
@@ -48,6 +49,13 @@ pub fn read_number(text: &[u8], top: u128) -> Option<u128>
         [b'0', _, ..] => None,
         _ => read_digits(text, top),
     }
+}
+
+/// The number below 2 to the 64 whose decimal text this is.
+pub fn read_u64(text: &[u8]) -> Option<u64>
+    ensures { result ≡ number_of largest text.now }
+{
+    Some(read_number(text, u64::MAX as u128)? as u64)
 }
 
 /// The address whose dotted quad this is.

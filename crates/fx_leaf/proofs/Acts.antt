@@ -7,10 +7,11 @@ use Rattle.fx_base.specs.Counts.{add_counts}
 use Rattle.fx_layout.specs.Keys.{Key, refines, project, same_key}
 use Rattle.fx_layout.proofs.Projections.{same_key_is}
 use Rattle.fx_machine.proofs.Lists.{put_last_past, length_put_last}
-use Rattle.fx_machine.specs.declared.record.Record.{Record}
-use Rattle.fx_machine.specs.declared.packet.Packet.{Packet}
-use Rattle.fx_machine.specs.Network.{numbered, Exporter, Net}
-use Rattle.fx_machine.specs.Classes.{Class}
+use Rattle.fx_tables.specs.declared.record.Record.{Record}
+use Rattle.fx_tables.specs.declared.packet.Packet.{Packet}
+use Rattle.fx_base.specs.Entries.{numbered}
+use Rattle.fx_tables.specs.Network.{Exporter, Net}
+use Rattle.fx_tables.specs.Classes.{Class}
 use Rattle.fx_machine.specs.States.{State, tallied, put_last, sent_to, sent_to_all, add_at, replaced, Coming}
 use Rattle.fx_machine.specs.Acts.{Choices, Act, Tally, Send, Hold, Made, sent_to_chosen, send_by_choice, joined, taken_in, with_held, hold_in, hold, act, act_all, all_used}
 use Rattle.fx_machine.specs.Sums.{total_at}

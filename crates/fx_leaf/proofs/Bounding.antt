@@ -6,7 +6,7 @@ use Rattle.fx_elements.specs.declared.axis.Axis.TheVariants.{Source}
 use Rattle.fx_elements.specs.Axes.{Fields, axes, axis_count, axis_index}
 use Rattle.fx_elements.proofs.EveryAxis.{axis_at, index_below, on_none}
 use Rattle.fx_boxes.specs.Boxes.{Bounds, IsRegion, Holds}
-use Rattle.fx_machine.specs.declared.aggregation.MatchEntry.{MatchEntry}
+use Rattle.fx_tables.specs.declared.aggregation.MatchEntry.{MatchEntry}
 use Rattle.fx_leaf.specs.SoundLeaves.{matches_packet}
 use Rattle.fx_leaf.specs.Splits.{IsBound, IsSplitBy, NoSplitBy}
 use Rattle.fx_leaf.specs.Standings.{low_at, high_at, common, is_empty, is_within, standing, match_fields}

@@ -9,24 +9,24 @@ use Rattle.fx_elements.specs.declared.axis.Axis.{Axis}
 use Rattle.fx_elements.specs.Axes.{Fields, axis_index}
 use Rattle.fx_boxes.specs.Boxes.{Bounds, IsRegion, IsStrictlyInside}
 use Rattle.fx_layout.specs.Keys.{key_of}
-use Rattle.fx_machine.specs.declared.observation.Occurrence.{Occurrence}
-use Rattle.fx_machine.specs.declared.observation.Selection.{Selection}
-use Rattle.fx_machine.specs.declared.traffic.Crossing.{Crossing}
-use Rattle.fx_machine.specs.Network.{Net, Point, numbered, points_of, at_places, named_by, exporters_of, layout_of}
-use Rattle.fx_machine.specs.Occurrences.{selects, occurrence, met_by, watches, met_at, occurrences}
+use Rattle.fx_tables.specs.declared.observation.Occurrence.{Occurrence}
+use Rattle.fx_tables.specs.declared.observation.Selection.{Selection}
+use Rattle.fx_tables.specs.declared.traffic.Crossing.{Crossing}
+use Rattle.fx_tables.specs.Network.{Net, Point, points_of, at_places, named_by, exporters_of, layout_of}
+use Rattle.fx_base.specs.Entries.{numbered}
+use Rattle.fx_tables.specs.Occurrences.{selects, occurrence, met_by, watches, met_at, occurrences}
 use Rattle.fx_machine.specs.Acts.{Act, Hold}
 use Rattle.fx_machine.specs.Steps.{meet, crossing_acts}
 use Rattle.fx_leaf.specs.declared.leaf.Counted.{Counted}
 use Rattle.fx_leaf.specs.declared.verdict.Fate.TheVariants.{Never, Once, Many, Differing, Unassigned}
 use Rattle.fx_leaf.specs.declared.lost.Lost.TheVariants.{Behind}
-use Rattle.fx_machine.specs.Ranks.{IsNetwork}
+use Rattle.fx_tables.specs.Ranks.{IsNetwork}
 use Rattle.fx_leaf.specs.Answers.{NothingCuts}
 use Rattle.fx_leaf.specs.Fates.{acts_along}
 use Rattle.fx_leaf.specs.declared.path.Told.{Told}
 use Rattle.fx_leaf.specs.Leaves.{IsTold, named, leaf_of, leaf_told}
 use Rattle.fx_leaf.specs.Lost.{SendsOn, SentByHolder, Starts, IsLost}
-use Rattle.fx_leaf.specs.Reach.{Marked, IsFilled}
-use Rattle.fx_leaf.specs.Reach.{SentByHolder as SentByHolder'}
+use Rattle.fx_leaf.specs.Reach.{Marked, IsFilled, SentByHolder as SentByHolder'}
 use Rattle.fx_leaf.specs.SoundLeaves.{Uncut}
 use Rattle.fx_leaf.specs.SoundLeaves.Reached.{first}
 use Rattle.fx_leaf.specs.Splits.{IsSplitBy, Meets, IsSplit, HeldAlong}

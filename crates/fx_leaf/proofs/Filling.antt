@@ -5,9 +5,9 @@ use Rattle.std.proofs.lemmas.Option.{slice_get_past}
 use Rattle.std.specs.Prelude.{Contains}
 use Rattle.fx_boxes.specs.Boxes.{Bounds}
 use Rattle.fx_layout.specs.Keys.{Layout, refines}
-use Rattle.fx_machine.specs.Network.{Net, Exporter, Holder, Aggregation, Process, at_places, exporters_of, layout_of}
-use Rattle.fx_machine.specs.Ranks.{RisesTo, Rises, AllRise, ProcessRises, IsRanked}
-use Rattle.fx_machine.specs.Orders.{Descends}
+use Rattle.fx_tables.specs.Network.{Net, Exporter, Holder, Aggregation, Process, at_places, exporters_of, layout_of}
+use Rattle.fx_tables.specs.Ranks.{RisesTo, Rises, AllRise, ProcessRises, IsRanked}
+use Rattle.fx_tables.specs.Orders.{Descends}
 use Rattle.fx_leaf.specs.declared.verdict.Fate.TheVariants.{Never, Once, Unassigned}
 use Rattle.fx_leaf.specs.Answers.{TableIsVerdicts}
 use Rattle.fx_leaf.specs.Reach.{Marked, Feeds, Sent, SentByHolder, SentFrom, IsClosed, IsVerdict, Agrees}

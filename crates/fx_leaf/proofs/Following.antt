@@ -8,11 +8,11 @@ use Rattle.fx_elements.specs.declared.axis.Axis.{Axis}
 use Rattle.fx_boxes.specs.Boxes.{Bounds, IsRegion}
 use Rattle.fx_layout.specs.Keys.{Layout, Key, key_of, refines, reads}
 use Rattle.fx_layout.proofs.Projections.{and_true, project_key}
-use Rattle.fx_machine.specs.declared.traffic.Crossing.{Crossing}
-use Rattle.fx_machine.specs.Network.{Net, Exporter, Holder, Aggregation, Process, at_places, exporters_of, layout_of, aggregations_of, takes}
+use Rattle.fx_tables.specs.declared.traffic.Crossing.{Crossing}
+use Rattle.fx_tables.specs.Network.{Net, Exporter, Holder, Aggregation, Process, at_places, exporters_of, layout_of, aggregations_of, takes}
 use Rattle.fx_machine.specs.Acts.{Act, Tally, Send}
 use Rattle.fx_machine.specs.Steps.{take_in, acts_of, coming_to}
-use Rattle.fx_machine.specs.Ranks.{RisesTo, Rises, AllRise, ProcessRises, IsRanked}
+use Rattle.fx_tables.specs.Ranks.{RisesTo, Rises, AllRise, ProcessRises, IsRanked}
 use Rattle.fx_leaf.specs.declared.lost.Lost.TheVariants.{Split, Behind}
 use Rattle.fx_leaf.specs.declared.verdict.Fate.TheVariants.{Never, Once, Unassigned}
 use Rattle.fx_leaf.specs.Reach.{Marked, Feeds, SentFrom, IsVerdict, IsFilled}

@@ -3,18 +3,19 @@ use Rattle.std.proofs.Common.{◌≡◌, ◌≢◌, ℕ, zero, suc, true, List, 
 use Rattle.fx_base.specs.declared.counts.Counts.{Counts}
 use Rattle.fx_boxes.specs.Boxes.{holds}
 use Rattle.fx_layout.specs.Keys.{Key}
-use Rattle.fx_machine.specs.declared.traffic.Crossing.{Crossing}
-use Rattle.fx_machine.specs.declared.packet.Packet.{Packet}
-use Rattle.fx_machine.specs.declared.step.Step.{Step}
-use Rattle.fx_machine.specs.Network.{numbered, entries, Net}
-use Rattle.fx_machine.specs.Classes.{paths_of, path, exempts, to_count, IsOf, Class}
+use Rattle.fx_tables.specs.declared.traffic.Crossing.{Crossing}
+use Rattle.fx_tables.specs.declared.packet.Packet.{Packet}
+use Rattle.fx_run_text.specs.declared.step.Step.{Step}
+use Rattle.fx_base.specs.Entries.{numbered}
+use Rattle.fx_tables.specs.Network.{entries, Net}
+use Rattle.fx_tables.specs.Classes.{paths_of, path, exempts, to_count, IsOf, Class}
 use Rattle.fx_machine.specs.States.{State, opening, Complete}
 use Rattle.fx_machine.specs.Steps.{run}
 use Rattle.fx_machine.specs.Sums.{plain_sum, total_at, SumsFit}
 use Rattle.fx_machine.proofs.Lists.{length_nothing}
 use Rattle.fx_machine.proofs.Running.{steps_of}
 use Rattle.fx_machine.specs.Claim.{CountsEachOnce, wrapped, CountsEachModulo}
-use Rattle.fx_machine.specs.Ranks.{IsNetwork}
+use Rattle.fx_tables.specs.Ranks.{IsNetwork}
 use Rattle.fx_leaf.specs.Fates.{fate, packet_fate, wanted}
 use Rattle.fx_leaf.specs.Certificates.{AllAsWanted}
 use Rattle.fx_leaf.specs.Quantity.{Weight, Wrong, Nothing, plus, weigh_all, total_weight, unassigned_weight, held_weight, carried_weight, coming_weight, wrapped_weight, quantity}

@@ -1,6 +1,6 @@
 -- Verdicts joined one after another.
 use Rattle.std.proofs.Common.{◌≡◌, ℕ, zero, suc, ◌+◌, ◌<◌, ◌≤◌, List, [], ◌∷◌, map, length, drop, get_or, slice_get, Option, Some, None, refl, sym, ap, ◌∙◌, subst, arith, add-one, le_of_suc-le-suc}
-use Rattle.fx_machine.specs.Network.{Net, Exporter, at_places, before}
+use Rattle.fx_tables.specs.Network.{Net, Exporter, at_places, before}
 use Rattle.fx_leaf.specs.declared.verdict.Fate.{Fate}
 use Rattle.fx_leaf.specs.declared.verdict.Fate.TheVariants.{Never, Once, Many, Differing, Unassigned}
 use Rattle.fx_leaf.specs.Fates.{either}

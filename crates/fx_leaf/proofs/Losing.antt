@@ -1,7 +1,7 @@
 -- What is found where there is no verdict.
 use Rattle.std.proofs.Common.{◌≡◌, inl, inr, ℕ, zero, suc, ◌+◌, ◌<◌, ◌≤◌, true, false, cond, List, [], ◌∷◌, map, length, drop, get_or, Option, Some, None, refl, sym, ap, ◌∙◌, subst, arith, slice_get, IfNone, le_of_suc-le-suc}
 use Rattle.std.specs.Prelude.{Contains}
-use Rattle.fx_machine.specs.Network.{Net, Exporter, at_places, before}
+use Rattle.fx_tables.specs.Network.{Net, Exporter, at_places, before}
 use Rattle.fx_leaf.specs.Lost.{LeadsOn, SendsOn}
 use Rattle.fx_leaf.specs.Tables.{Table, entry}
 use Rattle.fx_leaf.specs.Verdicts.{Verdict, both_judged, all_judged, one_judged, destination_verdict, send_verdict, sent_verdict}

@@ -5,12 +5,13 @@ use Rattle.std.proofs.lemmas.Nat.Bits.{bit_at-lt, bit_at-zero, bit_at_or, bit_at
 use Rattle.std.proofs.lemmas.Option.{slice_get_past}
 use Rattle.std.specs.Int.{bit_at}
 use Rattle.std.specs.Prelude.{Contains, bit_or}
-use Rattle.fx_machine.specs.declared.observation.Selection.{Selection}
-use Rattle.fx_machine.specs.declared.traffic.Crossing.{Crossing}
-use Rattle.fx_machine.specs.Network.{Net, Point, Exporter, Aggregation, Process, numbered, before, points_of, at_places, exporters_of}
-use Rattle.fx_machine.specs.Occurrences.{watches}
-use Rattle.fx_machine.specs.Orders.{Descends}
-use Rattle.fx_machine.specs.Ranks.{RisesTo, Rises, AllRise, ProcessRises, IsRanked}
+use Rattle.fx_tables.specs.declared.observation.Selection.{Selection}
+use Rattle.fx_tables.specs.declared.traffic.Crossing.{Crossing}
+use Rattle.fx_tables.specs.Network.{Net, Point, Exporter, Aggregation, Process, before, points_of, at_places, exporters_of}
+use Rattle.fx_base.specs.Entries.{numbered}
+use Rattle.fx_tables.specs.Occurrences.{watches}
+use Rattle.fx_tables.specs.Orders.{Descends}
+use Rattle.fx_tables.specs.Ranks.{RisesTo, Rises, AllRise, ProcessRises, IsRanked}
 use Rattle.fx_leaf.specs.Reach.{Marked, Grown, Sent, SentByHolder, SentFrom, SentAlong, IsClosed, marked_at, marked_behind, marked_to, marked_by, marked_by_holder, marked_by_holders, marked_on, marked_from, spread, holders_by, holders_at, holders_along}
 use Rattle.fx_leaf.specs.Tables.{Numbering, Tables, AreTables, number_of_layout}
 use Rattle.fx_leaf.proofs.FateLaws.{Every}

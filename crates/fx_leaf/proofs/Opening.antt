@@ -4,19 +4,20 @@ use Rattle.std.proofs.Math.Nat.{mod-mod, add-mod-mod}
 use Rattle.fx_base.specs.declared.counts.Counts.{Counts}
 use Rattle.fx_layout.specs.Keys.{Key, Layout, key_of, same_key}
 use Rattle.fx_layout.proofs.Projections.{project_key}
-use Rattle.fx_machine.specs.declared.record.Record.{Record}
-use Rattle.fx_machine.specs.declared.traffic.Crossing.{Crossing}
-use Rattle.fx_machine.specs.declared.observation.Occurrence.{Occurrence}
-use Rattle.fx_machine.specs.declared.packet.Packet.{Packet}
-use Rattle.fx_machine.specs.Network.{numbered, Net, layout_of}
-use Rattle.fx_machine.specs.Classes.{path, exempts, to_count, Class}
-use Rattle.fx_machine.specs.Occurrences.{occurrences}
+use Rattle.fx_tables.specs.declared.record.Record.{Record}
+use Rattle.fx_tables.specs.declared.traffic.Crossing.{Crossing}
+use Rattle.fx_tables.specs.declared.observation.Occurrence.{Occurrence}
+use Rattle.fx_tables.specs.declared.packet.Packet.{Packet}
+use Rattle.fx_base.specs.Entries.{numbered}
+use Rattle.fx_tables.specs.Network.{Net, layout_of}
+use Rattle.fx_tables.specs.Classes.{path, exempts, to_count, Class}
+use Rattle.fx_tables.specs.Occurrences.{occurrences}
 use Rattle.fx_machine.specs.States.{crossings_from, coming_from, nothing_at, opening, all_empty, Coming}
 use Rattle.fx_machine.specs.Acts.{Act}
 use Rattle.fx_machine.specs.Steps.{crossing_acts, one_packet, meet}
 use Rattle.fx_machine.specs.Sums.{plain_sum, one_more, IsBelow}
 use Rattle.fx_machine.specs.Claim.{wrapped}
-use Rattle.fx_machine.specs.Ranks.{IsNetwork}
+use Rattle.fx_tables.specs.Ranks.{IsNetwork}
 use Rattle.fx_machine.proofs.Lists.{nothing_empty}
 use Rattle.fx_leaf.specs.declared.verdict.Fate.TheVariants.{Once}
 use Rattle.fx_leaf.specs.Fates.{FateAt, act_fate, fate, acts_along, packet_fate, wanted}

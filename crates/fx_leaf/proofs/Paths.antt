@@ -3,11 +3,12 @@ use Rattle.std.proofs.Common.{◌≡◌, ◌⊎◌, inl, inr, ℕ, zero, suc, �
 use Rattle.fx_elements.specs.Axes.{Fields}
 use Rattle.fx_boxes.specs.Boxes.{Bounds, IsRegion, holds}
 use Rattle.fx_layout.specs.Keys.{Fits}
-use Rattle.fx_machine.specs.declared.observation.Occurrence.{Occurrence}
-use Rattle.fx_machine.specs.declared.observation.Selection.{Selection}
-use Rattle.fx_machine.specs.declared.traffic.Crossing.{Crossing}
-use Rattle.fx_machine.specs.Network.{Net, Point, numbered, points_of, layout_of}
-use Rattle.fx_machine.specs.Occurrences.{selects, occurrence, met_by, watches, met_at, occurrences}
+use Rattle.fx_tables.specs.declared.observation.Occurrence.{Occurrence}
+use Rattle.fx_tables.specs.declared.observation.Selection.{Selection}
+use Rattle.fx_tables.specs.declared.traffic.Crossing.{Crossing}
+use Rattle.fx_tables.specs.Network.{Net, Point, points_of, layout_of}
+use Rattle.fx_base.specs.Entries.{numbered}
+use Rattle.fx_tables.specs.Occurrences.{selects, occurrence, met_by, watches, met_at, occurrences}
 use Rattle.fx_leaf.specs.declared.verdict.Fate.{Fate}
 use Rattle.fx_leaf.specs.declared.verdict.Fate.TheVariants.{Never, Once, Many, Differing, Unassigned}
 use Rattle.fx_leaf.specs.Fates.{both, all_happen, fate, packet_fate}

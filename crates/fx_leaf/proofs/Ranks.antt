@@ -3,10 +3,10 @@ use Rattle.std.proofs.Common.{◌≡◌, ℕ, zero, suc, ◌+◌, ◌<◌, ◌�
 use Rattle.std.specs.List.{list_all}
 use Rattle.fx_layout.specs.Keys.{Key, refines, project, reads, cut}
 use Rattle.fx_layout.proofs.Projections.{and_true, refines_through}
-use Rattle.fx_machine.specs.Network.{at_places, Exporter, Holder, Aggregation, Process, Net, exporters_of, layout_of, takes}
+use Rattle.fx_tables.specs.Network.{at_places, Exporter, Holder, Aggregation, Process, Net, exporters_of, layout_of, takes}
 use Rattle.fx_machine.specs.Acts.{Act, Tally, Send}
 use Rattle.fx_machine.specs.Steps.{take_in, acts_of, coming_to}
-use Rattle.fx_machine.specs.Ranks.{RisesTo, Rises, AllRise, ProcessRises, IsRanked}
+use Rattle.fx_tables.specs.Ranks.{RisesTo, Rises, AllRise, ProcessRises, IsRanked}
 use Rattle.fx_leaf.specs.declared.verdict.Fate.TheVariants.{Once, Unassigned}
 use Rattle.fx_leaf.specs.Fates.{AreFates, FateAt, all_happen, one_happens, process_fate, destination_fate, send_fate, held_fate, act_fate, fate_within, fate}
 use Rattle.fx_leaf.proofs.FateLaws.{Every, every_append, some_once}

@@ -8,8 +8,8 @@ use Rattle.std.specs.Int.{bit_at}
 use Rattle.std.specs.Prelude.{Contains}
 use Rattle.fx_boxes.specs.Boxes.{Bounds}
 use Rattle.fx_layout.specs.Keys.{Layout}
-use Rattle.fx_machine.specs.Network.{Net}
-use Rattle.fx_machine.specs.Orders.{Descends}
+use Rattle.fx_tables.specs.Network.{Net}
+use Rattle.fx_tables.specs.Orders.{Descends}
 use Rattle.fx_leaf.specs.Reach.{Marked, SentFrom, IsClosed, IsVerdict, IsFilled}
 use Rattle.fx_leaf.specs.Tables.{Tables, AreTables, Table, entry_in, entry, entry_from}
 use Rattle.fx_leaf.specs.Verdicts.{Verdict, verdict}

@@ -1,10 +1,11 @@
 -- What is told along a path, from a table that is filled.
 use Rattle.std.proofs.Common.{◌≡◌, inl, inr, ℕ, zero, suc, ◌+◌, ◌<◌, ◌≤◌, cond, List, [], ◌∷◌, ◌++◌, map, length, take, get_or, Option, Some, None, refl, sym, ap, ap₂, ◌∙◌, subst, arith, add-one, le_of_suc-le-suc, append-nil, append_assoc}
 use Rattle.fx_boxes.specs.Boxes.{Bounds}
-use Rattle.fx_machine.specs.declared.observation.Selection.{Selection}
-use Rattle.fx_machine.specs.declared.traffic.Crossing.{Crossing}
-use Rattle.fx_machine.specs.Network.{Net, Point, numbered, points_of}
-use Rattle.fx_machine.specs.Occurrences.{watches}
+use Rattle.fx_tables.specs.declared.observation.Selection.{Selection}
+use Rattle.fx_tables.specs.declared.traffic.Crossing.{Crossing}
+use Rattle.fx_tables.specs.Network.{Net, Point, points_of}
+use Rattle.fx_base.specs.Entries.{numbered}
+use Rattle.fx_tables.specs.Occurrences.{watches}
 use Rattle.fx_leaf.specs.declared.path.Told.{Told}
 use Rattle.fx_leaf.specs.Leaves.{Seeing, named}
 use Rattle.fx_leaf.specs.Verdicts.{Verdict, VerdictAt, both_judged, all_judged, Seen, seen_if, seen_by, seen_at, seen_along, counted_from}

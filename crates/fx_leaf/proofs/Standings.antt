@@ -10,9 +10,9 @@ use Rattle.fx_elements.proofs.EveryAxis.{axis_is, index_below, on_axes, on_axis,
 use Rattle.fx_boxes.specs.Boxes.{Bounds, IsRegion, Holds, IsInside, IsDisjoint, holds, is_between}
 use Rattle.fx_boxes.proofs.Holding.{holds_is, holds_if}
 use Rattle.fx_layout.proofs.Projections.{and_true, and_both}
-use Rattle.fx_machine.specs.declared.aggregation.MatchEntry.{MatchEntry}
-use Rattle.fx_machine.specs.Matches.{IsEntry}
-use Rattle.fx_machine.specs.Occurrences.{selects}
+use Rattle.fx_tables.specs.declared.aggregation.MatchEntry.{MatchEntry}
+use Rattle.fx_tables.specs.Matches.{IsEntry}
+use Rattle.fx_tables.specs.Occurrences.{selects}
 use Rattle.fx_leaf.specs.SoundLeaves.{Uncut, matches_packet}
 use Rattle.fx_leaf.specs.Standings.{low_at, high_at, common, is_empty, is_within, standing, standing_to, all_fields, entry_low, entry_high, begins_with, entry_fields, match_fields, Tells}
 

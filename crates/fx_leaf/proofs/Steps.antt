@@ -4,12 +4,13 @@ use Rattle.std.specs.List.{list_all}
 use Rattle.fx_base.specs.declared.counts.Counts.{Counts}
 use Rattle.fx_layout.specs.Keys.{Key, refines, project, same_key, reads, cut}
 use Rattle.fx_layout.proofs.Projections.{and_true, project_again}
-use Rattle.fx_machine.specs.declared.record.Record.{Record}
-use Rattle.fx_machine.specs.declared.packet.Packet.{Packet}
-use Rattle.fx_machine.specs.declared.step.Step.{Step}
-use Rattle.fx_machine.specs.declared.step.Step.TheVariants.{Cross, Expire, Arrive}
-use Rattle.fx_machine.specs.Network.{at_places, holder_place, numbered, Exporter, Holder, Aggregation, Process, Net, exporters_of, layout_of, takes}
-use Rattle.fx_machine.specs.Classes.{Class, path}
+use Rattle.fx_tables.specs.declared.record.Record.{Record}
+use Rattle.fx_tables.specs.declared.packet.Packet.{Packet}
+use Rattle.fx_run_text.specs.declared.step.Step.{Step}
+use Rattle.fx_run_text.specs.declared.step.Step.TheVariants.{Cross, Expire, Arrive}
+use Rattle.fx_tables.specs.Network.{at_places, holder_place, Exporter, Holder, Aggregation, Process, Net, exporters_of, layout_of, takes}
+use Rattle.fx_base.specs.Entries.{numbered}
+use Rattle.fx_tables.specs.Classes.{Class, path}
 use Rattle.fx_machine.specs.States.{State, without, Coming}
 use Rattle.fx_machine.specs.Acts.{Choices, Act, Tally, Send, Outcome, all_acts}
 use Rattle.fx_machine.specs.Steps.{leaving, take_in, acts_of, coming_to, arriving, crossing_acts, one_packet, later, place, after_cross, after_expire, after_arrive, expire_from, expire_at, arrive_from, arrive_at, link_place, after, then_run, run}

@@ -5,7 +5,7 @@ use Rattle.fx_base.specs.declared.counts.Counts.{Counts}
 use Rattle.fx_base.specs.Counts.{add_counts}
 use Rattle.fx_layout.specs.Keys.{Key, same_key}
 use Rattle.fx_layout.proofs.Projections.{same_key_is, and_both, layout_same}
-use Rattle.fx_machine.specs.declared.record.Record.{Record}
+use Rattle.fx_tables.specs.declared.record.Record.{Record}
 use Rattle.fx_machine.specs.States.{add_at}
 use Rattle.fx_machine.specs.Sums.{total_at}
 use Rattle.fx_leaf.specs.Quantity.{Weight, Nothing, Counted, plus, total_weight}

@@ -6,14 +6,15 @@ use Rattle.fx_elements.specs.Axes.{Fields}
 use Rattle.fx_boxes.specs.Boxes.{Bounds, IsRegion, holds}
 use Rattle.fx_layout.specs.Keys.{Layout, Key, Fits, key_of, project, refines, reads}
 use Rattle.fx_layout.proofs.Projections.{and_true, project_key}
-use Rattle.fx_machine.specs.declared.observation.Occurrence.{Occurrence}
-use Rattle.fx_machine.specs.declared.observation.Selection.{Selection}
-use Rattle.fx_machine.specs.declared.traffic.Crossing.{Crossing}
-use Rattle.fx_machine.specs.Network.{Net, Point, Exporter, Aggregation, Process, numbered, points_of, at_places, exporters_of, layout_of, aggregations_of, takes}
-use Rattle.fx_machine.specs.Occurrences.{selects, occurrence, met_by, watches, met_at, occurrences}
+use Rattle.fx_tables.specs.declared.observation.Occurrence.{Occurrence}
+use Rattle.fx_tables.specs.declared.observation.Selection.{Selection}
+use Rattle.fx_tables.specs.declared.traffic.Crossing.{Crossing}
+use Rattle.fx_tables.specs.Network.{Net, Point, Exporter, Aggregation, Process, points_of, at_places, exporters_of, layout_of, aggregations_of, takes}
+use Rattle.fx_base.specs.Entries.{numbered}
+use Rattle.fx_tables.specs.Occurrences.{selects, occurrence, met_by, watches, met_at, occurrences}
 use Rattle.fx_machine.specs.Acts.{Act, Tally, Send, Hold}
 use Rattle.fx_machine.specs.Steps.{meet, crossing_acts, take_in, acts_of, coming_to}
-use Rattle.fx_machine.specs.Ranks.{RisesTo, Rises, AllRise, ProcessRises, IsRanked, IsNetwork}
+use Rattle.fx_tables.specs.Ranks.{RisesTo, Rises, AllRise, ProcessRises, IsRanked, IsNetwork}
 use Rattle.fx_leaf.specs.declared.verdict.Fate.TheVariants.{Never, Once, Unassigned}
 use Rattle.fx_leaf.specs.Fates.{acts_along}
 use Rattle.fx_leaf.specs.SoundLeaves.{Uncut, SentTo, LeadsTo, Reached, can_read, matches_packet, SelectionsUncut, MatchesUncut}

@@ -5,8 +5,8 @@ use Rattle.fx_elements.specs.Axes.{Fields}
 use Rattle.fx_boxes.specs.Boxes.{Bounds, IsRegion, holds}
 use Rattle.fx_layout.specs.Keys.{Layout, Key, Fits, key_of, refines, reads, cut}
 use Rattle.fx_layout.proofs.Projections.{and_true, cut_of_key, project_key}
-use Rattle.fx_machine.specs.declared.aggregation.MatchEntry.{MatchEntry}
-use Rattle.fx_machine.specs.Network.{Net, Exporter, Aggregation, Process, at_places, exporters_of, layout_of, takes}
+use Rattle.fx_tables.specs.declared.aggregation.MatchEntry.{MatchEntry}
+use Rattle.fx_tables.specs.Network.{Net, Exporter, Aggregation, Process, at_places, exporters_of, layout_of, takes}
 use Rattle.fx_machine.specs.Acts.{Tally, Send}
 use Rattle.fx_machine.specs.Steps.{take_in, acts_of}
 use Rattle.fx_leaf.specs.declared.verdict.Fate.{Fate}

@@ -2,9 +2,9 @@
 use Rattle.std.specs.Prelude.{◌≡◌, ℕ, ◌<◌, true, List, length, Some, None}
 use Rattle.fx_boxes.specs.Boxes.{Bounds, IsRegion, holds}
 use Rattle.fx_elements.specs.Axes.{Fields}
-use Rattle.fx_machine.specs.declared.traffic.Crossing.{Crossing}
-use Rattle.fx_machine.specs.Network.{Net}
-use Rattle.fx_machine.specs.Ranks.{IsRanked, IsNetwork}
+use Rattle.fx_tables.specs.declared.traffic.Crossing.{Crossing}
+use Rattle.fx_tables.specs.Network.{Net}
+use Rattle.fx_tables.specs.Ranks.{IsRanked, IsNetwork}
 use Rattle.fx_leaf.specs.declared.verdict.Fate.{Fate}
 use Rattle.fx_leaf.specs.declared.verdict.Fate.TheVariants.{Once, Never}
 use Rattle.fx_leaf.specs.Fates.{packet_fate}

@@ -3,9 +3,10 @@ use Rattle.std.specs.Prelude.{◌≡◌, ℕ, Bool, true, false, List, Some}
 use Rattle.fx_elements.specs.declared.axis.Axis.{Axis}
 use Rattle.fx_elements.specs.Axes.{Fields, axis_index}
 use Rattle.fx_boxes.specs.Boxes.{Bounds, holds, IsStrictlyInside, below_part, above_part}
-use Rattle.fx_machine.specs.declared.traffic.Crossing.{Crossing}
-use Rattle.fx_machine.specs.Network.{Net, numbered, entries}
-use Rattle.fx_machine.specs.Classes.{Class}
+use Rattle.fx_tables.specs.declared.traffic.Crossing.{Crossing}
+use Rattle.fx_tables.specs.Network.{Net, entries}
+use Rattle.fx_base.specs.Entries.{numbered}
+use Rattle.fx_tables.specs.Classes.{Class}
 use Rattle.fx_leaf.specs.Fates.{packet_fate, wanted}
 use Rattle.fx_leaf.specs.SoundLeaves.{SoundLeaf, SoundNever}
 

@@ -4,8 +4,8 @@ use Rattle.fx_elements.specs.Axes.{Fields}
 use Rattle.fx_layout.specs.Keys.{Key, refines}
 use Rattle.fx_leaf.specs.declared.verdict.Fate.{Fate}
 use Rattle.fx_leaf.specs.declared.verdict.Fate.TheVariants.{Never, Once, Many, Differing, Unassigned}
-use Rattle.fx_machine.specs.declared.traffic.Crossing.{Crossing}
-use Rattle.fx_machine.specs.Network.{Exporter, Holder, Net, exporters_of}
+use Rattle.fx_tables.specs.declared.traffic.Crossing.{Crossing}
+use Rattle.fx_tables.specs.Network.{Exporter, Holder, Net, exporters_of}
 use Rattle.fx_machine.specs.Acts.{Act, Tally, Send, Hold}
 use Rattle.fx_machine.specs.Steps.{crossing_acts, coming_to}
 

@@ -1,8 +1,8 @@
 -- What is to be said of a region's packets on a path, in one judgement.
 use Rattle.std.specs.Prelude.{List}
 use Rattle.fx_boxes.specs.Boxes.{Bounds}
-use Rattle.fx_machine.specs.declared.traffic.Crossing.{Crossing}
-use Rattle.fx_machine.specs.Network.{Net}
+use Rattle.fx_tables.specs.declared.traffic.Crossing.{Crossing}
+use Rattle.fx_tables.specs.Network.{Net}
 use Rattle.fx_leaf.specs.declared.judging.Judgement.{Judgement}
 use Rattle.fx_leaf.specs.declared.judging.Judgement.TheVariants.{Cut, Once, Never, Many, Differing, Unassigned}
 use Rattle.fx_leaf.specs.declared.verdict.Fate.TheVariants as fates

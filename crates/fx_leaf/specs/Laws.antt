@@ -2,15 +2,16 @@
 use Rattle.std.specs.Prelude.{◌≡◌, ◌≢◌, List, All, Ok, length}
 use Rattle.std.specs.Option.{option_map}
 use Rattle.fx_layout.specs.Keys.{Key}
-use Rattle.fx_machine.specs.declared.packet.Packet.{Packet}
-use Rattle.fx_machine.specs.declared.step.Step.{Step}
-use Rattle.fx_machine.specs.Network.{numbered, Net}
-use Rattle.fx_machine.specs.Classes.{IsOf, Class, to_count}
+use Rattle.fx_tables.specs.declared.packet.Packet.{Packet}
+use Rattle.fx_run_text.specs.declared.step.Step.{Step}
+use Rattle.fx_base.specs.Entries.{numbered}
+use Rattle.fx_tables.specs.Network.{Net}
+use Rattle.fx_tables.specs.Classes.{IsOf, Class, to_count}
 use Rattle.fx_machine.specs.States.{State, opening, Complete}
 use Rattle.fx_machine.specs.Steps.{after}
 use Rattle.fx_machine.specs.Sums.{plain_sum, total_at, SumsFit}
 use Rattle.fx_machine.specs.Claim.{ExactlyOnce, OnceModulo, wrapped}
-use Rattle.fx_machine.specs.Ranks.{IsNetwork}
+use Rattle.fx_tables.specs.Ranks.{IsNetwork}
 use Rattle.fx_leaf.specs.Certificates.{Tree, Sound}
 use Rattle.fx_leaf.specs.Quantity.{Wrong, quantity, total_weight, wrapped_weight, unassigned_weight, plus}
 

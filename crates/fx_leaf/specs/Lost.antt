@@ -3,8 +3,8 @@ use Rattle.std.specs.Prelude.{◌≡◌, ◌⊎◌, ℕ, true, List, Contains, O
 use Rattle.fx_boxes.specs.Boxes.{Bounds, holds}
 use Rattle.fx_elements.specs.Axes.{Fields}
 use Rattle.fx_layout.specs.Keys.{Layout, key_of}
-use Rattle.fx_machine.specs.declared.traffic.Crossing.{Crossing}
-use Rattle.fx_machine.specs.Network.{Net, Exporter, Aggregation, Process, at_places, exporters_of, layout_of}
+use Rattle.fx_tables.specs.declared.traffic.Crossing.{Crossing}
+use Rattle.fx_tables.specs.Network.{Net, Exporter, Aggregation, Process, at_places, exporters_of, layout_of}
 use Rattle.fx_leaf.specs.declared.lost.Lost.{Lost}
 use Rattle.fx_leaf.specs.declared.lost.Lost.TheVariants.{Split, Behind}
 use Rattle.fx_leaf.specs.SoundLeaves.{Reached}

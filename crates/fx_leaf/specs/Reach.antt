@@ -4,10 +4,11 @@ use Rattle.std.specs.Prelude.{◌≡◌, ◌<◌, ◌==◌, ◌^◌, ℕ, true, 
 use Rattle.std.specs.Int.{bit_at}
 use Rattle.fx_boxes.specs.Boxes.{Bounds}
 use Rattle.fx_layout.specs.Keys.{Layout}
-use Rattle.fx_machine.specs.declared.observation.Selection.{Selection}
-use Rattle.fx_machine.specs.declared.traffic.Crossing.{Crossing}
-use Rattle.fx_machine.specs.Network.{Net, Point, Exporter, Aggregation, Process, numbered, before, points_of, at_places, exporters_of}
-use Rattle.fx_machine.specs.Occurrences.{watches}
+use Rattle.fx_tables.specs.declared.observation.Selection.{Selection}
+use Rattle.fx_tables.specs.declared.traffic.Crossing.{Crossing}
+use Rattle.fx_tables.specs.Network.{Net, Point, Exporter, Aggregation, Process, before, points_of, at_places, exporters_of}
+use Rattle.fx_base.specs.Entries.{numbered}
+use Rattle.fx_tables.specs.Occurrences.{watches}
 use Rattle.fx_leaf.specs.Splits.{Meets}
 use Rattle.fx_leaf.specs.Tables.{Numbering, Table, number_of_layout, entry, entry_from}
 use Rattle.fx_leaf.specs.Verdicts.{verdict}

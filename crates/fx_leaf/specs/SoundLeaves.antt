@@ -4,12 +4,13 @@ use Rattle.std.specs.List.{list_all}
 use Rattle.fx_elements.specs.Axes.{Fields, field, axis_width}
 use Rattle.fx_boxes.specs.Boxes.{Bounds, holds}
 use Rattle.fx_layout.specs.Keys.{Key, reads, refines, leading}
-use Rattle.fx_machine.specs.declared.aggregation.MatchEntry.{MatchEntry}
-use Rattle.fx_machine.specs.declared.traffic.Crossing.{Crossing}
-use Rattle.fx_machine.specs.declared.observation.Occurrence.{Occurrence}
-use Rattle.fx_machine.specs.declared.observation.Selection.{Selection}
-use Rattle.fx_machine.specs.Network.{Net, Point, Aggregation, Exporter, numbered, points_of, aggregations_of, exporters_of, layout_of}
-use Rattle.fx_machine.specs.Occurrences.{occurrences, watches, selects}
+use Rattle.fx_tables.specs.declared.aggregation.MatchEntry.{MatchEntry}
+use Rattle.fx_tables.specs.declared.traffic.Crossing.{Crossing}
+use Rattle.fx_tables.specs.declared.observation.Occurrence.{Occurrence}
+use Rattle.fx_tables.specs.declared.observation.Selection.{Selection}
+use Rattle.fx_tables.specs.Network.{Net, Point, Aggregation, Exporter, points_of, aggregations_of, exporters_of, layout_of}
+use Rattle.fx_base.specs.Entries.{numbered}
+use Rattle.fx_tables.specs.Occurrences.{occurrences, watches, selects}
 use Rattle.fx_machine.specs.Acts.{Act, Tally, Send, Hold}
 use Rattle.fx_machine.specs.Steps.{meet, coming_to}
 use Rattle.fx_leaf.specs.declared.verdict.Fate.{Fate}

@@ -4,11 +4,12 @@ use Rattle.fx_elements.specs.declared.axis.Axis.{Axis}
 use Rattle.fx_elements.specs.Axes.{Fields, axis_index}
 use Rattle.fx_boxes.specs.Boxes.{Bounds, holds, IsStrictlyInside}
 use Rattle.fx_layout.specs.Keys.{Key, key_of}
-use Rattle.fx_machine.specs.declared.traffic.Crossing.{Crossing}
-use Rattle.fx_machine.specs.declared.observation.Selection.{Selection}
-use Rattle.fx_machine.specs.Network.{Net, Point, Aggregation, numbered, points_of, aggregations_of, layout_of}
+use Rattle.fx_tables.specs.declared.traffic.Crossing.{Crossing}
+use Rattle.fx_tables.specs.declared.observation.Selection.{Selection}
+use Rattle.fx_tables.specs.Network.{Net, Point, Aggregation, points_of, aggregations_of, layout_of}
+use Rattle.fx_base.specs.Entries.{numbered}
 use Rattle.fx_machine.specs.Acts.{Hold}
-use Rattle.fx_machine.specs.Occurrences.{watches}
+use Rattle.fx_tables.specs.Occurrences.{watches}
 use Rattle.fx_leaf.specs.Fates.{acts_along}
 use Rattle.fx_leaf.specs.SoundLeaves.{Uncut, Reached, can_read, matches_packet}
 use Rattle.fx_leaf.specs.Standings.{low_at, high_at, match_fields}

@@ -5,7 +5,7 @@ use Rattle.fx_elements.specs.declared.axis.Axis.{Axis}
 use Rattle.fx_elements.specs.Axes.{Fields, axes, tops, axis_index, axis_width, same_axis, field}
 use Rattle.fx_boxes.specs.Boxes.{Bounds, holds}
 use Rattle.fx_layout.specs.Keys.{leading}
-use Rattle.fx_machine.specs.declared.aggregation.MatchEntry.{MatchEntry}
+use Rattle.fx_tables.specs.declared.aggregation.MatchEntry.{MatchEntry}
 use Rattle.fx_leaf.specs.SoundLeaves.{Uncut}
 
 abbrev pub low_at : Bounds → Axis → ℕ

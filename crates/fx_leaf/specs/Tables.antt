@@ -3,11 +3,11 @@ use Rattle.std.specs.Prelude.{◌≡◌, ℕ, ◌<◌, ◌≤◌, List, [], map,
 use Rattle.std.specs.List.{AllByRecursion}
 use Rattle.fx_boxes.specs.Boxes.{Bounds}
 use Rattle.fx_layout.specs.Keys.{Layout}
-use Rattle.fx_machine.specs.Limits.{layout_limit}
-use Rattle.fx_machine.specs.Network.{Net, Holder, Aggregation, Process, at_places, exporters_of, aggregations_of}
-use Rattle.fx_machine.specs.Ranks.{IsNetwork}
-use Rattle.fx_machine.specs.Orders.{Descends}
-use Rattle.fx_machine.specs.Matches.{HasEntries}
+use Rattle.fx_tables.specs.Limits.{layout_limit}
+use Rattle.fx_tables.specs.Network.{Net, Holder, Aggregation, Process, at_places, exporters_of, aggregations_of}
+use Rattle.fx_tables.specs.Ranks.{IsNetwork}
+use Rattle.fx_tables.specs.Orders.{Descends}
+use Rattle.fx_tables.specs.Matches.{HasEntries}
 use Rattle.fx_leaf.specs.declared.verdict.Fate.TheVariants.{Never}
 use Rattle.fx_leaf.specs.Standings.{standing, match_fields}
 use Rattle.fx_leaf.specs.Verdicts.{Verdict, both_judged, all_judged, where_passed, sent_verdict, layout_reads, tally_verdict}

@@ -1,14 +1,14 @@
 //! Bounds at which a region may be split.
 ghost use Rattle.std.specs.Prelude.{◌≡◌, None, IfSome, IfNone};
 ghost use Rattle.std.specs.List.{AllByRecursion};
-ghost use Rattle.fx_machine.specs.Matches.{IsEntry};
+ghost use Rattle.fx_tables.specs.Matches.{IsEntry};
 ghost use Rattle.fx_leaf.specs.Splits as splits;
 ghost use Rattle.fx_leaf.specs.Standings as standings;
 
 use crate::regions::{bounded, matching};
 use fx_boxes::Region;
 use fx_elements::{Axis, EVERY_AXIS};
-use fx_machine::MatchEntry;
+use fx_tables::MatchEntry;
 
 /// A bound of the other region on this axis that is strictly inside the region.
 fn bound_on(region: &Region, other: &Region, axis: Axis) -> Option<u128>

@@ -2,8 +2,8 @@
 ghost use Rattle.std.specs.Prelude.{◌≡◌, map, slice_get, Some};
 ghost use Rattle.std.specs.List.{AllByRecursion, list_all};
 ghost use Rattle.fx_layout.specs.Keys as keys;
-ghost use Rattle.fx_machine.specs.Matches.{HasEntries};
-ghost use Rattle.fx_machine.specs.Network as network;
+ghost use Rattle.fx_tables.specs.Matches.{HasEntries};
+ghost use Rattle.fx_tables.specs.Network as network;
 ghost use Rattle.fx_leaf.specs.Tables as by_table;
 ghost use Rattle.fx_leaf.specs.Verdicts as verdicts;
 
@@ -14,7 +14,7 @@ use crate::table::Row;
 use crate::verdict::{Fate, both_judged, where_passed};
 use fx_boxes::Region;
 use fx_layout::Layout;
-use fx_machine::{Aggregation, MatchEntry, Net, Process};
+use fx_tables::{Aggregation, MatchEntry, Net, Process};
 
 /// The verdict on records of the holder at this place.
 pub(crate) fn sent_by_holder(rows: &[Row], tables: &Tables<'_>, holder: usize) -> Option<Fate>

@@ -10,7 +10,7 @@ use crate::table::Scratch;
 use crate::verdict::Fate;
 use fx_boxes::Region;
 use fx_elements::Axis;
-use fx_machine::Crossing;
+use fx_tables::Crossing;
 
 /// What is to be said of the packets of a region that take a path.
 #[derive(Clone, Copy, Debug, PartialEq, Eq)]

@@ -15,7 +15,7 @@ use crate::verdict::Fate;
 use fx_base::Fault;
 use fx_boxes::Region;
 use fx_elements::Axis;
-use fx_machine::Crossing;
+use fx_tables::Crossing;
 
 /// The selection process that counts the packets of a leaf, by numbers from 1: its crossing's on the path, its
 /// observation point's on the crossing's device, and its own at the point.

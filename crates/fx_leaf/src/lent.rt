@@ -3,7 +3,7 @@ ghost use Rattle.std.specs.Prelude.{◌≡◌, slice_get};
 ghost use Rattle.fx_leaf.specs.Tables as by_table;
 
 use fx_layout::Layout;
-use fx_machine::Net;
+use fx_tables::Net;
 use std::marker::Model;
 
 /// A network, the order in which its collecting processes are judged, and its layouts by number.

@@ -2,8 +2,8 @@
 ghost use Rattle.std.specs.Prelude.{◌≡◌, ℕ, map, slice_get, Contains, Some, None, [], ◌∷◌, IfSome, IfNone};
 ghost use Rattle.std.specs.List.{AllByRecursion};
 ghost use Rattle.fx_layout.specs.Keys as keys;
-ghost use Rattle.fx_machine.specs.Matches.{HasEntries};
-ghost use Rattle.fx_machine.specs.Network as network;
+ghost use Rattle.fx_tables.specs.Matches.{HasEntries};
+ghost use Rattle.fx_tables.specs.Network as network;
 ghost use Rattle.fx_leaf.specs.Lost as by_lost;
 ghost use Rattle.fx_leaf.specs.Tables as by_table;
 ghost use Rattle.fx_leaf.specs.Verdicts as verdicts;
@@ -16,7 +16,7 @@ use crate::table::{Row, entry};
 use fx_boxes::Region;
 use fx_elements::Axis;
 use fx_layout::Layout;
-use fx_machine::{Aggregation, Net, Process};
+use fx_tables::{Aggregation, Net, Process};
 
 /// Why there is no verdict.
 #[derive(Clone, Copy)]

@@ -1,10 +1,10 @@
 //! What is known of the packets of a region that take a path, or what cuts the region.
 ghost use Rattle.std.specs.Prelude.{◌≡◌, true, List, [], ◌∷◌, if◌then◌else◌, Contains, Some, IfOk, IfErr};
 ghost use Rattle.fx_boxes.specs.Boxes as boxes;
-ghost use Rattle.fx_machine.specs.Network as network;
-ghost use Rattle.fx_machine.specs.Occurrences as met;
-ghost use Rattle.fx_machine.specs.declared.observation.Selection as of_selection;
-ghost use Rattle.fx_machine.specs.declared.traffic.Crossing as of_crossing;
+ghost use Rattle.fx_tables.specs.Network as network;
+ghost use Rattle.fx_tables.specs.Occurrences as met;
+ghost use Rattle.fx_tables.specs.declared.observation.Selection as of_selection;
+ghost use Rattle.fx_tables.specs.declared.traffic.Crossing as of_crossing;
 ghost use Rattle.fx_leaf.specs.Leaves as leaves;
 ghost use Rattle.fx_leaf.specs.Reach as reach;
 ghost use Rattle.fx_leaf.specs.Splits as splits;
@@ -19,7 +19,7 @@ use crate::table::Row;
 use crate::verdict::{Fate, where_passed};
 use fx_boxes::Region;
 use fx_elements::Axis;
-use fx_machine::{Crossing, Point, Selection};
+use fx_tables::{Crossing, Point, Selection};
 
 /// What is known of the packets, from the selection processes that were seen. None of them cuts the region.
 #[derive(Clone, Copy)]

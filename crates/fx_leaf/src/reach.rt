@@ -1,13 +1,13 @@
 //! Marks of the entries that the verdict on a path is worked out from: for each collecting process a number, whose bits
 //! are layouts.
 ghost use Rattle.std.specs.Prelude.{◌≡◌, ◌<◌, map, length, slice_get, slice_index, Some, []};
-ghost use Rattle.fx_machine.specs.Network as network;
+ghost use Rattle.fx_tables.specs.Network as network;
 ghost use Rattle.fx_leaf.specs.Reach as reach;
 ghost use Rattle.fx_leaf.specs.Tables as by_table;
 
 use crate::lent::Tables;
 use crate::table::LAYOUTS;
-use fx_machine::{Aggregation, Crossing, Net, Point, Process, Selection};
+use fx_tables::{Aggregation, Crossing, Net, Point, Process, Selection};
 
 /// These layouts too at the collecting process of this place, if there is one.
 fn mark_at(marks: &mut [u64], layouts: u64, process: usize)

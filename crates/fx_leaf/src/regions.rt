@@ -3,13 +3,13 @@ ghost use Rattle.std.specs.Prelude.{◌≡◌, ◌≤◌, ◌<◌, ◌↔◌, �
 ghost use Rattle.std.specs.List.{AllByRecursion};
 ghost use Rattle.fx_boxes.specs.Boxes as boxes;
 ghost use Rattle.fx_elements.specs.Axes as axes;
-ghost use Rattle.fx_machine.specs.Matches.{IsEntry};
+ghost use Rattle.fx_tables.specs.Matches.{IsEntry};
 ghost use Rattle.fx_leaf.specs.SoundLeaves as leaves;
 ghost use Rattle.fx_leaf.specs.Standings as standings;
 
 use fx_boxes::Region;
 use fx_elements::{Axis, top, width};
-use fx_machine::MatchEntry;
+use fx_tables::MatchEntry;
 
 /// No low of the region is above its high, as its type keeps.
 pub(crate) fn bounded(region: &Region)

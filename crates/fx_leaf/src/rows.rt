@@ -10,7 +10,7 @@ use crate::reach::{mark, marked_at};
 use crate::table::{LAYOUTS, Row};
 use crate::verdict::Fate;
 use fx_boxes::Region;
-use fx_machine::Crossing;
+use fx_tables::Crossing;
 
 /// Another entry for the collecting process at this place and the layout of this number.
 fn set_entry(rows: &mut [Row], process: usize, number: usize, verdict: Option<Fate>)

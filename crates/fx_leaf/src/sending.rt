@@ -1,12 +1,12 @@
 //! The verdict on records that are sent, from those at the processes to which they come.
 ghost use Rattle.std.specs.Prelude.{◌≡◌, map, slice_get, [], ◌∷◌};
-ghost use Rattle.fx_machine.specs.Network as network;
+ghost use Rattle.fx_tables.specs.Network as network;
 ghost use Rattle.fx_leaf.specs.Tables as by_table;
 ghost use Rattle.fx_leaf.specs.Verdicts as verdicts;
 
 use crate::table::{Row, entry};
 use crate::verdict::{Fate, both_judged, either_judged};
-use fx_machine::{Exporter, Net};
+use fx_tables::{Exporter, Net};
 
 /// The verdict on what is sent to a destination: never, where it leads outside the network.
 fn to_destination(

@@ -4,7 +4,7 @@ ghost use Rattle.fx_base.specs.Fault.{fault_at};
 ghost use Rattle.fx_base.specs.declared.fault.Place.TheVariants as places;
 ghost use Rattle.fx_boxes.specs.Boxes as boxes;
 ghost use Rattle.fx_elements.specs.Axes as axes;
-ghost use Rattle.fx_machine.specs.declared.traffic.Crossing as of_crossing;
+ghost use Rattle.fx_tables.specs.declared.traffic.Crossing as of_crossing;
 ghost use Rattle.fx_leaf.specs.Answers as answers;
 ghost use Rattle.fx_leaf.specs.Leaves as leaves;
 ghost use Rattle.fx_leaf.specs.Lost as by_lost;
@@ -22,7 +22,7 @@ use crate::regions::{bounded, standing_to};
 use crate::table::Scratch;
 use fx_boxes::Region;
 use fx_elements::Axis;
-use fx_machine::{Crossing, Selection};
+use fx_tables::{Crossing, Selection};
 
 impl<'a> Judge<'a> {
     /// Where what cuts the region behind a collecting process splits it.

@@ -9,7 +9,7 @@ use Rattle.fx_elements.specs.Axes.{axis_count, axis_index}
 use Rattle.fx_elements.proofs.EveryAxis.{on_axis, index_below}
 use Rattle.fx_layout.specs.declared.layout.Part.{Part}
 use Rattle.fx_layout.specs.Keys.{Layout, IsLayout, Ascends}
-use Rattle.fx_machine.specs.declared.record.Record.{Record}
+use Rattle.fx_tables.specs.declared.record.Record.{Record}
 use Rattle.fx_wire.specs.Sets.{SetParts, is_reserved}
 use Rattle.fx_wire.specs.Messages.{Message, front, complete}
 use Rattle.fx_wire.specs.Writing.{message_length, message_octets, HaveIds, IsMessage}

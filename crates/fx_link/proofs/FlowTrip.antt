@@ -10,7 +10,7 @@ use Rattle.fx_elements.specs.Axes.{Fields, field, axes, axis_width, is_address}
 use Rattle.fx_elements.proofs.EveryAxis.{on_no_axis, value_at}
 use Rattle.fx_layout.specs.declared.layout.Part.{Part}
 use Rattle.fx_layout.specs.Keys.{Layout, Key, HasBits, IsLayout, leading, key_of, can_stand}
-use Rattle.fx_machine.specs.declared.record.Record.{Record}
+use Rattle.fx_tables.specs.declared.record.Record.{Record}
 use Rattle.fx_wire.specs.Values.{Value}
 use Rattle.fx_session.specs.Flows.{Found, prefix_part, part_on, found_in, part_of, value_of, layout_of, fields_of, key_along, known, is_refused, key_by, counted, flow_by, first_where, is_prefix, is_prefix_length, is_packets, flow_in}
 use Rattle.fx_link.specs.Records.{is_whole, prefix_of}

@@ -1,7 +1,7 @@
 -- Records that are put one after another have the messages of those that are sent together.
 use Rattle.std.proofs.Common.{◌≡◌, ℕ, ◌+◌, ◌^◌, ◌≤◌, Bool, true, false, cond, lt-ltb, ltb-true, List, [], ◌∷◌, ◌++◌, length, refl, ap, sym, ◌∙◌, arith, append_assoc, length-append}
 use Rattle.std.proofs.lemmas.List.{append-nil}
-use Rattle.fx_machine.specs.declared.record.Record.{Record}
+use Rattle.fx_tables.specs.declared.record.Record.{Record}
 use Rattle.fx_link.proofs.StreamTrip.{joins_on}
 use Rattle.fx_link.specs.Sending.{Begun, IsSent, layout_of, knows, has_room, has_room_for, Sender, batch_octets, after_batch, joins, one_batch, batches_from, after_batches, stream_octets, after_sent, sent_octets}
 use Rattle.fx_link.specs.Outgoing.{Waiting, IsWaiting, Outgoing, with_octets, after_flush, with_all}

@@ -4,7 +4,7 @@ use Rattle.std.specs.Prelude.{nat_lt, OnOk}
 use Rattle.std.specs.Borrow.{Bor}
 use Rattle.std.specs.List.{position_or_len}
 use Rattle.fx_layout.specs.Keys.{Layout, same_layout}
-use Rattle.fx_machine.specs.declared.record.Record.{Record}
+use Rattle.fx_tables.specs.declared.record.Record.{Record}
 use Rattle.fx_wire.specs.Sets.{SetParts, set_parts}
 use Rattle.fx_wire.specs.Writing.{message_length, message_octets}
 use Rattle.fx_wire.specs.declared.header.Header.{Header}

@@ -5,7 +5,7 @@ use Rattle.std.specs.List.{AllByRecursion}
 use Rattle.std.proofs.lemmas.List.{append-nil}
 use Rattle.fx_layout.specs.Keys.{Layout, IsLayout, same_layout}
 use Rattle.fx_layout.proofs.Projections.{same_layout_is, and_true}
-use Rattle.fx_machine.specs.declared.record.Record.{Record}
+use Rattle.fx_tables.specs.declared.record.Record.{Record}
 use Rattle.fx_session.specs.Messages.{Known}
 use Rattle.fx_session.specs.Streams.{Standing, waits, read_all, fed}
 use Rattle.fx_session.proofs.StreamSteps.{pieces, fed_on, all_none}

@@ -1,6 +1,6 @@
 -- A link in the middle of what is done.
 use Rattle.std.specs.Prelude.{◌≡◌, ℕ, List, [], ◌++◌, take, drop}
-use Rattle.fx_machine.specs.declared.record.Record.{Record}
+use Rattle.fx_tables.specs.declared.record.Record.{Record}
 use Rattle.fx_session.specs.Streams.{Standing, fed}
 use Rattle.fx_link.specs.Outgoing.{Outgoing, after_flush, with_all}
 use Rattle.fx_link.specs.Wires.{Wire, sent_on}

@@ -1,6 +1,6 @@
 -- Records on their way into messages.
 use Rattle.std.specs.Prelude.{◌≡◌, ℕ, true, List, [], ◌∷◌, ◌++◌, if◌then◌else◌}
-use Rattle.fx_machine.specs.declared.record.Record.{Record}
+use Rattle.fx_tables.specs.declared.record.Record.{Record}
 use Rattle.fx_link.specs.Sending.{Sender, batch_octets, after_batch, joins, sent_octets, after_sent, Begun, has_room_for}
 
 -- what a sender keeps, and the records that wait for their message

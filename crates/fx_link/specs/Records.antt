@@ -8,7 +8,7 @@ use Rattle.fx_elements.specs.Axes.{axis_width}
 use Rattle.fx_elements.specs.Elements.{element_number, prefix_number, prefix_length_number}
 use Rattle.fx_layout.specs.declared.layout.Part.{Part}
 use Rattle.fx_layout.specs.Keys.{Layout}
-use Rattle.fx_machine.specs.declared.record.Record.{Record}
+use Rattle.fx_tables.specs.declared.record.Record.{Record}
 use Rattle.fx_wire.specs.declared.field.FieldSpecifier.{FieldSpecifier}
 
 -- ---- fields

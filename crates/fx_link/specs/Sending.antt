@@ -2,7 +2,7 @@
 use Rattle.std.specs.Prelude.{◌≡◌, ℕ, suc, ◌+◌, ◌%◌, ◌^◌, ◌<◌, ◌≤◌, ◌&&◌, Bool, true, nat_lt, if◌then◌else◌, List, [], ◌∷◌, ◌++◌, length, Some, None}
 use Rattle.std.specs.List.{list_any, position_or_len, AllByRecursion}
 use Rattle.fx_layout.specs.Keys.{Layout, HasBits, IsLayout, same_layout}
-use Rattle.fx_machine.specs.declared.record.Record.{Record}
+use Rattle.fx_tables.specs.declared.record.Record.{Record}
 use Rattle.fx_wire.specs.Sets.{SetParts}
 use Rattle.fx_wire.specs.Writing.{message_octets}
 use Rattle.fx_wire.specs.declared.header.Header.{Header}

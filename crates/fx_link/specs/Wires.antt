@@ -1,7 +1,7 @@
 -- Links between two times at which nothing is on its way.
 use Rattle.std.specs.Prelude.{◌≡◌, ℕ, zero, suc, ◌+◌, ◌^◌, ◌<◌, List, [], ◌++◌, length, take, drop}
 use Rattle.std.specs.List.{AllByRecursion}
-use Rattle.fx_machine.specs.declared.record.Record.{Record}
+use Rattle.fx_tables.specs.declared.record.Record.{Record}
 use Rattle.fx_session.specs.Streams.{Standing, start, fed}
 use Rattle.fx_link.specs.Sending.{Sender, new_sender, IsSender, IsSent, KeepsUp, sent_octets, after_sent}
 

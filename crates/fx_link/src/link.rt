@@ -13,7 +13,7 @@ use crate::links::Links;
 use crate::outlet::Outlet;
 use crate::stream::Stream;
 use fx_base::Fault;
-use fx_machine::Record;
+use fx_tables::Record;
 use fx_session::Session;
 use std::alloc::Global;
 use std::marker::Model;

@@ -9,7 +9,7 @@ ghost use Rattle.fx_link.specs.Sending as sending;
 use crate::sender::Sender;
 use crate::stream::Stream;
 use fx_base::Fault;
-use fx_machine::Record;
+use fx_tables::Record;
 use std::alloc::Global;
 use std::marker::Model;
 

@@ -8,7 +8,7 @@ ghost use Rattle.fx_link.specs.Records as written;
 use fx_base::Counts;
 use fx_elements::{Axis, width};
 use fx_layout::Part;
-use fx_machine::Record;
+use fx_tables::Record;
 use std::alloc::AllocError;
 
 /// A value of an axis, in as many octets as it is wide.

@@ -14,7 +14,7 @@ use crate::stream::Stream;
 use crate::templates::put_template;
 use fx_base::Fault;
 use fx_layout::Layout;
-use fx_machine::Record;
+use fx_tables::Record;
 use fx_wire::{Header, Set, put_message};
 use std::alloc::Global;
 use std::marker::Model;

@@ -39,7 +39,7 @@ impl<S: Sink> Sinks<S> {
 }
 
 impl<S: Sink> Links for Sinks<S> {
-    ghost use Rattle.fx_machine.specs.Network.{numbered};
+    ghost use Rattle.fx_base.specs.Entries.{numbered};
     ghost use Rattle.fx_link.specs.Links.{told};
 
     ghost put_on = { λ s link. told S.taken (numbered s.sinks.items link) };

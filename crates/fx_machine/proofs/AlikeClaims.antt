@@ -7,14 +7,15 @@ use Rattle.fx_elements.specs.Axes.{Fields, field, axes, axis_index}
 use Rattle.fx_elements.proofs.EveryAxis.{value_at, index_below}
 use Rattle.fx_boxes.specs.Boxes.{Bounds, IsFields, holds}
 use Rattle.fx_boxes.proofs.Holding.{holds_is}
-use Rattle.fx_machine.specs.declared.packet.Packet.{Packet}
-use Rattle.fx_machine.specs.Network.{Net, numbered}
-use Rattle.fx_machine.specs.Classes.{Class, IsOf, to_count}
+use Rattle.fx_tables.specs.declared.packet.Packet.{Packet}
+use Rattle.fx_tables.specs.Network.{Net}
+use Rattle.fx_base.specs.Entries.{numbered}
+use Rattle.fx_tables.specs.Classes.{Class, IsOf, to_count}
 use Rattle.fx_machine.specs.States.{State, opening}
 use Rattle.fx_machine.specs.Moves.{Runs}
 use Rattle.fx_machine.specs.Claim.{CountsEachOnce, CountsEachModulo, ExactlyOnce, OnceModulo, wrapped}
 use Rattle.fx_machine.specs.ClaimsOfSome.{ExactlyOnceOf, OnceModuloOf}
-use Rattle.fx_machine.specs.NamedAxes.{FitsElsewhere, HasZerosElsewhere, IsAlike, AreAlike, RegionNamesOnly, NamesOnly, ClassesNameOnly, is_of_six, HasSixValues}
+use Rattle.fx_tables.specs.NamedAxes.{FitsElsewhere, HasZerosElsewhere, IsAlike, AreAlike, RegionNamesOnly, NamesOnly, ClassesNameOnly, is_of_six, HasSixValues}
 use Rattle.fx_machine.proofs.AlikePackets.{all_head, all_tail, all_numbered, opening_same, runs_same, sum_same, to_count_alike, fit_same, of_class_same}
 
 pub all_cons : {A : Type 0} (P : A → Type 0) (x : A) (xs : List A) → P x → All P xs → All P (x ∷ xs)

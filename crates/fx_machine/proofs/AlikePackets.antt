@@ -7,21 +7,22 @@ use Rattle.fx_elements.specs.Axes.{Fields, field, tops, axes, axis_index, axis_w
 use Rattle.fx_boxes.specs.Boxes.{Bounds, holds, is_between}
 use Rattle.fx_layout.specs.declared.layout.Part.{Part}
 use Rattle.fx_layout.specs.Keys.{Layout, Key, key_of, leading, same_key}
-use Rattle.fx_machine.specs.declared.packet.Packet.{Packet}
-use Rattle.fx_machine.specs.declared.observation.Occurrence.{Occurrence}
-use Rattle.fx_machine.specs.declared.observation.Selection.{Selection}
-use Rattle.fx_machine.specs.declared.step.Step.{Step}
-use Rattle.fx_machine.specs.declared.step.Step.TheVariants.{Cross, Expire, Arrive}
-use Rattle.fx_machine.specs.declared.traffic.Crossing.{Crossing}
-use Rattle.fx_machine.specs.Network.{Net, Device, Point, Holder, numbered, entries, layout_of, points_of}
-use Rattle.fx_machine.specs.Classes.{Class, IsOf, exempts, path, paths_of, to_count}
-use Rattle.fx_machine.specs.Occurrences.{selects, occurrence, met_by, met_at, occurrences, watches}
+use Rattle.fx_tables.specs.declared.packet.Packet.{Packet}
+use Rattle.fx_tables.specs.declared.observation.Occurrence.{Occurrence}
+use Rattle.fx_tables.specs.declared.observation.Selection.{Selection}
+use Rattle.fx_run_text.specs.declared.step.Step.{Step}
+use Rattle.fx_run_text.specs.declared.step.Step.TheVariants.{Cross, Expire, Arrive}
+use Rattle.fx_tables.specs.declared.traffic.Crossing.{Crossing}
+use Rattle.fx_tables.specs.Network.{Net, Device, Point, Holder, entries, layout_of, points_of}
+use Rattle.fx_base.specs.Entries.{numbered}
+use Rattle.fx_tables.specs.Classes.{Class, IsOf, exempts, path, paths_of, to_count}
+use Rattle.fx_tables.specs.Occurrences.{selects, occurrence, met_by, met_at, occurrences, watches}
 use Rattle.fx_machine.specs.States.{State, Coming, coming_from, crossings_from, opening}
 use Rattle.fx_machine.specs.Acts.{Act, Hold, Choices, Outcome, all_acts}
 use Rattle.fx_machine.specs.Steps.{meet, crossing_acts, cross_now, after_cross, after, then_run, run, place}
 use Rattle.fx_machine.specs.Moves.{Runs}
 use Rattle.fx_machine.specs.Sums.{plain_sum, one_more, IsBelow, SumsFit}
-use Rattle.fx_machine.specs.NamedAxes.{Agree, FitsElsewhere, IsAlike, AreAlike, LayoutNamesOnly, RegionNamesOnly, PointNamesOnly, NamesOnly, ClassesNameOnly}
+use Rattle.fx_tables.specs.NamedAxes.{Agree, FitsElsewhere, IsAlike, AreAlike, LayoutNamesOnly, RegionNamesOnly, PointNamesOnly, NamesOnly, ClassesNameOnly}
 use Rattle.fx_machine.proofs.Running.{runs_of, steps_of}
 
 -- ---- all of a list

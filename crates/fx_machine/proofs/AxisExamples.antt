@@ -6,17 +6,18 @@ use Rattle.fx_elements.specs.declared.axis.Axis.TheVariants.{Source, Destination
 use Rattle.fx_boxes.specs.Boxes.{Bounds}
 use Rattle.fx_layout.specs.declared.layout.Part.{Part}
 use Rattle.fx_layout.specs.Keys.{Layout, Key, key_of}
-use Rattle.fx_machine.specs.declared.observation.Selection.{Selection}
-use Rattle.fx_machine.specs.declared.packet.Packet.{Packet}
-use Rattle.fx_machine.specs.declared.step.Step.TheVariants.{Cross}
-use Rattle.fx_machine.specs.declared.traffic.Crossing.{Crossing}
-use Rattle.fx_machine.specs.Network.{Net, Device, Holder, Point, numbered}
-use Rattle.fx_machine.specs.Classes.{Class, IsOf}
-use Rattle.fx_machine.specs.Occurrences.{occurrences}
+use Rattle.fx_tables.specs.declared.observation.Selection.{Selection}
+use Rattle.fx_tables.specs.declared.packet.Packet.{Packet}
+use Rattle.fx_run_text.specs.declared.step.Step.TheVariants.{Cross}
+use Rattle.fx_tables.specs.declared.traffic.Crossing.{Crossing}
+use Rattle.fx_tables.specs.Network.{Net, Device, Holder, Point}
+use Rattle.fx_base.specs.Entries.{numbered}
+use Rattle.fx_tables.specs.Classes.{Class, IsOf}
+use Rattle.fx_tables.specs.Occurrences.{occurrences}
 use Rattle.fx_machine.specs.States.{opening}
 use Rattle.fx_machine.specs.Acts.{Outcome}
 use Rattle.fx_machine.specs.Steps.{after}
-use Rattle.fx_machine.specs.NamedAxes.{Agree, FitsElsewhere, HasZerosElsewhere, HasSixValues, IsAlike, LayoutNamesOnly, RegionNamesOnly, PointNamesOnly, NamesOnly, ClassesNameOnly, is_of_six}
+use Rattle.fx_tables.specs.NamedAxes.{Agree, FitsElsewhere, HasZerosElsewhere, HasSixValues, IsAlike, LayoutNamesOnly, RegionNamesOnly, PointNamesOnly, NamesOnly, ClassesNameOnly, is_of_six}
 use Rattle.fx_machine.proofs.AlikePackets.{of_class_same}
 use Rattle.fx_machine.proofs.AlikeClaims.{all_cons, all_nil}
 

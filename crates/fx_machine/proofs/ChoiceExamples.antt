@@ -1,9 +1,9 @@
 -- The choice of a destination, worked out by the definitions.
 use Rattle.std.proofs.Common.{◌≡◌, List, [], ◌∷◌, Some, Ok, Err, refl}
-use Rattle.fx_machine.specs.declared.step.Step.{Step}
-use Rattle.fx_machine.specs.declared.step.Step.TheVariants.{Expire}
-use Rattle.fx_machine.specs.declared.step.HolderName.TheVariants.{Cache}
-use Rattle.fx_machine.specs.Network.{Exporter}
+use Rattle.fx_run_text.specs.declared.step.Step.{Step}
+use Rattle.fx_run_text.specs.declared.step.Step.TheVariants.{Expire}
+use Rattle.fx_tables.specs.declared.holder_name.HolderName.TheVariants.{Cache}
+use Rattle.fx_tables.specs.Network.{Exporter}
 use Rattle.fx_machine.specs.States.{opening}
 use Rattle.fx_machine.specs.Acts.{Outcome}
 use Rattle.fx_machine.specs.Steps.{run}

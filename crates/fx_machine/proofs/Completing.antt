@@ -3,19 +3,20 @@ use Rattle.std.proofs.Common.{◌≡◌, ℕ, zero, suc, ◌+◌, ◌<◌, ◌�
 use Rattle.std.proofs.lemmas.List.Elements.{All-nil, All-cons, All-head, All-tail, All-append}
 use Rattle.fx_elements.specs.Axes.{Fields}
 use Rattle.fx_layout.specs.Keys.{key_of}
-use Rattle.fx_machine.specs.declared.observation.Occurrence.{Occurrence}
-use Rattle.fx_machine.specs.declared.observation.Selection.{Selection}
-use Rattle.fx_machine.specs.declared.packet.Packet.{Packet}
-use Rattle.fx_machine.specs.declared.record.Record.{Record}
-use Rattle.fx_machine.specs.declared.traffic.Crossing.{Crossing}
-use Rattle.fx_machine.specs.Network.{Net, Point, Device, numbered, points_of, layout_of}
-use Rattle.fx_machine.specs.Classes.{Class, path}
-use Rattle.fx_machine.specs.Occurrences.{selects, occurrence, met_by, watches, met_at, occurrences}
+use Rattle.fx_tables.specs.declared.observation.Occurrence.{Occurrence}
+use Rattle.fx_tables.specs.declared.observation.Selection.{Selection}
+use Rattle.fx_tables.specs.declared.packet.Packet.{Packet}
+use Rattle.fx_tables.specs.declared.record.Record.{Record}
+use Rattle.fx_tables.specs.declared.traffic.Crossing.{Crossing}
+use Rattle.fx_tables.specs.Network.{Net, Point, Device, points_of, layout_of}
+use Rattle.fx_base.specs.Entries.{numbered}
+use Rattle.fx_tables.specs.Classes.{Class, path}
+use Rattle.fx_tables.specs.Occurrences.{selects, occurrence, met_by, watches, met_at, occurrences}
 use Rattle.fx_machine.specs.States.{State, Coming, crossings_from, coming_from, nothing_at}
 use Rattle.fx_machine.specs.Steps.{one_packet, crossing_acts, place, later}
 use Rattle.fx_machine.specs.Moves.{Runs, ended, moved, crosses}
-use Rattle.fx_machine.specs.Ranks.{IsRanked}
-use Rattle.fx_machine.specs.Runnable.{IsHolder, HasCaches, IsRunnable}
+use Rattle.fx_tables.specs.Ranks.{IsRanked}
+use Rattle.fx_tables.specs.Runnable.{IsHolder, HasCaches, IsRunnable}
 use Rattle.fx_machine.specs.CompleteRun.{HasCompleteRun}
 use Rattle.fx_machine.proofs.Lists.{nothing_empty, length_nothing}
 use Rattle.fx_machine.proofs.Running.{runs_on}

@@ -1,14 +1,15 @@
 -- A mark cleared is a crossing that leaves those to come.
 use Rattle.std.proofs.Common.{◌≡◌, ◌≢◌, ℕ, zero, suc, ◌+◌, ◌<◌, ◌==◌, Bool, true, false, cond, ◌&&◌, List, [], ◌∷◌, ◌++◌, length, replicate, Some, None, refl, sym, ap, ap₂, ◌∙◌, subst, arith, slice_get, slice_set, remove}
 use Rattle.fx_layout.proofs.Projections.{and_true, and_both}
-use Rattle.fx_machine.specs.Network.{numbered, entries}
+use Rattle.fx_base.specs.Entries.{numbered}
+use Rattle.fx_tables.specs.Network.{entries}
 use Rattle.fx_machine.specs.States.{Coming, replaced, crossings_from, coming_from, nothing_at, all_empty, Complete}
 use Rattle.fx_machine.specs.Steps.{place, later}
 use Rattle.fx_machine.specs.Comings.{marked, coming_of, is_marked, has_mark, flagged, cleared, marks, marks_of, none_marked, all_crossed}
-use Rattle.fx_machine.specs.declared.traffic.Crossing.{Crossing}
-use Rattle.fx_machine.specs.declared.packet.Packet.{Packet}
-use Rattle.fx_machine.specs.declared.record.Record.{Record}
-use Rattle.fx_machine.specs.Classes.{Class, path}
+use Rattle.fx_tables.specs.declared.traffic.Crossing.{Crossing}
+use Rattle.fx_tables.specs.declared.packet.Packet.{Packet}
+use Rattle.fx_tables.specs.declared.record.Record.{Record}
+use Rattle.fx_tables.specs.Classes.{Class, path}
 
 -- the crossing is there, and without it these are left
 abbrev pub Goes : List Coming → ℕ → ℕ → List Coming → Type 0

@@ -4,16 +4,16 @@ use Rattle.std.proofs.lemmas.List.Elements.{All-nil, All-cons, All-head, All-tai
 use Rattle.std.proofs.lemmas.Option.{slice_get_within, get_or_from_slice_get}
 use Rattle.fx_base.specs.declared.counts.Counts.{Counts}
 use Rattle.fx_layout.specs.Keys.{Key, refines, project}
-use Rattle.fx_machine.specs.declared.packet.Packet.{Packet}
-use Rattle.fx_machine.specs.declared.record.Record.{Record}
-use Rattle.fx_machine.specs.Network.{Net, Exporter, Aggregation, Process, Holder, at_places, before, exporters_of, takes, layout_of}
-use Rattle.fx_machine.specs.Classes.{Class}
+use Rattle.fx_tables.specs.declared.packet.Packet.{Packet}
+use Rattle.fx_tables.specs.declared.record.Record.{Record}
+use Rattle.fx_tables.specs.Network.{Net, Exporter, Aggregation, Process, Holder, at_places, before, exporters_of, takes, layout_of}
+use Rattle.fx_tables.specs.Classes.{Class}
 use Rattle.fx_machine.specs.States.{State, tallied, add_at, put_last}
 use Rattle.fx_machine.specs.Acts.{Act, Tally, Send, Hold}
 use Rattle.fx_machine.specs.Steps.{leaving, arriving, coming_to, acts_of, take_in}
 use Rattle.fx_machine.specs.Moves.{MayDoAll, Moves, Runs, ended, moved}
-use Rattle.fx_machine.specs.Ranks.{RisesTo, Rises, AllRise, ProcessRises, IsRanked}
-use Rattle.fx_machine.specs.Runnable.{IsHolder, HasDestinations, HasAggregations, IsRunnable}
+use Rattle.fx_tables.specs.Ranks.{RisesTo, Rises, AllRise, ProcessRises, IsRanked}
+use Rattle.fx_tables.specs.Runnable.{IsHolder, HasDestinations, HasAggregations, IsRunnable}
 use Rattle.fx_machine.proofs.Lists.{length_put_last}
 use Rattle.fx_machine.proofs.Running.{runs_on}
 use Rattle.fx_machine.proofs.Leaving.{there, put_is_set, leaves_holder, leaves_link}

@@ -1,13 +1,13 @@
 -- What came last at a place leaves it, and the place is as it was.
 use Rattle.std.proofs.Common.{◌≡◌, ℕ, zero, suc, ◌<◌, List, [], ◌∷◌, ◌++◌, length, Some, refl, sym, ap, ◌∙◌, subst, arith, slice_get, slice_set, remove, le_of_suc-le-suc}
-use Rattle.fx_machine.specs.declared.packet.Packet.{Packet}
-use Rattle.fx_machine.specs.declared.record.Record.{Record}
-use Rattle.fx_machine.specs.Network.{Net}
-use Rattle.fx_machine.specs.Classes.{Class}
+use Rattle.fx_tables.specs.declared.packet.Packet.{Packet}
+use Rattle.fx_tables.specs.declared.record.Record.{Record}
+use Rattle.fx_tables.specs.Network.{Net}
+use Rattle.fx_tables.specs.Classes.{Class}
 use Rattle.fx_machine.specs.States.{State, put_last, without}
 use Rattle.fx_machine.specs.Steps.{leaving, arriving}
 use Rattle.fx_machine.specs.Moves.{MayDoAll, Moves, expires, arrives}
-use Rattle.fx_machine.specs.Runnable.{IsHolder}
+use Rattle.fx_tables.specs.Runnable.{IsHolder}
 
 -- what stands at a place that is there
 pub there : {A : Type 0} (xs : List A) (n : ℕ) → n < length xs → (x : A) × (slice_get xs n ≡ Some x)

@@ -1,6 +1,6 @@
 pub mod Lists
 pub mod Takings
-pub mod Meterings
+pub mod MeteringActs
 pub mod Crossings
 pub mod Stepping
 pub mod Choosing
@@ -10,12 +10,6 @@ pub mod Leaving
 pub mod Emptying
 pub mod Completing
 pub mod Rows
-pub mod RunWords
-pub mod RunWordTexts
-pub mod RunLines
-pub mod RunStepTexts
-pub mod RunTexts
-pub mod RunPutting
 pub mod AlikePackets
 pub mod AlikeClaims
 mod SumExamples

@@ -1,9 +1,9 @@
 -- Runs with choices written are just what a network may do from move to move.
 use Rattle.std.proofs.Common.{◌≡◌, List, [], ◌∷◌, Ok, Err, refl, sym, ap, ◌∙◌, subst}
-use Rattle.fx_machine.specs.declared.packet.Packet.{Packet}
-use Rattle.fx_machine.specs.declared.step.Step.{Step}
-use Rattle.fx_machine.specs.Network.{Net}
-use Rattle.fx_machine.specs.Classes.{Class}
+use Rattle.fx_tables.specs.declared.packet.Packet.{Packet}
+use Rattle.fx_run_text.specs.declared.step.Step.{Step}
+use Rattle.fx_tables.specs.Network.{Net}
+use Rattle.fx_tables.specs.Classes.{Class}
 use Rattle.fx_machine.specs.States.{State}
 use Rattle.fx_machine.specs.Acts.{Outcome}
 use Rattle.fx_machine.specs.Steps.{after, run, then_run}

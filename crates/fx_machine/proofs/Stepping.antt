@@ -2,12 +2,13 @@
 use Rattle.std.proofs.Common.{◌≡◌, ℕ, zero, suc, ◌+◌, ◌%◌, ◌^◌, ◌<◌, ◌≤◌, Bool, true, false, cond, List, [], ◌∷◌, ◌++◌, length, map, drop, option_and_then, Option, Some, None, Ok, Err, refl, sym, ap, ap₂, ◌∙◌, arith, slice_get, slice_set, remove, le_of_suc-le-suc, append-nil}
 use Rattle.fx_base.specs.declared.counts.Counts.{Counts}
 use Rattle.fx_layout.specs.Keys.{Key, refines, project}
-use Rattle.fx_machine.specs.declared.packet.Packet.{Packet}
-use Rattle.fx_machine.specs.declared.record.Record.{Record}
-use Rattle.fx_machine.specs.declared.holding.Holding.{Holding}
-use Rattle.fx_machine.specs.declared.step.HolderName.{HolderName}
-use Rattle.fx_machine.specs.Network.{Net, Exporter, numbered, entries, at_places, named_by, holder_place}
-use Rattle.fx_machine.specs.Classes.{Class, path}
+use Rattle.fx_tables.specs.declared.packet.Packet.{Packet}
+use Rattle.fx_tables.specs.declared.record.Record.{Record}
+use Rattle.fx_tables.specs.declared.holding.Holding.{Holding}
+use Rattle.fx_tables.specs.declared.holder_name.HolderName.{HolderName}
+use Rattle.fx_tables.specs.Network.{Net, Exporter, entries, at_places, named_by, holder_place}
+use Rattle.fx_base.specs.Entries.{numbered}
+use Rattle.fx_tables.specs.Classes.{Class, path}
 use Rattle.fx_machine.specs.States.{State, Coming, tallied, sent_to, sent_to_all, put_last, without, told, add_at}
 use Rattle.fx_machine.specs.Acts.{Choices, Act, Tally, Send, Made, Outcome, act_all, all_used, sent_to_chosen, send_by_choice, taken_in, with_held, hold_in}
 use Rattle.fx_machine.specs.Steps.{one_packet, crossing_acts, place, after_cross, after_expire, expire_from, expire_at, arriving, after_arrive, arrive_from, arrive_at, link_place}

@@ -2,16 +2,17 @@
 use Rattle.std.proofs.Common.{◌≡◌, ◌⊎◌, inl, inr, ℕ, zero, suc, ◌<◌, true, false, cond, List, [], ◌∷◌, ◌++◌, length, All, Some, None, IfSome, refl, sym, ap, ◌∙◌, subst, arith, ne_eqb, slice_get, remove}
 use Rattle.std.proofs.lemmas.List.Elements.{All-nil, All-cons}
 use Rattle.fx_layout.specs.Keys.{key_of}
-use Rattle.fx_machine.specs.declared.packet.Packet.{Packet}
-use Rattle.fx_machine.specs.declared.record.Record.{Record}
-use Rattle.fx_machine.specs.declared.step.HolderName.TheVariants.{Cache}
-use Rattle.fx_machine.specs.Network.{Net, Exporter, numbered}
-use Rattle.fx_machine.specs.Classes.{path}
+use Rattle.fx_tables.specs.declared.packet.Packet.{Packet}
+use Rattle.fx_tables.specs.declared.record.Record.{Record}
+use Rattle.fx_tables.specs.declared.holder_name.HolderName.TheVariants.{Cache}
+use Rattle.fx_tables.specs.Network.{Net, Exporter}
+use Rattle.fx_base.specs.Entries.{numbered}
+use Rattle.fx_tables.specs.Classes.{path}
 use Rattle.fx_machine.specs.States.{State, opening, Complete, put_last, without}
 use Rattle.fx_machine.specs.Steps.{one_packet, crossing_acts}
 use Rattle.fx_machine.specs.Moves.{MayTakeIn, MayDoAll, Moves, crosses, expires, arrives, Runs, ended, moved}
-use Rattle.fx_machine.specs.Ranks.{ProcessRises, IsRanked}
-use Rattle.fx_machine.specs.Runnable.{IsHolder, HasDestinations, HasAggregations, HasCaches, IsRunnable}
+use Rattle.fx_tables.specs.Ranks.{ProcessRises, IsRanked}
+use Rattle.fx_tables.specs.Runnable.{IsHolder, HasDestinations, HasAggregations, HasCaches, IsRunnable}
 use Rattle.fx_machine.specs.CompleteRun.{HasCompleteRun}
 use Rattle.fx_machine.proofs.ClaimExamples.{source, net, customers, first_packet, one, by_choice}
 use Rattle.fx_machine.proofs.Emptying.{tally_tells}

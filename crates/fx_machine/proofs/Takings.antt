@@ -4,11 +4,11 @@ use Rattle.std.proofs.lemmas.Option.{slice_get-get_or}
 use Rattle.fx_base.specs.declared.counts.Counts.{Counts}
 use Rattle.fx_base.specs.Counts.{add_counts}
 use Rattle.fx_layout.specs.Keys.{Key, same_key}
-use Rattle.fx_machine.specs.declared.record.Record.{Record}
-use Rattle.fx_machine.specs.declared.holding.Holding.{Holding}
+use Rattle.fx_tables.specs.declared.record.Record.{Record}
+use Rattle.fx_tables.specs.declared.holding.Holding.{Holding}
 use Rattle.fx_machine.specs.declared.holding.Joined.{Joined}
 use Rattle.fx_machine.specs.declared.holding.Taking.{Taking}
-use Rattle.fx_machine.specs.Network.{numbered}
+use Rattle.fx_base.specs.Entries.{numbered}
 use Rattle.fx_machine.specs.Acts.{Choices, joined, taken_in}
 use Rattle.fx_machine.specs.Holds.{take_in_at, put_in, held_with, hold_all, with_counts, given_back, back_at, undone}
 

@@ -2,10 +2,10 @@
 use Rattle.std.proofs.Common.{◌≡◌, ℕ, suc, ◌+◌, ◌≤◌, true, false, cond, ◌==◌, List, [], ◌∷◌, ◌++◌, map, filter, Option, Some, None, refl, arith, slice_get}
 use Rattle.fx_elements.specs.Axes.{Fields}
 use Rattle.fx_layout.specs.Keys.{Key}
-use Rattle.fx_machine.specs.declared.observation.Occurrence.{Occurrence}
-use Rattle.fx_machine.specs.declared.traffic.Crossing.{Crossing}
-use Rattle.fx_machine.specs.Network.{Net, Aggregation, Exporter, Process, at_places, exporters_of, takes}
-use Rattle.fx_machine.specs.Occurrences.{occurrences}
+use Rattle.fx_tables.specs.declared.observation.Occurrence.{Occurrence}
+use Rattle.fx_tables.specs.declared.traffic.Crossing.{Crossing}
+use Rattle.fx_tables.specs.Network.{Net, Aggregation, Exporter, Process, at_places, exporters_of, takes}
+use Rattle.fx_tables.specs.Occurrences.{occurrences}
 use Rattle.fx_machine.specs.Acts.{Act, Tally, Send, Hold}
 use Rattle.fx_machine.specs.Steps.{meet, crossing_acts, leaving, take_in, acts_of, coming_to, arriving}
 

@@ -3,9 +3,10 @@ use Rattle.std.specs.Prelude.{◌≡◌, ◌%◌, ◌^◌, List, All}
 use Rattle.std.specs.Option.{option_map}
 use Rattle.fx_base.specs.declared.counts.Counts.{Counts}
 use Rattle.fx_layout.specs.Keys.{Key}
-use Rattle.fx_machine.specs.declared.packet.Packet.{Packet}
-use Rattle.fx_machine.specs.Network.{Net, numbered}
-use Rattle.fx_machine.specs.Classes.{Class, IsOf, to_count}
+use Rattle.fx_tables.specs.declared.packet.Packet.{Packet}
+use Rattle.fx_tables.specs.Network.{Net}
+use Rattle.fx_base.specs.Entries.{numbered}
+use Rattle.fx_tables.specs.Classes.{Class, IsOf, to_count}
 use Rattle.fx_machine.specs.States.{State, opening, Complete}
 use Rattle.fx_machine.specs.Moves.{Runs}
 use Rattle.fx_machine.specs.Sums.{plain_sum, total_at, SumsFit}

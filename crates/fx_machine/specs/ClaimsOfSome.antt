@@ -1,8 +1,9 @@
 -- What is promised of the packets of one kind alone.
 use Rattle.std.specs.Prelude.{List, All}
-use Rattle.fx_machine.specs.declared.packet.Packet.{Packet}
-use Rattle.fx_machine.specs.Network.{Net, numbered}
-use Rattle.fx_machine.specs.Classes.{Class, IsOf, to_count}
+use Rattle.fx_tables.specs.declared.packet.Packet.{Packet}
+use Rattle.fx_tables.specs.Network.{Net}
+use Rattle.fx_base.specs.Entries.{numbered}
+use Rattle.fx_tables.specs.Classes.{Class, IsOf, to_count}
 use Rattle.fx_machine.specs.States.{State, opening, Complete}
 use Rattle.fx_machine.specs.Moves.{Runs}
 use Rattle.fx_machine.specs.Sums.{SumsFit}

@@ -1,8 +1,9 @@
 -- Crossings to come, by a mark for each.
 use Rattle.std.specs.Prelude.{ℕ, suc, replicate, map, length, Bool, true, false, List, [], ◌∷◌, ◌++◌, Option, Some, None, if◌then◌else◌}
-use Rattle.fx_machine.specs.Network.{numbered, entries}
-use Rattle.fx_machine.specs.declared.packet.Packet.{Packet}
-use Rattle.fx_machine.specs.Classes.{Class, path}
+use Rattle.fx_base.specs.Entries.{numbered}
+use Rattle.fx_tables.specs.Network.{entries}
+use Rattle.fx_tables.specs.declared.packet.Packet.{Packet}
+use Rattle.fx_tables.specs.Classes.{Class, path}
 use Rattle.fx_machine.specs.States.{Coming, replaced}
 
 -- the marked crossings of a packet, numbered from this one

@@ -1,8 +1,8 @@
 -- Runs from the opening that end where nothing is left to do.
 use Rattle.std.specs.Prelude.{List}
-use Rattle.fx_machine.specs.declared.packet.Packet.{Packet}
-use Rattle.fx_machine.specs.Network.{Net}
-use Rattle.fx_machine.specs.Classes.{Class}
+use Rattle.fx_tables.specs.declared.packet.Packet.{Packet}
+use Rattle.fx_tables.specs.Network.{Net}
+use Rattle.fx_tables.specs.Classes.{Class}
 use Rattle.fx_machine.specs.States.{State, opening, Complete}
 use Rattle.fx_machine.specs.Moves.{Runs}
 

@@ -1,26 +1,14 @@
 -- Records taken in by several holders, and taken back.
-use Rattle.std.specs.Prelude.{ℕ, zero, suc, ◌-◌, List, [], ◌∷◌, take, length, map, option_and_then, Option, Some, None, slice_get, slice_set}
+use Rattle.std.specs.Prelude.{ℕ, zero, suc, ◌-◌, List, [], ◌∷◌, take, length, option_and_then, Option, Some, None, slice_get, slice_set}
 use Rattle.fx_base.specs.declared.counts.Counts.{Counts}
-use Rattle.fx_elements.specs.Axes.{Fields}
-use Rattle.fx_layout.specs.Keys.{key_of}
-use Rattle.fx_machine.specs.declared.record.Record.{Record}
-use Rattle.fx_machine.specs.declared.holding.Holding.{Holding}
+use Rattle.fx_tables.specs.declared.record.Record.{Record}
+use Rattle.fx_tables.specs.declared.holding.Holding.{Holding}
 use Rattle.fx_machine.specs.declared.holding.Joined.{Joined}
 use Rattle.fx_machine.specs.declared.holding.Taking.{Taking}
-use Rattle.fx_machine.specs.declared.observation.Occurrence.{Occurrence}
-use Rattle.fx_machine.specs.Network.{Holder, layout_of}
 use Rattle.fx_machine.specs.Acts.{Choices, Act, Hold, taken_in}
 
 abbrev pub hold_act : Holding → Act
 hold_act h = Hold h.holder h.key
-
--- the cache of an occurrence, with the packet's key there
-abbrev pub holding_of : List Holder → Fields → Occurrence → Holding
-holding_of holders fields o = record { holder = o.holder; key = key_of (layout_of (slice_get holders o.holder)) fields }
-
--- the caches of these occurrences, with the packet's keys
-abbrev pub met_holdings : List Holder → Fields → List Occurrence → List Holding
-met_holdings holders fields os = map (λ o. holding_of holders fields o) os
 
 -- ---- taking in
 

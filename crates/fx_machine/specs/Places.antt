@@ -1,7 +1,7 @@
 -- Where a key first stands.
 use Rattle.std.specs.Prelude.{◌≡◌, ℕ, zero, suc, ◌<◌, true, false, List, [], ◌∷◌, length, get_or}
 use Rattle.fx_layout.specs.Keys.{Key, same_key}
-use Rattle.fx_machine.specs.declared.record.Record.{Record}
+use Rattle.fx_tables.specs.declared.record.Record.{Record}
 
 -- none of the first so many has the key
 abbrev pub NoneBefore : ℕ → List Record → Key → Type 0

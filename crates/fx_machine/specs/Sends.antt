@@ -1,7 +1,8 @@
 -- A record put on several links.
 use Rattle.std.specs.Prelude.{ℕ, List, [], ◌∷◌, ◌++◌, drop, option_and_then, Option, Some, None, if◌then◌else◌}
-use Rattle.fx_machine.specs.declared.record.Record.{Record}
-use Rattle.fx_machine.specs.Network.{Exporter, numbered}
+use Rattle.fx_tables.specs.declared.record.Record.{Record}
+use Rattle.fx_tables.specs.Network.{Exporter}
+use Rattle.fx_base.specs.Entries.{numbered}
 use Rattle.fx_machine.specs.States.{put_last}
 use Rattle.fx_machine.specs.Acts.{Choices}
 

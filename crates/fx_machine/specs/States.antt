@@ -3,11 +3,11 @@ use Rattle.std.specs.Prelude.{◌≡◌, ℕ, zero, suc, ◌+◌, ◌%◌, ◌^�
 use Rattle.fx_base.specs.declared.counts.Counts.{Counts}
 use Rattle.fx_base.specs.Counts.{add_counts}
 use Rattle.fx_layout.specs.Keys.{Key, project, refines, same_key}
-use Rattle.fx_machine.specs.declared.packet.Packet.{Packet}
-use Rattle.fx_machine.specs.declared.record.Record.{Record}
-use Rattle.fx_machine.specs.Network.{Net}
-use Rattle.fx_machine.specs.Classes.{Class, path}
-use Rattle.fx_machine.specs.declared.traffic.Crossing.{Crossing}
+use Rattle.fx_tables.specs.declared.packet.Packet.{Packet}
+use Rattle.fx_tables.specs.declared.record.Record.{Record}
+use Rattle.fx_tables.specs.Network.{Net}
+use Rattle.fx_tables.specs.Classes.{Class, path}
+use Rattle.fx_tables.specs.declared.traffic.Crossing.{Crossing}
 
 -- a crossing to come, by the numbers of the packet and of the crossing on its path
 pub record Coming : Type 0 where

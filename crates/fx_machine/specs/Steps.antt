@@ -3,15 +3,16 @@ use Rattle.std.specs.Prelude.{ℕ, zero, suc, ◌&&◌, ◌==◌, List, [], ◌�
 use Rattle.fx_base.specs.declared.counts.Counts.{Counts}
 use Rattle.fx_elements.specs.Axes.{Fields}
 use Rattle.fx_layout.specs.Keys.{Key, key_of, project}
-use Rattle.fx_machine.specs.declared.packet.Packet.{Packet}
-use Rattle.fx_machine.specs.declared.record.Record.{Record}
-use Rattle.fx_machine.specs.declared.observation.Occurrence.{Occurrence}
-use Rattle.fx_machine.specs.declared.traffic.Crossing.{Crossing}
-use Rattle.fx_machine.specs.declared.step.Step.{Step}
-use Rattle.fx_machine.specs.declared.step.Step.TheVariants.{Cross, Expire, Arrive}
-use Rattle.fx_machine.specs.Network.{Net, Aggregation, Process, numbered, at_places, layout_of, exporters_of, takes, holder_place}
-use Rattle.fx_machine.specs.Classes.{Class, path}
-use Rattle.fx_machine.specs.Occurrences.{occurrences}
+use Rattle.fx_tables.specs.declared.packet.Packet.{Packet}
+use Rattle.fx_tables.specs.declared.record.Record.{Record}
+use Rattle.fx_tables.specs.declared.observation.Occurrence.{Occurrence}
+use Rattle.fx_tables.specs.declared.traffic.Crossing.{Crossing}
+use Rattle.fx_run_text.specs.declared.step.Step.{Step}
+use Rattle.fx_run_text.specs.declared.step.Step.TheVariants.{Cross, Expire, Arrive}
+use Rattle.fx_tables.specs.Network.{Net, Aggregation, Process, at_places, layout_of, exporters_of, takes, holder_place}
+use Rattle.fx_base.specs.Entries.{numbered}
+use Rattle.fx_tables.specs.Classes.{Class, path}
+use Rattle.fx_tables.specs.Occurrences.{occurrences}
 use Rattle.fx_machine.specs.States.{State, Coming, without}
 use Rattle.fx_machine.specs.Acts.{Choices, Act, Tally, Send, Hold, Outcome, all_acts}
 

@@ -1,9 +1,9 @@
 -- Lists of records, by place.
 use Rattle.std.specs.Prelude.{ℕ, List, slice_get, slice_set}
-use Rattle.fx_machine.specs.declared.record.Record.{Record}
-use Rattle.fx_machine.specs.Network.{Net, entries}
-use Rattle.fx_machine.specs.Classes.{Class}
-use Rattle.fx_machine.specs.declared.packet.Packet.{Packet}
+use Rattle.fx_tables.specs.declared.record.Record.{Record}
+use Rattle.fx_tables.specs.Network.{Net, entries}
+use Rattle.fx_tables.specs.Classes.{Class}
+use Rattle.fx_tables.specs.declared.packet.Packet.{Packet}
 use Rattle.fx_machine.specs.States.{State, without}
 
 -- the record of this number leaves the list at this place

@@ -3,7 +3,7 @@ ghost use Rattle.std.specs.Prelude.{◌≡◌, IfOk, Some, false};
 ghost use Rattle.fx_machine.specs.Comings as comings;
 ghost use Rattle.fx_machine.specs.States as states;
 
-use crate::lookup::numbered;
+use fx_base::numbered;
 use std::alloc::{AllocError, Global};
 use std::marker::Model;
 

@@ -4,20 +4,13 @@ ghost use Rattle.fx_base.specs.Fault.{fault_at};
 ghost use Rattle.fx_base.specs.declared.fault.Place.TheVariants as faults;
 ghost use Rattle.fx_machine.specs.Acts as acts;
 ghost use Rattle.fx_machine.specs.Holds as holds;
-ghost use Rattle.fx_machine.specs.Network as network;
-ghost use Rattle.fx_machine.specs.declared.record.Record as of_record;
+ghost use Rattle.fx_tables.specs.Network as network;
+ghost use Rattle.fx_tables.specs.declared.record.Record as of_record;
 
-use crate::record::{Record, Records};
+use crate::records::Records;
 use fx_base::{Counts, Fault};
-use fx_layout::Key;
+use fx_tables::{Holding, Record};
 use std::alloc::{AllocError, Global};
-
-/// A holder, by its place in the network's table, from 0, and the key of a record that it is to take in.
-#[derive(Debug, Drop)]
-pub struct Holding {
-    pub holder: usize,
-    pub key: Key,
-}
 
 /// The place of a held record, from 0, and what was counted under it before another joined it.
 #[derive(Clone, Copy, Debug, PartialEq, Eq)]

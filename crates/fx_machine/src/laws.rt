@@ -1,7 +1,5 @@
-//! Laws of the steps, of what a network names, and of the text of runs.
-ghost use Rattle.std.specs.Prelude.{◌≡◌, ◌↔◌, ℕ, Bool, List, Ok, Some, map};
-ghost use Rattle.std.specs.List.{AllByRecursion};
-ghost use Rattle.fx_base.specs.Lines.{text_lines};
+//! Laws of the steps, and of what a network names.
+ghost use Rattle.std.specs.Prelude.{◌≡◌, ◌↔◌, Bool, List, Ok};
 ghost use Rattle.fx_boxes.specs.Boxes.{IsFields};
 ghost use Rattle.fx_elements.specs.Axes.{Fields, field};
 ghost use Rattle.fx_elements.specs.declared.axis.Axis.{Axis};
@@ -9,23 +7,18 @@ ghost use Rattle.fx_elements.specs.declared.axis.Axis.TheVariants.{Version, Sour
 ghost use Rattle.fx_layout.specs.Keys.{Key};
 ghost use Rattle.fx_machine.specs.Claim.{ExactlyOnce, OnceModulo};
 ghost use Rattle.fx_machine.specs.ClaimsOfSome.{ExactlyOnceOf, OnceModuloOf};
-ghost use Rattle.fx_machine.specs.Classes as traffic;
+ghost use Rattle.fx_tables.specs.Classes as traffic;
 ghost use Rattle.fx_machine.specs.CompleteRun as complete_run;
 ghost use Rattle.fx_machine.specs.Moves as moves;
-ghost use Rattle.fx_machine.specs.NamedAxes as axes;
-ghost use Rattle.fx_machine.specs.Network as network;
-ghost use Rattle.fx_machine.specs.Ranks as ranks;
-ghost use Rattle.fx_machine.specs.RunLineText.{IsOneLine, IsRunLine, ended_line, run_line_text};
-ghost use Rattle.fx_machine.specs.RunReading.{line_of, words};
-ghost use Rattle.fx_machine.specs.RunText.{lines_text};
-ghost use Rattle.fx_machine.specs.Runnable as runnable;
+ghost use Rattle.fx_tables.specs.NamedAxes as axes;
+ghost use Rattle.fx_tables.specs.Network as network;
+ghost use Rattle.fx_tables.specs.Ranks as ranks;
+ghost use Rattle.fx_tables.specs.Runnable as runnable;
 ghost use Rattle.fx_machine.specs.States as states;
 ghost use Rattle.fx_machine.specs.Steps as steps;
 ghost use Rattle.fx_machine.specs.Sums.{SumsFit, plain_sum};
-ghost use Rattle.fx_machine.specs.declared.packet.Packet as of_packet;
-ghost use Rattle.fx_machine.specs.declared.run_line.RunLine as of_line;
-ghost use Rattle.fx_machine.specs.declared.step.Step as of_step;
-ghost use Rattle.fx_machine.specs.declared.text_version.TextVersion.{TextVersion};
+ghost use Rattle.fx_tables.specs.declared.packet.Packet as of_packet;
+ghost use Rattle.fx_run_text.specs.declared.step.Step as of_step;
 
 /// The steps with their choices written are just what a network may do: each step is a move, and each move is
 /// a step with some choices.
@@ -54,22 +47,6 @@ pub fn complete_runs_exist()
         (packets : List of_packet.Packet)
         → ranks.IsRanked net → runnable.IsRunnable net
         → complete_run.HasCompleteRun net classes packets }
-{}
-
-/// In either version the line of a packet, of a step and of the end is read as that, and no other line is.
-pub fn run_lines_have_one_text()
-    ensures read { (version : TextVersion) (x : of_line.RunLine) → IsRunLine version x
-        → line_of version (words (run_line_text version x)) ≡ Some x }
-    ensures only { (version : TextVersion) (line : List ℕ) (x : of_line.RunLine)
-        → line_of version (words line) ≡ Some x
-        → (line ≡ run_line_text version x) × IsRunLine version x }
-    // So they are lines of a text.
-    ensures one_line { (version : TextVersion) (x : of_line.RunLine) → IsRunLine version x
-        → IsOneLine (run_line_text version x) }
-    ensures lines { (lines : List (List ℕ)) → AllByRecursion IsOneLine lines
-        → text_lines (lines_text lines) ≡ map ended_line lines }
-    ensures text { (text : List ℕ) (lines : List (List ℕ)) → text_lines text ≡ map ended_line lines
-        → text ≡ lines_text lines }
 {}
 
 /// What a network doesn't name means nothing: it does the same with packets that are alike but for values on axes

@@ -2,14 +2,14 @@
 ghost use Rattle.std.specs.Prelude.{◌≡◌, ◌⊎◌, ◌≤◌, ◌++◌, List, [], ◌∷◌, length, drop, Some, None, IfOk, IfErr, OnOk, OnErr, slice_get};
 ghost use Rattle.fx_base.specs.Fault.{fault_at};
 ghost use Rattle.fx_base.specs.declared.fault.Place.TheVariants as faults;
-ghost use Rattle.fx_machine.specs.Network as network;
+ghost use Rattle.fx_tables.specs.Network as network;
 ghost use Rattle.fx_machine.specs.Sends as sends;
 ghost use Rattle.fx_machine.specs.States as states;
-ghost use Rattle.fx_machine.specs.declared.record.Record as of_record;
+ghost use Rattle.fx_tables.specs.declared.record.Record as of_record;
 
-use crate::exporter::Exporter;
-use crate::record::{Record, Records};
-use fx_base::Fault;
+use crate::records::Records;
+use fx_base::{Fault, numbered};
+use fx_tables::{Exporter, Record};
 use std::alloc::{AllocError, Global};
 
 /// The link of a destination comes last, if it has one.
@@ -32,17 +32,6 @@ fn push_links(links: &mut Vec<usize>, destinations: &[Option<usize>]) -> Result<
     Ok(())
 }
 
-/// The destination of this number, from 1.
-fn destination_at(destinations: &[Option<usize>], number: u64) -> Option<Option<usize>>
-    ensures { result ≡ network.numbered destinations.now number }
-{
-    if number == 0 {
-        return None;
-    }
-    let place = (number - 1) as usize;
-    destinations.get(place).copied()
-}
-
 /// The destination that the next choice names.
 fn next_destination(
     destinations: &[Option<usize>],
@@ -54,7 +43,7 @@ fn next_destination(
         [] => None,
         [choice, ..] => match choice {
             None => None,
-            Some(number) => destination_at(destinations, *number),
+            Some(number) => numbered(destinations, *number).copied(),
         },
     }
 }

@@ -2,20 +2,16 @@
 ghost use Rattle.std.specs.Prelude.{◌≡◌, ◌⊎◌, ◌↔◌, [], All, Ok, Err, OnOk, OnErr, IfOk, IfErr, IsTrue};
 ghost use Rattle.fx_base.specs.Fault.{fault_at};
 ghost use Rattle.fx_base.specs.declared.fault.Place.TheVariants as faults;
-ghost use Rattle.fx_machine.specs.Classes as traffic;
-ghost use Rattle.fx_machine.specs.Network as network;
+ghost use Rattle.fx_tables.specs.Classes as traffic;
+ghost use Rattle.fx_tables.specs.Network as network;
 ghost use Rattle.fx_machine.specs.States as states;
 ghost use Rattle.fx_machine.specs.Steps as steps;
-ghost use Rattle.fx_machine.specs.declared.packet.Packet as of_packet;
+ghost use Rattle.fx_tables.specs.declared.packet.Packet as of_packet;
 
-use crate::lookup::numbered;
-use crate::net::Net;
-use crate::packet::Packet;
-use crate::record::Record;
-use crate::step::Step;
 use crate::store::Store;
-use crate::traffic::{Class, Classes};
 use fx_base::Fault;
+use fx_run_text::Step;
+use fx_tables::{Classes, Net, Packet, Record};
 use std::alloc::Global;
 use std::marker::Model;
 
@@ -42,24 +38,11 @@ impl<'a> Model for State<'a> {
     } };
 }
 
-/// Whether a packet is of its class and has one of its paths.
-fn is_of(classes: &[Class], packet: &Packet) -> bool
-    ensures { IsTrue result ↔ traffic.IsOf packet.now (network.numbered classes.now packet.now.class) }
-{
-    match numbered(classes, packet.class) {
-        None => false,
-        Some(class) => {
-            let region = class.region();
-            region.holds(&packet.fields) && numbered(class.paths(), packet.path).is_some()
-        }
-    }
-}
-
 /// Whether all packets are of their classes.
-fn all_of(classes: &[Class], packets: &[Packet]) -> bool
+fn all_of(classes: &Classes, packets: &[Packet]) -> bool
     ensures { IsTrue result ↔ All (λ packet. traffic.IsOf packet (network.numbered classes.now packet.class)) packets.now }
 {
-    packets.iter().all(|packet| is_of(classes, packet))
+    packets.iter().all(|packet| classes.contains(packet))
 }
 
 impl<'a> State<'a> {
@@ -79,10 +62,10 @@ impl<'a> State<'a> {
         ensures err { IfErr result (λ e. ((e ≡ fault_at 856 faults.None) × (All (λ packet. traffic.IsOf packet (network.numbered classes.now packet.class)) packets.items → ⊥))
             ⊎ ((e ≡ fault_at 900 faults.None) × All (λ packet. traffic.IsOf packet (network.numbered classes.now packet.class)) packets.items)) }
     {
-        if !all_of(classes.as_slice(), packets.as_slice()) {
+        if !all_of(classes, packets.as_slice()) {
             return Err(Fault::bare(856));
         }
-        let store = Store::open(alloc, net, classes.as_slice(), packets.as_slice())?;
+        let store = Store::open(alloc, net, classes, packets.as_slice())?;
         Ok(State {
             alloc,
             net,
@@ -122,7 +105,7 @@ impl<'a> State<'a> {
             } => self.store.cross(
                 self.alloc,
                 self.net,
-                self.classes.as_slice(),
+                self.classes,
                 self.packets.as_slice(),
                 *packet,
                 *crossing,

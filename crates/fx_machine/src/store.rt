@@ -3,25 +3,20 @@ ghost use Rattle.std.specs.Prelude.{◌≡◌, ◌⊎◌, ◌&&◌, [], Ok, Err,
 ghost use Rattle.fx_base.specs.declared.fault.Place.TheVariants as faults;
 ghost use Rattle.fx_machine.specs.Comings as comings;
 ghost use Rattle.fx_machine.specs.Holds as holds;
-ghost use Rattle.fx_machine.specs.Classes as traffic;
-ghost use Rattle.fx_machine.specs.Network as network;
+ghost use Rattle.fx_tables.specs.Classes as traffic;
+ghost use Rattle.fx_tables.specs.Network as network;
 ghost use Rattle.fx_machine.specs.States as states;
 ghost use Rattle.fx_machine.specs.Steps as steps;
 ghost use Rattle.fx_machine.specs.Stores as stores;
 
 use crate::coming::{Marks, all_crossed, clear, is_to_come};
 use crate::handling::handling_at;
-use crate::holding::{Holding, give_all_back, hold_all};
-use crate::lookup::{entry_at, link_place, named_by, numbered, path_of};
-use crate::metering::met_holdings;
-use crate::net::Net;
-use crate::packet::Packet;
-use crate::record::{Record, Records};
+use crate::holding::{give_all_back, hold_all};
+use crate::records::Records;
 use crate::sending::{choices_from, chosen_links, put_all};
-use crate::step::HolderName;
 use crate::tallying::send_and_tally;
-use crate::traffic::Class;
-use fx_base::{Counts, Fault};
+use fx_base::{Counts, Fault, entry_at, numbered};
+use fx_tables::{Classes, HolderName, Holding, Net, Packet, Record};
 use std::alloc::{AllocError, Global};
 use std::marker::Model;
 
@@ -84,16 +79,26 @@ fn nothing_left(to_come: &[Marks], held: &[Records], carried: &[Records]) -> boo
 /// All crossings of these packets.
 fn all_to_come(
     alloc: Global,
-    classes: &[Class],
+    classes: &Classes,
     packets: &[Packet],
 ) -> Result<Vec<Marks>, AllocError>
     ensures { IfOk result (λ to_come. comings.coming_of 1 to_come.items ≡ states.coming_from classes.now 1 packets.now) }
 {
     let mut to_come: Vec<Marks> = Vec::new(alloc);
     for packet in packets {
-        to_come.push(Marks::new(alloc, path_of(classes, packet).len())?)?;
+        to_come.push(Marks::new(alloc, classes.path_of(packet).len())?)?;
     }
     Ok(to_come)
+}
+
+/// The place of the link of this number, from 1.
+fn link_place(link: u64) -> Option<usize>
+    ensures { result ≡ steps.link_place link }
+{
+    if link == 0 {
+        return None;
+    }
+    Some((link - 1) as usize)
 }
 
 /// The record of this number leaves the list at this place.
@@ -110,17 +115,17 @@ fn take_out_at(lists: &mut Vec<Records>, place: usize, number: u64)
 fn crossing_holdings(
     alloc: Global,
     net: &Net,
-    classes: &[Class],
+    classes: &Classes,
     packet: &Packet,
     crossing: u64,
 ) -> Result<Vec<Holding>, AllocError>
     ensures { IfOk result (λ holdings. map holds.hold_act holdings.items ≡ steps.crossing_acts net.now packet.now.fields (network.numbered (traffic.path classes.now packet.now) crossing)) }
 {
-    let Some(found) = numbered(path_of(classes, packet), crossing) else {
+    let Some(found) = numbered(classes.path_of(packet), crossing) else {
         return Ok(Vec::new(alloc));
     };
     let occurrences = net.occurrences(alloc, found, &packet.fields)?;
-    met_holdings(alloc, net.holders(), occurrences.as_slice(), &packet.fields)
+    net.holdings(alloc, occurrences.as_slice(), &packet.fields)
 }
 
 impl Store {
@@ -128,7 +133,7 @@ impl Store {
     pub fn open(
         alloc: Global,
         net: &Net,
-        classes: &[Class],
+        classes: &Classes,
         packets: &[Packet],
     ) -> Result<Store, AllocError>
         ensures { IfOk result (λ store. store ≡ states.opening net.now classes.now packets.now) }
@@ -172,7 +177,7 @@ impl Store {
         &mut self,
         alloc: Global,
         net: &Net,
-        classes: &[Class],
+        classes: &Classes,
         packets: &[Packet],
         packet: u64,
         crossing: u64,
@@ -227,7 +232,7 @@ impl Store {
             return Err(Fault::bare(853));
         };
         let entry = found.copy();
-        let exporters = named_by(net.holders(), place);
+        let exporters = net.named_by(place);
         let (links, used) = chosen_links(alloc, net.exporters(), exporters, choices)?;
         if used < choices.len() {
             return Err(Fault::bare(852));

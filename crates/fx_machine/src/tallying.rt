@@ -5,10 +5,11 @@ ghost use Rattle.fx_machine.specs.Sends as sends;
 ghost use Rattle.fx_machine.specs.States as states;
 ghost use Rattle.fx_machine.specs.Tallies as sums;
 
-use crate::record::{Record, Records};
+use crate::records::Records;
 use crate::sending::{put_all, take_all_back};
 use fx_base::Counts;
 use fx_layout::{Key, Layout};
+use fx_tables::Record;
 use std::alloc::AllocError;
 
 /// The first place of the key.

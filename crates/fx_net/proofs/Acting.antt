@@ -3,9 +3,10 @@ use Rattle.std.proofs.Common.{◌≡◌, ◌≢◌, ℕ, ◌<◌, ◌^◌, Bool,
 use Rattle.std.specs.Prelude.{OnOk, is_some}
 use Rattle.fx_boxes.specs.Boxes.{holds}
 use Rattle.fx_elements.specs.Axes.{Fields}
-use Rattle.fx_machine.specs.Classes.{Class}
-use Rattle.fx_machine.specs.Network.{Net, numbered}
-use Rattle.fx_machine.specs.declared.step.HolderName.TheVariants as holder
+use Rattle.fx_tables.specs.Classes.{Class}
+use Rattle.fx_tables.specs.Network.{Net}
+use Rattle.fx_base.specs.Entries.{numbered}
+use Rattle.fx_tables.specs.declared.holder_name.HolderName.TheVariants as holder
 use Rattle.fx_pcap.specs.Captures as captures
 use Rattle.fx_plan.specs.Tables.{net_of}
 use Rattle.fx_net.specs.declared.action.Action.TheVariants as action

@@ -3,7 +3,7 @@ use Rattle.std.proofs.Common.{◌≡◌, ℕ, zero, suc, ◌+◌, ◌<◌, ◌�
 use Rattle.std.proofs.lemmas.List.{set-get_or}
 use Rattle.std.proofs.lemmas.Option.{slice_get-get_or, slice_get_past}
 use Rattle.fx_link.specs.Ongoing.{Ongoing}
-use Rattle.fx_machine.specs.declared.record.Record.{Record}
+use Rattle.fx_tables.specs.declared.record.Record.{Record}
 use Rattle.fx_store.specs.Flows.{Entry, least}
 use Rattle.fx_net.specs.Contents.{changed, joined, stored_at}
 use Rattle.fx_net.specs.Exporting.{put_each, with_waiting}

@@ -4,9 +4,9 @@ use Rattle.std.specs.Prelude.{position}
 use Rattle.fx_base.specs.declared.fault.Fault.{Fault}
 use Rattle.fx_boxes.specs.Boxes.{IsFields, holds}
 use Rattle.fx_elements.specs.Axes.{Fields}
-use Rattle.fx_machine.specs.declared.packet.Packet.{Packet}
-use Rattle.fx_machine.specs.Classes.{Class}
-use Rattle.fx_machine.specs.Network.{Net}
+use Rattle.fx_tables.specs.declared.packet.Packet.{Packet}
+use Rattle.fx_tables.specs.Classes.{Class}
+use Rattle.fx_tables.specs.Network.{Net}
 use Rattle.fx_pcap.specs.Captures as captures
 use Rattle.fx_net.specs.declared.action.Action.TheVariants as action
 use Rattle.fx_net.specs.Contents.{Contents}

@@ -4,12 +4,12 @@ use Rattle.std.specs.List.{flat_map}
 use Rattle.std.proofs.Math.Nat.{min-eq_left}
 use Rattle.std.proofs.Math.Seq.{drop-append_seam, take-length}
 use Rattle.std.proofs.lemmas.List.{length-drop, length-map}
-use Rattle.fx_machine.specs.Network.{Holder}
+use Rattle.fx_tables.specs.Network.{Holder}
 use Rattle.fx_base.specs.declared.fault.Fault.{Fault}
 use Rattle.fx_link.specs.Ongoing.{Ongoing, at_rest}
 use Rattle.fx_link.specs.Wires.{new_wire}
-use Rattle.fx_plan.specs.declared.network.Network.{Network}
-use Rattle.fx_plan.specs.declared.network_device.NetworkDevice.{NetworkDevice}
+use Rattle.fx_topology.specs.declared.network.Network.{Network}
+use Rattle.fx_topology.specs.declared.network_device.NetworkDevice.{NetworkDevice}
 use Rattle.fx_plan.specs.Labels.{Label, exporting_labels}
 use Rattle.fx_plan.specs.Tables.{net_of, cache_holder, cache_holders}
 use Rattle.fx_net.specs.Opening.{store_of, stores_of, caches_in, aggregations_in, aggregation_stores, new_links}

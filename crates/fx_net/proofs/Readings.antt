@@ -4,8 +4,8 @@ use Rattle.fx_base.specs.declared.fault.Fault.{Fault}
 use Rattle.fx_base.specs.Lines.{Lines, AtLine, Advances}
 use Rattle.fx_link.specs.Links.{Put}
 use Rattle.fx_pcap.specs.Captures as captures
-use Rattle.fx_plan.specs.declared.network.Network.{Network}
-use Rattle.fx_plan.specs.Ranks.{IsWhole}
+use Rattle.fx_topology.specs.declared.network.Network.{Network}
+use Rattle.fx_ranks.specs.Ranks.{IsWhole}
 use Rattle.fx_plan.specs.Tables.{net_of}
 use Rattle.fx_net.specs.Contents.{Contents}
 use Rattle.fx_net.specs.Doings.{EmptiesNetwork}

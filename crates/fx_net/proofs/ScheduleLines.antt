@@ -9,10 +9,11 @@ use Rattle.fx_elements.proofs.Cuts.{chosen}
 use Rattle.fx_elements.proofs.Decimals.{number_64}
 use Rattle.fx_elements.specs.Spelling.{largest}
 use Rattle.fx_elements.proofs.Addresses.{by_some, some_is, decimal_avoids}
-use Rattle.fx_machine.specs.RunText.{IsNumber}
-use Rattle.fx_machine.specs.RunReading.{Words, words, first_word, number_first, at_end}
-use Rattle.fx_machine.proofs.RunWordTexts.{word_found, number_word, same_word, end_found}
-use Rattle.fx_machine.proofs.RunTexts.{IsWord, AreWords, words_join, written}
+use Rattle.fx_run_text.specs.RunText.{IsNumber}
+use Rattle.fx_elements.specs.Words.{Words, words, first_word, number_first}
+use Rattle.fx_run_text.specs.RunReading.{at_end}
+use Rattle.fx_run_text.proofs.RunWordTexts.{word_found, number_word, same_word, end_found}
+use Rattle.fx_run_text.proofs.RunTexts.{IsWord, AreWords, words_join, written}
 use Rattle.fx_net.specs.declared.action.Action.{Action}
 use Rattle.fx_net.specs.declared.action.Action.TheVariants.{Next, NextOf, Expire, Emit, Carry, Use}
 use Rattle.fx_net.specs.Schedule.{action_words, IsAction, is_piece, Asks, ReadsLine}

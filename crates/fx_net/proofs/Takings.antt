@@ -2,8 +2,8 @@
 use Rattle.std.proofs.Common.{◌≡◌, ℕ, zero, suc, ◌<◌, ◌≤◌, List, [], ◌∷◌, ◌++◌, length, set, get_or, Option, Some, None, option_map, refl, sym, ap, ◌∙◌, append-nil, append_assoc}
 use Rattle.std.specs.Prelude.{option_and_then, if◌then◌else◌}
 use Rattle.fx_base.specs.declared.counts.Counts.{Counts}
-use Rattle.fx_machine.specs.declared.holding.Holding.{Holding}
-use Rattle.fx_machine.specs.Network.{Net}
+use Rattle.fx_tables.specs.declared.holding.Holding.{Holding}
+use Rattle.fx_tables.specs.Network.{Net}
 use Rattle.fx_store.specs.Flows.{Entry}
 use Rattle.fx_net.specs.declared.leaving.Leaver.{Leaver}
 use Rattle.fx_net.specs.Stores.{Stored, with_counts, makes_room}

@@ -1,10 +1,10 @@
 -- Records that arrive at collecting processes.
 use Rattle.std.specs.Prelude.{◌≡◌, ℕ, ◌==◌, Bool, false, List, [], ◌∷◌, length, option_map, Option, Some, None, slice_get, if◌then◌else◌}
 use Rattle.fx_layout.specs.Keys.{Key}
-use Rattle.fx_machine.specs.declared.holding.Holding.{Holding}
-use Rattle.fx_machine.specs.declared.record.Record.{Record}
-use Rattle.fx_machine.specs.Network.{Net, Process, process_at, aggregations_of}
-use Rattle.fx_machine.specs.Handling.{aggregated}
+use Rattle.fx_tables.specs.declared.holding.Holding.{Holding}
+use Rattle.fx_tables.specs.declared.record.Record.{Record}
+use Rattle.fx_tables.specs.Network.{Net, Process, process_at, aggregations_of}
+use Rattle.fx_tables.specs.Takers.{aggregated}
 use Rattle.fx_link.specs.Ongoing.{Ongoing, after_carry}
 use Rattle.fx_collect.specs.Totals.{with_record}
 use Rattle.fx_net.specs.Contents.{Contents, changed}

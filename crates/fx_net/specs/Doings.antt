@@ -2,15 +2,16 @@
 use Rattle.std.specs.Prelude.{◌≡◌, ◌≢◌, ℕ, zero, suc, ◌==◌, ◌^◌, ◌≤◌, ◌<◌, Bool, true, false, List, [], ◌∷◌, map, length, position, slice_get, Option, Some, None, IsSome}
 use Rattle.std.specs.List.{flat_map, range_with_len}
 use Rattle.fx_boxes.specs.Boxes.{IsFields, holds}
-use Rattle.fx_machine.specs.declared.packet.Packet.{Packet}
-use Rattle.fx_machine.specs.declared.step.HolderName.{HolderName}
-use Rattle.fx_machine.specs.declared.step.HolderName.TheVariants as holder
-use Rattle.fx_machine.specs.Network.{Net, Device, Exporter, Process, Aggregation, aggregations_of, numbered, holder_place}
-use Rattle.fx_machine.specs.Classes.{Class, path}
+use Rattle.fx_tables.specs.declared.packet.Packet.{Packet}
+use Rattle.fx_tables.specs.declared.holder_name.HolderName.{HolderName}
+use Rattle.fx_tables.specs.declared.holder_name.HolderName.TheVariants as holder
+use Rattle.fx_tables.specs.Network.{Net, Device, Exporter, Process, Aggregation, aggregations_of, holder_place}
+use Rattle.fx_base.specs.Entries.{numbered}
+use Rattle.fx_tables.specs.Classes.{Class, path}
 use Rattle.fx_machine.specs.Steps.{one_packet}
 use Rattle.fx_link.specs.Links.{Put}
 use Rattle.fx_pcap.specs.Captures.{Seen}
-use Rattle.fx_plan.specs.declared.network.Network.{Network}
+use Rattle.fx_topology.specs.declared.network.Network.{Network}
 use Rattle.fx_plan.specs.Tables.{net_of}
 use Rattle.fx_plan.specs.ExporterPlaces.{exporter_place}
 use Rattle.fx_net.specs.declared.action.Action.{Action}

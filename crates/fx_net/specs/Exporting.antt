@@ -1,7 +1,7 @@
 -- Records that exporting processes send (RFC 6728, section 4.4).
 use Rattle.std.specs.Prelude.{ℕ, List, [], ◌∷◌}
-use Rattle.fx_machine.specs.declared.record.Record.{Record}
-use Rattle.fx_machine.specs.Network.{Net}
+use Rattle.fx_tables.specs.declared.record.Record.{Record}
+use Rattle.fx_tables.specs.Network.{Net}
 use Rattle.fx_runs.specs.Destinations.{links_used}
 use Rattle.fx_link.specs.Outgoing.{with_one}
 use Rattle.fx_link.specs.Ongoing.{Ongoing}

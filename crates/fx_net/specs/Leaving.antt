@@ -1,7 +1,7 @@
 -- Records that leave caches and aggregations.
 use Rattle.std.specs.Prelude.{ℕ, zero, suc, List, [], ◌∷◌, option_map, Option, Some, None, slice_get}
 use Rattle.std.specs.FinMap as flows
-use Rattle.fx_machine.specs.Network.{Net, named_by}
+use Rattle.fx_tables.specs.Network.{Net, named_by}
 use Rattle.fx_store.specs.Flows.{Entry, least}
 use Rattle.fx_net.specs.declared.leaving.Leaver.{Leaver}
 use Rattle.fx_net.specs.Stores.{Stored, flows_in, without_entry}

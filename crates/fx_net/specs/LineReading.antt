@@ -2,7 +2,8 @@
 use Rattle.std.specs.Prelude.{ℕ, if◌then◌else◌, List, codes, Option, Some, None}
 use Rattle.std.specs.Str.{bytes_eq}
 use Rattle.fx_elements.specs.Spelling.{◌>>=◌}
-use Rattle.fx_machine.specs.RunReading.{Words, words, first_word, number_first, at_end}
+use Rattle.fx_elements.specs.Words.{Words, words, first_word, number_first}
+use Rattle.fx_run_text.specs.RunReading.{at_end}
 use Rattle.fx_net.specs.declared.action.Action.{Action}
 use Rattle.fx_net.specs.declared.action.Action.TheVariants.{Next, NextOf, Expire, Emit, Carry, Use}
 use Rattle.fx_net.specs.Schedule.{is_piece}

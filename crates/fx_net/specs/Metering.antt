@@ -2,8 +2,8 @@
 use Rattle.std.specs.Prelude.{List, [], ◌∷◌}
 use Rattle.fx_base.specs.declared.counts.Counts.{Counts}
 use Rattle.fx_elements.specs.Axes.{Fields}
-use Rattle.fx_machine.specs.declared.traffic.Crossing.{Crossing}
-use Rattle.fx_machine.specs.Network.{Net}
+use Rattle.fx_tables.specs.declared.traffic.Crossing.{Crossing}
+use Rattle.fx_tables.specs.Network.{Net}
 use Rattle.fx_runs.specs.Making.{metered}
 use Rattle.fx_net.specs.Contents.{Contents}
 use Rattle.fx_net.specs.Taking.{after_taking}

@@ -4,11 +4,11 @@ use Rattle.std.specs.List.{flat_map}
 use Rattle.fx_config.specs.declared.cache.Cache.{Cache}
 use Rattle.fx_config.specs.declared.cache.CacheKind.{CacheKind}
 use Rattle.fx_config.specs.declared.cache.CacheKind.TheVariants as kind
-use Rattle.fx_machine.specs.Network.{Net, Exporter, Holder}
+use Rattle.fx_tables.specs.Network.{Net, Exporter, Holder}
 use Rattle.fx_link.specs.Ongoing.{Ongoing, at_rest}
 use Rattle.fx_link.specs.Wires.{new_wire}
 use Rattle.fx_collect.specs.Totals.{nothing}
-use Rattle.fx_plan.specs.declared.network.Network.{Network}
+use Rattle.fx_topology.specs.declared.network.Network.{Network}
 use Rattle.fx_plan.specs.Labels.{exporting_labels}
 use Rattle.fx_plan.specs.Tables.{net_of, aggregation_holders}
 use Rattle.fx_net.specs.Stores.{Stored, new_store}

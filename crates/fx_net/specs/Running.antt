@@ -7,15 +7,16 @@ use Rattle.fx_base.specs.Fault.{fault_at}
 use Rattle.fx_base.specs.Lines.{Lines, AtLine, AtEnd, Refuses}
 use Rattle.fx_elements.specs.Axes.{Fields}
 use Rattle.fx_boxes.specs.Boxes.{holds}
-use Rattle.fx_machine.specs.declared.packet.Packet.{Packet}
-use Rattle.fx_machine.specs.declared.step.HolderName.{HolderName}
-use Rattle.fx_machine.specs.declared.step.HolderName.TheVariants as holder
-use Rattle.fx_machine.specs.Network.{Exporter, numbered, holder_place}
-use Rattle.fx_machine.specs.Classes.{Class}
+use Rattle.fx_tables.specs.declared.packet.Packet.{Packet}
+use Rattle.fx_tables.specs.declared.holder_name.HolderName.{HolderName}
+use Rattle.fx_tables.specs.declared.holder_name.HolderName.TheVariants as holder
+use Rattle.fx_tables.specs.Network.{Exporter, holder_place}
+use Rattle.fx_base.specs.Entries.{numbered}
+use Rattle.fx_tables.specs.Classes.{Class}
 use Rattle.fx_link.specs.Links.{Put}
 use Rattle.fx_collect.specs.Totals.{Totals}
 use Rattle.fx_pcap.specs.Captures as captures
-use Rattle.fx_plan.specs.declared.network.Network.{Network}
+use Rattle.fx_topology.specs.declared.network.Network.{Network}
 use Rattle.fx_plan.specs.Tables.{net_of}
 use Rattle.fx_plan.specs.ExporterPlaces.{exporter_place}
 use Rattle.fx_net.specs.declared.action.Action.{Action}
@@ -27,7 +28,7 @@ use Rattle.fx_net.specs.Contents.{Contents}
 use Rattle.fx_net.specs.Opening.{opened}
 use Rattle.fx_net.specs.Leaving.{least_at}
 use Rattle.fx_net.specs.Arriving.{queued_on}
-use Rattle.fx_plan.specs.Ranks.{IsWhole}
+use Rattle.fx_ranks.specs.Ranks.{IsWhole}
 use Rattle.fx_net.specs.Doings.{Does, Reads, EmptiesNetwork, Ended, reads_packet}
 
 pub record Running : Type 0 where

@@ -1,7 +1,7 @@
 -- The lines of a schedule: words with a space between two of them.
 use Rattle.std.specs.Prelude.{◌≡◌, ℕ, Bool, true, ◌&&◌, nat_lt, List, [], ◌∷◌, codes, decimal, Option, Some, None}
 use Rattle.std.specs.List.{join_with_byte}
-use Rattle.fx_machine.specs.RunText.{IsNumber}
+use Rattle.fx_run_text.specs.RunText.{IsNumber}
 use Rattle.fx_net.specs.declared.action.Action.{Action}
 use Rattle.fx_net.specs.declared.action.Action.TheVariants.{Next, NextOf, Expire, Emit, Carry, Use}
 

@@ -1,8 +1,8 @@
 -- Caches and aggregations that take in what comes to them.
 use Rattle.std.specs.Prelude.{ℕ, List, [], ◌∷◌, ◌++◌, option_and_then, option_map, Option, Some, None, if◌then◌else◌}
 use Rattle.fx_base.specs.declared.counts.Counts.{Counts}
-use Rattle.fx_machine.specs.declared.holding.Holding.{Holding}
-use Rattle.fx_machine.specs.Network.{Net}
+use Rattle.fx_tables.specs.declared.holding.Holding.{Holding}
+use Rattle.fx_tables.specs.Network.{Net}
 use Rattle.fx_store.specs.Flows.{Entry}
 use Rattle.fx_net.specs.Stores.{Stored, with_counts, makes_room}
 use Rattle.fx_net.specs.Contents.{Contents, changed, stored_at, is_immediate}

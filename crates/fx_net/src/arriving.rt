@@ -2,7 +2,7 @@
 ghost use Rattle.std.specs.Prelude.{◌≡◌, ◌≤◌, None, OnOk, IfErr, slice_get};
 ghost use Rattle.fx_base.specs.Fault.{fault_at};
 ghost use Rattle.fx_base.specs.declared.fault.Place.TheVariants as places;
-ghost use Rattle.fx_machine.specs.Views.{now_of};
+ghost use Rattle.fx_base.specs.Entries.{now_of};
 ghost use Rattle.fx_link.specs.Ongoing as ongoing;
 ghost use Rattle.fx_net.specs.Arriving as arriving;
 ghost use Rattle.fx_net.specs.Contents as contents;
@@ -10,7 +10,7 @@ ghost use Rattle.fx_net.specs.Contents as contents;
 use crate::contents::Contents;
 use fx_base::Fault;
 use fx_link::Link;
-use fx_machine::{Net, Process, Record};
+use fx_tables::{Net, Process, Record};
 use std::alloc::Global;
 
 /// The collecting process to which the link at this place leads, if it is there.

@@ -1,8 +1,8 @@
 //! The closing phase: the rest of the capture is read, and all that is held is counted.
 ghost use Rattle.std.specs.Prelude.{◌≡◌, ◌⊎◌, map, false, Some, None, OnOk, IfErr, slice_get};
 ghost use Rattle.std.specs.List.{flat_map};
-ghost use Rattle.fx_machine.specs.Network as network;
-ghost use Rattle.fx_plan.specs.Ranks.{IsWhole};
+ghost use Rattle.fx_tables.specs.Network as network;
+ghost use Rattle.fx_ranks.specs.Ranks.{IsWhole};
 ghost use Rattle.fx_plan.specs.Tables.{net_of};
 ghost use Rattle.fx_net.specs.declared.stop.Stop.TheVariants as stop;
 ghost use Rattle.fx_net.specs.Arriving.{queued_on};
@@ -15,7 +15,7 @@ use crate::network::Network;
 use crate::stop::Stop;
 use fx_base::{Fault, Source};
 use fx_link::{Link, Links};
-use fx_machine::{Aggregation, Device, Net, Occurrence, Process};
+use fx_tables::{Aggregation, Device, Net, Occurrence, Process};
 use fx_pcap::Capture;
 use std::alloc::Global;
 

@@ -10,7 +10,7 @@ ghost use Rattle.fx_net.specs.Exporting as exporting;
 use crate::contents::Contents;
 use fx_base::Fault;
 use fx_link::Link;
-use fx_machine::{Exporter, Net, Record};
+use fx_tables::{Exporter, Net, Record};
 
 /// A record waits on the link at this place for its message, if the link is there.
 ///

@@ -1,6 +1,6 @@
 //! The stores of holders, by place.
 ghost use Rattle.std.specs.Prelude.{◌≡◌};
-ghost use Rattle.fx_machine.specs.Views.{now_of};
+ghost use Rattle.fx_base.specs.Entries.{now_of};
 ghost use Rattle.fx_net.specs.Contents as contents;
 ghost use Rattle.fx_net.specs.Leaving as leaving;
 

@@ -9,7 +9,7 @@ ghost use Rattle.fx_net.specs.Taking as taking;
 use crate::contents::Contents;
 use fx_base::{Counts, Fault};
 use fx_boxes::Fields;
-use fx_machine::{Crossing, Net, Occurrence};
+use fx_tables::{Crossing, Net, Occurrence};
 use std::alloc::Global;
 
 impl Contents {

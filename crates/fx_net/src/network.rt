@@ -3,7 +3,7 @@ ghost use Rattle.std.specs.Prelude.{◌≡◌, ◌<◌, ◌^◌, true, false, po
 ghost use Rattle.fx_base.specs.Fault.{fault_at};
 ghost use Rattle.fx_base.specs.declared.fault.Place.TheVariants as places;
 ghost use Rattle.fx_boxes.specs.Boxes.{holds};
-ghost use Rattle.fx_machine.specs.Classes as traffic;
+ghost use Rattle.fx_tables.specs.Classes as traffic;
 ghost use Rattle.fx_pcap.specs.Captures as captures;
 ghost use Rattle.fx_plan.specs.Tables.{net_of};
 ghost use Rattle.fx_net.specs.declared.action.Action.TheVariants as action;
@@ -18,7 +18,7 @@ use fx_base::{Counts, Fault, Source};
 use fx_boxes::Fields;
 use fx_collect::Totals;
 use fx_layout::Seed;
-use fx_machine::{Class, Occurrence, Packet};
+use fx_tables::{Class, Occurrence, Packet};
 use fx_pcap::{Capture, Frame};
 use fx_plan::Plan;
 use fx_traffic::Traffic;

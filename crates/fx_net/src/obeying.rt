@@ -1,7 +1,5 @@
 //! The lines of a schedule are obeyed.
 ghost use Rattle.std.specs.Prelude.{◌≡◌, ◌⊎◌, true, false, Some, None, OnOk, IfErr};
-ghost use Rattle.fx_machine.specs.Network as network;
-ghost use Rattle.fx_machine.specs.Views.{now_of};
 ghost use Rattle.fx_pcap.specs.Captures as captures;
 ghost use Rattle.fx_plan.specs.Tables.{net_of};
 ghost use Rattle.fx_net.specs.declared.action.Action.TheVariants as action;
@@ -15,21 +13,11 @@ use crate::arriving::queued;
 use crate::network::Network;
 use crate::schedule::read_action;
 use crate::stop::Stop;
-use fx_base::{Fault, Line, Source};
+use fx_base::{Fault, Line, Source, numbered};
 use fx_boxes::Fields;
 use fx_link::Links;
-use fx_machine::{Class, HolderName, Occurrence};
+use fx_tables::{Class, HolderName, Occurrence};
 use fx_pcap::Capture;
-
-/// The entry of this number, from 1.
-fn numbered<T>(entries: &[T], number: u64) -> Option<&T>
-    ensures { now_of result ≡ network.numbered entries.now number }
-{
-    if number == 0 {
-        return None;
-    }
-    entries.get((number - 1) as usize)
-}
 
 /// Whether there is a path of this number, from 1, in a class that holds these fields.
 fn has_path(class: &Class, fields: &Fields, path: u64) -> bool

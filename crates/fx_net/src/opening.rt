@@ -13,8 +13,9 @@ use fx_collect::Totals;
 use fx_config::{Cache, CacheKind};
 use fx_layout::Seed;
 use fx_link::Link;
-use fx_machine::{Exporter, Holder, Net};
-use fx_plan::{Network, NetworkDevice, Plan};
+use fx_tables::{Exporter, Holder, Net};
+use fx_plan::Plan;
+use fx_topology::{Network, NetworkDevice};
 use std::alloc::Global;
 
 /// The store of a cache, and none where it is immediate.

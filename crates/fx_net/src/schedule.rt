@@ -4,7 +4,7 @@ ghost use Rattle.fx_net.specs.LineReading as reading;
 ghost use Rattle.fx_net.specs.Schedule.{ReadsLine};
 
 use crate::action::Action;
-use fx_machine::{Words, is_word};
+use fx_elements::{Words, is_word};
 
 /// The class and the path behind `next`.
 #[tactic(auto, unfolding(crate::specs::LineReading::next_of))]

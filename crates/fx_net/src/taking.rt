@@ -2,7 +2,7 @@
 ghost use Rattle.std.specs.Prelude.{◌≡◌, ◌++◌, [], ◌∷◌, OnOk, IfErr};
 ghost use Rattle.fx_base.specs.Fault.{fault_at};
 ghost use Rattle.fx_base.specs.declared.fault.Place.TheVariants as places;
-ghost use Rattle.fx_machine.specs.Holds.{met_holdings};
+ghost use Rattle.fx_tables.specs.Holdings.{met_holdings};
 ghost use Rattle.fx_net.specs.Leaving as leaving;
 ghost use Rattle.fx_net.specs.Taking as taking;
 
@@ -13,7 +13,7 @@ use crate::store::Store;
 use fx_base::{Counts, Fault};
 use fx_boxes::Fields;
 use fx_layout::Key;
-use fx_machine::{Holding, Net, Occurrence, Record};
+use fx_tables::{Holding, Net, Occurrence, Record};
 use fx_store::FlowStore;
 use std::alloc::Global;
 

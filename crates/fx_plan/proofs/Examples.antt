@@ -4,15 +4,15 @@ use Rattle.std.specs.Prelude.{codes}
 use Rattle.serde_json.specs.Data.{Data, null, string, number, unsigned, array, object, Items, no_items, item, Members, no_members, member}
 use Rattle.fx_elements.specs.declared.axis.Axis.TheVariants.{Source}
 use Rattle.fx_elements.specs.declared.element.Element.TheVariants.{OnAxis}
-use Rattle.fx_machine.specs.Network as machine
+use Rattle.fx_tables.specs.Network as machine
 use Rattle.fx_config.specs.declared.cache.CacheKind.TheVariants.{Timeout}
 use Rattle.fx_config.specs.declared.destination.Transport.TheVariants.{Tcp}
 use Rattle.fx_config.specs.declared.exporting_process.ExportMode.TheVariants.{Parallel}
 use Rattle.fx_config.specs.declared.observation_point.Direction.TheVariants.{Both}
 use Rattle.fx_config.specs.declared.selector.Method.TheVariants.{SelectAll}
 use Rattle.fx_config.specs.Devices.{device_of}
-use Rattle.fx_plan.specs.declared.network.Network.{Network}
-use Rattle.fx_plan.specs.Networks.{network_of}
+use Rattle.fx_topology.specs.declared.network.Network.{Network}
+use Rattle.fx_topology.specs.Networks.{network_of}
 use Rattle.fx_plan.specs.Tables.{net_of}
 
 -- ---- the document: a router that meters all packets by their source, and a host that collects its records

@@ -10,10 +10,10 @@ use Rattle.serde_json.specs.Data.{Data, null}
 use Rattle.serde_json.specs.Find.{get, as_object}
 use Rattle.fx_base.specs.Name.{is_name}
 use Rattle.fx_elements.proofs.Cuts.{chosen}
-use Rattle.fx_config.specs.Pointer.{below, nth}
-use Rattle.fx_config.specs.Walk.{Found, Row, fault_if, row_faults, of_kind, object_faults, required, faults_or_missing, member_of}
-use Rattle.fx_config.specs.Lists.{by_length, entries_faults, faults_of_list, is_among, items_in, items_of, name_once}
-use Rattle.fx_config.specs.Scalars.{text_of, text_that}
+use Rattle.fx_walk.specs.Pointer.{below, nth}
+use Rattle.fx_walk.specs.Walk.{Found, Row, fault_if, row_faults, of_kind, object_faults, required, faults_or_missing, member_of}
+use Rattle.fx_walk.specs.Lists.{by_length, entries_faults, faults_of_list, is_among, items_in, items_of, name_once}
+use Rattle.fx_walk.specs.Scalars.{text_of, text_that}
 use Rattle.fx_config.specs.CollectingProcesses.{collecting_process_faults, collecting_process_of, collecting_process_rows}
 use Rattle.fx_config.specs.Destinations.{destination_faults, destination_of}
 use Rattle.fx_config.specs.Devices.{device_faults, device_of, device_rows, ipfix_faults, ipfix_rows, lists_of}
@@ -22,11 +22,12 @@ use Rattle.fx_config.specs.Limits.{entry_limit}
 use Rattle.fx_config.specs.References.{Resolves}
 use Rattle.fx_config.specs.declared.exporting_process.ExportingProcess.{ExportingProcess}
 use Rattle.fx_config.specs.declared.ipfix.Device.{Device}
-use Rattle.fx_config.proofs.Resolved.{device_resolves, none_before, none_behind}
-use Rattle.fx_plan.specs.Limits.{device_limit}
-use Rattle.fx_plan.specs.declared.network_device.NetworkDevice.{NetworkDevice}
-use Rattle.fx_plan.specs.NetworkDevices.{network_device_faults, network_device_of, network_device_rows}
-use Rattle.fx_plan.specs.Networks.{devices_of, network_faults, network_rows}
+use Rattle.fx_walk.proofs.Faults.{none_before, none_behind}
+use Rattle.fx_config.proofs.Resolved.{device_resolves}
+use Rattle.fx_topology.specs.Limits.{device_limit}
+use Rattle.fx_topology.specs.declared.network_device.NetworkDevice.{NetworkDevice}
+use Rattle.fx_topology.specs.NetworkDevices.{network_device_faults, network_device_of, network_device_rows}
+use Rattle.fx_topology.specs.Networks.{devices_of, network_faults, network_rows}
 use Rattle.fx_plan.proofs.Resolution.{kind_none, list_none, rows_behind, rows_none}
 
 -- no name is among those that come before it

@@ -1,9 +1,5 @@
-pub mod Linking
 pub mod Nets
 pub mod NamedNets
-pub mod Comings
-pub mod Ranked
-pub mod Ranges
 pub mod Numberings
 pub mod Resolution
 pub mod Faultless
@@ -12,7 +8,5 @@ pub mod Runnable
 pub mod Matching
 pub mod Stalling
 pub mod Grouping
-pub mod Starting
-pub mod LinkedProcesses
 mod Examples
 mod TableExamples

@@ -20,15 +20,15 @@ use Rattle.fx_config.specs.declared.collecting_process.CollectingProcess.{Collec
 use Rattle.fx_config.specs.declared.property_match.PropertyMatch.{PropertyMatch}
 use Rattle.fx_config.specs.Aggregations.{aggregation_of}
 use Rattle.fx_config.specs.CollectingProcesses.{collecting_process_of}
-use Rattle.fx_config.specs.Walk.{member_of}
-use Rattle.fx_config.specs.Lists.{items_of}
+use Rattle.fx_walk.specs.Walk.{member_of}
+use Rattle.fx_walk.specs.Lists.{items_of}
 use Rattle.fx_config.specs.Devices.{device_of}
 use Rattle.fx_config.specs.PropertyMatches.{property_match_of, property_meant}
-use Rattle.fx_plan.specs.declared.network_device.NetworkDevice.{NetworkDevice}
+use Rattle.fx_topology.specs.declared.network_device.NetworkDevice.{NetworkDevice}
 use Rattle.fx_plan.specs.Labels.{Label, exporting_labels}
-use Rattle.fx_machine.specs.Matches.{AllHaveEntries, AreEntries, HasEntries, IsEntry}
-use Rattle.fx_plan.specs.NetworkDevices.{network_device_of}
-use Rattle.fx_plan.specs.Networks.{devices_of, network_of}
+use Rattle.fx_tables.specs.Matches.{AllHaveEntries, AreEntries, HasEntries, IsEntry}
+use Rattle.fx_topology.specs.NetworkDevices.{network_device_of}
+use Rattle.fx_topology.specs.Networks.{devices_of, network_of}
 use Rattle.fx_plan.specs.Tables.{aggregations_from, cache_holders, held_by, match_entry, net_of, processes_from, processes_in}
 
 -- ---- what is read

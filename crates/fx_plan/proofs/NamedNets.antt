@@ -16,16 +16,16 @@ use Rattle.fx_config.specs.declared.selector.Method.{Method}
 use Rattle.fx_config.specs.declared.selector.Method.TheVariants.{SelectAll, FilterMatch}
 use Rattle.fx_config.specs.declared.selector.Selector.{Selector}
 use Rattle.fx_selectors.specs.Selection.{everything, narrowed_by, has_room, region_within, region_of}
-use Rattle.fx_machine.specs.declared.observation.Selection.{Selection}
-use Rattle.fx_machine.specs.Network.{Device, Holder}
-use Rattle.fx_machine.specs.NamedAxes.{LayoutNamesOnly, RegionNamesOnly, PointNamesOnly, NamesOnly}
+use Rattle.fx_tables.specs.declared.observation.Selection.{Selection}
+use Rattle.fx_tables.specs.Network.{Device, Holder}
+use Rattle.fx_tables.specs.NamedAxes.{LayoutNamesOnly, RegionNamesOnly, PointNamesOnly, NamesOnly}
 use Rattle.fx_machine.proofs.AlikePackets.{all_head, all_tail}
 use Rattle.fx_machine.proofs.AlikeClaims.{all_nil}
 use Rattle.fx_plan.specs.Labels.{Label, cache_labels, collecting_labels, exporting_labels}
 use Rattle.fx_plan.specs.NamedByDocuments.{MethodNamesOnly, SelectorsNameOnly, AggregationsNameOnly, DeviceNamesOnly, DocumentNamesOnly}
 use Rattle.fx_plan.specs.Tables.{cache_holder, aggregation_holder, held_by, cache_holders, aggregation_holders, process_named, selection_of, point_of, table_of, net_of}
-use Rattle.fx_plan.specs.declared.network.Network.{Network}
-use Rattle.fx_plan.specs.declared.network_device.NetworkDevice.{NetworkDevice}
+use Rattle.fx_topology.specs.declared.network.Network.{Network}
+use Rattle.fx_topology.specs.declared.network_device.NetworkDevice.{NetworkDevice}
 
 -- ---- all of a list
 

@@ -1,12 +1,12 @@
 -- A network from its tables, one by one.
 use Rattle.std.proofs.Common.{◌≡◌, ℕ, List, ◌++◌, length, map, refl}
 use Rattle.fx_layout.specs.Keys.{Layout}
-use Rattle.fx_machine.specs.Network as machine
+use Rattle.fx_tables.specs.Network as machine
 use Rattle.fx_plan.specs.Labels.{Label, cache_labels, collecting_labels, exporting_labels, place}
 use Rattle.fx_plan.specs.Tables.{exporters_of, cache_holders, aggregation_holders, processes_in, table_of, report_layout_of, net_of}
-use Rattle.fx_plan.specs.declared.link.Link.{Link}
-use Rattle.fx_plan.specs.declared.network.Network.{Network}
-use Rattle.fx_plan.specs.declared.network_device.NetworkDevice.{NetworkDevice}
+use Rattle.fx_topology.specs.declared.link.Link.{Link}
+use Rattle.fx_topology.specs.declared.network.Network.{Network}
+use Rattle.fx_topology.specs.declared.network_device.NetworkDevice.{NetworkDevice}
 
 pub net_is : (network : Network) (things : List NetworkDevice) (ways : List Link) (caches collecting exporting : List Label) (devices : List machine.Device) (exporters : List machine.Exporter) (holders : List machine.Holder) (first : List machine.Holder) (processes : List machine.Process) (links : List ℕ) (report : ℕ) (layout : Layout)
     → things ≡ network.devices → ways ≡ network.links → caches ≡ cache_labels things → collecting ≡ collecting_labels things

@@ -10,7 +10,7 @@ use Rattle.std.proofs.lemmas.List.Quantifiers.{position-Some}
 use Rattle.fx_layout.specs.Keys.{Layout, same_layout}
 use Rattle.fx_layout.proofs.Layouts.{none_passes}
 use Rattle.fx_layout.proofs.Projections.{same_layout_is}
-use Rattle.fx_machine.specs.Network.{Holder}
+use Rattle.fx_tables.specs.Network.{Holder}
 use Rattle.fx_plan.specs.Layouts.{AreNumbers, is_known, with_layout, with_layouts}
 
 pub known_at : (known : List Layout) (layout : Layout) (n : ℕ) → Some n ≡ position (λ other. same_layout other layout) known → (known ≡ with_layout known layout) × (slice_get known n ≡ Some layout)

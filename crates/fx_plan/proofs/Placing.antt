@@ -8,11 +8,11 @@ use Rattle.std.proofs.lemmas.Grind.{flat_map-append}
 use Rattle.std.proofs.lemmas.List.Folds.{list_any-append}
 use Rattle.std.proofs.lemmas.List.Quantifiers.{position-Some}
 use Rattle.std.proofs.lemmas.Slice.Eq.{bytes_eq-Decides}
-use Rattle.fx_config.specs.Lists.{is_among}
-use Rattle.fx_config.specs.References.{IsKnown}
+use Rattle.fx_walk.specs.Lists.{is_among}
+use Rattle.fx_walk.specs.KnownNames.{IsKnown}
 use Rattle.fx_config.specs.declared.cache.Cache.{Cache}
 use Rattle.fx_config.specs.declared.collecting_process.CollectingProcess.{CollectingProcess}
-use Rattle.fx_plan.specs.declared.network_device.NetworkDevice.{NetworkDevice}
+use Rattle.fx_topology.specs.declared.network_device.NetworkDevice.{NetworkDevice}
 use Rattle.fx_plan.specs.Labels.{Label, cache_labels, collecting_labels, device_labels, is_label, place}
 use Rattle.fx_plan.proofs.Resolution.{found_within, named_there}
 

@@ -9,19 +9,19 @@ use Rattle.std.proofs.lemmas.List.Folds.{list_any-append}
 use Rattle.serde_json.specs.Data.{Data, null, Members}
 use Rattle.serde_json.specs.Find.{get, as_object}
 use Rattle.fx_elements.proofs.Cuts.{chosen}
-use Rattle.fx_config.specs.Pointer.{below, nth}
-use Rattle.fx_config.specs.Walk.{Found, Row, fault_if, row_faults, of_kind, others, faults_or_missing, member_of, is_listed, listed_in}
-use Rattle.fx_config.specs.Lists.{by_length, is_among, items_in, items_of, list_faults}
+use Rattle.fx_walk.specs.Pointer.{below, nth}
+use Rattle.fx_walk.specs.Walk.{Found, Row, fault_if, row_faults, of_kind, others, faults_or_missing, member_of, is_listed, listed_in}
+use Rattle.fx_walk.specs.Lists.{by_length, is_among, items_in, items_of, list_faults}
 use Rattle.fx_config.specs.declared.collecting_process.CollectingProcess.{CollectingProcess}
 use Rattle.fx_config.specs.declared.ipfix.Device.{Device}
-use Rattle.fx_config.proofs.Resolved.{none_before, none_behind}
-use Rattle.fx_plan.specs.Limits.{link_limit}
-use Rattle.fx_plan.specs.declared.link.Link.{Link}
-use Rattle.fx_plan.specs.declared.network_device.NetworkDevice.{NetworkDevice}
+use Rattle.fx_walk.proofs.Faults.{none_before, none_behind}
+use Rattle.fx_topology.specs.Limits.{link_limit}
+use Rattle.fx_topology.specs.declared.link.Link.{Link}
+use Rattle.fx_topology.specs.declared.network_device.NetworkDevice.{NetworkDevice}
 use Rattle.fx_plan.specs.Labels.{Label, collecting_labels, exporting_labels, device_labels, is_label, place}
-use Rattle.fx_plan.specs.Links.{device_named, has_collecting_process, has_ends, has_destination, link_faults, link_of, link_rows, links_faults}
-use Rattle.fx_plan.specs.Reports.{has_place, report_faults, report_of, report_rows}
-use Rattle.fx_plan.specs.Networks.{devices_of, network_faults, network_of, network_rows}
+use Rattle.fx_topology.specs.Links.{device_named, has_collecting_process, has_ends, has_destination, link_faults, link_of, link_rows, links_faults}
+use Rattle.fx_topology.specs.Reports.{has_place, report_faults, report_of, report_rows}
+use Rattle.fx_topology.specs.Networks.{devices_of, network_faults, network_of, network_rows}
 use Rattle.fx_plan.specs.Tables.{net_of, cache_holders, processes_from, processes_in, processes_of, held_by}
 use Rattle.fx_plan.specs.Plans.{IsResolved}
 

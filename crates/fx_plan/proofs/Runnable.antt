@@ -12,24 +12,24 @@ use Rattle.std.proofs.lemmas.Option.{slice_get-get_or, slice_get-map}
 use Rattle.std.proofs.lemmas.Simd.{map-map}
 use Rattle.std.proofs.lemmas.Slice.Eq.{bytes_eq-Decides}
 use Rattle.serde_json.specs.Data.{Data, null}
-use Rattle.fx_machine.specs.Network as machine
-use Rattle.fx_machine.specs.declared.step.HolderName.TheVariants as names
-use Rattle.fx_machine.specs.Runnable.{HasAggregations, HasCaches, HasDestinations, IsHolder, IsRunnable}
-use Rattle.fx_config.specs.Lists.{is_among}
-use Rattle.fx_config.specs.References.{IsKnown}
+use Rattle.fx_tables.specs.Network as machine
+use Rattle.fx_tables.specs.declared.holder_name.HolderName.TheVariants as names
+use Rattle.fx_tables.specs.Runnable.{HasAggregations, HasCaches, HasDestinations, IsHolder, IsRunnable}
+use Rattle.fx_walk.specs.Lists.{is_among}
+use Rattle.fx_walk.specs.KnownNames.{IsKnown}
 use Rattle.fx_config.specs.declared.aggregation.Aggregation.{Aggregation}
 use Rattle.fx_config.specs.declared.cache.Cache.{Cache}
 use Rattle.fx_config.specs.declared.collecting_process.CollectingProcess.{CollectingProcess}
 use Rattle.fx_config.specs.declared.destination.Destination.{Destination}
 use Rattle.fx_config.specs.declared.exporting_process.ExportingProcess.{ExportingProcess}
 use Rattle.fx_config.specs.declared.selection_process.SelectionProcess.{SelectionProcess}
-use Rattle.fx_plan.specs.declared.link.Link.{Link}
-use Rattle.fx_plan.specs.declared.network.Network.{Network}
-use Rattle.fx_plan.specs.declared.network_device.NetworkDevice.{NetworkDevice}
+use Rattle.fx_topology.specs.declared.link.Link.{Link}
+use Rattle.fx_topology.specs.declared.network.Network.{Network}
+use Rattle.fx_topology.specs.declared.network_device.NetworkDevice.{NetworkDevice}
 use Rattle.fx_plan.specs.Labels.{Label, cache_labels, collecting_labels, device_labels, exporting_labels, place}
-use Rattle.fx_plan.specs.Links.{link_of}
-use Rattle.fx_plan.specs.Networks.{devices_of, network_faults, network_of}
-use Rattle.fx_plan.specs.Tables.{aggregations_from, aggregation_holder, aggregation_holders, cache_holder, cache_holders, exporter_of, exporters_of, held_by, leads_from, net_of, point_of, process_from, process_named, processes_from, processes_in, selection_of, table_of}
+use Rattle.fx_topology.specs.Links.{link_of, leads_from}
+use Rattle.fx_topology.specs.Networks.{devices_of, network_faults, network_of}
+use Rattle.fx_plan.specs.Tables.{aggregations_from, aggregation_holder, aggregation_holders, cache_holder, cache_holders, exporter_of, exporters_of, held_by, net_of, point_of, process_from, process_named, processes_from, processes_in, selection_of, table_of}
 use Rattle.fx_plan.proofs.Faultless.{AllNew, HasDestination, IsFaultless, devices_faultless}
 use Rattle.fx_plan.proofs.Numberings.{next_at}
 use Rattle.fx_plan.proofs.Placing.{cache_within, place_known, process_place}

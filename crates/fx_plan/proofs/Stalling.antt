@@ -4,13 +4,13 @@ use Rattle.std.specs.List.{list_all, list_any, range_with_len}
 use Rattle.std.proofs.lemmas.Bool.{cases_Bool, or_cases, both_ways, not-true, not_from_false}
 use Rattle.std.proofs.lemmas.List.Folds.{list_all-map, Any-from_list_any}
 use Rattle.std.proofs.lemmas.List.FromFn.{length-map-range_with_len, get_or-map-range_with_len}
-use Rattle.fx_machine.specs.Network.{Net, Exporter, Process, Aggregation, at_places, exporters_of}
-use Rattle.fx_machine.specs.Ranks.{RisesTo, Rises, AllRise, ProcessRises, IsRanked}
-use Rattle.fx_plan.specs.Feeding.{feeds, feeds_by, is_place, lead_to, leads_to, places_of}
+use Rattle.fx_tables.specs.Network.{Net, Exporter, Process, Aggregation, at_places, exporters_of}
+use Rattle.fx_tables.specs.Ranks.{RisesTo, Rises, AllRise, ProcessRises, IsRanked}
+use Rattle.fx_ranks.specs.Feeding.{feeds, feeds_by, is_place, lead_to, leads_to, places_of}
 use Rattle.fx_plan.specs.Plans.{IsResolved}
-use Rattle.fx_plan.specs.Ranks.{AreStuck, IsFedWithin, IsRankOrder, IsStuck, IsWhole, is_in}
-use Rattle.fx_plan.proofs.Comings.{all_in, feeder_within, left_stuck, none_stuck, some_not}
-use Rattle.fx_plan.proofs.Ranges.{filter_same}
+use Rattle.fx_ranks.specs.Ranks.{AreStuck, IsFedWithin, IsRankOrder, IsStuck, IsWhole, is_in}
+use Rattle.fx_ranks.proofs.Comings.{all_in, feeder_within, left_stuck, none_stuck, some_not}
+use Rattle.fx_ranks.proofs.Ranges.{filter_same}
 
 pub whole_if : (net : Net) (order : List ℕ) (come : List Bool) → IsRankOrder net order → come ≡ map (is_in order) (places_of net) → length order ≤ length net.processes → IsResolved net → list_all (λ c. c) come ≡ true → IsWhole net order
 whole_if net order come c e short resolved h =

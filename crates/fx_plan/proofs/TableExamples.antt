@@ -5,7 +5,7 @@ use Rattle.std.specs.Fmt.{digits}
 use Rattle.fx_elements.specs.declared.axis.Axis.TheVariants.{Source, Destination, Protocol}
 use Rattle.fx_elements.specs.declared.element.Element.TheVariants.{Prefix}
 use Rattle.fx_layout.specs.Keys.{Layout}
-use Rattle.fx_machine.specs.Network as machine
+use Rattle.fx_tables.specs.Network as machine
 use Rattle.fx_config.specs.declared.cache.CacheKind.TheVariants.{Timeout}
 use Rattle.fx_config.specs.declared.destination.Destination.{Destination as ExportDestination}
 use Rattle.fx_config.specs.declared.destination.Transport.TheVariants.{Tcp}
@@ -13,13 +13,13 @@ use Rattle.fx_config.specs.declared.exporting_process.ExportMode.TheVariants.{Pa
 use Rattle.fx_config.specs.declared.observation_point.Direction.TheVariants.{Ingress}
 use Rattle.fx_config.specs.declared.property_match.PropertyMatch.{PropertyMatch}
 use Rattle.fx_config.specs.declared.selector.Method.TheVariants.{FilterMatch}
-use Rattle.fx_plan.specs.declared.link.Link.{Link}
-use Rattle.fx_plan.specs.declared.network.Network.{Network}
-use Rattle.fx_plan.specs.declared.network_device.NetworkDevice.{NetworkDevice}
+use Rattle.fx_topology.specs.declared.link.Link.{Link}
+use Rattle.fx_topology.specs.declared.network.Network.{Network}
+use Rattle.fx_topology.specs.declared.network_device.NetworkDevice.{NetworkDevice}
 use Rattle.fx_plan.specs.Cycles.{stuck_text}
-use Rattle.fx_plan.specs.Feeding.{feeds}
+use Rattle.fx_ranks.specs.Feeding.{feeds}
 use Rattle.fx_plan.specs.Layouts.{layouts_of}
-use Rattle.fx_plan.specs.Ranks.{IsRankOrder, IsStuck}
+use Rattle.fx_ranks.specs.Ranks.{IsRankOrder, IsStuck}
 use Rattle.fx_plan.specs.Tables.{net_of}
 
 abbrev source : ℕ → Layout

@@ -3,9 +3,9 @@ use Rattle.std.specs.Prelude.{◌≡◌, ℕ, ◌+◌, List, [], ◌∷◌, ◌+
 use Rattle.std.specs.List.{range_with_len}
 use Rattle.fx_base.specs.declared.fault.Place.{Place}
 use Rattle.fx_base.specs.declared.fault.Place.TheVariants as places
-use Rattle.fx_machine.specs.Network.{at_places}
+use Rattle.fx_tables.specs.Network.{at_places}
 use Rattle.fx_plan.specs.declared.cycle.ProcessNumber.{ProcessNumber}
-use Rattle.fx_plan.specs.declared.network_device.NetworkDevice.{NetworkDevice}
+use Rattle.fx_topology.specs.declared.network_device.NetworkDevice.{NetworkDevice}
 
 -- the processes of a device that has this number
 abbrev pub numbers_on : ℕ → ℕ → List ProcessNumber

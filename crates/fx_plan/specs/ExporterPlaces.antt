@@ -1,9 +1,9 @@
 -- Where an exporting process that is named by numbers stands in the table of exporting processes.
 use Rattle.std.specs.Prelude.{ℕ, List, Option, Some, None}
 use Rattle.fx_config.specs.declared.exporting_process.ExportingProcess.{ExportingProcess}
-use Rattle.fx_machine.specs.Network.{numbered}
-use Rattle.fx_plan.specs.declared.network.Network.{Network}
-use Rattle.fx_plan.specs.declared.network_device.NetworkDevice.{NetworkDevice}
+use Rattle.fx_base.specs.Entries.{numbered}
+use Rattle.fx_topology.specs.declared.network.Network.{Network}
+use Rattle.fx_topology.specs.declared.network_device.NetworkDevice.{NetworkDevice}
 use Rattle.fx_plan.specs.Labels.{exporting_labels, place}
 
 -- that of its name on a device of this name

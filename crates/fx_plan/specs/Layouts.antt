@@ -2,7 +2,7 @@
 use Rattle.std.specs.Prelude.{◌≡◌, ℕ, List, [], ◌∷◌, ◌++◌, map, Some, slice_get, if◌then◌else◌, Bool}
 use Rattle.std.specs.List.{list_any}
 use Rattle.fx_layout.specs.Keys.{Layout, same_layout}
-use Rattle.fx_machine.specs.Network.{Net, Holder}
+use Rattle.fx_tables.specs.Network.{Net, Holder}
 
 abbrev pub is_known : List Layout → Layout → Bool
 is_known known layout = list_any (λ other. same_layout other layout) known

@@ -9,10 +9,10 @@ use Rattle.fx_config.specs.declared.selection_process.SelectionProcess.{Selectio
 use Rattle.fx_config.specs.declared.selector.Method.{Method}
 use Rattle.fx_config.specs.declared.selector.Method.TheVariants.{SelectAll, FilterMatch}
 use Rattle.fx_config.specs.declared.selector.Selector.{Selector}
-use Rattle.fx_machine.specs.NamedAxes.{LayoutNamesOnly}
+use Rattle.fx_tables.specs.NamedAxes.{LayoutNamesOnly}
 use Rattle.fx_plan.specs.Tables.{report_layout_of}
-use Rattle.fx_plan.specs.declared.network.Network.{Network}
-use Rattle.fx_plan.specs.declared.network_device.NetworkDevice.{NetworkDevice}
+use Rattle.fx_topology.specs.declared.network.Network.{Network}
+use Rattle.fx_topology.specs.declared.network_device.NetworkDevice.{NetworkDevice}
 
 -- a filter is on a named axis
 abbrev pub MethodNamesOnly : (Axis → Bool) → Method → Type 0

@@ -4,18 +4,18 @@ use Rattle.serde_json.specs.Data.{Data}
 use Rattle.fx_base.specs.declared.fault.Fault.{Fault}
 use Rattle.fx_base.specs.declared.fault.Place.TheVariants as places
 use Rattle.fx_base.specs.Fault.{fault_at}
-use Rattle.fx_config.specs.Walk.{Refuses}
+use Rattle.fx_walk.specs.Walk.{Refuses}
 use Rattle.fx_layout.specs.Keys.{Fits, Layout}
-use Rattle.fx_machine.specs.Limits.{layout_limit}
-use Rattle.fx_machine.specs.Network.{Net, layout_of}
-use Rattle.fx_machine.specs.Matches.{AreEntries}
-use Rattle.fx_machine.specs.Ranks.{IsRanked}
-use Rattle.fx_machine.specs.Runnable.{IsRunnable}
-use Rattle.fx_plan.specs.declared.network.Network.{Network}
+use Rattle.fx_tables.specs.Limits.{layout_limit}
+use Rattle.fx_tables.specs.Network.{Net, layout_of}
+use Rattle.fx_tables.specs.Matches.{AreEntries}
+use Rattle.fx_tables.specs.Ranks.{IsRanked}
+use Rattle.fx_tables.specs.Runnable.{IsRunnable}
+use Rattle.fx_topology.specs.declared.network.Network.{Network}
 use Rattle.fx_plan.specs.Cycles.{IsText, stuck_text}
 use Rattle.fx_plan.specs.Layouts.{AreNumbers, layouts_of}
-use Rattle.fx_plan.specs.Networks.{network_faults, network_of}
-use Rattle.fx_plan.specs.Ranks.{AreStuck, IsStuck, IsWhole, LinksLead}
+use Rattle.fx_topology.specs.Networks.{network_faults, network_of}
+use Rattle.fx_ranks.specs.Ranks.{AreStuck, IsStuck, IsWhole, LinksLead}
 use Rattle.fx_plan.specs.Tables.{net_of}
 
 -- the links and the report lead to processes that are there

@@ -5,9 +5,9 @@ use Rattle.std.specs.Option.{unwrap_or}
 use Rattle.std.specs.Str.{bytes_eq}
 use Rattle.fx_elements.specs.Axes.{axis_width}
 use Rattle.fx_layout.specs.Keys.{Layout, leading}
-use Rattle.fx_machine.specs.Network as machine
-use Rattle.fx_machine.specs.declared.aggregation.MatchEntry.{MatchEntry}
-use Rattle.fx_machine.specs.declared.observation.Selection.{Selection}
+use Rattle.fx_tables.specs.Network as machine
+use Rattle.fx_tables.specs.declared.aggregation.MatchEntry.{MatchEntry}
+use Rattle.fx_tables.specs.declared.observation.Selection.{Selection}
 use Rattle.fx_config.specs.declared.observation_point.ObservationPoint.{ObservationPoint}
 use Rattle.fx_config.specs.declared.selection_process.SelectionProcess.{SelectionProcess}
 use Rattle.fx_config.specs.declared.cache.Cache.{Cache}
@@ -20,16 +20,14 @@ use Rattle.fx_config.specs.declared.collecting_process.CollectingProcess.{Collec
 use Rattle.fx_config.specs.declared.aggregation.Aggregation.{Aggregation}
 use Rattle.fx_config.specs.declared.property_match.PropertyMatch.{PropertyMatch}
 use Rattle.fx_selectors.specs.Selection.{region_of}
-use Rattle.fx_plan.specs.declared.link.Link.{Link}
-use Rattle.fx_plan.specs.declared.network.Network.{Network}
-use Rattle.fx_plan.specs.declared.network_device.NetworkDevice.{NetworkDevice}
+use Rattle.fx_topology.specs.declared.link.Link.{Link}
+use Rattle.fx_topology.specs.declared.network.Network.{Network}
+use Rattle.fx_topology.specs.declared.network_device.NetworkDevice.{NetworkDevice}
 use Rattle.fx_plan.specs.Labels.{Label, exporting_labels, cache_labels, collecting_labels, place}
-use Rattle.fx_plan.specs.Reports.{key_layout}
+use Rattle.fx_topology.specs.Links.{leads_from}
+use Rattle.fx_topology.specs.Reports.{key_layout}
 
 -- ---- exporting processes: each destination with the place of the link that leads from it, if there is one
-
-abbrev pub leads_from : List ℕ → List ℕ → List ℕ → Link → Bool
-leads_from device process destination link = bytes_eq link.device device && (bytes_eq link.exporting_process process && bytes_eq link.destination destination)
 
 -- whether each record goes to all destinations; in the other modes it goes to any one
 abbrev pub is_parallel : ExportMode → Bool

@@ -3,11 +3,11 @@ ghost use Rattle.std.specs.Prelude.{◌≡◌, ◌⊎◌, ◌++◌, not, OnOk, I
 ghost use Rattle.std.specs.List.{range_with_len};
 ghost use Rattle.fx_base.specs.Fault.{fault_at};
 ghost use Rattle.fx_base.specs.declared.fault.Place.TheVariants as places;
-ghost use Rattle.fx_machine.specs.Network as machine;
+ghost use Rattle.fx_tables.specs.Network as machine;
 ghost use Rattle.fx_plan.specs.Cycles as cycles;
 
-use crate::network_device::NetworkDevice;
 use fx_base::{Fault, Place};
+use fx_topology::NetworkDevice;
 use std::alloc::{AllocError, Global};
 
 /// The number of a collecting process: that of its device, and its own on that device, from 1.

@@ -1,34 +1,11 @@
 //! Where an exporting process that is named by numbers stands in the table of exporting processes.
 ghost use Rattle.std.specs.Prelude.{◌≡◌, IfOk};
-ghost use Rattle.fx_machine.specs.Network.{numbered};
-ghost use Rattle.fx_machine.specs.Views.{now_of};
 ghost use Rattle.fx_plan.specs.ExporterPlaces.{exporter_place};
 
 use crate::labels::{exporting_labels, place};
-use crate::network_device::NetworkDevice;
 use crate::plan::Plan;
-use fx_config::ExportingProcess;
+use fx_base::numbered;
 use std::alloc::{AllocError, Global};
-
-/// The device of this number, from 1.
-fn device_numbered(devices: &[NetworkDevice], number: u64) -> Option<&NetworkDevice>
-    ensures { now_of result ≡ numbered devices.now number }
-{
-    if number == 0 {
-        return None;
-    }
-    devices.get((number - 1) as usize)
-}
-
-/// The exporting process of this number, from 1.
-fn process_numbered(processes: &[ExportingProcess], number: u64) -> Option<&ExportingProcess>
-    ensures { now_of result ≡ numbered processes.now number }
-{
-    if number == 0 {
-        return None;
-    }
-    processes.get((number - 1) as usize)
-}
 
 impl Plan {
     /// The place of an exporting process in the network's table, from 0, by its number on its device and the device's
@@ -42,11 +19,11 @@ impl Plan {
         ensures { IfOk result (λ place. place ≡ exporter_place self.now device exporter) }
     {
         let devices = self.network().devices.as_slice();
-        let Some(named) = device_numbered(devices, device) else {
+        let Some(named) = numbered(devices, device) else {
             return Ok(None);
         };
         let processes = named.config.exporting_processes.as_slice();
-        let Some(process) = process_numbered(processes, exporter) else {
+        let Some(process) = numbered(processes, exporter) else {
             return Ok(None);
         };
         let labels = exporting_labels(alloc, devices)?;

@@ -2,12 +2,12 @@
 ghost use Rattle.std.specs.Prelude.{◌≡◌, ◌++◌, OnOk, IfOk, map};
 ghost use Rattle.std.specs.List.{position};
 ghost use Rattle.fx_plan.specs.Tables as tables;
+ghost use Rattle.fx_topology.specs.Links.{leads_from};
 
-use crate::link_table::Links;
-use crate::network_device::NetworkDevice;
 use fx_base::Name;
 use fx_config::{Destination, ExportMode, ExportingProcess};
-use fx_machine::Exporter;
+use fx_tables::Exporter;
+use fx_topology::{Links, NetworkDevice};
 use std::alloc::{AllocError, Global};
 
 /// The place of the link of each destination of an exporting process, if it has one.
@@ -18,7 +18,7 @@ fn link_places(
     process: &Name,
     destinations: &[Destination],
 ) -> Result<Vec<Option<usize>>, AllocError>
-    ensures { IfOk result (λ v. v.items ≡ map (λ d. position (tables.leads_from device.now process.now d.name) links.now) destinations.now) }
+    ensures { IfOk result (λ v. v.items ≡ map (λ d. position (leads_from device.now process.now d.name) links.now) destinations.now) }
 {
     let mut places = Vec::new(alloc);
     for destination in destinations {

@@ -4,10 +4,10 @@ ghost use Rattle.std.specs.List.{flat_map};
 ghost use Rattle.fx_plan.specs.Tables as tables;
 
 use crate::labels::{Labels, places};
-use crate::network_device::NetworkDevice;
 use fx_base::Name;
 use fx_config::{Aggregation, Cache};
-use fx_machine::Holder;
+use fx_tables::Holder;
+use fx_topology::NetworkDevice;
 use std::alloc::{AllocError, Global};
 
 fn cache_holder(

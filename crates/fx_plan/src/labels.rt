@@ -3,9 +3,9 @@ ghost use Rattle.std.specs.Prelude.{◌≡◌, ◌++◌, OnOk, IfOk, length, map
 ghost use Rattle.std.specs.List.{position};
 ghost use Rattle.fx_plan.specs.Labels as naming;
 
-use crate::network_device::NetworkDevice;
 use fx_base::Name;
-use fx_config::walk::Named;
+use fx_walk::Named;
+use fx_topology::NetworkDevice;
 use std::alloc::{AllocError, Global};
 use std::marker::Model;
 

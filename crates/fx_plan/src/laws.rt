@@ -3,13 +3,13 @@ ghost use Rattle.std.specs.Prelude.{◌↔◌, Bool, List};
 ghost use Rattle.fx_elements.specs.declared.axis.Axis.{Axis};
 ghost use Rattle.fx_machine.specs.Claim.{ExactlyOnce, OnceModulo};
 ghost use Rattle.fx_machine.specs.ClaimsOfSome.{ExactlyOnceOf, OnceModuloOf};
-ghost use Rattle.fx_machine.specs.Classes as traffic;
+ghost use Rattle.fx_tables.specs.Classes as traffic;
 ghost use Rattle.fx_machine.specs.CompleteRun.{HasCompleteRun};
-ghost use Rattle.fx_machine.specs.NamedAxes as axes;
-ghost use Rattle.fx_machine.specs.declared.packet.Packet as of_packet;
+ghost use Rattle.fx_tables.specs.NamedAxes as axes;
+ghost use Rattle.fx_tables.specs.declared.packet.Packet as of_packet;
 ghost use Rattle.fx_plan.specs.NamedByDocuments.{DocumentNamesOnly};
 ghost use Rattle.fx_plan.specs.Tables as tables;
-ghost use Rattle.fx_plan.specs.declared.network.Network as documents;
+ghost use Rattle.fx_topology.specs.declared.network.Network as documents;
 
 use crate::plan::Plan;
 use fx_machine::complete_runs_exist;

@@ -3,14 +3,14 @@ ghost use Rattle.std.specs.Prelude.{◌≡◌, ◌⊎◌, ℕ, ◌<◌, ◌≤�
 ghost use Rattle.fx_base.specs.Fault.{fault_at};
 ghost use Rattle.fx_base.specs.declared.fault.Place.TheVariants as places;
 ghost use Rattle.fx_layout.specs.Keys.{Fits, same_layout};
-ghost use Rattle.fx_machine.specs.Limits.{layout_limit};
-ghost use Rattle.fx_machine.specs.Network.{layout_of};
+ghost use Rattle.fx_tables.specs.Limits.{layout_limit};
+ghost use Rattle.fx_tables.specs.Network.{layout_of};
 ghost use Rattle.fx_plan.specs.Layouts as layouts;
 
 use crate::limits::LAYOUTS;
 use fx_base::Fault;
 use fx_layout::Layout;
-use fx_machine::{Holder, Net};
+use fx_tables::{Holder, Net};
 use std::alloc::Global;
 
 fn position_of(known: &[Layout], layout: &Layout) -> Option<usize>

@@ -1,30 +1,29 @@
 //! Network documents and the networks that they mean.
 ghost use Rattle.std.specs.Prelude.{◌≡◌, ◌==◌, ◌<◌, ◌≤◌, IfOk, length, position};
 ghost use Rattle.serde_json.specs.View.{view};
-ghost use Rattle.fx_machine.specs.Limits.{layout_limit};
-ghost use Rattle.fx_machine.specs.Matches.{AreEntries};
-ghost use Rattle.fx_machine.specs.Ranks.{IsNetwork};
-ghost use Rattle.fx_machine.specs.Runnable.{IsRunnable};
-ghost use Rattle.fx_machine.specs.Views.{now_of};
+ghost use Rattle.fx_tables.specs.Limits.{layout_limit};
+ghost use Rattle.fx_tables.specs.Matches.{AreEntries};
+ghost use Rattle.fx_tables.specs.Ranks.{IsNetwork};
+ghost use Rattle.fx_tables.specs.Runnable.{IsRunnable};
+ghost use Rattle.fx_base.specs.Entries.{now_of};
 ghost use Rattle.fx_plan.specs.Layouts.{AreNumbers, layouts_of};
-ghost use Rattle.fx_plan.specs.Networks.{device_numbered};
+ghost use Rattle.fx_topology.specs.Networks.{device_numbered};
 ghost use Rattle.fx_plan.specs.Plans.{IsPlan, ReadsPlan};
-ghost use Rattle.fx_plan.specs.Ranks.{IsDescending, IsRank, IsRankOrder, IsWhole};
+ghost use Rattle.fx_ranks.specs.Ranks.{IsDescending, IsRank, IsRankOrder, IsWhole};
 ghost use Rattle.fx_plan.specs.Tables as tables;
 
 use crate::exporters::exporters_of;
 use crate::holders::cache_holders;
-use crate::key_layout::layout_of;
 use crate::labels::{cache_labels, collecting_labels, exporting_labels, place};
 use crate::layouts::{Numbering, numbering_of};
-use crate::network::{Network, read_network};
 use crate::points::tables_of;
 use crate::processes::{link_ends, processes_in};
 use crate::ranks::{Ranks, ranks_of};
-use fx_base::Fault;
+use fx_base::{Fault, numbered};
 use fx_config::Device;
 use fx_layout::Layout;
-use fx_machine::Net;
+use fx_tables::Net;
+use fx_topology::{Network, read_network};
 use serde_json::Value;
 use std::alloc::{AllocError, Global};
 use std::marker::Model;
@@ -32,7 +31,7 @@ use std::marker::Model;
 fn report_layout_of(network: &Network) -> Layout
     ensures { result ≡ tables.report_layout_of network.now }
 {
-    match layout_of(network.report.key.as_slice()) {
+    match network.report.layout() {
         Some(layout) => layout,
         None => Layout::new(),
     }
@@ -84,7 +83,7 @@ struct Parts {
 
 impl Model for Plan {
     ghost use Rattle.fx_plan.specs.Plans.{IsPlan};
-    ghost use Rattle.fx_plan.specs.declared.network.Network as of_network;
+    ghost use Rattle.fx_topology.specs.declared.network.Network as of_network;
 
     ghost Value = { of_network.Network };
 
@@ -117,11 +116,7 @@ impl Plan {
     pub fn device(&self, number: u64) -> Option<&Device>
         ensures { now_of result ≡ device_numbered self.now number }
     {
-        if number == 0 {
-            return None;
-        }
-        let place = (number - 1) as usize;
-        let device = self.parts.network.devices.as_slice().get(place)?;
+        let device = numbered(self.parts.network.devices.as_slice(), number)?;
         Some(&device.config)
     }
 

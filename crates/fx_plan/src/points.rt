@@ -5,12 +5,12 @@ ghost use Rattle.fx_plan.specs.Tables as tables;
 ghost use Rattle.fx_selectors.specs.Selection.{region_of};
 
 use crate::labels::{Labels, place, places};
-use crate::network_device::NetworkDevice;
 use fx_base::Name;
 use fx_boxes::Region;
 use fx_config::{Direction, ObservationPoint, SelectionProcess};
-use fx_machine::{Device, Point, Selection};
+use fx_tables::{Device, Point, Selection};
 use fx_selectors::region_of;
+use fx_topology::NetworkDevice;
 use std::alloc::{AllocError, Global};
 
 fn copy_of(alloc: Global, name: &Name) -> Result<Name, AllocError>

@@ -5,14 +5,12 @@ ghost use Rattle.fx_plan.specs.Tables as tables;
 
 use crate::holders::aggregation_holder;
 use crate::labels::{Labels, place, places};
-use crate::link::Link;
-use crate::network_device::NetworkDevice;
 use fx_base::Name;
 use fx_config::{Aggregation, CollectingProcess, PropertyMatch};
 use fx_elements::width;
 use fx_layout::leading;
-use fx_machine as machine;
-use fx_machine::{Holder, MatchEntry, Process};
+use fx_tables::{Holder, MatchEntry, Process};
+use fx_topology::{Link, NetworkDevice};
 use std::alloc::{AllocError, Global};
 
 /// The leading bits that a match fixes.
@@ -45,14 +43,14 @@ fn push_aggregations(
     exporting: &Labels<'_>,
     device: &Name,
     aggregations: &[Aggregation],
-) -> Result<Vec<machine::Aggregation>, AllocError>
+) -> Result<Vec<fx_tables::Aggregation>, AllocError>
     ensures held { OnOk result (holders.new.items ≡ holders.old.items ++ map (tables.aggregation_holder exporting.now device.now) aggregations.now) }
     ensures tables { IfOk result (λ v. v.items ≡ tables.aggregations_from (length holders.old.items) aggregations.now) }
 {
     let mut taken = Vec::new(alloc);
     for aggregation in aggregations {
         let matches = match_entries(alloc, aggregation.matches.as_slice())?;
-        taken.push(machine::Aggregation::new(holders.len(), matches))?;
+        taken.push(fx_tables::Aggregation::new(holders.len(), matches))?;
         holders.push(aggregation_holder(alloc, exporting, device, aggregation)?)?;
     }
     Ok(taken)

@@ -4,14 +4,14 @@ ghost use Rattle.std.specs.List.{list_all};
 ghost use Rattle.fx_base.specs.Fault.{fault_at};
 ghost use Rattle.fx_base.specs.declared.fault.Place.TheVariants as places;
 ghost use Rattle.fx_plan.specs.Plans.{IsCycle, IsResolved};
-ghost use Rattle.fx_plan.specs.Ranks.{IsWhole};
+ghost use Rattle.fx_ranks.specs.Ranks.{IsWhole};
 ghost use Rattle.fx_plan.specs.Tables as tables;
 
 use crate::cycle::cycle;
-use crate::network::Network;
-use crate::rank_order::rank_order;
 use fx_base::Fault;
-use fx_machine::Net;
+use fx_ranks::rank_order;
+use fx_tables::Net;
+use fx_topology::Network;
 use std::alloc::{AllocError, Global};
 
 /// The collecting processes of a network in two orders.

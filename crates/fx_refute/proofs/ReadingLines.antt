@@ -7,16 +7,16 @@ use Rattle.fx_base.specs.declared.fault.Fault.{Fault}
 use Rattle.fx_base.specs.declared.fault.Place.TheVariants as places
 use Rattle.fx_base.specs.Device.{MayBeLeft}
 use Rattle.fx_base.specs.Fault.{fault_at}
-use Rattle.fx_base.specs.Lines.{Lines, AtLine, AtEnd, GoesOn, text_lines, next_number, line_len, Refuses, Stops}
+use Rattle.fx_base.specs.Lines.{Lines, AtLine, AtEnd, GoesOn, text_lines, next_number, line_len, Refuses, Stops, Fails}
 use Rattle.fx_base.proofs.GoingOn.{cut_off_behind, may_follow, nothing_left, something_follows, something_left}
-use Rattle.fx_machine.specs.declared.packet.Packet.{Packet}
-use Rattle.fx_machine.specs.declared.step.Step.{Step}
-use Rattle.fx_machine.specs.declared.text_version.TextVersion.{TextVersion}
-use Rattle.fx_machine.specs.declared.text_version.TextVersion.TheVariants.{One, Two}
-use Rattle.fx_machine.specs.declared.run_line.RunLine.{RunLine}
-use Rattle.fx_machine.specs.declared.run_line.RunLine.TheVariants as line
-use Rattle.fx_machine.specs.RunReading.{Line, at_line, Fails}
-use Rattle.fx_machine.proofs.RunLines.{MayBeLong, long_first, stops}
+use Rattle.fx_tables.specs.declared.packet.Packet.{Packet}
+use Rattle.fx_run_text.specs.declared.step.Step.{Step}
+use Rattle.fx_run_text.specs.declared.text_version.TextVersion.{TextVersion}
+use Rattle.fx_run_text.specs.declared.text_version.TextVersion.TheVariants.{One, Two}
+use Rattle.fx_run_text.specs.declared.run_line.RunLine.{RunLine}
+use Rattle.fx_run_text.specs.declared.run_line.RunLine.TheVariants as line
+use Rattle.fx_run_text.specs.RunReading.{Line, at_line}
+use Rattle.fx_run_text.proofs.RunLines.{MayBeLong, long_first, stops}
 use Rattle.fx_refute.specs.ReadingOn.{FirstIsWrong, Leads, NextIsWrong, Says}
 use Rattle.fx_refute.specs.RefutationReading.{MayGive, MayRead, Read, ended, from_packet, from_step, line_said, only, packet_behind, reading, steps_behind, with_step}
 use Rattle.fx_machine.specs.Limits.{step_limit}

@@ -11,16 +11,17 @@ use Rattle.fx_base.specs.Lines.{next_number, text_lines}
 use Rattle.fx_base.proofs.Writing.{writes_both}
 use Rattle.fx_elements.proofs.Cuts.{chosen}
 use Rattle.fx_elements.proofs.Numbers.{both}
-use Rattle.fx_machine.specs.declared.packet.Packet.{Packet}
-use Rattle.fx_machine.specs.declared.text_version.TextVersion.{TextVersion}
-use Rattle.fx_machine.specs.declared.text_version.TextVersion.TheVariants.{One, Two}
-use Rattle.fx_machine.specs.declared.run_line.RunLine.{RunLine}
-use Rattle.fx_machine.specs.declared.run_line.RunLine.TheVariants as line
-use Rattle.fx_machine.specs.declared.step.Step.{Step}
+use Rattle.fx_tables.specs.declared.packet.Packet.{Packet}
+use Rattle.fx_run_text.specs.declared.text_version.TextVersion.{TextVersion}
+use Rattle.fx_run_text.specs.declared.text_version.TextVersion.TheVariants.{One, Two}
+use Rattle.fx_run_text.specs.declared.run_line.RunLine.{RunLine}
+use Rattle.fx_run_text.specs.declared.run_line.RunLine.TheVariants as line
+use Rattle.fx_run_text.specs.declared.step.Step.{Step}
 use Rattle.fx_machine.specs.Limits.{step_limit}
-use Rattle.fx_machine.specs.RunLineText.{IsOneLine, IsRunLine, ended_line, run_line_text}
-use Rattle.fx_machine.specs.RunReading.{Line, at_line, line_of, words}
-use Rattle.fx_machine.specs.RunText.{AreShort, IsStep, last_words, lines_text, step_words}
+use Rattle.fx_run_text.specs.RunLineText.{IsOneLine, IsRunLine, ended_line, run_line_text}
+use Rattle.fx_run_text.specs.RunReading.{Line, at_line, line_of}
+use Rattle.fx_elements.specs.Words.{words}
+use Rattle.fx_run_text.specs.RunText.{AreShort, IsStep, last_words, lines_text, step_words}
 use Rattle.fx_refute.specs.RefutationReading.{ended, formed, from_packet, from_step, line_said, only, packet_behind, reading, steps_behind, with_step}
 use Rattle.fx_refute.specs.RefutationText.{IsRefutation, first_words, refutation_lines, refutation_text, steps_text}
 use Rattle.fx_refute.specs.Refutations.{Refutation}

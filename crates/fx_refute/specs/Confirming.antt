@@ -4,11 +4,11 @@ use Rattle.fx_base.specs.declared.fault.Fault.{Fault}
 use Rattle.fx_base.specs.declared.fault.Place.TheVariants as places
 use Rattle.fx_base.specs.Fault.{fault_at}
 use Rattle.fx_layout.specs.Keys.{Layout, Key, key_of}
-use Rattle.fx_machine.specs.declared.packet.Packet.{Packet}
-use Rattle.fx_machine.specs.declared.record.Record.{Record}
-use Rattle.fx_machine.specs.declared.step.Step.{Step}
-use Rattle.fx_machine.specs.Network.{Net}
-use Rattle.fx_machine.specs.Classes.{Class}
+use Rattle.fx_tables.specs.declared.packet.Packet.{Packet}
+use Rattle.fx_tables.specs.declared.record.Record.{Record}
+use Rattle.fx_run_text.specs.declared.step.Step.{Step}
+use Rattle.fx_tables.specs.Network.{Net}
+use Rattle.fx_tables.specs.Classes.{Class}
 use Rattle.fx_machine.specs.States.{State}
 use Rattle.fx_machine.specs.Steps.{run, after, one_packet}
 use Rattle.fx_machine.specs.Sums.{total_at}

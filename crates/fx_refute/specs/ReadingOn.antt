@@ -3,9 +3,9 @@ use Rattle.std.specs.Prelude.{◌≡◌, ℕ, List, [], ◌∷◌, Ok, Err}
 use Rattle.fx_base.specs.declared.fault.Fault.{Fault}
 use Rattle.fx_base.specs.Device.{MayBeLeft, MayHaveLeft}
 use Rattle.fx_base.specs.Lines.{Lines, text_lines, next_number}
-use Rattle.fx_machine.specs.declared.text_version.TextVersion.{TextVersion}
-use Rattle.fx_machine.specs.declared.run_line.RunLine.{RunLine}
-use Rattle.fx_machine.specs.RunReading.{Line, at_line}
+use Rattle.fx_run_text.specs.declared.text_version.TextVersion.{TextVersion}
+use Rattle.fx_run_text.specs.declared.run_line.RunLine.{RunLine}
+use Rattle.fx_run_text.specs.RunReading.{Line, at_line}
 use Rattle.fx_refute.specs.RefutationReading.{Read, line_said}
 
 -- whatever is left now, what the second reads in it is what the first reads in a text that may have been left before

@@ -4,13 +4,14 @@ use Rattle.std.specs.Str.{bytes_eq}
 use Rattle.fx_base.specs.declared.fault.Fault.{Fault}
 use Rattle.fx_base.specs.Device.{MayHaveLeft}
 use Rattle.fx_base.specs.Lines.{Lines, text_lines, next_number}
-use Rattle.fx_machine.specs.declared.packet.Packet.{Packet}
-use Rattle.fx_machine.specs.declared.step.Step.{Step}
-use Rattle.fx_machine.specs.declared.text_version.TextVersion.{TextVersion}
-use Rattle.fx_machine.specs.declared.text_version.TextVersion.TheVariants.{One, Two}
-use Rattle.fx_machine.specs.declared.run_line.RunLine.{RunLine}
-use Rattle.fx_machine.specs.declared.run_line.RunLine.TheVariants as line
-use Rattle.fx_machine.specs.RunReading.{Line, at_line, words, line_of}
+use Rattle.fx_tables.specs.declared.packet.Packet.{Packet}
+use Rattle.fx_run_text.specs.declared.step.Step.{Step}
+use Rattle.fx_run_text.specs.declared.text_version.TextVersion.{TextVersion}
+use Rattle.fx_run_text.specs.declared.text_version.TextVersion.TheVariants.{One, Two}
+use Rattle.fx_run_text.specs.declared.run_line.RunLine.{RunLine}
+use Rattle.fx_run_text.specs.declared.run_line.RunLine.TheVariants as line
+use Rattle.fx_run_text.specs.RunReading.{Line, at_line, line_of}
+use Rattle.fx_elements.specs.Words.{words}
 use Rattle.fx_machine.specs.Limits.{step_limit}
 use Rattle.fx_refute.specs.Refutations.{Refutation}
 

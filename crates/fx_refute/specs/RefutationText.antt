@@ -1,10 +1,10 @@
 -- The text of a refutation, in the versions of a run's.
 use Rattle.std.specs.Prelude.{ℕ, ◌≤◌, List, [], ◌∷◌, ◌++◌, map, length, codes}
 use Rattle.std.specs.List.{AllByRecursion, join_with_byte}
-use Rattle.fx_machine.specs.declared.text_version.TextVersion.{TextVersion}
-use Rattle.fx_machine.specs.declared.text_version.TextVersion.TheVariants.{One, Two}
-use Rattle.fx_machine.specs.RunText.{packet_words, step_words, last_words, lines_text, IsPacket, CanSay, IsStep}
-use Rattle.fx_machine.specs.declared.step.Step.{Step}
+use Rattle.fx_run_text.specs.declared.text_version.TextVersion.{TextVersion}
+use Rattle.fx_run_text.specs.declared.text_version.TextVersion.TheVariants.{One, Two}
+use Rattle.fx_run_text.specs.RunText.{packet_words, step_words, last_words, lines_text, IsPacket, CanSay, IsStep}
+use Rattle.fx_run_text.specs.declared.step.Step.{Step}
 use Rattle.fx_machine.specs.Limits.{step_limit}
 use Rattle.fx_refute.specs.Refutations.{Refutation}
 

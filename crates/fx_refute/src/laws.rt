@@ -2,15 +2,16 @@
 ghost use Rattle.std.specs.Prelude.{◌≡◌, ◌^◌, ◌<◌, ℕ, List, Ok};
 ghost use Rattle.fx_base.specs.Lines.{text_lines};
 ghost use Rattle.fx_machine.specs.Claim.{ExactlyOnce};
-ghost use Rattle.fx_machine.specs.Classes as traffic;
-ghost use Rattle.fx_machine.specs.Network as network;
-ghost use Rattle.fx_machine.specs.RunText.{AreShort};
-ghost use Rattle.fx_machine.specs.declared.text_version.TextVersion.{TextVersion};
+ghost use Rattle.fx_tables.specs.Classes as traffic;
+ghost use Rattle.fx_tables.specs.Network as network;
+ghost use Rattle.fx_run_text.specs.RunText.{AreShort};
+ghost use Rattle.fx_run_text.specs.declared.text_version.TextVersion.{TextVersion};
 ghost use Rattle.fx_refute.specs.RefutationReading.{reading};
 ghost use Rattle.fx_refute.specs.RefutationText.{IsRefutation, refutation_lines, refutation_text};
 ghost use Rattle.fx_refute.specs.Refutations.{Refutation, Refutes};
 
-use fx_machine::{choices_are_free, run_lines_have_one_text};
+use fx_machine::choices_are_free;
+use fx_run_text::run_lines_have_one_text;
 
 /// Where there is a refutation, not every complete run counts each packet exactly once.
 pub fn refutations_refute()

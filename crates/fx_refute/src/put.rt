@@ -3,12 +3,12 @@ ghost use Rattle.std.specs.Prelude.{◌≡◌, false, map, true, OnOk, IfErr};
 ghost use Rattle.fx_base.specs.Device.{Writes};
 ghost use Rattle.fx_base.specs.Fault.{fault_at};
 ghost use Rattle.fx_base.specs.declared.fault.Place.TheVariants as places;
-ghost use Rattle.fx_machine.specs.declared.text_version.TextVersion.TheVariants.{Two};
+ghost use Rattle.fx_run_text.specs.declared.text_version.TextVersion.TheVariants.{Two};
 ghost use Rattle.fx_refute.specs.RefutationText.{refutation_text, steps_text};
 
 use crate::refutation::Refutation;
 use fx_base::{Fault, Sink, put_text};
-use fx_machine::{Step, put_packet_line, put_step_line};
+use fx_run_text::{Step, put_packet_line, put_step_line};
 
 /// Writes the lines of steps.
 fn put_steps<S: Sink>(sink: &mut S, steps: &[Step]) -> Result<(), Fault>

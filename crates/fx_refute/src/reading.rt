@@ -2,16 +2,16 @@
 ghost use Rattle.std.specs.Prelude.{◌≡◌, ◌⊎◌, ◌<◌, Ok, Err, None, IfOk, IfErr, OnOk};
 ghost use Rattle.std.specs.Str.{bytes_eq};
 ghost use Rattle.fx_base.specs.Fault.{fault_at};
-ghost use Rattle.fx_base.specs.Lines.{GoesOn, budget};
+ghost use Rattle.fx_base.specs.Lines.{GoesOn, budget, Fails};
 ghost use Rattle.fx_base.specs.declared.fault.Place.TheVariants as places;
-ghost use Rattle.fx_machine.specs.RunReading.{Fails};
 ghost use Rattle.fx_refute.specs.ReadingOn.{Leads, NextIsWrong, Says};
 ghost use Rattle.fx_refute.specs.RefutationReading.{MayGive, MayRead, ended, only, packet_behind, reading, steps_behind};
 ghost use Rattle.fx_refute.specs.Refutations as refutations;
 
 use crate::refutation::{Refutation, STEPS};
 use fx_base::{Fault, LineReader, Source};
-use fx_machine::{Packet, RunLine, Step, TextVersion, read_run_line};
+use fx_run_text::{RunLine, Step, TextVersion, read_run_line};
+use fx_tables::Packet;
 use std::alloc::Global;
 
 /// Whether two lines are the same.

@@ -2,7 +2,8 @@
 ghost use Rattle.std.specs.Prelude.{◌≡◌, ◌≤◌, length};
 ghost use Rattle.fx_machine.specs.Limits.{step_limit};
 
-use fx_machine::{Packet, Step};
+use fx_run_text::Step;
+use fx_tables::Packet;
 use std::marker::Model;
 
 /// How many steps there may be.

@@ -1,10 +1,11 @@
 -- Runs that go on, and steps made with the destinations in use, worked out by the definitions.
 use Rattle.std.proofs.Common.{◌≡◌, ℕ, zero, suc, List, [], ◌∷◌, slice_get, Some, None, Ok, Err, refl, subst}
-use Rattle.fx_machine.specs.declared.packet.Packet.{Packet}
-use Rattle.fx_machine.specs.declared.step.Step.{Step}
-use Rattle.fx_machine.specs.declared.step.Step.TheVariants.{Cross, Expire, Arrive}
-use Rattle.fx_machine.specs.declared.step.HolderName.TheVariants.{Cache}
-use Rattle.fx_machine.specs.Network.{Net, Exporter, numbered}
+use Rattle.fx_tables.specs.declared.packet.Packet.{Packet}
+use Rattle.fx_run_text.specs.declared.step.Step.{Step}
+use Rattle.fx_run_text.specs.declared.step.Step.TheVariants.{Cross, Expire, Arrive}
+use Rattle.fx_tables.specs.declared.holder_name.HolderName.TheVariants.{Cache}
+use Rattle.fx_tables.specs.Network.{Net, Exporter}
+use Rattle.fx_base.specs.Entries.{numbered}
 use Rattle.fx_machine.specs.States.{opening}
 use Rattle.fx_machine.specs.Steps.{after, run}
 use Rattle.fx_machine.proofs.ClaimExamples.{net, customers, one, two, having, first, second, by_choice}

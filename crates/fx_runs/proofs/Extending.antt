@@ -4,12 +4,13 @@ use Rattle.std.specs.Prelude.{remove, slice_get, slice_set}
 use Rattle.std.proofs.lemmas.List.{append-nil}
 use Rattle.fx_base.specs.declared.counts.Counts.{Counts}
 use Rattle.fx_layout.specs.Keys.{Key, project, refines}
-use Rattle.fx_machine.specs.declared.packet.Packet.{Packet}
-use Rattle.fx_machine.specs.declared.record.Record.{Record}
-use Rattle.fx_machine.specs.declared.step.Step.{Step}
-use Rattle.fx_machine.specs.declared.step.Step.TheVariants.{Cross, Expire, Arrive}
-use Rattle.fx_machine.specs.Network.{Net, Exporter, numbered, holder_place}
-use Rattle.fx_machine.specs.Classes.{Class, path}
+use Rattle.fx_tables.specs.declared.packet.Packet.{Packet}
+use Rattle.fx_tables.specs.declared.record.Record.{Record}
+use Rattle.fx_run_text.specs.declared.step.Step.{Step}
+use Rattle.fx_run_text.specs.declared.step.Step.TheVariants.{Cross, Expire, Arrive}
+use Rattle.fx_tables.specs.Network.{Net, Exporter, holder_place}
+use Rattle.fx_base.specs.Entries.{numbered}
+use Rattle.fx_tables.specs.Classes.{Class, path}
 use Rattle.fx_machine.specs.States.{State, Coming, crossings_from, coming_from, opening, nothing_at, without, add_at, tallied, sent_to, sent_to_all}
 use Rattle.fx_machine.specs.Acts.{Choices, Act, Tally, Send, Hold, Made, Outcome, sent_to_chosen, send_by_choice, taken_in, with_held, hold_in, hold, act, all_used, act_all, all_acts}
 use Rattle.fx_machine.specs.Steps.{one_packet, crossing_acts, leaving, arriving, later, place, after_cross, after_expire, expire_from, expire_at, link_place, after_arrive, arrive_from, arrive_at, after, then_run, run}

@@ -2,10 +2,10 @@
 use Rattle.std.proofs.Common.{◌≡◌, ◌≢◌, ℕ, zero, suc, ◌-◌, ◌<◌, ◌==◌, Bool, true, false, cond, List, [], ◌∷◌, ◌++◌, length, drop, option_map, Option, Some, None, refl, ap, sym, ◌∙◌, arith, append_assoc, append-nil, slice_get, slice_set}
 use Rattle.std.proofs.lemmas.Bool.{eqb-true, eqb-false}
 use Rattle.std.proofs.Math.Seq.{drop-append_seam, drop-length}
-use Rattle.fx_machine.specs.declared.record.Record.{Record}
-use Rattle.fx_machine.specs.declared.step.HolderName.{HolderName}
-use Rattle.fx_machine.specs.declared.step.Step.TheVariants.{Cross, Expire, Arrive}
-use Rattle.fx_machine.specs.Network.{entries}
+use Rattle.fx_tables.specs.declared.record.Record.{Record}
+use Rattle.fx_tables.specs.declared.holder_name.HolderName.{HolderName}
+use Rattle.fx_run_text.specs.declared.step.Step.TheVariants.{Cross, Expire, Arrive}
+use Rattle.fx_tables.specs.Network.{entries}
 use Rattle.fx_machine.specs.States.{State, put_last}
 use Rattle.fx_machine.specs.Acts.{Choices}
 use Rattle.fx_machine.specs.Sends.{put_all}

@@ -1,24 +1,25 @@
 -- Steps that can be made.
 use Rattle.std.proofs.Common.{◌≡◌, ◌≢◌, ℕ, suc, ◌+◌, ◌%◌, ◌^◌, ◌==◌, Bool, true, false, cond, List, [], ◌∷◌, ◌++◌, drop, option_and_then, remove, slice_get, slice_set, refl, ap, sym, ◌∙◌, append_assoc, append-nil, Option, Some, None, Ok}
 use Rattle.fx_layout.specs.Keys.{refines, project}
-use Rattle.fx_machine.specs.declared.holding.Holding.{Holding}
-use Rattle.fx_machine.specs.declared.packet.Packet.{Packet}
-use Rattle.fx_machine.specs.declared.traffic.Crossing.{Crossing}
-use Rattle.fx_machine.specs.declared.record.Record.{Record}
-use Rattle.fx_machine.specs.declared.step.HolderName.{HolderName}
-use Rattle.fx_machine.specs.declared.step.Step.TheVariants.{Cross, Expire, Arrive}
-use Rattle.fx_machine.specs.Network.{Net, Exporter, Process, numbered, entries, at_places, before, named_by, holder_place}
-use Rattle.fx_machine.specs.Classes.{Class, path}
-use Rattle.fx_machine.specs.Occurrences.{occurrences}
+use Rattle.fx_tables.specs.declared.holding.Holding.{Holding}
+use Rattle.fx_tables.specs.declared.packet.Packet.{Packet}
+use Rattle.fx_tables.specs.declared.traffic.Crossing.{Crossing}
+use Rattle.fx_tables.specs.declared.record.Record.{Record}
+use Rattle.fx_tables.specs.declared.holder_name.HolderName.{HolderName}
+use Rattle.fx_run_text.specs.declared.step.Step.TheVariants.{Cross, Expire, Arrive}
+use Rattle.fx_tables.specs.Network.{Net, Exporter, Process, entries, at_places, before, named_by, holder_place}
+use Rattle.fx_base.specs.Entries.{numbered}
+use Rattle.fx_tables.specs.Classes.{Class, path}
+use Rattle.fx_tables.specs.Occurrences.{occurrences}
 use Rattle.fx_machine.specs.States.{State, without, add_at, tallied}
 use Rattle.fx_machine.specs.Acts.{Choices, Act, Outcome, all_acts}
 use Rattle.fx_machine.specs.Sends.{put_all, linked, links_of, Chosen, next_destination, chosen_from}
 use Rattle.fx_machine.specs.Holds.{hold_all}
-use Rattle.fx_machine.specs.Handling.{aggregated}
+use Rattle.fx_tables.specs.Takers.{aggregated}
 use Rattle.fx_machine.specs.Tallies.{totals_when, unassigned_when}
 use Rattle.fx_machine.specs.Steps.{one_packet, crossing_acts, place, after_cross, after}
 use Rattle.fx_machine.proofs.Stepping.{held_out, holds_are, expire_is, arrive_is}
-use Rattle.fx_machine.proofs.Meterings.{met_acts, handling_is}
+use Rattle.fx_machine.proofs.MeteringActs.{met_acts, handling_is}
 use Rattle.fx_runs.specs.Destinations.{number_in_use, AllUsable, link_of, used_by, links_used, in_use, sent_by}
 use Rattle.fx_runs.specs.Making.{metered, tallied_at}
 

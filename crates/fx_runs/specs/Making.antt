@@ -1,20 +1,22 @@
 -- That steps can be made with the destinations in use, and what they make.
 use Rattle.std.specs.Prelude.{◌≡◌, ℕ, suc, List, ◌∷◌, ◌++◌, ◌==◌, remove, slice_get, slice_set, Some, Ok, if◌then◌else◌}
 use Rattle.fx_elements.specs.Axes.{Fields}
-use Rattle.fx_machine.specs.declared.holding.Holding.{Holding}
-use Rattle.fx_machine.specs.declared.packet.Packet.{Packet}
-use Rattle.fx_machine.specs.declared.record.Record.{Record}
-use Rattle.fx_machine.specs.declared.step.HolderName.{HolderName}
-use Rattle.fx_machine.specs.declared.step.Step.TheVariants.{Cross, Expire, Arrive}
-use Rattle.fx_machine.specs.declared.traffic.Crossing.{Crossing}
-use Rattle.fx_machine.specs.Network.{Net, Process, numbered, named_by, holder_place}
-use Rattle.fx_machine.specs.Classes.{Class, path}
-use Rattle.fx_machine.specs.Occurrences.{occurrences}
+use Rattle.fx_tables.specs.declared.holding.Holding.{Holding}
+use Rattle.fx_tables.specs.declared.packet.Packet.{Packet}
+use Rattle.fx_tables.specs.declared.record.Record.{Record}
+use Rattle.fx_tables.specs.declared.holder_name.HolderName.{HolderName}
+use Rattle.fx_run_text.specs.declared.step.Step.TheVariants.{Cross, Expire, Arrive}
+use Rattle.fx_tables.specs.declared.traffic.Crossing.{Crossing}
+use Rattle.fx_tables.specs.Network.{Net, Process, named_by, holder_place}
+use Rattle.fx_base.specs.Entries.{numbered}
+use Rattle.fx_tables.specs.Classes.{Class, path}
+use Rattle.fx_tables.specs.Occurrences.{occurrences}
 use Rattle.fx_machine.specs.States.{State, without, tallied}
 use Rattle.fx_machine.specs.Acts.{Choices}
 use Rattle.fx_machine.specs.Sends.{put_all}
-use Rattle.fx_machine.specs.Holds.{hold_all, met_holdings}
-use Rattle.fx_machine.specs.Handling.{aggregated}
+use Rattle.fx_machine.specs.Holds.{hold_all}
+use Rattle.fx_tables.specs.Holdings.{met_holdings}
+use Rattle.fx_tables.specs.Takers.{aggregated}
 use Rattle.fx_machine.specs.Steps.{one_packet, place, after}
 use Rattle.fx_runs.specs.Destinations.{AllUsable, links_used, sent_by}
 

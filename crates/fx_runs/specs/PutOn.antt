@@ -1,11 +1,11 @@
 -- What the steps of a run put on a link.
 use Rattle.std.specs.Prelude.{◌≡◌, ℕ, suc, ◌-◌, ◌==◌, List, [], ◌∷◌, ◌++◌, length, drop, slice_get, Ok, Err, if◌then◌else◌}
-use Rattle.fx_machine.specs.declared.packet.Packet.{Packet}
-use Rattle.fx_machine.specs.declared.record.Record.{Record}
-use Rattle.fx_machine.specs.declared.step.Step.{Step}
-use Rattle.fx_machine.specs.declared.step.Step.TheVariants.{Arrive}
-use Rattle.fx_machine.specs.Network.{Net, entries}
-use Rattle.fx_machine.specs.Classes.{Class}
+use Rattle.fx_tables.specs.declared.packet.Packet.{Packet}
+use Rattle.fx_tables.specs.declared.record.Record.{Record}
+use Rattle.fx_run_text.specs.declared.step.Step.{Step}
+use Rattle.fx_run_text.specs.declared.step.Step.TheVariants.{Arrive}
+use Rattle.fx_tables.specs.Network.{Net, entries}
+use Rattle.fx_tables.specs.Classes.{Class}
 use Rattle.fx_machine.specs.States.{State, Coming}
 use Rattle.fx_machine.specs.Acts.{Outcome}
 use Rattle.fx_machine.specs.Steps.{after, run}

@@ -9,9 +9,10 @@ use Rattle.fx_cert.specs.declared.item.Version.{Version}
 use Rattle.fx_cert.specs.declared.item.Version.TheVariants.{One, Two}
 use Rattle.fx_elements.specs.declared.axis.Axis.{Axis}
 use Rattle.fx_elements.specs.Axes.{axis_index}
-use Rattle.fx_machine.specs.Classes.{Class}
-use Rattle.fx_machine.specs.Network.{Net, numbered}
-use Rattle.fx_machine.specs.declared.traffic.Crossing.{Crossing}
+use Rattle.fx_tables.specs.Classes.{Class}
+use Rattle.fx_tables.specs.Network.{Net}
+use Rattle.fx_base.specs.Entries.{numbered}
+use Rattle.fx_tables.specs.declared.traffic.Crossing.{Crossing}
 use Rattle.fx_boxes.specs.Boxes.{Bounds, above_part, below_part}
 use Rattle.fx_leaf.specs.Certificates.{Tree, Leaf, Uncounted, Split, SoundTree}
 use Rattle.fx_leaf.specs.SoundLeaves.{SoundLeaf, SoundNever}

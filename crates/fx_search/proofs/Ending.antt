@@ -9,13 +9,14 @@ use Rattle.fx_boxes.proofs.Holding.{holds_if}
 use Rattle.fx_cert.specs.declared.item.Item.{Item}
 use Rattle.fx_cert.specs.declared.item.Item.TheVariants as item
 use Rattle.fx_cert.specs.declared.item.Version.{Version}
-use Rattle.fx_machine.specs.declared.packet.Packet.{Packet}
-use Rattle.fx_machine.specs.declared.traffic.Crossing.{Crossing}
-use Rattle.fx_machine.specs.Classes.{Class, IsOf, exempts, path}
-use Rattle.fx_machine.specs.Network.{Net, numbered}
+use Rattle.fx_tables.specs.declared.packet.Packet.{Packet}
+use Rattle.fx_tables.specs.declared.traffic.Crossing.{Crossing}
+use Rattle.fx_tables.specs.Classes.{Class, IsOf, exempts, path}
+use Rattle.fx_tables.specs.Network.{Net}
+use Rattle.fx_base.specs.Entries.{numbered}
 use Rattle.fx_traffic.specs.Targets.{Target, targets_of}
 use Rattle.fx_steps.specs.WrongRun.{HasNoRun, IsWrongRun}
-use Rattle.fx_machine.specs.declared.step.Step.{Step}
+use Rattle.fx_run_text.specs.declared.step.Step.{Step}
 use Rattle.fx_refute.specs.Refutations.{Refutes}
 use Rattle.fx_search.specs.Fronts.{Ahead, Front, root}
 use Rattle.fx_search.specs.Fronts.Front.{begins}

@@ -4,9 +4,10 @@ use Rattle.std.specs.List.{AllByRecursion}
 use Rattle.fx_elements.specs.Axes.{axis_index}
 use Rattle.fx_elements.specs.declared.axis.Axis.{Axis}
 use Rattle.fx_boxes.specs.Boxes.{Bounds, IsInside, IsStrictlyInside, below_part, above_part}
-use Rattle.fx_machine.specs.declared.traffic.Crossing.{Crossing}
-use Rattle.fx_machine.specs.Classes.{Class}
-use Rattle.fx_machine.specs.Network.{Net, numbered}
+use Rattle.fx_tables.specs.declared.traffic.Crossing.{Crossing}
+use Rattle.fx_tables.specs.Classes.{Class}
+use Rattle.fx_tables.specs.Network.{Net}
+use Rattle.fx_base.specs.Entries.{numbered}
 use Rattle.fx_leaf.specs.Splits.{IsSplit}
 use Rattle.fx_leaf.specs.Splits.IsSplit.{of_selection, of_match}
 use Rattle.fx_traffic.specs.Targets.{Target, targets_along, targets_from, targets_of}

@@ -10,7 +10,7 @@ use Rattle.fx_cert.specs.declared.item.Item.{Item}
 use Rattle.fx_cert.specs.declared.item.Item.TheVariants as item
 use Rattle.fx_cert.specs.declared.item.Version.{Version}
 use Rattle.fx_elements.specs.declared.axis.Axis.{Axis}
-use Rattle.fx_machine.specs.Network.{Net}
+use Rattle.fx_tables.specs.Network.{Net}
 use Rattle.fx_leaf.specs.declared.judging.Judgement.{Judgement}
 use Rattle.fx_leaf.specs.declared.judging.Judgement.TheVariants as judged
 use Rattle.fx_leaf.specs.declared.verdict.Fate.{Fate}

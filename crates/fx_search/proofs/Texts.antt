@@ -10,8 +10,8 @@ use Rattle.fx_cert.specs.ItemText.{IsItem, axis_word, item_text, item_words}
 use Rattle.fx_elements.specs.declared.axis.Axis.{Axis}
 use Rattle.fx_elements.specs.declared.axis.Axis.TheVariants.{Source, Destination, Protocol, SourcePort, DestinationPort, ClassOfService, Version, Source6, Destination6}
 use Rattle.fx_elements.proofs.Addresses.{decimal_avoids}
-use Rattle.fx_machine.specs.RunLineText.{ended_line}
-use Rattle.fx_machine.proofs.RunTexts.{AreWords, IsLine, IsWord, line_join, text_of_lines, written}
+use Rattle.fx_run_text.specs.RunLineText.{ended_line}
+use Rattle.fx_run_text.proofs.RunTexts.{AreWords, IsLine, IsWord, line_join, text_of_lines, written}
 use Rattle.fx_elements.proofs.EveryAxis.{top_small}
 use Rattle.fx_check.specs.Certificates.{IsWritable, item_line}
 use Rattle.fx_search.specs.Found.{certificate_text}

@@ -8,11 +8,11 @@ use Rattle.fx_cert.specs.ItemText.{item_text}
 use Rattle.fx_cert.specs.declared.item.Item.{Item}
 use Rattle.fx_cert.specs.declared.item.Version.{Version}
 use Rattle.fx_cert.specs.declared.item.Version.TheVariants.{One, Two}
-use Rattle.fx_machine.specs.declared.traffic.Crossing.{Crossing}
+use Rattle.fx_tables.specs.declared.traffic.Crossing.{Crossing}
 use Rattle.fx_machine.specs.Claim.{ExactlyOnce, OnceModulo}
-use Rattle.fx_machine.specs.Classes.{Class}
-use Rattle.fx_machine.specs.Network.{Net}
-use Rattle.fx_machine.specs.RunText.{lines_text}
+use Rattle.fx_tables.specs.Classes.{Class}
+use Rattle.fx_tables.specs.Network.{Net}
+use Rattle.fx_run_text.specs.RunText.{lines_text}
 use Rattle.fx_leaf.specs.Certificates.{Tree, Leaf, Uncounted, Split, Sound}
 use Rattle.fx_leaf.specs.Splits.{IsSplit}
 use Rattle.fx_traffic.specs.Targets.{Target, targets_of}

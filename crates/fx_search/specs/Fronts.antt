@@ -3,7 +3,7 @@ use Rattle.std.specs.Prelude.{◌≡◌, ◌≢◌, ◌⊎◌, ◌<◌, ℕ, suc
 use Rattle.fx_elements.specs.declared.axis.Axis.{Axis}
 use Rattle.fx_elements.specs.Axes.{axis_index}
 use Rattle.fx_boxes.specs.Boxes.{Bounds, below_part, above_part}
-use Rattle.fx_machine.specs.Network.{Net}
+use Rattle.fx_tables.specs.Network.{Net}
 use Rattle.fx_leaf.specs.Answers.{NothingCuts}
 use Rattle.fx_leaf.specs.Fates.{packet_fate, wanted}
 use Rattle.fx_leaf.specs.SoundLeaves.{SoundLeaf, SoundNever}

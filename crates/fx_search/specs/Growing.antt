@@ -7,10 +7,11 @@ use Rattle.fx_base.specs.Fault.{fault_at}
 use Rattle.fx_cert.specs.declared.item.Item.{Item}
 use Rattle.fx_cert.specs.declared.item.Item.TheVariants as item
 use Rattle.fx_cert.specs.declared.item.Version.{Version}
-use Rattle.fx_machine.specs.declared.packet.Packet.{Packet}
+use Rattle.fx_tables.specs.declared.packet.Packet.{Packet}
 use Rattle.fx_boxes.specs.Boxes.{IsInside}
-use Rattle.fx_machine.specs.Classes.{Class}
-use Rattle.fx_machine.specs.Network.{Net, numbered}
+use Rattle.fx_tables.specs.Classes.{Class}
+use Rattle.fx_tables.specs.Network.{Net}
+use Rattle.fx_base.specs.Entries.{numbered}
 use Rattle.fx_leaf.specs.declared.judging.Judgement.{Judgement}
 use Rattle.fx_leaf.specs.declared.judging.Judgement.TheVariants as judged
 use Rattle.fx_leaf.specs.Answers.{NothingCuts}

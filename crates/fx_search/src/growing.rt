@@ -15,7 +15,7 @@ use fx_boxes::Region;
 use fx_cert::{Item, Version};
 use fx_elements::Axis;
 use fx_leaf::{Judgement, Scratch, Tables, judge};
-use fx_machine::Packet;
+use fx_tables::Packet;
 use fx_traffic::Target;
 use std::alloc::{AllocError, Global};
 use std::marker::Model;

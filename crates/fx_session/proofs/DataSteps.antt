@@ -2,7 +2,7 @@
 use Rattle.std.proofs.Common.{◌≡◌, ℕ, zero, suc, ◌+◌, ◌%◌, ◌^◌, ◌≤◌, ◌<◌, Bool, true, false, ◌==◌, cond, ltb, ltb-false, lt-ltb, le-ltb, List, [], ◌∷◌, ◌++◌, length, drop, slice_index, refl, ap, sym, ◌∙◌, arith, append_assoc, length-drop, Option, Some, None, Result, Ok, Err, inl, inr}
 use Rattle.std.specs.Int.{w16}
 use Rattle.std.proofs.lemmas.List.Sums.{sum_by-cons}
-use Rattle.fx_machine.specs.declared.record.Record.{Record}
+use Rattle.fx_tables.specs.declared.record.Record.{Record}
 use Rattle.fx_wire.proofs.SetLists.{chosen}
 use Rattle.fx_wire.proofs.RecordSteps.{record_at-first, record_at-cut, record_at-end}
 use Rattle.fx_wire.specs.Numbers.{number_at}

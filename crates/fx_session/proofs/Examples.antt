@@ -1,7 +1,7 @@
 -- A stream of two messages, and a prefix, read by the definitions alone.
 use Rattle.std.proofs.Common.{◌≡◌, ℕ, List, [], ◌∷◌, ◌++◌, length, refl, Some, None, Ok, Err}
 use Rattle.fx_elements.specs.declared.axis.Axis.TheVariants.{Source, Source6}
-use Rattle.fx_machine.specs.declared.record.Record.{Record}
+use Rattle.fx_tables.specs.declared.record.Record.{Record}
 use Rattle.fx_wire.specs.Sets.{sets_of, sets_in}
 use Rattle.fx_wire.specs.Fields.{element_of, fields_in}
 use Rattle.fx_wire.specs.Values.{Value, record_at}

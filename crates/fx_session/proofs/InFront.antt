@@ -1,6 +1,6 @@
 -- Records that wait stand in front of those that are read, and change nothing else.
 use Rattle.std.proofs.Common.{◌≡◌, ℕ, zero, suc, ◌+◌, ◌%◌, ◌^◌, Bool, true, false, ◌==◌, cond, ltb, List, [], ◌∷◌, ◌++◌, length, drop, refl, sym, ap, ◌∙◌, append_assoc, Option, Some, None, Result, Ok, Err}
-use Rattle.fx_machine.specs.declared.record.Record.{Record}
+use Rattle.fx_tables.specs.declared.record.Record.{Record}
 use Rattle.fx_session.proofs.DataSteps.{flow_turn, option_turn}
 use Rattle.fx_session.proofs.StreamSteps.{fed_on, fed_off}
 use Rattle.fx_session.specs.DataSets.{Taken, with_flow, after_flow, after_values, flow_record, flow_records, flow_set, option_records, option_set}

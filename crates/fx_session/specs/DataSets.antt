@@ -1,6 +1,6 @@
 -- Data sets (RFC 7011, sections 3.4.3 and 3.3.1).
 use Rattle.std.specs.Prelude.{◌≡◌, ℕ, zero, suc, ◌+◌, ◌%◌, ◌^◌, nat_lt, if◌then◌else◌, List, [], ◌∷◌, ◌++◌, length, Option, Some, None, Result, Ok, Err}
-use Rattle.fx_machine.specs.declared.record.Record.{Record}
+use Rattle.fx_tables.specs.declared.record.Record.{Record}
 use Rattle.fx_wire.specs.Values.{Value, record_at, after_record, shortest_record}
 use Rattle.fx_wire.specs.declared.field.FieldSpecifier.{FieldSpecifier}
 use Rattle.fx_session.specs.Flows.{flow_in}

@@ -6,7 +6,7 @@ use Rattle.fx_elements.specs.declared.element.Element.{Element}
 use Rattle.fx_elements.specs.declared.element.Element.TheVariants.{OnAxis, OctetDeltaCount, PacketDeltaCount, Prefix, PrefixLength}
 use Rattle.fx_elements.specs.Axes.{Fields, axes, axis_width, is_address, same_axis}
 use Rattle.fx_layout.specs.Keys.{Layout, Key, key_of}
-use Rattle.fx_machine.specs.declared.record.Record.{Record}
+use Rattle.fx_tables.specs.declared.record.Record.{Record}
 use Rattle.fx_session.specs.declared.key.Leading.{Leading}
 use Rattle.fx_wire.specs.Fields.{element_of}
 use Rattle.fx_wire.specs.Values.{Value}

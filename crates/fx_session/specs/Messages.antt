@@ -1,6 +1,6 @@
 -- What a message does to what a session knows.
 use Rattle.std.specs.Prelude.{ℕ, ◌+◌, ◌%◌, ◌^◌, ◌==◌, if◌then◌else◌, List, [], ◌∷◌, Option, Some, None, Result, Ok, Err}
-use Rattle.fx_machine.specs.declared.record.Record.{Record}
+use Rattle.fx_tables.specs.declared.record.Record.{Record}
 use Rattle.fx_session.specs.declared.domain.Domain.{Domain}
 use Rattle.fx_wire.specs.Sets.{SetParts}
 use Rattle.fx_wire.specs.Messages.{Message}

@@ -9,7 +9,7 @@ use crate::seen::Seen;
 use fx_base::Counts;
 use fx_boxes::Fields;
 use fx_elements::{AXES, Axis, EVERY_AXIS, width};
-use fx_machine::Record;
+use fx_tables::Record;
 
 /// What is known on the axis: its value, or what a prefix of it tells.
 ///

@@ -7,7 +7,7 @@ ghost use Rattle.fx_session.specs.Streams as streams;
 use crate::domain::{Domain, put_domain, take_domain};
 use crate::sets::take_sets;
 use crate::taken::Taken;
-use fx_machine::Record;
+use fx_tables::Record;
 use fx_wire::Message;
 use std::alloc::Global;
 use std::collections::BTreeMap;

@@ -1,11 +1,11 @@
 //! Sessions: a stream in pieces.
 ghost use Rattle.std.specs.Prelude.{◌≡◌, ◌≢◌, ◌≤◌, ◌++◌, ℕ, List, length, take, drop, Ok, Err, Some, None, IsSome};
-ghost use Rattle.fx_machine.specs.declared.record.Record.{Record};
+ghost use Rattle.fx_tables.specs.declared.record.Record.{Record};
 ghost use Rattle.fx_session.specs.Streams as streams;
 
 use crate::known::Known;
 use fx_base::Fault;
-use fx_machine::Record;
+use fx_tables::Record;
 use fx_wire::{Parsed, parse};
 use std::alloc::Global;
 use std::marker::Model;

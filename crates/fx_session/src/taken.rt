@@ -3,7 +3,7 @@ ghost use Rattle.std.specs.Prelude.{◌≡◌, ◌+◌, ◌%◌, ◌^◌, ◌≤
 ghost use Rattle.fx_session.specs.DataSets as sets;
 ghost use Rattle.fx_session.specs.Calls.{Grows};
 
-use fx_machine::Record;
+use fx_tables::Record;
 use std::alloc::Global;
 use std::collections::VecDeque;
 use std::marker::Model;

@@ -2,13 +2,13 @@
 use Rattle.std.proofs.Common.{◌≡◌, ℕ, zero, suc, ◌+◌, ◌≤◌, Bool, true, false, cond, ◌==◌, List, [], ◌∷◌, ◌++◌, map, length, length-append, Option, Some, None, Ok, refl, sym, ap, ap₂, ◌∙◌, subst, arith, slice_get}
 use Rattle.fx_layout.specs.Keys.{Layout, Key, Fits, key_of, refines, project}
 use Rattle.fx_layout.proofs.Projections.{project_key}
-use Rattle.fx_machine.specs.declared.packet.Packet.{Packet}
-use Rattle.fx_machine.specs.declared.record.Record.{Record}
-use Rattle.fx_machine.specs.declared.step.Step.{Step}
-use Rattle.fx_machine.specs.declared.step.Step.TheVariants.{Expire, Arrive}
-use Rattle.fx_machine.specs.Classes.{Class}
-use Rattle.fx_machine.specs.Network.{Net}
-use Rattle.fx_machine.specs.Ranks.{IsNetwork}
+use Rattle.fx_tables.specs.declared.packet.Packet.{Packet}
+use Rattle.fx_tables.specs.declared.record.Record.{Record}
+use Rattle.fx_run_text.specs.declared.step.Step.{Step}
+use Rattle.fx_run_text.specs.declared.step.Step.TheVariants.{Expire, Arrive}
+use Rattle.fx_tables.specs.Classes.{Class}
+use Rattle.fx_tables.specs.Network.{Net}
+use Rattle.fx_tables.specs.Ranks.{IsNetwork}
 use Rattle.fx_machine.specs.States.{State, Coming, opening, nothing_at, put_last, add_at}
 use Rattle.fx_machine.specs.Steps.{run, then_run, after, one_packet}
 use Rattle.fx_machine.proofs.Lists.{length_nothing}

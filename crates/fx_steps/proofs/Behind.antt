@@ -4,8 +4,8 @@ use Rattle.std.proofs.Math.Seq.{take-length}
 use Rattle.std.proofs.lemmas.List.{length-drop}
 use Rattle.std.specs.List.{AllByRecursion}
 use Rattle.fx_elements.specs.Axes.{Fields}
-use Rattle.fx_machine.specs.Network.{Net, exporters_of}
-use Rattle.fx_machine.specs.Runnable.{IsRunnable}
+use Rattle.fx_tables.specs.Network.{Net, exporters_of}
+use Rattle.fx_tables.specs.Runnable.{IsRunnable}
 use Rattle.fx_leaf.specs.declared.verdict.Fate.{Fate}
 use Rattle.fx_leaf.specs.Tables.{Numbering, Tables, AreTables, number_of_layout}
 use Rattle.fx_leaf.proofs.FateLaws.{Every}

@@ -1,7 +1,7 @@
 -- From a way to a chain of acts.
 use Rattle.std.proofs.Common.{◌≡◌, ℕ, suc, ◌+◌, true, false, List, [], ◌∷◌, ◌++◌, refl, sym, ap, subst, arith}
 use Rattle.fx_layout.specs.Keys.{Key}
-use Rattle.fx_machine.specs.Network.{Net, Exporter}
+use Rattle.fx_tables.specs.Network.{Net, Exporter}
 use Rattle.fx_machine.specs.Acts.{Act, Send}
 use Rattle.fx_leaf.specs.declared.verdict.Fate.{Fate}
 use Rattle.fx_leaf.specs.declared.verdict.Fate.TheVariants.{Never}

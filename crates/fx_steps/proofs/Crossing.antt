@@ -2,13 +2,14 @@
 use Rattle.std.proofs.Common.{◌≡◌, ℕ, zero, suc, ◌+◌, ◌<◌, Bool, true, false, cond, if◌then◌else◌, List, [], ◌∷◌, map, length, Option, Some, None, IfSome, refl, sym, subst, slice_get}
 use Rattle.std.specs.List.{AllByRecursion}
 use Rattle.fx_elements.specs.Axes.{Fields}
-use Rattle.fx_machine.specs.declared.observation.Occurrence.{Occurrence}
-use Rattle.fx_machine.specs.declared.observation.Selection.{Selection}
-use Rattle.fx_machine.specs.declared.traffic.Crossing.{Crossing}
-use Rattle.fx_machine.specs.Network.{Net, Exporter, Point, Device, numbered, points_of, exporters_of, named_by}
-use Rattle.fx_machine.specs.Occurrences.{selects, occurrence, met_by, watches, met_at, occurrences}
+use Rattle.fx_tables.specs.declared.observation.Occurrence.{Occurrence}
+use Rattle.fx_tables.specs.declared.observation.Selection.{Selection}
+use Rattle.fx_tables.specs.declared.traffic.Crossing.{Crossing}
+use Rattle.fx_tables.specs.Network.{Net, Exporter, Point, Device, points_of, exporters_of, named_by}
+use Rattle.fx_base.specs.Entries.{numbered}
+use Rattle.fx_tables.specs.Occurrences.{selects, occurrence, met_by, watches, met_at, occurrences}
 use Rattle.fx_machine.specs.Steps.{meet, crossing_acts}
-use Rattle.fx_machine.specs.Ranks.{IsNetwork}
+use Rattle.fx_tables.specs.Ranks.{IsNetwork}
 use Rattle.fx_leaf.specs.declared.verdict.Fate.{Fate}
 use Rattle.fx_leaf.specs.declared.verdict.Fate.TheVariants.{Never}
 use Rattle.fx_leaf.specs.Fates.{both}
@@ -16,7 +17,7 @@ use Rattle.fx_leaf.specs.Tables.{Numbering, Numbers, Tables, AreTables}
 use Rattle.fx_leaf.proofs.FateLaws.{Every, every_append}
 use Rattle.fx_steps.specs.Costs.{Tells, next}
 use Rattle.fx_steps.specs.CostTables.{CostTable, cost_fill, held_costs, met_costs, path_costs}
-use Rattle.fx_machine.specs.Runnable.{IsHolder, IsRunnable}
+use Rattle.fx_tables.specs.Runnable.{IsHolder, IsRunnable}
 use Rattle.fx_steps.specs.Ways.{Comes, PacketComes, acts}
 use Rattle.fx_steps.proofs.Whole.{whole, IsWhole, HasLinks, HasCaches}
 use Rattle.fx_steps.proofs.Costing.{Both, both_tells, next_tells, nothing_tells}

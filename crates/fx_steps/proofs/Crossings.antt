@@ -2,16 +2,17 @@
 use Rattle.std.proofs.Common.{◌≡◌, ℕ, suc, ◌+◌, ◌≤◌, List, [], ◌∷◌, ◌++◌, length, length-append, Some, Ok, refl, sym, ap, ap₂, ◌∙◌, subst, arith}
 use Rattle.std.specs.List.{AllByRecursion}
 use Rattle.fx_elements.specs.Axes.{Fields}
-use Rattle.fx_machine.specs.declared.observation.Occurrence.{Occurrence}
-use Rattle.fx_machine.specs.declared.packet.Packet.{Packet}
-use Rattle.fx_machine.specs.declared.step.Step.{Step}
-use Rattle.fx_machine.specs.declared.step.Step.TheVariants.{Cross}
-use Rattle.fx_machine.specs.declared.traffic.Crossing.{Crossing}
-use Rattle.fx_machine.specs.Classes.{Class, path}
-use Rattle.fx_machine.specs.Network.{Net, numbered}
-use Rattle.fx_machine.specs.Occurrences.{occurrences}
-use Rattle.fx_machine.specs.Ranks.{IsNetwork}
-use Rattle.fx_machine.specs.Runnable.{IsHolder, IsRunnable}
+use Rattle.fx_tables.specs.declared.observation.Occurrence.{Occurrence}
+use Rattle.fx_tables.specs.declared.packet.Packet.{Packet}
+use Rattle.fx_run_text.specs.declared.step.Step.{Step}
+use Rattle.fx_run_text.specs.declared.step.Step.TheVariants.{Cross}
+use Rattle.fx_tables.specs.declared.traffic.Crossing.{Crossing}
+use Rattle.fx_tables.specs.Classes.{Class, path}
+use Rattle.fx_tables.specs.Network.{Net}
+use Rattle.fx_base.specs.Entries.{numbered}
+use Rattle.fx_tables.specs.Occurrences.{occurrences}
+use Rattle.fx_tables.specs.Ranks.{IsNetwork}
+use Rattle.fx_tables.specs.Runnable.{IsHolder, IsRunnable}
 use Rattle.fx_machine.specs.States.{Coming, opening}
 use Rattle.fx_machine.specs.Acts.{all_acts}
 use Rattle.fx_machine.specs.Steps.{run, then_run, after, crossing_acts, one_packet}

@@ -4,10 +4,10 @@ use Rattle.std.specs.List.{AllByRecursion}
 use Rattle.fx_elements.specs.Axes.{Fields}
 use Rattle.fx_layout.specs.Keys.{Layout, Key, Fits, key_of, refines}
 use Rattle.fx_machine.specs.Acts.{Choices, Act, Send, Hold, Tally}
-use Rattle.fx_machine.specs.Network.{Net, Aggregation, Process, at_places, exporters_of, layout_of, takes}
+use Rattle.fx_tables.specs.Network.{Net, Aggregation, Process, at_places, exporters_of, layout_of, takes}
 use Rattle.fx_machine.specs.Steps.{leaving, coming_to, acts_of, take_in, meet}
-use Rattle.fx_machine.specs.Ranks.{IsNetwork}
-use Rattle.fx_machine.specs.declared.observation.Occurrence.{Occurrence}
+use Rattle.fx_tables.specs.Ranks.{IsNetwork}
+use Rattle.fx_tables.specs.declared.observation.Occurrence.{Occurrence}
 use Rattle.fx_leaf.specs.declared.verdict.Fate.{Fate}
 use Rattle.fx_leaf.specs.declared.verdict.Fate.TheVariants.{Never, Once, Many, Differing, Unassigned}
 use Rattle.fx_leaf.specs.Tables.{Numbering, Numbers, number_of_layout}
@@ -20,7 +20,7 @@ use Rattle.fx_steps.specs.CostTables.{CostTable, sent_costs, held_costs, taken_c
 use Rattle.fx_steps.specs.Planning.{sends, sends_choose, takings, takings_choose, handles, handles_choose, meets, meets_choose, layout_in, pending_items}
 use Rattle.fx_steps.specs.declared.pending.Pending.TheVariants.{AtHolder}
 use Rattle.fx_steps.specs.Spread.{pick}
-use Rattle.fx_machine.specs.Runnable.{IsHolder}
+use Rattle.fx_tables.specs.Runnable.{IsHolder}
 use Rattle.fx_steps.specs.Ways.{acts, tally_fate}
 use Rattle.fx_steps.proofs.Whole.{HasLinks}
 use Rattle.fx_steps.proofs.Picking.{pick_is, alone}

@@ -1,11 +1,12 @@
 -- How a run of a packet begins and ends.
 use Rattle.std.proofs.Common.{◌≡◌, ◌≢◌, ◌≤◌, ℕ, zero, suc, ◌+◌, ◌<◌, List, [], ◌∷◌, length, drop, get_or, append-nil, Ok, refl, sym, ap, ◌∙◌, subst, arith, add-one, le_of_suc-le-suc}
-use Rattle.fx_machine.specs.declared.packet.Packet.{Packet}
-use Rattle.fx_machine.specs.declared.step.Step.{Step}
+use Rattle.fx_tables.specs.declared.packet.Packet.{Packet}
+use Rattle.fx_run_text.specs.declared.step.Step.{Step}
 use Rattle.fx_machine.specs.Claim.{CountsEachOnce}
-use Rattle.fx_machine.specs.Classes.{Class, path, exempts, to_count}
-use Rattle.fx_machine.specs.Network.{Net, numbered}
-use Rattle.fx_machine.specs.Ranks.{IsNetwork}
+use Rattle.fx_tables.specs.Classes.{Class, path, exempts, to_count}
+use Rattle.fx_tables.specs.Network.{Net}
+use Rattle.fx_base.specs.Entries.{numbered}
+use Rattle.fx_tables.specs.Ranks.{IsNetwork}
 use Rattle.fx_machine.specs.States.{crossings_from}
 use Rattle.fx_machine.proofs.Lists.{nothing_empty}
 use Rattle.fx_leaf.specs.declared.verdict.Fate.{Fate}

@@ -7,9 +7,9 @@ use Rattle.std.specs.Prelude.{Contains}
 use Rattle.fx_elements.specs.Axes.{Fields}
 use Rattle.fx_layout.specs.Keys.{Layout, Key, key_of}
 use Rattle.fx_machine.specs.Acts.{Tally}
-use Rattle.fx_machine.specs.Network.{Net, Exporter, Aggregation, Process, at_places, before, exporters_of, named_by}
-use Rattle.fx_machine.specs.Orders.{Descends}
-use Rattle.fx_machine.specs.Ranks.{RisesTo, Rises, AllRise, ProcessRises, IsRanked, IsNetwork}
+use Rattle.fx_tables.specs.Network.{Net, Exporter, Aggregation, Process, at_places, before, exporters_of, named_by}
+use Rattle.fx_tables.specs.Orders.{Descends}
+use Rattle.fx_tables.specs.Ranks.{RisesTo, Rises, AllRise, ProcessRises, IsRanked, IsNetwork}
 use Rattle.fx_machine.specs.Steps.{acts_of, coming_to}
 use Rattle.fx_leaf.specs.Tables.{Numbering, Numbers, Tables, AreTables}
 use Rattle.fx_leaf.proofs.FateLaws.{Every}
@@ -18,7 +18,7 @@ use Rattle.fx_leaf.proofs.Rowing.{set_elsewhere, set_here}
 use Rattle.fx_steps.specs.declared.costs.Costs.{Costs}
 use Rattle.fx_steps.specs.Costs.{Tells, nothing}
 use Rattle.fx_steps.specs.CostTables.{CostTable, or_nothing, cost_in, cost_entry, cost_from, cost_row, cost_fill}
-use Rattle.fx_machine.specs.Runnable.{IsHolder}
+use Rattle.fx_tables.specs.Runnable.{IsHolder}
 use Rattle.fx_steps.specs.Ways.{acts}
 use Rattle.fx_steps.proofs.Whole.{IsWhole, HasLinks, HasHolders}
 use Rattle.fx_steps.proofs.Inverting.{Of}

@@ -1,18 +1,18 @@
 -- A record on its way may take its step so that the wanted fate is met, at the least cost.
 use Rattle.std.proofs.Common.{◌≡◌, ℕ, suc, ◌≤◌, true, false, cond, ◌==◌, List, [], ◌∷◌, length, Option, Some, None, refl, sym, ap, ap₂, ◌∙◌, subst, arith, slice_get}
 use Rattle.std.specs.List.{AllByRecursion}
-use Rattle.fx_machine.specs.Occurrences.{occurrences}
-use Rattle.fx_machine.specs.declared.traffic.Crossing.{Crossing}
-use Rattle.fx_steps.specs.CostTables.{met_costs}
-use Rattle.fx_steps.specs.Planning.{Crosses}
-use Rattle.fx_steps.proofs.Planned.{meets_meet}
-use Rattle.fx_steps.proofs.Doable.{meets_spread}
-use Rattle.fx_steps.proofs.Crossing.{caches_met}
+use Rattle.fx_tables.specs.Occurrences.{occurrences}
+use Rattle.fx_tables.specs.declared.traffic.Crossing.{Crossing}
+use Rattle.fx_steps.specs.CostTables.{met_costs, CostTable, cost_entry, cost_fill, coming_costs, link_costs, sent_costs, held_costs, tally_costs, handled_costs, cost_from}
+use Rattle.fx_steps.specs.Planning.{Crosses, sends, layout_in, total_cost, total_fate, pending_items, pending_cost, keys_fate, IsThere, Steps, arrives, arrives_choose, arrives_tallied}
+use Rattle.fx_steps.proofs.Planned.{meets_meet, sends_meet, handles_meet}
+use Rattle.fx_steps.proofs.Doable.{meets_spread, HasAll, leaving_spreads, coming_spreads, tally_is, tally_comes, same_cost}
+use Rattle.fx_steps.proofs.Crossing.{caches_met, each_good}
 use Rattle.fx_elements.specs.Axes.{Fields}
 use Rattle.fx_layout.specs.Keys.{Layout, Fits, key_of}
-use Rattle.fx_machine.specs.Network.{Net, Aggregation, Process, at_places, exporters_of, named_by}
+use Rattle.fx_tables.specs.Network.{Net, Aggregation, Process, at_places, exporters_of, named_by}
 use Rattle.fx_machine.specs.Steps.{coming_to, arriving}
-use Rattle.fx_machine.specs.Ranks.{IsNetwork}
+use Rattle.fx_tables.specs.Ranks.{IsNetwork}
 use Rattle.fx_leaf.specs.declared.verdict.Fate.{Fate}
 use Rattle.fx_leaf.specs.declared.verdict.Fate.TheVariants.{Never}
 use Rattle.fx_leaf.specs.Fates.{both}
@@ -24,19 +24,14 @@ use Rattle.fx_steps.specs.declared.pending.Pending.TheVariants.{AtHolder, OnLink
 use Rattle.fx_steps.specs.Building.{Spreads}
 use Rattle.fx_machine.specs.Limits.{step_limit}
 use Rattle.fx_steps.specs.Costs.{cost_of, both_costs}
-use Rattle.fx_steps.specs.CostTables.{CostTable, cost_entry, cost_fill, coming_costs, link_costs, sent_costs, held_costs, tally_costs, handled_costs, cost_from}
-use Rattle.fx_steps.specs.Planning.{sends, layout_in, total_cost, total_fate, pending_items, pending_cost, keys_fate, IsThere, Steps, arrives, arrives_choose, arrives_tallied}
 use Rattle.fx_steps.specs.Spread.{pick}
-use Rattle.fx_machine.specs.Runnable.{IsHolder, IsRunnable}
+use Rattle.fx_tables.specs.Runnable.{IsHolder, IsRunnable}
 use Rattle.fx_steps.specs.Ways.{acts, tally_fate}
 use Rattle.fx_steps.proofs.Whole.{whole, IsWhole, HasLinks, HasHolders}
 use Rattle.fx_steps.proofs.Costing.{cost_next}
-use Rattle.fx_steps.proofs.Crossing.{each_good}
-use Rattle.fx_steps.proofs.Doable.{HasAll, leaving_spreads, coming_spreads, tally_is, tally_comes, same_cost}
 use Rattle.fx_steps.proofs.Filled.{all_at, all_at_places, table_tells}
 use Rattle.fx_steps.proofs.Inverting.{Of}
 use Rattle.fx_steps.proofs.Picking.{pick_is, alone}
-use Rattle.fx_steps.proofs.Planned.{sends_meet, handles_meet}
 use Rattle.fx_steps.proofs.Telling.{ToldAt, GoodBy, GoodIn, entry_tells}
 
 module _ (net : Net) (n : Numbering) (fields : Fields) (network : IsNetwork net) (numbers : Numbers net n) (whole : IsWhole net) (table : CostTable) (told : (q : ℕ) → ToldAt net n fields network numbers table q) where

@@ -1,7 +1,8 @@
 -- How a way begins.
 use Rattle.std.proofs.Common.{◌≡◌, ◌⊎◌, inl, inr, ℕ, suc, ◌+◌, ◌<◌, true, false, List, [], ◌∷◌, ◌++◌, length, Option, Some, None, refl, sym, ap, ◌∙◌, subst, arith, slice_get}
 use Rattle.fx_layout.specs.Keys.{Key}
-use Rattle.fx_machine.specs.Network.{Net, Exporter, numbered}
+use Rattle.fx_tables.specs.Network.{Net, Exporter}
+use Rattle.fx_base.specs.Entries.{numbered}
 use Rattle.fx_machine.specs.Acts.{Act, Tally, Send, Hold}
 use Rattle.fx_machine.specs.Steps.{leaving, arriving}
 use Rattle.fx_leaf.specs.declared.verdict.Fate.{Fate}

@@ -1,9 +1,10 @@
 -- Names of holders, noted one after another.
 use Rattle.std.proofs.Common.{◌≡◌, ◌⊎◌, inl, inr, ℕ, zero, suc, ◌+◌, ◌<◌, List, [], ◌∷◌, length, Option, Some, None, refl, ◌∙◌, arith, slice_get}
 use Rattle.std.proofs.lemmas.Bool.{cases_lt}
-use Rattle.fx_machine.specs.declared.step.HolderName.{HolderName}
-use Rattle.fx_machine.specs.declared.step.HolderName.TheVariants.{Cache, Aggregation as AggregationOf}
-use Rattle.fx_machine.specs.Network.{Net, Device, numbered, caches_of, processes_of, process_at, aggregations_of, held_at, holder_place}
+use Rattle.fx_tables.specs.declared.holder_name.HolderName.{HolderName}
+use Rattle.fx_tables.specs.declared.holder_name.HolderName.TheVariants.{Cache, Aggregation as AggregationOf}
+use Rattle.fx_tables.specs.Network.{Net, Device, caches_of, processes_of, process_at, aggregations_of, held_at, holder_place}
+use Rattle.fx_base.specs.Entries.{numbered}
 use Rattle.fx_steps.specs.Names.{NameAll, Keep, Note, device_of}
 
 pub inside : {A : Type 0} (xs : List A) (k : ℕ) (x : A) → slice_get xs k ≡ Some x → k < length xs

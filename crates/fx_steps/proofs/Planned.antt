@@ -4,8 +4,8 @@ use Rattle.std.specs.List.{AllByRecursion}
 use Rattle.fx_elements.specs.Axes.{Fields}
 use Rattle.fx_layout.specs.Keys.{Layout, Key, key_of}
 use Rattle.fx_machine.specs.Acts.{Choices, Send}
-use Rattle.fx_machine.specs.Network.{Net, Exporter, Aggregation, Process, before, at_places, takes}
-use Rattle.fx_machine.specs.declared.observation.Occurrence.{Occurrence}
+use Rattle.fx_tables.specs.Network.{Net, Exporter, Aggregation, Process, before, at_places, takes}
+use Rattle.fx_tables.specs.declared.observation.Occurrence.{Occurrence}
 use Rattle.fx_leaf.specs.declared.verdict.Fate.{Fate}
 use Rattle.fx_leaf.specs.Fates.{both}
 use Rattle.fx_leaf.specs.Tables.{Numbering}

@@ -3,17 +3,18 @@ use Rattle.std.proofs.Common.{◌≡◌, ℕ, suc, ◌+◌, ◌<◌, ◌≤◌, 
 use Rattle.std.specs.List.{list_all}
 use Rattle.fx_layout.specs.Keys.{Key, Fits, key_of, refines, project, reads, cut}
 use Rattle.fx_layout.proofs.Projections.{and_true, project_key}
-use Rattle.fx_machine.specs.declared.record.Record.{Record}
-use Rattle.fx_machine.specs.declared.packet.Packet.{Packet}
-use Rattle.fx_machine.specs.declared.step.Step.{Step}
-use Rattle.fx_machine.specs.declared.step.Step.TheVariants.{Expire, Arrive}
-use Rattle.fx_machine.specs.declared.observation.Occurrence.{Occurrence}
-use Rattle.fx_machine.specs.Network.{Net, Aggregation, Process, numbered, at_places, exporters_of, layout_of, takes}
-use Rattle.fx_machine.specs.Classes.{Class}
+use Rattle.fx_tables.specs.declared.record.Record.{Record}
+use Rattle.fx_tables.specs.declared.packet.Packet.{Packet}
+use Rattle.fx_run_text.specs.declared.step.Step.{Step}
+use Rattle.fx_run_text.specs.declared.step.Step.TheVariants.{Expire, Arrive}
+use Rattle.fx_tables.specs.declared.observation.Occurrence.{Occurrence}
+use Rattle.fx_tables.specs.Network.{Net, Aggregation, Process, at_places, exporters_of, layout_of, takes}
+use Rattle.fx_base.specs.Entries.{numbered}
+use Rattle.fx_tables.specs.Classes.{Class}
 use Rattle.fx_machine.specs.States.{State, tallied, put_last, add_at}
 use Rattle.fx_machine.specs.Acts.{Choices, Act, Tally, Send, Hold, Outcome, all_acts, act_all, hold_in, sent_to_chosen}
 use Rattle.fx_machine.specs.Steps.{run, then_run, after, meet, leaving, arriving, coming_to, acts_of, take_in, one_packet, after_expire, expire_from, expire_at, after_arrive, arrive_from}
-use Rattle.fx_machine.specs.Ranks.{IsNetwork}
+use Rattle.fx_tables.specs.Ranks.{IsNetwork}
 use Rattle.fx_leaf.specs.declared.verdict.Fate.{Fate}
 use Rattle.fx_leaf.specs.declared.verdict.Fate.TheVariants.{Never, Once, Unassigned}
 use Rattle.fx_leaf.specs.Fates.{both}
@@ -24,7 +25,7 @@ use Rattle.fx_leaf.proofs.Steps.{every_map, every_map_filter}
 use Rattle.fx_machine.proofs.Lists.{length_put_last}
 use Rattle.fx_machine.proofs.TallyCounts.{arriving_count, leaving_count, tally_count}
 use Rattle.fx_steps.specs.Playing.{add_times, fate_of}
-use Rattle.fx_machine.specs.Runnable.{IsHolder}
+use Rattle.fx_tables.specs.Runnable.{IsHolder}
 use Rattle.fx_steps.specs.Ways.{tally_fate}
 use Rattle.fx_steps.specs.Chains.{Chain, all_of, any_of}
 use Rattle.fx_steps.specs.Chains.Chain.{no_act, tally, hold, sent, send_out, send_on, choose}

@@ -2,8 +2,8 @@
 use Rattle.std.proofs.Common.{◌≡◌, ℕ, zero, suc, ◌+◌, ◌<◌, List, [], ◌∷◌, ◌++◌, length, take, drop, get_or, refl, sym, ap, ap₂, ◌∙◌, subst, arith, add-one, le_of_suc-le-suc, slice_set}
 use Rattle.fx_elements.specs.Axes.{Fields}
 use Rattle.fx_layout.specs.Keys.{Layout}
-use Rattle.fx_machine.specs.Network.{Net}
-use Rattle.fx_machine.specs.Orders.{Descends}
+use Rattle.fx_tables.specs.Network.{Net}
+use Rattle.fx_tables.specs.Orders.{Descends}
 use Rattle.fx_steps.specs.declared.costs.Costs.{Costs}
 use Rattle.fx_leaf.specs.Tables.{Numbering}
 use Rattle.fx_steps.specs.CostTables.{CostTable, cost_from, cost_row, cost_fill}

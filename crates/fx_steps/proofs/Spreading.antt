@@ -2,19 +2,20 @@
 use Rattle.std.proofs.Common.{◌≡◌, ℕ, zero, suc, ◌+◌, ◌<◌, true, false, cond, List, [], ◌∷◌, ◌++◌, length, Option, Some, None, Ok, refl, sym, ap, ◌∙◌, arith, slice_get, slice_set}
 use Rattle.fx_base.specs.declared.counts.Counts.{Counts}
 use Rattle.fx_layout.specs.Keys.{Key, refines, project}
-use Rattle.fx_machine.specs.declared.record.Record.{Record}
-use Rattle.fx_machine.specs.declared.packet.Packet.{Packet}
-use Rattle.fx_machine.specs.declared.step.Step.TheVariants.{Expire, Arrive}
+use Rattle.fx_tables.specs.declared.record.Record.{Record}
+use Rattle.fx_tables.specs.declared.packet.Packet.{Packet}
+use Rattle.fx_run_text.specs.declared.step.Step.TheVariants.{Expire, Arrive}
 use Rattle.fx_machine.specs.Acts.{Act, Send, Hold, Choices, act, act_all, all_acts, hold_in, sent_to_chosen, send_by_choice}
-use Rattle.fx_machine.specs.Network.{Net, Exporter, numbered}
-use Rattle.fx_machine.specs.Classes.{Class}
-use Rattle.fx_machine.specs.Ranks.{IsNetwork}
+use Rattle.fx_tables.specs.Network.{Net, Exporter}
+use Rattle.fx_base.specs.Entries.{numbered}
+use Rattle.fx_tables.specs.Classes.{Class}
+use Rattle.fx_tables.specs.Ranks.{IsNetwork}
 use Rattle.fx_machine.specs.States.{State, tallied, put_last, add_at, sent_to_all}
 use Rattle.fx_machine.specs.Steps.{after, leaving, arriving, one_packet}
 use Rattle.fx_leaf.specs.Laws.{IsSized}
 use Rattle.fx_machine.proofs.Lists.{length_put_last}
 use Rattle.fx_steps.specs.Building.{Item, Held, Carried, put, put_each, tally_each, Spreads}
-use Rattle.fx_machine.specs.Runnable.{IsHolder}
+use Rattle.fx_tables.specs.Runnable.{IsHolder}
 use Rattle.fx_steps.specs.Ways.{Task, acts, one, to}
 use Rattle.fx_steps.proofs.Places.{there}
 use Rattle.fx_steps.proofs.Playing

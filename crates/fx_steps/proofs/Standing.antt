@@ -3,16 +3,16 @@ use Rattle.std.proofs.Common.{◌≡◌, ℕ, suc, ◌<◌, true, false, cond, L
 use Rattle.std.specs.List.{AllByRecursion}
 use Rattle.fx_elements.specs.Axes.{Fields}
 use Rattle.fx_layout.specs.Keys.{Layout, Key, Fits, key_of}
-use Rattle.fx_machine.specs.declared.packet.Packet.{Packet}
-use Rattle.fx_machine.specs.declared.record.Record.{Record}
-use Rattle.fx_machine.specs.declared.step.HolderName.{HolderName}
-use Rattle.fx_machine.specs.declared.step.Step.TheVariants.{Expire, Arrive}
-use Rattle.fx_machine.specs.Classes.{Class}
-use Rattle.fx_machine.specs.Network.{Net, Exporter, Aggregation, Process, at_places, exporters_of, named_by, takes, holder_place}
-use Rattle.fx_machine.specs.Ranks.{IsNetwork}
+use Rattle.fx_tables.specs.declared.packet.Packet.{Packet}
+use Rattle.fx_tables.specs.declared.record.Record.{Record}
+use Rattle.fx_tables.specs.declared.holder_name.HolderName.{HolderName}
+use Rattle.fx_run_text.specs.declared.step.Step.TheVariants.{Expire, Arrive}
+use Rattle.fx_tables.specs.Classes.{Class}
+use Rattle.fx_tables.specs.Network.{Net, Exporter, Aggregation, Process, at_places, exporters_of, named_by, takes, holder_place}
+use Rattle.fx_tables.specs.Ranks.{IsNetwork}
 use Rattle.fx_machine.specs.States.{State}
 use Rattle.fx_machine.specs.Steps.{after, one_packet}
-use Rattle.fx_machine.specs.declared.observation.Occurrence.{Occurrence}
+use Rattle.fx_tables.specs.declared.observation.Occurrence.{Occurrence}
 use Rattle.fx_leaf.specs.declared.verdict.Fate.{Fate}
 use Rattle.fx_leaf.specs.Laws.{IsSized}
 use Rattle.fx_leaf.specs.Tables.{Numbering, Numbers, number_of_layout}
@@ -23,7 +23,7 @@ use Rattle.fx_steps.specs.Building.{put, put_each, tally_each}
 use Rattle.fx_steps.specs.CostTables.{CostTable, link_costs, all_costs, send_costs, sent_costs, held_costs, taken_costs, met_costs}
 use Rattle.fx_steps.specs.Planning.{on_links, sends, takings, handles, behind, meets, arrives, layout_in, planned_of, chosen_of, tallied_of, item_of, pending_items, IsThere, Steps}
 use Rattle.fx_steps.specs.Spread.{SentRecord, pick, sent_on, spread_to, chosen_on, choice_of, spread_by}
-use Rattle.fx_machine.specs.Runnable.{IsHolder}
+use Rattle.fx_tables.specs.Runnable.{IsHolder}
 use Rattle.fx_steps.proofs.Whole.{IsWhole, HasLinks, HasHolders}
 use Rattle.fx_steps.proofs.Filled.{all_at, all_at_places}
 use Rattle.fx_steps.proofs.Spreading.{held_leaves, carried_arrives}

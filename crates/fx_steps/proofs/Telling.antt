@@ -4,10 +4,10 @@ use Rattle.std.specs.List.{list_all}
 use Rattle.fx_elements.specs.Axes.{Fields}
 use Rattle.fx_layout.specs.Keys.{Layout, Key, Fits, key_of, refines, reads, cut}
 use Rattle.fx_layout.proofs.Projections.{and_true, project_key}
-use Rattle.fx_machine.specs.Network.{Net, Exporter, Holder, Aggregation, Process, at_places, exporters_of, layout_of, takes}
+use Rattle.fx_tables.specs.Network.{Net, Exporter, Holder, Aggregation, Process, at_places, exporters_of, layout_of, takes}
 use Rattle.fx_machine.specs.Acts.{Act, Tally, Send, Hold}
 use Rattle.fx_machine.specs.Steps.{leaving, arriving, coming_to, acts_of, take_in}
-use Rattle.fx_machine.specs.Ranks.{IsNetwork}
+use Rattle.fx_tables.specs.Ranks.{IsNetwork}
 use Rattle.fx_leaf.specs.declared.verdict.Fate.{Fate}
 use Rattle.fx_leaf.specs.declared.verdict.Fate.TheVariants.{Never, Once, Unassigned}
 use Rattle.fx_leaf.specs.Fates.{both}
@@ -16,7 +16,7 @@ use Rattle.fx_leaf.proofs.FateLaws.{Every}
 use Rattle.fx_leaf.proofs.Verdicts.{both_never, never_both}
 use Rattle.fx_steps.specs.Costs.{Tells, nothing, counted, lost, both_costs}
 use Rattle.fx_steps.specs.CostTables.{CostTable, cost_entry, coming_costs, link_costs, all_costs, any_costs, send_costs, sent_costs, held_costs, taken_costs, tally_costs, handled_costs, cost_from}
-use Rattle.fx_machine.specs.Runnable.{IsHolder}
+use Rattle.fx_tables.specs.Runnable.{IsHolder}
 use Rattle.fx_steps.specs.Ways.{Comes, acts, one, to, tally_fate}
 use Rattle.fx_steps.proofs.Places.{there}
 use Rattle.fx_steps.proofs.Costing.{Both, both_tells, either_tells, next_tells, same_tells, no_way_tells, nothing_tells, counted_tells, lost_tells}

@@ -1,10 +1,10 @@
 -- Networks in which no record is stuck, told along their lists.
 use Rattle.std.proofs.Common.{suc, ◌<◌, List, [], ◌∷◌, length, All, IfSome, arith}
 use Rattle.std.specs.List.{AllByRecursion}
-use Rattle.fx_machine.specs.declared.observation.Selection.{Selection}
-use Rattle.fx_machine.specs.Network.{Net, Exporter, Aggregation, Process, Point, Device}
-use Rattle.fx_machine.specs.Runnable as runnable
-use Rattle.fx_machine.specs.Runnable.{IsHolder, IsRunnable}
+use Rattle.fx_tables.specs.declared.observation.Selection.{Selection}
+use Rattle.fx_tables.specs.Network.{Net, Exporter, Aggregation, Process, Point, Device}
+use Rattle.fx_tables.specs.Runnable as runnable
+use Rattle.fx_tables.specs.Runnable.{IsHolder, IsRunnable}
 
 abbrev pub HasLinks : Net → Exporter → Type 0
 HasLinks net e = AllByRecursion (λ d. IfSome d (λ link. link < length net.links)) e.destinations

@@ -3,7 +3,8 @@ use Rattle.std.specs.Prelude.{◌≡◌, ◌<◌, true, false, ℕ, List, [], �
 use Rattle.fx_base.specs.declared.counts.Counts.{Counts}
 use Rattle.fx_layout.specs.Keys.{Key}
 use Rattle.fx_machine.specs.Acts.{Act, Tally, Send, Hold, Choices}
-use Rattle.fx_machine.specs.Network.{Net, Exporter, numbered}
+use Rattle.fx_tables.specs.Network.{Net, Exporter}
+use Rattle.fx_base.specs.Entries.{numbered}
 use Rattle.fx_machine.specs.States.{State, tallied, put_last}
 use Rattle.fx_steps.specs.Ways.{Task, acts, one, to}
 

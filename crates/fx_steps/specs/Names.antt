@@ -1,9 +1,9 @@
 -- The names of a network's holders, by place.
 use Rattle.std.specs.Prelude.{◌≡◌, ℕ, ◌<◌, List, length, Some, slice_get}
-use Rattle.fx_machine.specs.declared.step.HolderName.{HolderName}
-use Rattle.fx_machine.specs.declared.step.HolderName.TheVariants.{Cache, Aggregation as AggregationOf}
-use Rattle.fx_machine.specs.Network.{Net, holder_place}
-use Rattle.fx_machine.specs.Runnable.{IsHolder}
+use Rattle.fx_tables.specs.declared.holder_name.HolderName.{HolderName}
+use Rattle.fx_tables.specs.declared.holder_name.HolderName.TheVariants.{Cache, Aggregation as AggregationOf}
+use Rattle.fx_tables.specs.Network.{Net, holder_place}
+use Rattle.fx_tables.specs.Runnable.{IsHolder}
 
 -- the name at this place is that of the holder there
 pub record IsNamed (net : Net) (names : List HolderName) (holder : ℕ) : Type 0 where

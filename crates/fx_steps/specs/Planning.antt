@@ -4,10 +4,10 @@ use Rattle.fx_elements.specs.Axes.{Fields}
 use Rattle.fx_layout.specs.Keys.{Layout, Key, Fits, key_of}
 use Rattle.fx_machine.specs.Acts.{Choices, Act}
 use Rattle.fx_machine.specs.Steps.{leaving, arriving, crossing_acts}
-use Rattle.fx_machine.specs.Occurrences.{occurrences}
-use Rattle.fx_machine.specs.declared.traffic.Crossing.{Crossing}
-use Rattle.fx_machine.specs.Network.{Net, Exporter, Aggregation, Process, at_places, exporters_of, layout_of, takes}
-use Rattle.fx_machine.specs.declared.observation.Occurrence.{Occurrence}
+use Rattle.fx_tables.specs.Occurrences.{occurrences}
+use Rattle.fx_tables.specs.declared.traffic.Crossing.{Crossing}
+use Rattle.fx_tables.specs.Network.{Net, Exporter, Aggregation, Process, at_places, exporters_of, layout_of, takes}
+use Rattle.fx_tables.specs.declared.observation.Occurrence.{Occurrence}
 use Rattle.fx_leaf.specs.declared.verdict.Fate.{Fate}
 use Rattle.fx_leaf.specs.declared.verdict.Fate.TheVariants.{Never}
 use Rattle.fx_leaf.specs.Fates.{both}
@@ -16,7 +16,7 @@ use Rattle.fx_steps.specs.declared.costs.Costs.{Costs}
 use Rattle.fx_steps.specs.declared.pending.Pending.{Pending}
 use Rattle.fx_steps.specs.declared.pending.Pending.TheVariants.{AtHolder, OnLink}
 use Rattle.fx_steps.specs.Building.{Item, Held, Carried, Spreads}
-use Rattle.fx_machine.specs.Runnable.{IsHolder}
+use Rattle.fx_tables.specs.Runnable.{IsHolder}
 use Rattle.fx_steps.specs.Ways.{acts, tally_fate}
 use Rattle.fx_steps.specs.Costs.{cost_of}
 use Rattle.fx_steps.specs.CostTables.{CostTable, link_costs, send_costs, sent_costs, held_costs, taken_costs, tally_costs, handled_costs, met_costs}

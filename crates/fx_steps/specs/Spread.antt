@@ -1,7 +1,7 @@
 -- How a wanted fate is shared out among the records that come of a step.
 use Rattle.std.specs.Prelude.{ℕ, suc, ◌+◌, ◌==◌, List, [], ◌∷◌, ◌++◌, map, Option, Some, None, if◌then◌else◌, slice_get}
 use Rattle.fx_machine.specs.Acts.{Choices}
-use Rattle.fx_machine.specs.Network.{Net, Exporter}
+use Rattle.fx_tables.specs.Network.{Net, Exporter}
 use Rattle.fx_leaf.specs.declared.verdict.Fate.{Fate}
 use Rattle.fx_leaf.specs.declared.verdict.Fate.TheVariants.{Never}
 use Rattle.fx_leaf.specs.Fates.{both}

@@ -1,6 +1,6 @@
 -- How many records wait at each holder and on each link.
 use Rattle.std.specs.Prelude.{◌≡◌, ℕ, zero, suc, ◌+◌, ◌<◌, List, [], ◌∷◌, length, replicate}
-use Rattle.fx_machine.specs.Network.{Net}
+use Rattle.fx_tables.specs.Network.{Net}
 use Rattle.fx_steps.specs.declared.pending.Pending.{Pending}
 use Rattle.fx_steps.specs.declared.pending.Pending.TheVariants.{AtHolder, OnLink}
 use Rattle.fx_steps.specs.declared.waiting.Waiting.{Waiting}

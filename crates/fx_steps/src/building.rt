@@ -5,13 +5,13 @@ ghost use Rattle.fx_elements.specs.Axes as axes;
 ghost use Rattle.fx_leaf.specs.Tables as by_table;
 ghost use Rattle.fx_leaf.specs.declared.verdict.Fate as of_fate;
 ghost use Rattle.fx_machine.specs.Limits.{step_limit};
-ghost use Rattle.fx_machine.specs.Classes as traffic;
+ghost use Rattle.fx_tables.specs.Classes as traffic;
 ghost use Rattle.fx_leaf.specs.Fates.{both};
-ghost use Rattle.fx_machine.specs.Network as network;
+ghost use Rattle.fx_tables.specs.Network as network;
 ghost use Rattle.fx_machine.specs.States as states;
-ghost use Rattle.fx_machine.specs.Runnable.{IsHolder, IsRunnable};
-ghost use Rattle.fx_machine.specs.declared.observation.Occurrence as of_occurrence;
-ghost use Rattle.fx_machine.specs.declared.step.Step.TheVariants as of_step;
+ghost use Rattle.fx_tables.specs.Runnable.{IsHolder, IsRunnable};
+ghost use Rattle.fx_tables.specs.declared.observation.Occurrence as of_occurrence;
+ghost use Rattle.fx_run_text.specs.declared.step.Step.TheVariants as of_step;
 ghost use Rattle.fx_steps.specs.Costs as costs;
 ghost use Rattle.fx_steps.specs.CostTables as tabled;
 ghost use Rattle.fx_steps.specs.Names.{NameAll};
@@ -29,7 +29,8 @@ use crate::table::Row;
 use crate::waiting::Waiting;
 use fx_boxes::Fields;
 use fx_leaf::{Fate, Tables};
-use fx_machine::{Choices, Crossing, HolderName, Net, Occurrence, Packet, Step};
+use fx_run_text::{Choices, Step};
+use fx_tables::{Crossing, HolderName, Net, Occurrence, Packet};
 use std::alloc::{AllocError, Global};
 
 /// The steps so far, the records on their way, of which the last leaves first, and how many wait where.

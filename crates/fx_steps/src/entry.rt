@@ -2,7 +2,7 @@
 ghost use Rattle.std.specs.Prelude.{◌≡◌, ◌&&◌, ◌==◌, slice_get, Some};
 ghost use Rattle.std.specs.List.{list_all};
 ghost use Rattle.fx_layout.specs.Keys as keys;
-ghost use Rattle.fx_machine.specs.Network as network;
+ghost use Rattle.fx_tables.specs.Network as network;
 ghost use Rattle.fx_steps.specs.CostTables as tabled;
 
 use crate::costs::Costs;
@@ -11,7 +11,7 @@ use crate::table::Row;
 use fx_boxes::Fields;
 use fx_layout::{Key, Layout};
 use fx_leaf::Tables;
-use fx_machine::{Aggregation, MatchEntry, Net, Process};
+use fx_tables::{Aggregation, MatchEntry, Net, Process};
 
 /// Of a record that a holder takes in.
 pub(crate) fn held(rows: &[Row], tables: &Tables<'_>, holder: usize) -> Costs

@@ -1,10 +1,10 @@
 //! The laws: no code, but contracts over the definitions.
 ghost use Rattle.std.specs.Prelude.{◌^◌, ◌<◌, ℕ, List};
 ghost use Rattle.fx_leaf.specs.declared.verdict.Fate.{Fate};
-ghost use Rattle.fx_machine.specs.Classes as traffic;
-ghost use Rattle.fx_machine.specs.Network as network;
-ghost use Rattle.fx_machine.specs.Ranks.{IsNetwork};
-ghost use Rattle.fx_machine.specs.declared.packet.Packet.{Packet};
+ghost use Rattle.fx_tables.specs.Classes as traffic;
+ghost use Rattle.fx_tables.specs.Network as network;
+ghost use Rattle.fx_tables.specs.Ranks.{IsNetwork};
+ghost use Rattle.fx_tables.specs.declared.packet.Packet.{Packet};
 ghost use Rattle.fx_steps.specs.Playing.{RunOf};
 ghost use Rattle.fx_steps.specs.Ways.{PacketComes};
 

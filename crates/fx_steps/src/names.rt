@@ -1,11 +1,11 @@
 //! The names of a network's holders, by place.
 ghost use Rattle.std.specs.Prelude.{◌≡◌, ◌<◌, ℕ, suc, Some, IfOk, length, slice_get};
-ghost use Rattle.fx_machine.specs.Network as network;
-ghost use Rattle.fx_machine.specs.declared.step.HolderName as of_name;
-ghost use Rattle.fx_machine.specs.declared.step.HolderName.TheVariants as variants;
+ghost use Rattle.fx_tables.specs.Network as network;
+ghost use Rattle.fx_tables.specs.declared.holder_name.HolderName as of_name;
+ghost use Rattle.fx_tables.specs.declared.holder_name.HolderName.TheVariants as variants;
 ghost use Rattle.fx_steps.specs.Names as naming;
 
-use fx_machine::{Device, HolderName, Net};
+use fx_tables::{Device, HolderName, Net};
 use std::alloc::{AllocError, Global};
 
 /// The holder of this name, if there is one, has it.

@@ -1,10 +1,10 @@
 //! The least numbers of steps of a packet that takes a path.
 ghost use Rattle.std.specs.Prelude.{◌≡◌, ◌≤◌, ◌++◌, [], ◌∷◌, List, ℕ, length, if◌then◌else◌};
 ghost use Rattle.fx_leaf.specs.Tables as by_table;
-ghost use Rattle.fx_machine.specs.Network as network;
-ghost use Rattle.fx_machine.specs.Occurrences as met;
-ghost use Rattle.fx_machine.specs.Runnable.{IsRunnable};
-ghost use Rattle.fx_machine.specs.declared.observation.Occurrence as of_occurrence;
+ghost use Rattle.fx_tables.specs.Network as network;
+ghost use Rattle.fx_tables.specs.Occurrences as met;
+ghost use Rattle.fx_tables.specs.Runnable.{IsRunnable};
+ghost use Rattle.fx_tables.specs.declared.observation.Occurrence as of_occurrence;
 ghost use Rattle.fx_steps.specs.Costs as costs;
 ghost use Rattle.fx_steps.specs.CostTables as tabled;
 ghost use Rattle.fx_steps.specs.UnderWay as under_way;
@@ -16,7 +16,7 @@ use crate::rows::fill;
 use crate::table::Row;
 use fx_boxes::{Fields, Region};
 use fx_leaf::Tables;
-use fx_machine::{Crossing, Point, Selection};
+use fx_tables::{Crossing, Point, Selection};
 
 /// Whether a selection process with this region, if any, selects a packet with these fields.
 fn selects(region: Option<Region>, fields: &Fields) -> bool

@@ -1,8 +1,8 @@
 //! What comes of a step, so that a wanted fate is met at the least cost.
 ghost use Rattle.std.specs.Prelude.{◌≡◌, ◌≤◌, ◌++◌, length, List, [], ◌∷◌, IfOk, OnOk, slice_get, suc, Some, None};
 ghost use Rattle.fx_leaf.specs.Tables as by_table;
-ghost use Rattle.fx_machine.specs.Network as network;
-ghost use Rattle.fx_machine.specs.Views as views;
+ghost use Rattle.fx_tables.specs.Network as network;
+ghost use Rattle.fx_base.specs.Entries as views;
 ghost use Rattle.fx_steps.specs.CostTables as tabled;
 ghost use Rattle.fx_steps.specs.Costs as costs;
 ghost use Rattle.fx_steps.specs.Planning as planning;
@@ -18,7 +18,7 @@ use crate::table::Row;
 use fx_boxes::Fields;
 use fx_layout::{Key, Layout};
 use fx_leaf::{Fate, Tables};
-use fx_machine::{Aggregation, Exporter, Net, Occurrence, Process};
+use fx_tables::{Aggregation, Exporter, Net, Occurrence, Process};
 use std::alloc::AllocError;
 
 /// A record on the link of a destination, if it has one, comes last.

@@ -1,11 +1,11 @@
 //! The least numbers of steps of records that are sent, from those at the processes to which they come.
 ghost use Rattle.std.specs.Prelude.{◌≡◌, slice_get, List};
-ghost use Rattle.fx_machine.specs.Network as network;
+ghost use Rattle.fx_tables.specs.Network as network;
 ghost use Rattle.fx_steps.specs.CostTables as tabled;
 
 use crate::costs::Costs;
 use crate::table::{Row, entry};
-use fx_machine::{Exporter, Net};
+use fx_tables::{Exporter, Net};
 
 /// Of what is sent to a destination.
 pub(crate) fn to_link(rows: &[Row], net: &Net, layout: usize, destination: Option<usize>) -> Costs

@@ -1,7 +1,7 @@
 //! The step of a record on its way.
 ghost use Rattle.std.specs.Prelude.{◌≡◌, ◌<◌, ◌++◌, suc, length, IfOk, OnOk, slice_get};
 ghost use Rattle.fx_elements.specs.Axes as axes;
-ghost use Rattle.fx_machine.specs.declared.step.Step.TheVariants as of_step;
+ghost use Rattle.fx_run_text.specs.declared.step.Step.TheVariants as of_step;
 ghost use Rattle.fx_steps.specs.Planning as planning;
 ghost use Rattle.fx_steps.specs.declared.pending.Pending.TheVariants as of_pending;
 
@@ -11,7 +11,8 @@ use crate::table::Row;
 use fx_boxes::Fields;
 use fx_layout::Layout;
 use fx_leaf::{Fate, Tables};
-use fx_machine::{Choices, HolderName, Net, Step};
+use fx_run_text::{Choices, Step};
+use fx_tables::{HolderName, Net};
 use std::alloc::{AllocError, Global};
 
 /// The record in this position leaves the holder of this name; what comes of it comes last.

@@ -5,7 +5,7 @@ ghost use Rattle.fx_steps.specs.Waiting as waits;
 ghost use Rattle.fx_steps.specs.declared.pending.Pending.TheVariants as of_pending;
 
 use crate::pending::Pending;
-use fx_machine::Net;
+use fx_tables::Net;
 use std::alloc::{AllocError, Global};
 
 /// The numbers of records that wait at the holders and on the links, by place.

@@ -7,9 +7,9 @@ ghost use Rattle.fx_leaf.specs.Tables as by_table;
 ghost use Rattle.fx_leaf.specs.declared.verdict.Fate as of_fate;
 ghost use Rattle.fx_leaf.specs.declared.verdict.Fate.TheVariants as fates;
 ghost use Rattle.fx_machine.specs.Limits.{step_limit};
-ghost use Rattle.fx_machine.specs.Classes as traffic;
-ghost use Rattle.fx_machine.specs.Network as network;
-ghost use Rattle.fx_machine.specs.Runnable.{IsRunnable};
+ghost use Rattle.fx_tables.specs.Classes as traffic;
+ghost use Rattle.fx_tables.specs.Network as network;
+ghost use Rattle.fx_tables.specs.Runnable.{IsRunnable};
 ghost use Rattle.fx_steps.specs.Costs as costs;
 ghost use Rattle.fx_steps.specs.CostTables as tabled;
 ghost use Rattle.fx_steps.specs.Names.{NameAll};
@@ -24,7 +24,8 @@ use crate::sharing::cost_of;
 use crate::table::{Row, empty_rows};
 use fx_base::Fault;
 use fx_leaf::{Fate, Tables};
-use fx_machine::{Classes, Crossing, HolderName, Packet, Step};
+use fx_run_text::Step;
+use fx_tables::{Classes, Crossing, HolderName, Packet};
 use std::alloc::{AllocError, Global};
 
 /// Of two fates the one that costs less, and the first where they cost as much.

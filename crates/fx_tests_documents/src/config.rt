@@ -1,6 +1,6 @@
 //! Devices' configurations read.
 use fx_base::Name;
-use fx_config::{Device, read_device, walk};
+use fx_config::{Device, read_device};
 use fx_elements::Axis;
 use fx_layout::Part;
 use serde_json::Value;
@@ -36,7 +36,7 @@ fn observes(device: &Device) -> bool {
     point.name.as_str() == "op"
         && point.observation_domain_id == 0
         && interface.as_str() == "eth0"
-        && walk::place_of(device.selection_processes.as_slice(), selecting) == Some(0)
+        && fx_walk::place_of(device.selection_processes.as_slice(), selecting) == Some(0)
 }
 
 /// Whether it selects by one selector, into its cache.
@@ -89,14 +89,14 @@ fn reads_a_collector(rt: HostRuntime) -> Result<(), Fail> {
 }
 
 /// Whether a name is new to the names kept, which keep it from then on.
-fn adds(alloc: Global, names: &mut walk::Names, name: &str) -> Result<bool, Fail> {
+fn adds(alloc: Global, names: &mut fx_walk::Names, name: &str) -> Result<bool, Fail> {
     Ok(names.add(&Name::read(alloc, name)?)?)
 }
 
 /// Whether the names kept hold this one at this place, or nowhere for `None`.
 fn keeps(
     alloc: Global,
-    names: &walk::Names,
+    names: &fx_walk::Names,
     name: &str,
     place: Option<usize>,
 ) -> Result<bool, Fail> {
@@ -106,7 +106,7 @@ fn keeps(
 
 #[test]
 fn keeps_names(rt: HostRuntime) -> Result<(), Fail> {
-    let mut names = walk::Names::new(rt.alloc());
+    let mut names = fx_walk::Names::new(rt.alloc());
     for (name, is_new) in [("a", true), ("b", true), ("a", false)] {
         assert!(rt; adds(rt.alloc(), &mut names, name)? == is_new);
     }

@@ -2,7 +2,7 @@
 use crate::plan::plan_of;
 use fx_base::Fault;
 use fx_config::read_device;
-use fx_plan::read_network;
+use fx_topology::read_network;
 use fx_traffic::{Traffic, read_traffic};
 use serde_json::Value;
 use std::alloc::Global;

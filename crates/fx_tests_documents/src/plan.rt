@@ -1,6 +1,7 @@
 //! Ranks of collecting processes, their order, and the numbers of layouts.
 use fx_base::Fault;
 use fx_plan::{Plan, documents_name_axes, plans_have_complete_runs, read_plan};
+use fx_ranks::rank_order;
 use serde_json::Value;
 use std::alloc::{AllocError, Global};
 use std::test::Fail;
@@ -70,6 +71,12 @@ fn ranks_feeders_first_and_refuses_cycles(rt: HostRuntime) -> Result<(), Fail> {
     Ok(())
 }
 
+/// Whether the plan's order of ranks is found anew in its tables, and its report has a layout.
+fn is_ordered(plan: &Plan, alloc: Global) -> Result<bool, AllocError> {
+    let found = rank_order(alloc, plan.net())?;
+    Ok(found.order.as_slice() == plan.ranked() && plan.network().report.layout().is_some())
+}
+
 #[test]
 fn orders_by_falling_rank(rt: HostRuntime) -> Result<(), Fail> {
     let text = linked(rt.alloc(), &[("c2", "c1")])?;
@@ -79,7 +86,7 @@ fn orders_by_falling_rank(rt: HostRuntime) -> Result<(), Fail> {
         plan.exporter_place(rt.alloc(), 3, 1)?,
         plan.exporter_place(rt.alloc(), 4, 1)?,
     );
-    assert!(rt; third == Some(2) && fourth.is_none());
+    assert!(rt; third == Some(2) && fourth.is_none() && is_ordered(&plan, rt.alloc())?);
     Ok(())
 }
 

@@ -2,7 +2,7 @@
 use crate::documents;
 use fx_boxes::{Fields, Region};
 use fx_elements::{AXES, TOPS};
-use fx_machine::{Class, Path};
+use fx_tables::{Class, Path};
 use fx_traffic::Traffic;
 use std::alloc::Global;
 use std::test::Fail;

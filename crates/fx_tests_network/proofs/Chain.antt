@@ -4,10 +4,10 @@ use Rattle.std.specs.Prelude.{Contains}
 use Rattle.std.specs.List.{AllByRecursion}
 use Rattle.fx_elements.specs.declared.axis.Axis.TheVariants.{Source}
 use Rattle.fx_layout.specs.Keys.{Layout, Fits}
-use Rattle.fx_machine.specs.Network.{Device, Exporter, Holder, Aggregation, Process, exporters_of, Net, layout_of, aggregations_of}
-use Rattle.fx_machine.specs.Ranks.{RisesTo, Rises, AllRise, ProcessRises}
-use Rattle.fx_machine.specs.Orders.{Descends}
-use Rattle.fx_machine.specs.Matches.{HasEntries}
+use Rattle.fx_tables.specs.Network.{Device, Exporter, Holder, Aggregation, Process, exporters_of, Net, layout_of, aggregations_of}
+use Rattle.fx_tables.specs.Ranks.{RisesTo, Rises, AllRise, ProcessRises}
+use Rattle.fx_tables.specs.Orders.{Descends}
+use Rattle.fx_tables.specs.Matches.{HasEntries}
 use Rattle.fx_leaf.specs.Tables.{Numbering, number_of_layout, Tables, AreTables}
 
 abbrev pub sends_on : List Exporter

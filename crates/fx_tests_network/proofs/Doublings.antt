@@ -3,13 +3,14 @@ use Rattle.std.proofs.Common.{◌≡◌, ℕ, zero, suc, ◌<◌, min, Bool, tru
 use Rattle.std.specs.Prelude.{Contains}
 use Rattle.std.specs.List.{AllByRecursion}
 use Rattle.fx_layout.specs.Keys.{Layout, Fits}
-use Rattle.fx_machine.specs.declared.observation.Selection.{Selection}
-use Rattle.fx_machine.specs.declared.step.HolderName.TheVariants.{Cache}
-use Rattle.fx_machine.specs.Network.{Device, Point, Exporter, Holder, Aggregation, Process, Net, numbered, exporters_of, layout_of, aggregations_of}
-use Rattle.fx_machine.specs.Ranks.{Rises, AllRise, ProcessRises}
-use Rattle.fx_machine.specs.Orders.{Descends}
-use Rattle.fx_machine.specs.Matches.{HasEntries}
-use Rattle.fx_machine.specs.Runnable.{IsHolder, HasDestinations, HasAggregations, HasCaches, IsRunnable}
+use Rattle.fx_tables.specs.declared.observation.Selection.{Selection}
+use Rattle.fx_tables.specs.declared.holder_name.HolderName.TheVariants.{Cache}
+use Rattle.fx_tables.specs.Network.{Device, Point, Exporter, Holder, Aggregation, Process, Net, exporters_of, layout_of, aggregations_of}
+use Rattle.fx_base.specs.Entries.{numbered}
+use Rattle.fx_tables.specs.Ranks.{Rises, AllRise, ProcessRises}
+use Rattle.fx_tables.specs.Orders.{Descends}
+use Rattle.fx_tables.specs.Matches.{HasEntries}
+use Rattle.fx_tables.specs.Runnable.{IsHolder, HasDestinations, HasAggregations, HasCaches, IsRunnable}
 use Rattle.fx_leaf.specs.Tables.{Numbering, number_of_layout, Tables, AreTables}
 
 all_none : {A : Type 0} (P : A → Type 0) → All P []

@@ -3,9 +3,9 @@ use Rattle.std.proofs.Common.{◌≡◌, ℕ, zero, suc, ◌<◌, List, [], ◌�
 use Rattle.std.specs.Prelude.{Contains}
 use Rattle.std.specs.List.{AllByRecursion}
 use Rattle.fx_layout.specs.Keys.{Layout, Fits}
-use Rattle.fx_machine.specs.Network.{Device, Exporter, Holder, Process, Net, layout_of, aggregations_of}
-use Rattle.fx_machine.specs.Ranks.{ProcessRises}
-use Rattle.fx_machine.specs.Matches.{HasEntries}
+use Rattle.fx_tables.specs.Network.{Device, Exporter, Holder, Process, Net, layout_of, aggregations_of}
+use Rattle.fx_tables.specs.Ranks.{ProcessRises}
+use Rattle.fx_tables.specs.Matches.{HasEntries}
 use Rattle.fx_leaf.specs.Tables.{Numbering, number_of_layout, Tables, AreTables}
 
 abbrev pub two_caches : List Holder

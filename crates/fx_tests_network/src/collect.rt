@@ -4,7 +4,7 @@ use fx_boxes::Fields;
 use fx_collect::{Totals, put_number_line};
 use fx_elements::{AXES, Axis};
 use fx_layout::{Key, Layout, Seed};
-use fx_machine::Record;
+use fx_tables::Record;
 use std::alloc::Global;
 use std::test::Fail;
 

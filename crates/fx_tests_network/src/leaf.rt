@@ -5,7 +5,7 @@ use fx_leaf::{
     Fate, both_judged, conservation, either_judged, exactly_once, fates_along_ranks, standing,
     standing_to, standing_to_match, verdicts_judge_regions, where_passed,
 };
-use fx_machine::MatchEntry;
+use fx_tables::MatchEntry;
 use std::test::Fail;
 
 #[test]

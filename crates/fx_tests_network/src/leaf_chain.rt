@@ -9,7 +9,7 @@ use fx_boxes::Region;
 use fx_elements::Axis;
 use fx_layout::Layout;
 use fx_leaf::{Counted, Scratch, Tables, cut, fate};
-use fx_machine::{Aggregation, Crossing, Device, Exporter, Holder, MatchEntry, Net, Process};
+use fx_tables::{Aggregation, Crossing, Device, Exporter, Holder, MatchEntry, Net, Process};
 use std::alloc::Global;
 use std::test::Fail;
 

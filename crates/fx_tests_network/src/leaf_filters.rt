@@ -6,7 +6,7 @@ use crate::parts::{by_source, collector, exporter, holder, process};
 use fx_elements::Axis;
 use fx_layout::Layout;
 use fx_leaf::{Counted, Judgement, Scratch, Tables, cut, fate, judge, never};
-use fx_machine::{Crossing, Device, Exporter, Holder, Net};
+use fx_tables::{Crossing, Device, Exporter, Holder, Net};
 use std::alloc::Global;
 use std::test::Fail;
 

@@ -4,7 +4,7 @@ use fx_boxes::Fields;
 use fx_elements::Axis;
 use fx_layout::Layout;
 use fx_link::{Link, Nowhere, Sinks, links_keep_records, records_are_read};
-use fx_machine::Record;
+use fx_tables::Record;
 use std::test::Fail;
 
 /// The template of a source address, and 10.0.0.1 with 2 packets and 300 octets, exported at second 2; behind it, at

@@ -4,7 +4,7 @@ ghost use Rattle.std.specs.Prelude.{◌≡◌, All, [], ◌∷◌, Some, IfOk};
 use fx_base::{Fault, Name};
 use fx_boxes::{Fields, Region};
 use fx_elements::TOPS;
-use fx_machine::{Crossing, Device, Point, Selection};
+use fx_tables::{Crossing, Device, Point, Selection};
 use std::alloc::Global;
 use std::test::Fail;
 

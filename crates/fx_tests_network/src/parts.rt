@@ -4,7 +4,7 @@ ghost use Rattle.fx_elements.specs.declared.axis.Axis.TheVariants as axis;
 
 use fx_elements::Axis;
 use fx_layout::Layout;
-use fx_machine::{Device, Exporter, Holder, Process};
+use fx_tables::{Device, Exporter, Holder, Process};
 use std::alloc::Global;
 use std::test::Fail;
 

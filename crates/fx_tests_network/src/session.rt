@@ -1,7 +1,7 @@
 //! Streams of messages in whatever pieces they come.
 use fx_base::Fault;
 use fx_elements::Axis;
-use fx_machine::Record;
+use fx_tables::Record;
 use fx_session::{Session, pieces, sets_by_cases, waiting};
 use std::alloc::Global;
 use std::test::Fail;

@@ -3,7 +3,7 @@ use crate::session;
 use crate::session_hostile::{first_record, is_refused};
 use fx_elements::Axis;
 use fx_layout::{Key, Part};
-use fx_machine::Record;
+use fx_tables::Record;
 use std::test::Fail;
 
 /// 2001:db8::1.

@@ -4,7 +4,7 @@ ghost use Rattle.std.specs.Prelude.{◌<◌};
 use crate::session;
 use fx_base::Fault;
 use fx_elements::Axis;
-use fx_machine::Record;
+use fx_tables::Record;
 use fx_session::Session;
 use std::alloc::{AllocError, Global};
 use std::ops::Range;

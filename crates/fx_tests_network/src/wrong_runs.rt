@@ -2,14 +2,15 @@
 //! and from there by two links to a second one, where they are tallied.
 ghost use Rattle.std.specs.Prelude.{◌≡◌, ◌<◌, All, length, [], ◌∷◌, true, Some, IfOk, IfSome};
 ghost use Rattle.fx_leaf.specs.Tables as by_table;
-ghost use Rattle.fx_machine.specs.Runnable.{IsRunnable};
+ghost use Rattle.fx_tables.specs.Runnable.{IsRunnable};
 
 use crate::meters::{bare, into, meter};
 use crate::parts::{holder, process};
 use fx_boxes::{Fields, Region};
 use fx_layout::Layout;
 use fx_leaf::Tables;
-use fx_machine::{Class, Classes, Exporter, Net, Packet, Path, Process, Step};
+use fx_run_text::Step;
+use fx_tables::{Class, Classes, Exporter, Net, Packet, Path, Process};
 use fx_steps::{packets_have_runs, wrong_run};
 use std::alloc::Global;
 use std::test::Fail;

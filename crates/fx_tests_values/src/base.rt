@@ -1,7 +1,7 @@
 //! Lines, names, places, numbers and texts written out, and devices that fail.
 use fx_base::{
     Counts, Fault, Fuse, Line, LineReader, Name, Octets, Outside, Room, Sink, Source, put_fault,
-    put_number, put_number_wide, put_place, put_text, read_whole,
+    entry_at, numbered, put_number, put_number_wide, put_place, put_text, read_whole,
 };
 use std::alloc::{AllocError, Global};
 use std::test::Fail;
@@ -299,4 +299,10 @@ fn adds_counts(rt: HostRuntime) {
         octets: 41,
     });
     assert!(rt; sum.packets == 3 && sum.octets == 40);
+}
+
+#[test]
+fn finds_entries(rt: HostRuntime) {
+    let entries = [7u8, 8];
+    assert!(rt; numbered(&entries, 1) == entry_at(&entries, 0) && numbered(&entries, 0).is_none());
 }

@@ -2,7 +2,7 @@
 use fx_base::{Fault, Room};
 use fx_elements::{
     Axis, Element, Range, by_id, by_name, put_value, read_number, read_on, read_prefix, read_quad,
-    read_value, read_written, top, width,
+    read_u64, read_value, read_written, top, width,
 };
 use std::test::Fail;
 
@@ -163,5 +163,6 @@ fn knows_elements(rt: HostRuntime) {
 fn reads_numbers_and_addresses(rt: HostRuntime) {
     let text = b"340282366920938463463374607431768211455";
     assert!(rt; read_number(text, u128::MAX) == Some(u128::MAX) && top(Axis::Protocol) == 255);
+    assert!(rt; read_u64(b"18446744073709551615") == Some(u64::MAX) && read_u64(text).is_none());
     assert!(rt; read_quad(b"0.0.1.0") == Some(256) && read_prefix(b"0.0.1.0/8") == Some((256, 8)));
 }

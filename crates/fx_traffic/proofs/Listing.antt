@@ -2,8 +2,8 @@
 use Rattle.std.proofs.Common.{◌≡◌, ℕ, Bool, ◌+◌, ◌<◌, List, [], ◌∷◌, ◌++◌, length, get_or, drop, refl, ap, sym, ◌∙◌, append_assoc, add-one}
 use Rattle.std.proofs.Math.Seq.{drop-cons}
 use Rattle.fx_boxes.specs.Boxes.{Bounds, IsRegion}
-use Rattle.fx_machine.specs.declared.traffic.Crossing.{Crossing}
-use Rattle.fx_machine.specs.Classes.{Class}
+use Rattle.fx_tables.specs.declared.traffic.Crossing.{Crossing}
+use Rattle.fx_tables.specs.Classes.{Class}
 use Rattle.fx_traffic.specs.Targets.{Target, targets_along, targets_from, AreRegions}
 
 pub regions_more : (ts : List Target) (t : Target) → AreRegions ts → IsRegion t.region → AreRegions (ts ++ t ∷ [])

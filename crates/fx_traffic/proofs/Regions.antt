@@ -11,8 +11,8 @@ use Rattle.fx_elements.specs.declared.axis.Axis.{Axis}
 use Rattle.fx_elements.specs.declared.axis.Axis.TheVariants.{Source}
 use Rattle.fx_elements.specs.declared.values.Range.{Range}
 use Rattle.fx_boxes.specs.Boxes.{Bounds, IsRegion}
-use Rattle.fx_config.specs.Walk.{Found, Refuses, Row, optional, row_faults}
-use Rattle.fx_config.proofs.Faults.{refuses_more}
+use Rattle.fx_walk.specs.Walk.{Found, Refuses, Row, optional, row_faults}
+use Rattle.fx_walk.proofs.Faults.{refuses_more}
 use Rattle.fx_base.specs.declared.fault.Fault.{Fault}
 use Rattle.fx_traffic.specs.Regions.{IsOn, axis_name, region_of, values_faults, values_given}
 

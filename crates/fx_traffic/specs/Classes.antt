@@ -2,10 +2,10 @@
 use Rattle.std.specs.Prelude.{ℕ, List, [], ◌∷◌, codes, map, not, is_some}
 use Rattle.serde_json.specs.Data.{Data}
 use Rattle.serde_json.specs.Find.{get}
-use Rattle.fx_config.specs.Walk.{Found, Row, fault_if, object_faults, required, optional, member_of}
-use Rattle.fx_config.specs.Lists.{entries_faults, items_faults, items_of}
-use Rattle.fx_config.specs.Scalars.{text_of, is_empty_type}
-use Rattle.fx_machine.specs.Classes.{Class}
+use Rattle.fx_walk.specs.Walk.{Found, Row, fault_if, object_faults, required, optional, member_of}
+use Rattle.fx_walk.specs.Lists.{entries_faults, items_faults, items_of}
+use Rattle.fx_walk.specs.Scalars.{text_of, is_empty_type}
+use Rattle.fx_tables.specs.Classes.{Class}
 use Rattle.fx_traffic.specs.Texts.{name_once}
 use Rattle.fx_traffic.specs.Lists.{list_faults}
 use Rattle.fx_traffic.specs.Regions.{region_faults, region_given}

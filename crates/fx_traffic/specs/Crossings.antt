@@ -3,10 +3,10 @@ use Rattle.std.specs.Prelude.{ℕ, suc, List, [], ◌∷◌, ◌++◌, codes, ma
 use Rattle.std.specs.Option.{unwrap_or}
 use Rattle.std.specs.Str.{bytes_eq}
 use Rattle.serde_json.specs.Data.{Data}
-use Rattle.fx_config.specs.Walk.{Found, Row, object_faults, required, member_of, fault_if}
-use Rattle.fx_config.specs.Lists.{items_faults, items_of, place_in}
-use Rattle.fx_config.specs.Scalars.{text_of}
-use Rattle.fx_machine.specs.declared.traffic.Crossing.{Crossing}
+use Rattle.fx_walk.specs.Walk.{Found, Row, object_faults, required, member_of, fault_if}
+use Rattle.fx_walk.specs.Lists.{items_faults, items_of, place_in}
+use Rattle.fx_walk.specs.Scalars.{text_of}
+use Rattle.fx_tables.specs.declared.traffic.Crossing.{Crossing}
 use Rattle.fx_traffic.specs.Texts.{text_that, name_faults}
 use Rattle.fx_traffic.specs.Lists.{list_faults}
 use Rattle.fx_traffic.specs.Limits.{crossing_limit}

@@ -4,8 +4,8 @@ use Rattle.std.specs.Borrow.{Bor}
 use Rattle.serde_json.specs.Data.{Data}
 use Rattle.serde_json.specs.declared.value.Value.{Value}
 use Rattle.fx_base.specs.declared.fault.Fault.{Fault}
-use Rattle.fx_config.specs.Walk.{Found}
-use Rattle.fx_config.specs.Lists as lists
+use Rattle.fx_walk.specs.Walk.{Found}
+use Rattle.fx_walk.specs.Lists as lists
 
 -- a list of `least` to `most` items
 abbrev pub list_faults : ℕ → ℕ → (List ℕ → List Data → List Found) → List ℕ → Data → List Found

@@ -11,8 +11,8 @@ use Rattle.fx_elements.specs.declared.axis.Axis.TheVariants.{Source, Destination
 use Rattle.fx_elements.specs.declared.element.Element.TheVariants.{OnAxis, Prefix}
 use Rattle.fx_elements.specs.declared.values.Range.{Range}
 use Rattle.fx_boxes.specs.Boxes.{Bounds}
-use Rattle.fx_config.specs.Walk.{Found, Row, object_faults, optional}
-use Rattle.fx_config.specs.Scalars.{text_of}
+use Rattle.fx_walk.specs.Walk.{Found, Row, object_faults, optional}
+use Rattle.fx_walk.specs.Scalars.{text_of}
 use Rattle.fx_traffic.specs.Texts.{text_that}
 
 -- ---- an axis

@@ -2,9 +2,9 @@
 use Rattle.std.specs.Prelude.{ℕ, List, Bool}
 use Rattle.serde_json.specs.Data.{Data}
 use Rattle.fx_base.specs.Name.{is_name}
-use Rattle.fx_config.specs.Walk.{Found}
-use Rattle.fx_config.specs.Lists as lists
-use Rattle.fx_config.specs.Scalars as scalars
+use Rattle.fx_walk.specs.Walk.{Found}
+use Rattle.fx_walk.specs.Lists as lists
+use Rattle.fx_walk.specs.Scalars as scalars
 
 -- a text that must pass a test
 abbrev pub text_that : (List ℕ → Bool) → List ℕ → Data → List Found

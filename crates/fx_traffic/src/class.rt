@@ -2,9 +2,9 @@
 ghost use Rattle.std.specs.Prelude.{◌≡◌, ◌++◌, ◌∷◌, ℕ, List, [], map, codes, is_some, OnOk};
 ghost use Rattle.serde_json.specs.View.{view};
 ghost use Rattle.serde_json.specs.Find.{get};
-ghost use Rattle.fx_config.specs.Pointer.{pointer};
-ghost use Rattle.fx_config.specs.Walk.{Reads, required, optional, member_of};
-ghost use Rattle.fx_config.specs.Lists.{entries_faults, items_of};
+ghost use Rattle.fx_walk.specs.Pointer.{pointer};
+ghost use Rattle.fx_walk.specs.Walk.{Reads, required, optional, member_of};
+ghost use Rattle.fx_walk.specs.Lists.{entries_faults, items_of};
 ghost use Rattle.fx_traffic.specs.Crossings.{path_of};
 ghost use Rattle.fx_traffic.specs.Regions.{region_faults, region_given};
 ghost use Rattle.fx_traffic.specs.Classes.{class_faults, exempt_faults, class_name, class_of, list_of_classes_faults, paths_faults};
@@ -16,8 +16,8 @@ use crate::region::{read_region, whole};
 use crate::text::name_member;
 use fx_base::Fault;
 use fx_boxes::Region;
-use fx_config::walk::{Named, Names, Path, Sequence, is_empty_type, object_of, refusal};
-use fx_machine::{Class, Path as Route};
+use fx_walk::{Named, Names, Path, Sequence, is_empty_type, object_of, refusal};
+use fx_tables::{Class, Path as Route};
 use serde_json::Value;
 use std::alloc::Global;
 

@@ -1,16 +1,16 @@
 //! Crossings: a packet goes through an interface of a device.
 ghost use Rattle.std.specs.Prelude.{◌≡◌, ℕ, List, map, codes};
 ghost use Rattle.serde_json.specs.View.{view};
-ghost use Rattle.fx_config.specs.Pointer.{pointer};
-ghost use Rattle.fx_config.specs.Walk.{Reads, required, member_of};
-ghost use Rattle.fx_config.specs.Scalars.{text_of};
+ghost use Rattle.fx_walk.specs.Pointer.{pointer};
+ghost use Rattle.fx_walk.specs.Walk.{Reads, required, member_of};
+ghost use Rattle.fx_walk.specs.Scalars.{text_of};
 ghost use Rattle.fx_traffic.specs.Texts.{name_faults};
 ghost use Rattle.fx_traffic.specs.Crossings.{number_in, number_of, device_faults, inwards_in, inwards_of, direction_faults, crossing_faults, crossing_of};
 
 use crate::text::read_name;
 use fx_base::{Fault, Name};
-use fx_config::walk::{Named, Path, object_of, place_of, refusal};
-use fx_machine::Crossing;
+use fx_walk::{Named, Path, object_of, place_of, refusal};
+use fx_tables::Crossing;
 use serde_json::Value;
 use std::alloc::Global;
 

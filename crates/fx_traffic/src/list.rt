@@ -1,10 +1,10 @@
 //! Lists in a declaration of traffic.
 ghost use Rattle.serde_json.specs.View.{view};
-ghost use Rattle.fx_config.specs.Pointer.{pointer};
+ghost use Rattle.fx_walk.specs.Pointer.{pointer};
 ghost use Rattle.fx_traffic.specs.Lists.{IsListOf};
 
 use fx_base::Fault;
-use fx_config::walk::{Path, items_by};
+use fx_walk::{Path, items_by};
 use serde_json::Value;
 use std::alloc::Global;
 

@@ -1,9 +1,9 @@
 //! The paths that the packets of a class take.
 ghost use Rattle.std.specs.Prelude.{◌≡◌, ℕ, List, [], map};
 ghost use Rattle.serde_json.specs.View.{view};
-ghost use Rattle.fx_config.specs.Pointer.{pointer};
-ghost use Rattle.fx_config.specs.Walk.{Reads};
-ghost use Rattle.fx_config.specs.Lists.{items_faults, items_of};
+ghost use Rattle.fx_walk.specs.Pointer.{pointer};
+ghost use Rattle.fx_walk.specs.Walk.{Reads};
+ghost use Rattle.fx_walk.specs.Lists.{items_faults, items_of};
 ghost use Rattle.fx_traffic.specs.Crossings.{crossing_faults, crossing_of, path_faults, path_of};
 ghost use Rattle.fx_traffic.specs.Classes.{paths_faults};
 
@@ -11,8 +11,8 @@ use crate::crossing::read_crossing;
 use crate::limits::{CROSSINGS, PATHS};
 use crate::list::items_in;
 use fx_base::Fault;
-use fx_config::walk::{Named, Path, Sequence};
-use fx_machine::{Crossing, Path as Route};
+use fx_walk::{Named, Path, Sequence};
+use fx_tables::{Crossing, Path as Route};
 use serde_json::Value;
 use std::alloc::Global;
 

@@ -5,13 +5,13 @@ ghost use Rattle.serde_json.specs.Find.{get};
 ghost use Rattle.fx_elements.specs.Values.{value_on, values_of};
 ghost use Rattle.fx_elements.specs.declared.element.Element.TheVariants as element;
 ghost use Rattle.fx_boxes.specs.Boxes.{IsRegion};
-ghost use Rattle.fx_config.specs.Pointer.{pointer};
-ghost use Rattle.fx_config.specs.Walk.{Reads, optional, row_faults};
+ghost use Rattle.fx_walk.specs.Pointer.{pointer};
+ghost use Rattle.fx_walk.specs.Walk.{Reads, optional, row_faults};
 ghost use Rattle.fx_traffic.specs.Regions.{IsOn, all_on, axis_name, region_faults, region_rows, region_of, span, values_faults, values_given, values_in, values_on, whole};
 
 use fx_base::Fault;
 use fx_boxes::{Fields, Region};
-use fx_config::walk::{Path, object_of, refusal};
+use fx_walk::{Path, object_of, refusal};
 use fx_elements::{
     AXES, Axis, EVERY_AXIS, Element, Range, TOPS, cut, read_on, read_value, top, values_fit, width,
 };

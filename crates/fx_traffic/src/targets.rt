@@ -7,7 +7,7 @@ ghost use Rattle.fx_traffic.specs.Targets as of_targets;
 use crate::traffic::Traffic;
 use fx_base::Fault;
 use fx_boxes::Region;
-use fx_machine::{Class, Crossing};
+use fx_tables::{Class, Crossing};
 use std::alloc::{AllocError, Global};
 use std::marker::Model;
 

@@ -1,13 +1,13 @@
 //! Names in a declaration of traffic.
 ghost use Rattle.std.specs.Prelude.{◌≡◌, ◌++◌, ◌∷◌, [], ℕ, List, codes, OnOk};
 ghost use Rattle.serde_json.specs.View.{view};
-ghost use Rattle.fx_config.specs.Pointer.{pointer};
-ghost use Rattle.fx_config.specs.Walk.{Reads, required, member_of};
-ghost use Rattle.fx_config.specs.Scalars.{text_of};
+ghost use Rattle.fx_walk.specs.Pointer.{pointer};
+ghost use Rattle.fx_walk.specs.Walk.{Reads, required, member_of};
+ghost use Rattle.fx_walk.specs.Scalars.{text_of};
 ghost use Rattle.fx_traffic.specs.Texts.{name_faults, name_once};
 
 use fx_base::{Fault, Name};
-use fx_config::walk::{self, Names, Path, refusal, unique_name_by};
+use fx_walk::{Names, Path, refusal, unique_name_by};
 use serde_json::Value;
 use std::alloc::Global;
 
@@ -15,7 +15,7 @@ use std::alloc::Global;
 pub fn read_name(alloc: Global, path: &Path<'_>, value: &Value) -> Result<Name, Fault>
     ensures { Reads (name_faults (pointer path.now) (view value.now)) (text_of (view value.now)) result }
 {
-    walk::read_name(alloc, path, value, 302)
+    fx_walk::read_name(alloc, path, value, 302)
 }
 
 /// A name that none of these is, to which it is added: 104 and 302 as for any name, 301 for one of them.

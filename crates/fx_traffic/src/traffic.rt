@@ -1,16 +1,16 @@
 //! A declaration of traffic as a whole.
 ghost use Rattle.std.specs.Prelude.{◌≡◌, ℕ, List, [], map, codes};
 ghost use Rattle.serde_json.specs.View.{view};
-ghost use Rattle.fx_config.specs.Pointer.{pointer};
-ghost use Rattle.fx_config.specs.Walk.{Reads, required, member_of};
-ghost use Rattle.fx_config.specs.Lists.{items_of};
-ghost use Rattle.fx_plan.specs.Networks.{device_names};
+ghost use Rattle.fx_walk.specs.Pointer.{pointer};
+ghost use Rattle.fx_walk.specs.Walk.{Reads, required, member_of};
+ghost use Rattle.fx_walk.specs.Lists.{items_of};
+ghost use Rattle.fx_topology.specs.Networks.{device_names};
 ghost use Rattle.fx_traffic.specs.Classes.{class_of, list_of_classes_faults, traffic_faults, traffic_of};
 
 use crate::class::read_list;
 use fx_base::Fault;
-use fx_config::walk::{Named, Path, Sequence, object_of, refusal};
-use fx_machine::{Class, Classes};
+use fx_walk::{Named, Path, Sequence, object_of, refusal};
+use fx_tables::{Class, Classes};
 use fx_plan::Plan;
 use serde_json::Value;
 use std::alloc::Global;
@@ -24,7 +24,7 @@ pub struct Traffic {
 
 impl Model for Traffic {
     ghost use Rattle.std.specs.Prelude.{List};
-    ghost use Rattle.fx_machine.specs.Classes.{Class};
+    ghost use Rattle.fx_tables.specs.Classes.{Class};
 
     ghost Value = { List Class };
 

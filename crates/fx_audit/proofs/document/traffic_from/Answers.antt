@@ -1,6 +1,6 @@
 use Rattle.std.specs.Prelude.{[]}
 use Rattle.serde_json.specs.View.{view}
-use Rattle.fx_plan.specs.Networks.{device_names}
+use Rattle.fx_topology.specs.Networks.{device_names}
 use Rattle.fx_traffic.specs.Classes.{traffic_faults, traffic_of}
 use Rattle.fx_audit.specs.Documents.{ReadFails}
 use Rattle.fx_audit.proofs.Documents.{exit_with, no_json, source_read, source_refused}

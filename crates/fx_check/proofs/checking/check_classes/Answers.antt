@@ -1,6 +1,6 @@
 use Rattle.std.proofs.Common.{List, ◌∙◌, inr, subst, ◌⊎◌}
 use Rattle.std.proofs.lemmas.Result.{err_from_is_err_and}
-use Rattle.fx_machine.specs.RunReading.{Fails}
+use Rattle.fx_base.specs.Lines.{Fails}
 use Rattle.fx_check.specs.Outcomes.{MayBeRefused}
 use Rattle.fx_traffic.specs.Targets.{AreRegions, Target}
 use Rattle.fx_check.proofs.Calling.{accepts}

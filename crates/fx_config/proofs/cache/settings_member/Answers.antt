@@ -1,5 +1,5 @@
 use Rattle.std.proofs.Common.{refl, ap, Some}
-use Rattle.fx_config.proofs.Faults.{pointer-Member, exit}
+use Rattle.fx_walk.proofs.Faults.{pointer-Member, exit}
 use Rattle.fx_config.proofs.cache.settings_member.Goals as goal
 
 pub returns-in_err-settings-in-Some : goal.returns-in_err-settings-in-Some

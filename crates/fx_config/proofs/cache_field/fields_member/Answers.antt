@@ -1,6 +1,6 @@
 use Rattle.std.proofs.Common.{[]}
-use Rattle.fx_config.proofs.Faults.{pointer-Member, exit}
-use Rattle.fx_config.specs.Lists.{entries_faults}
+use Rattle.fx_walk.proofs.Faults.{pointer-Member, exit}
+use Rattle.fx_walk.specs.Lists.{entries_faults}
 use Rattle.fx_config.specs.CacheFields.{cache_field_faults, cache_field_of}
 use Rattle.fx_config.proofs.cache_field.fields_member.Goals as goal
 

@@ -1,9 +1,9 @@
 use Rattle.std.proofs.Common.{◌≡◌, ◌+◌, [], drop, ◌∙◌, refl, ap, sym, arith}
 use Rattle.std.proofs.lemmas.List.{drop_all, append-nil}
-use Rattle.fx_config.specs.Pointer.{pointer}
+use Rattle.fx_walk.specs.Pointer.{pointer}
 use Rattle.fx_config.specs.CacheFields.{cache_field_faults, cache_field_of}
-use Rattle.fx_config.proofs.Faults.{exit, pointer-Item, refuses_more}
-use Rattle.fx_config.proofs.Walks.{item_here, next_entry, next_value}
+use Rattle.fx_walk.proofs.Faults.{exit, pointer-Item, refuses_more}
+use Rattle.fx_walk.proofs.NextItems.{item_here, next_entry, next_value}
 use Rattle.fx_config.proofs.cache_field.fields_of.Goals as goal
 
 pub loop-item-preserved : goal.loop-item-preserved

@@ -1,7 +1,7 @@
 use Rattle.std.proofs.Common.{◌≡◌, [], ◌++◌, drop, map}
 use Rattle.serde_json.specs.View.{view}
-use Rattle.fx_config.specs.Pointer.{pointer}
-use Rattle.fx_config.specs.Lists.{entries_faults}
+use Rattle.fx_walk.specs.Pointer.{pointer}
+use Rattle.fx_walk.specs.Lists.{entries_faults}
 use Rattle.fx_config.specs.CacheFields.{cache_field_faults, cache_field_of}
 use Rattle.fx_config.proofs.cache_field.fields_of.Given as goal
 

@@ -1,6 +1,6 @@
 use Rattle.std.proofs.Common.{refl}
 use Rattle.fx_config.specs.CacheFields.{cache_field_rows}
-use Rattle.fx_config.proofs.Faults.{exit, refuses_more, is_some-option_map}
+use Rattle.fx_walk.proofs.Faults.{exit, refuses_more, is_some-option_map}
 use Rattle.fx_config.proofs.cache_field.read_field.Goals as goal
 
 pub returns-in_err-object_of-clause-reads : goal.returns-in_err-object_of-clause-reads

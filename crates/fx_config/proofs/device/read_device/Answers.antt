@@ -1,5 +1,5 @@
 use Rattle.serde_json.specs.View.{view}
-use Rattle.fx_config.proofs.Faults.{pointer-Root}
+use Rattle.fx_walk.proofs.Faults.{pointer-Root}
 use Rattle.fx_config.proofs.Resolved.{answer_resolves}
 use Rattle.fx_config.proofs.device.read_device.Goals as goal
 

@@ -1,4 +1,4 @@
-use Rattle.fx_config.proofs.Faults.{exit, refuses_more, pointer-Member}
+use Rattle.fx_walk.proofs.Faults.{exit, refuses_more, pointer-Member}
 use Rattle.fx_config.proofs.ipfix.refers.Goals as goal
 
 pub returns-in_err-points_refer : goal.returns-in_err-points_refer

@@ -1,8 +1,9 @@
 use Rattle.std.proofs.Common.{◌≡◌, ◌+◌, [], drop, ◌∙◌, refl, ap, sym, arith}
 use Rattle.std.proofs.lemmas.List.{drop_all}
-use Rattle.fx_config.specs.Pointer.{pointer}
-use Rattle.fx_config.proofs.Faults.{exit, refuses_more, pointer-Item}
-use Rattle.fx_config.proofs.Walks.{item_here, next_field, next_layout}
+use Rattle.fx_walk.specs.Pointer.{pointer}
+use Rattle.fx_walk.proofs.Faults.{exit, refuses_more, pointer-Item}
+use Rattle.fx_walk.proofs.NextItems.{item_here}
+use Rattle.fx_config.proofs.NextFields.{next_field, next_layout}
 use Rattle.fx_config.proofs.key.fields_of.Goals as goal
 
 pub returns-in_err-field : goal.returns-in_err-field

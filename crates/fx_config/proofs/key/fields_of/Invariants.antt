@@ -1,6 +1,6 @@
 use Rattle.std.proofs.Common.{◌≡◌, [], drop, map}
 use Rattle.serde_json.specs.View.{view}
-use Rattle.fx_config.specs.Pointer.{pointer}
+use Rattle.fx_walk.specs.Pointer.{pointer}
 use Rattle.fx_config.specs.Keys.{fields_faults, with_fields}
 use Rattle.fx_config.proofs.key.fields_of.Given as goal
 

@@ -1,5 +1,5 @@
 use Rattle.std.proofs.Common.{[]}
-use Rattle.fx_config.proofs.Faults.{pointer-Member, exit}
+use Rattle.fx_walk.proofs.Faults.{pointer-Member, exit}
 use Rattle.fx_config.specs.Keys.{fields_faults}
 use Rattle.fx_config.proofs.key.key_member.Goals as goal
 

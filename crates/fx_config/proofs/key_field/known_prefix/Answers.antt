@@ -2,9 +2,9 @@ use Rattle.std.proofs.Common.{◌≡◌, ◌<◌, ℕ, List, [], ◌∷◌, code
 use Rattle.fx_base.specs.declared.fault.Fault.{Fault}
 use Rattle.fx_elements.specs.declared.element.Element.{Element}
 use Rattle.fx_config.specs.KeyFields.{longest_prefix, prefix_check}
-use Rattle.fx_config.specs.Pointer.{below, pointer}
-use Rattle.fx_config.specs.Walk.{Found, Refuses}
-use Rattle.fx_config.proofs.Faults.{pointer-Member}
+use Rattle.fx_walk.specs.Pointer.{below, pointer}
+use Rattle.fx_walk.specs.Walk.{Found, Refuses}
+use Rattle.fx_walk.proofs.Faults.{pointer-Member}
 use Rattle.fx_config.proofs.key_field.known_prefix.Goals as goal
 
 too_long : (e : Fault) (element : Element) (given : Option ℕ) (bits : ℕ) (up : List ℕ) → given ≡ Some bits → longest_prefix element < bits → Refuses e ((105, below up (codes "prefixLength")) ∷ []) → Refuses e (prefix_check element given up)

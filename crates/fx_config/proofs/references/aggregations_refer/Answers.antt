@@ -1,8 +1,8 @@
 use Rattle.std.proofs.Common.{◌+◌, ap, arith}
-use Rattle.fx_config.specs.Pointer.{pointer}
+use Rattle.fx_walk.specs.Pointer.{pointer}
 use Rattle.fx_config.specs.References.{aggregation_references}
-use Rattle.fx_config.proofs.Faults.{exit, pointer-Item}
-use Rattle.fx_config.proofs.Items.{fine_so_far, refused_at}
+use Rattle.fx_walk.proofs.Faults.{exit, pointer-Item}
+use Rattle.fx_walk.proofs.Items.{fine_so_far, refused_at}
 use Rattle.fx_config.proofs.references.aggregations_refer.Goals as goal
 
 pub loop-aggregation-preserved : goal.loop-aggregation-preserved

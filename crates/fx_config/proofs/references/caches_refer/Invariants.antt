@@ -1,6 +1,6 @@
 use Rattle.std.proofs.Common.{◌≡◌, drop}
-use Rattle.fx_config.specs.Pointer.{pointer}
-use Rattle.fx_config.specs.Lists.{items_faults}
+use Rattle.fx_walk.specs.Pointer.{pointer}
+use Rattle.fx_walk.specs.Lists.{items_faults}
 use Rattle.fx_config.specs.References.{cache_references}
 use Rattle.fx_config.proofs.references.caches_refer.Given as goal
 

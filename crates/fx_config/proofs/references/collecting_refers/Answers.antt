@@ -1,4 +1,4 @@
-use Rattle.fx_config.proofs.Faults.{exit, refuses_more, pointer-Member}
+use Rattle.fx_walk.proofs.Faults.{exit, refuses_more, pointer-Member}
 use Rattle.fx_config.proofs.references.collecting_refers.Goals as goal
 
 pub returns-in_err-known_names : goal.returns-in_err-known_names

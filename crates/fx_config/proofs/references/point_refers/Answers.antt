@@ -1,4 +1,4 @@
-use Rattle.fx_config.proofs.Faults.{pointer-Member}
+use Rattle.fx_walk.proofs.Faults.{pointer-Member}
 use Rattle.fx_config.proofs.references.point_refers.Goals as goal
 
 pub returns : goal.returns

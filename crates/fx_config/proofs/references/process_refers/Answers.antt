@@ -1,4 +1,4 @@
-use Rattle.fx_config.proofs.Faults.{pointer-Member}
+use Rattle.fx_walk.proofs.Faults.{pointer-Member}
 use Rattle.fx_config.proofs.references.process_refers.Goals as goal
 
 pub returns-in-Some : goal.returns-in-Some

@@ -2,7 +2,7 @@ use Rattle.std.proofs.Common.{◌≡◌, ◌+◌, ◌<◌, ◌≤◌, ℕ, List,
 use Rattle.std.proofs.lemmas.Bool.{cases_eq}
 use Rattle.std.proofs.lemmas.Option.{slice_get-get_or, slice_get_within}
 use Rattle.fx_layout.specs.Keys.{Layout, IsLayout}
-use Rattle.fx_machine.specs.Network.{Holder, layout_of}
+use Rattle.fx_tables.specs.Network.{Holder, layout_of}
 use Rattle.fx_conform.proofs.networks.have_layouts.Goals as goal
 
 pub loop-holder-init : goal.loop-holder-init

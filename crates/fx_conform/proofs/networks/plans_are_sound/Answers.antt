@@ -1,7 +1,7 @@
 use Rattle.std.proofs.Common.{◌∙◌, List, ap, subst}
-use Rattle.fx_machine.specs.Network.{Net, Holder}
-use Rattle.fx_machine.specs.Ranks.{IsNetwork}
-use Rattle.fx_machine.specs.Runnable.{IsRunnable}
+use Rattle.fx_tables.specs.Network.{Net, Holder}
+use Rattle.fx_tables.specs.Ranks.{IsNetwork}
+use Rattle.fx_tables.specs.Runnable.{IsRunnable}
 use Rattle.fx_conform.specs.Sendable.{HaveLayouts}
 use Rattle.fx_conform.proofs.networks.plans_are_sound.Goals as goal
 

@@ -1,4 +1,4 @@
-use Rattle.fx_machine.specs.declared.step.Step.TheVariants.{Cross, Expire, Arrive}
+use Rattle.fx_run_text.specs.declared.step.Step.TheVariants.{Cross, Expire, Arrive}
 use Rattle.fx_leaf.proofs.Headline.{opens_law, opens_modulo_law, sized_law, kept_law, ends_law}
 use Rattle.fx_leaf.proofs.laws.conservation.Goals as goal
 

@@ -1,5 +1,5 @@
 use Rattle.std.proofs.Common.{◌≡◌, None, subst}
-use Rattle.fx_machine.specs.Network.{Aggregation}
+use Rattle.fx_tables.specs.Network.{Aggregation}
 use Rattle.fx_leaf.specs.Tables.{taken_entry}
 use Rattle.fx_leaf.proofs.Losing.{still_more}
 use Rattle.fx_leaf.proofs.lost.lost_in_matches.Goals as goal

@@ -1,5 +1,6 @@
 use Rattle.std.proofs.Common.{◌≡◌, ◌∙◌, ap, List}
-use Rattle.fx_machine.specs.Network.{Net, Point, numbered, points_of}
+use Rattle.fx_tables.specs.Network.{Net, Point, points_of}
+use Rattle.fx_base.specs.Entries.{numbered}
 use Rattle.fx_leaf.specs.Reach.{marked_by_holders, holders_at}
 use Rattle.fx_leaf.proofs.Marking.{crossings_more}
 use Rattle.fx_leaf.proofs.reach.mark_along.Goals as goal

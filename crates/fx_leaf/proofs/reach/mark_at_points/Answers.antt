@@ -1,6 +1,6 @@
 use Rattle.std.proofs.Common.{◌≡◌, ◌∙◌, ap, sym, true, false, cond, List, []}
-use Rattle.fx_machine.specs.declared.observation.Selection.{Selection}
-use Rattle.fx_machine.specs.Occurrences.{watches}
+use Rattle.fx_tables.specs.declared.observation.Selection.{Selection}
+use Rattle.fx_tables.specs.Occurrences.{watches}
 use Rattle.fx_leaf.specs.Reach.{marked_by_holders, holders_by}
 use Rattle.fx_leaf.proofs.Marking.{points_more}
 use Rattle.fx_leaf.proofs.reach.mark_at_points.Goals as goal

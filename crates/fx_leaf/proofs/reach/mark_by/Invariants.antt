@@ -1,5 +1,5 @@
 use Rattle.std.proofs.Common.{◌≡◌, drop}
-use Rattle.fx_machine.specs.Network.{at_places}
+use Rattle.fx_tables.specs.Network.{at_places}
 use Rattle.fx_leaf.specs.Reach.{marked_by}
 use Rattle.fx_leaf.proofs.reach.mark_by.Given as goal
 

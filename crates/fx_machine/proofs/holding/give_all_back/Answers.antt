@@ -1,6 +1,6 @@
 use Rattle.std.proofs.Common.{◌≡◌, ◌+◌, ◌-◌, ◌<◌, ℕ, ◌∙◌, sym, ap, List, None, length, take, get_or, subst, arith}
 use Rattle.std.proofs.lemmas.List.{get_or_default}
-use Rattle.fx_machine.specs.declared.record.Record.{Record}
+use Rattle.fx_tables.specs.declared.record.Record.{Record}
 use Rattle.fx_machine.specs.declared.holding.Taking.{Taking}
 use Rattle.fx_machine.specs.Holds.{undone, back_at}
 use Rattle.fx_machine.proofs.Takings.{undone_less}

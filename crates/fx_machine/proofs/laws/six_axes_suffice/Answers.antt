@@ -1,4 +1,4 @@
-use Rattle.fx_machine.specs.NamedAxes.{HasSixValues, HasZerosElsewhere, is_of_six}
+use Rattle.fx_tables.specs.NamedAxes.{HasSixValues, HasZerosElsewhere, is_of_six}
 use Rattle.fx_machine.proofs.AlikeClaims.{modulo_iff, once_iff, six_cover, zeros_are, zeros_cover}
 use Rattle.fx_machine.proofs.laws.six_axes_suffice.Goals as goal
 

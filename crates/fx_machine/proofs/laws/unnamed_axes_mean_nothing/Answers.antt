@@ -1,6 +1,6 @@
 use Rattle.fx_machine.proofs.AlikePackets as alike
 use Rattle.fx_machine.proofs.AlikeClaims as claims
-use Rattle.fx_machine.specs.NamedAxes.{HasZerosElsewhere}
+use Rattle.fx_tables.specs.NamedAxes.{HasZerosElsewhere}
 use Rattle.fx_machine.proofs.laws.unnamed_axes_mean_nothing.Goals as goal
 
 pub returns-clause-all_fields_fit : goal.returns-clause-all_fields_fit

@@ -1,5 +1,5 @@
 use Rattle.std.proofs.Common.{◌≡◌, ◌≤◌, [], drop, length}
-use Rattle.fx_machine.specs.Network.{at_places}
+use Rattle.fx_tables.specs.Network.{at_places}
 use Rattle.fx_machine.specs.Sends.{chosen_from}
 use Rattle.fx_machine.proofs.sending.chosen_links.Given as goal
 

@@ -1,5 +1,5 @@
 use Rattle.std.proofs.Common.{◌∙◌, ap, List, get_or}
-use Rattle.fx_machine.specs.declared.record.Record.{Record}
+use Rattle.fx_tables.specs.declared.record.Record.{Record}
 use Rattle.fx_machine.specs.States.{put_last}
 use Rattle.fx_machine.proofs.Lists.{put_all_more}
 use Rattle.fx_machine.proofs.sending.put_all.Goals as goal

@@ -1,6 +1,6 @@
 use Rattle.std.proofs.Common.{subst, ap, ◌∙◌, length, le_refl, List}
 use Rattle.fx_base.specs.declared.counts.Counts.{Counts}
-use Rattle.fx_machine.specs.declared.record.Record.{Record}
+use Rattle.fx_tables.specs.declared.record.Record.{Record}
 use Rattle.fx_machine.specs.Places.{FirstAt, NoneBefore}
 use Rattle.fx_machine.proofs.Lists.{first_found, add_at_none}
 use Rattle.fx_machine.proofs.tallying.add_at.Goals as goal

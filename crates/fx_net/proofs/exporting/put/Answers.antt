@@ -1,5 +1,5 @@
 use Rattle.std.proofs.Common.{◌∙◌, sym, ap}
-use Rattle.fx_machine.specs.declared.record.Record.{Record}
+use Rattle.fx_tables.specs.declared.record.Record.{Record}
 use Rattle.fx_net.specs.Exporting.{with_waiting}
 use Rattle.fx_net.proofs.Changing.{changed_past, changed_set}
 use Rattle.fx_net.proofs.exporting.put.Goals as goal

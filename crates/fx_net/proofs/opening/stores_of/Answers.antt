@@ -1,8 +1,8 @@
 use Rattle.std.proofs.Common.{◌≡◌, ◌∙◌, ap, length, map, min, List}
 use Rattle.std.specs.List.{flat_map}
-use Rattle.fx_plan.specs.declared.network_device.NetworkDevice.{NetworkDevice}
-use Rattle.fx_plan.specs.declared.network.Network.{Network}
-use Rattle.fx_machine.specs.Network.{Net}
+use Rattle.fx_topology.specs.declared.network_device.NetworkDevice.{NetworkDevice}
+use Rattle.fx_topology.specs.declared.network.Network.{Network}
+use Rattle.fx_tables.specs.Network.{Net}
 use Rattle.fx_net.specs.Opening.{store_of}
 use Rattle.fx_net.proofs.Openings.{all_stores}
 use Rattle.fx_net.proofs.opening.stores_of.Goals as goal

@@ -1,7 +1,7 @@
 use Rattle.std.proofs.Common.{◌≡◌, ℕ, ◌+◌, ◌++◌, ◌∷◌, ◌∙◌, sym, ap, drop, List}
 use Rattle.std.proofs.lemmas.List.{drop_more}
-use Rattle.fx_machine.specs.declared.holding.Holding.{Holding}
-use Rattle.fx_machine.specs.Holds.{met_holdings}
+use Rattle.fx_tables.specs.declared.holding.Holding.{Holding}
+use Rattle.fx_tables.specs.Holdings.{met_holdings}
 use Rattle.fx_net.specs.Taking.{with_holdings, all_leave_at_once}
 use Rattle.fx_net.proofs.Takings.{passing_next, still_next}
 use Rattle.fx_net.proofs.taking.meet_all.Goals as goal

@@ -1,6 +1,6 @@
 -- What the rest of the holders makes of the stores and of what leaves so far is what all make of those at the beginning.
 use Rattle.std.proofs.Common.{◌≡◌, ◌++◌, ℕ, drop}
-use Rattle.fx_machine.specs.Holds.{met_holdings}
+use Rattle.fx_tables.specs.Holdings.{met_holdings}
 use Rattle.fx_net.specs.Contents.{is_immediate, stored_at}
 use Rattle.fx_net.specs.Taking.{with_holdings, all_leave_at_once}
 use Rattle.fx_net.proofs.taking.meet_all.Given as goal

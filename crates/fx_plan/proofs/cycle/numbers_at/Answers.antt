@@ -1,6 +1,6 @@
 use Rattle.std.proofs.Common.{◌≡◌, ℕ, ◌+◌, List, [], ◌∷◌, ◌++◌, Some, None, drop, get_or, slice_get, refl, ap, ◌∙◌, append_assoc, Vec, Global}
 use Rattle.std.proofs.lemmas.List.{drop_more}
-use Rattle.fx_machine.specs.Network.{at_places}
+use Rattle.fx_tables.specs.Network.{at_places}
 use Rattle.fx_plan.specs.declared.cycle.ProcessNumber.{ProcessNumber}
 use Rattle.fx_plan.proofs.cycle.numbers_at.Goals as goal
 use Rattle.fx_plan.proofs.cycle.numbers_at.Goals.{in-Some+in_ok-push, in_default}

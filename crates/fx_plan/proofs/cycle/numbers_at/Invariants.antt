@@ -1,5 +1,5 @@
 use Rattle.std.proofs.Common.{◌≡◌, ◌++◌, drop}
-use Rattle.fx_machine.specs.Network.{at_places}
+use Rattle.fx_tables.specs.Network.{at_places}
 use Rattle.fx_plan.proofs.cycle.numbers_at.Given as goal
 
 abbrev pub invariant-loop-place : goal.invariant-loop-place

@@ -1,6 +1,6 @@
 use Rattle.std.proofs.Common.{ℕ, Bool, false, not, List, ◌∷◌, ◌++◌, [], Vec, Global, get_or, sym, ap, ◌∙◌}
 use Rattle.std.proofs.lemmas.Bool.{not_from_false, not_from_true}
-use Rattle.fx_plan.proofs.Ranges.{filter_yes, filter_no}
+use Rattle.fx_ranks.proofs.Ranges.{filter_yes, filter_no}
 use Rattle.fx_plan.proofs.cycle.places_left.Goals as goal
 use Rattle.fx_plan.proofs.cycle.places_left.Goals.{then-not-there+in_ok-push, else-not-there}
 

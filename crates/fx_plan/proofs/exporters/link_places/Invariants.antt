@@ -1,6 +1,6 @@
 use Rattle.std.proofs.Common.{◌≡◌, take, map}
 use Rattle.std.specs.List.{position}
-use Rattle.fx_plan.specs.Tables.{leads_from}
+use Rattle.fx_topology.specs.Links.{leads_from}
 use Rattle.fx_plan.proofs.exporters.link_places.Given as goal
 
 abbrev pub invariant-loop-destination : goal.invariant-loop-destination

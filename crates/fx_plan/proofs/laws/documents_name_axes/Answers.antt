@@ -1,4 +1,4 @@
-use Rattle.fx_machine.specs.NamedAxes.{HasSixValues, is_of_six}
+use Rattle.fx_tables.specs.NamedAxes.{HasSixValues, is_of_six}
 use Rattle.fx_machine.proofs.AlikeClaims.{modulo_iff, once_iff, six_cover}
 use Rattle.fx_plan.specs.Tables.{net_of}
 use Rattle.fx_plan.proofs.NamedNets.{net_names}

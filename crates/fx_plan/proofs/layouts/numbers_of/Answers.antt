@@ -3,10 +3,10 @@ use Rattle.std.proofs.lemmas.List.{take_more}
 use Rattle.std.proofs.lemmas.Option.{slice_get_read, slice_get_past}
 use Rattle.std.proofs.lemmas.Bool.{cases_lt}
 use Rattle.fx_layout.specs.Keys.{Layout, Fits}
-use Rattle.fx_machine.specs.Network.{Holder, layout_of}
+use Rattle.fx_tables.specs.Network.{Holder, layout_of}
 use Rattle.fx_plan.specs.Layouts.{held_layouts, with_layout, with_layouts}
-use Rattle.fx_machine.specs.Limits.{layout_limit}
-use Rattle.fx_plan.proofs.Linking.{drop_item}
+use Rattle.fx_tables.specs.Limits.{layout_limit}
+use Rattle.fx_topology.proofs.Linking.{drop_item}
 use Rattle.fx_plan.proofs.Numberings.{all_longer, exit_with, numbers_grow, numbers_push}
 use Rattle.fx_plan.proofs.layouts.numbers_of.Goals as goal
 

@@ -1,8 +1,8 @@
 use Rattle.std.proofs.Common.{◌≡◌, ◌<◌, ◌≤◌, ℕ, take, drop, length, slice_get}
 use Rattle.fx_layout.specs.Keys.{Fits}
-use Rattle.fx_machine.specs.Network.{layout_of}
+use Rattle.fx_tables.specs.Network.{layout_of}
 use Rattle.fx_plan.specs.Layouts.{AreNumbers, held_layouts, with_layouts}
-use Rattle.fx_machine.specs.Limits.{layout_limit}
+use Rattle.fx_tables.specs.Limits.{layout_limit}
 use Rattle.fx_plan.proofs.layouts.numbers_of.Given as goal
 
 abbrev pub invariant-loop-holder : goal.invariant-loop-holder

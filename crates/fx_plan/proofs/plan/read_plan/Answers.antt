@@ -4,15 +4,15 @@ use Rattle.serde_json.specs.View.{view}
 use Rattle.fx_base.specs.Fault.{fault_at}
 use Rattle.fx_base.specs.declared.fault.Fault.{Fault}
 use Rattle.fx_base.specs.declared.fault.Place.TheVariants as places
-use Rattle.fx_machine.specs.Matches.{AreEntries}
-use Rattle.fx_machine.specs.Network.{Net}
-use Rattle.fx_machine.specs.Runnable.{IsRunnable}
+use Rattle.fx_tables.specs.Matches.{AreEntries}
+use Rattle.fx_tables.specs.Network.{Net}
+use Rattle.fx_tables.specs.Runnable.{IsRunnable}
 use Rattle.fx_plan.specs.Layouts.{layouts_of}
 use Rattle.fx_plan.specs.Plans.{IsCycle, IsResolved, ReadsPlan}
-use Rattle.fx_plan.specs.Networks.{network_faults, network_of}
-use Rattle.fx_plan.specs.Ranks.{IsStuck}
-use Rattle.fx_plan.specs.declared.network.Network.{Network}
-use Rattle.fx_machine.specs.Limits.{layout_limit}
+use Rattle.fx_topology.specs.Networks.{network_faults, network_of}
+use Rattle.fx_ranks.specs.Ranks.{IsStuck}
+use Rattle.fx_topology.specs.declared.network.Network.{Network}
+use Rattle.fx_tables.specs.Limits.{layout_limit}
 use Rattle.fx_layout.specs.Keys.{Layout}
 use Rattle.fx_plan.specs.Tables.{net_of}
 use Rattle.fx_plan.proofs.Matching.{network_entries}

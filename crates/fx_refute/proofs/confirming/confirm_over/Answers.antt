@@ -3,12 +3,13 @@ use Rattle.fx_base.specs.declared.fault.Fault.{Fault}
 use Rattle.fx_base.specs.declared.fault.Place.TheVariants as places
 use Rattle.fx_base.specs.Fault.{fault_at}
 use Rattle.fx_layout.specs.Keys.{Key, Layout, IsLayout, key_of}
-use Rattle.fx_machine.specs.declared.packet.Packet.{Packet}
-use Rattle.fx_machine.specs.Network.{Net, numbered}
-use Rattle.fx_machine.specs.Classes.{Class, IsOf, to_count}
+use Rattle.fx_tables.specs.declared.packet.Packet.{Packet}
+use Rattle.fx_tables.specs.Network.{Net}
+use Rattle.fx_base.specs.Entries.{numbered}
+use Rattle.fx_tables.specs.Classes.{Class, IsOf, to_count}
 use Rattle.fx_machine.specs.States.{State, opening, Complete, told}
 use Rattle.fx_machine.specs.Steps.{run}
-use Rattle.fx_machine.specs.declared.step.Step.{Step}
+use Rattle.fx_run_text.specs.declared.step.Step.{Step}
 use Rattle.fx_machine.specs.Stores.{Running}
 use Rattle.fx_collect.specs.Totals.{Totals, totals_of, totals_in}
 use Rattle.fx_collect.proofs.Runs.{run_table, run_retold}

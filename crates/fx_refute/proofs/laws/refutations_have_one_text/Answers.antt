@@ -1,4 +1,4 @@
-use Rattle.fx_machine.specs.declared.text_version.TextVersion.{TextVersion}
+use Rattle.fx_run_text.specs.declared.text_version.TextVersion.{TextVersion}
 use Rattle.fx_refute.proofs.RefutationTexts.{LineLaws, text_found, text_read}
 use Rattle.fx_refute.proofs.laws.refutations_have_one_text.Goals as goal
 

@@ -1,9 +1,10 @@
 use Rattle.std.proofs.Common.{◌<◌, ◌^◌, true, false, cond, List, [], ◌∷◌, Some, None, IfSome, arith, inl, inr}
 use Rattle.std.proofs.lemmas.List.Elements.{All-nil, All-cons}
 use Rattle.fx_layout.specs.Keys.{key_of, same_key}
-use Rattle.fx_machine.specs.declared.packet.Packet.{Packet}
-use Rattle.fx_machine.specs.Network.{Net, numbered}
-use Rattle.fx_machine.specs.Classes.{IsOf}
+use Rattle.fx_tables.specs.declared.packet.Packet.{Packet}
+use Rattle.fx_tables.specs.Network.{Net}
+use Rattle.fx_base.specs.Entries.{numbered}
+use Rattle.fx_tables.specs.Classes.{IsOf}
 use Rattle.fx_machine.specs.States.{opening}
 use Rattle.fx_machine.specs.Steps.{one_packet}
 use Rattle.fx_machine.specs.Sums.{IsBelow, SumsFit}

@@ -1,10 +1,10 @@
 use Rattle.std.proofs.Common.{[], ◌∷◌, ◌++◌, List, codes, subst}
 use Rattle.fx_base.specs.Device.{Writes}
-use Rattle.fx_machine.specs.declared.packet.Packet.{Packet}
-use Rattle.fx_machine.specs.declared.run_line.RunLine.TheVariants as line
-use Rattle.fx_machine.specs.declared.step.Step.{Step}
-use Rattle.fx_machine.specs.declared.text_version.TextVersion.TheVariants.{Two}
-use Rattle.fx_machine.specs.RunLineText.{run_line_text}
+use Rattle.fx_tables.specs.declared.packet.Packet.{Packet}
+use Rattle.fx_run_text.specs.declared.run_line.RunLine.TheVariants as line
+use Rattle.fx_run_text.specs.declared.step.Step.{Step}
+use Rattle.fx_run_text.specs.declared.text_version.TextVersion.TheVariants.{Two}
+use Rattle.fx_run_text.specs.RunLineText.{run_line_text}
 use Rattle.fx_refute.specs.RefutationText.{steps_text}
 use Rattle.fx_refute.proofs.RefutationTexts.{refutation_put, writes_4}
 use Rattle.fx_refute.proofs.put.put_refutation.Goals as goal

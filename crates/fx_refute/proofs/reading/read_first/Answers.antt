@@ -1,7 +1,7 @@
 use Rattle.std.proofs.Common.{rules, ◌≡◌, ◌&&◌, false, codes, inr}
 use Rattle.std.specs.Str.{bytes_eq}
 use Rattle.std.proofs.lemmas.Result.{err_from_is_err_and}
-use Rattle.fx_machine.proofs.RunLines.{at_line_of}
+use Rattle.fx_run_text.proofs.RunLines.{at_line_of}
 use Rattle.fx_refute.proofs.ReadingLines.{first_refused, first_wrong}
 use Rattle.fx_refute.proofs.reading.read_first.Goals as goal
 use Rattle.fx_refute.proofs.reading.read_first.Goals.{else-line-via-then-line+else-is_line, else-line-via-else-line, else-line-2-via-then-line-2+else-is_line-2, else-line-2-via-else-line-2}

@@ -1,6 +1,6 @@
 use Rattle.std.proofs.Common.{rules, ◌≡◌, Err, inr}
 use Rattle.std.proofs.lemmas.Result.{err_from_is_err_and}
-use Rattle.fx_machine.proofs.RunLines.{at_line_of}
+use Rattle.fx_run_text.proofs.RunLines.{at_line_of}
 use Rattle.fx_refute.specs.RefutationReading.{line_said}
 use Rattle.fx_refute.proofs.ReadingLines.{next_refused, says_nothing}
 use Rattle.fx_refute.proofs.reading.read_next.Goals as goal

@@ -1,5 +1,5 @@
 use Rattle.std.proofs.Common.{rules, inr}
-use Rattle.fx_machine.specs.declared.run_line.RunLine.TheVariants as line
+use Rattle.fx_run_text.specs.declared.run_line.RunLine.TheVariants as line
 use Rattle.fx_refute.specs.ReadingOn.{Says}
 use Rattle.fx_refute.proofs.ReadingLines.{no_packet_end, no_packet_step}
 use Rattle.fx_refute.proofs.reading.read_packet.Goals as goal

@@ -1,8 +1,8 @@
 use Rattle.std.proofs.Common.{rules, ◌≤◌, length, Ok, Err, inr}
 use Rattle.std.proofs.lemmas.Result.{err_from_is_err_and}
 use Rattle.fx_base.proofs.GoingOn.{goes_then}
-use Rattle.fx_machine.specs.RunReading.{at_line}
-use Rattle.fx_machine.specs.declared.run_line.RunLine.TheVariants as line
+use Rattle.fx_run_text.specs.RunReading.{at_line}
+use Rattle.fx_run_text.specs.declared.run_line.RunLine.TheVariants as line
 use Rattle.fx_refute.specs.ReadingOn.{Says}
 use Rattle.fx_refute.specs.RefutationReading.{ended, only, steps_behind}
 use Rattle.fx_machine.specs.Limits.{step_limit}

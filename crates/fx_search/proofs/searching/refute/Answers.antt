@@ -1,5 +1,5 @@
 use Rattle.std.proofs.Common.{◌≡◌, ◌<◌, ◌^◌, ap, arith, subst, IfSome}
-use Rattle.fx_machine.specs.declared.packet.Packet.{Packet}
+use Rattle.fx_tables.specs.declared.packet.Packet.{Packet}
 use Rattle.fx_steps.specs.WrongRun.{IsWrongRun}
 use Rattle.fx_search.proofs.Ending.{refutes_there}
 use Rattle.fx_search.proofs.searching.refute.Goals as goal

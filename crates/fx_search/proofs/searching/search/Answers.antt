@@ -1,7 +1,7 @@
 use Rattle.std.proofs.Common.{◌≡◌, ap, sym, subst, ◌∙◌, List, reverse, map, ℕ, []}
 use Rattle.std.proofs.lemmas.Result.{err_from_is_err_and}
 use Rattle.fx_cert.specs.declared.item.Version.{Version}
-use Rattle.fx_machine.specs.Classes.{Class}
+use Rattle.fx_tables.specs.Classes.{Class}
 use Rattle.fx_traffic.specs.Targets.{targets_of}
 use Rattle.fx_check.proofs.Going.{err_gives}
 use Rattle.fx_search.specs.Growing.{IsGrowing, IsGrown, Lies}

@@ -1,5 +1,5 @@
 use Rattle.std.proofs.Common.{◌<◌, ℕ, suc}
-use Rattle.fx_machine.specs.declared.step.HolderName.TheVariants as variants
+use Rattle.fx_tables.specs.declared.holder_name.HolderName.TheVariants as variants
 use Rattle.fx_steps.specs.Names.{Keep, Note}
 use Rattle.fx_steps.proofs.names.note_aggregations.Given as goal
 

@@ -1,5 +1,5 @@
 use Rattle.std.proofs.Common.{◌≡◌, ◌<◌, ℕ, suc, length}
-use Rattle.fx_machine.specs.declared.step.HolderName.{HolderName}
+use Rattle.fx_tables.specs.declared.holder_name.HolderName.{HolderName}
 use Rattle.fx_steps.specs.Names.{Note, device_of}
 use Rattle.fx_steps.proofs.names.note_devices.Given as goal
 

@@ -1,7 +1,7 @@
 use Rattle.std.proofs.Common.{◌≡◌, suc, ◌+◌, ◌∙◌, ap, inl, inr, subst, Some, length, slice_get, arith}
 use Rattle.std.proofs.lemmas.Option.{get_or_from_slice_get}
-use Rattle.fx_machine.specs.declared.step.HolderName.TheVariants as variants
-use Rattle.fx_machine.specs.Network.{aggregations_of}
+use Rattle.fx_tables.specs.declared.holder_name.HolderName.TheVariants as variants
+use Rattle.fx_tables.specs.Network.{aggregations_of}
 use Rattle.fx_steps.specs.Names.{Note}
 use Rattle.fx_steps.proofs.Naming.{inside, before_next, note_kept, kept_on}
 use Rattle.fx_steps.proofs.names.note_processes.Goals as goal

@@ -1,6 +1,6 @@
 use Rattle.std.proofs.Common.{◌≡◌, ◌<◌, ℕ, suc, length, Some, slice_get}
-use Rattle.fx_machine.specs.Network.{aggregations_of}
-use Rattle.fx_machine.specs.declared.step.HolderName.TheVariants as variants
+use Rattle.fx_tables.specs.Network.{aggregations_of}
+use Rattle.fx_tables.specs.declared.holder_name.HolderName.TheVariants as variants
 use Rattle.fx_steps.specs.Names.{Keep, Note}
 use Rattle.fx_steps.proofs.names.note_processes.Given as goal
 

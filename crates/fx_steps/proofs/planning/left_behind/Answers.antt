@@ -1,5 +1,5 @@
 use Rattle.std.proofs.Common.{◌∙◌, ap, ap₂}
-use Rattle.fx_machine.specs.Network.{Net}
+use Rattle.fx_tables.specs.Network.{Net}
 use Rattle.fx_leaf.specs.declared.verdict.Fate.{Fate}
 use Rattle.fx_steps.specs.declared.costs.Costs.{Costs}
 use Rattle.fx_steps.specs.CostTables.{tally_costs}

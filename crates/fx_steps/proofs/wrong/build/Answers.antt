@@ -1,10 +1,10 @@
 use Rattle.std.proofs.Common.{◌≡◌, ◌+◌, ◌≤◌, ◌∙◌, suc, List, [], ◌∷◌, length, drop, Some, ap, sym, subst, arith, add-one}
 use Rattle.std.proofs.Math.ListN.{drop_of_length-le}
 use Rattle.std.proofs.lemmas.Option.{slice_get-get_or}
-use Rattle.fx_machine.specs.Classes.{path}
-use Rattle.fx_machine.specs.Network.{numbered}
+use Rattle.fx_tables.specs.Classes.{path}
+use Rattle.fx_base.specs.Entries.{numbered}
 use Rattle.fx_machine.specs.States.{Coming, crossings_from}
-use Rattle.fx_machine.specs.declared.traffic.Crossing.{Crossing}
+use Rattle.fx_tables.specs.declared.traffic.Crossing.{Crossing}
 use Rattle.fx_machine.specs.Limits.{step_limit}
 use Rattle.fx_steps.specs.Costs.{cost_of, nothing}
 use Rattle.fx_steps.specs.CostTables.{path_costs}

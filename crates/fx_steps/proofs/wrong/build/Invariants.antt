@@ -1,7 +1,7 @@
 use Rattle.std.proofs.Common.{◌≡◌, ◌+◌, suc, List, [], length, drop}
 use Rattle.fx_leaf.specs.declared.verdict.Fate.{Fate}
 use Rattle.fx_leaf.specs.Fates.{both}
-use Rattle.fx_machine.specs.Classes.{Class, path}
+use Rattle.fx_tables.specs.Classes.{Class, path}
 use Rattle.fx_machine.specs.States.{crossings_from}
 use Rattle.fx_steps.specs.Costs.{cost_of}
 use Rattle.fx_steps.specs.CostTables.{path_costs}

@@ -1,9 +1,9 @@
 use Rattle.std.proofs.Common.{◌≡◌, ◌+◌, [], map, drop, ◌∙◌, refl, ap, sym, arith}
 use Rattle.std.proofs.lemmas.List.{drop_all, append-nil}
-use Rattle.fx_config.specs.Pointer.{pointer}
-use Rattle.fx_config.proofs.Faults.{pointer-Item}
+use Rattle.fx_walk.specs.Pointer.{pointer}
+use Rattle.fx_walk.proofs.Faults.{pointer-Item}
 use Rattle.fx_traffic.specs.Classes.{class_faults, class_name, class_of}
-use Rattle.fx_config.proofs.Walks.{item_here, next_entry, next_value}
+use Rattle.fx_walk.proofs.NextItems.{item_here, next_entry, next_value}
 use Rattle.fx_traffic.proofs.class.classes_of.Goals as goal
 
 pub loop-item-preserved : goal.loop-item-preserved

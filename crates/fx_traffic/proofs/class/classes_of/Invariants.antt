@@ -1,7 +1,7 @@
 use Rattle.std.proofs.Common.{◌≡◌, [], ◌++◌, drop, map}
 use Rattle.serde_json.specs.View.{view}
-use Rattle.fx_config.specs.Pointer.{pointer}
-use Rattle.fx_config.specs.Lists.{entries_faults}
+use Rattle.fx_walk.specs.Pointer.{pointer}
+use Rattle.fx_walk.specs.Lists.{entries_faults}
 use Rattle.fx_traffic.specs.Classes.{class_faults, class_name, class_of}
 use Rattle.fx_traffic.proofs.class.classes_of.Given as goal
 

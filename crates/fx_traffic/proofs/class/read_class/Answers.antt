@@ -1,6 +1,6 @@
 use Rattle.std.proofs.Common.{refl, map}
 use Rattle.fx_traffic.specs.Classes.{class_rows}
-use Rattle.fx_config.proofs.Faults.{exit, refuses_more}
+use Rattle.fx_walk.proofs.Faults.{exit, refuses_more}
 use Rattle.fx_traffic.proofs.class.read_class.Goals as goal
 
 pub returns-in_err-object_of-clause-reads : goal.returns-in_err-object_of-clause-reads

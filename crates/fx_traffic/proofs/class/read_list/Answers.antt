@@ -1,7 +1,7 @@
 use Rattle.std.proofs.Common.{map, []}
-use Rattle.fx_config.specs.Lists.{entries_faults}
+use Rattle.fx_walk.specs.Lists.{entries_faults}
 use Rattle.fx_traffic.specs.Classes.{class_faults, class_name}
-use Rattle.fx_config.proofs.Faults.{exit}
+use Rattle.fx_walk.proofs.Faults.{exit}
 use Rattle.fx_traffic.proofs.class.read_list.Goals as goal
 
 pub returns-in_err-items : goal.returns-in_err-items

@@ -1,7 +1,7 @@
 use Rattle.std.proofs.Common.{◌≡◌, ◌++◌, drop, map}
 use Rattle.serde_json.specs.View.{view}
-use Rattle.fx_config.specs.Pointer.{pointer}
-use Rattle.fx_config.specs.Lists.{items_faults}
+use Rattle.fx_walk.specs.Pointer.{pointer}
+use Rattle.fx_walk.specs.Lists.{items_faults}
 use Rattle.fx_traffic.specs.Crossings.{crossing_faults, crossing_of}
 use Rattle.fx_traffic.proofs.path.crossings_of.Given as goal
 

@@ -1,9 +1,9 @@
 use Rattle.std.proofs.Common.{◌≡◌, ◌+◌, [], map, drop, ◌∙◌, refl, ap, sym, arith}
 use Rattle.std.proofs.lemmas.List.{drop_all, append-nil}
-use Rattle.fx_config.specs.Pointer.{pointer}
+use Rattle.fx_walk.specs.Pointer.{pointer}
 use Rattle.fx_traffic.specs.Crossings.{path_faults, path_of}
-use Rattle.fx_config.proofs.Faults.{exit, refuses_more, pointer-Item}
-use Rattle.fx_config.proofs.Walks.{item_here, next_item, next_value}
+use Rattle.fx_walk.proofs.Faults.{exit, refuses_more, pointer-Item}
+use Rattle.fx_walk.proofs.NextItems.{item_here, next_item, next_value}
 use Rattle.fx_traffic.proofs.path.paths_of.Goals as goal
 
 pub returns-in_err-read_path : goal.returns-in_err-read_path

@@ -1,7 +1,7 @@
 use Rattle.std.proofs.Common.{map}
-use Rattle.fx_config.specs.Lists.{items_faults}
+use Rattle.fx_walk.specs.Lists.{items_faults}
 use Rattle.fx_traffic.specs.Crossings.{path_faults}
-use Rattle.fx_config.proofs.Faults.{exit}
+use Rattle.fx_walk.proofs.Faults.{exit}
 use Rattle.fx_traffic.proofs.path.read_paths.Goals as goal
 
 pub returns-in_err-items : goal.returns-in_err-items

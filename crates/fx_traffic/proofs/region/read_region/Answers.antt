@@ -1,6 +1,6 @@
 use Rattle.std.proofs.Common.{refl}
 use Rattle.fx_traffic.specs.Regions.{region_rows}
-use Rattle.fx_config.proofs.Faults.{exit}
+use Rattle.fx_walk.proofs.Faults.{exit}
 use Rattle.fx_traffic.proofs.region.read_region.Goals as goal
 
 pub returns-in_err-object_of : goal.returns-in_err-object_of

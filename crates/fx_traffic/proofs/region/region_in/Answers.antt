@@ -6,9 +6,9 @@ use Rattle.fx_elements.specs.declared.axis.Axis.TheVariants.{Source}
 use Rattle.fx_elements.specs.declared.values.Range.{Range}
 use Rattle.fx_elements.specs.Axes.{axes}
 use Rattle.fx_elements.proofs.EveryAxis.{index_at, set_more}
-use Rattle.fx_config.specs.Pointer.{pointer}
-use Rattle.fx_config.specs.Walk.{Found, row_faults}
-use Rattle.fx_config.proofs.Faults.{exit}
+use Rattle.fx_walk.specs.Pointer.{pointer}
+use Rattle.fx_walk.specs.Walk.{Found, row_faults}
+use Rattle.fx_walk.proofs.Faults.{exit}
 use Rattle.fx_traffic.specs.Regions.{IsOn}
 use Rattle.fx_traffic.proofs.Regions.{IsLowAt, IsHighAt, faults_here, is_region, refuses_here, region_is, row_on}
 use Rattle.fx_traffic.proofs.region.region_in.Goals as goal

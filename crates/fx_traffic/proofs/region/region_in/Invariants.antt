@@ -1,8 +1,8 @@
 use Rattle.std.proofs.Common.{◌≡◌, ℕ, ◌<◌, length, map, drop, get_or}
 use Rattle.serde_json.specs.View.{view}
 use Rattle.fx_elements.specs.Axes.{axes, axis_count}
-use Rattle.fx_config.specs.Pointer.{pointer}
-use Rattle.fx_config.specs.Walk.{row_faults}
+use Rattle.fx_walk.specs.Pointer.{pointer}
+use Rattle.fx_walk.specs.Walk.{row_faults}
 use Rattle.fx_traffic.specs.Regions.{region_rows}
 use Rattle.fx_traffic.proofs.Regions.{IsLowAt, IsHighAt, row_on}
 use Rattle.fx_traffic.proofs.region.region_in.Given as goal

@@ -1,6 +1,6 @@
 use Rattle.std.proofs.Common.{refl, map}
 use Rattle.fx_traffic.specs.Classes.{traffic_rows, traffic_faults, traffic_of}
-use Rattle.fx_config.proofs.Faults.{exit, refuses_more}
+use Rattle.fx_walk.proofs.Faults.{exit, refuses_more}
 use Rattle.fx_traffic.proofs.traffic.traffic_at.Goals as goal
 
 pub returns-in_err-object_of : goal.returns-in_err-object_of

@@ -4,7 +4,7 @@ use Rattle.std.specs.Prelude.{bytes_eq}
 use Rattle.indexmap.specs.IndexMap.{insert_entry}
 use Rattle.fx_base.specs.declared.counts.Counts.{Counts}
 use Rattle.fx_layout.specs.Keys.{Layout, HasBits}
-use Rattle.fx_machine.specs.declared.record.Record.{Record}
+use Rattle.fx_tables.specs.declared.record.Record.{Record}
 use Rattle.fx_machine.specs.States.{add_at}
 use Rattle.fx_collect.specs.Totals.{Totals, added, records_of, AllHaveBits}
 use Rattle.fx_collect.proofs.Counting.{insert_adds, insert_has_bits, put_at, put_new}

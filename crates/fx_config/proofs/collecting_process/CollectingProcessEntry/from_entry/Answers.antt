@@ -1,6 +1,6 @@
 use Rattle.std.proofs.Common.{refl}
 use Rattle.fx_config.specs.CollectingProcesses.{collecting_process_rows}
-use Rattle.fx_config.proofs.Faults.{exit, refuses_more}
+use Rattle.fx_walk.proofs.Faults.{exit, refuses_more}
 use Rattle.fx_config.proofs.collecting_process.CollectingProcessEntry.from_entry.Goals as goal
 
 pub returns-in_err-object_of-clause-reads : goal.returns-in_err-object_of-clause-reads

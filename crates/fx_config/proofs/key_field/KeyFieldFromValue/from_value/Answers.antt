@@ -1,6 +1,6 @@
 use Rattle.std.proofs.Common.{refl}
 use Rattle.fx_config.specs.KeyFields.{key_field_rows}
-use Rattle.fx_config.proofs.Faults.{exit, refuses_more}
+use Rattle.fx_walk.proofs.Faults.{exit, refuses_more}
 use Rattle.fx_config.proofs.key_field.KeyFieldFromValue.from_value.Goals as goal
 
 pub returns-in_err-object_of : goal.returns-in_err-object_of

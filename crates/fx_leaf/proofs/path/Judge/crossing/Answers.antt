@@ -1,4 +1,5 @@
-use Rattle.fx_machine.specs.Network.{Net, Point, numbered, points_of}
+use Rattle.fx_tables.specs.Network.{Net, Point, points_of}
+use Rattle.fx_base.specs.Entries.{numbered}
 use Rattle.std.specs.Prelude.{Contains}
 use Rattle.std.proofs.Common.{◌≡◌, ◌∙◌, ap, subst, List}
 use Rattle.fx_leaf.proofs.Cutting.{err_more}

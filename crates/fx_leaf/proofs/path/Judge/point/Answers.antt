@@ -1,5 +1,5 @@
-use Rattle.fx_machine.specs.Occurrences.{watches}
-use Rattle.fx_machine.specs.declared.observation.Selection.{Selection}
+use Rattle.fx_tables.specs.Occurrences.{watches}
+use Rattle.fx_tables.specs.declared.observation.Selection.{Selection}
 use Rattle.std.specs.Prelude.{Contains}
 use Rattle.std.proofs.Common.{◌≡◌, ◌∙◌, sym, subst, true, List}
 use Rattle.fx_leaf.proofs.Cutting.{err_more}

@@ -1,6 +1,6 @@
 use Rattle.std.proofs.Common.{◌≤◌, List}
-use Rattle.fx_machine.specs.declared.traffic.Crossing.{Crossing}
-use Rattle.fx_machine.specs.Ranks.{IsRanked}
+use Rattle.fx_tables.specs.declared.traffic.Crossing.{Crossing}
+use Rattle.fx_tables.specs.Ranks.{IsRanked}
 use Rattle.fx_leaf.specs.Lost.{Starts, IsLost}
 use Rattle.fx_leaf.specs.Reach.{Marked}
 use Rattle.fx_leaf.proofs.path.Judge.split_behind.Given as goal

@@ -1,6 +1,6 @@
 use Rattle.std.proofs.Common.{ℕ, List, refl, sym, ◌∙◌, subst, arith}
 use Rattle.fx_layout.specs.Keys.{Layout, HasBits, IsLayout}
-use Rattle.fx_machine.specs.declared.record.Record.{Record}
+use Rattle.fx_tables.specs.declared.record.Record.{Record}
 use Rattle.fx_link.specs.Outgoing.{Waiting, IsWaiting}
 use Rattle.fx_link.specs.Sending.{IsSent}
 use Rattle.fx_link.proofs.Flushing.{waits_on, Takes, takes_flushed, takes_same}

@@ -2,9 +2,10 @@ use Rattle.std.proofs.Common.{◌≡◌, ◌∙◌, ◌%◌, ◌^◌, inl, inr, 
 use Rattle.std.proofs.lemmas.Result.{err_from_is_err_and}
 use Rattle.fx_base.specs.declared.fault.Fault.{Fault}
 use Rattle.fx_layout.specs.Keys.{Layout}
-use Rattle.fx_machine.specs.declared.record.Record.{Record}
-use Rattle.fx_machine.specs.declared.holding.Holding.{Holding}
-use Rattle.fx_machine.specs.Network.{Exporter, numbered, at_places}
+use Rattle.fx_tables.specs.declared.record.Record.{Record}
+use Rattle.fx_tables.specs.declared.holding.Holding.{Holding}
+use Rattle.fx_tables.specs.Network.{Exporter, at_places}
+use Rattle.fx_base.specs.Entries.{numbered}
 use Rattle.fx_machine.specs.Sends.{put_all, chosen_from}
 use Rattle.fx_machine.specs.Holds.{hold_all}
 use Rattle.fx_machine.specs.Stores.{taken_out}

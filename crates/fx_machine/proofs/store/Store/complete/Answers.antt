@@ -1,5 +1,5 @@
 use Rattle.std.proofs.Common.{◌∙◌, ◌&&◌, Bool, ap, ap₂, List}
-use Rattle.fx_machine.specs.declared.record.Record.{Record}
+use Rattle.fx_tables.specs.declared.record.Record.{Record}
 use Rattle.fx_machine.specs.States.{all_empty}
 use Rattle.fx_machine.specs.Comings.{all_crossed}
 use Rattle.fx_machine.proofs.Crossings.{complete_is}

@@ -1,7 +1,7 @@
 use Rattle.std.proofs.Common.{◌≡◌, ◌∙◌, inl, inr, true, false, sym, ap, List, Bool, Some, Err}
 use Rattle.std.proofs.lemmas.Result.{err_from_is_err_and}
 use Rattle.fx_base.specs.declared.fault.Fault.{Fault}
-use Rattle.fx_machine.specs.declared.holding.Holding.{Holding}
+use Rattle.fx_tables.specs.declared.holding.Holding.{Holding}
 use Rattle.fx_machine.specs.Holds.{hold_all}
 use Rattle.fx_machine.specs.Comings.{coming_of, flagged, cleared}
 use Rattle.fx_machine.specs.Steps.{one_packet}

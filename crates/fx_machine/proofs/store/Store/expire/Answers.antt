@@ -1,8 +1,8 @@
 use Rattle.std.proofs.Common.{◌≡◌, ◌<◌, ◌≤◌, ◌∙◌, inl, inr, sym, ap, ap₂, ℕ, List, [], length, slice_get, Option, Some, None, Err, drop}
 use Rattle.std.proofs.lemmas.Result.{err_from_is_err_and}
 use Rattle.fx_base.specs.declared.fault.Fault.{Fault}
-use Rattle.fx_machine.specs.declared.record.Record.{Record}
-use Rattle.fx_machine.specs.Network.{Net, Exporter, Holder, at_places, named_by}
+use Rattle.fx_tables.specs.declared.record.Record.{Record}
+use Rattle.fx_tables.specs.Network.{Net, Exporter, at_places, named_by}
 use Rattle.fx_machine.specs.Sends.{put_all, Chosen, chosen_from}
 use Rattle.fx_machine.specs.Stores.{taken_out}
 use Rattle.fx_machine.specs.Comings.{coming_of}
@@ -10,9 +10,9 @@ use Rattle.fx_machine.proofs.Stepping.{expire_is, expired, choices_left, choices
 use Rattle.fx_machine.proofs.store.Store.expire.Goals as goal
 
 -- the links that are chosen, told of the network's tables
-chosen : (net : Net) (place : ℕ) (xs : List Exporter) (ps : List ℕ) (hs : List Holder) (choices : List (Option ℕ)) (o : Option Chosen) → xs ≡ net.exporters → ps ≡ named_by (slice_get hs place) → hs ≡ net.holders → chosen_from [] (at_places xs ps) choices ≡ o → chosen_from [] (at_places net.exporters (named_by (slice_get net.holders place))) choices ≡ o
-chosen net place xs ps hs choices o ex ep eh h =
-    ap₂ (λ (a : List Exporter) (b : List ℕ). chosen_from [] (at_places a b) choices) (sym ex) (sym (ep ∙ ap (λ (x : List Holder). named_by (slice_get x place)) eh)) ∙ h
+chosen : (net : Net) (place : ℕ) (xs : List Exporter) (ps : List ℕ) (choices : List (Option ℕ)) (o : Option Chosen) → xs ≡ net.exporters → ps ≡ named_by (slice_get net.holders place) → chosen_from [] (at_places xs ps) choices ≡ o → chosen_from [] (at_places net.exporters (named_by (slice_get net.holders place))) choices ≡ o
+chosen net place xs ps choices o ex ep h =
+    ap₂ (λ (a : List Exporter) (b : List ℕ). chosen_from [] (at_places a b) choices) (sym ex) (sym ep) ∙ h
 
 pub returns-in_err-links-clause-err : goal.returns-in_err-links-clause-err
 returns-in_err-links-clause-err c =
@@ -28,7 +28,7 @@ returns-in_err-links-clause-err c =
       | inl a ↦ (ap (λ (f : Fault). f.place) a, inl (ap (λ (f : Fault). f.number) a))
       | inr b ↦ (
         ap (λ (f : Fault). f.place) b.0,
-        inr (λ s e. expire_is net c.args.holder c.args.number cs (coming_of 1 in'.to_come.items) in'.held.items in'.carried.items in'.totals.items in'.unassigned s (c.self.view_is ∙ e) place rs r None c.in-Some.ensures k c.in-Some-numbered.ensures (chosen net place c.exporters.result.now c.named_by-exporters.result.now c.holders.result.now cs None c.exporters.ensures c.named_by-exporters.ensures c.holders.ensures b.1) ∙ ap (λ (f : Fault). Err f.number) (sym b.0)),
+        inr (λ s e. expire_is net c.args.holder c.args.number cs (coming_of 1 in'.to_come.items) in'.held.items in'.carried.items in'.totals.items in'.unassigned s (c.self.view_is ∙ e) place rs r None c.in-Some.ensures k c.in-Some-numbered.ensures (chosen net place c.exporters.result.now c.named_by-exporters.result.now cs None c.exporters.ensures c.named_by-exporters.ensures b.1) ∙ ap (λ (f : Fault). Err f.number) (sym b.0)),
       )
     ])
 
@@ -44,7 +44,7 @@ returns-then-used-choices-clause-err c =
     let k : Some rs ≡ slice_get in'.held.items place = c.in-Some-entry_at.ensures ∙ ap (λ (x : List (List Record)). slice_get x place) c.as_slice.ensures.value in
     let o : Option Chosen = Some (record { links = c.in_ok-links.links.items; rest = drop used cs }) in
     let lt : used < length cs = c.if-used-choices.true in
-    let picked = chosen net place c.exporters.result.now c.named_by-exporters.result.now c.holders.result.now cs o c.exporters.ensures c.named_by-exporters.ensures c.holders.ensures c.in_ok-links.ensures.ok.1 in (
+    let picked = chosen net place c.exporters.result.now c.named_by-exporters.result.now cs o c.exporters.ensures c.named_by-exporters.ensures c.in_ok-links.ensures.ok.1 in (
       ap (λ (f : Fault). f.place) c.bare-then-used-choices.ensures,
       inr (λ s e. expire_is net c.args.holder c.args.number cs (coming_of 1 in'.to_come.items) in'.held.items in'.carried.items in'.totals.items in'.unassigned s (c.self.view_is ∙ e) place rs r o c.in-Some.ensures k c.in-Some-numbered.ensures picked ∙ choices_left cs used (record s { held = taken_out s.held place c.args.number; carried = put_all c.in_ok-links.links.items r s.carried }) lt ∙ ap (λ (f : Fault). Err f.number) (sym c.bare-then-used-choices.ensures)),
     )
@@ -62,6 +62,6 @@ returns-clause-ok c s e =
     let k : Some rs ≡ slice_get in'.held.items place = c.in-Some-entry_at.ensures ∙ ap (λ (x : List (List Record)). slice_get x place) c.as_slice.ensures.value in
     let o : Option Chosen = Some (record { links = links; rest = drop used cs }) in
     let all : length cs ≤ used = c.if-used-choices.false in
-    let picked = chosen net place c.exporters.result.now c.named_by-exporters.result.now c.holders.result.now cs o c.exporters.ensures c.named_by-exporters.ensures c.holders.ensures c.in_ok-links.ensures.ok.1 in
+    let picked = chosen net place c.exporters.result.now c.named_by-exporters.result.now cs o c.exporters.ensures c.named_by-exporters.ensures c.in_ok-links.ensures.ok.1 in
     let carried : c.put_all.new.carried.items ≡ put_all links r in'.carried.items = c.in_default-put_all.ensures.ok ∙ ap₂ (λ (ls : List ℕ) (x : Record). put_all ls x in'.carried.items) c.as_slice-2.ensures.value c.copy-entry.ensures in
     expired net c.args.holder c.args.number cs (coming_of 1 in'.to_come.items) in'.held.items in'.carried.items in'.totals.items in'.unassigned s (c.self.view_is ∙ e) place rs r links (drop used cs) c.take_out_at.new.lists.items c.put_all.new.carried.items c.in-Some.ensures k c.in-Some-numbered.ensures picked (choices_used cs used all) c.take_out_at.ensures carried

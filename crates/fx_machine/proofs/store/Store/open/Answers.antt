@@ -1,6 +1,6 @@
 use Rattle.std.proofs.Common.{◌≡◌, ◌∙◌, ap, refl, ℕ, List, [], length, replicate}
-use Rattle.fx_machine.specs.declared.record.Record.{Record}
-use Rattle.fx_machine.specs.Network.{Holder}
+use Rattle.fx_tables.specs.declared.record.Record.{Record}
+use Rattle.fx_tables.specs.Network.{Holder}
 use Rattle.fx_machine.specs.States.{coming_from, nothing_at}
 use Rattle.fx_machine.specs.Comings.{coming_of}
 use Rattle.fx_machine.proofs.Crossings.{empties}

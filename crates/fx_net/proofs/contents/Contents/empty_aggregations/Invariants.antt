@@ -1,6 +1,6 @@
 -- What completes the rest completes the whole.
 use Rattle.std.proofs.Common.{◌≡◌, drop, map, false}
-use Rattle.fx_machine.specs.Network as network
+use Rattle.fx_tables.specs.Network as network
 use Rattle.fx_net.specs.Doings.{Ended, Empties}
 use Rattle.fx_net.proofs.Goings.{Completes}
 use Rattle.fx_net.proofs.contents.Contents.empty_aggregations.Given as goal

@@ -1,6 +1,6 @@
 use Rattle.std.proofs.Common.{List, subst}
 use Rattle.std.specs.List.{flat_map}
-use Rattle.fx_machine.specs.Network.{Device}
+use Rattle.fx_tables.specs.Network.{Device}
 use Rattle.fx_net.specs.Doings.{EmptiesAll}
 use Rattle.fx_net.proofs.contents.Contents.empty_network.Goals as goal
 

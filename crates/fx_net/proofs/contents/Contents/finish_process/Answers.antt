@@ -1,5 +1,5 @@
 use Rattle.std.proofs.Common.{List, map, subst}
-use Rattle.fx_machine.specs.Network.{Aggregation}
+use Rattle.fx_tables.specs.Network.{Aggregation}
 use Rattle.fx_net.specs.Doings.{EmptiesAll}
 use Rattle.fx_net.proofs.contents.Contents.finish_process.Goals as goal
 

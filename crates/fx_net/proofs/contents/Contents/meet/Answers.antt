@@ -1,6 +1,6 @@
 use Rattle.std.proofs.Common.{◌∙◌}
 use Rattle.std.proofs.lemmas.Result.{on_ok_weaker}
-use Rattle.fx_machine.specs.Holds.{met_holdings}
+use Rattle.fx_tables.specs.Holdings.{met_holdings}
 use Rattle.fx_net.proofs.Takings.{taken_in_by}
 use Rattle.fx_net.proofs.contents.Contents.meet.Goals as goal
 

@@ -1,7 +1,7 @@
 use Rattle.std.proofs.Common.{◌≡◌, ◌∙◌, ap, List}
 use Rattle.std.specs.Prelude.{position}
 use Rattle.fx_boxes.specs.Boxes.{holds}
-use Rattle.fx_machine.specs.Classes.{Class}
+use Rattle.fx_tables.specs.Classes.{Class}
 use Rattle.fx_pcap.specs.Captures.{seen_of}
 use Rattle.fx_plan.specs.Tables.{net_of}
 use Rattle.fx_net.specs.Running.{Running}

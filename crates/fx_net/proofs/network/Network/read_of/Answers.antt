@@ -1,6 +1,6 @@
 use Rattle.std.proofs.Common.{◌≡◌, ◌∙◌, sym, ap, List}
 use Rattle.std.proofs.lemmas.Result.{on_ok_weaker}
-use Rattle.fx_machine.specs.Classes.{Class}
+use Rattle.fx_tables.specs.Classes.{Class}
 use Rattle.fx_pcap.specs.Captures.{seen_of}
 use Rattle.fx_plan.specs.Tables.{net_of}
 use Rattle.fx_net.specs.Running.{Running, is_in}

@@ -1,5 +1,5 @@
 use Rattle.std.proofs.Common.{sym, subst}
-use Rattle.fx_machine.specs.Network.{Net}
+use Rattle.fx_tables.specs.Network.{Net}
 use Rattle.fx_net.specs.Doings.{EmptiesNetwork}
 use Rattle.fx_net.specs.Running.{Running, ReadsRest}
 use Rattle.fx_net.proofs.Readings.{closes_by}

@@ -1,9 +1,9 @@
 use Rattle.std.proofs.Common.{ℕ, List, ap, reverse, sym, ◌∙◌, subst}
-use Rattle.fx_machine.specs.Network.{Net}
+use Rattle.fx_tables.specs.Network.{Net}
 use Rattle.fx_plan.specs.declared.plan.Parts.{Parts}
-use Rattle.fx_plan.specs.Ranks.{IsDescending}
+use Rattle.fx_ranks.specs.Ranks.{IsDescending}
 use Rattle.fx_plan.specs.Tables.{net_of}
-use Rattle.fx_plan.proofs.Ranked.{turned}
+use Rattle.fx_ranks.proofs.Ranked.{turned}
 use Rattle.fx_plan.proofs.plan.Plan.order.Goals as goal
 
 pub returns : goal.returns

@@ -1,8 +1,8 @@
 use Rattle.std.proofs.Common.{◌≡◌, ◌∙◌, ◌++◌, [], List, length, sym, subst, ap, arith}
 use Rattle.std.specs.List.{AllByRecursion}
-use Rattle.fx_machine.specs.Network.{Net}
-use Rattle.fx_machine.specs.Runnable.{IsHolder}
-use Rattle.fx_machine.specs.declared.observation.Occurrence.{Occurrence}
+use Rattle.fx_tables.specs.Network.{Net}
+use Rattle.fx_tables.specs.Runnable.{IsHolder}
+use Rattle.fx_tables.specs.declared.observation.Occurrence.{Occurrence}
 use Rattle.fx_steps.specs.declared.pending.Pending.{Pending}
 use Rattle.fx_steps.specs.Planning.{meets, IsThere}
 use Rattle.fx_steps.specs.Waiting.{HasPlace}

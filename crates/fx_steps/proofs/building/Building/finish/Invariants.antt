@@ -1,6 +1,6 @@
 use Rattle.std.proofs.Common.{◌≡◌, ◌+◌, List, length}
 use Rattle.fx_leaf.specs.declared.verdict.Fate.{Fate}
-use Rattle.fx_machine.specs.Classes.{Class}
+use Rattle.fx_tables.specs.Classes.{Class}
 use Rattle.fx_machine.specs.States.{Coming}
 use Rattle.fx_steps.specs.Planning.{total_cost}
 use Rattle.fx_steps.specs.UnderWay.{UnderWay, CanLeave}

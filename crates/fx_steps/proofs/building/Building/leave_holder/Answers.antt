@@ -1,7 +1,7 @@
 use Rattle.std.proofs.Common.{◌≡◌, ◌∙◌, ℕ, Some, ap₂, sym, arith}
 use Rattle.std.proofs.lemmas.Result.{IfOk-weaker}
-use Rattle.fx_machine.specs.declared.step.HolderName.{HolderName}
-use Rattle.fx_machine.specs.declared.step.Step.TheVariants.{Expire}
+use Rattle.fx_tables.specs.declared.holder_name.HolderName.{HolderName}
+use Rattle.fx_run_text.specs.declared.step.Step.TheVariants.{Expire}
 use Rattle.fx_steps.specs.declared.pending.Pending.TheVariants.{AtHolder}
 use Rattle.fx_steps.specs.Planning.{chosen_of}
 use Rattle.fx_steps.specs.Waiting.{Wait, nobody, holders_with}

@@ -1,6 +1,6 @@
 use Rattle.std.proofs.Common.{◌∙◌, ℕ, suc, ap, arith}
 use Rattle.std.proofs.lemmas.Result.{IfOk-weaker}
-use Rattle.fx_machine.specs.declared.step.Step.TheVariants.{Arrive}
+use Rattle.fx_run_text.specs.declared.step.Step.TheVariants.{Arrive}
 use Rattle.fx_steps.specs.declared.pending.Pending.TheVariants.{OnLink}
 use Rattle.fx_steps.specs.Planning.{chosen_of}
 use Rattle.fx_steps.specs.Waiting.{Wait, nobody, links_with}

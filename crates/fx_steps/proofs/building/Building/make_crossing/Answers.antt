@@ -1,9 +1,9 @@
 use Rattle.std.proofs.Common.{◌≡◌, ◌∙◌, ◌++◌, ◌∷◌, [], List, length, length-append, sym, subst, ap, ap₂, arith}
 use Rattle.std.specs.List.{AllByRecursion}
-use Rattle.fx_machine.specs.Network.{Net}
-use Rattle.fx_machine.specs.Occurrences.{occurrences}
-use Rattle.fx_machine.specs.declared.observation.Occurrence.{Occurrence}
-use Rattle.fx_machine.specs.declared.step.Step.TheVariants.{Cross}
+use Rattle.fx_tables.specs.Network.{Net}
+use Rattle.fx_tables.specs.Occurrences.{occurrences}
+use Rattle.fx_tables.specs.declared.observation.Occurrence.{Occurrence}
+use Rattle.fx_run_text.specs.declared.step.Step.TheVariants.{Cross}
 use Rattle.fx_leaf.specs.Fates.{both}
 use Rattle.fx_leaf.proofs.Verdicts.{both_assoc}
 use Rattle.fx_steps.specs.declared.costs.Costs.{Costs}

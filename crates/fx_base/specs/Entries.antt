@@ -1,0 +1,13 @@
+-- Entries of a list by their numbers, and what an optional reference shows.
+use Rattle.std.specs.Prelude.{ℕ, zero, suc, List, Option, Some, None, slice_get}
+use denote.Ref.{Bor}
+
+-- the entry with this number, where the first is 1
+abbrev pub numbered : {A : Type 0} → List A → ℕ → Option A
+numbered entries zero = None
+numbered entries (suc n) = slice_get entries n
+
+-- what it points to
+abbrev pub now_of : {A : Type 0} → Option (Bor A) → Option A
+now_of None = None
+now_of (Some r) = Some r.now

@@ -1,5 +1,0 @@
-use Rattle.std.proofs.Common.{length}
-use Rattle.fx_config.proofs.walk.reference.+is_named.Given as goal
-
-abbrev pub decreases-is_named : goal.decreases-is_named
-decreases-is_named g l = length l.entries.now

@@ -1,0 +1,78 @@
+//! The words of a line.
+ghost use Rattle.std.specs.Prelude.{◌≡◌, ◌≤◌, slice_index, IfSome, option_map};
+ghost use Rattle.std.specs.Str.{bytes_eq};
+ghost use Rattle.fx_elements.specs.Axes.{axis_index, tops};
+ghost use Rattle.fx_elements.specs.Words.{words, none_left, first_word, number_first, value_first};
+
+use crate::axis::Axis;
+use crate::spelling::{cut, read_u64};
+use crate::values::read_written;
+use std::marker::Model;
+
+/// The words of a line that are still to be read. One space stands between two of them.
+#[derive(Drop)]
+pub struct Words<'a> {
+    rest: Option<&'a [u8]>,
+}
+
+impl<'a> Model for Words<'a> {
+    ghost use Rattle.std.specs.Prelude.{List, ℕ};
+    ghost use Rattle.fx_elements.specs.Words.{words_left};
+
+    ghost Value = { List (List ℕ) };
+
+    ghost view = { λ w. words_left w.rest };
+}
+
+impl<'a> Words<'a> {
+    /// The words of a line.
+    pub fn new(line: &'a [u8]) -> Words<'a>
+        ensures { result ≡ words line.now }
+    {
+        Words { rest: Some(line) }
+    }
+
+    /// The first word, and the words behind it.
+    pub fn word(self) -> Option<(&'a [u8], Words<'a>)>
+        ensures { option_map (λ p. (p.0.now, p.1)) result ≡ first_word self.entry }
+    {
+        let text = self.rest?;
+        match cut(text, b' ') {
+            Some((word, rest)) => Some((word, Words { rest: Some(rest) })),
+            None => Some((text, Words { rest: None })),
+        }
+    }
+
+    /// The number in the first word, below 2 to the 64, and the words behind it.
+    pub fn number(self) -> Option<(u64, Words<'a>)>
+        ensures { result ≡ number_first self.entry }
+    {
+        let (word, rest) = self.word()?;
+        let number = read_u64(word)?;
+        Some((number, rest))
+    }
+
+    /// The value on the axis whose written form the first word is, and the words behind it.
+    pub fn value(self, axis: Axis) -> Option<(u128, Words<'a>)>
+        ensures value { result ≡ value_first axis self.entry }
+        ensures bound { IfSome result (λ p. p.0 ≤ slice_index tops (axis_index axis)) }
+    {
+        let (word, rest) = self.word()?;
+        let value = read_written(axis, word)?;
+        Some((value, rest))
+    }
+
+    /// Whether no word is left.
+    pub fn is_empty(self) -> bool
+        ensures { result ≡ none_left self.entry }
+    {
+        self.rest.is_none()
+    }
+}
+
+/// Whether two words are the same.
+pub fn is_word(word: &[u8], other: &[u8]) -> bool
+    ensures { result ≡ bytes_eq word.now other.now }
+{
+    word == other
+}

@@ -1,8 +1,0 @@
-use Rattle.fx_machine.proofs.RunWords.{first_of_more, first_of_one}
-use Rattle.fx_machine.proofs.run_words.Words.word.Goals as goal
-
-pub returns-in-Some : goal.returns-in-Some
-returns-in-Some c = first_of_more c.self.inside.rest c.in_ok-text.text c.args.self (c.in-Some.word.now, c.in-Some.rest.now) c.self.view_is c.in_ok-text.was c.in-Some.ensures
-
-pub returns-in-None : goal.returns-in-None
-returns-in-None c = first_of_one c.self.inside.rest c.in_ok-text.text c.args.self c.self.view_is c.in_ok-text.was c.in-None.ensures

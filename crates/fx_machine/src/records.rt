@@ -1,0 +1,82 @@
+//! Lists of flow records.
+ghost use Rattle.std.specs.Prelude.{◌≡◌, ◌++◌, ◌-◌, ◌==◌, [], ◌∷◌, length, take, OnOk, OnErr};
+ghost use Rattle.fx_base.specs.Entries.{now_of, numbered};
+ghost use Rattle.fx_machine.specs.States as states;
+
+use fx_base::numbered;
+use fx_tables::Record;
+use std::alloc::{AllocError, Global};
+use std::marker::Model;
+
+/// A list of records, in order of coming.
+#[derive(Debug, Drop)]
+pub struct Records {
+    pub(crate) items: Vec<Record>,
+}
+
+impl Model for Records {
+    ghost use Rattle.std.specs.Prelude.{List};
+    ghost use Rattle.fx_tables.specs.declared.record.Record as of_record;
+
+    ghost Value = { List of_record.Record };
+
+    ghost view = { λ r. r.items.items };
+}
+
+impl Records {
+    /// No records.
+    pub fn new(alloc: Global) -> Records
+        ensures { result ≡ [] }
+    {
+        Records {
+            items: Vec::new(alloc),
+        }
+    }
+
+    /// The records, in order of coming.
+    pub fn as_slice(&self) -> &[Record]
+        ensures { result.now ≡ self.now }
+    {
+        self.items.as_slice()
+    }
+
+    /// The record comes last.
+    pub fn push(&mut self, entry: Record) -> Result<(), AllocError>
+        ensures ok { OnOk result (self.new ≡ self.old ++ entry ∷ []) }
+        ensures err { OnErr result (self.new ≡ self.old) }
+    {
+        self.items.push(entry)?;
+        Ok(())
+    }
+
+    /// The last record goes, if there is one.
+    pub fn drop_last(&mut self)
+        ensures { self.new ≡ take (length self.old - 1) self.old }
+    {
+        self.items.pop();
+    }
+
+    /// The record of this number, from 1.
+    pub fn numbered(&self, number: u64) -> Option<&Record>
+        ensures { now_of result ≡ numbered self.now number }
+    {
+        numbered(self.items.as_slice(), number)
+    }
+
+    /// Whether there are none.
+    pub fn is_empty(&self) -> bool
+        ensures { result ≡ (length self.now == 0) }
+    {
+        self.items.is_empty()
+    }
+
+    /// The record of this number leaves, if it is there, and those behind it move up.
+    pub fn take_out(&mut self, number: u64)
+        ensures { self.new ≡ states.without self.old number }
+    {
+        if number > 0 && number <= self.items.len() as u64 {
+            let place = (number - 1) as usize;
+            self.items.remove(place);
+        }
+    }
+}

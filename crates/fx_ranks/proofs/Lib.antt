@@ -1,0 +1,4 @@
+pub mod Ranges
+pub mod LinkedProcesses
+pub mod Comings
+pub mod Ranked

@@ -1,0 +1,110 @@
+//! To which collecting processes the exporting processes of a network send.
+ghost use Rattle.std.specs.Prelude.{◌≡◌, ◌<◌, IfOk, length, map, slice_get, slice_index_or, false};
+ghost use Rattle.fx_ranks.specs.Feeding as feeding;
+
+use fx_tables::{Exporter, Net};
+use std::alloc::{AllocError, Global};
+use std::marker::Model;
+
+/// The place of the process to which a destination is linked, if it is.
+fn end_of(net: &Net, destination: Option<usize>) -> Option<usize>
+    ensures { result ≡ feeding.end_of net.now destination }
+{
+    match destination {
+        Some(link) => net.links().get(link).copied(),
+        None => None,
+    }
+}
+
+/// Sets the flag at a place, if there is one.
+fn set_flag(flags: &mut [bool], place: Option<usize>)
+    ensures { flags.new ≡ feeding.with_flag flags.old place }
+{
+    if let Some(place) = place {
+        if place < flags.len() {
+            flags[place] = true;
+        }
+    }
+}
+
+fn flag_at(flags: &[bool], place: usize) -> bool
+    ensures { result ≡ slice_index_or flags.now place false }
+{
+    match flags.get(place) {
+        Some(flag) => *flag,
+        None => false,
+    }
+}
+
+/// For each process whether the exporting process has a destination that is linked to it.
+fn linked_processes_of(
+    alloc: Global,
+    net: &Net,
+    exporter: &Exporter,
+) -> Result<Vec<bool>, AllocError>
+    ensures { IfOk result (λ v. v.items ≡ feeding.linked_processes net.now exporter.now) }
+{
+    let mut flags = vec![in alloc; false; net.processes().len()]?;
+    for destination in exporter.destinations() {
+        set_flag(flags.as_mut_slice(), end_of(net, *destination));
+    }
+    Ok(flags)
+}
+
+/// The same of all exporting processes.
+fn all_linked_processes(alloc: Global, net: &Net) -> Result<Vec<Vec<bool>>, AllocError>
+    ensures { IfOk result (λ v. map (λ row. row.items) v.items ≡ map (feeding.linked_processes net.now) net.now.exporters) }
+{
+    let mut rows = Vec::new(alloc);
+    for exporter in net.exporters() {
+        rows.push(linked_processes_of(alloc, net, exporter)?)?;
+    }
+    Ok(rows)
+}
+
+/// A network with the collecting processes to which each of its exporting processes sends. Contracts see the network.
+#[derive(Drop)]
+pub struct LinkedProcesses<'n> {
+    net: &'n Net,
+    rows: Vec<Vec<bool>>,
+}
+
+impl<'n> Model for LinkedProcesses<'n> {
+    ghost use Rattle.std.specs.Prelude.{◌≡◌, map};
+    ghost use Rattle.fx_tables.specs.Network as machine;
+    ghost use Rattle.fx_ranks.specs.Feeding as feeding;
+
+    ghost Value = { machine.Net };
+
+    ghost view = { λ t. t.net.now };
+
+    ghost invariant = { λ t. map (λ row. row.items) t.rows.items ≡ map (feeding.linked_processes t.net.now) t.net.now.exporters };
+}
+
+impl<'n> LinkedProcesses<'n> {
+    /// Of the processes of this network.
+    pub fn of(alloc: Global, net: &'n Net) -> Result<LinkedProcesses<'n>, AllocError>
+        ensures { IfOk result (λ linked. linked ≡ net.now) }
+    {
+        let rows = all_linked_processes(alloc, net)?;
+        Ok(LinkedProcesses { net, rows })
+    }
+
+    /// The network.
+    pub fn net(&self) -> &Net
+        ensures { result.now ≡ self.now }
+    {
+        self.net
+    }
+
+    /// Whether the exporting process at a place, if there is one, has a destination that is linked to the process.
+    pub fn leads_at(&self, process: usize, place: usize) -> bool
+        requires { process < length self.now.processes }
+        ensures { result ≡ feeding.leads_at self.now process (slice_get self.now.exporters place) }
+    {
+        match self.rows.as_slice().get(place) {
+            Some(row) => flag_at(row.as_slice(), process),
+            None => false,
+        }
+    }
+}

@@ -1,0 +1,51 @@
+//! The order of ranks, in which each collecting process comes behind all that feed it.
+ghost use Rattle.std.specs.Prelude.{◌≡◌, ◌≤◌, not, ◌&&◌, IfOk, length, map, position, zip};
+ghost use Rattle.fx_ranks.specs.Feeding.{have_come, places_of};
+ghost use Rattle.fx_ranks.specs.Ranks.{IsRankOrder, is_in};
+
+use crate::feeders::all_feeders;
+use fx_tables::Net;
+use std::alloc::{AllocError, Global};
+
+/// The processes that come in the order of ranks.
+#[derive(Drop)]
+pub struct RankOrder {
+    /// Their places, in that order.
+    pub order: Vec<usize>,
+    /// For each process of the network whether it is among them.
+    pub come: Vec<bool>,
+}
+
+/// Whether all feeders have come.
+fn have_come(feeders: &[bool], come: &[bool]) -> bool
+    ensures { result ≡ have_come feeders.now come.now }
+{
+    feeders
+        .iter()
+        .zip(come)
+        .all(|(feeds, come)| !*feeds || *come)
+}
+
+/// The place of the first process that hasn't come, all of whose feeders have.
+fn first_ready(feeders: &[Vec<bool>], come: &[bool]) -> Option<usize>
+    ensures { result ≡ position (λ x. not x.1 && have_come x.0.items come.now) (zip feeders.now come.now) }
+{
+    feeders.iter().zip(come).position(|(feeders, there)| !*there
+        && have_come(feeders.as_slice(), come))
+}
+
+/// The processes of the network that come in the order of ranks.
+pub fn rank_order(alloc: Global, net: &Net) -> Result<RankOrder, AllocError>
+    ensures order { IfOk result (λ coming. IsRankOrder net.now coming.order.items) }
+    ensures come { IfOk result (λ coming. coming.come.items ≡ map (is_in coming.order.items) (places_of net.now)) }
+    ensures short { IfOk result (λ coming. length coming.order.items ≤ length net.now.processes) }
+{
+    let feeders = all_feeders(alloc, net)?;
+    let mut come = vec![in alloc; false; net.processes().len()]?;
+    let mut order = Vec::new(alloc);
+    while let Some(place) = first_ready(feeders.as_slice(), come.as_slice()) {
+        come[place] = true;
+        order.push(place)?;
+    }
+    Ok(RankOrder { order, come })
+}

@@ -1,0 +1,116 @@
+-- The words of a line, each but the first behind a space.
+use Rattle.std.proofs.Common.{◌≡◌, ℕ, zero, suc, ◌+◌, ◌^◌, ◌<◌, List, [], ◌∷◌, ◌++◌, map, take, slice_get, Option, Some, Result, Ok, Err, OnOk, refl, ap, sym, ◌∙◌, arith, append_assoc}
+use Rattle.std.specs.Prelude.{codes}
+use Rattle.std.specs.Fmt.{decimal}
+use Rattle.std.specs.List.{join_with_byte}
+use Rattle.std.proofs.lemmas.List.{append-nil}
+use Rattle.fx_base.specs.Device.{Writes}
+use Rattle.fx_base.proofs.Writing.{writes_both}
+use Rattle.fx_elements.specs.declared.axis.Axis.{Axis}
+use Rattle.fx_elements.specs.declared.axis.Axis.TheVariants as axis
+use Rattle.fx_elements.specs.Axes.{Fields, axis_index, axis_width, field}
+use Rattle.fx_elements.proofs.EveryAxis.{index_below, top_below}
+use Rattle.fx_elements.specs.Spelling.{quad}
+use Rattle.fx_elements.specs.Groups.{groups}
+use Rattle.fx_elements.specs.Values.{leading_text, value_text}
+use Rattle.fx_boxes.specs.Boxes.{IsFields}
+use Rattle.fx_tables.specs.declared.packet.Packet.{Packet}
+use Rattle.fx_tables.specs.declared.holder_name.HolderName.{HolderName}
+use Rattle.fx_tables.specs.declared.holder_name.HolderName.TheVariants as holders
+use Rattle.fx_run_text.specs.declared.step.Step.TheVariants as step
+use Rattle.fx_run_text.specs.declared.text_version.TextVersion.TheVariants.{Two}
+use Rattle.fx_run_text.specs.RunText.{choice_word, field_words, holder_words, packet_words, step_words}
+use Rattle.fx_run_text.specs.RunLineText.{spaced}
+use Rattle.fx_elements.specs.Words.{Words}
+
+-- ---- values
+
+pub whole_value : (a : Axis) (v : ℕ) → leading_text a (axis_width a) v ≡ value_text a v
+whole_value axis.Source v = append-nil _ ∙ ap quad (omega arith)
+whole_value axis.Destination v = append-nil _ ∙ ap quad (omega arith)
+whole_value axis.Protocol v = append-nil _ ∙ ap decimal (omega arith)
+whole_value axis.SourcePort v = append-nil _ ∙ ap decimal (omega arith)
+whole_value axis.DestinationPort v = append-nil _ ∙ ap decimal (omega arith)
+whole_value axis.ClassOfService v = append-nil _ ∙ ap decimal (omega arith)
+whole_value axis.Version v = append-nil _ ∙ ap decimal (omega arith)
+whole_value axis.Source6 v = append-nil _ ∙ ap groups (omega arith)
+whole_value axis.Destination6 v = append-nil _ ∙ ap groups (omega arith)
+
+pub field_fits : (fields : Fields) (a : Axis) → IsFields fields → field fields a < 2 ^ axis_width a
+field_fits fields a on = let le = on (axis_index a) (index_below a) in omega (arith, le, top_below a)
+
+-- ---- words
+
+pub join_spaced : (w : List ℕ) (ws : Words) → join_with_byte 32 (w ∷ ws) ≡ w ++ spaced ws
+join_spaced w [] = sym (append-nil w)
+join_spaced w (v ∷ vs) = ap (λ (x : List ℕ). w ++ 32 ∷ x) (join_spaced v vs)
+
+pub spaced_both : (a b : Words) → spaced (a ++ b) ≡ spaced a ++ spaced b
+spaced_both [] b = refl
+spaced_both (w ∷ ws) b = ap (λ (x : List ℕ). (32 ∷ w) ++ x) (spaced_both ws b) ∙ sym (append_assoc (32 ∷ w) (spaced ws) (spaced b))
+
+-- one word more
+spaced_suc : {A : Type 0} (word : A → List ℕ) (xs : List A) (k : ℕ) (x : A) → slice_get xs k ≡ Some x → spaced (map word (take k xs)) ++ spaced (word x ∷ []) ≡ spaced (map word (take (suc k) xs))
+spaced_suc word [] k x is = absurd (cc)
+spaced_suc word (y ∷ ys) zero x is = let same : y ≡ x = cc in ap (λ z. spaced (word z ∷ [])) (sym same)
+spaced_suc word (y ∷ ys) (suc k) x is =
+    append_assoc (32 ∷ word y) (spaced (map word (take k ys))) (spaced (word x ∷ [])) ∙ ap (λ (z : List ℕ). (32 ∷ word y) ++ z) (spaced_suc word ys k x is)
+
+pub spaced_next : {A : Type 0} (word : A → List ℕ) (xs : List A) (k : ℕ) (x : A) → slice_get xs k ≡ Some x → spaced (map word (take k xs)) ++ spaced (word x ∷ []) ≡ spaced (map word (take (k + 1) xs))
+spaced_next word xs k x is =
+    let next : suc k ≡ k + 1 = omega arith in
+    spaced_suc word xs k x is ∙ ap (λ n. spaced (map word (take n xs))) next
+
+pub field_put : (a : Axis) (v bits n : ℕ) → bits ≡ axis_width a → n ≡ v → spaced (value_text a v ∷ []) ≡ codes " " ++ leading_text a bits n
+field_put a v bits n b same =
+    ap (λ (x : List ℕ). 32 ∷ x) (append-nil (value_text a v) ∙ sym (whole_value a v) ∙ ap (λ k. leading_text a k v) (sym b) ∙ ap (leading_text a bits) (sym same))
+
+pub aggregation_put : (device process aggregation : ℕ) → spaced (holder_words (holders.Aggregation device process aggregation)) ≡ codes " aggregation" ++ (spaced (decimal device ∷ []) ++ (spaced (decimal process ∷ []) ++ spaced (decimal aggregation ∷ [])))
+aggregation_put device process aggregation =
+    ap (λ (x : List ℕ). codes " aggregation" ++ x) (
+    spaced_both (decimal device ∷ []) (decimal process ∷ decimal aggregation ∷ [])
+    ∙ ap (λ (x : List ℕ). spaced (decimal device ∷ []) ++ x) (spaced_both (decimal process ∷ []) (decimal aggregation ∷ [])))
+
+pub packet_put : (p : Packet) → join_with_byte 32 (packet_words Two p) ≡ codes "packet" ++ (spaced (decimal p.class ∷ []) ++ (spaced (decimal p.path ∷ []) ++ (spaced (field_words Two p.fields) ++ spaced (decimal p.octets ∷ []))))
+packet_put p =
+    join_spaced (codes "packet") (decimal p.class ∷ decimal p.path ∷ (field_words Two p.fields ++ decimal p.octets ∷ []))
+    ∙ ap (λ (x : List ℕ). codes "packet" ++ x) (
+    spaced_both (decimal p.class ∷ []) (decimal p.path ∷ (field_words Two p.fields ++ decimal p.octets ∷ []))
+    ∙ ap (λ (x : List ℕ). spaced (decimal p.class ∷ []) ++ x) (
+    spaced_both (decimal p.path ∷ []) (field_words Two p.fields ++ decimal p.octets ∷ [])
+    ∙ ap (λ (x : List ℕ). spaced (decimal p.path ∷ []) ++ x) (spaced_both (field_words Two p.fields) (decimal p.octets ∷ []))))
+
+pub cross_put : (packet crossing : ℕ) (choices : List (Option ℕ)) → join_with_byte 32 (step_words (step.Cross packet crossing choices)) ≡ codes "cross" ++ (spaced (decimal packet ∷ []) ++ (spaced (decimal crossing ∷ []) ++ spaced (map choice_word choices)))
+cross_put packet crossing choices =
+    join_spaced (codes "cross") (decimal packet ∷ decimal crossing ∷ map choice_word choices)
+    ∙ ap (λ (x : List ℕ). codes "cross" ++ x) (
+    spaced_both (decimal packet ∷ []) (decimal crossing ∷ map choice_word choices)
+    ∙ ap (λ (x : List ℕ). spaced (decimal packet ∷ []) ++ x) (spaced_both (decimal crossing ∷ []) (map choice_word choices)))
+
+pub arrive_put : (link position : ℕ) (choices : List (Option ℕ)) → join_with_byte 32 (step_words (step.Arrive link position choices)) ≡ codes "arrive" ++ (spaced (decimal link ∷ []) ++ (spaced (decimal position ∷ []) ++ spaced (map choice_word choices)))
+arrive_put link position choices =
+    join_spaced (codes "arrive") (decimal link ∷ decimal position ∷ map choice_word choices)
+    ∙ ap (λ (x : List ℕ). codes "arrive" ++ x) (
+    spaced_both (decimal link ∷ []) (decimal position ∷ map choice_word choices)
+    ∙ ap (λ (x : List ℕ). spaced (decimal link ∷ []) ++ x) (spaced_both (decimal position ∷ []) (map choice_word choices)))
+
+pub expire_put : (holder : HolderName) (position : ℕ) (choices : List (Option ℕ)) → join_with_byte 32 (step_words (step.Expire holder position choices)) ≡ codes "expire" ++ (spaced (holder_words holder) ++ (spaced (decimal position ∷ []) ++ spaced (map choice_word choices)))
+expire_put holder position choices =
+    join_spaced (codes "expire") (holder_words holder ++ decimal position ∷ map choice_word choices)
+    ∙ ap (λ (x : List ℕ). codes "expire" ++ x) (
+    spaced_both (holder_words holder) (decimal position ∷ map choice_word choices)
+    ∙ ap (λ (x : List ℕ). spaced (holder_words holder) ++ x) (spaced_both (decimal position ∷ []) (map choice_word choices)))
+
+-- ---- writes, one after another
+
+pub writes_2 : {A E : Type 0} (r : Result A E) (t u v : Option (List ℕ)) (a b all : List ℕ) → Writes t u a → OnOk r (Writes u v b) → all ≡ a ++ b → OnOk r (Writes t v all)
+writes_2 (Ok x) t u v a b all h k e = writes_both t u v a b all h k (sym e)
+writes_2 (Err x) t u v a b all h k e = tt
+
+pub writes_4 : {A E : Type 0} (r : Result A E) (t u v w x : Option (List ℕ)) (a b c d all : List ℕ) → Writes t u a → Writes u v b → Writes v w c → OnOk r (Writes w x d) → all ≡ a ++ (b ++ (c ++ d)) → OnOk r (Writes t x all)
+writes_4 r t u v w x a b c d all h k l m e =
+    writes_2 r t u x a (b ++ (c ++ d)) all h (writes_2 r u v x b (c ++ d) (b ++ (c ++ d)) k (writes_2 r v w x c d (c ++ d) l m refl) refl) e
+
+pub writes_5 : {A E : Type 0} (r : Result A E) (t u v w x y : Option (List ℕ)) (a b c d f all : List ℕ) → Writes t u a → Writes u v b → Writes v w c → Writes w x d → OnOk r (Writes x y f) → all ≡ a ++ (b ++ (c ++ (d ++ f))) → OnOk r (Writes t y all)
+writes_5 r t u v w x y a b c d f all h k l m n e =
+    writes_2 r t u y a (b ++ (c ++ (d ++ f))) all h (writes_4 r u v w x y b c d f (b ++ (c ++ (d ++ f))) k l m n refl) e

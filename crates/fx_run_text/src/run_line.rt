@@ -1,0 +1,309 @@
+//! The lines of a run's text.
+ghost use Rattle.std.specs.Prelude.{◌≡◌, ◌≤◌, ◌<◌, ◌^◌, [], IfOk, IfSome};
+ghost use Rattle.fx_elements.specs.Words.{words};
+ghost use Rattle.fx_run_text.specs.RunReading.{last_first, fields_first, packet_of, cache_first, aggregation_first, holder_first, cross_first, expire_first, arrive_first, action_of, choice_of, choices_behind, step_with, step_of, line_of_kind, line_of};
+
+use crate::step::{Choices, Step};
+use crate::text_version::TextVersion;
+use fx_boxes::Fields;
+use fx_elements::{Axis, Words, is_word, read_u64};
+use fx_tables::{HolderName, Packet};
+use std::alloc::{AllocError, Global};
+
+/// What a step does, without what it chooses. All numbers and positions count from 1.
+#[derive(Clone, Copy, Debug, PartialEq, Eq)]
+pub(crate) enum Action {
+    Cross { packet: u64, crossing: u64 },
+    Expire { holder: HolderName, position: u64 },
+    Arrive { link: u64, position: u64 },
+}
+
+impl Action {
+    /// The step that does this with these choices.
+    fn with(self, choices: Choices) -> Step
+        ensures { result ≡ step_with self choices }
+    {
+        match self {
+            Action::Cross { packet, crossing } => Step::Cross {
+                packet,
+                crossing,
+                choices,
+            },
+            Action::Expire { holder, position } => Step::Expire {
+                holder,
+                position,
+                choices,
+            },
+            Action::Arrive { link, position } => Step::Arrive {
+                link,
+                position,
+                choices,
+            },
+        }
+    }
+}
+
+/// What a line behind the first says.
+#[derive(Debug, Drop)]
+pub enum RunLine {
+    /// A packet of the run.
+    Packet(Packet),
+    /// A step of the run.
+    Step(Step),
+    /// The run's end.
+    End,
+}
+
+/// The values on the axes behind the first six.
+#[derive(Clone, Copy, Debug, PartialEq, Eq)]
+struct LastFields {
+    version: u128,
+    source: u128,
+    destination: u128,
+}
+
+/// The values on the axes behind the first six: in the first version those of a packet of IPv4.
+#[tactic(auto, unfolding(crate::specs::RunReading::last_first))]
+fn read_last(version: TextVersion, words: Words<'_>) -> Option<(LastFields, Words<'_>)>
+    ensures value { result ≡ last_first version words.entry }
+    ensures bound { IfSome result (λ r. (r.0.version ≤ 255) × (r.0.source < 2 ^ 128)
+        × (r.0.destination < 2 ^ 128)) }
+{
+    match version {
+        TextVersion::One => Some((
+            LastFields {
+                version: 4,
+                source: 0,
+                destination: 0,
+            },
+            words,
+        )),
+        TextVersion::Two => {
+            let (version, words) = words.value(Axis::Version)?;
+            let (source, words) = words.value(Axis::Source6)?;
+            let (destination, words) = words.value(Axis::Destination6)?;
+            let last = LastFields {
+                version,
+                source,
+                destination,
+            };
+            Some((last, words))
+        }
+    }
+}
+
+/// The values on all axes, in order.
+#[tactic(auto, unfolding(crate::specs::RunReading::fields_first))]
+fn read_fields(version: TextVersion, words: Words<'_>) -> Option<(Fields, Words<'_>)>
+    ensures { result ≡ fields_first version words.entry }
+{
+    let (source, words) = words.value(Axis::Source)?;
+    let (destination, words) = words.value(Axis::Destination)?;
+    let (protocol, words) = words.value(Axis::Protocol)?;
+    let (source_port, words) = words.value(Axis::SourcePort)?;
+    let (destination_port, words) = words.value(Axis::DestinationPort)?;
+    let (service, words) = words.value(Axis::ClassOfService)?;
+    let (last, words) = read_last(version, words)?;
+    let fields = Fields::of([
+        source,
+        destination,
+        protocol,
+        source_port,
+        destination_port,
+        service,
+        last.version,
+        last.source,
+        last.destination,
+    ]);
+    Some((fields, words))
+}
+
+/// What stands behind the word of a packet.
+#[tactic(auto, unfolding(crate::specs::RunReading::packet_of))]
+fn read_packet(version: TextVersion, words: Words<'_>) -> Option<Packet>
+    ensures { result ≡ packet_of version words.entry }
+{
+    let (class, words) = words.number()?;
+    let (path, words) = words.number()?;
+    let (fields, words) = read_fields(version, words)?;
+    let (octets, words) = words.number()?;
+    if !words.is_empty() {
+        return None;
+    }
+    Some(Packet {
+        fields,
+        octets,
+        class,
+        path,
+    })
+}
+
+/// The numbers of a cache.
+#[tactic(auto, unfolding(crate::specs::RunReading::cache_first))]
+fn read_cache(words: Words<'_>) -> Option<(HolderName, Words<'_>)>
+    ensures { result ≡ cache_first words.entry }
+{
+    let (device, words) = words.number()?;
+    let (cache, words) = words.number()?;
+    Some((HolderName::Cache { device, cache }, words))
+}
+
+/// The numbers of an aggregation.
+#[tactic(auto, unfolding(crate::specs::RunReading::aggregation_first))]
+fn read_aggregation(words: Words<'_>) -> Option<(HolderName, Words<'_>)>
+    ensures { result ≡ aggregation_first words.entry }
+{
+    let (device, words) = words.number()?;
+    let (process, words) = words.number()?;
+    let (aggregation, words) = words.number()?;
+    Some((
+        HolderName::Aggregation {
+            device,
+            process,
+            aggregation,
+        },
+        words,
+    ))
+}
+
+/// A cache or an aggregation.
+#[tactic(auto, unfolding(crate::specs::RunReading::holder_first))]
+fn read_holder(words: Words<'_>) -> Option<(HolderName, Words<'_>)>
+    ensures { result ≡ holder_first words.entry }
+{
+    let (kind, words) = words.word()?;
+    if is_word(kind, b"cache") {
+        read_cache(words)
+    } else if is_word(kind, b"aggregation") {
+        read_aggregation(words)
+    } else {
+        None
+    }
+}
+
+/// The numbers of a crossing that is made.
+#[tactic(auto, unfolding(crate::specs::RunReading::cross_first))]
+fn read_cross(words: Words<'_>) -> Option<(Action, Words<'_>)>
+    ensures { result ≡ cross_first words.entry }
+{
+    let (packet, words) = words.number()?;
+    let (crossing, words) = words.number()?;
+    Some((Action::Cross { packet, crossing }, words))
+}
+
+/// The holder and the position of a record that leaves it.
+#[tactic(auto, unfolding(crate::specs::RunReading::expire_first))]
+fn read_expire(words: Words<'_>) -> Option<(Action, Words<'_>)>
+    ensures { result ≡ expire_first words.entry }
+{
+    let (holder, words) = read_holder(words)?;
+    let (position, words) = words.number()?;
+    Some((Action::Expire { holder, position }, words))
+}
+
+/// The link and the position of a record that arrives.
+#[tactic(auto, unfolding(crate::specs::RunReading::arrive_first))]
+fn read_arrive(words: Words<'_>) -> Option<(Action, Words<'_>)>
+    ensures { result ≡ arrive_first words.entry }
+{
+    let (link, words) = words.number()?;
+    let (position, words) = words.number()?;
+    Some((Action::Arrive { link, position }, words))
+}
+
+/// What a step of this kind does.
+#[tactic(auto, unfolding(crate::specs::RunReading::action_of))]
+fn read_action<'a>(kind: &[u8], words: Words<'a>) -> Option<(Action, Words<'a>)>
+    ensures { result ≡ action_of kind.now words.entry }
+{
+    if is_word(kind, b"cross") {
+        read_cross(words)
+    } else if is_word(kind, b"expire") {
+        read_expire(words)
+    } else if is_word(kind, b"arrive") {
+        read_arrive(words)
+    } else {
+        None
+    }
+}
+
+/// A choice: `n` for a new record, or a number.
+fn read_choice(word: &[u8]) -> Option<Option<u64>>
+    ensures { result ≡ choice_of word.now }
+{
+    if is_word(word, b"n") {
+        return Some(None);
+    }
+    let number = read_u64(word)?;
+    Some(Some(number))
+}
+
+/// The choices that all of these words are.
+fn read_choices(alloc: Global, words: Words<'_>) -> Result<Option<Choices>, AllocError>
+    ensures { IfOk result (λ choices. choices ≡ choices_behind [] words.entry) }
+{
+    let mut items = Vec::new(alloc);
+    let mut words = words;
+    'words: loop {
+        let Some((word, rest)) = words.word() else {
+            return Ok(Some(Choices::new(items)));
+        };
+        let Some(choice) = read_choice(word) else {
+            return Ok(None);
+        };
+        items.push(choice)?;
+        words = rest;
+    }
+}
+
+/// A step of this kind.
+#[tactic(auto, unfolding(crate::specs::RunReading::step_of))]
+fn read_step(alloc: Global, kind: &[u8], words: Words<'_>) -> Result<Option<Step>, AllocError>
+    ensures { IfOk result (λ step. step ≡ step_of kind.now words.entry) }
+{
+    let Some((action, words)) = read_action(kind, words) else {
+        return Ok(None);
+    };
+    let Some(choices) = read_choices(alloc, words)? else {
+        return Ok(None);
+    };
+    Ok(Some(action.with(choices)))
+}
+
+/// What a line of this kind says.
+#[tactic(auto, unfolding(crate::specs::RunReading::line_of_kind))]
+fn read_kind(
+    alloc: Global,
+    version: TextVersion,
+    kind: &[u8],
+    words: Words<'_>,
+) -> Result<Option<RunLine>, AllocError>
+    ensures { IfOk result (λ x. x ≡ line_of_kind version kind.now words.entry) }
+{
+    if is_word(kind, b"packet") {
+        return Ok(read_packet(version, words).map(RunLine::Packet));
+    }
+    if is_word(kind, b"end") {
+        return Ok(words.is_empty().then_some(RunLine::End));
+    }
+    match read_step(alloc, kind, words)? {
+        Some(step) => Ok(Some(RunLine::Step(step))),
+        None => Ok(None),
+    }
+}
+
+/// What a line behind the first says, if it is well-formed: a packet, a step, or the run's end.
+///
+/// Fails for want of memory.
+pub fn read_run_line(
+    alloc: Global,
+    version: TextVersion,
+    line: &[u8],
+) -> Result<Option<RunLine>, AllocError>
+    ensures { IfOk result (λ x. x ≡ line_of version (words line.now)) }
+{
+    let Some((kind, words)) = Words::new(line).word() else {
+        return Ok(None);
+    };
+    read_kind(alloc, version, kind, words)
+}

@@ -1,0 +1,250 @@
+//! Writing the lines of a run's text.
+ghost use Rattle.std.specs.Prelude.{◌≡◌, ◌++◌, ◌∷◌, [], decimal, false, map, true, OnOk, IfErr};
+ghost use Rattle.fx_base.specs.Device.{Writes};
+ghost use Rattle.fx_base.specs.Fault.{fault_at};
+ghost use Rattle.fx_base.specs.declared.fault.Place.TheVariants as places;
+ghost use Rattle.fx_elements.specs.Axes.{field};
+ghost use Rattle.fx_elements.specs.Values.{value_text};
+ghost use Rattle.fx_run_text.specs.RunLineText.{run_line_text, spaced};
+ghost use Rattle.fx_run_text.specs.RunText.{choice_word, holder_words};
+ghost use Rattle.fx_run_text.specs.declared.run_line.RunLine.TheVariants as line;
+ghost use Rattle.fx_tables.specs.declared.holder_name.HolderName.TheVariants as holders;
+ghost use Rattle.fx_run_text.specs.declared.text_version.TextVersion.TheVariants.{Two};
+ghost use Rattle.fx_run_text.specs.declared.step.Step.TheVariants as steps;
+
+use crate::step::Step;
+use fx_base::{Fault, Sink, put_number, put_text};
+use fx_boxes::Fields;
+use fx_elements::{Axis, EVERY_AXIS, put_value, width};
+use fx_tables::{HolderName, Packet};
+
+/// Writes a number behind a space.
+fn put_spaced<S: Sink>(sink: &mut S, number: u64) -> Result<(), Fault>
+    ensures ok { OnOk result (Writes (S.taken sink.old) (S.taken sink.new) (spaced (decimal number
+        ∷ []))) }
+    ensures going { OnOk result (S.failed sink.old ≡ false → S.failed sink.new ≡ false) }
+    ensures err { IfErr result (λ e. (e ≡ fault_at 902 places.None) × (S.failed sink.new ≡ true)) }
+{
+    put_text(sink, b" ")?;
+    put_number(sink, number)
+}
+
+/// Writes the value on an axis behind a space.
+#[tactic(auto, using(crate::proofs::RunPutting::field_fits))]
+fn put_field<S: Sink>(sink: &mut S, fields: &Fields, axis: Axis) -> Result<(), Fault>
+    ensures ok { OnOk result (Writes (S.taken sink.old) (S.taken sink.new) (spaced (value_text axis
+        (field fields.now axis) ∷ []))) }
+    ensures going { OnOk result (S.failed sink.old ≡ false → S.failed sink.new ≡ false) }
+    ensures err { IfErr result (λ e. (e ≡ fault_at 902 places.None) × (S.failed sink.new ≡ true)) }
+{
+    let _values = fields.values();
+    put_text(sink, b" ")?;
+    put_value(sink, axis, width(axis), fields.get(axis))
+}
+
+/// Writes the values on these axes, each behind a space.
+fn put_on_axes<S: Sink>(sink: &mut S, fields: &Fields, axes: &[Axis]) -> Result<(), Fault>
+    ensures ok { OnOk result (Writes (S.taken sink.old) (S.taken sink.new)
+        (spaced (map (λ axis. value_text axis (field fields.now axis)) axes.now))) }
+    ensures going { OnOk result (S.failed sink.old ≡ false → S.failed sink.new ≡ false) }
+    ensures err { IfErr result (λ e. (e ≡ fault_at 902 places.None) × (S.failed sink.new ≡ true)) }
+{
+    for axis in axes {
+        put_field(sink, fields, *axis)?;
+    }
+    Ok(())
+}
+
+/// Writes a choice behind a space.
+fn put_choice<S: Sink>(sink: &mut S, choice: Option<u64>) -> Result<(), Fault>
+    ensures ok { OnOk result (Writes (S.taken sink.old) (S.taken sink.new) (spaced
+        (choice_word choice ∷ []))) }
+    ensures going { OnOk result (S.failed sink.old ≡ false → S.failed sink.new ≡ false) }
+    ensures err { IfErr result (λ e. (e ≡ fault_at 902 places.None) × (S.failed sink.new ≡ true)) }
+{
+    match choice {
+        None => put_text(sink, b" n"),
+        Some(number) => put_spaced(sink, number),
+    }
+}
+
+/// Writes choices, each behind a space.
+fn put_choices<S: Sink>(sink: &mut S, choices: &[Option<u64>]) -> Result<(), Fault>
+    ensures ok { OnOk result (Writes (S.taken sink.old) (S.taken sink.new) (spaced
+        (map choice_word choices.now))) }
+    ensures going { OnOk result (S.failed sink.old ≡ false → S.failed sink.new ≡ false) }
+    ensures err { IfErr result (λ e. (e ≡ fault_at 902 places.None) × (S.failed sink.new ≡ true)) }
+{
+    for choice in choices {
+        put_choice(sink, *choice)?;
+    }
+    Ok(())
+}
+
+/// Writes the words of a cache, each behind a space.
+fn put_cache<S: Sink>(sink: &mut S, device: u64, cache: u64) -> Result<(), Fault>
+    ensures ok { OnOk result (Writes (S.taken sink.old) (S.taken sink.new) (spaced (holder_words
+        (holders.Cache device cache)))) }
+    ensures going { OnOk result (S.failed sink.old ≡ false → S.failed sink.new ≡ false) }
+    ensures err { IfErr result (λ e. (e ≡ fault_at 902 places.None) × (S.failed sink.new ≡ true)) }
+{
+    put_text(sink, b" cache")?;
+    put_spaced(sink, device)?;
+    put_spaced(sink, cache)
+}
+
+/// Writes the words of an aggregation, each behind a space.
+fn put_aggregation<S: Sink>(
+    sink: &mut S,
+    device: u64,
+    process: u64,
+    aggregation: u64,
+) -> Result<(), Fault>
+    ensures ok { OnOk result (Writes (S.taken sink.old) (S.taken sink.new)
+        (spaced (holder_words (holders.Aggregation device process aggregation)))) }
+    ensures going { OnOk result (S.failed sink.old ≡ false → S.failed sink.new ≡ false) }
+    ensures err { IfErr result (λ e. (e ≡ fault_at 902 places.None) × (S.failed sink.new ≡ true)) }
+{
+    put_text(sink, b" aggregation")?;
+    put_spaced(sink, device)?;
+    put_spaced(sink, process)?;
+    put_spaced(sink, aggregation)
+}
+
+/// Writes what holds records, each word behind a space.
+fn put_holder<S: Sink>(sink: &mut S, holder: HolderName) -> Result<(), Fault>
+    ensures ok { OnOk result (Writes (S.taken sink.old) (S.taken sink.new) (spaced
+        (holder_words holder))) }
+    ensures going { OnOk result (S.failed sink.old ≡ false → S.failed sink.new ≡ false) }
+    ensures err { IfErr result (λ e. (e ≡ fault_at 902 places.None) × (S.failed sink.new ≡ true)) }
+{
+    match holder {
+        HolderName::Cache { device, cache } => put_cache(sink, device, cache),
+        HolderName::Aggregation {
+            device,
+            process,
+            aggregation,
+        } => put_aggregation(sink, device, process, aggregation),
+    }
+}
+
+/// Writes the words of a packet.
+fn put_packet<S: Sink>(sink: &mut S, packet: &Packet) -> Result<(), Fault>
+    ensures ok { OnOk result (Writes (S.taken sink.old) (S.taken sink.new) (run_line_text Two
+        (line.Packet packet.now))) }
+    ensures going { OnOk result (S.failed sink.old ≡ false → S.failed sink.new ≡ false) }
+    ensures err { IfErr result (λ e. (e ≡ fault_at 902 places.None) × (S.failed sink.new ≡ true)) }
+{
+    put_text(sink, b"packet")?;
+    put_spaced(sink, packet.class)?;
+    put_spaced(sink, packet.path)?;
+    put_on_axes(sink, &packet.fields, &EVERY_AXIS)?;
+    put_spaced(sink, packet.octets)
+}
+
+/// Writes a packet's line: the word `packet`, the numbers of its class and path, its values on all axes, and its
+/// octets. A line feed ends it.
+///
+/// Fails with 902, at no place, where a write fails. How much the sink has taken then is open.
+pub fn put_packet_line<S: Sink>(sink: &mut S, packet: &Packet) -> Result<(), Fault>
+    ensures ok { OnOk result (Writes (S.taken sink.old) (S.taken sink.new)
+        (run_line_text Two (line.Packet packet.now) ++ 10 ∷ [])) }
+    ensures going { OnOk result (S.failed sink.old ≡ false → S.failed sink.new ≡ false) }
+    ensures err { IfErr result (λ e. (e ≡ fault_at 902 places.None) × (S.failed sink.new ≡ true)) }
+{
+    put_packet(sink, packet)?;
+    put_text(sink, b"\n")
+}
+
+/// Writes the words of a crossing that is made.
+fn put_cross<S: Sink>(
+    sink: &mut S,
+    packet: u64,
+    crossing: u64,
+    choices: &[Option<u64>],
+) -> Result<(), Fault>
+    ensures ok { OnOk result (Writes (S.taken sink.old) (S.taken sink.new)
+        (run_line_text Two (line.Step (steps.Cross packet crossing choices.now)))) }
+    ensures going { OnOk result (S.failed sink.old ≡ false → S.failed sink.new ≡ false) }
+    ensures err { IfErr result (λ e. (e ≡ fault_at 902 places.None) × (S.failed sink.new ≡ true)) }
+{
+    put_text(sink, b"cross")?;
+    put_spaced(sink, packet)?;
+    put_spaced(sink, crossing)?;
+    put_choices(sink, choices)
+}
+
+/// Writes the words of a record that leaves its holder.
+fn put_expire<S: Sink>(
+    sink: &mut S,
+    holder: HolderName,
+    position: u64,
+    choices: &[Option<u64>],
+) -> Result<(), Fault>
+    ensures ok { OnOk result (Writes (S.taken sink.old) (S.taken sink.new)
+        (run_line_text Two (line.Step (steps.Expire holder position choices.now)))) }
+    ensures going { OnOk result (S.failed sink.old ≡ false → S.failed sink.new ≡ false) }
+    ensures err { IfErr result (λ e. (e ≡ fault_at 902 places.None) × (S.failed sink.new ≡ true)) }
+{
+    put_text(sink, b"expire")?;
+    put_holder(sink, holder)?;
+    put_spaced(sink, position)?;
+    put_choices(sink, choices)
+}
+
+/// Writes the words of a record that arrives.
+fn put_arrive<S: Sink>(
+    sink: &mut S,
+    link: u64,
+    position: u64,
+    choices: &[Option<u64>],
+) -> Result<(), Fault>
+    ensures ok { OnOk result (Writes (S.taken sink.old) (S.taken sink.new)
+        (run_line_text Two (line.Step (steps.Arrive link position choices.now)))) }
+    ensures going { OnOk result (S.failed sink.old ≡ false → S.failed sink.new ≡ false) }
+    ensures err { IfErr result (λ e. (e ≡ fault_at 902 places.None) × (S.failed sink.new ≡ true)) }
+{
+    put_text(sink, b"arrive")?;
+    put_spaced(sink, link)?;
+    put_spaced(sink, position)?;
+    put_choices(sink, choices)
+}
+
+/// Writes the words of a step.
+fn put_step<S: Sink>(sink: &mut S, step: &Step) -> Result<(), Fault>
+    ensures ok { OnOk result (Writes (S.taken sink.old) (S.taken sink.new) (run_line_text Two
+        (line.Step step.now))) }
+    ensures going { OnOk result (S.failed sink.old ≡ false → S.failed sink.new ≡ false) }
+    ensures err { IfErr result (λ e. (e ≡ fault_at 902 places.None) × (S.failed sink.new ≡ true)) }
+{
+    match step {
+        Step::Cross {
+            packet,
+            crossing,
+            choices,
+        } => put_cross(sink, *packet, *crossing, choices.as_slice()),
+        Step::Expire {
+            holder,
+            position,
+            choices,
+        } => put_expire(sink, *holder, *position, choices.as_slice()),
+        Step::Arrive {
+            link,
+            position,
+            choices,
+        } => put_arrive(sink, *link, *position, choices.as_slice()),
+    }
+}
+
+/// Writes a step's line, which [`read_run_line`](crate::read_run_line) reads as that step. A line feed ends it.
+///
+/// Fails with 902, at no place, where a write fails. How much the sink has taken then is open.
+pub fn put_step_line<S: Sink>(sink: &mut S, step: &Step) -> Result<(), Fault>
+    ensures ok { OnOk result (Writes (S.taken sink.old) (S.taken sink.new) (run_line_text Two
+        (line.Step step.now) ++ 10 ∷ [])) }
+    ensures going { OnOk result (S.failed sink.old ≡ false → S.failed sink.new ≡ false) }
+    ensures err { IfErr result (λ e. (e ≡ fault_at 902 places.None) × (S.failed sink.new ≡ true)) }
+{
+    put_step(sink, step)?;
+    put_text(sink, b"\n")
+}

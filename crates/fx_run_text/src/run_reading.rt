@@ -1,0 +1,134 @@
+//! Reading the text of a run.
+ghost use Rattle.std.specs.Prelude.{◌≡◌, ◌⊎◌, ◌<◌, ℕ, List, Ok, Err, None, IfOk, IfErr, OnOk};
+ghost use Rattle.fx_base.specs.Fault.{fault_at};
+ghost use Rattle.fx_base.specs.Lines.{GoesOn, text_lines, budget, Fails};
+ghost use Rattle.fx_base.specs.declared.fault.Place.TheVariants as places;
+ghost use Rattle.fx_tables.specs.Classes.{Class};
+ghost use Rattle.fx_run_text.specs.declared.text_version.TextVersion.{TextVersion};
+ghost use Rattle.fx_run_text.specs.RunText.{Run, run_text, run_lines, IsRun, AreShort};
+ghost use Rattle.fx_run_text.specs.RunReading.{reading, MayEnd, MayRead, MayReadBehind, ReadsFirst, ReadsNext};
+
+use crate::run::Run;
+use crate::run_line::{RunLine, read_run_line};
+use crate::text_version::TextVersion;
+use fx_base::{Fault, LineReader, Source};
+use fx_elements::is_word;
+use fx_tables::Classes;
+use std::alloc::Global;
+
+/// Goes past the first line, which tells the text's version.
+fn read_first<R: Source>(lines: &mut LineReader<R>) -> Result<TextVersion, Fault>
+    ensures going { OnOk result (lines.new.stopped ≡ None) }
+    ensures on { OnOk result (GoesOn lines.old lines.new) }
+    ensures ok { IfOk result (λ version. ReadsFirst version lines.old lines.new) }
+    ensures err { IfErr result (λ e. Fails lines.old lines.new e
+        ⊎ ((classes : List Class) → MayRead classes lines.old (Err e))) }
+{
+    if !lines.advance()? {
+        return Err(Fault::at_line(855, lines.number().saturating_add(1)));
+    }
+    let line = lines.line();
+    if line.ended && is_word(line.bytes, b"once-run 1") {
+        Ok(TextVersion::One)
+    } else if line.ended && is_word(line.bytes, b"once-run 2") {
+        Ok(TextVersion::Two)
+    } else {
+        Err(Fault::at_line(854, line.number))
+    }
+}
+
+/// Reads the next line.
+fn read_next<R: Source>(
+    alloc: Global,
+    version: TextVersion,
+    lines: &mut LineReader<R>,
+) -> Result<RunLine, Fault>
+    requires { lines.old.stopped ≡ None }
+    ensures going { OnOk result (lines.new.stopped ≡ None) }
+    ensures on { OnOk result (GoesOn lines.old lines.new) }
+    ensures ok { IfOk result (λ x. ReadsNext version lines.old lines.new x) }
+    ensures smaller { OnOk result (budget lines.new < budget lines.old) }
+    ensures err { IfErr result (λ e. (e ≡ fault_at 900 places.None) ⊎ (Fails lines.old lines.new e
+        ⊎ ((classes : List Class) (run : Run)
+        → MayReadBehind version classes lines.old run (Err e)))) }
+{
+    if !lines.advance()? {
+        return Err(Fault::at_line(855, lines.number().saturating_add(1)));
+    }
+    let line = lines.line();
+    if !line.ended {
+        return Err(Fault::at_line(855, line.number));
+    }
+    match read_run_line(alloc, version, line.bytes)? {
+        Some(x) => Ok(x),
+        None => Err(Fault::at_line(855, line.number)),
+    }
+}
+
+/// Goes past the text's end, which comes behind the last line.
+fn read_end<R: Source>(lines: &mut LineReader<R>) -> Result<(), Fault>
+    requires { lines.old.stopped ≡ None }
+    ensures ok { OnOk result ((run : Run) → MayEnd lines.old run (Ok run)) }
+    ensures err { IfErr result (λ e. Fails lines.old lines.new e ⊎ ((run : Run) → MayEnd lines.old run (Err e))) }
+{
+    if lines.advance()? {
+        return Err(Fault::at_line(855, lines.number()));
+    }
+    Ok(())
+}
+
+/// Reads a run from its text, which begins with the next line and ends with the last.
+///
+/// The text is a line `once-run 2`; a line `packet CLASS PATH SOURCE DESTINATION PROTOCOL SOURCE-PORT
+/// DESTINATION-PORT CLASS-OF-SERVICE VERSION SOURCE6 DESTINATION6 OCTETS` for each packet, with addresses as
+/// dotted quads or as eight groups (lower case, no leading zeros, no `::`); a line for each step, which is
+/// `cross PACKET CROSSING CHOICES`, `expire cache DEVICE CACHE POSITION CHOICES`,
+/// `expire aggregation DEVICE PROCESS AGGREGATION POSITION CHOICES` or `arrive LINK POSITION CHOICES`; and a
+/// line `end`. One space stands between two words, a line feed ends each line, and numbers are decimal without
+/// leading zeros, below 2 to the 64 or within their axis. A choice is `n`, a new record, or a number.
+///
+/// A text whose first line is `once-run 1` has the six values up to the class of service in a packet's line; its
+/// packets are of IPv4, with the version 4 and zeros as addresses of IPv6.
+///
+/// Fails, at the first line where something is wrong, with 854 where the first line is neither of these, 855
+/// where a later line isn't well-formed, is a packet behind a step, comes behind `end`, or is missing, and 856
+/// where a packet's class or path doesn't exist or its fields aren't in the class's region. Fails as the reader
+/// of lines does where that stands, and with 900, at no place, for want of memory.
+pub fn read_run<R: Source>(
+    alloc: Global,
+    classes: &Classes,
+    lines: &mut LineReader<R>,
+) -> Result<Run, Fault>
+    ensures ok { IfOk result (λ run. MayRead classes.now lines.old (Ok run)) }
+    ensures err { IfErr result (λ e. (e ≡ fault_at 900 places.None)
+        ⊎ (Fails lines.old lines.new e ⊎ MayRead classes.now lines.old (Err e))) }
+{
+    let version = read_first(lines)?;
+    let mut run = Run::new(alloc);
+    'lines: loop {
+        match read_next(alloc, version, lines)? {
+            RunLine::Packet(packet) => {
+                if let Some(number) = run.fault_of_packet(classes, &packet) {
+                    return Err(Fault::at_line(number, lines.number()));
+                }
+                run.add_packet(packet)?;
+            }
+            RunLine::Step(step) => run.add_step(step)?,
+            RunLine::End => {
+                read_end(lines)?;
+                return Ok(run);
+            }
+        }
+    }
+}
+
+/// The text of a run in either version whose lines have at most 4,096 bytes is read as that run, and no other text is.
+pub fn run_texts()
+    ensures read { (version : TextVersion) (classes : List Class) (run : Run) (n : ℕ)
+        → IsRun version classes run → AreShort (run_lines version run)
+        → reading classes n (text_lines (run_text version run)) ≡ Ok run }
+    ensures only { (classes : List Class) (text : List ℕ) (run : Run) (n : ℕ)
+        → reading classes n (text_lines text) ≡ Ok run
+        → (version : TextVersion) × (text ≡ run_text version run) × IsRun version classes run
+        × AreShort (run_lines version run) }
+{}

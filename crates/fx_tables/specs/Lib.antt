@@ -1,0 +1,11 @@
+pub mod Limits
+pub mod Network
+pub mod Classes
+pub mod Occurrences
+pub mod Holdings
+pub mod Takers
+pub mod NamedAxes
+pub mod Ranks
+pub mod Runnable
+pub mod Orders
+pub mod Matches

@@ -1,0 +1,28 @@
+-- Networks in which no record is stuck.
+use Rattle.std.specs.Prelude.{◌≡◌, ℕ, ◌<◌, false, All, length, Some, IfSome}
+use Rattle.fx_tables.specs.declared.observation.Selection.{Selection}
+use Rattle.fx_tables.specs.declared.holder_name.HolderName.{HolderName}
+use Rattle.fx_tables.specs.Network.{Net, Exporter, Aggregation, Process, Point, Device, holder_place}
+
+-- the holder is there, and a step can name it
+pub record IsHolder (net : Net) (holder : ℕ) : Type 0 where
+  pub name : HolderName
+  pub named : holder_place net name ≡ Some holder
+  pub there : holder < length net.holders
+
+-- each destination's link is there; where one destination is chosen, there is one to choose
+pub record HasDestinations (net : Net) (e : Exporter) : Type 0 where
+  pub links : All (λ d. IfSome d (λ link. link < length net.links)) e.destinations
+  pub some : e.parallel ≡ false → 0 < length e.destinations
+
+abbrev pub HasAggregations : Net → Process → Type 0
+HasAggregations net p = All (λ (a : Aggregation). IsHolder net a.holder) p.aggregations
+
+abbrev pub HasCaches : Net → Device → Type 0
+HasCaches net d = All (λ (p : Point). All (λ (s : Selection). IfSome s.holder (IsHolder net)) p.selections) d.points
+
+-- each record that is sent goes to a link that is there, and each that is held can be named by a step
+pub record IsRunnable (net : Net) : Type 0 where
+  pub destinations : All (HasDestinations net) net.exporters
+  pub aggregations : All (HasAggregations net) net.processes
+  pub caches : All (HasCaches net) net.devices

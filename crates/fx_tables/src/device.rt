@@ -1,0 +1,56 @@
+//! Devices.
+ghost use Rattle.std.specs.Prelude.{◌≡◌};
+
+use crate::observation::Point;
+use std::marker::Model;
+
+/// A device: its observation points, and the places of its caches in the table of holders and of its
+/// collecting processes in the table of processes, from 0.
+#[derive(Debug, Drop)]
+pub struct Device {
+    pub(crate) points: Vec<Point>,
+    pub(crate) caches: Vec<usize>,
+    pub(crate) processes: Vec<usize>,
+}
+
+impl Model for Device {
+    ghost use Rattle.fx_tables.specs.Network as network;
+
+    ghost Value = { network.Device };
+
+    ghost view = { λ d. record { points = d.points.items; caches = d.caches.items; processes = d.processes.items } };
+}
+
+impl Device {
+    /// A device with these points, caches and collecting processes.
+    pub fn new(points: Vec<Point>, caches: Vec<usize>, processes: Vec<usize>) -> Device
+        ensures { result ≡ record { points = points.items; caches = caches.items; processes = processes.items } }
+    {
+        Device {
+            points,
+            caches,
+            processes,
+        }
+    }
+
+    /// Its observation points.
+    pub fn points(&self) -> &[Point]
+        ensures { result.now ≡ self.now.points }
+    {
+        self.points.as_slice()
+    }
+
+    /// The places of its caches in the table of holders.
+    pub fn caches(&self) -> &[usize]
+        ensures { result.now ≡ self.now.caches }
+    {
+        self.caches.as_slice()
+    }
+
+    /// The places of its collecting processes in the table of processes.
+    pub fn processes(&self) -> &[usize]
+        ensures { result.now ≡ self.now.processes }
+    {
+        self.processes.as_slice()
+    }
+}

@@ -1,0 +1,198 @@
+//! Packets are metered where they cross an interface.
+ghost use Rattle.std.specs.Prelude.{◌≡◌, ◌++◌, [], OnOk, IfOk, if◌then◌else◌, bytes_eq, slice_get};
+ghost use Rattle.std.specs.List.{list_any};
+ghost use Rattle.fx_layout.specs.Keys as keys;
+ghost use Rattle.fx_tables.specs.Holdings as holdings;
+ghost use Rattle.fx_tables.specs.Network as network;
+ghost use Rattle.fx_tables.specs.Occurrences as met;
+
+use crate::holder::Holder;
+use crate::holding::Holding;
+use crate::lookup::points_of;
+use crate::net::Net;
+use crate::observation::{Occurrence, Point, Selection};
+use crate::traffic::Crossing;
+use fx_base::Name;
+use fx_boxes::{Fields, Region};
+use fx_layout::{Key, Layout};
+use std::alloc::{AllocError, Global};
+
+/// Whether the packets of this region include this one.
+fn selects(region: &Option<Region>, fields: &Fields) -> bool
+    ensures { result ≡ met.selects region.now fields.now }
+{
+    match region {
+        None => false,
+        Some(region) => region.holds(fields),
+    }
+}
+
+/// Whether the name is among these.
+fn has_name(names: &[Name], name: &str) -> bool
+    ensures { result ≡ list_any (λ own. bytes_eq own name.now) names.now }
+{
+    names.iter().any(|own| own.as_str() == name)
+}
+
+impl Point {
+    /// Whether the point is at the interface of the crossing, and sees packets in its direction.
+    pub fn watches(&self, crossing: &Crossing) -> bool
+        ensures { result ≡ met.watches self.now crossing.now }
+    {
+        has_name(self.interfaces.as_slice(), crossing.interface.as_str())
+            && if crossing.inwards {
+                self.ingress
+            } else {
+                self.egress
+            }
+    }
+}
+
+/// The occurrence at a selection process comes last, if it selects the packet and has a cache.
+fn push_met(
+    found: &mut Vec<Occurrence>,
+    point: usize,
+    process: usize,
+    selection: &Selection,
+    fields: &Fields,
+) -> Result<(), AllocError>
+    ensures { OnOk result (found.new.items ≡ found.old.items
+        ++ (if met.selects selection.now.region fields.now
+        then met.occurrence point process selection.now.holder else [])) }
+{
+    if selects(&selection.region, fields) {
+        if let Some(holder) = selection.holder {
+            found.push(Occurrence {
+                point,
+                process,
+                holder,
+            })?;
+        }
+    }
+    Ok(())
+}
+
+/// The occurrences at a point come last.
+fn push_met_by(
+    found: &mut Vec<Occurrence>,
+    point: usize,
+    selections: &[Selection],
+    fields: &Fields,
+) -> Result<(), AllocError>
+    ensures { OnOk result (found.new.items ≡ found.old.items ++ met.met_by point 1 selections.now fields.now) }
+{
+    for place in 0..selections.len() {
+        push_met(found, point, place + 1, &selections[place], fields)?;
+    }
+    Ok(())
+}
+
+/// The occurrences at a point come last, if it watches the crossing.
+fn push_met_at(
+    found: &mut Vec<Occurrence>,
+    number: usize,
+    point: &Point,
+    crossing: &Crossing,
+    fields: &Fields,
+) -> Result<(), AllocError>
+    ensures { OnOk result (found.new.items ≡ found.old.items ++ (if met.watches point.now crossing.now then met.met_by number 1 point.now.selections fields.now else [])) }
+{
+    if point.watches(crossing) {
+        push_met_by(found, number, point.selections.as_slice(), fields)?;
+    }
+    Ok(())
+}
+
+/// The occurrences of a packet at the points of a device come last.
+fn push_met_of(
+    found: &mut Vec<Occurrence>,
+    points: &[Point],
+    crossing: &Crossing,
+    fields: &Fields,
+) -> Result<(), AllocError>
+    ensures { OnOk result (found.new.items
+        ≡ found.old.items ++ met.met_at 1 points.now crossing.now fields.now) }
+{
+    for place in 0..points.len() {
+        push_met_at(found, place + 1, &points[place], crossing, fields)?;
+    }
+    Ok(())
+}
+
+/// The key that a packet with these fields has in the holder at a place.
+fn key_at(holders: &[Holder], place: usize, fields: &Fields) -> Key
+    ensures { result ≡ keys.key_of (network.layout_of (slice_get holders.now place)) fields.now }
+{
+    match holders.get(place) {
+        None => Layout::new().key_of(fields),
+        Some(holder) => holder.layout.key_of(fields),
+    }
+}
+
+/// The cache of an occurrence, and the key that a packet with these fields has there.
+fn holding_of(holders: &[Holder], occurrence: &Occurrence, fields: &Fields) -> Holding
+    ensures { result ≡ holdings.holding_of holders.now fields.now occurrence.now }
+{
+    Holding {
+        holder: occurrence.holder,
+        key: key_at(holders, occurrence.holder, fields),
+    }
+}
+
+impl Net {
+    /// Where a packet with these fields is metered at a crossing: at each observation point of the crossing's
+    /// device that is at its interface and sees its direction, by each selection process that selects the
+    /// packet and has a cache (RFC 6728, section 4). Fails for want of memory alone.
+    pub fn occurrences(
+        &self,
+        alloc: Global,
+        crossing: &Crossing,
+        fields: &Fields,
+    ) -> Result<Vec<Occurrence>, AllocError>
+        ensures { IfOk result (λ found. found.items ≡ met.occurrences self.now crossing.now fields.now) }
+    {
+        let mut found: Vec<Occurrence> = Vec::new(alloc);
+        self.push_occurrences(&mut found, crossing, fields)?;
+        Ok(found)
+    }
+
+    /// The same, behind what the list has. Fails for want of memory alone; the list may have some of them then.
+    pub fn push_occurrences(
+        &self,
+        found: &mut Vec<Occurrence>,
+        crossing: &Crossing,
+        fields: &Fields,
+    ) -> Result<(), AllocError>
+        ensures { OnOk result (found.new.items
+            ≡ found.old.items ++ met.occurrences self.now crossing.now fields.now) }
+    {
+        let points = points_of(self.devices(), crossing.device);
+        push_met_of(found, points, crossing, fields)
+    }
+
+    /// The cache that meters a packet with these fields at an occurrence, and the key that the packet has there: that of
+    /// the cache's layout, and of the empty one where the network has no such cache.
+    pub fn holding(&self, occurrence: &Occurrence, fields: &Fields) -> Holding
+        ensures { result ≡ holdings.holding_of self.now.holders fields.now occurrence.now }
+    {
+        holding_of(self.holders(), occurrence, fields)
+    }
+
+    /// The caches of these occurrences, each with the key that a packet with these fields has there, in order.
+    /// Fails for want of memory alone.
+    pub fn holdings(
+        &self,
+        alloc: Global,
+        occurrences: &[Occurrence],
+        fields: &Fields,
+    ) -> Result<Vec<Holding>, AllocError>
+        ensures { IfOk result (λ found. found.items
+            ≡ holdings.met_holdings self.now.holders fields.now occurrences.now) }
+    {
+        let mut holdings: Vec<Holding> = Vec::new(alloc);
+        for occurrence in occurrences {
+            holdings.push(self.holding(occurrence, fields))?;
+        }
+        Ok(holdings)
+    }
+}

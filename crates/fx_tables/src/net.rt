@@ -1,0 +1,115 @@
+//! The tables of a network.
+ghost use Rattle.std.specs.Prelude.{◌≡◌};
+ghost use Rattle.fx_layout.specs.Keys.{IsLayout};
+
+use crate::device::Device;
+use crate::exporter::Exporter;
+use crate::holder::Holder;
+use crate::process::Process;
+use fx_layout::Layout;
+use std::marker::Model;
+
+/// A network: its devices, and the tables of what they name by place, from 0.
+#[derive(Debug, Drop)]
+pub struct Net {
+    pub(crate) devices: Vec<Device>,
+    pub(crate) exporters: Vec<Exporter>,
+    pub(crate) holders: Vec<Holder>,
+    pub(crate) processes: Vec<Process>,
+    pub(crate) links: Vec<usize>,
+    pub(crate) report: usize,
+    pub(crate) report_layout: Layout,
+}
+
+impl Model for Net {
+    ghost use Rattle.fx_tables.specs.Network as network;
+
+    ghost Value = { network.Net };
+
+    ghost view = { λ n. record {
+      devices = n.devices.items;
+      exporters = n.exporters.items;
+      holders = n.holders.items;
+      processes = n.processes.items;
+      links = n.links.items;
+      report = n.report;
+      report_layout = n.report_layout;
+    } };
+}
+
+impl Net {
+    /// The network with these tables. `links` has the place of the collecting process to which each link
+    /// leads; `report` is the place of the collecting process that tallies, under the layout `report_layout`.
+    pub fn new(
+        devices: Vec<Device>,
+        exporters: Vec<Exporter>,
+        holders: Vec<Holder>,
+        processes: Vec<Process>,
+        links: Vec<usize>,
+        report: usize,
+        report_layout: Layout,
+    ) -> Net
+        ensures { result ≡ record { devices = devices.items; exporters = exporters.items; holders = holders.items; processes = processes.items; links = links.items; report = report; report_layout = report_layout } }
+    {
+        Net {
+            devices,
+            exporters,
+            holders,
+            processes,
+            links,
+            report,
+            report_layout,
+        }
+    }
+
+    /// The devices.
+    pub fn devices(&self) -> &[Device]
+        ensures { result.now ≡ self.now.devices }
+    {
+        self.devices.as_slice()
+    }
+
+    /// The exporting processes.
+    pub fn exporters(&self) -> &[Exporter]
+        ensures { result.now ≡ self.now.exporters }
+    {
+        self.exporters.as_slice()
+    }
+
+    /// The caches and aggregations.
+    pub fn holders(&self) -> &[Holder]
+        ensures { result.now ≡ self.now.holders }
+    {
+        self.holders.as_slice()
+    }
+
+    /// The collecting processes.
+    pub fn processes(&self) -> &[Process]
+        ensures { result.now ≡ self.now.processes }
+    {
+        self.processes.as_slice()
+    }
+
+    /// The place of the collecting process to which each link leads.
+    pub fn links(&self) -> &[usize]
+        ensures { result.now ≡ self.now.links }
+    {
+        self.links.as_slice()
+    }
+
+    /// The place of the collecting process that tallies.
+    pub fn report(&self) -> usize
+        ensures { result ≡ self.now.report }
+    {
+        self.report
+    }
+
+    /// The layout under which it tallies.
+    pub fn report_layout(&self) -> &Layout
+        ensures value { result.now ≡ self.now.report_layout }
+        ensures layout { IsLayout self.now.report_layout }
+    {
+        let _parts = self.report_layout.parts();
+        &self.report_layout
+    }
+}

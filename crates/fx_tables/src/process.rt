@@ -1,0 +1,47 @@
+//! Collecting processes.
+ghost use Rattle.std.specs.Prelude.{◌≡◌};
+
+use crate::aggregation::Aggregation;
+use std::marker::Model;
+
+/// A collecting process (RFC 6728, section 4.5): the places of its exporting processes, from 0, and its
+/// aggregations.
+#[derive(Debug, Drop)]
+pub struct Process {
+    pub(crate) exporters: Vec<usize>,
+    pub(crate) aggregations: Vec<Aggregation>,
+}
+
+impl Model for Process {
+    ghost use Rattle.fx_tables.specs.Network as network;
+
+    ghost Value = { network.Process };
+
+    ghost view = { λ p. record { exporters = p.exporters.items; aggregations = p.aggregations.items } };
+}
+
+impl Process {
+    /// A collecting process that names these exporting processes and has these aggregations.
+    pub fn new(exporters: Vec<usize>, aggregations: Vec<Aggregation>) -> Process
+        ensures { result ≡ record { exporters = exporters.items; aggregations = aggregations.items } }
+    {
+        Process {
+            exporters,
+            aggregations,
+        }
+    }
+
+    /// The places of the exporting processes that it names.
+    pub fn exporters(&self) -> &[usize]
+        ensures { result.now ≡ self.now.exporters }
+    {
+        self.exporters.as_slice()
+    }
+
+    /// Its aggregations.
+    pub fn aggregations(&self) -> &[Aggregation]
+        ensures { result.now ≡ self.now.aggregations }
+    {
+        self.aggregations.as_slice()
+    }
+}

@@ -1,0 +1,31 @@
+//! Flow records: a key and what was counted under it.
+ghost use Rattle.std.specs.Prelude.{◌≡◌};
+
+use fx_base::Counts;
+use fx_layout::{Key, Layout};
+
+/// A flow record: a key, and the packets and octets that were counted under it.
+#[derive(Debug, Drop)]
+pub struct Record {
+    pub key: Key,
+    pub counts: Counts,
+}
+
+impl Record {
+    /// The layout of the record's key.
+    pub fn layout(&self) -> &Layout
+        ensures { result.now ≡ self.now.key.layout }
+    {
+        self.key.layout()
+    }
+
+    /// The same record.
+    pub fn copy(&self) -> Record
+        ensures { result ≡ self.now }
+    {
+        Record {
+            key: self.key.copy(),
+            counts: self.counts,
+        }
+    }
+}

@@ -1,0 +1,19 @@
+//! Network documents: devices, each with its configuration, the links between them, and the report.
+#![tactic(auto)]
+
+mod ends;
+mod key_layout;
+mod limits;
+mod link;
+mod link_table;
+mod links;
+mod network;
+mod network_device;
+mod process_count;
+mod report;
+
+pub use link::Link;
+pub use link_table::Links;
+pub use network::{Network, read_network};
+pub use network_device::NetworkDevice;
+pub use report::Report;

@@ -1,0 +1,118 @@
+//! Links that are found by where they lead from.
+ghost use Rattle.std.specs.Prelude.{◌≡◌, ◌∷◌, ◌++◌, [], IfErr, IfOk, OnOk, if◌then◌else◌, not};
+ghost use Rattle.std.specs.List.{position};
+ghost use Rattle.fx_base.specs.Fault.{fault_at};
+ghost use Rattle.fx_base.specs.declared.fault.Place.TheVariants as places;
+ghost use Rattle.fx_topology.specs.Links.{leads_from, starts_there};
+ghost use Rattle.fx_topology.specs.Starts.{IsStartAt};
+
+use crate::link::Link;
+use fx_base::{Fault, Name};
+use indexmap::IndexSet;
+use std::alloc::{AllocError, Global};
+use std::marker::Model;
+
+/// What a link leads from: a destination, by the names of its device, of its exporting process and its own.
+#[derive(Debug, Drop, PartialEq, Eq, Hash)]
+struct Start {
+    device: String,
+    exporting_process: String,
+    destination: String,
+}
+
+impl Start {
+    fn new(
+        alloc: Global,
+        device: &Name,
+        exporting_process: &Name,
+        destination: &Name,
+    ) -> Result<Start, AllocError>
+        ensures { IfOk result (λ s. IsStartAt s device.now exporting_process.now destination.now) }
+    {
+        let device = String::from_str(alloc, device.as_str())?;
+        let exporting = String::from_str(alloc, exporting_process.as_str())?;
+        let destination = String::from_str(alloc, destination.as_str())?;
+        Ok(Start {
+            device,
+            exporting_process: exporting,
+            destination,
+        })
+    }
+}
+
+/// Links of which no two lead from one destination, in the order in which they came. Contracts see the list of them.
+#[derive(Debug, Drop)]
+pub struct Links {
+    links: Vec<Link>,
+    starts: IndexSet<Start>,
+    alloc: Global,
+}
+
+impl Model for Links {
+    ghost use Rattle.std.specs.Prelude.{List};
+    ghost use Rattle.fx_topology.specs.declared.link.Link as of_link;
+    ghost use Rattle.fx_topology.specs.Starts.{AreStarts};
+
+    ghost Value = { List of_link.Link };
+
+    ghost view = { λ l. l.links.items };
+
+    ghost invariant = { λ l. AreStarts l.starts.keys l.links.items };
+}
+
+impl Links {
+    /// No links.
+    pub(crate) fn new(alloc: Global) -> Links
+        ensures { result ≡ [] }
+    {
+        Links {
+            links: Vec::new(alloc),
+            starts: IndexSet::new(alloc),
+            alloc,
+        }
+    }
+
+    /// The links, in order.
+    pub fn as_slice(&self) -> &[Link]
+        ensures { result.now ≡ self.now }
+    {
+        self.links.as_slice()
+    }
+
+    /// The place, from 0, of the link that leads from a destination, if there is one. Fails for want of memory
+    /// alone.
+    pub fn place_of(
+        &self,
+        device: &Name,
+        exporting_process: &Name,
+        destination: &Name,
+    ) -> Result<Option<usize>, AllocError>
+        ensures { IfOk result (λ place. place ≡ position (leads_from device.now exporting_process.now destination.now) self.now) }
+    {
+        let start = Start::new(self.alloc, device, exporting_process, destination)?;
+        Ok(self.starts.get_index_of(&start))
+    }
+
+    /// Puts the link behind these and answers true, or answers false where one of them leads from the same
+    /// destination.
+    ///
+    /// Fails with 900, at no place, for want of memory.
+    pub(crate) fn add(&mut self, link: Link) -> Result<bool, Fault>
+        ensures answer { IfOk result (λ new. new ≡ not (starts_there self.old link)) }
+        ensures err { IfErr result (λ e. e ≡ fault_at 900 places.None) }
+        ensures links { OnOk result (self.new ≡ (if starts_there self.old link then self.old else self.old ++ link ∷ [])) }
+    {
+        let start = Start::new(
+            self.alloc,
+            &link.device,
+            &link.exporting_process,
+            &link.destination,
+        )?;
+        self.links.reserve(1)?;
+        if !self.starts.insert(start)? {
+            return Ok(false);
+        }
+        self.links.push(link)?;
+        Ok(true)
+    }
+}

@@ -1,0 +1,117 @@
+//! The list of links.
+ghost use Rattle.std.specs.Prelude.{◌≡◌, ℕ, List, [], ◌∷◌, ◌++◌, OnOk, map, codes, not};
+ghost use Rattle.serde_json.specs.View.{view};
+ghost use Rattle.fx_walk.specs.Pointer.{pointer};
+ghost use Rattle.fx_walk.specs.Walk.{Reads, fault_if, member_of};
+ghost use Rattle.fx_walk.specs.Lists.{items_of};
+ghost use Rattle.fx_topology.specs.Links.{has_ends, starts_there, link_faults, link_of, links_faults, links_row};
+
+use crate::ends::has_ends;
+use crate::limits::LINKS;
+use crate::link::Link;
+use crate::link_table::Links;
+use crate::network_device::NetworkDevice;
+use fx_base::{Fault, Name};
+use fx_walk::{Path, items_in, object_of, refusal, refuse_if, required_member};
+use serde_json::Value;
+use std::alloc::Global;
+
+/// Refuses a link at the path with an end that isn't there (201).
+fn ends_are_there(
+    alloc: Global,
+    path: &Path<'_>,
+    devices: &[NetworkDevice],
+    link: &Link,
+) -> Result<(), Fault>
+    ensures { Reads (fault_if (not (has_ends devices.now link.now)) 201 (pointer path.now)) tt result }
+{
+    refuse_if(alloc, path, 201, !has_ends(devices, link))
+}
+
+/// Puts a link at the path behind these. Refuses it where one of them leads from the same destination (202).
+fn add_alone(alloc: Global, path: &Path<'_>, earlier: &mut Links, link: Link) -> Result<(), Fault>
+    ensures reads { Reads (fault_if (starts_there earlier.old link) 202 (pointer path.now)) tt result }
+    ensures links { OnOk result (earlier.new ≡ earlier.old ++ link ∷ []) }
+{
+    let alone = earlier.add(link)?;
+    refuse_if(alloc, path, 202, !alone)
+}
+
+/// Puts the link that stands at the path behind these: 201 where one of its ends isn't there, 202 where an earlier
+/// link leads from the same destination.
+fn add_link(
+    alloc: Global,
+    path: &Path<'_>,
+    value: &Value,
+    devices: &[NetworkDevice],
+    earlier: &mut Links,
+) -> Result<(), Fault>
+    ensures reads { Reads (link_faults devices.now earlier.old (pointer path.now) (view value.now)) tt result }
+    ensures links { OnOk result (earlier.new ≡ earlier.old ++ link_of (view value.now) ∷ []) }
+{
+    object_of(
+        alloc,
+        path,
+        value,
+        &[
+            "device",
+            "exportingProcess",
+            "destination",
+            "toDevice",
+            "toProcess",
+        ],
+    )?;
+    let device = required_member::<Name>(alloc, path, value, "device")?;
+    let exporting = required_member::<Name>(alloc, path, value, "exportingProcess")?;
+    let destination = required_member::<Name>(alloc, path, value, "destination")?;
+    let to_device = required_member::<Name>(alloc, path, value, "toDevice")?;
+    let to_process = required_member::<Name>(alloc, path, value, "toProcess")?;
+    let link = Link {
+        device,
+        exporting_process: exporting,
+        destination,
+        to_device,
+        to_process,
+    };
+    ends_are_there(alloc, path, devices, &link)?;
+    add_alone(alloc, path, earlier, link)?;
+    Ok(())
+}
+
+/// What the links of the list at the path mean, in order.
+fn links_of(
+    alloc: Global,
+    path: &Path<'_>,
+    items: &[Value],
+    devices: &[NetworkDevice],
+) -> Result<Links, Fault>
+    ensures { Reads (links_faults devices.now [] (pointer path.now) 0 (map view items.now)) (map link_of (map view items.now)) result }
+{
+    let mut links = Links::new(alloc);
+    let mut place = 0;
+    for item in items {
+        let path = Path::Item(&*path, place);
+        add_link(alloc, &path, item, devices, &mut links)?;
+        place += 1;
+    }
+    Ok(links)
+}
+
+/// The network's links: 103 at the object where there is no list of them.
+pub fn links_member(
+    alloc: Global,
+    path: &Path<'_>,
+    object: &Value,
+    devices: &[NetworkDevice],
+) -> Result<Links, Fault>
+    ensures { Reads ((links_row devices.now).faults (pointer path.now) (view object.now)) (map link_of (items_of (member_of (codes "links") (view object.now)))) result }
+{
+    match object.get("links") {
+        Some(value) => {
+            let path = Path::Member(path, "links");
+            let items = items_in(alloc, &path, value, 0, LINKS)?;
+            links_of(alloc, &path, items, devices)
+        }
+        None => Err(refusal(alloc, 103, path)),
+    }
+}

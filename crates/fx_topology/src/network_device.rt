@@ -1,0 +1,43 @@
+//! The devices of a network document.
+ghost use Rattle.fx_topology.specs.NetworkDevices.{network_device_faults, network_device_of};
+
+use fx_base::{Fault, Name};
+use fx_config::Device;
+use fx_walk::{Entry, Named, Names, Path, name_member, object_of, required_member};
+use serde_json::Value;
+use std::alloc::Global;
+
+/// A device of the network and its configuration.
+#[derive(Debug, Drop)]
+pub struct NetworkDevice {
+    /// Its name, which differs from those of the network's other devices.
+    pub name: Name,
+    /// How it is configured.
+    pub config: Device,
+}
+
+impl Named for NetworkDevice {
+    ghost name = { λ device. device.name };
+
+    fn name(&self) -> &Name {
+        &self.name
+    }
+}
+
+impl Entry for NetworkDevice {
+    ghost faults = { network_device_faults };
+
+    ghost meaning = { network_device_of };
+
+    fn from_entry(
+        alloc: Global,
+        path: &Path<'_>,
+        value: &Value,
+        earlier: &mut Names,
+    ) -> Result<NetworkDevice, Fault> {
+        object_of(alloc, path, value, &["name", "config"])?;
+        let name = name_member(alloc, path, value, earlier)?;
+        let config = required_member::<Device>(alloc, path, value, "config")?;
+        Ok(NetworkDevice { name, config })
+    }
+}

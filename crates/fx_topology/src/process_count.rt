@@ -1,0 +1,40 @@
+//! How many collecting processes a network has.
+ghost use Rattle.std.specs.Prelude.{◌≡◌, nat_lt, codes};
+ghost use Rattle.fx_walk.specs.Pointer.{below, pointer};
+ghost use Rattle.fx_walk.specs.Walk.{Reads, fault_if};
+ghost use Rattle.fx_topology.specs.Limits.{process_limit};
+ghost use Rattle.fx_topology.specs.NetworkDevices.{process_count};
+
+use crate::limits::PROCESSES;
+use crate::network_device::NetworkDevice;
+use fx_base::Fault;
+use fx_walk::{Path, refuse_if};
+use std::alloc::Global;
+
+/// Whether the devices have more collecting processes than a network may have.
+fn are_too_many(devices: &[NetworkDevice]) -> bool
+    ensures { result ≡ nat_lt process_limit (process_count devices.now) }
+{
+    let mut room = PROCESSES;
+    for device in devices {
+        let count = device.config.collecting_processes.as_slice().len();
+        if room < count {
+            return true;
+        }
+        room -= count;
+    }
+    false
+}
+
+/// Refuses the devices of the network at the path where they have more collecting processes than a network may
+/// have (115).
+pub fn processes_are_few(
+    alloc: Global,
+    path: &Path<'_>,
+    devices: &[NetworkDevice],
+) -> Result<(), Fault>
+    ensures { Reads (fault_if (nat_lt process_limit (process_count devices.now)) 115 (below (pointer path.now) (codes "devices"))) tt result }
+{
+    let path = Path::Member(path, "devices");
+    refuse_if(alloc, &path, 115, are_too_many(devices))
+}

@@ -1,0 +1,96 @@
+//! The report.
+ghost use Rattle.std.specs.Prelude.{◌≡◌, ℕ, List, [], ◌∷◌, codes, not, is_some};
+ghost use Rattle.serde_json.specs.View.{view};
+ghost use Rattle.fx_walk.specs.Pointer.{pointer};
+ghost use Rattle.fx_walk.specs.Walk.{Reads, fault_if, member_of, required};
+ghost use Rattle.fx_topology.specs.Reports.{has_place, key_layout, report_faults, report_of};
+
+use crate::ends::has_collecting_process;
+use crate::key_layout::layout_of;
+use crate::limits::KEY_FIELDS;
+use crate::network_device::NetworkDevice;
+use fx_base::{Fault, Name};
+use fx_config::KeyField;
+use fx_layout::Layout;
+use fx_walk::{Path, Sequence, object_of, refusal, refuse_if, required_items, required_member};
+use serde_json::Value;
+use std::alloc::Global;
+
+/// The collecting process whose totals are asked for, and their key.
+#[derive(Debug, Drop)]
+pub struct Report {
+    /// The device.
+    pub device: Name,
+    /// The collecting process, on that device.
+    pub collecting_process: Name,
+    /// The fields of the key: axes or the leading bits of addresses, no axis twice.
+    pub key: Sequence<KeyField>,
+}
+
+impl Report {
+    /// The layout of the key: none where a field stands for no part of an axis, or an axis stands twice.
+    pub fn layout(&self) -> Option<Layout>
+        ensures { result ≡ key_layout self.now.key }
+    {
+        layout_of(self.key.as_slice())
+    }
+}
+
+/// Refuses a report at the path whose collecting process isn't there (205).
+fn process_is_there(
+    alloc: Global,
+    path: &Path<'_>,
+    devices: &[NetworkDevice],
+    report: &Report,
+) -> Result<(), Fault>
+    ensures { Reads (fault_if (not (has_place devices.now report.now)) 205 (pointer path.now)) tt result }
+{
+    let there = has_collecting_process(devices, &report.device, &report.collecting_process);
+    refuse_if(alloc, path, 205, !there)
+}
+
+/// Refuses a report at the path with a key field that stands for no part of an axis, or with an axis twice (206).
+fn key_is_axes(alloc: Global, path: &Path<'_>, report: &Report) -> Result<(), Fault>
+    ensures { Reads (fault_if (not (is_some (key_layout report.now.key))) 206 (pointer path.now)) tt result }
+{
+    let fails = report.layout().is_none();
+    refuse_if(alloc, path, 206, fails)
+}
+
+/// The report that stands at the path, in a network of these devices.
+fn report_at(
+    alloc: Global,
+    path: &Path<'_>,
+    value: &Value,
+    devices: &[NetworkDevice],
+) -> Result<Report, Fault>
+    ensures { Reads (report_faults devices.now (pointer path.now) (view value.now)) (report_of (view value.now)) result }
+{
+    object_of(alloc, path, value, &["device", "collectingProcess", "key"])?;
+    let device = required_member::<Name>(alloc, path, value, "device")?;
+    let collecting = required_member::<Name>(alloc, path, value, "collectingProcess")?;
+    let key = required_items(alloc, path, value, "key", KEY_FIELDS)?;
+    let report = Report {
+        device,
+        collecting_process: collecting,
+        key,
+    };
+    process_is_there(alloc, path, devices, &report)?;
+    key_is_axes(alloc, path, &report)?;
+    Ok(report)
+}
+
+/// The network's report: 103 at the object where there is none.
+pub fn report_member(
+    alloc: Global,
+    path: &Path<'_>,
+    object: &Value,
+    devices: &[NetworkDevice],
+) -> Result<Report, Fault>
+    ensures { Reads ((required (codes "report") (report_faults devices.now)).faults (pointer path.now) (view object.now)) (report_of (member_of (codes "report") (view object.now))) result }
+{
+    match object.get("report") {
+        Some(value) => report_at(alloc, &Path::Member(path, "report"), value, devices),
+        None => Err(refusal(alloc, 103, path)),
+    }
+}

@@ -1,0 +1,36 @@
+use Rattle.std.proofs.Common.{◌≡◌, ◌+◌, [], drop, ◌∙◌, refl, ap, sym, arith}
+use Rattle.std.proofs.lemmas.List.{drop_all, append-nil}
+use Rattle.fx_walk.specs.Pointer.{pointer}
+use Rattle.fx_walk.proofs.Faults.{exit, pointer-Item, refuses_more}
+use Rattle.fx_walk.proofs.NextItems.{item_here, next_entry, next_name, next_value}
+use Rattle.fx_walk.proofs.entries.entries_of.Goals as goal
+
+pub loop-item-preserved : goal.loop-item-preserved
+loop-item-preserved g c =
+    let faults = g.T.Entry.faults in
+    let meaning = g.T.Entry.meaning in
+    let name = g.T.Named.name in
+    let i = c.loop-item.invariant in
+    let v = c.item-item.result in
+    let here = item_here c.args.items.now c.loop-item.place c.loop-item.item-index v i.place (omega arith) c.item-item.is in
+    let ok = rw pointer-Item at c.in_ok-from_entry.ensures.reads in
+    record {
+      place = ap (λ n. n + 1) i.place;
+      faults = i.faults ∙ next_entry faults (λ d. name (meaning d)) c.loop-item.names (pointer c.args.path.now) c.loop-item.place c.args.items.now v here ∙ rw (ok.0, c.in_ok-from_entry.ensures.names) refl;
+      values = rw (c.in_ok-push.ensures.items, ok.1) (sym (next_value meaning c.loop-item.values.items c.loop-item.place c.args.items.now v here) ∙ i.values);
+      names = rw (c.in_ok-from_entry.ensures.names) (sym (next_name name meaning c.loop-item.names c.loop-item.place c.args.items.now v here) ∙ i.names);
+    }
+
+pub returns-in_err-from_entry : goal.returns-in_err-from_entry
+returns-in_err-from_entry g c =
+    let i = c.loop-item.invariant in
+    let v = c.item-item.result in
+    let here = item_here c.args.items.now c.loop-item.place c.loop-item.item-index v i.place (omega arith) c.item-item.is in
+    let next = next_entry g.T.Entry.faults (λ d. g.T.Named.name (g.T.Entry.meaning d)) c.loop-item.names (pointer c.args.path.now) c.loop-item.place c.args.items.now v here in
+    exit _ _ _ _ c.from_residual.ensures (rw (i.faults ∙ next) (refuses_more _ _ _ (rw pointer-Item at c.in_err-from_entry.ensures.reads)))
+
+pub returns : goal.returns
+returns g c =
+    let i = c.loop-item.invariant in
+    let none : drop c.loop-item.place c.args.items.now ≡ [] = drop_all c.loop-item.place c.args.items.now (omega (arith, i.place)) in
+    (i.faults ∙ rw none refl, rw (c.from_vec.ensures, c.in_ok-names.ensures, (rw (none, append-nil) at i.values), (rw (none, append-nil) at i.names)) refl)

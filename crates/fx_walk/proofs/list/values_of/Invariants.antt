@@ -1,0 +1,15 @@
+use Rattle.std.proofs.Common.{◌≡◌, ◌++◌, drop, map}
+use Rattle.serde_json.specs.View.{view}
+use Rattle.fx_walk.specs.Pointer.{pointer}
+use Rattle.fx_walk.specs.Lists.{items_faults}
+use Rattle.fx_walk.proofs.list.values_of.Given as goal
+
+abbrev pub invariant-loop-item : goal.invariant-loop-item
+invariant-loop-item g l =
+    let faults = g.T.FromValue.faults in
+    let meaning = g.T.FromValue.meaning in
+    record {
+      place : l.place ≡ l.item-index;
+      faults : items_faults faults (pointer l.path) 0 (map view l.items) ≡ items_faults faults (pointer l.path) l.place (map view (drop l.place l.items));
+      values : l.values.items ++ map meaning (map view (drop l.place l.items)) ≡ map meaning (map view l.items);
+    }

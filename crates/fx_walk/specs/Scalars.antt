@@ -1,0 +1,62 @@
+-- Values without parts: their faults, and what they mean.
+use Rattle.std.specs.Prelude.{ℕ, List, [], ◌∷◌, ◌||◌, nat_lt, Bool, false, not, Option, Some, None, is_some}
+use Rattle.std.specs.Option.{unwrap_or}
+use Rattle.serde_json.specs.Data.{Data, boolean, array, Items, no_items, item, Num}
+use Rattle.serde_json.specs.Find.{as_null, as_str, as_number, as_u64}
+use Rattle.fx_base.specs.Name.{is_name}
+use Rattle.fx_walk.specs.Walk.{Found, of_kind, fault_if}
+
+-- ---- texts that pass a test; this number stands for one that doesn't
+
+abbrev pub text_that : ℕ → (List ℕ → Bool) → List ℕ → Data → List Found
+text_that wrong test up d = of_kind (as_str d) (λ text. fault_if (not (test text)) wrong up) up
+
+-- names: texts of 1 to 255 bytes with no white space at either end
+abbrev pub name_faults : List ℕ → Data → List Found
+name_faults = text_that 105 is_name
+
+-- the text of a value that has one
+abbrev pub text_of : Data → List ℕ
+text_of d = unwrap_or (as_str d) []
+
+-- ---- texts of any form
+
+abbrev pub text_faults : List ℕ → Data → List Found
+text_faults up d = of_kind (as_str d) (λ text. []) up
+
+-- ---- texts of which few are allowed
+
+abbrev pub word_faults : {X : Type 0} → (List ℕ → Option X) → List ℕ → Data → List Found
+word_faults named = text_that 105 (λ text. is_some (named text))
+
+-- ---- whole numbers, spelled without fraction and exponent
+
+abbrev pub whole_in : ℕ → ℕ → List ℕ → Option ℕ → List Found
+whole_in low high up None = (105, up) ∷ []
+whole_in low high up (Some n) = fault_if (nat_lt n low || nat_lt high n) 105 up
+
+abbrev pub whole_faults : ℕ → ℕ → List ℕ → Data → List Found
+whole_faults low high up d = of_kind (as_number d) (λ n. whole_in low high up (as_u64 n)) up
+
+abbrev pub number_in : Option Num → ℕ
+number_in None = 0
+number_in (Some n) = unwrap_or (as_u64 n) 0
+
+abbrev pub number_of : Data → ℕ
+number_of d = number_in (as_number d)
+
+-- ---- empty types (RFC 7951, section 6.9): they say by being there that something holds
+
+abbrev pub is_one_null : Items → Bool
+is_one_null no_items = false
+is_one_null (item d no_items) = is_some (as_null d)
+is_one_null (item d (item e ds)) = false
+
+-- `[null]`, or `true` as many writers have it
+abbrev pub is_empty_type : Data → Bool
+is_empty_type (boolean b) = b
+is_empty_type (array ds) = is_one_null ds
+is_empty_type _ = false
+
+abbrev pub empty_faults : List ℕ → Data → List Found
+empty_faults up d = fault_if (not (is_empty_type d)) 104 up

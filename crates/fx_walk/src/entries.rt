@@ -1,0 +1,231 @@
+//! Lists whose entries have names that differ.
+ghost use Rattle.std.specs.Prelude.{◌≡◌, ℕ, List, [], ◌∷◌, ◌++◌, map, codes, IfOk, OnErr, OnOk};
+ghost use Rattle.serde_json.specs.Data.{Data};
+ghost use Rattle.serde_json.specs.View.{view};
+ghost use Rattle.fx_walk.specs.Pointer.{pointer};
+ghost use Rattle.fx_walk.specs.Walk.{Found, Reads, member_of, required};
+ghost use Rattle.fx_walk.specs.Lists.{entries, entries_faults, items_of, name_once, name_once_by};
+ghost use Rattle.fx_walk.specs.NamedEntries.{named_entries};
+ghost use Rattle.fx_walk.specs.Scalars.{text_of};
+
+use crate::list::items_in;
+use crate::names::Names;
+use crate::path::{Path, refusal};
+use crate::scalar::read_name;
+use crate::sequence::Sequence;
+use fx_base::{Fault, Name};
+use serde_json::Value;
+use std::alloc::{AllocError, Global};
+use std::marker::Model;
+
+/// What has a name.
+pub trait Named: Drop {
+    /// The bytes of its name.
+    ghost name: { Self → List ℕ };
+
+    /// Its name.
+    fn name(&self) -> &Name
+        ensures { result.now ≡ name self.now };
+}
+
+/// What an entry of a list may be read as, whose name differs from those of the entries before it.
+pub trait Entry: Named {
+    /// The faults of a value at a pointer, behind entries with these names.
+    ghost faults: { List (List ℕ) → List ℕ → Data → List Found };
+
+    /// What a value without a fault means.
+    ghost meaning: { Data → Self };
+
+    /// Reads the value that stands at the path behind entries with these names, and puts its own behind them, or
+    /// answers its first fault.
+    fn from_entry(
+        alloc: Global,
+        path: &Path<'_>,
+        value: &Value,
+        earlier: &mut Names,
+    ) -> Result<Self, Fault>
+        ensures reads { Reads (faults earlier.old (pointer path.now) (view value.now)) (meaning (view value.now)) result }
+        ensures names { OnOk result (earlier.new ≡ earlier.old ++ Self.name (meaning (view value.now)) ∷ []) };
+}
+
+/// A name that differs from those of earlier entries: 104 for no text, `wrong` for a text that is no name,
+/// `twice` for one of those.
+pub fn unique_name_by(
+    alloc: Global,
+    path: &Path<'_>,
+    value: &Value,
+    earlier: &mut Names,
+    wrong: u16,
+    twice: u16,
+) -> Result<Name, Fault>
+    ensures reads { Reads (name_once_by wrong twice earlier.old (pointer path.now) (view value.now)) (text_of (view value.now)) result }
+    ensures names { OnOk result (earlier.new ≡ earlier.old ++ text_of (view value.now) ∷ []) }
+    ensures same { OnErr result (earlier.new ≡ earlier.old) }
+{
+    let name = read_name(alloc, path, value, wrong)?;
+    if !earlier.add(&name)? {
+        return Err(refusal(alloc, twice, path));
+    }
+    Ok(name)
+}
+
+/// A name that differs from those of earlier entries: 104 and 105 as for any name, 106 for one of those.
+pub fn unique_name(
+    alloc: Global,
+    path: &Path<'_>,
+    value: &Value,
+    earlier: &mut Names,
+) -> Result<Name, Fault>
+    ensures reads { Reads (name_once earlier.old (pointer path.now) (view value.now)) (text_of (view value.now)) result }
+    ensures names { OnOk result (earlier.new ≡ earlier.old ++ text_of (view value.now) ∷ []) }
+    ensures same { OnErr result (earlier.new ≡ earlier.old) }
+{
+    unique_name_by(alloc, path, value, earlier, 105, 106)
+}
+
+/// An entry's member `name`, which differs from those of earlier entries.
+pub fn name_member(
+    alloc: Global,
+    path: &Path<'_>,
+    object: &Value,
+    earlier: &mut Names,
+) -> Result<Name, Fault>
+    ensures reads { Reads ((required (codes "name") (name_once earlier.old)).faults (pointer path.now) (view object.now)) (text_of (member_of (codes "name") (view object.now))) result }
+    ensures names { OnOk result (earlier.new ≡ earlier.old ++ text_of (member_of (codes "name") (view object.now)) ∷ []) }
+    ensures same { OnErr result (earlier.new ≡ earlier.old) }
+{
+    match object.get("name") {
+        Some(value) => unique_name(alloc, &Path::Member(path, "name"), value, earlier),
+        None => Err(refusal(alloc, 103, path)),
+    }
+}
+
+impl Named for Name {
+    ghost name = { λ n. n };
+
+    fn name(&self) -> &Name {
+        self
+    }
+}
+
+/// A name that differs from those before it, in a list of names.
+impl Entry for Name {
+    ghost faults = { name_once };
+
+    ghost meaning = { text_of };
+
+    fn from_entry(
+        alloc: Global,
+        path: &Path<'_>,
+        value: &Value,
+        earlier: &mut Names,
+    ) -> Result<Name, Fault> {
+        unique_name(alloc, path, value, earlier)
+    }
+}
+
+/// The names of a list's entries: behind a box, so that a function that holds them lets them go by one call.
+#[derive(Drop)]
+pub struct EntryNames {
+    names: Box<Names>,
+}
+
+impl Model for EntryNames {
+    ghost use Rattle.std.specs.Prelude.{List, ℕ};
+
+    ghost Value = { List (List ℕ) };
+
+    ghost view = { λ n. n.names.value };
+}
+
+impl EntryNames {
+    /// These names.
+    fn new(alloc: Global, names: Names) -> Result<EntryNames, AllocError>
+        ensures { IfOk result (λ kept. kept ≡ names) }
+    {
+        Ok(EntryNames {
+            names: Box::new(alloc, names)?,
+        })
+    }
+
+    /// The names.
+    pub fn get(&self) -> &Names
+        ensures { result.now ≡ self.now }
+    {
+        &self.names
+    }
+}
+
+/// A list's entries in order, with their names, which differ.
+#[derive(Drop)]
+pub struct Entries<T> {
+    /// The entries.
+    pub items: Sequence<T>,
+    /// The name of each.
+    pub names: EntryNames,
+}
+
+/// What the entries of the list at the path mean, in order.
+fn entries_of<T: Entry>(
+    alloc: Global,
+    path: &Path<'_>,
+    items: &[Value],
+) -> Result<Entries<T>, Fault>
+    ensures { Reads (entries_faults T.faults (λ d. T.name (T.meaning d)) [] (pointer path.now) 0 (map view items.now)) (named_entries T.name (map T.meaning (map view items.now))) result }
+{
+    let mut values = Vec::new(alloc);
+    let mut names = Names::new(alloc);
+    let mut place = 0;
+    for item in items {
+        values.push(T::from_entry(alloc, &Path::Item(&*path, place), item, &mut names)?)?;
+        place += 1;
+    }
+    let names = EntryNames::new(alloc, names)?;
+    Ok(Entries {
+        items: Sequence::from_vec(values),
+        names,
+    })
+}
+
+/// A member that is a list of `least` to `most` entries whose names differ. Where it may be empty it may be
+/// left out; else 103 at the object.
+pub fn named_member<T: Entry>(
+    alloc: Global,
+    path: &Path<'_>,
+    object: &Value,
+    name: &str,
+    least: usize,
+    most: usize,
+) -> Result<Entries<T>, Fault>
+    ensures { Reads ((entries least most name.now T.faults (λ d. T.name (T.meaning d))).faults (pointer path.now) (view object.now)) (named_entries T.name (map T.meaning (items_of (member_of name.now (view object.now))))) result }
+{
+    match object.get(name) {
+        Some(value) => {
+            let path = Path::Member(path, name);
+            let items = items_in(alloc, &path, value, least, most)?;
+            entries_of(alloc, &path, items)
+        }
+        None if least > 0 => Err(refusal(alloc, 103, path)),
+        None => {
+            let names = EntryNames::new(alloc, Names::new(alloc))?;
+            Ok(Entries {
+                items: Sequence::from_vec(Vec::new(alloc)),
+                names,
+            })
+        }
+    }
+}
+
+/// The same without the names.
+pub fn entries_member<T: Entry>(
+    alloc: Global,
+    path: &Path<'_>,
+    object: &Value,
+    name: &str,
+    least: usize,
+    most: usize,
+) -> Result<Sequence<T>, Fault>
+    ensures { Reads ((entries least most name.now T.faults (λ d. T.name (T.meaning d))).faults (pointer path.now) (view object.now)) (map T.meaning (items_of (member_of name.now (view object.now)))) result }
+{
+    Ok(named_member(alloc, path, object, name, least, most)?.items)
+}

@@ -1,0 +1,36 @@
+//! Reading a JSON document by one walk.
+//!
+//! A document is walked depth first: at each value its kind, at a list its length, at an object the
+//! members that may not be there and then the others in the order of the table that defines it. All
+//! faults are listed in that order by definitions that a YANG module can be laid beside; a reader
+//! answers the first of them, at its JSON Pointer (RFC 6901), or the value that the document means.
+#![tactic(auto)]
+
+mod choice;
+mod entries;
+mod list;
+mod member;
+mod names;
+mod object;
+mod path;
+mod reference;
+mod refuse;
+mod required_list;
+mod scalar;
+mod sequence;
+
+pub use choice::{Refused, none_of, one_of};
+pub use entries::{
+    Entries, Entry, EntryNames, Named, entries_member, name_member, named_member, unique_name,
+    unique_name_by,
+};
+pub use list::{items_by, items_in, items_member};
+pub use member::{FromValue, optional_member, required_member};
+pub use names::Names;
+pub use object::{document_of, object_of};
+pub use path::{Path, refusal};
+pub use reference::{is_named, known_name, known_names, place_of};
+pub use refuse::refuse_if;
+pub use required_list::{required_entries, required_items};
+pub use scalar::{Empty, Text, Whole, is_empty_type, read_name};
+pub use sequence::Sequence;

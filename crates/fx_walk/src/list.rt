@@ -1,0 +1,90 @@
+//! Lists in documents.
+ghost use Rattle.std.specs.Prelude.{◌≡◌, ℕ, List, [], ◌∷◌, ◌++◌, map};
+ghost use Rattle.serde_json.specs.View.{view};
+ghost use Rattle.fx_walk.specs.Pointer.{pointer};
+ghost use Rattle.fx_walk.specs.Walk.{Reads, member_of};
+ghost use Rattle.fx_walk.specs.Lists.{IsListBy, IsListOf, items, items_faults, items_of};
+
+use crate::member::FromValue;
+use crate::path::{Path, refusal};
+use crate::sequence::Sequence;
+use fx_base::Fault;
+use serde_json::Value;
+use std::alloc::Global;
+
+/// The items of a list: 104 for another kind of value, `many` for more than `most`, `few` for fewer than `least`.
+pub fn items_by<'v>(
+    alloc: Global,
+    path: &Path<'_>,
+    value: &'v Value,
+    least: usize,
+    most: usize,
+    few: u16,
+    many: u16,
+) -> Result<&'v [Value], Fault>
+    ensures { IsListBy few many least most (pointer path.now) (view value.now) result }
+{
+    let Value::Array(items) = value else {
+        return Err(refusal(alloc, 104, path));
+    };
+    if items.len() > most {
+        return Err(refusal(alloc, many, path));
+    }
+    if items.len() < least {
+        return Err(refusal(alloc, few, path));
+    }
+    Ok(items.as_slice())
+}
+
+/// The items of a list: 104 for another kind of value, 115 for more than `most`, 103 for fewer than `least`.
+pub fn items_in<'v>(
+    alloc: Global,
+    path: &Path<'_>,
+    value: &'v Value,
+    least: usize,
+    most: usize,
+) -> Result<&'v [Value], Fault>
+    ensures { IsListOf least most (pointer path.now) (view value.now) result }
+{
+    items_by(alloc, path, value, least, most, 103, 115)
+}
+
+/// What the items of the list at the path mean, in order.
+fn values_of<T: FromValue>(
+    alloc: Global,
+    path: &Path<'_>,
+    items: &[Value],
+) -> Result<Sequence<T>, Fault>
+    ensures { Reads (items_faults T.faults (pointer path.now) 0 (map view items.now)) (map T.meaning (map view items.now)) result }
+{
+    let mut values = Vec::new(alloc);
+    let mut place = 0;
+    for item in items {
+        values.push(T::from_value(alloc, &Path::Item(path, place), item)?)?;
+        place += 1;
+    }
+    Ok(Sequence::from_vec(values))
+}
+
+/// A member that is a list of `least` to `most` items. Where it may be empty it may be left out; else 103
+/// at the object.
+pub fn items_member<T: FromValue>(
+    alloc: Global,
+    path: &Path<'_>,
+    object: &Value,
+    name: &str,
+    least: usize,
+    most: usize,
+) -> Result<Sequence<T>, Fault>
+    ensures { Reads ((items least most name.now T.faults).faults (pointer path.now) (view object.now)) (map T.meaning (items_of (member_of name.now (view object.now)))) result }
+{
+    match object.get(name) {
+        Some(value) => {
+            let path = Path::Member(path, name);
+            let items = items_in(alloc, &path, value, least, most)?;
+            values_of(alloc, &path, items)
+        }
+        None if least > 0 => Err(refusal(alloc, 103, path)),
+        None => Ok(Sequence::from_vec(Vec::new(alloc))),
+    }
+}

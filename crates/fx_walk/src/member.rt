@@ -1,0 +1,55 @@
+//! The members of an object.
+ghost use Rattle.std.specs.Prelude.{◌≡◌, ℕ, List, [], ◌∷◌, ◌++◌, option_map};
+ghost use Rattle.serde_json.specs.Data.{Data};
+ghost use Rattle.serde_json.specs.View.{view};
+ghost use Rattle.serde_json.specs.Find.{get};
+ghost use Rattle.fx_walk.specs.Pointer.{pointer};
+ghost use Rattle.fx_walk.specs.Walk.{Found, Reads, required, optional, member_of};
+
+use crate::path::{Path, refusal};
+use fx_base::Fault;
+use serde_json::Value;
+use std::alloc::Global;
+
+/// What a value of a document may be read as.
+pub trait FromValue: Drop {
+    /// The faults of a value at a pointer, in the order of the walk.
+    ghost faults: { List ℕ → Data → List Found };
+
+    /// What a value without a fault means.
+    ghost meaning: { Data → Self };
+
+    /// Reads the value that stands at the path, or answers its first fault.
+    fn from_value(alloc: Global, path: &Path<'_>, value: &Value) -> Result<Self, Fault>
+        ensures { Reads (faults (pointer path.now) (view value.now)) (meaning (view value.now)) result };
+}
+
+/// A member that an object must have: 103 at the object where it isn't there.
+pub fn required_member<T: FromValue>(
+    alloc: Global,
+    path: &Path<'_>,
+    object: &Value,
+    name: &str,
+) -> Result<T, Fault>
+    ensures { Reads ((required name.now T.faults).faults (pointer path.now) (view object.now)) (T.meaning (member_of name.now (view object.now))) result }
+{
+    match object.get(name) {
+        Some(value) => T::from_value(alloc, &Path::Member(path, name), value),
+        None => Err(refusal(alloc, 103, path)),
+    }
+}
+
+/// A member that an object may have.
+pub fn optional_member<T: FromValue>(
+    alloc: Global,
+    path: &Path<'_>,
+    object: &Value,
+    name: &str,
+) -> Result<Option<T>, Fault>
+    ensures { Reads ((optional name.now T.faults).faults (pointer path.now) (view object.now)) (option_map T.meaning (get name.now (view object.now))) result }
+{
+    match object.get(name) {
+        Some(value) => Ok(Some(T::from_value(alloc, &Path::Member(path, name), value)?)),
+        None => Ok(None),
+    }
+}

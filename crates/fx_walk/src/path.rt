@@ -1,0 +1,71 @@
+//! Where a value stands in a document.
+ghost use Rattle.fx_walk.specs.Pointer.{escaped, pointer};
+ghost use Rattle.fx_walk.specs.Walk.{Refuses};
+ghost use Rattle.fx_base.specs.Fault.{fault_at};
+ghost use Rattle.fx_base.specs.declared.fault.Place.TheVariants as places;
+ghost use Rattle.std.specs.Prelude.{◌≡◌, ◌∷◌, [], ◌++◌, ◌==◌, OnOk, IfOk, string_bytes, if◌then◌else◌};
+
+use fx_base::{Fault, Place};
+use std::alloc::{AllocError, Global};
+
+/// Where a value stands: at the root, or below another value.
+#[derive(Clone, Copy)]
+pub enum Path<'a> {
+    /// The whole document.
+    Root,
+    /// An object's member of this name.
+    Member(&'a Path<'a>, &'a str),
+    /// A list's item at this place, counted from 0.
+    Item(&'a Path<'a>, usize),
+}
+
+fn push_escaped(out: &mut String, name: &str) -> Result<(), AllocError>
+    ensures { OnOk result (string_bytes out.new ≡ string_bytes out.old ++ escaped name.now) }
+{
+    for c in name.chars() {
+        match c {
+            '~' => out.push_str("~0")?,
+            '/' => out.push_str("~1")?,
+            _ => out.push(c)?,
+        }
+    }
+    Ok(())
+}
+
+fn push_pointer(out: &mut String, path: &Path<'_>) -> Result<(), AllocError>
+    ensures { OnOk result (string_bytes out.new ≡ string_bytes out.old ++ pointer path.now) }
+{
+    match path {
+        Path::Root => Ok(()),
+        Path::Member(up, name) => {
+            push_pointer(out, up)?;
+            out.push_str("/")?;
+            push_escaped(out, name)
+        }
+        Path::Item(up, place) => {
+            push_pointer(out, up)?;
+            write!(out, "/{place}")
+        }
+    }
+}
+
+fn pointer_text(alloc: Global, path: &Path<'_>) -> Result<String, AllocError>
+    ensures { IfOk result (λ s. string_bytes s ≡ pointer path.now) }
+{
+    let mut text = String::new(alloc);
+    push_pointer(&mut text, path)?;
+    Ok(text)
+}
+
+/// A refusal with this number at the path, or want of memory (900) for its pointer.
+pub fn refusal(alloc: Global, number: u16, path: &Path<'_>) -> Fault
+    ensures { Refuses result ((number, pointer path.now) ∷ []) }
+{
+    match pointer_text(alloc, path) {
+        Ok(text) => Fault {
+            number,
+            place: Place::Text(text),
+        },
+        Err(error) => Fault::from(error),
+    }
+}

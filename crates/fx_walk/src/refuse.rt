@@ -1,0 +1,18 @@
+//! Refusals where a test fails.
+ghost use Rattle.fx_walk.specs.Pointer.{pointer};
+ghost use Rattle.fx_walk.specs.Walk.{Reads, fault_if};
+
+use crate::path::{Path, refusal};
+use fx_base::Fault;
+use std::alloc::Global;
+
+/// Refuses with this number at the path where something fails.
+pub fn refuse_if(alloc: Global, path: &Path<'_>, number: u16, fails: bool) -> Result<(), Fault>
+    ensures { Reads (fault_if fails number (pointer path.now)) tt result }
+{
+    if fails {
+        Err(refusal(alloc, number, path))
+    } else {
+        Ok(())
+    }
+}
