@@ -11,8 +11,8 @@ use Rattle.fx_elements.specs.Axes.{axis_index}
 use Rattle.fx_tables.specs.Network.{Net}
 use Rattle.fx_leaf.specs.declared.leaf.Counted.{Counted}
 use Rattle.fx_leaf.specs.declared.verdict.Fate.TheVariants.{Never, Once, Many, Differing, Unassigned}
-use Rattle.fx_leaf.specs.Leaves.{leaf_of, never_of, named}
-use Rattle.fx_leaf.specs.Verdicts.{Verdict, path_verdict, counted}
+use Rattle.fx_leaf.specs.Leaves.{leaf_of, never_of, numbers_of}
+use Rattle.fx_leaf.specs.Verdicts.{Verdict, path_verdict, counter}
 use Rattle.fx_check.specs.Judging.{judge_of, same_leaf, unless_same, unless_never}
 use Rattle.fx_check.specs.Outcomes.{IsCertificateNumber, IsCheckFault, memory, device, too_long, wrong, IsToldBy}
 use Rattle.fx_traffic.specs.Targets.{Target}
@@ -69,7 +69,7 @@ unless_never_number (Some Never) k e = absurd cc
 
 judge_number : (net : Net) (t : Target) (b : Bounds) (leaf : Option Counted) (k : ℕ) → judge_of net t b leaf ≡ Some k → IsCertificateNumber k
 judge_number net t b None k e = unless_never_number (path_verdict net b t.crossings) k e
-judge_number net t b (Some leaf) k e = unless_same_number leaf (path_verdict net b t.crossings) (named (counted net b t.crossings)) k e
+judge_number net t b (Some leaf) k e = unless_same_number leaf (path_verdict net b t.crossings) (numbers_of (counter net b t.crossings)) k e
 
 leaf_number : (made : ℕ) (found : Option ℕ) (gs : List Goal) (k : ℕ) → ((n : ℕ) → found ≡ Some n → IsCertificateNumber n) → leaf_answer made found gs ≡ Err k → IsCertificateNumber k
 leaf_number made found gs k h e = go (nat_le 1000000 made) found h e where

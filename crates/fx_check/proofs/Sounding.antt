@@ -13,7 +13,7 @@ use Rattle.fx_cert.specs.declared.item.Version.{Version}
 use Rattle.fx_cert.specs.declared.item.Version.TheVariants.{One, Two}
 use Rattle.fx_leaf.specs.Certificates.{Tree, Leaf, Uncounted, Split, SoundTree, Sound}
 use Rattle.fx_leaf.specs.SoundLeaves.{SoundLeaf, SoundNever}
-use Rattle.fx_leaf.proofs.Deciding.{answer_sound, answer_every, answer_none, never_sound, never_every, never_none}
+use Rattle.fx_leaf.proofs.LeafAnswers.{answer_sound, answer_every, answer_none, never_sound, never_every, never_none}
 use Rattle.fx_leaf.specs.Leaves.{NoneIsSound, NeverIsUnsound}
 use Rattle.fx_leaf.specs.Leaves.NeverIsUnsound.{cut as is_cut, unassigned as is_unassigned, differing as is_differing, many as is_many, once as is_once}
 use Rattle.fx_leaf.specs.Leaves.NoneIsSound.{cut, unassigned, differing, many, never}

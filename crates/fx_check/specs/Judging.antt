@@ -7,9 +7,9 @@ use Rattle.fx_boxes.specs.Boxes.{Bounds}
 use Rattle.fx_tables.specs.declared.traffic.Crossing.{Crossing}
 use Rattle.fx_tables.specs.Network.{Net}
 use Rattle.fx_leaf.specs.declared.leaf.Counted.{Counted}
-use Rattle.fx_leaf.specs.Leaves.{leaf_of, never_of, named, NoneIsSound}
+use Rattle.fx_leaf.specs.Leaves.{leaf_of, never_of, numbers_of, NoneIsSound}
 use Rattle.fx_leaf.specs.SoundLeaves.{SoundLeaf}
-use Rattle.fx_leaf.specs.Verdicts.{path_verdict, counted}
+use Rattle.fx_leaf.specs.Verdicts.{path_verdict, counter}
 use Rattle.fx_traffic.specs.Targets.{Target}
 
 -- the number of what is wrong with a leaf for a region of a target, if anything is; a leaf that names no place of
@@ -22,7 +22,7 @@ same_leaf a b = a.crossing == b.crossing && (a.point == b.point && a.process == 
 
 -- the one leaf that is sound, or why there is none
 abbrev pub sound_leaf : Net → List Crossing → Bounds → Result Counted Fault
-sound_leaf net path region = leaf_of (path_verdict net region path) (named (counted net region path))
+sound_leaf net path region = leaf_of (path_verdict net region path) (numbers_of (counter net region path))
 
 -- 410 where another leaf is the sound one
 abbrev pub unless_same : Counted → Result Counted Fault → Option ℕ

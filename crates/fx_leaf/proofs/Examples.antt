@@ -1,4 +1,4 @@
--- Fates worked out by the definitions.
+-- The fates and verdicts of some networks are those that a reader expects.
 use Rattle.std.proofs.Common.{◌≡◌, ℕ, true, false, List, [], ◌∷◌, Some, None, refl}
 use Rattle.std.specs.Prelude.{codes}
 use Rattle.fx_elements.specs.declared.axis.Axis.TheVariants.{Source}
@@ -8,7 +8,7 @@ use Rattle.fx_layout.specs.Keys.{Layout}
 use Rattle.fx_tables.specs.declared.aggregation.MatchEntry.{MatchEntry}
 use Rattle.fx_tables.specs.declared.traffic.Crossing.{Crossing}
 use Rattle.fx_tables.specs.Network.{Net, Device, Exporter}
-use Rattle.fx_leaf.specs.Verdicts.{path_verdict, counted}
+use Rattle.fx_leaf.specs.Verdicts.{path_verdict, counter}
 use Rattle.fx_leaf.specs.declared.verdict.Fate.TheVariants.{Never, Once, Many, Differing, Unassigned}
 use Rattle.fx_leaf.specs.Fates.{packet_fate}
 
@@ -53,19 +53,19 @@ pair metered exporter reported = record {
   report_layout = reported;
 }
 
-abbrev to_one : Exporter
-to_one = record { parallel = true; destinations = Some 0 ∷ [] }
+abbrev one_destination_verdict : Exporter
+one_destination_verdict = record { parallel = true; destinations = Some 0 ∷ [] }
 
 -- one meter on the path
-one_meter : packet_fate (pair (source 32) to_one (source 32)) a_packet (inwards ∷ []) ≡ Once
+one_meter : packet_fate (pair (source 32) one_destination_verdict (source 32)) a_packet (inwards ∷ []) ≡ Once
 one_meter = refl
 
 -- the same meter twice on the path
-metered_twice : packet_fate (pair (source 32) to_one (source 32)) a_packet (inwards ∷ outwards ∷ []) ≡ Many
+metered_twice : packet_fate (pair (source 32) one_destination_verdict (source 32)) a_packet (inwards ∷ outwards ∷ []) ≡ Many
 metered_twice = refl
 
 -- another interface
-not_metered : packet_fate (pair (source 32) to_one (source 32)) a_packet (record { device = 1; interface = codes "eth2"; inwards = true } ∷ []) ≡ Never
+not_metered : packet_fate (pair (source 32) one_destination_verdict (source 32)) a_packet (record { device = 1; interface = codes "eth2"; inwards = true } ∷ []) ≡ Never
 not_metered = refl
 
 -- a fallback destination that has no link
@@ -81,11 +81,11 @@ sent_twice : packet_fate (pair (source 32) (record { parallel = true; destinatio
 sent_twice = refl
 
 -- a report that is finer than the records
-finer_report : packet_fate (pair (source 16) to_one (source 24)) a_packet (inwards ∷ []) ≡ Unassigned
+finer_report : packet_fate (pair (source 16) one_destination_verdict (source 24)) a_packet (inwards ∷ []) ≡ Unassigned
 finer_report = refl
 
 -- a report that is coarser than the records
-coarser_report : packet_fate (pair (source 24) to_one (source 16)) a_packet (inwards ∷ []) ≡ Once
+coarser_report : packet_fate (pair (source 24) one_destination_verdict (source 16)) a_packet (inwards ∷ []) ≡ Once
 coarser_report = refl
 
 -- ---- a mediator between them, which aggregates to /8 what matches
@@ -97,7 +97,7 @@ in_one_net = record { axis = Source; bits = 24; value = 655618 }
 abbrev mediated : Layout → List MatchEntry → Net
 mediated metered matches = record {
   devices = meter ∷ collector 0 ∷ collector 1 ∷ [];
-  exporters = to_one ∷ record { parallel = true; destinations = Some 1 ∷ [] } ∷ [];
+  exporters = one_destination_verdict ∷ record { parallel = true; destinations = Some 1 ∷ [] } ∷ [];
   holders = record { layout = metered; exporters = 0 ∷ [] } ∷ record { layout = source 8; exporters = 1 ∷ [] } ∷ [];
   processes = record { exporters = []; aggregations = record { holder = 1; matches = matches } ∷ [] } ∷ record { exporters = []; aggregations = [] } ∷ [];
   links = 0 ∷ 1 ∷ [];
@@ -144,5 +144,5 @@ no_match : path_verdict (mediated (source 32) (record { axis = Source; bits = 1;
 no_match = refl
 
 -- which selection process counts
-who_counts : counted (mediated (source 32) (in_one_net ∷ [])) (from_to 167838208 167838463) (inwards ∷ []) ≡ Some (record { crossing = 1; point = 1; process = 1; verdict = Some Once })
+who_counts : counter (mediated (source 32) (in_one_net ∷ [])) (from_to 167838208 167838463) (inwards ∷ []) ≡ Some (record { crossing = 1; point = 1; process = 1; verdict = Some Once })
 who_counts = refl

@@ -1,4 +1,4 @@
--- Fates together, along chains and at forks, worked out by the definitions.
+-- Fates along chains and at forks are those that a reader expects.
 use Rattle.std.proofs.Common.{◌≡◌, ℕ, true, false, List, [], ◌∷◌, Option, Some, None, refl}
 use Rattle.std.specs.Prelude.{codes}
 use Rattle.fx_elements.specs.declared.axis.Axis.TheVariants.{Source}
@@ -10,7 +10,7 @@ use Rattle.fx_tables.specs.declared.traffic.Crossing.{Crossing}
 use Rattle.fx_tables.specs.Network.{Net, Exporter, Process, Holder}
 use Rattle.fx_leaf.specs.declared.verdict.Fate.TheVariants.{Never, Once, Many, Differing, Unassigned}
 use Rattle.fx_leaf.specs.Fates.{both, all_happen, either, one_happens, fate, packet_fate}
-use Rattle.fx_leaf.specs.Verdicts.{path_verdict, counted}
+use Rattle.fx_leaf.specs.Verdicts.{path_verdict, counter}
 
 -- ---- fates together
 
@@ -191,5 +191,5 @@ both_halves : path_verdict (shared 2147483647 2147483648) all_fields inwards ≡
 both_halves = refl
 
 -- the second selection process counts the second half
-counts_second : counted (shared 2147483647 2147483648) (sources 2147483648 4294967295) inwards ≡ Some (record { crossing = 1; point = 1; process = 2; verdict = Some Once })
+counts_second : counter (shared 2147483647 2147483648) (sources 2147483648 4294967295) inwards ≡ Some (record { crossing = 1; point = 1; process = 2; verdict = Some Once })
 counts_second = refl

@@ -16,28 +16,28 @@ use Rattle.fx_machine.proofs.Lists.{length_nothing}
 use Rattle.fx_machine.proofs.Running.{steps_of}
 use Rattle.fx_machine.specs.Claim.{CountsEachOnce, wrapped, CountsEachModulo}
 use Rattle.fx_tables.specs.Ranks.{IsNetwork}
-use Rattle.fx_leaf.specs.Fates.{fate, packet_fate, wanted}
+use Rattle.fx_leaf.specs.Fates.{fate, packet_fate, wanted_fate}
 use Rattle.fx_leaf.specs.Certificates.{AllAsWanted}
 use Rattle.fx_leaf.specs.Quantity.{Weight, Wrong, Nothing, plus, weigh_all, total_weight, unassigned_weight, held_weight, carried_weight, coming_weight, wrapped_weight, quantity}
-use Rattle.fx_leaf.specs.Laws.{Opens, OpensModulo, Kept, Ends, Theorem, TheoremModulo}
+use Rattle.fx_leaf.specs.Laws.{Opens, OpensModulo, Keeps, Ends, Theorem, TheoremModulo}
 use Rattle.fx_leaf.proofs.Weights.{plus_nothing}
 use Rattle.fx_leaf.proofs.FateLaws.{Every}
 use Rattle.fx_leaf.proofs.Acts.{IsSized}
 use Rattle.fx_leaf.proofs.Steps.{run_keeps, step_keeps}
 use Rattle.fx_leaf.proofs.Ranks.{is_fate}
 use Rattle.fx_leaf.proofs.Trees.{sound_wanted}
-use Rattle.fx_leaf.proofs.Opening.{opens, empty_weighs, plain_weight, plain_weighs, plain_modulo, total_modulo, plain_not_wrong}
+use Rattle.fx_leaf.proofs.OpeningQuantity.{opens, empty_weighs, plain_weight, plain_weighs, plain_modulo, total_modulo, plain_not_wrong}
 
-all_wanted : (net : Net) (classes : List Class) (packets : List Packet) → AllAsWanted net classes → All (λ p. IsOf p (numbered classes p.class)) packets → Every (λ p. packet_fate net p.fields (path classes p) ≡ wanted (exempts (numbered classes p.class))) packets
+all_wanted : (net : Net) (classes : List Class) (packets : List Packet) → AllAsWanted net classes → All (λ p. IsOf p (numbered classes p.class)) packets → Every (λ p. packet_fate net p.fields (path classes p) ≡ wanted_fate (exempts (numbered classes p.class))) packets
 all_wanted net classes [] sound h = tt
 all_wanted net classes (p ∷ ps) sound h =
     (by_class (numbered classes p.class) refl (h 0 p (omega arith)), all_wanted net classes ps sound (λ k. λ d. λ lt. h (suc k) d (omega arith)))
   where
-    by_path : (class : Class) (o : Option (List Crossing)) → numbered classes p.class ≡ Some class → numbered class.paths p.path ≡ o → holds class.region p.fields ≡ true → o ≢ None → packet_fate net p.fields (entries o) ≡ wanted class.exempt
+    by_path : (class : Class) (o : Option (List Crossing)) → numbered classes p.class ≡ Some class → numbered class.paths p.path ≡ o → holds class.region p.fields ≡ true → o ≢ None → packet_fate net p.fields (entries o) ≡ wanted_fate class.exempt
     by_path class None c m r some = absurd (some refl)
     by_path class (Some crossings) c m r some = sound p.class p.path class crossings p.fields c m r
 
-    by_class : (o : Option Class) → numbered classes p.class ≡ o → IsOf p o → packet_fate net p.fields (entries (numbered (paths_of o) p.path)) ≡ wanted (exempts o)
+    by_class : (o : Option Class) → numbered classes p.class ≡ o → IsOf p o → packet_fate net p.fields (entries (numbered (paths_of o) p.path)) ≡ wanted_fate (exempts o)
     by_class None c of = absurd of
     by_class (Some class) c of = by_path class (numbered class.paths p.path) c refl of.0 of.1
 
@@ -59,7 +59,7 @@ pub opens_modulo_law : (net : Net) (classes : List Class) → IsNetwork net → 
 opens_modulo_law net classes is_net sound packets of total =
     ap wrapped_weight (opens net is_net classes packets total (all_wanted net classes packets sound of)) ∙ plain_modulo net.report_layout total (to_count classes packets)
 
-pub kept_law : (net : Net) (classes : List Class) (step : Step) → IsNetwork net → Kept net classes step
+pub kept_law : (net : Net) (classes : List Class) (step : Step) → IsNetwork net → Keeps net classes step
 kept_law net classes step is_net packets total s new sized good h =
     let keeps = step_keeps (fate net) net (is_fate net is_net.ranked) classes packets total step s new good sized h in
     (keeps.kept, keeps.sized)

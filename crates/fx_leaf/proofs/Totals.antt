@@ -1,4 +1,4 @@
--- What a tally adds to the totals.
+-- A tally adds its counts to one total, and keeps the others.
 use Rattle.std.proofs.Common.{◌≡◌, Bool, true, false, cond, List, [], ◌∷◌, Some, None, refl, sym, ◌∙◌, subst, true≢false, if◌then◌else◌}
 use Rattle.std.proofs.lemmas.Slice.Eq.{bytes_eq-Decides}
 use Rattle.fx_base.specs.declared.counts.Counts.{Counts}

@@ -12,7 +12,7 @@ use Rattle.fx_tables.specs.Occurrences.{occurrences}
 use Rattle.fx_machine.specs.Steps.{meet}
 use Rattle.fx_leaf.specs.declared.verdict.Fate.{Fate}
 use Rattle.fx_leaf.specs.declared.verdict.Fate.TheVariants.{Once, Never}
-use Rattle.fx_leaf.specs.Fates.{both, all_happen, act_fate, fate, acts_along, packet_fate, wanted}
+use Rattle.fx_leaf.specs.Fates.{both, all_happen, act_fate, fate, acts_along, packet_fate, wanted_fate}
 use Rattle.fx_leaf.specs.SoundLeaves.{Met, met_along, met_fate, OneCounted, NoneCounted}
 use Rattle.fx_leaf.proofs.FateLaws.{all_never}
 use Rattle.fx_leaf.specs.Certificates.{AllAsWanted, Tree, Leaf, Uncounted, Split, SoundTree, Sound}
@@ -77,11 +77,11 @@ module _ (net : Net) (fields : Fields) where
   pub never_counted : (path : List Crossing) → packet_fate net fields path ≡ Never → NoneCounted net path fields
   never_counted path h = all_never (met_fate net fields) (met_along net fields 1 path) (ap all_happen (fates_along 1 path) ∙ h)
 
-tree_wanted : (net : Net) (path : List Crossing) (exempt : Bool) (tree : Tree) (region : Bounds) (fields : Fields) → SoundTree net path exempt region tree → holds region fields ≡ true → packet_fate net fields path ≡ wanted exempt
+tree_wanted : (net : Net) (path : List Crossing) (exempt : Bool) (tree : Tree) (region : Bounds) (fields : Fields) → SoundTree net path exempt region tree → holds region fields ≡ true → packet_fate net fields path ≡ wanted_fate exempt
 tree_wanted net path exempt (Leaf crossing point process) region fields sound h =
-    counted_once net fields path crossing point process (sound.1.counted fields h) ∙ sym (ap wanted sound.0)
+    counted_once net fields path crossing point process (sound.1.counted fields h) ∙ sym (ap wanted_fate sound.0)
 tree_wanted net path exempt Uncounted region fields sound h =
-    counted_never net fields path (sound.1.uncounted fields h) ∙ sym (ap wanted sound.0)
+    counted_never net fields path (sound.1.uncounted fields h) ∙ sym (ap wanted_fate sound.0)
 tree_wanted net path exempt (Split axis at below above) region fields sound h =
     elim (cases_lt (slice_index fields (axis_index axis)) at) [
       | inl lt ↦ tree_wanted net path exempt below (below_part region (axis_index axis) at) fields sound.1 (below_holds region fields (axis_index axis) at lt h)

@@ -9,13 +9,15 @@ use Rattle.fx_tables.specs.declared.aggregation.MatchEntry.{MatchEntry}
 use Rattle.fx_tables.specs.Network.{Net, Exporter, Aggregation, Process, at_places, exporters_of, layout_of, takes}
 use Rattle.fx_machine.specs.Acts.{Tally, Send}
 use Rattle.fx_machine.specs.Steps.{take_in, acts_of}
+use Rattle.fx_leaf.specs.declared.regions.Overlap.{Overlap}
+use Rattle.fx_leaf.specs.declared.regions.Overlap.TheVariants.{Whole, Part, Nothing}
 use Rattle.fx_leaf.specs.declared.verdict.Fate.{Fate}
 use Rattle.fx_leaf.specs.declared.verdict.Fate.TheVariants.{Never, Once, Many, Differing, Unassigned}
 use Rattle.fx_leaf.specs.Fates.{FateAt, both, either, all_happen, one_happens, process_fate, destination_fate, send_fate, held_fate, act_fate, coming_fate, fate_within, fate}
 use Rattle.fx_leaf.specs.SoundLeaves.{matches_packet}
-use Rattle.fx_leaf.specs.Standings.{standing, match_fields}
-use Rattle.fx_leaf.specs.Verdicts.{Verdict, VerdictAt, both_judged, all_judged, either_judged, one_judged, where_passed, process_verdict, destination_verdict, send_verdict, sent_verdict, holder_verdict, layout_reads, taken_verdict, tally_verdict, handled_verdict, coming_verdict, verdict_within, verdict}
-use Rattle.fx_leaf.proofs.Standings.{match_tells}
+use Rattle.fx_leaf.specs.Overlaps.{region_overlap, match_fields}
+use Rattle.fx_leaf.specs.Verdicts.{Verdict, VerdictAt, verdict_of_both, verdict_of_all, verdict_of_either, verdict_of_one, overlap_verdict, process_verdict, destination_verdict, send_verdict, sent_verdict, holder_verdict, layout_reads, taken_verdict, tally_verdict, handled_verdict, coming_verdict, verdict_within, verdict}
+use Rattle.fx_leaf.proofs.OverlapsAreRight.{match_overlap_is}
 
 -- ---- fates of lists
 
@@ -191,28 +193,28 @@ pub record Parts (join : Fate → Fate → Fate) (v w : Verdict) (f : Fate) : Ty
 some_same : {A : Type 0} {x y : A} → Some x ≡ Some y → x ≡ y
 some_same h = cc
 
-pub both_parts : (v w : Verdict) (f : Fate) → both_judged v w ≡ Some f → Parts both v w f
+pub both_parts : (v w : Verdict) (f : Fate) → verdict_of_both v w ≡ Some f → Parts both v w f
 both_parts None w f h = absurd (cc)
 both_parts (Some a) None f h = absurd (cc)
 both_parts (Some a) (Some b) f h = record { one = a; other = b; one_is = refl; other_is = refl; joined = some_same h }
 
-pub either_parts : (v w : Verdict) (f : Fate) → either_judged v w ≡ Some f → Parts either v w f
+pub either_parts : (v w : Verdict) (f : Fate) → verdict_of_either v w ≡ Some f → Parts either v w f
 either_parts None w f h = absurd (cc)
 either_parts (Some a) None f h = absurd (cc)
 either_parts (Some a) (Some b) f h = record { one = a; other = b; one_is = refl; other_is = refl; joined = some_same h }
 
 module _ {A : Type 0} (v : A → Verdict) (g : A → Fate) (each : (x : A) (f : Fate) → v x ≡ Some f → g x ≡ f) where
-  pub all_said : (xs : List A) (f : Fate) → all_judged (map v xs) ≡ Some f → all_happen (map g xs) ≡ f
+  pub all_said : (xs : List A) (f : Fate) → verdict_of_all (map v xs) ≡ Some f → all_happen (map g xs) ≡ f
   all_said [] f h = some_same h
   all_said (x ∷ xs) f h =
-      let p = both_parts (v x) (all_judged (map v xs)) f h in
+      let p = both_parts (v x) (verdict_of_all (map v xs)) f h in
       ap₂ both (each x p.one p.one_is) (all_said xs p.other p.other_is) ∙ p.joined
 
-  pub one_said : (xs : List A) (f : Fate) → one_judged (map v xs) ≡ Some f → one_happens (map g xs) ≡ f
+  pub one_said : (xs : List A) (f : Fate) → verdict_of_one (map v xs) ≡ Some f → one_happens (map g xs) ≡ f
   one_said [] f h = some_same h
   one_said (x ∷ []) f h = each x f h
   one_said (x ∷ y ∷ xs) f h =
-      let p = either_parts (v x) (one_judged (map v (y ∷ xs))) f h in
+      let p = either_parts (v x) (verdict_of_one (map v (y ∷ xs))) f h in
       ap₂ either (each x p.one p.one_is) (one_said (y ∷ xs) p.other p.other_is) ∙ p.joined
 
 -- ---- records of one layout, whose key at each collecting process has the fate that the verdict says
@@ -230,7 +232,7 @@ module _ (net : Net) (at : VerdictAt) (fates : FateAt) (layout : Layout) (key : 
   send_said e f h =
       let vs = map (destination_verdict at net layout) e.destinations in
       let gs = map (destination_fate fates net key) e.destinations in
-      elim e.parallel as (λ t. cond t (all_judged vs) (one_judged vs) ≡ Some f → cond t (all_happen gs) (one_happens gs) ≡ f) [
+      elim e.parallel as (λ t. cond t (verdict_of_all vs) (verdict_of_one vs) ≡ Some f → cond t (all_happen gs) (one_happens gs) ≡ f) [
         | true ↦ λ k. all_said (destination_verdict at net layout) (destination_fate fates net key) destination_said e.destinations f k
         | false ↦ λ k. one_said (destination_verdict at net layout) (destination_fate fates net key) destination_said e.destinations f k
       ] h
@@ -290,23 +292,23 @@ module _ (net : Net) (fits : (holder : ℕ) → Fits (layout_of (slice_get net.h
     abbrev taken_fate : Layout → Aggregation → Fate
     taken_fate layout a = if takes net (key_of layout fields) a then act_fate fates net (take_in net (key_of layout fields) a) else Never
 
-    passed_said : (layout : Layout) (a : Aggregation) (f : Fate) → Fits layout → layout_reads net layout a ≡ true → (o : Option Bool) → standing region (match_fields a.matches) ≡ o → where_passed o (holder_verdict at net a.holder) ≡ Some f → taken_fate layout a ≡ f
-    passed_said layout a f l r None e h = absurd (cc)
-    passed_said layout a f l r (Some true) e h =
+    passed_said : (layout : Layout) (a : Aggregation) (f : Fate) → Fits layout → layout_reads net layout a ≡ true → (o : Overlap) → region_overlap region (match_fields a.matches) ≡ o → overlap_verdict o (holder_verdict at net a.holder) ≡ Some f → taken_fate layout a ≡ f
+    passed_said layout a f l r Part e h = absurd (cc)
+    passed_said layout a f l r Whole e h =
         let own = layout_of (slice_get net.holders a.holder) in
-        let passes = (match_tells region a.matches is_region).passes true e fields here in
+        let passes = (match_overlap_is region a.matches is_region).whole e fields here in
         let on : takes net (key_of layout fields) a ≡ true = takes_read net layout fields a l r ∙ passes in
         let two = and_true (refines layout own) (list_all (λ e. reads layout e.axis e.bits) a.matches) r in
         ap (λ t. cond t (act_fate fates net (take_in net (key_of layout fields) a)) Never) on ∙ ap (λ k. held_fate fates net k (slice_get net.holders a.holder)) (project_key layout own fields l two.0) ∙ holder_said a.holder f h
-    passed_said layout a f l r (Some false) e h =
-        let fails = (match_tells region a.matches is_region).passes false e fields here in
+    passed_said layout a f l r Nothing e h =
+        let fails = (match_overlap_is region a.matches is_region).nothing e fields here in
         let off : takes net (key_of layout fields) a ≡ false = takes_read net layout fields a l r ∙ fails in
         ap (λ t. cond t (act_fate fates net (take_in net (key_of layout fields) a)) Never) off ∙ some_same h
 
     taken_said : (layout : Layout) → Fits layout → (a : Aggregation) (f : Fate) → taken_verdict at net region layout a ≡ Some f → taken_fate layout a ≡ f
     taken_said layout l a f h =
-        elim (layout_reads net layout a) as (λ t. layout_reads net layout a ≡ t → cond t (where_passed (standing region (match_fields a.matches)) (holder_verdict at net a.holder)) (Some Never) ≡ Some f → taken_fate layout a ≡ f) [
-          | true ↦ λ r k. passed_said layout a f l r (standing region (match_fields a.matches)) refl k
+        elim (layout_reads net layout a) as (λ t. layout_reads net layout a ≡ t → cond t (overlap_verdict (region_overlap region (match_fields a.matches)) (holder_verdict at net a.holder)) (Some Never) ≡ Some f → taken_fate layout a ≡ f) [
+          | true ↦ λ r k. passed_said layout a f l r (region_overlap region (match_fields a.matches)) refl k
           | false ↦ λ r k. ap (λ t. cond t (act_fate fates net (take_in net (key_of layout fields) a)) Never) (takes_unread net layout fields a r) ∙ some_same k
         ] refl h
 
@@ -315,7 +317,7 @@ module _ (net : Net) (fits : (holder : ℕ) → Fits (layout_of (slice_get net.h
     handled_said layout l (Some process) f h =
         let key = key_of layout fields in
         let es = at_places net.exporters process.exporters in
-        let p = both_parts (sent_verdict at net layout es) (all_judged (map (taken_verdict at net region layout) process.aggregations)) f h in
+        let p = both_parts (sent_verdict at net layout es) (verdict_of_all (map (taken_verdict at net region layout) process.aggregations)) f h in
         let sends = happen_map (act_fate fates net) (λ e. Send e key) es ∙ sent_said net at fates layout key (λ q. λ g. says q layout g l) es p.one p.one_is in
         let takings = happen_filter (act_fate fates net) (take_in net key) (takes net key) process.aggregations ∙ all_said (taken_verdict at net region layout) (taken_fate layout) (taken_said layout l) process.aggregations p.other p.other_is in
         happen_append (act_fate fates net) (map (λ e. Send e key) es) (map (take_in net key) (filter (takes net key) process.aggregations)) ∙ ap₂ both sends takings ∙ p.joined

@@ -9,8 +9,8 @@ use Rattle.fx_leaf.specs.declared.verdict.Fate.{Fate}
 use Rattle.fx_leaf.specs.declared.verdict.Fate.TheVariants.{Once, Never}
 use Rattle.fx_leaf.specs.Fates.{packet_fate}
 use Rattle.fx_leaf.specs.SoundLeaves.{SelectionsUncut, MatchesUncut, SoundLeaf, SoundNever}
-use Rattle.fx_leaf.specs.Verdicts.{Seen, path_verdict, counted}
-use Rattle.fx_leaf.specs.Reach.{Marked, IsClosed, IsVerdict, Agrees}
+use Rattle.fx_leaf.specs.Verdicts.{SelectionVerdict, path_verdict, counter}
+use Rattle.fx_leaf.specs.Reach.{IsMarked, IsClosed, IsVerdict, Agrees}
 use Rattle.fx_leaf.specs.Tables.{Numbering, Numbers, Table}
 
 -- nothing cuts the region
@@ -31,15 +31,15 @@ NoneIsCut net path region = path_verdict net region path ≡ None → NothingCut
 abbrev pub SomeIsFate : Net → List Crossing → Bounds → Type 0
 SomeIsFate net path region = (f : Fate) → path_verdict net region path ≡ Some f → NothingCuts net path region × AllHave net path region f
 
--- where it is once, the selection process told makes a sound leaf
+-- where it is once, its counter makes a sound leaf
 abbrev pub OnceIsSound : Net → List Crossing → Bounds → Type 0
 OnceIsSound net path region =
-    path_verdict net region path ≡ Some Once → (s : Seen) × (counted net region path ≡ Some s) × SoundLeaf net path region s.crossing s.point s.process
+    path_verdict net region path ≡ Some Once → (s : SelectionVerdict) × (counter net region path ≡ Some s) × SoundLeaf net path region s.crossing s.point s.process
 
 -- and there is no other
 abbrev pub NoOtherIsSound : Net → List Crossing → Bounds → Type 0
 NoOtherIsSound net path region =
-    (crossing point process : ℕ) → SoundLeaf net path region crossing point process → (path_verdict net region path ≡ Some Once) × ((s : Seen) → counted net region path ≡ Some s → (s.crossing ≡ crossing) × (s.point ≡ point) × (s.process ≡ process))
+    (crossing point process : ℕ) → SoundLeaf net path region crossing point process → (path_verdict net region path ≡ Some Once) × ((s : SelectionVerdict) → counter net region path ≡ Some s → (s.crossing ≡ crossing) × (s.point ≡ point) × (s.process ≡ process))
 
 -- where it is never, and only there, no packet of the region is counted
 abbrev pub NeverIsSound : Net → List Crossing → Bounds → Type 0
@@ -48,12 +48,12 @@ NeverIsSound net path region = path_verdict net region path ≡ Some Never → S
 abbrev pub SoundIsNever : Net → List Crossing → Bounds → Type 0
 SoundIsNever net path region = SoundNever net path region → path_verdict net region path ≡ Some Never
 
-abbrev pub Judges : (Net → List Crossing → Bounds → Type 0) → Type 0
-Judges says = (net : Net) (path : List Crossing) (region : Bounds) → IsNetwork net → IsRegion region → says net path region
+abbrev pub OnEveryRegion : (Net → List Crossing → Bounds → Type 0) → Type 0
+OnEveryRegion says = (net : Net) (path : List Crossing) (region : Bounds) → IsNetwork net → IsRegion region → says net path region
 
 -- ---- tables
 
 -- a table whose marked entries agree with those that they are worked out from has the verdicts there
 abbrev pub TableIsVerdicts : Type 0
 TableIsVerdicts =
-    (net : Net) (n : Numbering) (region : Bounds) (marks : List ℕ) (table : Table) → IsRanked net → Numbers net n → net.report < length net.processes → length table ≡ length net.processes → IsClosed net n marks → Agrees net n region marks table → (process number : ℕ) → Marked marks process number → IsVerdict net n region table process number
+    (net : Net) (n : Numbering) (region : Bounds) (marks : List ℕ) (table : Table) → IsRanked net → Numbers net n → net.report < length net.processes → length table ≡ length net.processes → IsClosed net n marks → Agrees net n region marks table → (process number : ℕ) → IsMarked marks process number → IsVerdict net n region table process number

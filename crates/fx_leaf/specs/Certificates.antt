@@ -7,7 +7,7 @@ use Rattle.fx_tables.specs.declared.traffic.Crossing.{Crossing}
 use Rattle.fx_tables.specs.Network.{Net, entries}
 use Rattle.fx_base.specs.Entries.{numbered}
 use Rattle.fx_tables.specs.Classes.{Class}
-use Rattle.fx_leaf.specs.Fates.{packet_fate, wanted}
+use Rattle.fx_leaf.specs.Fates.{packet_fate, wanted_fate}
 use Rattle.fx_leaf.specs.SoundLeaves.{SoundLeaf, SoundNever}
 
 pub data Tree : Type 0 where
@@ -30,4 +30,4 @@ Sound net classes trees =
 -- each packet of a class, on each of its paths, has the fate that the class wants
 abbrev pub AllAsWanted : Net → List Class → Type 0
 AllAsWanted net classes =
-    (c m : ℕ) (class : Class) (path : List Crossing) (fields : Fields) → numbered classes c ≡ Some class → numbered class.paths m ≡ Some path → holds class.region fields ≡ true → packet_fate net fields path ≡ wanted class.exempt
+    (c m : ℕ) (class : Class) (path : List Crossing) (fields : Fields) → numbered classes c ≡ Some class → numbered class.paths m ≡ Some path → holds class.region fields ≡ true → packet_fate net fields path ≡ wanted_fate class.exempt

@@ -101,8 +101,8 @@ acts_along net fields [] = []
 acts_along net fields (c ∷ cs) = crossing_acts net fields (Some c) ++ acts_along net fields cs
 
 -- what is wanted of a packet: an exempt one is never to be counted
-abbrev pub wanted : Bool → Fate
-wanted exempt = if exempt then Never else Once
+abbrev pub wanted_fate : Bool → Fate
+wanted_fate exempt = if exempt then Never else Once
 
 -- its occurrences over its whole path all happen
 abbrev pub packet_fate : Net → Fields → List Crossing → Fate

@@ -3,8 +3,8 @@ use Rattle.std.specs.Prelude.{List}
 use Rattle.fx_boxes.specs.Boxes.{Bounds}
 use Rattle.fx_tables.specs.declared.traffic.Crossing.{Crossing}
 use Rattle.fx_tables.specs.Network.{Net}
-use Rattle.fx_leaf.specs.declared.judging.Judgement.{Judgement}
-use Rattle.fx_leaf.specs.declared.judging.Judgement.TheVariants.{Cut, Once, Never, Many, Differing, Unassigned}
+use Rattle.fx_leaf.specs.declared.judgement.Judgement.{Judgement}
+use Rattle.fx_leaf.specs.declared.judgement.Judgement.TheVariants.{Cut, Once, Never, Many, Differing, Unassigned}
 use Rattle.fx_leaf.specs.declared.verdict.Fate.TheVariants as fates
 use Rattle.fx_leaf.specs.Answers.{NothingCuts, AllHave}
 use Rattle.fx_leaf.specs.SoundLeaves.{SoundLeaf, SoundNever}

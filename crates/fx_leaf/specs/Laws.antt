@@ -31,8 +31,8 @@ OpensModulo net classes =
     (packets : List Packet) → All (λ p. IsOf p (numbered classes p.class)) packets → (total : Key) → wrapped_weight (quantity net classes packets total (opening net classes packets)) ≡ total_weight (option_map wrapped (plain_sum net.report_layout total (to_count classes packets)))
 
 -- a step keeps it, where nothing has gone wrong before
-abbrev pub Kept : Net → List Class → Step → Type 0
-Kept net classes step =
+abbrev pub Keeps : Net → List Class → Step → Type 0
+Keeps net classes step =
     (packets : List Packet) (total : Key) (s new : State) → IsSized net s → quantity net classes packets total s ≢ Wrong → after net classes packets step s ≡ Ok new → (quantity net classes packets total new ≡ quantity net classes packets total s) × IsSized net new
 
 -- in a complete state it is the totals

@@ -7,25 +7,25 @@ use Rattle.fx_boxes.specs.Boxes.{Bounds}
 use Rattle.fx_tables.specs.declared.traffic.Crossing.{Crossing}
 use Rattle.fx_tables.specs.Network.{Net}
 use Rattle.fx_leaf.specs.declared.leaf.Counted.{Counted}
-use Rattle.fx_leaf.specs.declared.path.Told.{Told}
+use Rattle.fx_leaf.specs.declared.path.PathFate.{PathFate}
 use Rattle.fx_leaf.specs.declared.verdict.Fate.TheVariants.{Never, Once, Many, Differing, Unassigned}
 use Rattle.fx_leaf.specs.Answers.{NothingCuts, AllHave}
-use Rattle.fx_leaf.specs.Verdicts.{Verdict, Seen, both_judged, all_judged, counted_from, path_verdict, counted}
+use Rattle.fx_leaf.specs.Verdicts.{Verdict, SelectionVerdict, verdict_of_both, verdict_of_all, last_counter, path_verdict, counter}
 
 -- the numbers of a selection process, if there is one
-abbrev pub named : Option Seen → Option Counted
-named None = None
-named (Some s) = Some (record { crossing = s.crossing; point = s.point; process = s.process })
+abbrev pub numbers_of : Option SelectionVerdict → Option Counted
+numbers_of None = None
+numbers_of (Some s) = Some (record { crossing = s.crossing; point = s.point; process = s.process })
 
--- what is told once these were seen too, none of which is cut: all of them together, and the last that is counted once
-pub record Seeing (before after : Told) (seen : List Seen) : Type 0 where
-  pub verdict : Some after.fate ≡ both_judged (Some before.fate) (all_judged (map (λ s. s.verdict) seen))
-  pub counted : (found : Option Seen) → before.counted ≡ named found → after.counted ≡ named (counted_from found seen)
+-- what is known with these verdicts too, none of which is cut: all of them together, and the last that is once
+pub record AddsVerdicts (before after : PathFate) (verdicts : List SelectionVerdict) : Type 0 where
+  pub verdict : Some after.fate ≡ verdict_of_both (Some before.fate) (verdict_of_all (map (λ s. s.verdict) verdicts))
+  pub counted : (found : Option SelectionVerdict) → before.counted ≡ numbers_of found → after.counted ≡ numbers_of (last_counter found verdicts)
 
--- what is told of the packets of a region on a path
-pub record IsTold (net : Net) (path : List Crossing) (region : Bounds) (t : Told) : Type 0 where
+-- what is known of the packets of a region on a path
+pub record IsPathFate (net : Net) (path : List Crossing) (region : Bounds) (t : PathFate) : Type 0 where
   pub verdict : Some t.fate ≡ path_verdict net region path
-  pub counted : t.counted ≡ named (counted net region path)
+  pub counted : t.counted ≡ numbers_of (counter net region path)
 
 -- ---- the answer
 
@@ -49,8 +49,8 @@ leaf_of (Some Once) None = Err (fault_of (Some Once))
 leaf_of (Some Once) (Some c) = Ok c
 
 -- the answer for the packets of a region on a path
-abbrev pub leaf_told : Net → List Crossing → Bounds → Result Counted Fault
-leaf_told net path region = leaf_of (path_verdict net region path) (named (counted net region path))
+abbrev pub path_leaf : Net → List Crossing → Bounds → Result Counted Fault
+path_leaf net path region = leaf_of (path_verdict net region path) (numbers_of (counter net region path))
 
 -- why no leaf is sound for the region, by number
 pub data NoneIsSound (net : Net) (path : List Crossing) (region : Bounds) : Fault → Type 0 where

@@ -3,12 +3,12 @@ pub mod SoundLeaves
 pub mod Certificates
 pub mod Quantity
 pub mod Laws
-pub mod Standings
+pub mod Overlaps
 pub mod Verdicts
 pub mod Tables
 pub mod Answers
 pub mod Leaves
 pub mod Splits
-pub mod Lost
+pub mod Causes
 pub mod Judgements
 pub mod Reach

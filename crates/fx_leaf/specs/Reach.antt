@@ -14,12 +14,12 @@ use Rattle.fx_leaf.specs.Tables.{Numbering, Table, number_of_layout, entry, entr
 use Rattle.fx_leaf.specs.Verdicts.{verdict}
 
 -- the layout of this number is marked at the collecting process
-abbrev pub Marked : List ℕ → ℕ → ℕ → Type 0
-Marked marks process number = bit_at (slice_index marks process) number ≡ 1
+abbrev pub IsMarked : List ℕ → ℕ → ℕ → Type 0
+IsMarked marks process number = bit_at (slice_index marks process) number ≡ 1
 
 -- what is marked stays so
-abbrev pub Grown : List ℕ → List ℕ → Type 0
-Grown old new = (process number : ℕ) → Marked old process number → Marked new process number
+abbrev pub KeepsMarks : List ℕ → List ℕ → Type 0
+KeepsMarks old new = (process number : ℕ) → IsMarked old process number → IsMarked new process number
 
 -- one of these exporting processes sends to the collecting process
 pub record Feeds (net : Net) (exporters : List Exporter) (process : ℕ) : Type 0 where
@@ -33,42 +33,42 @@ pub record Feeds (net : Net) (exporters : List Exporter) (process : ℕ) : Type 
 -- ---- of collecting processes and layouts by number: what holds wherever records come
 
 -- wherever these exporting processes send records of the layout of this number
-abbrev pub Sent : Net → (ℕ → ℕ → Type 0) → ℕ → List Exporter → Type 0
-Sent net holds number exporters = (process : ℕ) → Feeds net exporters process → holds process number
+abbrev pub HoldsWhereSent : Net → (ℕ → ℕ → Type 0) → ℕ → List Exporter → Type 0
+HoldsWhereSent net holds number exporters = (process : ℕ) → Feeds net exporters process → holds process number
 
 -- wherever the records of a holder are sent
-abbrev pub SentByHolder : Net → Numbering → (ℕ → ℕ → Type 0) → ℕ → Type 0
-SentByHolder net n holds holder = Sent net holds (number_of_layout n holder) (exporters_of net (slice_get net.holders holder))
+abbrev pub HoldsBehindHolder : Net → Numbering → (ℕ → ℕ → Type 0) → ℕ → Type 0
+HoldsBehindHolder net n holds holder = HoldsWhereSent net holds (number_of_layout n holder) (exporters_of net (slice_get net.holders holder))
 
 -- wherever a collecting process sends records of the layout of this number, or its aggregations send theirs
-abbrev pub SentOn : Net → Numbering → (ℕ → ℕ → Type 0) → ℕ → Process → Type 0
-SentOn net n holds number process =
-    Sent net holds number (at_places net.exporters process.exporters) × ((a : Aggregation) → Contains process.aggregations a → SentByHolder net n holds a.holder)
+abbrev pub HoldsBehindProcess : Net → Numbering → (ℕ → ℕ → Type 0) → ℕ → Process → Type 0
+HoldsBehindProcess net n holds number process =
+    HoldsWhereSent net holds number (at_places net.exporters process.exporters) × ((a : Aggregation) → Contains process.aggregations a → HoldsBehindHolder net n holds a.holder)
 
-abbrev pub SentFrom : Net → Numbering → (ℕ → ℕ → Type 0) → ℕ → Option Process → Type 0
-SentFrom net n holds number None = Unit {0}
-SentFrom net n holds number (Some process) = SentOn net n holds number process
+abbrev pub HoldsBehind : Net → Numbering → (ℕ → ℕ → Type 0) → ℕ → Option Process → Type 0
+HoldsBehind net n holds number None = Unit {0}
+HoldsBehind net n holds number (Some process) = HoldsBehindProcess net n holds number process
 
 -- wherever records of packets that take a path are sent first
-abbrev pub SentBySelection : Net → Numbering → (ℕ → ℕ → Type 0) → Selection → Type 0
-SentBySelection net n holds s = (holder : ℕ) → s.holder ≡ Some holder → SentByHolder net n holds holder
+abbrev pub HoldsBehindSelection : Net → Numbering → (ℕ → ℕ → Type 0) → Selection → Type 0
+HoldsBehindSelection net n holds s = (holder : ℕ) → s.holder ≡ Some holder → HoldsBehindHolder net n holds holder
 
-abbrev pub SentAmong : Net → Numbering → (ℕ → ℕ → Type 0) → List Selection → Type 0
-SentAmong net n holds selections = (s : Selection) → Contains selections s → SentBySelection net n holds s
+abbrev pub HoldsBehindSelections : Net → Numbering → (ℕ → ℕ → Type 0) → List Selection → Type 0
+HoldsBehindSelections net n holds selections = (s : Selection) → Contains selections s → HoldsBehindSelection net n holds s
 
-abbrev pub SentAt : Net → Numbering → (ℕ → ℕ → Type 0) → List Point → Crossing → Type 0
-SentAt net n holds points crossing =
-    (p : Point) → Contains points p → watches p crossing ≡ true → SentAmong net n holds p.selections
+abbrev pub HoldsBehindPoints : Net → Numbering → (ℕ → ℕ → Type 0) → List Point → Crossing → Type 0
+HoldsBehindPoints net n holds points crossing =
+    (p : Point) → Contains points p → watches p crossing ≡ true → HoldsBehindSelections net n holds p.selections
 
-abbrev pub SentAlong : Net → Numbering → (ℕ → ℕ → Type 0) → List Crossing → Type 0
-SentAlong net n holds path = (s : Selection) → Meets net path s → SentBySelection net n holds s
+abbrev pub HoldsAlongPath : Net → Numbering → (ℕ → ℕ → Type 0) → List Crossing → Type 0
+HoldsAlongPath net n holds path = (s : Selection) → Meets net path s → HoldsBehindSelection net n holds s
 
 -- ---- what is marked, and what is filled in there
 
 -- where a layout is marked, all is marked to which its records lead
 abbrev pub IsClosed : Net → Numbering → List ℕ → Type 0
 IsClosed net n marks =
-    (process number : ℕ) (p : Process) → Marked marks process number → slice_get net.processes process ≡ Some p → SentOn net n (Marked marks) number p
+    (process number : ℕ) (p : Process) → IsMarked marks process number → slice_get net.processes process ≡ Some p → HoldsBehindProcess net n (IsMarked marks) number p
 
 -- the entry is the verdict
 abbrev pub IsVerdict : Net → Numbering → Bounds → Table → ℕ → ℕ → Type 0
@@ -78,59 +78,59 @@ IsVerdict net n region table process number =
 -- the entries that are marked are what those that they are worked out from give
 abbrev pub Agrees : Net → Numbering → Bounds → List ℕ → Table → Type 0
 Agrees net n region marks table =
-    (process number : ℕ) (layout : Layout) → Marked marks process number → slice_get n.layouts number ≡ Some layout → entry table process number ≡ entry_from table net n region process number layout
+    (process number : ℕ) (layout : Layout) → IsMarked marks process number → slice_get n.layouts number ≡ Some layout → entry table process number ≡ entry_from table net n region process number layout
 
 -- the entries that are marked are the verdicts
 pub record IsFilled (net : Net) (n : Numbering) (region : Bounds) (marks : List ℕ) (table : Table) : Type 0 where
   pub size : length table ≡ length net.processes
   pub closed : IsClosed net n marks
-  pub verdicts : (process number : ℕ) → Marked marks process number → IsVerdict net n region table process number
+  pub verdicts : (process number : ℕ) → IsMarked marks process number → IsVerdict net n region table process number
 
 -- ---- marks are added
 
 -- these layouts too, at a collecting process
-abbrev pub marked_at : ℕ → List ℕ → Option ℕ → List ℕ
-marked_at layouts marks None = marks
-marked_at layouts marks (Some process) = slice_set marks process (bit_or (slice_index marks process) layouts)
+abbrev pub marks_at : ℕ → List ℕ → Option ℕ → List ℕ
+marks_at layouts marks None = marks
+marks_at layouts marks (Some process) = slice_set marks process (bit_or (slice_index marks process) layouts)
 
 -- at the one to which a destination leads
-abbrev pub marked_behind : Net → ℕ → List ℕ → Option ℕ → List ℕ
-marked_behind net layouts marks None = marks
-marked_behind net layouts marks (Some link) = marked_at layouts marks (slice_get net.links link)
+abbrev pub marks_behind : Net → ℕ → List ℕ → Option ℕ → List ℕ
+marks_behind net layouts marks None = marks
+marks_behind net layouts marks (Some link) = marks_at layouts marks (slice_get net.links link)
 
 -- at all to which destinations lead
-abbrev pub marked_to : Net → ℕ → List ℕ → List (Option ℕ) → List ℕ
-marked_to net layouts marks [] = marks
-marked_to net layouts marks (d ∷ ds) = marked_to net layouts (marked_behind net layouts marks d) ds
+abbrev pub marks_to : Net → ℕ → List ℕ → List (Option ℕ) → List ℕ
+marks_to net layouts marks [] = marks
+marks_to net layouts marks (d ∷ ds) = marks_to net layouts (marks_behind net layouts marks d) ds
 
 -- at all to which exporting processes send
-abbrev pub marked_by : Net → ℕ → List ℕ → List Exporter → List ℕ
-marked_by net layouts marks [] = marks
-marked_by net layouts marks (e ∷ es) = marked_by net layouts (marked_to net layouts marks e.destinations) es
+abbrev pub marks_by : Net → ℕ → List ℕ → List Exporter → List ℕ
+marks_by net layouts marks [] = marks
+marks_by net layouts marks (e ∷ es) = marks_by net layouts (marks_to net layouts marks e.destinations) es
 
 -- the layout of a holder, where its records are sent
-abbrev pub marked_by_holder : Net → Numbering → List ℕ → ℕ → List ℕ
-marked_by_holder net n marks holder =
-    marked_by net (2 ^ number_of_layout n holder) marks (exporters_of net (slice_get net.holders holder))
+abbrev pub marks_by_holder : Net → Numbering → List ℕ → ℕ → List ℕ
+marks_by_holder net n marks holder =
+    marks_by net (2 ^ number_of_layout n holder) marks (exporters_of net (slice_get net.holders holder))
 
-abbrev pub marked_by_holders : Net → Numbering → List ℕ → List ℕ → List ℕ
-marked_by_holders net n marks [] = marks
-marked_by_holders net n marks (holder ∷ holders) = marked_by_holders net n (marked_by_holder net n marks holder) holders
+abbrev pub marks_by_holders : Net → Numbering → List ℕ → List ℕ → List ℕ
+marks_by_holders net n marks [] = marks
+marks_by_holders net n marks (holder ∷ holders) = marks_by_holders net n (marks_by_holder net n marks holder) holders
 
 -- the layouts that are marked at a collecting process, where it sends records on, and those of its aggregations
-abbrev pub marked_on : Net → Numbering → ℕ → List ℕ → Option Process → List ℕ
-marked_on net n layouts marks None = marks
-marked_on net n layouts marks (Some process) =
-    marked_by_holders net n (marked_by net layouts marks (at_places net.exporters process.exporters)) (map (λ a. a.holder) process.aggregations)
+abbrev pub marks_on : Net → Numbering → ℕ → List ℕ → Option Process → List ℕ
+marks_on net n layouts marks None = marks
+marks_on net n layouts marks (Some process) =
+    marks_by_holders net n (marks_by net layouts marks (at_places net.exporters process.exporters)) (map (λ a. a.holder) process.aggregations)
 
-abbrev pub marked_from : Net → Numbering → List ℕ → ℕ → List ℕ
-marked_from net n marks process =
-    if slice_index marks process == 0 then marks else marked_on net n (slice_index marks process) marks (slice_get net.processes process)
+abbrev pub marks_from : Net → Numbering → List ℕ → ℕ → List ℕ
+marks_from net n marks process =
+    if slice_index marks process == 0 then marks else marks_on net n (slice_index marks process) marks (slice_get net.processes process)
 
 -- on from these collecting processes, the last first
 abbrev pub spread : Net → Numbering → List ℕ → List ℕ → List ℕ
 spread net n [] marks = marks
-spread net n (process ∷ processes) marks = marked_from net n (spread net n processes marks) process
+spread net n (process ∷ processes) marks = marks_from net n (spread net n processes marks) process
 
 -- ---- the holders of records of packets that take a path
 

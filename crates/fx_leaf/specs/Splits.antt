@@ -12,8 +12,8 @@ use Rattle.fx_machine.specs.Acts.{Hold}
 use Rattle.fx_tables.specs.Occurrences.{watches}
 use Rattle.fx_leaf.specs.Fates.{acts_along}
 use Rattle.fx_leaf.specs.SoundLeaves.{Uncut, Reached, can_read, matches_packet}
-use Rattle.fx_leaf.specs.Standings.{low_at, high_at, match_fields}
-use Rattle.fx_leaf.specs.Verdicts.{Verdict, Seen, all_judged}
+use Rattle.fx_leaf.specs.Overlaps.{low_at, high_at, match_fields}
+use Rattle.fx_leaf.specs.Verdicts.{Verdict, SelectionVerdict, verdict_of_all}
 
 -- a low of a region, or one above a high
 abbrev pub IsBound : Bounds → Axis → ℕ → Type 0
@@ -29,7 +29,7 @@ pub record Meets (net : Net) (path : List Crossing) (s : Selection) : Type 0 whe
   pub crossing : Crossing
   pub point : Point
   pub crosses : Contains path crossing
-  pub seen : Contains (points_of (numbered net.devices crossing.device)) point
+  pub there : Contains (points_of (numbered net.devices crossing.device)) point
   pub watched : watches point crossing ≡ true
   pub among : Contains point.selections s
 
@@ -48,7 +48,7 @@ pub data IsSplit (net : Net) (path : List Crossing) (region : Bounds) (axis : Ax
   of_selection : (s : Selection) (other : Bounds) → Meets net path s → s.holder ≢ None → s.region ≡ Some other → (Uncut region (holds other) → ⊥) → IsSplitBy region other axis at → IsSplit net path region axis at
   of_match : (a : Aggregation) → Reaches net path region a → (Uncut region (matches_packet a.matches) → ⊥) → IsSplitBy region (match_fields a.matches) axis at → IsSplit net path region axis at
 
--- ---- what its parts tell
+-- ---- what its parts say
 
 -- on this axis no bound of the second region is strictly inside the first
 pub record NoSplitBy (region other : Bounds) (axis : Axis) : Type 0 where
@@ -56,8 +56,8 @@ pub record NoSplitBy (region other : Bounds) (axis : Axis) : Type 0 where
   pub high : IsStrictlyInside region (axis_index axis) (high_at other axis + 1) → ⊥
 
 -- the verdicts of all of these together
-abbrev pub judged : List Seen → Verdict
-judged seen = all_judged (map (λ s. s.verdict) seen)
+abbrev pub joint_verdict : List SelectionVerdict → Verdict
+joint_verdict verdicts = verdict_of_all (map (λ s. s.verdict) verdicts)
 
 -- the least packet of the region comes to be held there
 abbrev pub HeldAlong : Net → List Crossing → Bounds → ℕ → Type 0

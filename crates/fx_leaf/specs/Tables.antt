@@ -9,8 +9,8 @@ use Rattle.fx_tables.specs.Ranks.{IsNetwork}
 use Rattle.fx_tables.specs.Orders.{Descends}
 use Rattle.fx_tables.specs.Matches.{HasEntries}
 use Rattle.fx_leaf.specs.declared.verdict.Fate.TheVariants.{Never}
-use Rattle.fx_leaf.specs.Standings.{standing, match_fields}
-use Rattle.fx_leaf.specs.Verdicts.{Verdict, both_judged, all_judged, where_passed, sent_verdict, layout_reads, tally_verdict}
+use Rattle.fx_leaf.specs.Overlaps.{region_overlap, match_fields}
+use Rattle.fx_leaf.specs.Verdicts.{Verdict, verdict_of_both, verdict_of_all, overlap_verdict, sent_verdict, layout_reads, tally_verdict}
 
 -- ---- layouts by number
 
@@ -53,17 +53,17 @@ entry table process layout = entry_in (slice_get table process) layout
 abbrev pub taken_entry : Table → Net → Numbering → Bounds → Layout → Aggregation → Verdict
 taken_entry table net n region layout a =
     if layout_reads net layout a
-    then where_passed (standing region (match_fields a.matches)) (sent_verdict (entry table) net (number_of_layout n a.holder) (exporters_of net (slice_get net.holders a.holder)))
+    then overlap_verdict (region_overlap region (match_fields a.matches)) (sent_verdict (entry table) net (number_of_layout n a.holder) (exporters_of net (slice_get net.holders a.holder)))
     else Some Never
 
 abbrev pub handled_entry : Table → Net → Numbering → Bounds → ℕ → Layout → Option Process → Verdict
 handled_entry table net n region number layout None = Some Never
 handled_entry table net n region number layout (Some process) =
-    both_judged (sent_verdict (entry table) net number (at_places net.exporters process.exporters)) (all_judged (map (taken_entry table net n region layout) process.aggregations))
+    verdict_of_both (sent_verdict (entry table) net number (at_places net.exporters process.exporters)) (verdict_of_all (map (taken_entry table net n region layout) process.aggregations))
 
 abbrev pub entry_from : Table → Net → Numbering → Bounds → ℕ → ℕ → Layout → Verdict
 entry_from table net n region process number layout =
-    both_judged (tally_verdict net layout process) (handled_entry table net n region number layout (slice_get net.processes process))
+    verdict_of_both (tally_verdict net layout process) (handled_entry table net n region number layout (slice_get net.processes process))
 
 -- ---- what a plan lends
 

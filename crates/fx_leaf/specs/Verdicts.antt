@@ -8,10 +8,12 @@ use Rattle.fx_tables.specs.declared.traffic.Crossing.{Crossing}
 use Rattle.fx_tables.specs.Network.{Net, Point, Exporter, Aggregation, Process, points_of, at_places, exporters_of, layout_of}
 use Rattle.fx_base.specs.Entries.{numbered}
 use Rattle.fx_tables.specs.Occurrences.{watches}
+use Rattle.fx_leaf.specs.declared.regions.Overlap.{Overlap}
+use Rattle.fx_leaf.specs.declared.regions.Overlap.TheVariants.{Whole, Part, Nothing}
 use Rattle.fx_leaf.specs.declared.verdict.Fate.{Fate}
 use Rattle.fx_leaf.specs.declared.verdict.Fate.TheVariants.{Never, Once, Unassigned}
 use Rattle.fx_leaf.specs.Fates.{both, either}
-use Rattle.fx_leaf.specs.Standings.{standing, standing_to, match_fields}
+use Rattle.fx_leaf.specs.Overlaps.{region_overlap, selection_overlap, match_fields}
 
 -- the fate of all packets of a region, or none where something cuts the region
 abbrev pub Verdict : Type 0
@@ -19,30 +21,30 @@ Verdict = Option Fate
 
 -- ---- verdicts together: a part that is cut cuts the whole
 
-abbrev pub both_judged : Verdict → Verdict → Verdict
-both_judged None w = None
-both_judged (Some f) None = None
-both_judged (Some f) (Some g) = Some (both f g)
+abbrev pub verdict_of_both : Verdict → Verdict → Verdict
+verdict_of_both None w = None
+verdict_of_both (Some f) None = None
+verdict_of_both (Some f) (Some g) = Some (both f g)
 
-abbrev pub all_judged : List Verdict → Verdict
-all_judged [] = Some Never
-all_judged (v ∷ vs) = both_judged v (all_judged vs)
+abbrev pub verdict_of_all : List Verdict → Verdict
+verdict_of_all [] = Some Never
+verdict_of_all (v ∷ vs) = verdict_of_both v (verdict_of_all vs)
 
-abbrev pub either_judged : Verdict → Verdict → Verdict
-either_judged None w = None
-either_judged (Some f) None = None
-either_judged (Some f) (Some g) = Some (either f g)
+abbrev pub verdict_of_either : Verdict → Verdict → Verdict
+verdict_of_either None w = None
+verdict_of_either (Some f) None = None
+verdict_of_either (Some f) (Some g) = Some (either f g)
 
-abbrev pub one_judged : List Verdict → Verdict
-one_judged [] = Some Never
-one_judged (v ∷ []) = v
-one_judged (v ∷ w ∷ vs) = either_judged v (one_judged (w ∷ vs))
+abbrev pub verdict_of_one : List Verdict → Verdict
+verdict_of_one [] = Some Never
+verdict_of_one (v ∷ []) = v
+verdict_of_one (v ∷ w ∷ vs) = verdict_of_either v (verdict_of_one (w ∷ vs))
 
--- what happens where a test passes, by how the region stands to the test
-abbrev pub where_passed : Option Bool → Verdict → Verdict
-where_passed None v = None
-where_passed (Some true) v = v
-where_passed (Some false) v = Some Never
+-- what happens where a test passes, by how much of the region it passes for
+abbrev pub overlap_verdict : Overlap → Verdict → Verdict
+overlap_verdict Part v = None
+overlap_verdict Whole v = v
+overlap_verdict Nothing v = Some Never
 
 -- ---- the verdict on records of a layout, where those at collecting processes are known
 
@@ -64,12 +66,12 @@ destination_verdict at net layout (Some link) = process_verdict at layout (slice
 abbrev pub send_verdict : {L : Type 0} → At L → Net → L → Exporter → Verdict
 send_verdict at net layout exporter =
     if exporter.parallel
-    then all_judged (map (destination_verdict at net layout) exporter.destinations)
-    else one_judged (map (destination_verdict at net layout) exporter.destinations)
+    then verdict_of_all (map (destination_verdict at net layout) exporter.destinations)
+    else verdict_of_one (map (destination_verdict at net layout) exporter.destinations)
 
 -- each of these exporting processes sends it
 abbrev pub sent_verdict : {L : Type 0} → At L → Net → L → List Exporter → Verdict
-sent_verdict at net layout exporters = all_judged (map (send_verdict at net layout) exporters)
+sent_verdict at net layout exporters = verdict_of_all (map (send_verdict at net layout) exporters)
 
 -- a holder's records have its layout
 abbrev pub holder_verdict : VerdictAt → Net → ℕ → Verdict
@@ -82,7 +84,7 @@ layout_reads net layout a =
 
 abbrev pub taken_verdict : VerdictAt → Net → Bounds → Layout → Aggregation → Verdict
 taken_verdict at net region layout a =
-    if layout_reads net layout a then where_passed (standing region (match_fields a.matches)) (holder_verdict at net a.holder) else Some Never
+    if layout_reads net layout a then overlap_verdict (region_overlap region (match_fields a.matches)) (holder_verdict at net a.holder) else Some Never
 
 abbrev pub tally_verdict : Net → Layout → ℕ → Verdict
 tally_verdict net layout process =
@@ -91,12 +93,12 @@ tally_verdict net layout process =
 abbrev pub handled_verdict : VerdictAt → Net → Bounds → Layout → Option Process → Verdict
 handled_verdict at net region layout None = Some Never
 handled_verdict at net region layout (Some process) =
-    both_judged (sent_verdict at net layout (at_places net.exporters process.exporters)) (all_judged (map (taken_verdict at net region layout) process.aggregations))
+    verdict_of_both (sent_verdict at net layout (at_places net.exporters process.exporters)) (verdict_of_all (map (taken_verdict at net region layout) process.aggregations))
 
 -- records that come to a collecting process
 abbrev pub coming_verdict : VerdictAt → Net → Bounds → ℕ → Layout → Verdict
 coming_verdict at net region process layout =
-    both_judged (tally_verdict net layout process) (handled_verdict at net region layout (slice_get net.processes process))
+    verdict_of_both (tally_verdict net layout process) (handled_verdict at net region layout (slice_get net.processes process))
 
 -- ---- the verdict on records of a layout at a collecting process
 
@@ -110,45 +112,45 @@ verdict net region = verdict_within net region (length net.processes)
 
 -- ---- the verdict on a path
 
--- a selection process that meets the packets, if it selects them
-pub record Seen : Type 0 where
+-- a selection process that meets the packets, and the verdict on what it selects of them
+pub record SelectionVerdict : Type 0 where
   pub crossing : ℕ
   pub point : ℕ
   pub process : ℕ
   pub verdict : Verdict
 
-abbrev pub seen_if : VerdictAt → Net → Bounds → ℕ → ℕ → ℕ → Option Bounds → Option ℕ → List Seen
-seen_if at net region crossing point process selected None = []
-seen_if at net region crossing point process selected (Some holder) =
-    record { crossing = crossing; point = point; process = process; verdict = where_passed (standing_to region selected) (holder_verdict at net holder) } ∷ []
+abbrev pub selection_verdicts : VerdictAt → Net → Bounds → ℕ → ℕ → ℕ → Option Bounds → Option ℕ → List SelectionVerdict
+selection_verdicts at net region crossing point process selected None = []
+selection_verdicts at net region crossing point process selected (Some holder) =
+    record { crossing = crossing; point = point; process = process; verdict = overlap_verdict (selection_overlap region selected) (holder_verdict at net holder) } ∷ []
 
-abbrev pub seen_by : VerdictAt → Net → Bounds → ℕ → ℕ → ℕ → List Selection → List Seen
-seen_by at net region crossing point process [] = []
-seen_by at net region crossing point process (s ∷ ss) =
-    seen_if at net region crossing point process s.region s.holder ++ seen_by at net region crossing point (process + 1) ss
+abbrev pub point_verdicts : VerdictAt → Net → Bounds → ℕ → ℕ → ℕ → List Selection → List SelectionVerdict
+point_verdicts at net region crossing point process [] = []
+point_verdicts at net region crossing point process (s ∷ ss) =
+    selection_verdicts at net region crossing point process s.region s.holder ++ point_verdicts at net region crossing point (process + 1) ss
 
-abbrev pub seen_at : VerdictAt → Net → Bounds → ℕ → ℕ → List Point → Crossing → List Seen
-seen_at at net region number n [] crossing = []
-seen_at at net region number n (point ∷ points) crossing =
-    (if watches point crossing then seen_by at net region number n 1 point.selections else []) ++ seen_at at net region number (n + 1) points crossing
+abbrev pub crossing_verdicts : VerdictAt → Net → Bounds → ℕ → ℕ → List Point → Crossing → List SelectionVerdict
+crossing_verdicts at net region number n [] crossing = []
+crossing_verdicts at net region number n (point ∷ points) crossing =
+    (if watches point crossing then point_verdicts at net region number n 1 point.selections else []) ++ crossing_verdicts at net region number (n + 1) points crossing
 
-abbrev pub seen_along : VerdictAt → Net → Bounds → ℕ → List Crossing → List Seen
-seen_along at net region n [] = []
-seen_along at net region n (c ∷ cs) =
-    seen_at at net region n 1 (points_of (numbered net.devices c.device)) c ++ seen_along at net region (n + 1) cs
+abbrev pub path_verdicts : VerdictAt → Net → Bounds → ℕ → List Crossing → List SelectionVerdict
+path_verdicts at net region n [] = []
+path_verdicts at net region n (c ∷ cs) =
+    crossing_verdicts at net region n 1 (points_of (numbered net.devices c.device)) c ++ path_verdicts at net region (n + 1) cs
 
 abbrev pub path_verdict : Net → Bounds → List Crossing → Verdict
-path_verdict net region path = all_judged (map (λ s. s.verdict) (seen_along (verdict net region) net region 1 path))
+path_verdict net region path = verdict_of_all (map (λ s. s.verdict) (path_verdicts (verdict net region) net region 1 path))
 
 abbrev pub is_once : Verdict → Bool
 is_once (Some Once) = true
 is_once _ = false
 
 -- the last of them that is counted once, or else this
-abbrev pub counted_from : Option Seen → List Seen → Option Seen
-counted_from found [] = found
-counted_from found (s ∷ ss) = counted_from (if is_once s.verdict then Some s else found) ss
+abbrev pub last_counter : Option SelectionVerdict → List SelectionVerdict → Option SelectionVerdict
+last_counter found [] = found
+last_counter found (s ∷ ss) = last_counter (if is_once s.verdict then Some s else found) ss
 
 -- the selection process that counts the packets, where their verdict is once
-abbrev pub counted : Net → Bounds → List Crossing → Option Seen
-counted net region path = counted_from None (seen_along (verdict net region) net region 1 path)
+abbrev pub counter : Net → Bounds → List Crossing → Option SelectionVerdict
+counter net region path = last_counter None (path_verdicts (verdict net region) net region 1 path)

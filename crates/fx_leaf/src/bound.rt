@@ -1,11 +1,12 @@
 //! Bounds at which a region may be split.
-ghost use Rattle.std.specs.Prelude.{◌≡◌, None, IfSome, IfNone};
+ghost use Rattle.std.specs.Prelude.{◌≡◌, IfSome, IfNone};
 ghost use Rattle.std.specs.List.{AllByRecursion};
 ghost use Rattle.fx_tables.specs.Matches.{IsEntry};
 ghost use Rattle.fx_leaf.specs.Splits as splits;
-ghost use Rattle.fx_leaf.specs.Standings as standings;
+ghost use Rattle.fx_leaf.specs.Overlaps as overlaps;
+ghost use Rattle.fx_leaf.specs.declared.regions.Overlap.TheVariants as overlap;
 
-use crate::regions::{bounded, matching};
+use crate::regions::{bounds_hold, match_part};
 use fx_boxes::Region;
 use fx_elements::{Axis, EVERY_AXIS};
 use fx_tables::MatchEntry;
@@ -31,7 +32,7 @@ fn bound_on(region: &Region, other: &Region, axis: Axis) -> Option<u128>
 /// A bound of the other region, where it cuts the region.
 pub(crate) fn bound(region: &Region, other: &Region) -> Option<(Axis, u128)>
     ensures some { IfSome result (λ s. splits.IsSplitBy region.now other.now s.0 s.1) }
-    ensures none { IfNone result (standings.standing region.now other.now ≡ None → ⊥) }
+    ensures none { IfNone result (overlaps.region_overlap region.now other.now ≡ overlap.Part → ⊥) }
 {
     for axis in EVERY_AXIS {
         if let Some(at) = bound_on(region, other, axis) {
@@ -44,13 +45,17 @@ pub(crate) fn bound(region: &Region, other: &Region) -> Option<(Axis, u128)>
 /// A bound of a match, all of its entries together, where it cuts the region.
 pub(crate) fn bound_of_match(region: &Region, entries: &[MatchEntry]) -> Option<(Axis, u128)>
     requires { AllByRecursion IsEntry entries.now }
-    ensures some { IfSome result (λ s. splits.IsSplitBy region.now (standings.match_fields entries.now) s.0 s.1) }
-    ensures none { IfNone result (standings.standing region.now (standings.match_fields entries.now) ≡ None → ⊥) }
+    ensures some { IfSome result (λ s. splits.IsSplitBy region.now
+        (overlaps.match_fields entries.now) s.0 s.1) }
+    ensures none { IfNone result (overlaps.region_overlap region.now
+        (overlaps.match_fields entries.now) ≡ overlap.Part → ⊥) }
 {
-    bounded(region);
-    match matching(region, entries) {
+    // For the prover alone: the bounds of a region hold.
+    bounds_hold(region);
+    match match_part(region, entries) {
         None => None,
         Some(left) => {
+            // Only for what these say: both ends of what is left are in it.
             let _ends = (left.corner(), left.far_corner());
             bound(region, &left)
         }

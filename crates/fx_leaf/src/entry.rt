@@ -7,30 +7,14 @@ ghost use Rattle.fx_tables.specs.Network as network;
 ghost use Rattle.fx_leaf.specs.Tables as by_table;
 ghost use Rattle.fx_leaf.specs.Verdicts as verdicts;
 
-use crate::lent::Tables;
-use crate::regions::standing_to_match;
-use crate::sending::sent;
-use crate::table::Row;
-use crate::verdict::{Fate, both_judged, where_passed};
-use fx_boxes::Region;
+use crate::regions::match_overlap;
+use crate::table::Verdicts;
+use crate::verdict::{Fate, overlap_verdict, verdict_of_both};
 use fx_layout::Layout;
 use fx_tables::{Aggregation, MatchEntry, Net, Process};
 
-/// The verdict on records of the holder at this place.
-pub(crate) fn sent_by_holder(rows: &[Row], tables: &Tables<'_>, holder: usize) -> Option<Fate>
-    ensures { result ≡ verdicts.sent_verdict (by_table.entry rows.now) tables.now.net (by_table.number_of_layout tables.now.numbering holder) (network.exporters_of tables.now.net (slice_get tables.now.net.holders holder)) }
-{
-    let net = tables.net();
-    sent(
-        rows,
-        net,
-        tables.number_of_layout(holder),
-        net.named_by(holder),
-    )
-}
-
 /// Whether all of these entries can be read from a layout.
-fn entries_read(layout: &Layout, entries: &[MatchEntry]) -> bool
+fn reads_entries(layout: &Layout, entries: &[MatchEntry]) -> bool
     ensures { result ≡ list_all (λ e. keys.reads layout.now e.axis e.bits) entries.now }
 {
     entries.iter().all(|e| layout.reads(e.axis, e.bits))
@@ -41,82 +25,11 @@ pub(crate) fn layout_reads(net: &Net, layout: &Layout, aggregation: &Aggregation
     ensures { result ≡ verdicts.layout_reads net.now layout.now aggregation.now }
 {
     layout.refines(&net.layout_at(aggregation.holder()))
-        && entries_read(layout, aggregation.matches())
-}
-
-/// The verdict on what an aggregation takes in of records of this layout: never, where it can't read them.
-fn taken(
-    rows: &[Row],
-    tables: &Tables<'_>,
-    region: &Region,
-    layout: &Layout,
-    aggregation: &Aggregation,
-) -> Option<Fate>
-    requires { HasEntries aggregation.now }
-    ensures { result ≡ by_table.taken_entry rows.now tables.now.net tables.now.numbering region.now layout.now aggregation.now }
-{
-    if !layout_reads(tables.net(), layout, aggregation) {
-        return Some(Fate::Never);
-    }
-    let passes = standing_to_match(region, aggregation.matches());
-    where_passed(passes, sent_by_holder(rows, tables, aggregation.holder()))
-}
-
-/// The verdict on what all of these aggregations take in.
-fn all_taken(
-    rows: &[Row],
-    tables: &Tables<'_>,
-    region: &Region,
-    layout: &Layout,
-    aggregations: &[Aggregation],
-) -> Option<Fate>
-    requires { AllByRecursion HasEntries aggregations.now }
-    ensures { result ≡ verdicts.all_judged (map (by_table.taken_entry rows.now tables.now.net tables.now.numbering region.now layout.now) aggregations.now) }
-{
-    let mut joined = Some(Fate::Never);
-    for aggregation in aggregations {
-        joined = both_judged(joined, taken(rows, tables, region, layout, aggregation));
-    }
-    joined
-}
-
-/// The verdict on what a collecting process does with records of the layout of this number.
-fn handled(
-    rows: &[Row],
-    tables: &Tables<'_>,
-    region: &Region,
-    number: usize,
-    layout: &Layout,
-    process: &Process,
-) -> Option<Fate>
-    requires { AllByRecursion HasEntries process.now.aggregations }
-    ensures { result ≡ by_table.handled_entry rows.now tables.now.net tables.now.numbering region.now number layout.now (Some process.now) }
-{
-    let forwarded = sent(rows, tables.net(), number, process.exporters());
-    let taken = all_taken(rows, tables, region, layout, process.aggregations());
-    both_judged(forwarded, taken)
-}
-
-/// The same for the collecting process at this place; never, where there is none.
-fn handled_at(
-    rows: &[Row],
-    tables: &Tables<'_>,
-    region: &Region,
-    number: usize,
-    layout: &Layout,
-    process: usize,
-) -> Option<Fate>
-    requires { by_table.AreTables tables.now }
-    ensures { result ≡ by_table.handled_entry rows.now tables.now.net tables.now.numbering region.now number layout.now (slice_get tables.now.net.processes process) }
-{
-    match tables.net().processes().get(process) {
-        None => Some(Fate::Never),
-        Some(process) => handled(rows, tables, region, number, layout, process),
-    }
+        && reads_entries(layout, aggregation.matches())
 }
 
 /// The verdict on what is counted of records that come to the collecting process at this place.
-fn tallied(net: &Net, layout: &Layout, process: usize) -> Option<Fate>
+fn tally_verdict(net: &Net, layout: &Layout, process: usize) -> Option<Fate>
     ensures { result ≡ verdicts.tally_verdict net.now layout.now process }
 {
     if process != net.report() {
@@ -128,22 +41,91 @@ fn tallied(net: &Net, layout: &Layout, process: usize) -> Option<Fate>
     }
 }
 
-/// The entry for the collecting process at this place and the layout of this number, from the rows of the
-/// processes that it feeds.
-pub(crate) fn entry_from(
-    rows: &[Row],
-    tables: &Tables<'_>,
-    region: &Region,
-    process: usize,
-    number: usize,
-    layout: &Layout,
-) -> Option<Fate>
-    requires { by_table.AreTables tables.now }
-    ensures { result ≡ by_table.entry_from rows.now tables.now.net tables.now.numbering region.now process number layout.now }
-{
-    let counted = tallied(tables.net(), layout, process);
-    both_judged(
-        counted,
-        handled_at(rows, tables, region, number, layout, process),
-    )
+impl Verdicts<'_, '_> {
+    /// The verdict on records of the holder at this place.
+    pub(crate) fn holder_verdict(&self, holder: usize) -> Option<Fate>
+        ensures { let t = self.now.tables.now in
+            let table = self.now.rows.now in
+            result ≡ verdicts.sent_verdict (by_table.entry table) t.net
+            (by_table.number_of_layout t.numbering holder) (network.exporters_of t.net
+            (slice_get t.net.holders holder)) }
+    {
+        let named = self.tables.net().named_by(holder);
+        self.sent_verdict(self.tables.number_of_layout(holder), named)
+    }
+
+    /// The verdict on what an aggregation takes in of records of this layout: never, where it can't read them.
+    fn taken_verdict(&self, layout: &Layout, aggregation: &Aggregation) -> Option<Fate>
+        requires { HasEntries aggregation.now }
+        ensures { let t = self.now.tables.now in
+            let table = self.now.rows.now in
+            let region = self.now.region.now in
+            result ≡ by_table.taken_entry table t.net t.numbering region layout.now
+            aggregation.now }
+    {
+        if !layout_reads(self.tables.net(), layout, aggregation) {
+            return Some(Fate::Never);
+        }
+        let passes = match_overlap(self.region, aggregation.matches());
+        overlap_verdict(passes, self.holder_verdict(aggregation.holder()))
+    }
+
+    /// The verdict on what all of these aggregations take in.
+    fn all_taken_verdict(&self, layout: &Layout, aggregations: &[Aggregation]) -> Option<Fate>
+        requires { AllByRecursion HasEntries aggregations.now }
+        ensures { let t = self.now.tables.now in
+            let table = self.now.rows.now in
+            let region = self.now.region.now in
+            result ≡ verdicts.verdict_of_all
+            (map (by_table.taken_entry table t.net t.numbering region layout.now)
+            aggregations.now) }
+    {
+        let mut joined = Some(Fate::Never);
+        for aggregation in aggregations {
+            joined = verdict_of_both(joined, self.taken_verdict(layout, aggregation));
+        }
+        joined
+    }
+
+    /// The verdict on what a collecting process does with records of the layout of this number.
+    fn handled_verdict(&self, number: usize, layout: &Layout, process: &Process) -> Option<Fate>
+        requires { AllByRecursion HasEntries process.now.aggregations }
+        ensures { let t = self.now.tables.now in
+            let table = self.now.rows.now in
+            let region = self.now.region.now in
+            result ≡ by_table.handled_entry table t.net t.numbering region number layout.now
+            (Some process.now) }
+    {
+        let forwarded = self.sent_verdict(number, process.exporters());
+        let taken = self.all_taken_verdict(layout, process.aggregations());
+        verdict_of_both(forwarded, taken)
+    }
+
+    /// The same for the collecting process at this place; never, where there is none.
+    fn handled_verdict_at(&self, number: usize, layout: &Layout, process: usize) -> Option<Fate>
+        requires { by_table.AreTables self.now.tables.now }
+        ensures { let t = self.now.tables.now in
+            let table = self.now.rows.now in
+            let region = self.now.region.now in
+            result ≡ by_table.handled_entry table t.net t.numbering region number layout.now
+            (slice_get t.net.processes process) }
+    {
+        match self.tables.net().processes().get(process) {
+            None => Some(Fate::Never),
+            Some(process) => self.handled_verdict(number, layout, process),
+        }
+    }
+
+    /// The entry for the collecting process at this place and the layout of this number, from the rows of the
+    /// processes that it feeds.
+    pub(crate) fn entry_from(&self, process: usize, number: usize, layout: &Layout) -> Option<Fate>
+        requires { by_table.AreTables self.now.tables.now }
+        ensures { let t = self.now.tables.now in
+            let table = self.now.rows.now in
+            let region = self.now.region.now in
+            result ≡ by_table.entry_from table t.net t.numbering region process number layout.now }
+    {
+        let counted = tally_verdict(self.tables.net(), layout, process);
+        verdict_of_both(counted, self.handled_verdict_at(number, layout, process))
+    }
 }

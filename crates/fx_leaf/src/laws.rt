@@ -18,22 +18,32 @@ ghost use Rattle.fx_leaf.specs.Laws as the_laws;
 /// the links, and no other fates do.
 pub fn fates_along_ranks()
     ensures agree { (net : network.Net) → ranks.IsRanked net → fates.AreFates net (fates.fate net) }
-    ensures no_other { (net : network.Net) (at : fates.FateAt) → ranks.IsRanked net → fates.AreFates net at
-        → (process : ℕ) (key : keys.Key) → at process key ≡ fates.fate net process key }
+    ensures no_other { (net : network.Net) (at : fates.FateAt) → ranks.IsRanked net
+        → fates.AreFates net at → (process : ℕ) (key : keys.Key)
+        → at process key ≡ fates.fate net process key }
 {}
 
 /// What every step keeps: the totals, with each record on its way and each crossing to come weighed by its fate.
 pub fn conservation()
     // At the opening it is the plain sums.
-    ensures opens { (net : network.Net) (classes : List traffic.Class) → ranks.IsNetwork net → certificates.AllAsWanted net classes → the_laws.Opens net classes }
+    ensures opens { (net : network.Net) (classes : List traffic.Class) → ranks.IsNetwork net
+        → certificates.AllAsWanted net classes → the_laws.Opens net classes }
     // So it is modulo 2 to the 64, however large they are.
-    ensures opens_modulo { (net : network.Net) (classes : List traffic.Class) → ranks.IsNetwork net → certificates.AllAsWanted net classes
-        → the_laws.OpensModulo net classes }
+    ensures opens_modulo { (net : network.Net) (classes : List traffic.Class) → ranks.IsNetwork net
+        → certificates.AllAsWanted net classes → the_laws.OpensModulo net classes }
     // There the machine's tables have their sizes, which each step keeps too.
-    ensures sized { (net : network.Net) (classes : List traffic.Class) (packets : List of_packet.Packet) → the_laws.IsSized net (states.opening net classes packets) }
-    ensures cross { (net : network.Net) (classes : List traffic.Class) (packet : ℕ) (crossing : ℕ) (choices : acts.Choices) → ranks.IsNetwork net → the_laws.Kept net classes (of_step.Cross packet crossing choices) }
-    ensures expire { (net : network.Net) (classes : List traffic.Class) (holder : of_holder.HolderName) (number : ℕ) (choices : acts.Choices) → ranks.IsNetwork net → the_laws.Kept net classes (of_step.Expire holder number choices) }
-    ensures arrive { (net : network.Net) (classes : List traffic.Class) (link : ℕ) (number : ℕ) (choices : acts.Choices) → ranks.IsNetwork net → the_laws.Kept net classes (of_step.Arrive link number choices) }
+    ensures sized { (net : network.Net) (classes : List traffic.Class)
+        (packets : List of_packet.Packet)
+        → the_laws.IsSized net (states.opening net classes packets) }
+    ensures cross { (net : network.Net) (classes : List traffic.Class) (packet : ℕ) (crossing : ℕ)
+        (choices : acts.Choices) → ranks.IsNetwork net
+        → the_laws.Keeps net classes (of_step.Cross packet crossing choices) }
+    ensures expire { (net : network.Net) (classes : List traffic.Class)
+        (holder : of_holder.HolderName) (number : ℕ) (choices : acts.Choices) → ranks.IsNetwork net
+        → the_laws.Keeps net classes (of_step.Expire holder number choices) }
+    ensures arrive { (net : network.Net) (classes : List traffic.Class) (link : ℕ) (number : ℕ)
+        (choices : acts.Choices) → ranks.IsNetwork net
+        → the_laws.Keeps net classes (of_step.Arrive link number choices) }
     // In a complete state it is the totals.
     ensures ends { (net : network.Net) (classes : List traffic.Class) → the_laws.Ends net classes }
 {}
@@ -50,15 +60,15 @@ pub fn exactly_once()
 /// fate its packets have, and which leaf is sound.
 pub fn verdicts_judge_regions()
     // Where there is no verdict, something cuts the region.
-    ensures none { answers.Judges answers.NoneIsCut }
+    ensures none { answers.OnEveryRegion answers.NoneIsCut }
     // Where there is one, nothing does, and it is the fate of each packet.
-    ensures some { answers.Judges answers.SomeIsFate }
-    // Where it is once, the selection process told makes a sound leaf, and no other does.
-    ensures once { answers.Judges answers.OnceIsSound }
-    ensures no_other { answers.Judges answers.NoOtherIsSound }
+    ensures some { answers.OnEveryRegion answers.SomeIsFate }
+    // Where it is once, the selection process that counts makes a sound leaf, and no other does.
+    ensures once { answers.OnEveryRegion answers.OnceIsSound }
+    ensures no_other { answers.OnEveryRegion answers.NoOtherIsSound }
     // Where it is never no packet is counted, and nowhere else.
-    ensures never { answers.Judges answers.NeverIsSound }
-    ensures never_alone { answers.Judges answers.SoundIsNever }
+    ensures never { answers.OnEveryRegion answers.NeverIsSound }
+    ensures never_alone { answers.OnEveryRegion answers.SoundIsNever }
     // Verdicts at collecting processes may be worked out by table, from the processes of highest rank on.
     ensures table { answers.TableIsVerdicts }
 {}

@@ -6,11 +6,11 @@ ghost use Rattle.fx_leaf.specs.Splits as splits;
 ghost use Rattle.fx_leaf.specs.Tables as by_table;
 ghost use Rattle.fx_leaf.specs.Verdicts as verdicts;
 
-use crate::lent::Tables;
-use crate::path::{Judge, Told};
-use crate::regions::bounded;
+use crate::path::{PathFate, PathReader};
+use crate::regions::bounds_hold;
 use crate::rows::prepare;
-use crate::table::{Row, Scratch};
+use crate::table::{Row, Scratch, Verdicts};
+use crate::tables::Tables;
 use crate::verdict::Fate;
 use fx_base::Fault;
 use fx_boxes::Region;
@@ -41,27 +41,27 @@ fn fault_of(fate: Fate) -> Fault
     }
 }
 
-/// The leaf that this tells, or why there is none.
-fn leaf_of(told: Result<Told, (Axis, u128)>) -> Result<Counted, Fault>
-    ensures ok { IfOk told (λ t. result ≡ leaves.leaf_of (Some t.fate) t.counted) }
-    ensures err { IfErr told (λ s. result ≡ Err (leaves.fault_of None)) }
+/// The leaf that is sound by what is known, or why there is none.
+fn leaf_of(known: Result<PathFate, (Axis, u128)>) -> Result<Counted, Fault>
+    ensures ok { IfOk known (λ t. result ≡ leaves.leaf_of (Some t.fate) t.counted) }
+    ensures err { IfErr known (λ s. result ≡ Err (leaves.fault_of None)) }
 {
-    match told {
-        Ok(told) => match told.fate {
-            Fate::Once => told.counted.ok_or(Fault::bare(407)),
+    match known {
+        Ok(known) => match known.fate {
+            Fate::Once => known.counted.ok_or(Fault::bare(407)),
             fate => Err(fault_of(fate)),
         },
         Err(_) => Err(Fault::bare(406)),
     }
 }
 
-/// Whether no packet is counted, or why not.
-fn never_of(told: Result<Told, (Axis, u128)>) -> Result<(), Fault>
-    ensures ok { IfOk told (λ t. result ≡ leaves.never_of (Some t.fate)) }
-    ensures err { IfErr told (λ s. result ≡ Err (leaves.fault_of None)) }
+/// Whether no packet is counted by what is known, or why not.
+fn never_of(known: Result<PathFate, (Axis, u128)>) -> Result<(), Fault>
+    ensures ok { IfOk known (λ t. result ≡ leaves.never_of (Some t.fate)) }
+    ensures err { IfErr known (λ s. result ≡ Err (leaves.fault_of None)) }
 {
-    match told {
-        Ok(told) => match told.fate {
+    match known {
+        Ok(known) => match known.fate {
             Fate::Never => Ok(()),
             Fate::Once => Err(Fault::bare(415)),
             fate => Err(fault_of(fate)),
@@ -70,50 +70,51 @@ fn never_of(told: Result<Told, (Axis, u128)>) -> Result<(), Fault>
     }
 }
 
-/// What is told of the packets of a region that take a path, or a bound of what cuts the region, where there is room for
-/// these collecting processes.
-fn told(
+/// The verdict on the packets of a region that take a path, or a bound of what cuts the region, where there is room for
+/// the collecting processes of these tables and no more.
+fn path_verdict_in_room(
     rows: &mut [Row],
     marks: &mut [u64],
     tables: &Tables<'_>,
     path: &[Crossing],
     region: &Region,
-) -> Result<Told, (Axis, u128)>
+) -> Result<PathFate, (Axis, u128)>
     requires tables { by_table.AreTables tables.now }
     requires size { length rows.old ≡ length tables.now.net.processes }
     requires marks { length marks.old ≡ length tables.now.net.processes }
-    ensures ok { IfOk result (leaves.IsTold tables.now.net path.now region.now) }
+    ensures ok { IfOk result (leaves.IsPathFate tables.now.net path.now region.now) }
     ensures err { IfErr result (λ s. splits.IsSplit tables.now.net path.now region.now s.0 s.1) }
 {
-    bounded(region);
+    // For the prover alone: the bounds of a region hold.
+    bounds_hold(region);
     prepare(rows, marks, tables, path, region);
-    let judge = Judge {
+    let verdicts = Verdicts {
         tables,
         rows,
-        marks,
         region,
     };
-    judge.path(path)
+    let reader = PathReader { verdicts, marks };
+    reader.path(path)
 }
 
 /// The same in any room that is large enough.
-fn told_in(
+fn path_verdict_in_larger_room(
     rows: &mut Vec<Row>,
     marks: &mut Vec<u64>,
     tables: &Tables<'_>,
     path: &[Crossing],
     region: &Region,
-) -> Result<Told, (Axis, u128)>
+) -> Result<PathFate, (Axis, u128)>
     requires tables { by_table.AreTables tables.now }
     requires size { length tables.now.net.processes ≤ length rows.old.items }
     requires marks { length tables.now.net.processes ≤ length marks.old.items }
-    ensures ok { IfOk result (leaves.IsTold tables.now.net path.now region.now) }
+    ensures ok { IfOk result (leaves.IsPathFate tables.now.net path.now region.now) }
     ensures err { IfErr result (λ s. splits.IsSplit tables.now.net path.now region.now s.0 s.1) }
     ensures size { length rows.new.items ≡ length rows.old.items }
     ensures marks { length marks.new.items ≡ length marks.old.items }
 {
     let count = tables.net().processes().len();
-    told(
+    path_verdict_in_room(
         &mut rows[..count],
         &mut marks[..count],
         tables,
@@ -122,20 +123,20 @@ fn told_in(
     )
 }
 
-/// The same.
-pub(crate) fn judged(
+/// The same in a scratch.
+pub(crate) fn path_verdict(
     scratch: &mut Scratch,
     tables: &Tables<'_>,
     path: &[Crossing],
     region: &Region,
-) -> Result<Told, (Axis, u128)>
+) -> Result<PathFate, (Axis, u128)>
     requires tables { by_table.AreTables tables.now }
     requires room { length tables.now.net.processes ≤ length scratch.old }
-    ensures ok { IfOk result (leaves.IsTold tables.now.net path.now region.now) }
+    ensures ok { IfOk result (leaves.IsPathFate tables.now.net path.now region.now) }
     ensures err { IfErr result (λ s. splits.IsSplit tables.now.net path.now region.now s.0 s.1) }
     ensures size { length scratch.new ≡ length scratch.old }
 {
-    told_in(&mut scratch.rows, &mut scratch.marks, tables, path, region)
+    path_verdict_in_larger_room(&mut scratch.rows, &mut scratch.marks, tables, path, region)
 }
 
 /// The leaf that is sound for the packets of a region that take a path: the one selection process that counts each of
@@ -154,15 +155,19 @@ pub fn fate(
     requires tables { by_table.AreTables tables.now }
     requires room { length tables.now.net.processes ≤ length scratch.old }
     // The leaf is sound,
-    ensures sound { IfOk result (λ c. sound_leaves.SoundLeaf tables.now.net path.now region.now c.crossing c.point c.process) }
+    ensures sound { IfOk result (λ c. sound_leaves.SoundLeaf tables.now.net path.now region.now
+        c.crossing c.point c.process) }
     // it is answered wherever there is one, and no other leaf is sound.
-    ensures every { (crossing point process : ℕ) → sound_leaves.SoundLeaf tables.now.net path.now region.now crossing point process → result ≡ Ok (record { crossing = crossing; point = point; process = process }) }
+    ensures every { (crossing point process : ℕ)
+        → sound_leaves.SoundLeaf tables.now.net path.now region.now crossing point process
+        → result ≡ Ok (record { crossing = crossing; point = point; process = process }) }
     ensures none { IfErr result (λ e. leaves.NoneIsSound tables.now.net path.now region.now e) }
-    ensures told { result ≡ leaves.leaf_told tables.now.net path.now region.now }
+    ensures answer { result ≡ leaves.path_leaf tables.now.net path.now region.now }
     ensures size { length scratch.new ≡ length scratch.old }
 {
-    bounded(region);
-    leaf_of(judged(scratch, tables, path, region))
+    // For the prover alone: the bounds of a region hold.
+    bounds_hold(region);
+    leaf_of(path_verdict(scratch, tables, path, region))
 }
 
 /// Ok where none of the packets of a region that take a path is counted, as exempt packets must not be. It takes no
@@ -181,9 +186,11 @@ pub fn never(
     ensures sound { OnOk result (sound_leaves.SoundNever tables.now.net path.now region.now) }
     ensures every { sound_leaves.SoundNever tables.now.net path.now region.now → result ≡ Ok tt }
     ensures none { IfErr result (λ e. leaves.NeverIsUnsound tables.now.net path.now region.now e) }
-    ensures told { result ≡ leaves.never_of (verdicts.path_verdict tables.now.net region.now path.now) }
+    ensures answer { result ≡ leaves.never_of
+        (verdicts.path_verdict tables.now.net region.now path.now) }
     ensures size { length scratch.new ≡ length scratch.old }
 {
-    bounded(region);
-    never_of(judged(scratch, tables, path, region))
+    // For the prover alone: the bounds of a region hold.
+    bounds_hold(region);
+    never_of(path_verdict(scratch, tables, path, region))
 }

@@ -3,26 +3,26 @@
 #![tactic(auto)]
 
 mod bound;
+mod cause;
 mod entry;
-mod judging;
+mod judgement;
 mod laws;
 mod leaf;
-mod lent;
-mod lost;
 mod path;
 mod reach;
 mod regions;
 mod rows;
-mod sending;
+mod sends;
 mod split;
 mod table;
+mod tables;
 mod verdict;
 
-pub use judging::{Judgement, judge};
+pub use judgement::{Judgement, judge};
 pub use laws::{conservation, exactly_once, fates_along_ranks, verdicts_judge_regions};
 pub use leaf::{Counted, fate, never};
-pub use lent::Tables;
-pub use regions::{standing, standing_to, standing_to_match};
+pub use regions::{Overlap, match_overlap, region_overlap, selection_overlap};
 pub use split::cut;
 pub use table::{LAYOUTS, Scratch};
-pub use verdict::{Fate, both_judged, either_judged, where_passed};
+pub use tables::Tables;
+pub use verdict::{Fate, overlap_verdict, verdict_of_both, verdict_of_either};

@@ -11,29 +11,26 @@ ghost use Rattle.fx_leaf.specs.Splits as splits;
 ghost use Rattle.fx_leaf.specs.Tables as by_table;
 ghost use Rattle.fx_leaf.specs.Verdicts as verdicts;
 
-use crate::entry::sent_by_holder;
 use crate::leaf::Counted;
-use crate::lent::Tables;
-use crate::regions::standing_to;
-use crate::table::Row;
-use crate::verdict::{Fate, where_passed};
-use fx_boxes::Region;
+use crate::regions::selection_overlap;
+use crate::table::Verdicts;
+use crate::verdict::{Fate, overlap_verdict};
 use fx_elements::Axis;
 use fx_tables::{Crossing, Point, Selection};
 
-/// What is known of the packets, from the selection processes that were seen. None of them cuts the region.
+/// What is known of the packets, from the selection processes that were met. None of them cuts the region.
 #[derive(Clone, Copy)]
-pub(crate) struct Told {
+pub(crate) struct PathFate {
     /// What comes of all of them together.
     pub(crate) fate: Fate,
     /// The last of them by which a packet is counted once.
     pub(crate) counted: Option<Counted>,
 }
 
-impl Told {
+impl PathFate {
     /// A selection process more: what comes of it, and its numbers.
-    fn with(self, fate: Fate, numbers: Counted) -> Told
-        ensures { leaves.Seeing self result
+    fn with(self, fate: Fate, numbers: Counted) -> PathFate
+        ensures { leaves.AddsVerdicts self result
             (record {
               crossing = numbers.crossing;
               point = numbers.point;
@@ -46,216 +43,229 @@ impl Told {
         } else {
             self.counted
         };
-        Told {
+        PathFate {
             fate: self.fate.both(fate),
             counted,
         }
     }
 }
 
-/// What judges the packets of a region: the tables, and for this region the verdicts that are marked.
+/// What reads paths: verdicts by table on a region's packets, which are filled where they are marked.
 #[derive(Drop)]
-pub(crate) struct Judge<'a> {
-    pub(crate) tables: &'a Tables<'a>,
-    pub(crate) rows: &'a [Row],
+pub(crate) struct PathReader<'a, 't> {
+    pub(crate) verdicts: Verdicts<'a, 't>,
     pub(crate) marks: &'a [u64],
-    pub(crate) region: &'a Region,
-    ghost bounded: { boxes.IsRegion region.now },
-    ghost filled: { reach.IsFilled tables.now.net tables.now.numbering region.now marks.now
-        rows.now },
+    ghost bounded: { boxes.IsRegion verdicts.region.now },
+    ghost filled: { reach.IsFilled verdicts.tables.now.net verdicts.tables.now.numbering
+        verdicts.region.now marks.now verdicts.rows.now },
 }
 
-impl<'a> Judge<'a> {
+impl PathReader<'_, '_> {
     /// The verdict on records of the holder at this place.
-    fn holder(&self, holder: usize) -> Option<Fate>
-        requires tables { by_table.AreTables self.now.tables.now }
-        requires along { let t = self.now.tables.now in
-            reach.SentByHolder t.net t.numbering (reach.Marked self.now.marks.now) holder }
-        ensures { let net = self.now.tables.now.net in
-            result ≡ verdicts.holder_verdict (verdicts.verdict net self.now.region.now) net holder }
+    fn holder_verdict(&self, holder: usize) -> Option<Fate>
+        requires tables { by_table.AreTables self.now.verdicts.tables.now }
+        requires along { let t = self.now.verdicts.tables.now in
+            reach.HoldsBehindHolder t.net t.numbering (reach.IsMarked self.now.marks.now) holder }
+        ensures { let net = self.now.verdicts.tables.now.net in
+            let region = self.now.verdicts.region.now in
+            result ≡ verdicts.holder_verdict (verdicts.verdict net region) net holder }
     {
-        sent_by_holder(self.rows, self.tables, holder)
+        self.verdicts.holder_verdict(holder)
     }
 
-    /// What a selection process of these numbers tells, if it has a cache; or, where it or what stands behind its cache
-    /// cuts the region, a bound of that.
+    /// What is known with a selection process of these numbers, if it has a cache; or, where it or what is behind its
+    /// cache cuts the region, a bound of that.
     fn selection(
         &self,
-        told: Told,
+        known: PathFate,
         numbers: Counted,
         selection: &Selection,
-    ) -> Result<Told, (Axis, u128)>
-        requires tables { by_table.AreTables self.now.tables.now }
-        requires along { let t = self.now.tables.now in
-            reach.SentBySelection t.net t.numbering (reach.Marked self.now.marks.now) selection.now }
-        ensures ok { let net = self.now.tables.now.net in
-            let region = self.now.region.now in
+    ) -> Result<PathFate, (Axis, u128)>
+        requires tables { by_table.AreTables self.now.verdicts.tables.now }
+        requires along { let t = self.now.verdicts.tables.now in
+            reach.HoldsBehindSelection t.net t.numbering (reach.IsMarked self.now.marks.now)
+            selection.now }
+        ensures ok { let net = self.now.verdicts.tables.now.net in
+            let region = self.now.verdicts.region.now in
             IfOk result (λ after.
-            leaves.Seeing told after (verdicts.seen_if
+            leaves.AddsVerdicts known after (verdicts.selection_verdicts
             (verdicts.verdict net region) net region numbers.crossing numbers.point
             numbers.process selection.now.region selection.now.holder)) }
-        ensures err { IfErr result (λ s. (path : List of_crossing.Crossing)
-            → splits.Meets self.now.tables.now.net path selection.now
-            → splits.IsSplit self.now.tables.now.net path self.now.region.now s.0 s.1) }
+        ensures err { let net = self.now.verdicts.tables.now.net in
+            let region = self.now.verdicts.region.now in
+            IfErr result (λ s. (path : List of_crossing.Crossing)
+            → splits.Meets net path selection.now → splits.IsSplit net path region s.0 s.1) }
     {
         let Some(holder) = selection.holder else {
-            return Ok(told);
+            return Ok(known);
         };
-        let passes = standing_to(self.region, &selection.region);
-        match where_passed(passes, self.holder(holder)) {
-            Some(fate) => Ok(told.with(fate, numbers)),
+        let overlap = selection_overlap(self.verdicts.region, &selection.region);
+        match overlap_verdict(overlap, self.holder_verdict(holder)) {
+            Some(fate) => Ok(known.with(fate, numbers)),
             None => Err(self.bound_at(selection)),
         }
     }
 
-    /// What the selection processes of a point tell, up to the first that cuts the region.
+    /// The same with the selection processes of a point, up to the first that cuts the region.
     fn selections(
         &self,
-        told: Told,
+        known: PathFate,
         crossing: u64,
         point: u64,
         selections: &[Selection],
-    ) -> Result<Told, (Axis, u128)>
-        requires tables { by_table.AreTables self.now.tables.now }
-        requires along { let t = self.now.tables.now in
-            reach.SentAmong t.net t.numbering (reach.Marked self.now.marks.now) selections.now }
-        ensures ok { let net = self.now.tables.now.net in
-            let region = self.now.region.now in
+    ) -> Result<PathFate, (Axis, u128)>
+        requires tables { by_table.AreTables self.now.verdicts.tables.now }
+        requires along { let t = self.now.verdicts.tables.now in
+            reach.HoldsBehindSelections t.net t.numbering (reach.IsMarked self.now.marks.now)
+            selections.now }
+        ensures ok { let net = self.now.verdicts.tables.now.net in
+            let region = self.now.verdicts.region.now in
             IfOk result (λ after.
-            leaves.Seeing told after (verdicts.seen_by
+            leaves.AddsVerdicts known after (verdicts.point_verdicts
             (verdicts.verdict net region) net region crossing point 1 selections.now)) }
-        ensures err { IfErr result (λ s. (path : List of_crossing.Crossing)
+        ensures err { let net = self.now.verdicts.tables.now.net in
+            let region = self.now.verdicts.region.now in
+            IfErr result (λ s. (path : List of_crossing.Crossing)
             → ((selection : of_selection.Selection) → Contains selections.now selection
-            → splits.Meets self.now.tables.now.net path selection)
-            → splits.IsSplit self.now.tables.now.net path self.now.region.now s.0 s.1) }
+            → splits.Meets net path selection) → splits.IsSplit net path region s.0 s.1) }
     {
-        let mut told = told;
+        let mut known = known;
         for place in 0..selections.len() {
             let numbers = Counted {
                 crossing,
                 point,
                 process: (place + 1) as u64,
             };
-            told = self.selection(told, numbers, &selections[place])?;
+            known = self.selection(known, numbers, &selections[place])?;
         }
-        Ok(told)
+        Ok(known)
     }
 
-    /// What a point tells, if it watches the crossing.
+    /// The same with a point, if it watches the crossing.
     fn point(
         &self,
-        told: Told,
+        known: PathFate,
         number: u64,
         crossing: &Crossing,
         place: u64,
         point: &Point,
-    ) -> Result<Told, (Axis, u128)>
-        requires tables { by_table.AreTables self.now.tables.now }
-        requires along { let t = self.now.tables.now in
+    ) -> Result<PathFate, (Axis, u128)>
+        requires tables { by_table.AreTables self.now.verdicts.tables.now }
+        requires along { let t = self.now.verdicts.tables.now in
             met.watches point.now crossing.now ≡ true
-            → reach.SentAmong t.net t.numbering
-            (reach.Marked self.now.marks.now) point.now.selections }
-        ensures ok { let net = self.now.tables.now.net in
-            let region = self.now.region.now in
-            IfOk result (λ after.
-            leaves.Seeing told after (if met.watches point.now crossing.now
-            then verdicts.seen_by (verdicts.verdict net region) net region number place 1 point.now.selections
-            else [])) }
-        ensures err { IfErr result (λ s. (path : List of_crossing.Crossing)
+            → reach.HoldsBehindSelections t.net t.numbering
+            (reach.IsMarked self.now.marks.now) point.now.selections }
+        ensures ok { let net = self.now.verdicts.tables.now.net in
+            let region = self.now.verdicts.region.now in
+            IfOk result (λ after. leaves.AddsVerdicts known after
+            (if met.watches point.now crossing.now then verdicts.point_verdicts
+            (verdicts.verdict net region) net region number place 1 point.now.selections else [])) }
+        ensures err { let net = self.now.verdicts.tables.now.net in
+            let region = self.now.verdicts.region.now in
+            IfErr result (λ s. (path : List of_crossing.Crossing)
             → ((selection : of_selection.Selection) → met.watches point.now crossing.now ≡ true
-            → Contains point.now.selections selection
-            → splits.Meets self.now.tables.now.net path selection)
-            → splits.IsSplit self.now.tables.now.net path self.now.region.now s.0 s.1) }
+            → Contains point.now.selections selection → splits.Meets net path selection)
+            → splits.IsSplit net path region s.0 s.1) }
     {
         if point.watches(crossing) {
-            self.selections(told, number, place, point.selections())
+            self.selections(known, number, place, point.selections())
         } else {
-            Ok(told)
+            Ok(known)
         }
     }
 
-    /// What these points of the crossing's device tell.
+    /// The same with these points of the crossing's device.
     fn points(
         &self,
-        told: Told,
+        known: PathFate,
         number: u64,
         crossing: &Crossing,
         points: &[Point],
-    ) -> Result<Told, (Axis, u128)>
-        requires tables { by_table.AreTables self.now.tables.now }
-        requires along { let t = self.now.tables.now in
-            reach.SentAt t.net t.numbering
-            (reach.Marked self.now.marks.now) points.now crossing.now }
-        ensures ok { let net = self.now.tables.now.net in
-            let region = self.now.region.now in
+    ) -> Result<PathFate, (Axis, u128)>
+        requires tables { by_table.AreTables self.now.verdicts.tables.now }
+        requires along { let t = self.now.verdicts.tables.now in
+            reach.HoldsBehindPoints t.net t.numbering
+            (reach.IsMarked self.now.marks.now) points.now crossing.now }
+        ensures ok { let net = self.now.verdicts.tables.now.net in
+            let region = self.now.verdicts.region.now in
             IfOk result (λ after.
-            leaves.Seeing told after (verdicts.seen_at
+            leaves.AddsVerdicts known after (verdicts.crossing_verdicts
             (verdicts.verdict net region) net region number 1 points.now crossing.now)) }
-        ensures err { IfErr result (λ s. (path : List of_crossing.Crossing)
+        ensures err { let net = self.now.verdicts.tables.now.net in
+            let region = self.now.verdicts.region.now in
+            IfErr result (λ s. (path : List of_crossing.Crossing)
             → ((point : network.Point) (selection : of_selection.Selection)
             → Contains points.now point → met.watches point crossing.now ≡ true
-            → Contains point.selections selection
-            → splits.Meets self.now.tables.now.net path selection)
-            → splits.IsSplit self.now.tables.now.net path self.now.region.now s.0 s.1) }
+            → Contains point.selections selection → splits.Meets net path selection)
+            → splits.IsSplit net path region s.0 s.1) }
     {
-        let mut told = told;
+        let mut known = known;
         for place in 0..points.len() {
-            told = self.point(told, number, crossing, (place + 1) as u64, &points[place])?;
+            known = self.point(known, number, crossing, (place + 1) as u64, &points[place])?;
         }
-        Ok(told)
+        Ok(known)
     }
 
-    /// What the points at a crossing of this number tell.
-    fn crossing(&self, told: Told, number: u64, crossing: &Crossing) -> Result<Told, (Axis, u128)>
-        requires tables { by_table.AreTables self.now.tables.now }
-        requires along { let t = self.now.tables.now in
-            reach.SentAt t.net t.numbering (reach.Marked self.now.marks.now) (network.points_of
-            (network.numbered t.net.devices crossing.now.device)) crossing.now }
-        ensures ok { let net = self.now.tables.now.net in
-            let region = self.now.region.now in
+    /// The same with the points at a crossing of this number.
+    fn crossing(
+        &self,
+        known: PathFate,
+        number: u64,
+        crossing: &Crossing,
+    ) -> Result<PathFate, (Axis, u128)>
+        requires tables { by_table.AreTables self.now.verdicts.tables.now }
+        requires along { let t = self.now.verdicts.tables.now in
+            reach.HoldsBehindPoints t.net t.numbering (reach.IsMarked self.now.marks.now)
+            (network.points_of (network.numbered t.net.devices crossing.now.device)) crossing.now }
+        ensures ok { let net = self.now.verdicts.tables.now.net in
+            let region = self.now.verdicts.region.now in
             IfOk result (λ after.
-            leaves.Seeing told after (verdicts.seen_at
+            leaves.AddsVerdicts known after (verdicts.crossing_verdicts
             (verdicts.verdict net region) net region number 1 (network.points_of
             (network.numbered net.devices crossing.now.device)) crossing.now)) }
-        ensures err { IfErr result (λ s. (path : List of_crossing.Crossing)
-            → Contains path crossing.now
-            → splits.IsSplit self.now.tables.now.net path self.now.region.now s.0 s.1) }
+        ensures err { let net = self.now.verdicts.tables.now.net in
+            let region = self.now.verdicts.region.now in
+            IfErr result (λ s. (path : List of_crossing.Crossing) → Contains path crossing.now
+            → splits.IsSplit net path region s.0 s.1) }
     {
-        let points = self.tables.net().points_of(crossing.device);
-        self.points(told, number, crossing, points)
+        let points = self.verdicts.tables.net().points_of(crossing.device);
+        self.points(known, number, crossing, points)
     }
 
-    /// What the points along a path tell.
-    fn along(&self, told: Told, path: &[Crossing]) -> Result<Told, (Axis, u128)>
-        requires tables { by_table.AreTables self.now.tables.now }
-        requires along { let t = self.now.tables.now in
-            reach.SentAlong t.net t.numbering (reach.Marked self.now.marks.now) path.now }
-        ensures ok { let net = self.now.tables.now.net in
-            let region = self.now.region.now in
+    /// The same with the points along a path.
+    fn along(&self, known: PathFate, path: &[Crossing]) -> Result<PathFate, (Axis, u128)>
+        requires tables { by_table.AreTables self.now.verdicts.tables.now }
+        requires along { let t = self.now.verdicts.tables.now in
+            reach.HoldsAlongPath t.net t.numbering (reach.IsMarked self.now.marks.now) path.now }
+        ensures ok { let net = self.now.verdicts.tables.now.net in
+            let region = self.now.verdicts.region.now in
             IfOk result (λ after.
-            leaves.Seeing told after (verdicts.seen_along
+            leaves.AddsVerdicts known after (verdicts.path_verdicts
             (verdicts.verdict net region) net region 1 path.now)) }
-        ensures err { IfErr result (λ s.
-            splits.IsSplit self.now.tables.now.net path.now self.now.region.now s.0 s.1) }
+        ensures err { let net = self.now.verdicts.tables.now.net in
+            let region = self.now.verdicts.region.now in
+            IfErr result (λ s. splits.IsSplit net path.now region s.0 s.1) }
     {
-        let mut told = told;
+        let mut known = known;
         for place in 0..path.len() {
-            told = self.crossing(told, (place + 1) as u64, &path[place])?;
+            known = self.crossing(known, (place + 1) as u64, &path[place])?;
         }
-        Ok(told)
+        Ok(known)
     }
 
     /// What is known of the packets that take a path; or, where something cuts the region, a bound of that.
-    pub(crate) fn path(&self, path: &[Crossing]) -> Result<Told, (Axis, u128)>
-        requires tables { by_table.AreTables self.now.tables.now }
-        requires along { let t = self.now.tables.now in
-            reach.SentAlong t.net t.numbering (reach.Marked self.now.marks.now) path.now }
-        ensures ok { IfOk result
-            (leaves.IsTold self.now.tables.now.net path.now self.now.region.now) }
-        ensures err { IfErr result (λ s.
-            splits.IsSplit self.now.tables.now.net path.now self.now.region.now s.0 s.1) }
+    pub(crate) fn path(&self, path: &[Crossing]) -> Result<PathFate, (Axis, u128)>
+        requires tables { by_table.AreTables self.now.verdicts.tables.now }
+        requires along { let t = self.now.verdicts.tables.now in
+            reach.HoldsAlongPath t.net t.numbering (reach.IsMarked self.now.marks.now) path.now }
+        ensures ok { let net = self.now.verdicts.tables.now.net in
+            let region = self.now.verdicts.region.now in
+            IfOk result (leaves.IsPathFate net path.now region) }
+        ensures err { let net = self.now.verdicts.tables.now.net in
+            let region = self.now.verdicts.region.now in
+            IfErr result (λ s. splits.IsSplit net path.now region s.0 s.1) }
     {
-        let nothing = Told {
+        let nothing = PathFate {
             fate: Fate::Never,
             counted: None,
         };

@@ -5,13 +5,13 @@ ghost use Rattle.fx_tables.specs.Network as network;
 ghost use Rattle.fx_leaf.specs.Reach as reach;
 ghost use Rattle.fx_leaf.specs.Tables as by_table;
 
-use crate::lent::Tables;
 use crate::table::LAYOUTS;
+use crate::tables::Tables;
 use fx_tables::{Aggregation, Crossing, Net, Point, Process, Selection};
 
 /// These layouts too at the collecting process of this place, if there is one.
 fn mark_at(marks: &mut [u64], layouts: u64, process: usize)
-    ensures { marks.new ≡ reach.marked_at layouts marks.old (Some process) }
+    ensures { marks.new ≡ reach.marks_at layouts marks.old (Some process) }
 {
     if process < marks.len() {
         marks[process] |= layouts;
@@ -20,7 +20,7 @@ fn mark_at(marks: &mut [u64], layouts: u64, process: usize)
 
 /// The same for the one to which a destination leads.
 fn mark_behind(marks: &mut [u64], net: &Net, layouts: u64, destination: Option<usize>)
-    ensures { marks.new ≡ reach.marked_behind net.now layouts marks.old destination }
+    ensures { marks.new ≡ reach.marks_behind net.now layouts marks.old destination }
 {
     let Some(link) = destination else {
         return;
@@ -32,7 +32,7 @@ fn mark_behind(marks: &mut [u64], net: &Net, layouts: u64, destination: Option<u
 
 /// The same for all of these destinations.
 fn mark_to(marks: &mut [u64], net: &Net, layouts: u64, destinations: &[Option<usize>])
-    ensures { marks.new ≡ reach.marked_to net.now layouts marks.old destinations.now }
+    ensures { marks.new ≡ reach.marks_to net.now layouts marks.old destinations.now }
 {
     for destination in destinations {
         mark_behind(marks, net, layouts, *destination);
@@ -42,7 +42,7 @@ fn mark_to(marks: &mut [u64], net: &Net, layouts: u64, destinations: &[Option<us
 /// The same for the exporting process at this place.
 fn mark_by_place(marks: &mut [u64], net: &Net, layouts: u64, place: usize)
     ensures { let exporters = network.before (slice_get net.now.exporters place) [] in
-        marks.new ≡ reach.marked_by net.now layouts marks.old exporters }
+        marks.new ≡ reach.marks_by net.now layouts marks.old exporters }
 {
     if let Some(exporter) = net.exporters().get(place) {
         mark_to(marks, net, layouts, exporter.destinations());
@@ -52,7 +52,7 @@ fn mark_by_place(marks: &mut [u64], net: &Net, layouts: u64, place: usize)
 /// The same for the exporting processes at these places.
 fn mark_by(marks: &mut [u64], net: &Net, layouts: u64, places: &[usize])
     ensures { let exporters = network.at_places net.now.exporters places.now in
-        marks.new ≡ reach.marked_by net.now layouts marks.old exporters }
+        marks.new ≡ reach.marks_by net.now layouts marks.old exporters }
 {
     for place in places {
         mark_by_place(marks, net, layouts, *place);
@@ -63,7 +63,7 @@ fn mark_by(marks: &mut [u64], net: &Net, layouts: u64, places: &[usize])
 fn mark_by_holder(marks: &mut [u64], tables: &Tables<'_>, holder: usize)
     requires { by_table.AreTables tables.now }
     ensures { let t = tables.now in
-        marks.new ≡ reach.marked_by_holder t.net t.numbering marks.old holder }
+        marks.new ≡ reach.marks_by_holder t.net t.numbering marks.old holder }
 {
     let net = tables.net();
     let number = tables.number_of_layout(holder);
@@ -77,7 +77,7 @@ fn mark_by_aggregations(marks: &mut [u64], tables: &Tables<'_>, aggregations: &[
     requires { by_table.AreTables tables.now }
     ensures { let t = tables.now in
         let holders = map (λ a. a.holder) aggregations.now in
-        marks.new ≡ reach.marked_by_holders t.net t.numbering marks.old holders }
+        marks.new ≡ reach.marks_by_holders t.net t.numbering marks.old holders }
 {
     for aggregation in aggregations {
         mark_by_holder(marks, tables, aggregation.holder());
@@ -88,14 +88,14 @@ fn mark_by_aggregations(marks: &mut [u64], tables: &Tables<'_>, aggregations: &[
 fn mark_on(marks: &mut [u64], tables: &Tables<'_>, layouts: u64, process: &Process)
     requires { by_table.AreTables tables.now }
     ensures { let t = tables.now in
-        marks.new ≡ reach.marked_on t.net t.numbering layouts marks.old (Some process.now) }
+        marks.new ≡ reach.marks_on t.net t.numbering layouts marks.old (Some process.now) }
 {
     mark_by(marks, tables.net(), layouts, process.exporters());
     mark_by_aggregations(marks, tables, process.aggregations());
 }
 
 /// The layouts that are marked at the collecting process of this place.
-pub(crate) fn marked_at(marks: &[u64], process: usize) -> u64
+pub(crate) fn marks_at(marks: &[u64], process: usize) -> u64
     requires { process < length marks.now }
     ensures { result ≡ slice_index marks.now process }
 {
@@ -107,9 +107,9 @@ fn mark_from(marks: &mut [u64], tables: &Tables<'_>, process: usize)
     requires tables { by_table.AreTables tables.now }
     requires there { process < length marks.old }
     ensures { let t = tables.now in
-        marks.new ≡ reach.marked_from t.net t.numbering marks.old process }
+        marks.new ≡ reach.marks_from t.net t.numbering marks.old process }
 {
-    let layouts = marked_at(marks, process);
+    let layouts = marks_at(marks, process);
     if layouts == 0 {
         return;
     }
@@ -136,7 +136,7 @@ fn mark_by_selections(marks: &mut [u64], tables: &Tables<'_>, selections: &[Sele
     requires { by_table.AreTables tables.now }
     ensures { let t = tables.now in
         let holders = reach.holders_by selections.now in
-        marks.new ≡ reach.marked_by_holders t.net t.numbering marks.old holders }
+        marks.new ≡ reach.marks_by_holders t.net t.numbering marks.old holders }
 {
     for selection in selections {
         if let Some(holder) = selection.holder {
@@ -150,7 +150,7 @@ fn mark_at_points(marks: &mut [u64], tables: &Tables<'_>, points: &[Point], cros
     requires { by_table.AreTables tables.now }
     ensures { let t = tables.now in
         let holders = reach.holders_at points.now crossing.now in
-        marks.new ≡ reach.marked_by_holders t.net t.numbering marks.old holders }
+        marks.new ≡ reach.marks_by_holders t.net t.numbering marks.old holders }
 {
     for point in points {
         if point.watches(crossing) {
@@ -164,7 +164,7 @@ fn mark_along(marks: &mut [u64], tables: &Tables<'_>, path: &[Crossing])
     requires { by_table.AreTables tables.now }
     ensures { let t = tables.now in
         let holders = reach.holders_along t.net path.now in
-        marks.new ≡ reach.marked_by_holders t.net t.numbering marks.old holders }
+        marks.new ≡ reach.marks_by_holders t.net t.numbering marks.old holders }
 {
     for crossing in path {
         mark_at_points(
@@ -182,7 +182,7 @@ pub(crate) fn mark(marks: &mut [u64], tables: &Tables<'_>, path: &[Crossing])
     requires tables { by_table.AreTables tables.now }
     requires size { length marks.old ≡ length tables.now.net.processes }
     ensures along { let t = tables.now in
-        reach.SentAlong t.net t.numbering (reach.Marked marks.new) path.now }
+        reach.HoldsAlongPath t.net t.numbering (reach.IsMarked marks.new) path.now }
     ensures closed { reach.IsClosed tables.now.net tables.now.numbering marks.new }
 {
     marks.fill(0);

@@ -1,52 +1,67 @@
-//! How a region of packets stands to a test: it passes for all of them, for none, or for some only.
+//! How much of a region of packets a test passes for: the whole, nothing, or a part only.
 ghost use Rattle.std.specs.Prelude.{◌≡◌, ◌≤◌, ◌<◌, ◌↔◌, ◌^◌, ◌-◌, ℕ, List, true, false, slice_index, IfSome, IfNone};
 ghost use Rattle.std.specs.List.{AllByRecursion};
 ghost use Rattle.fx_boxes.specs.Boxes as boxes;
 ghost use Rattle.fx_elements.specs.Axes as axes;
 ghost use Rattle.fx_tables.specs.Matches.{IsEntry};
 ghost use Rattle.fx_leaf.specs.SoundLeaves as leaves;
-ghost use Rattle.fx_leaf.specs.Standings as standings;
+ghost use Rattle.fx_leaf.specs.Overlaps as overlaps;
 
 use fx_boxes::Region;
 use fx_elements::{Axis, top, width};
 use fx_tables::MatchEntry;
 
-/// No low of the region is above its high, as its type keeps.
-pub(crate) fn bounded(region: &Region)
+/// How much of a region is in another, or passes a test.
+#[derive(Clone, Copy, Debug, PartialEq, Eq)]
+pub enum Overlap {
+    /// All fields of the region.
+    Whole,
+    /// Some fields of the region, and not all: the other region, or the test, cuts it.
+    Part,
+    /// No field of the region.
+    Nothing,
+}
+
+/// No low of the region is above its high, as its type keeps. It does nothing: it is called so that the prover learns this.
+pub(crate) fn bounds_hold(region: &Region)
     ensures { boxes.IsRegion region.now }
 {
+    // Only for what `far_corner` says of the region: its value isn't needed.
     let _greatest = region.far_corner();
 }
 
-/// Whether all fields of the region, or none, are in the other too. None where the other cuts the region.
-pub fn standing(region: &Region, other: &Region) -> Option<bool>
-    ensures { result ≡ standings.standing region.now other.now }
+/// How much of the region is in the other too.
+pub fn region_overlap(region: &Region, other: &Region) -> Overlap
+    ensures { result ≡ overlaps.region_overlap region.now other.now }
 {
-    bounded(region);
+    // For the prover alone: the bounds of a region hold.
+    bounds_hold(region);
     if region.inside(other) {
-        Some(true)
+        Overlap::Whole
     } else if region.disjoint(other) {
-        Some(false)
+        Overlap::Nothing
     } else {
-        None
+        Overlap::Part
     }
 }
 
-/// Whether a selection process that selects the fields of a region, if any, selects all fields of this region or
-/// none. None where it selects some only.
-pub fn standing_to(region: &Region, selected: &Option<Region>) -> Option<bool>
-    ensures { result ≡ standings.standing_to region.now selected.now }
+/// How much of the region a selection process selects that selects the fields of another region, or none.
+pub fn selection_overlap(region: &Region, selected: &Option<Region>) -> Overlap
+    ensures { result ≡ overlaps.selection_overlap region.now selected.now }
 {
     match selected {
-        None => Some(false),
-        Some(other) => standing(region, other),
+        None => Overlap::Nothing,
+        Some(other) => region_overlap(region, other),
     }
 }
 
 /// The fields of the region whose value on the axis is this or more, if there are any.
-fn from_on(region: &Region, axis: Axis, least: u128) -> Option<Region>
-    ensures some { IfSome result (λ r. (f : List ℕ) → boxes.Holds r f ↔ (boxes.Holds region.now f × (least ≤ slice_index f (axes.axis_index axis)))) }
-    ensures none { IfNone result ((f : List ℕ) → boxes.Holds region.now f → slice_index f (axes.axis_index axis) < least) }
+fn part_from(region: &Region, axis: Axis, least: u128) -> Option<Region>
+    ensures some { IfSome result (λ r. (f : List ℕ)
+        → boxes.Holds r f ↔ (boxes.Holds region.now f
+        × (least ≤ slice_index f (axes.axis_index axis)))) }
+    ensures none { IfNone result ((f : List ℕ) → boxes.Holds region.now f
+        → slice_index f (axes.axis_index axis) < least) }
 {
     if let Some(parts) = region.split(axis, least) {
         return Some(parts.1);
@@ -59,9 +74,12 @@ fn from_on(region: &Region, axis: Axis, least: u128) -> Option<Region>
 }
 
 /// The fields of the region whose value on the axis is this or less, if there are any.
-fn up_to(region: &Region, axis: Axis, most: u128) -> Option<Region>
-    ensures some { IfSome result (λ r. (f : List ℕ) → boxes.Holds r f ↔ (boxes.Holds region.now f × (slice_index f (axes.axis_index axis) ≤ most))) }
-    ensures none { IfNone result ((f : List ℕ) → boxes.Holds region.now f → most < slice_index f (axes.axis_index axis)) }
+fn part_up_to(region: &Region, axis: Axis, most: u128) -> Option<Region>
+    ensures some { IfSome result (λ r. (f : List ℕ)
+        → boxes.Holds r f ↔ (boxes.Holds region.now f
+        × (slice_index f (axes.axis_index axis) ≤ most))) }
+    ensures none { IfNone result ((f : List ℕ) → boxes.Holds region.now f
+        → most < slice_index f (axes.axis_index axis)) }
 {
     if region.far_corner().get(axis) <= most {
         return Some(*region);
@@ -84,7 +102,7 @@ fn span(entry: MatchEntry) -> u128
 /// The least value that begins with the bits of an entry.
 fn least_of(entry: MatchEntry) -> u128
     requires { IsEntry entry }
-    ensures { result ≡ standings.entry_low entry }
+    ensures { result ≡ overlaps.entry_low entry }
 {
     if entry.bits == 0 {
         return 0;
@@ -95,7 +113,7 @@ fn least_of(entry: MatchEntry) -> u128
 /// The greatest value that begins with the bits of an entry.
 fn most_of(entry: MatchEntry) -> u128
     requires { IsEntry entry }
-    ensures { result ≡ standings.entry_high entry }
+    ensures { result ≡ overlaps.entry_high entry }
 {
     if entry.bits == 0 {
         return top(entry.axis);
@@ -104,41 +122,46 @@ fn most_of(entry: MatchEntry) -> u128
 }
 
 /// The fields of the region that begin with the bits of an entry, if there are any.
-fn narrowed(region: &Region, entry: MatchEntry) -> Option<Region>
+fn entry_part(region: &Region, entry: MatchEntry) -> Option<Region>
     requires { IsEntry entry }
-    ensures some { IfSome result (λ r. (f : List ℕ) → boxes.Holds r f ↔ (boxes.Holds region.now f × (standings.begins_with entry f ≡ true))) }
-    ensures none { IfNone result ((f : List ℕ) → boxes.Holds region.now f → standings.begins_with entry f ≡ false) }
+    ensures some { IfSome result (λ r. (f : List ℕ)
+        → boxes.Holds r f ↔ (boxes.Holds region.now f × (overlaps.begins_with entry f ≡ true))) }
+    ensures none { IfNone result ((f : List ℕ) → boxes.Holds region.now f
+        → overlaps.begins_with entry f ≡ false) }
 {
-    match from_on(region, entry.axis, least_of(entry)) {
+    match part_from(region, entry.axis, least_of(entry)) {
         None => None,
-        Some(above) => up_to(&above, entry.axis, most_of(entry)),
+        Some(above) => part_up_to(&above, entry.axis, most_of(entry)),
     }
 }
 
 /// The fields of the region for which all entries hold, if there are any.
-pub(crate) fn matching(region: &Region, entries: &[MatchEntry]) -> Option<Region>
+pub(crate) fn match_part(region: &Region, entries: &[MatchEntry]) -> Option<Region>
     requires { AllByRecursion IsEntry entries.now }
-    ensures some { IfSome result (λ r. (f : List ℕ) → boxes.Holds r f ↔ (boxes.Holds region.now f × (leaves.matches_packet entries.now f ≡ true))) }
-    ensures none { IfNone result ((f : List ℕ) → boxes.Holds region.now f → leaves.matches_packet entries.now f ≡ false) }
+    ensures some { IfSome result (λ r. (f : List ℕ)
+        → boxes.Holds r f ↔ (boxes.Holds region.now f × (leaves.matches_packet entries.now f
+        ≡ true))) }
+    ensures none { IfNone result ((f : List ℕ) → boxes.Holds region.now f
+        → leaves.matches_packet entries.now f ≡ false) }
 {
     match entries {
         [] => Some(*region),
-        [entry, rest @ ..] => match narrowed(region, *entry) {
+        [entry, rest @ ..] => match entry_part(region, *entry) {
             None => None,
-            Some(left) => matching(&left, rest),
+            Some(left) => match_part(&left, rest),
         },
     }
 }
 
-/// Whether a match, all of its entries together, holds of all fields of the region or of none. None where it holds
-/// of some only.
-pub fn standing_to_match(region: &Region, entries: &[MatchEntry]) -> Option<bool>
+/// How much of the region a match holds of, all of its entries together.
+pub fn match_overlap(region: &Region, entries: &[MatchEntry]) -> Overlap
     requires { AllByRecursion IsEntry entries.now }
-    ensures { result ≡ standings.standing region.now (standings.match_fields entries.now) }
+    ensures { result ≡ overlaps.region_overlap region.now (overlaps.match_fields entries.now) }
 {
-    bounded(region);
-    match matching(region, entries) {
-        None => Some(false),
-        Some(left) => standing(region, &left),
+    // For the prover alone: the bounds of a region hold.
+    bounds_hold(region);
+    match match_part(region, entries) {
+        None => Overlap::Nothing,
+        Some(left) => region_overlap(region, &left),
     }
 }

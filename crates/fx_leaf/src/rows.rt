@@ -4,10 +4,9 @@ ghost use Rattle.std.specs.Int.{bit_at};
 ghost use Rattle.fx_leaf.specs.Reach as reach;
 ghost use Rattle.fx_leaf.specs.Tables as by_table;
 
-use crate::entry::entry_from;
-use crate::lent::Tables;
-use crate::reach::{mark, marked_at};
-use crate::table::{LAYOUTS, Row};
+use crate::reach::{mark, marks_at};
+use crate::table::{LAYOUTS, Row, Verdicts};
+use crate::tables::Tables;
 use crate::verdict::Fate;
 use fx_boxes::Region;
 use fx_tables::Crossing;
@@ -31,7 +30,7 @@ fn fill_row(rows: &mut [Row], layouts: u64, tables: &Tables<'_>, region: &Region
     requires right { let t = tables.now in
         let right = reach.IsVerdict t.net t.numbering region.now rows.old in
         (number : ℕ) → bit_at layouts number ≡ 1
-        → reach.SentFrom t.net t.numbering right number (slice_get t.net.processes process) }
+        → reach.HoldsBehind t.net t.numbering right number (slice_get t.net.processes process) }
     ensures filled { let t = tables.now in
         (number : ℕ) → bit_at layouts number ≡ 1
         → reach.IsVerdict t.net t.numbering region.now rows.new process number }
@@ -41,7 +40,12 @@ fn fill_row(rows: &mut [Row], layouts: u64, tables: &Tables<'_>, region: &Region
     let every = tables.layouts();
     for number in 0..every.len() {
         if (layouts >> number) & 1 == 1 {
-            let verdict = entry_from(rows, tables, region, process, number, &every[number]);
+            let verdicts = Verdicts {
+                tables: &*tables,
+                rows: &*rows,
+                region: &*region,
+            };
+            let verdict = verdicts.entry_from(process, number, &every[number]);
             set_entry(rows, process, number, verdict);
         }
     }
@@ -57,7 +61,7 @@ fn fill(rows: &mut [Row], marks: &[u64], tables: &Tables<'_>, region: &Region)
         reach.IsFilled t.net t.numbering region.now marks.now rows.new }
 {
     for process in tables.order() {
-        let layouts = marked_at(marks, *process);
+        let layouts = marks_at(marks, *process);
         if layouts != 0 {
             fill_row(rows, layouts, tables, region, *process);
         }
@@ -76,7 +80,7 @@ pub(crate) fn prepare(
     requires size { length rows.old ≡ length tables.now.net.processes }
     requires marks { length marks.old ≡ length tables.now.net.processes }
     ensures along { let t = tables.now in
-        reach.SentAlong t.net t.numbering (reach.Marked marks.new) path.now }
+        reach.HoldsAlongPath t.net t.numbering (reach.IsMarked marks.new) path.now }
     ensures filled { let t = tables.now in
         reach.IsFilled t.net t.numbering region.now marks.new rows.new }
 {

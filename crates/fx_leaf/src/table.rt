@@ -4,13 +4,14 @@ ghost use Rattle.fx_base.specs.Fault.{fault_at};
 ghost use Rattle.fx_base.specs.declared.fault.Place.TheVariants as places;
 ghost use Rattle.fx_leaf.specs.Tables as by_table;
 
-use crate::lent::Tables;
+use crate::tables::Tables;
 use crate::verdict::Fate;
 use fx_base::Fault;
+use fx_boxes::Region;
 use std::alloc::{AllocError, Global};
 use std::marker::Model;
 
-/// How many different layouts the records of a network may have.
+/// How many different layouts the records of a network may have: `layout_limit` of the definitions.
 pub const LAYOUTS: usize = 64;
 
 /// The verdicts on records that come to a collecting process, by the number of their layout.
@@ -57,13 +58,23 @@ impl Row {
     }
 }
 
-/// The entry for a collecting process and the layout of this number, from 0 each.
-pub(crate) fn entry(rows: &[Row], process: usize, layout: usize) -> Option<Fate>
-    ensures { result ≡ by_table.entry rows.now process layout }
-{
-    match rows.get(process) {
-        None => Some(Fate::Never),
-        Some(row) => row.at(layout),
+/// The verdicts on a region's packets by table: what a plan lends, and for each collecting process a row.
+#[derive(Drop)]
+pub(crate) struct Verdicts<'a, 't> {
+    pub(crate) tables: &'a Tables<'t>,
+    pub(crate) rows: &'a [Row],
+    pub(crate) region: &'a Region,
+}
+
+impl Verdicts<'_, '_> {
+    /// The entry for a collecting process and the layout of this number, from 0 each.
+    pub(crate) fn entry(&self, process: usize, layout: usize) -> Option<Fate>
+        ensures { result ≡ by_table.entry self.now.rows.now process layout }
+    {
+        match self.rows.get(process) {
+            None => Some(Fate::Never),
+            Some(row) => row.at(layout),
+        }
     }
 }
 

@@ -3,6 +3,8 @@ ghost use Rattle.std.specs.Prelude.{◌≡◌};
 ghost use Rattle.fx_leaf.specs.Fates as fates;
 ghost use Rattle.fx_leaf.specs.Verdicts as verdicts;
 
+use crate::regions::Overlap;
+
 /// How often a packet, or a record with some key, comes to be counted.
 #[derive(Clone, Copy, Debug, PartialEq, Eq)]
 pub enum Fate {
@@ -46,8 +48,8 @@ impl Fate {
 }
 
 /// The verdict where both happen: none where either is cut.
-pub fn both_judged(one: Option<Fate>, other: Option<Fate>) -> Option<Fate>
-    ensures { result ≡ verdicts.both_judged one other }
+pub fn verdict_of_both(one: Option<Fate>, other: Option<Fate>) -> Option<Fate>
+    ensures { result ≡ verdicts.verdict_of_both one other }
 {
     let one = one?;
     let other = other?;
@@ -55,17 +57,22 @@ pub fn both_judged(one: Option<Fate>, other: Option<Fate>) -> Option<Fate>
 }
 
 /// The verdict where one of both happens: none where either is cut.
-pub fn either_judged(one: Option<Fate>, other: Option<Fate>) -> Option<Fate>
-    ensures { result ≡ verdicts.either_judged one other }
+pub fn verdict_of_either(one: Option<Fate>, other: Option<Fate>) -> Option<Fate>
+    ensures { result ≡ verdicts.verdict_of_either one other }
 {
     let one = one?;
     let other = other?;
     Some(one.either(other))
 }
 
-/// The verdict on what happens where a test passes, by whether it passes for all packets of a region or for none.
-pub fn where_passed(passes: Option<bool>, verdict: Option<Fate>) -> Option<Fate>
-    ensures { result ≡ verdicts.where_passed passes verdict }
+/// The verdict on what happens where a test passes, by how much of a region it passes for: none where it cuts the
+/// region.
+pub fn overlap_verdict(overlap: Overlap, verdict: Option<Fate>) -> Option<Fate>
+    ensures { result ≡ verdicts.overlap_verdict overlap verdict }
 {
-    if passes? { verdict } else { Some(Fate::Never) }
+    match overlap {
+        Overlap::Whole => verdict,
+        Overlap::Nothing => Some(Fate::Never),
+        Overlap::Part => None,
+    }
 }

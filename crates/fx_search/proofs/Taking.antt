@@ -11,12 +11,12 @@ use Rattle.fx_cert.specs.declared.item.Item.TheVariants as item
 use Rattle.fx_cert.specs.declared.item.Version.{Version}
 use Rattle.fx_elements.specs.declared.axis.Axis.{Axis}
 use Rattle.fx_tables.specs.Network.{Net}
-use Rattle.fx_leaf.specs.declared.judging.Judgement.{Judgement}
-use Rattle.fx_leaf.specs.declared.judging.Judgement.TheVariants as judged
+use Rattle.fx_leaf.specs.declared.judgement.Judgement.{Judgement}
+use Rattle.fx_leaf.specs.declared.judgement.Judgement.TheVariants as judged
 use Rattle.fx_leaf.specs.declared.verdict.Fate.{Fate}
 use Rattle.fx_leaf.specs.declared.verdict.Fate.TheVariants as fates
 use Rattle.fx_leaf.specs.Answers.{AllHave}
-use Rattle.fx_leaf.specs.Fates.{packet_fate, wanted}
+use Rattle.fx_leaf.specs.Fates.{packet_fate, wanted_fate}
 use Rattle.fx_leaf.specs.Judgements.{IsJudged}
 use Rattle.fx_leaf.specs.SoundLeaves.{SoundLeaf, SoundNever}
 use Rattle.fx_traffic.specs.Targets.{Target}
@@ -118,8 +118,8 @@ lows_held b r = holds_if b b.low (λ k. λ small. (omega arith, (r k small).0))
 
 pub wrong_at : (net : Net) (a : Ahead) (j : Judgement) → IsRegion a.region → IsJudged net a.target.crossings a.region j → ((axis : Axis) (at : ℕ) → j ≡ judged.Cut axis at → ⊥) → leaf_item j a.target.exempt ≡ None → IsWrongAt net a
 wrong_at net a j region is uncut none = go j is uncut a.target.exempt refl none where
-  has : (f : Fate) → AllHave net a.target.crossings a.region f → (exempt : Bool) → a.target.exempt ≡ exempt → f ≢ wanted exempt → packet_fate net a.region.low a.target.crossings ≢ wanted a.target.exempt
-  has f all exempt wants other e = other (sym (all a.region.low (lows_held a.region region)) ∙ e ∙ ap wanted wants)
+  has : (f : Fate) → AllHave net a.target.crossings a.region f → (exempt : Bool) → a.target.exempt ≡ exempt → f ≢ wanted_fate exempt → packet_fate net a.region.low a.target.crossings ≢ wanted_fate a.target.exempt
+  has f all exempt wants other e = other (sym (all a.region.low (lows_held a.region region)) ∙ e ∙ ap wanted_fate wants)
 
   go : (k : Judgement) → IsJudged net a.target.crossings a.region k → ((axis : Axis) (at : ℕ) → k ≡ judged.Cut axis at → ⊥) → (exempt : Bool) → a.target.exempt ≡ exempt → leaf_item k exempt ≡ None → IsWrongAt net a
   go (judged.Cut axis at) k not exempt wants e = absurd (not axis at refl)

@@ -5,7 +5,7 @@ use Rattle.fx_elements.specs.Axes.{axis_index}
 use Rattle.fx_boxes.specs.Boxes.{Bounds, below_part, above_part}
 use Rattle.fx_tables.specs.Network.{Net}
 use Rattle.fx_leaf.specs.Answers.{NothingCuts}
-use Rattle.fx_leaf.specs.Fates.{packet_fate, wanted}
+use Rattle.fx_leaf.specs.Fates.{packet_fate, wanted_fate}
 use Rattle.fx_leaf.specs.SoundLeaves.{SoundLeaf, SoundNever}
 use Rattle.fx_leaf.specs.Splits.{IsSplit}
 use Rattle.fx_traffic.specs.Targets.{Target}
@@ -58,4 +58,4 @@ pub data IsTooLarge (net : Net) (targets : List Target) (most : ℕ) : Type 0 wh
   -- a split deeper than any may be
   depth : (a : Ahead) (rest : List Ahead) (n : ℕ) → Front net targets (a ∷ rest) n → a.depth ≡ depth_limit → IsCut net a → IsTooLarge net targets most
   -- nothing cuts the region, and its least packet hasn't the fate that the class wants, but no run that shows it is short enough
-  steps : (a : Ahead) (rest : List Ahead) (n : ℕ) → Front net targets (a ∷ rest) n → NothingCuts net a.target.crossings a.region → packet_fate net a.region.low a.target.crossings ≢ wanted a.target.exempt → HasNoRun net a.region.low a.target.crossings a.target.exempt → IsTooLarge net targets most
+  steps : (a : Ahead) (rest : List Ahead) (n : ℕ) → Front net targets (a ∷ rest) n → NothingCuts net a.target.crossings a.region → packet_fate net a.region.low a.target.crossings ≢ wanted_fate a.target.exempt → HasNoRun net a.region.low a.target.crossings a.target.exempt → IsTooLarge net targets most

@@ -12,11 +12,11 @@ use Rattle.fx_boxes.specs.Boxes.{IsInside}
 use Rattle.fx_tables.specs.Classes.{Class}
 use Rattle.fx_tables.specs.Network.{Net}
 use Rattle.fx_base.specs.Entries.{numbered}
-use Rattle.fx_leaf.specs.declared.judging.Judgement.{Judgement}
-use Rattle.fx_leaf.specs.declared.judging.Judgement.TheVariants as judged
+use Rattle.fx_leaf.specs.declared.judgement.Judgement.{Judgement}
+use Rattle.fx_leaf.specs.declared.judgement.Judgement.TheVariants as judged
 use Rattle.fx_leaf.specs.Answers.{NothingCuts}
 use Rattle.fx_leaf.specs.Certificates.{Tree, SoundTree}
-use Rattle.fx_leaf.specs.Fates.{packet_fate, wanted}
+use Rattle.fx_leaf.specs.Fates.{packet_fate, wanted_fate}
 use Rattle.fx_traffic.specs.Targets.{Target}
 use Rattle.fx_check.specs.Certificates.{IsShallow, IsWritable, size, tree_items}
 use Rattle.fx_check.specs.Verdict.{depth_limit}
@@ -53,7 +53,7 @@ pub record IsGrowing (net : Net) (targets : List Target) (version : Version) (mo
 
 -- nothing cuts the region, and its least packet hasn't the fate that its class wants
 abbrev pub IsWrongAt : Net → Ahead → Type 0
-IsWrongAt net a = NothingCuts net a.target.crossings a.region × (packet_fate net a.region.low a.target.crossings ≢ wanted a.target.exempt)
+IsWrongAt net a = NothingCuts net a.target.crossings a.region × (packet_fate net a.region.low a.target.crossings ≢ wanted_fate a.target.exempt)
 
 -- a region was gone past by a line more, or its packets haven't the fate that is wanted
 abbrev pub IsTaken : Net → List Target → Version → ℕ → List Item → ℕ → List Ahead → Ahead → Bool → Type 0

@@ -11,7 +11,7 @@ use Rattle.fx_machine.specs.States.{crossings_from}
 use Rattle.fx_machine.proofs.Lists.{nothing_empty}
 use Rattle.fx_leaf.specs.declared.verdict.Fate.{Fate}
 use Rattle.fx_leaf.specs.declared.verdict.Fate.TheVariants.{Never}
-use Rattle.fx_leaf.specs.Fates.{wanted}
+use Rattle.fx_leaf.specs.Fates.{wanted_fate}
 use Rattle.fx_leaf.specs.Tables.{Numbering}
 use Rattle.fx_leaf.proofs.Verdicts.{both_never}
 use Rattle.fx_machine.specs.Limits.{step_limit}
@@ -39,7 +39,7 @@ module _ (net : Net) (n : Numbering) (classes : List Class) (p : Packet) where
   }
 
   -- where all is done and another fate was wanted, the run is wrong
-  pub ends_wrong : IsNetwork net → (f : Fate) (steps : List Step) → length steps ≤ step_limit → f ≢ wanted (exempts (numbered classes p.class)) → UnderWay net n classes p [] f steps [] → IsWrongRun net classes p steps
+  pub ends_wrong : IsNetwork net → (f : Fate) (steps : List Step) → length steps ≤ step_limit → f ≢ wanted_fate (exempts (numbered classes p.class)) → UnderWay net n classes p [] f steps [] → IsWrongRun net classes p steps
   ends_wrong network f steps few wrong way =
       let more : way.unassigned ≡ 0 + way.unassigned = omega arith in
       let last = reached net p way.tallies way.unassigned [] in

@@ -14,7 +14,7 @@ use Rattle.fx_machine.specs.Steps.{acts_of, coming_to}
 use Rattle.fx_leaf.specs.Tables.{Numbering, Numbers, Tables, AreTables}
 use Rattle.fx_leaf.proofs.FateLaws.{Every}
 use Rattle.fx_leaf.proofs.Ranks.{every_of_all}
-use Rattle.fx_leaf.proofs.Rowing.{set_elsewhere, set_here}
+use Rattle.fx_leaf.proofs.RowsGrow.{set_elsewhere, set_here}
 use Rattle.fx_steps.specs.declared.costs.Costs.{Costs}
 use Rattle.fx_steps.specs.Costs.{Tells, nothing}
 use Rattle.fx_steps.specs.CostTables.{CostTable, or_nothing, cost_in, cost_entry, cost_from, cost_row, cost_fill}

@@ -18,7 +18,7 @@ use Rattle.fx_machine.specs.Steps.{run, then_run, after, after_cross, later, pla
 use Rattle.fx_machine.specs.Sums.{total_at, one_more, plain_sum}
 use Rattle.fx_tables.specs.Ranks.{IsNetwork}
 use Rattle.fx_leaf.specs.declared.verdict.Fate.{Fate}
-use Rattle.fx_leaf.specs.Fates.{both, wanted}
+use Rattle.fx_leaf.specs.Fates.{both, wanted_fate}
 use Rattle.fx_leaf.specs.Laws.{IsSized}
 use Rattle.fx_machine.proofs.Lists.{length_nothing}
 use Rattle.fx_leaf.proofs.Totals.{same_key_refl}
@@ -110,7 +110,7 @@ module _ (net : Net) (classes : List Class) (p : Packet) (network : IsNetwork ne
   tallied_once : (t : ℕ) → suc t < 2 ^ 64 → (c : Counts) × (total_at (add_times (suc t) own_key (one_packet p) []) own_key ≡ Some c) × (c.packets ≡ 1 + t)
   tallied_once t few = let one = one_packet p in total_of_times t own_key one one refl (let e : 1 + t < 2 ^ 64 = omega arith in e)
 
-  not_counted : (exempt : Bool) (t u : ℕ) → t < 2 ^ 64 → fate_of t u ≢ wanted exempt → (last : State) → last.totals ≡ add_times t own_key (one_packet p) [] → last.unassigned ≡ 0 + u → CountsEachOnce net (counts_of exempt) last → ⊥
+  not_counted : (exempt : Bool) (t u : ℕ) → t < 2 ^ 64 → fate_of t u ≢ wanted_fate exempt → (last : State) → last.totals ≡ add_times t own_key (one_packet p) [] → last.unassigned ≡ 0 + u → CountsEachOnce net (counts_of exempt) last → ⊥
   not_counted exempt t (suc u) few wrong last totals lost counts = let k = counts.assigned in absurd (omega arith)
   not_counted false zero zero few wrong last totals lost counts =
       let none : total_at last.totals own_key ≡ None = ap (λ ts. total_at ts own_key) totals in
@@ -131,7 +131,7 @@ module _ (net : Net) (classes : List Class) (p : Packet) (network : IsNetwork ne
       absurd (omega arith)
 
   -- where another fate was wanted, the packet isn't counted as it should be
-  pub is_wrong : (t u : ℕ) → t < 2 ^ 64 → (s : State) → s.totals ≡ [] → s.unassigned ≡ 0 → fate_of t u ≢ wanted (exempts (numbered classes p.class)) → CountsEachOnce net (to_count classes (p ∷ [])) (counted t u s) → ⊥
+  pub is_wrong : (t u : ℕ) → t < 2 ^ 64 → (s : State) → s.totals ≡ [] → s.unassigned ≡ 0 → fate_of t u ≢ wanted_fate (exempts (numbered classes p.class)) → CountsEachOnce net (to_count classes (p ∷ [])) (counted t u s) → ⊥
   is_wrong t u few s totals lost wrong =
       not_counted (exempts (numbered classes p.class)) t u few wrong (counted t u s) (ap (add_times t own_key (one_packet p)) totals) (ap (λ n. n + u) lost)
 

@@ -13,7 +13,7 @@ use Rattle.fx_machine.specs.States.{State, opening, Complete, add_at}
 use Rattle.fx_machine.specs.Steps.{run}
 use Rattle.fx_leaf.specs.declared.verdict.Fate.{Fate}
 use Rattle.fx_leaf.specs.declared.verdict.Fate.TheVariants.{Never, Once, Many, Unassigned}
-use Rattle.fx_leaf.specs.Fates.{wanted}
+use Rattle.fx_leaf.specs.Fates.{wanted_fate}
 
 -- the counts tallied so many times under a key
 abbrev pub add_times : ℕ → Key → Counts → List Record → List Record
@@ -35,4 +35,4 @@ pub record RunOf (net : Net) (classes : List Class) (p : Packet) (fate : Fate) (
   pub runs : run net classes (p ∷ []) steps (opening net classes (p ∷ [])) ≡ Ok final
   pub complete : Complete final
   pub number_is : length steps ≡ number
-  pub wrong : fate ≢ wanted (exempts (numbered classes p.class)) → CountsEachOnce net (to_count classes (p ∷ [])) final → ⊥
+  pub wrong : fate ≢ wanted_fate (exempts (numbered classes p.class)) → CountsEachOnce net (to_count classes (p ∷ [])) final → ⊥

@@ -10,7 +10,7 @@ use Rattle.fx_tables.specs.Network.{Net}
 use Rattle.fx_machine.specs.States.{State, opening, Complete}
 use Rattle.fx_machine.specs.Steps.{run}
 use Rattle.fx_leaf.specs.declared.verdict.Fate.{Fate}
-use Rattle.fx_leaf.specs.Fates.{wanted}
+use Rattle.fx_leaf.specs.Fates.{wanted_fate}
 use Rattle.fx_machine.specs.Limits.{step_limit}
 use Rattle.fx_steps.specs.Ways.{PacketComes}
 
@@ -26,9 +26,9 @@ pub record IsWrongRun (net : Net) (classes : List Class) (p : Packet) (steps : L
 -- in no fewer steps a packet with these fields, on this path, comes to another fate than the wanted one
 abbrev pub IsLeast : Net → Fields → List Crossing → Bool → ℕ → Type 0
 IsLeast net fields path exempt number =
-    (f : Fate) (n : ℕ) → f ≢ wanted exempt → PacketComes net fields path f n → number ≤ n
+    (f : Fate) (n : ℕ) → f ≢ wanted_fate exempt → PacketComes net fields path f n → number ≤ n
 
 -- it comes to no other fate than the wanted one in as many steps as a run may have
 abbrev pub HasNoRun : Net → Fields → List Crossing → Bool → Type 0
 HasNoRun net fields path exempt =
-    (f : Fate) (n : ℕ) → f ≢ wanted exempt → n ≤ step_limit → PacketComes net fields path f n → ⊥
+    (f : Fate) (n : ℕ) → f ≢ wanted_fate exempt → n ≤ step_limit → PacketComes net fields path f n → ⊥

@@ -2,7 +2,7 @@
 ghost use Rattle.std.specs.Prelude.{◌≡◌, ◌≢◌, ◌≤◌, ◌⊎◌, [], List, length, Ok, IfOk, IfErr, IfSome, IfNone};
 ghost use Rattle.fx_base.specs.Fault.{fault_at};
 ghost use Rattle.fx_base.specs.declared.fault.Place.TheVariants as places;
-ghost use Rattle.fx_leaf.specs.Fates.{wanted};
+ghost use Rattle.fx_leaf.specs.Fates.{wanted_fate};
 ghost use Rattle.fx_leaf.specs.Tables as by_table;
 ghost use Rattle.fx_leaf.specs.declared.verdict.Fate as of_fate;
 ghost use Rattle.fx_leaf.specs.declared.verdict.Fate.TheVariants as fates;
@@ -43,8 +43,8 @@ fn cheaper(told: Costs, one: Fate, other: Fate) -> Fate
 
 /// Of all fates but the wanted one, a fate that costs least.
 fn least_unwanted(told: Costs, exempt: bool) -> Fate
-    ensures unwanted { result ≢ wanted exempt }
-    ensures least { (f : of_fate.Fate) → f ≢ wanted exempt → f ≢ fates.Differing
+    ensures unwanted { result ≢ wanted_fate exempt }
+    ensures least { (f : of_fate.Fate) → f ≢ wanted_fate exempt → f ≢ fates.Differing
         → costs.cost_of told result ≤ costs.cost_of told f }
 {
     let uncounted = if exempt { Fate::Once } else { Fate::Never };

@@ -1,9 +1,9 @@
-//! How fates join, and how regions stand to selections and matches.
+//! How fates join, and how much of a region is selected, or matches.
 use crate::meters::sources;
 use fx_elements::Axis;
 use fx_leaf::{
-    Fate, both_judged, conservation, either_judged, exactly_once, fates_along_ranks, standing,
-    standing_to, standing_to_match, verdicts_judge_regions, where_passed,
+    Fate, Overlap, conservation, exactly_once, fates_along_ranks, match_overlap, overlap_verdict,
+    region_overlap, selection_overlap, verdict_of_both, verdict_of_either, verdicts_judge_regions,
 };
 use fx_tables::MatchEntry;
 use std::test::Fail;
@@ -24,50 +24,53 @@ fn joins_fates(rt: HostRuntime) {
             && Fate::Once.either(Fate::Never) == Fate::Differing
     );
     assert!(rt;
-        both_judged(Some(Fate::Never), None) == None
-            && where_passed(Some(false), Some(Fate::Once)) == Some(Fate::Never)
-            && either_judged(Some(Fate::Once), Some(Fate::Once)) == Some(Fate::Once)
+        verdict_of_both(Some(Fate::Never), None) == None
+            && overlap_verdict(Overlap::Nothing, Some(Fate::Once)) == Some(Fate::Never)
+            && verdict_of_either(Some(Fate::Once), Some(Fate::Once)) == Some(Fate::Once)
     );
 }
 
-/// Whether the sources from one to another stand like this to the sources below 128.0.0.0.
-fn stand(low: u128, high: u128, expected: Option<bool>) -> Result<bool, Fail> {
+/// Whether so much of the sources from one to another is below 128.0.0.0.
+fn is_below(low: u128, high: u128, expected: Overlap) -> Result<bool, Fail> {
     let region = sources(low, high)?;
     let half = sources(0, 0x7fff_ffff)?;
-    Ok(standing(&region, &half) == expected && standing_to(&region, &Some(half)) == expected)
+    Ok(
+        region_overlap(&region, &half) == expected
+            && selection_overlap(&region, &Some(half)) == expected,
+    )
 }
 
-/// How the sources from one to another stand to the match of those from 10.1.2.0/24.
-fn stand_to_match(low: u128, high: u128) -> Result<Option<bool>, Fail> {
+/// How much of the sources from one to another the match of those from 10.1.2.0/24 holds of.
+fn overlap_with_match(low: u128, high: u128) -> Result<Overlap, Fail> {
     let entries = [MatchEntry {
         axis: Axis::Source,
         bits: 24,
         value: 0x0a_0102,
     }];
-    Ok(standing_to_match(&sources(low, high)?, entries.as_slice()))
+    Ok(match_overlap(&sources(low, high)?, entries.as_slice()))
 }
 
 #[test]
-fn stands_to_selections(rt: HostRuntime) -> Result<(), Fail> {
+fn overlaps_with_selections(rt: HostRuntime) -> Result<(), Fail> {
     for (low, high, expected) in [
-        (5, 6, Some(true)),
-        (0x7fff_ffff, 0x8000_0000, None),
-        (0x8000_0000, 0x8000_0001, Some(false)),
+        (5, 6, Overlap::Whole),
+        (0x7fff_ffff, 0x8000_0000, Overlap::Part),
+        (0x8000_0000, 0x8000_0001, Overlap::Nothing),
     ] {
-        assert!(rt; stand(low, high, expected)?, "from {low} to {high}");
+        assert!(rt; is_below(low, high, expected)?, "from {low} to {high}");
     }
-    assert!(rt; standing_to(&sources(0, 0x7fff_ffff)?, &None) == Some(false));
+    assert!(rt; selection_overlap(&sources(0, 0x7fff_ffff)?, &None) == Overlap::Nothing);
     Ok(())
 }
 
 #[test]
-fn stands_to_matches(rt: HostRuntime) -> Result<(), Fail> {
+fn overlaps_with_matches(rt: HostRuntime) -> Result<(), Fail> {
     for (low, high, expected) in [
-        (0x0a01_0200, 0x0a01_02ff, Some(true)),
-        (0x0a01_0200, 0x0a01_0300, None),
+        (0x0a01_0200, 0x0a01_02ff, Overlap::Whole),
+        (0x0a01_0200, 0x0a01_0300, Overlap::Part),
     ] {
         assert!(rt;
-            stand_to_match(low, high)? == expected,
+            overlap_with_match(low, high)? == expected,
             "from {low} to {high}"
         );
     }

@@ -1,5 +1,5 @@
 use Rattle.std.proofs.Common.{arith}
-use Rattle.fx_leaf.proofs.Bounding.{on_each, uncut_by}
+use Rattle.fx_leaf.proofs.CutsHaveBounds.{on_each, uncut_by}
 use Rattle.fx_leaf.proofs.bound.bound.Goals as goal
 
 pub returns-clause-none : goal.returns-clause-none

@@ -1,5 +1,5 @@
 use Rattle.fx_leaf.proofs.Answers.{none_is_cut, some_is_fate, once_is_sound, no_other_is_sound, never_is_sound, sound_is_never}
-use Rattle.fx_leaf.proofs.Filling.{table_is_verdicts}
+use Rattle.fx_leaf.proofs.RowsAreVerdicts.{table_is_verdicts}
 use Rattle.fx_leaf.proofs.laws.verdicts_judge_regions.Goals as goal
 
 pub returns-clause-none : goal.returns-clause-none

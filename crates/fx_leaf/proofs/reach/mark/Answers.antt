@@ -1,6 +1,6 @@
 use Rattle.std.proofs.Common.{◌≡◌, ◌∙◌, ap, List, ℕ, length, subst, sym}
-use Rattle.fx_leaf.specs.Reach.{Marked, SentAlong, IsClosed, spread, holders_along}
-use Rattle.fx_leaf.proofs.Marking.{spread_closed, along_marked, length_holders}
+use Rattle.fx_leaf.specs.Reach.{IsMarked, HoldsAlongPath, IsClosed, spread, holders_along}
+use Rattle.fx_leaf.proofs.MarksAreClosed.{spread_closed, along_marked, length_holders}
 use Rattle.fx_leaf.proofs.reach.mark.Goals as goal
 
 pub returns-clause-along : goal.returns-clause-along
@@ -9,7 +9,7 @@ returns-clause-along c =
     let path = c.args.path.now in
     let cleared = c.fill.new.self in
     let same = c.spread.ensures ∙ ap (spread t.net t.numbering t.order) c.mark_along.ensures in
-    subst (λ (ms : List ℕ). SentAlong t.net t.numbering (Marked ms) path) (sym same) (along_marked t path cleared (c.fill.ensures.len ∙ c.requires.size))
+    subst (λ (ms : List ℕ). HoldsAlongPath t.net t.numbering (IsMarked ms) path) (sym same) (along_marked t path cleared (c.fill.ensures.len ∙ c.requires.size))
 
 pub returns-clause-closed : goal.returns-clause-closed
 returns-clause-closed c =

@@ -1,6 +1,6 @@
 use Rattle.std.proofs.Common.{◌≡◌, ◌∙◌, ◌<◌, ◌-◌, ℕ, List, [], length, drop, get_or, ap, subst, sym, arith}
-use Rattle.fx_leaf.proofs.Marking.{length_spread}
-use Rattle.fx_leaf.proofs.Rowing.{is_there}
+use Rattle.fx_leaf.proofs.MarksAreClosed.{length_spread}
+use Rattle.fx_leaf.proofs.RowsGrow.{is_there}
 use Rattle.fx_leaf.proofs.reach.spread.Goals as goal
 
 pub mark_from-requires-clause-there : goal.mark_from-requires-clause-there

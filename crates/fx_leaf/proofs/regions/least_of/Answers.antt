@@ -1,5 +1,5 @@
 use Rattle.std.proofs.Common.{arith}
-use Rattle.fx_leaf.proofs.Standings.{low_fits}
+use Rattle.fx_leaf.proofs.OverlapsAreRight.{low_fits}
 use Rattle.fx_leaf.proofs.regions.least_of.Goals as goal
 
 pub overflow_mul-result : goal.overflow_mul-result

@@ -1,5 +1,5 @@
 use Rattle.std.proofs.Common.{arith}
-use Rattle.fx_leaf.proofs.Standings.{high_fits}
+use Rattle.fx_leaf.proofs.OverlapsAreRight.{high_fits}
 use Rattle.fx_leaf.proofs.regions.most_of.Goals as goal
 
 pub overflow_add-result : goal.overflow_add-result

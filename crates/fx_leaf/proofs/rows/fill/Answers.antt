@@ -1,11 +1,11 @@
 use Rattle.std.proofs.Common.{◌<◌, ◌≤◌, ℕ, List, [], length, get_or, slice_get, ap, ◌∙◌, subst, sym, arith}
 use Rattle.std.specs.Int.{bit_at}
-use Rattle.fx_leaf.specs.Reach.{Marked, SentFrom, IsVerdict}
-use Rattle.fx_leaf.proofs.Rowing.{next_right, all_filled, is_there}
+use Rattle.fx_leaf.specs.Reach.{IsMarked, HoldsBehind, IsVerdict}
+use Rattle.fx_leaf.proofs.RowsGrow.{next_right, all_filled, is_there}
 use Rattle.fx_leaf.proofs.rows.fill.Goals as goal
 
-pub marked_at-layouts-requires : goal.marked_at-layouts-requires
-marked_at-layouts-requires c =
+pub marks_at-layouts-requires : goal.marks_at-layouts-requires
+marks_at-layouts-requires c =
     let t = c.args.tables.now in
     let k = c.loop-process.process-index in
     let P : List ℕ → Type 0 = λ ps. k < length ps → get_or ps k 0 < length t.net.processes in
@@ -19,9 +19,9 @@ fill_row-requires-clause-right c =
     let marks = c.args.marks.now in
     let rows = c.loop-process.rows in
     let k = c.loop-process.process-index in
-    let P : List ℕ → Type 0 = λ ps. k < length ps → (number : ℕ) → Marked marks (get_or ps k 0) number → SentFrom t.net t.numbering (IsVerdict t.net t.numbering region rows) number (slice_get t.net.processes (get_or ps k 0)) in
+    let P : List ℕ → Type 0 = λ ps. k < length ps → (number : ℕ) → IsMarked marks (get_or ps k 0) number → HoldsBehind t.net t.numbering (IsVerdict t.net t.numbering region rows) number (slice_get t.net.processes (get_or ps k 0)) in
     let right = subst P (sym c.order-process-items.ensures) (λ lt. next_right t c.requires.tables region marks c.requires.closed rows k lt c.loop-process.invariant) c.loop-process-test.true in
-    λ number. λ h. right number (ap (λ m. bit_at m number) (sym c.marked_at-layouts.ensures) ∙ h)
+    λ number. λ h. right number (ap (λ m. bit_at m number) (sym c.marks_at-layouts.ensures) ∙ h)
 
 pub returns : goal.returns
 returns c =

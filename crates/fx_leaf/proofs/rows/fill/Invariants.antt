@@ -1,4 +1,4 @@
-use Rattle.fx_leaf.proofs.Rowing.{FilledTo}
+use Rattle.fx_leaf.proofs.RowsGrow.{FilledTo}
 use Rattle.fx_leaf.proofs.rows.fill.Given as goal
 
 abbrev pub invariant-loop-process : goal.invariant-loop-process

@@ -3,7 +3,7 @@ use Rattle.std.proofs.lemmas.Nat.Bits.{shr_and_one}
 use Rattle.std.specs.Int.{bit_at}
 use Rattle.fx_layout.specs.Keys.{Layout}
 use Rattle.fx_leaf.specs.Tables.{Table}
-use Rattle.fx_leaf.proofs.Rowing.{RowFilled, row_passed, row_set, row_done, layout_at}
+use Rattle.fx_leaf.proofs.RowsGrow.{RowFilled, row_passed, row_set, row_done, layout_at}
 use Rattle.fx_leaf.proofs.rows.fill_row.Goals as goal
 use Rattle.fx_leaf.proofs.rows.fill_row.Goals.{then-layouts-number-eq1, else-layouts-number-eq1}
 

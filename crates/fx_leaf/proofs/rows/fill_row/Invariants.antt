@@ -1,4 +1,4 @@
-use Rattle.fx_leaf.proofs.Rowing.{RowFilled}
+use Rattle.fx_leaf.proofs.RowsGrow.{RowFilled}
 use Rattle.fx_leaf.proofs.rows.fill_row.Given as goal
 
 abbrev pub invariant-loop-number : goal.invariant-loop-number

@@ -1,4 +1,4 @@
-use Rattle.fx_leaf.proofs.Rowing.{set_others}
+use Rattle.fx_leaf.proofs.RowsGrow.{set_others}
 use Rattle.fx_leaf.proofs.rows.set_entry.Goals as goal
 
 pub returns-clause-others : goal.returns-clause-others

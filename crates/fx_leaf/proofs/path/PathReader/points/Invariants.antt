@@ -1,0 +1,10 @@
+use Rattle.std.proofs.Common.{take}
+use Rattle.fx_leaf.specs.Leaves.{AddsVerdicts}
+use Rattle.fx_leaf.specs.Verdicts.{verdict, crossing_verdicts}
+use Rattle.fx_leaf.proofs.path.PathReader.points.Given as goal
+
+abbrev pub invariant-loop-place : goal.invariant-loop-place
+invariant-loop-place l =
+    let net = l.self.verdicts.tables.now.net in
+    let region = l.self.verdicts.region.now in
+    AddsVerdicts l.initial.known l.known (crossing_verdicts (verdict net region) net region l.number 1 (take l.place l.points) l.crossing)

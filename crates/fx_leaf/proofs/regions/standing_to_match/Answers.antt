@@ -1,9 +1,0 @@
-use Rattle.std.proofs.Common.{◌∙◌}
-use Rattle.fx_leaf.proofs.Standings.{match_none, match_some}
-use Rattle.fx_leaf.proofs.regions.standing_to_match.Goals as goal
-
-pub returns-in-None : goal.returns-in-None
-returns-in-None c = match_none c.args.region.now c.args.entries.now c.bounded.ensures c.in-None.ensures.none
-
-pub returns-in-Some : goal.returns-in-Some
-returns-in-Some c = c.standing.ensures ∙ match_some c.args.region.now c.in-Some.left c.args.entries.now c.bounded.ensures c.in-Some.ensures.some

@@ -1,6 +1,0 @@
-use Rattle.fx_leaf.specs.Tables.{entry}
-use Rattle.fx_leaf.proofs.Joins.{So, at_place}
-use Rattle.fx_leaf.proofs.sending.sent.Given as goal
-
-abbrev pub invariant-loop-place : goal.invariant-loop-place
-invariant-loop-place l = So (at_place (entry l.rows) l.net l.layout) l.joined l.places l.place-index

@@ -1,8 +1,0 @@
-use Rattle.fx_leaf.specs.Tables.{entry}
-use Rattle.fx_leaf.specs.Verdicts.{destination_verdict}
-use Rattle.fx_leaf.proofs.Joins.{OneSo}
-use Rattle.fx_leaf.proofs.sending.to_first_or.Given as goal
-
-abbrev pub invariant-loop-other : goal.invariant-loop-other
-invariant-loop-other l =
-    OneSo (destination_verdict (entry l.rows) l.net l.layout) (destination_verdict (entry l.rows) l.net l.layout l.fn.first) l.joined l.others l.other-index

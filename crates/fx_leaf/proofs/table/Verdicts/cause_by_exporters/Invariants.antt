@@ -1,0 +1,7 @@
+use Rattle.fx_leaf.specs.Tables.{entry}
+use Rattle.fx_leaf.proofs.Joins.{at_place}
+use Rattle.fx_leaf.proofs.CausesFound.{Still}
+use Rattle.fx_leaf.proofs.table.Verdicts.cause_by_exporters.Given as goal
+
+abbrev pub invariant-loop-place : goal.invariant-loop-place
+invariant-loop-place l = Still (at_place (entry l.self.rows.now) l.self.tables.now.net l.number) l.places l.place-index

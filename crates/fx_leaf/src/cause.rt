@@ -1,0 +1,220 @@
+//! What cuts a region, followed from where there is no verdict.
+ghost use Rattle.std.specs.Prelude.{◌≡◌, map, slice_get, Some, None, [], ◌∷◌, IfSome, IfNone};
+ghost use Rattle.std.specs.List.{AllByRecursion};
+ghost use Rattle.fx_layout.specs.Keys as keys;
+ghost use Rattle.fx_tables.specs.Matches.{HasEntries};
+ghost use Rattle.fx_tables.specs.Network as network;
+ghost use Rattle.fx_leaf.specs.Causes as by_cause;
+ghost use Rattle.fx_leaf.specs.Tables as by_table;
+ghost use Rattle.fx_leaf.specs.Verdicts as verdicts;
+
+use crate::bound::bound_of_match;
+use crate::entry::layout_reads;
+use crate::regions::{Overlap, match_overlap};
+use crate::table::Verdicts;
+use fx_elements::Axis;
+use fx_layout::Layout;
+use fx_tables::{Aggregation, Process};
+
+/// Why there is no verdict.
+#[derive(Clone, Copy)]
+pub(crate) enum Cause {
+    /// Something cuts the region here, and has this bound strictly inside it.
+    Split(Axis, u128),
+    /// There is none at the collecting process of this place, on records of the layout of this number, from 0 each.
+    Behind(usize, usize),
+}
+
+impl Verdicts<'_, '_> {
+    /// The place of the collecting process to which a destination leads, if there is no verdict there.
+    fn cause_at_destination(&self, number: usize, destination: Option<usize>) -> Option<usize>
+        ensures some { let net = self.now.tables.now.net in
+            let table = self.now.rows.now in
+            IfSome result (λ process. by_cause.LeadsOn table net number
+            (destination ∷ []) process) }
+        ensures none { let net = self.now.tables.now.net in
+            let table = self.now.rows.now in
+            IfNone result (verdicts.destination_verdict
+            (by_table.entry table) net number destination ≡ None → ⊥) }
+    {
+        let link = destination?;
+        let Some(process) = self.tables.net().links().get(link) else {
+            return None;
+        };
+        if self.entry(*process, number).is_none() {
+            Some(*process)
+        } else {
+            None
+        }
+    }
+
+    /// The same for one of these destinations.
+    fn cause_among_destinations(
+        &self,
+        number: usize,
+        destinations: &[Option<usize>],
+    ) -> Option<usize>
+        ensures some { let net = self.now.tables.now.net in
+            let table = self.now.rows.now in
+            IfSome result (λ process. by_cause.LeadsOn table net number destinations.now process) }
+        ensures none { let net = self.now.tables.now.net in
+            let table = self.now.rows.now in
+            IfNone result (verdicts.verdict_of_all
+            (map (verdicts.destination_verdict (by_table.entry table) net number) destinations.now)
+            ≡ None → ⊥) }
+    {
+        for destination in destinations {
+            if let Some(process) = self.cause_at_destination(number, *destination) {
+                return Some(process);
+            }
+        }
+        None
+    }
+
+    /// The same for the exporting process at this place.
+    fn cause_at_exporter(&self, number: usize, place: usize) -> Option<usize>
+        ensures some { let net = self.now.tables.now.net in
+            let table = self.now.rows.now in
+            IfSome result (λ process. by_cause.SendsOn table net number
+            (network.before (slice_get net.exporters place) []) process) }
+        ensures none { let net = self.now.tables.now.net in
+            let table = self.now.rows.now in
+            IfNone result (verdicts.sent_verdict (by_table.entry table) net number
+            (network.before (slice_get net.exporters place) []) ≡ None → ⊥) }
+    {
+        match self.tables.net().exporters().get(place) {
+            None => None,
+            Some(exporter) => self.cause_among_destinations(number, exporter.destinations()),
+        }
+    }
+
+    /// The same for one of the exporting processes at these places.
+    fn cause_by_exporters(&self, number: usize, places: &[usize]) -> Option<usize>
+        ensures some { let net = self.now.tables.now.net in
+            let table = self.now.rows.now in
+            IfSome result (λ process. by_cause.SendsOn table net number
+            (network.at_places net.exporters places.now) process) }
+        ensures none { let net = self.now.tables.now.net in
+            let table = self.now.rows.now in
+            IfNone result (verdicts.sent_verdict (by_table.entry table) net number
+            (network.at_places net.exporters places.now) ≡ None → ⊥) }
+    {
+        for place in places {
+            if let Some(process) = self.cause_at_exporter(number, *place) {
+                return Some(process);
+            }
+        }
+        None
+    }
+
+    /// The collecting process behind a holder at which there is no verdict, with the number of the holder's layout.
+    pub(crate) fn cause_by_holder(&self, holder: usize) -> Option<Cause>
+        ensures some { let t = self.now.tables.now in
+            let table = self.now.rows.now in
+            IfSome result (λ cause. by_cause.IsCauseByHolder t table holder cause) }
+        ensures none { let t = self.now.tables.now in
+            let table = self.now.rows.now in
+            IfNone result (verdicts.sent_verdict (by_table.entry table) t.net
+            (by_table.number_of_layout t.numbering holder) (network.exporters_of t.net
+            (slice_get t.net.holders holder)) ≡ None → ⊥) }
+    {
+        let number = self.tables.number_of_layout(holder);
+        match self.cause_by_exporters(number, self.tables.net().named_by(holder)) {
+            None => None,
+            Some(process) => Some(Cause::Behind(process, number)),
+        }
+    }
+
+    /// Why there is no verdict on what an aggregation takes in of records of this layout.
+    fn cause_in_match(&self, layout: &Layout, aggregation: &Aggregation) -> Option<Cause>
+        requires { HasEntries aggregation.now }
+        ensures some { let t = self.now.tables.now in
+            let table = self.now.rows.now in
+            let region = self.now.region.now in
+            IfSome result (λ cause. by_cause.IsCauseInMatch t region table layout.now
+            aggregation.now cause) }
+        ensures none { let t = self.now.tables.now in
+            let table = self.now.rows.now in
+            let region = self.now.region.now in
+            IfNone result (by_table.taken_entry table t.net t.numbering region layout.now
+            aggregation.now ≡ None → ⊥) }
+    {
+        if !layout_reads(self.tables.net(), layout, aggregation) {
+            return None;
+        }
+        match match_overlap(self.region, aggregation.matches()) {
+            Overlap::Whole => self.cause_by_holder(aggregation.holder()),
+            Overlap::Nothing => None,
+            Overlap::Part => match bound_of_match(self.region, aggregation.matches()) {
+                None => None,
+                Some((axis, at)) => Some(Cause::Split(axis, at)),
+            },
+        }
+    }
+
+    /// The same for one of these aggregations.
+    fn cause_in_matches(&self, layout: &Layout, aggregations: &[Aggregation]) -> Option<Cause>
+        requires { AllByRecursion HasEntries aggregations.now }
+        ensures some { let t = self.now.tables.now in
+            let table = self.now.rows.now in
+            let region = self.now.region.now in
+            IfSome result (λ cause. by_cause.IsCauseInMatches t region table layout.now
+            aggregations.now cause) }
+        ensures none { let t = self.now.tables.now in
+            let table = self.now.rows.now in
+            let region = self.now.region.now in
+            IfNone result (verdicts.verdict_of_all
+            (map (by_table.taken_entry table t.net t.numbering region layout.now) aggregations.now)
+            ≡ None → ⊥) }
+    {
+        for aggregation in aggregations {
+            if let Some(cause) = self.cause_in_match(layout, aggregation) {
+                return Some(cause);
+            }
+        }
+        None
+    }
+
+    /// Why there is no verdict on what a collecting process does with records of the layout of this number.
+    fn cause_in_process(&self, number: usize, layout: &Layout, process: &Process) -> Option<Cause>
+        requires { AllByRecursion HasEntries process.now.aggregations }
+        ensures some { let t = self.now.tables.now in
+            let table = self.now.rows.now in
+            let region = self.now.region.now in
+            IfSome result (λ cause. by_cause.IsCauseIn t region table number layout.now process.now
+            cause) }
+        ensures none { let t = self.now.tables.now in
+            let table = self.now.rows.now in
+            let region = self.now.region.now in
+            IfNone result (by_table.handled_entry table t.net t.numbering region number layout.now
+            (Some process.now) ≡ None → ⊥) }
+    {
+        match self.cause_by_exporters(number, process.exporters()) {
+            Some(next) => Some(Cause::Behind(next, number)),
+            None => self.cause_in_matches(layout, process.aggregations()),
+        }
+    }
+
+    /// The same for the collecting process at this place and the layout of this number.
+    pub(crate) fn cause_at(&self, process: usize, number: usize) -> Option<Cause>
+        requires { by_table.AreTables self.now.tables.now }
+        ensures some { let t = self.now.tables.now in
+            let table = self.now.rows.now in
+            let region = self.now.region.now in
+            IfSome result (λ cause. by_cause.IsCauseAt t region table process number cause) }
+        ensures none { let t = self.now.tables.now in
+            let table = self.now.rows.now in
+            let region = self.now.region.now in
+            IfNone result ((layout : keys.Layout) → slice_get t.numbering.layouts number
+            ≡ Some layout → by_table.handled_entry table t.net t.numbering region number layout
+            (slice_get t.net.processes process) ≡ None → ⊥) }
+    {
+        let Some(layout) = self.tables.layouts().get(number) else {
+            return None;
+        };
+        match self.tables.net().processes().get(process) {
+            None => None,
+            Some(process) => self.cause_in_process(number, layout, process),
+        }
+    }
+}

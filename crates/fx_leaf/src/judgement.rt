@@ -1,0 +1,68 @@
+//! What is to be said of the packets of a region, in one judgement.
+ghost use Rattle.std.specs.Prelude.{◌≡◌, ◌≤◌, length};
+ghost use Rattle.fx_leaf.specs.Judgements as judgements;
+ghost use Rattle.fx_leaf.specs.Tables as by_table;
+
+use crate::leaf::{Counted, path_verdict};
+use crate::regions::bounds_hold;
+use crate::table::Scratch;
+use crate::tables::Tables;
+use crate::verdict::Fate;
+use fx_boxes::Region;
+use fx_elements::Axis;
+use fx_tables::Crossing;
+
+/// What is to be said of the packets of a region that take a path.
+#[derive(Clone, Copy, Debug, PartialEq, Eq)]
+pub enum Judgement {
+    /// A selection process, or the match of an aggregation that records of the packets reach, holds for some of the
+    /// packets only. It has this bound strictly inside the region: values of the axis below `at`, and from `at` on.
+    Cut {
+        /// The axis on which the region may be split.
+        axis: Axis,
+        /// The least value of the upper part.
+        at: u128,
+    },
+    /// Each packet is counted once, by this selection process alone.
+    Once(Counted),
+    /// No packet is counted.
+    Never,
+    /// Each packet is counted more than once.
+    Many,
+    /// How often a packet is counted depends on the destinations that are chosen.
+    Differing,
+    /// Records of each packet can come to the report with a layout that doesn't refine the report's.
+    Unassigned,
+}
+
+/// What is to be said of the packets of a region that take a path: where to split it, if something cuts it, or how
+/// often each of them is counted. It says at once what `fate`, `never` and `cut` say, takes no memory, and answers
+/// the same whatever the room held.
+pub fn judge(
+    scratch: &mut Scratch,
+    tables: &Tables<'_>,
+    path: &[Crossing],
+    region: &Region,
+) -> Judgement
+    requires tables { by_table.AreTables tables.now }
+    requires room { length tables.now.net.processes ≤ length scratch.old }
+    ensures judged { judgements.IsJudged tables.now.net path.now region.now result }
+    ensures size { length scratch.new ≡ length scratch.old }
+{
+    // For the prover alone: the bounds of a region hold.
+    bounds_hold(region);
+    let known = match path_verdict(scratch, tables, path, region) {
+        Ok(known) => known,
+        Err((axis, at)) => return Judgement::Cut { axis, at },
+    };
+    match known.fate {
+        Fate::Once => match known.counted {
+            Some(counted) => Judgement::Once(counted),
+            None => unreachable!(),
+        },
+        Fate::Never => Judgement::Never,
+        Fate::Many => Judgement::Many,
+        Fate::Differing => Judgement::Differing,
+        Fate::Unassigned => Judgement::Unassigned,
+    }
+}

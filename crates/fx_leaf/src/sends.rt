@@ -1,0 +1,120 @@
+//! The verdict on records that are sent, from those at the processes to which they come.
+ghost use Rattle.std.specs.Prelude.{◌≡◌, map, slice_get, [], ◌∷◌};
+ghost use Rattle.fx_tables.specs.Network as network;
+ghost use Rattle.fx_leaf.specs.Tables as by_table;
+ghost use Rattle.fx_leaf.specs.Verdicts as verdicts;
+
+use crate::table::Verdicts;
+use crate::verdict::{Fate, verdict_of_both, verdict_of_either};
+use fx_tables::Exporter;
+
+impl Verdicts<'_, '_> {
+    /// The verdict on what is sent to a destination: never, where it leads outside the network.
+    fn destination_verdict(&self, layout: usize, destination: Option<usize>) -> Option<Fate>
+        ensures { let net = self.now.tables.now.net in
+            let table = self.now.rows.now in
+            result ≡ verdicts.destination_verdict (by_table.entry table) net layout destination }
+    {
+        match destination {
+            None => Some(Fate::Never),
+            Some(link) => match self.tables.net().links().get(link) {
+                None => Some(Fate::Never),
+                Some(process) => self.entry(*process, layout),
+            },
+        }
+    }
+
+    /// The verdict on what is sent to all of these destinations.
+    fn all_destinations_verdict(
+        &self,
+        layout: usize,
+        destinations: &[Option<usize>],
+    ) -> Option<Fate>
+        ensures { let net = self.now.tables.now.net in
+            let table = self.now.rows.now in
+            result ≡ verdicts.verdict_of_all
+            (map (verdicts.destination_verdict (by_table.entry table) net layout)
+            destinations.now) }
+    {
+        let mut joined = Some(Fate::Never);
+        for destination in destinations {
+            joined = verdict_of_both(joined, self.destination_verdict(layout, *destination));
+        }
+        joined
+    }
+
+    /// The verdict on what is sent to the first destination or to one of the others.
+    fn first_or_other_verdict(
+        &self,
+        layout: usize,
+        first: Option<usize>,
+        others: &[Option<usize>],
+    ) -> Option<Fate>
+        ensures { let net = self.now.tables.now.net in
+            let table = self.now.rows.now in
+            result ≡ verdicts.verdict_of_one
+            (map (verdicts.destination_verdict (by_table.entry table) net layout)
+            (first ∷ others.now)) }
+    {
+        let mut joined = self.destination_verdict(layout, first);
+        for other in others {
+            joined = verdict_of_either(joined, self.destination_verdict(layout, *other));
+        }
+        joined
+    }
+
+    /// The verdict on what is sent to one of these destinations.
+    fn one_destination_verdict(&self, layout: usize, destinations: &[Option<usize>]) -> Option<Fate>
+        ensures { let net = self.now.tables.now.net in
+            let table = self.now.rows.now in
+            result ≡ verdicts.verdict_of_one
+            (map (verdicts.destination_verdict (by_table.entry table) net layout)
+            destinations.now) }
+    {
+        match destinations {
+            [] => Some(Fate::Never),
+            [first, others @ ..] => self.first_or_other_verdict(layout, *first, others),
+        }
+    }
+
+    /// The verdict on what an exporting process sends.
+    fn send_verdict(&self, layout: usize, exporter: &Exporter) -> Option<Fate>
+        ensures { let net = self.now.tables.now.net in
+            let table = self.now.rows.now in
+            result ≡ verdicts.send_verdict (by_table.entry table) net layout exporter.now }
+    {
+        if exporter.parallel() {
+            self.all_destinations_verdict(layout, exporter.destinations())
+        } else {
+            self.one_destination_verdict(layout, exporter.destinations())
+        }
+    }
+
+    /// The same for the exporting process at a place of the network's table; never, where there is none.
+    fn send_verdict_at(&self, layout: usize, place: usize) -> Option<Fate>
+        ensures { let net = self.now.tables.now.net in
+            let table = self.now.rows.now in
+            result ≡ verdicts.sent_verdict (by_table.entry table) net layout
+            (network.before (slice_get net.exporters place) []) }
+    {
+        match self.tables.net().exporters().get(place) {
+            None => Some(Fate::Never),
+            Some(exporter) => self.send_verdict(layout, exporter),
+        }
+    }
+
+    /// The verdict on records of the layout of this number, from 0, that each of the exporting processes at these
+    /// places sends.
+    pub(crate) fn sent_verdict(&self, layout: usize, places: &[usize]) -> Option<Fate>
+        ensures { let net = self.now.tables.now.net in
+            let table = self.now.rows.now in
+            result ≡ verdicts.sent_verdict (by_table.entry table) net layout
+            (network.at_places net.exporters places.now) }
+    {
+        let mut joined = Some(Fate::Never);
+        for place in places {
+            joined = verdict_of_both(joined, self.send_verdict_at(layout, *place));
+        }
+        joined
+    }
+}
