@@ -80,7 +80,7 @@ def section(library, title, besides, new):
     types = list(others(new, "type"))
     if types:
         yield ""
-        yield "%s of Rust that these definitions name, each under its file in `crates/NAME/src`:" % ("More types" if besides else "Types")
+        yield "%s of Rust that these definitions name, each under its file in `crates/NAME/src`:" % ("More types and constants" if besides else "Types and constants")
         yield ""
         yield from types
     yield ""
@@ -92,7 +92,7 @@ INTRODUCTION = """# The definitions to believe, by command
 
 A contract says no more than its definitions, so whoever relies on a command has to read them and believe that they say what they should. Below they stand by command. Each list begins with the names that the contract's `ensures` clauses use and follows every name to its own definition, and so on; an import that isn't used brings nothing in. Definitions that stand in no list are means of proof, or serve contracts of other functions.
 
-The lines are those of the definitions, with their types and without comments and empty lines. Types of Rust are listed by name and not counted: their fields stand in `crates/NAME/src`. What a contract's arguments are seen as (`ghost view`) isn't followed: the types of the definitions that they are given to tell it. Names of libraries come last; what they mean is told by the kit.
+The lines are those of the definitions, with their types and without comments and empty lines. Types and constants of Rust are listed by name and not counted: their fields and values stand in `crates/NAME/src`. What a contract's arguments are seen as (`ghost view`) isn't followed: the types of the definitions that they are given to tell it. Names of libraries come last; what they mean is told by the kit.
 
 A path such as `fx_layout/Keys` means `crates/fx_layout/specs/Keys.antt`.
 """

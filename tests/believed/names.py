@@ -97,12 +97,13 @@ class Library:
         return self.owner.get(key)
 
     def target(self, path, name):
-        """What a name under a path is: ours, a Rust type of ours, or a name of a library."""
+        """What a name under a path is: ours, a Rust type or constant of ours, or a name of a library."""
         words = path.split(".")
         if words[0] != "Rattle" or not words[1].startswith("fx_"):
             return ("library", words[1] if words[0] == "Rattle" else words[0], name)
         if words[3] == "declared":
-            return ("type", words[1], ".".join(words[4:]).split(".TheVariants")[0])
+            declared = ".".join(words[4:]).split(".TheVariants")[0]
+            return ("type", words[1], declared.replace("TheConstants", name or "TheConstants"))
         found = self.find("%s/%s" % (words[1], words[3]), words[4] if len(words) > 4 else name)
         return ("ours",) + found if found else None
 

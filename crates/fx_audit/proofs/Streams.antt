@@ -1,11 +1,11 @@
 -- A stream's records, taken out as they come.
-use Rattle.std.proofs.Common.{◌≡◌, ◌⊎◌, inl, inr, ℕ, ◌+◌, ◌<◌, ◌≤◌, List, [], ◌∷◌, ◌++◌, length, drop, refl, sym, ap, subst, ◌∙◌, arith, append_assoc, Option, Some, None, Err, IfSome, codes}
-use Rattle.std.proofs.lemmas.List.{append-nil, length-append, take-append-drop}
+use Rattle.std.proofs.Common.{◌≡◌, ◌⊎◌, inl, inr, ℕ, ◌+◌, ◌<◌, ◌≤◌, List, [], ◌∷◌, ◌++◌, length, refl, sym, ap, subst, ◌∙◌, arith, append_assoc, Option, Some, None, Err, codes}
+use Rattle.std.proofs.lemmas.List.{append-nil, length-append}
 use Rattle.std.specs.Io.KnownBytes.{prepend_known}
 use Rattle.fx_base.proofs.GoingOn.{something_left}
-use Rattle.fx_base.proofs.Reading.{read_more, read_end, held_within}
+use Rattle.fx_base.proofs.Reading.{read_more}
 use Rattle.fx_base.proofs.Writing.{writes_both}
-use Rattle.fx_base.specs.Device.{MayBeLeft, MayHaveLeft, Reads, Writes}
+use Rattle.fx_base.specs.Device.{MayBeLeft, MayHaveLeft, Writes}
 use Rattle.fx_base.specs.declared.fault.Fault.{Fault}
 use Rattle.fx_tables.specs.declared.record.Record.{Record}
 use Rattle.fx_collect.specs.Report.{number_line}
@@ -70,8 +70,8 @@ pub record IsReadOn (all left : Option (List ℕ)) (before : Totals) (session : 
   pub tallied : IsTallied seen before session totals
   pub count : calls ≤ length seen
 
-pub begun : (all : Option (List ℕ)) (before : Totals) (session : Standing) → session ≡ start → IsReadOn all all before session before 0
-begun all before session is =
+pub begun : (all : Option (List ℕ)) (before : Totals) (session : Standing) (calls : ℕ) → calls ≡ 0 → session ≡ start → IsReadOn all all before session before calls
+begun all before session calls none_made is =
     let none = all_none start.known 0 in
     record {
       seen = [];
@@ -81,29 +81,20 @@ begun all before session is =
         faultless = ap (λ (s : Standing). s.fault) none;
         totals_are = sym (ap (λ (s : Standing). with_records before s.known.waiting) none);
       };
-      count = omega arith;
+      count = omega (arith, none_made);
     } where
       nothing_held : (o : Option (List ℕ)) → prepend_known [] o ≡ o
       nothing_held None = refl
       nothing_held (Some octets) = refl
 
-pub read_further : (all left left' : Option (List ℕ)) (before totals totals' : Totals) (session session' : Standing) (calls room n : ℕ) (piece : List ℕ) → IsReadOn all left before session totals calls → Reads left left' room piece n
-    → 1 ≤ length piece → session' ≡ drained (fed session piece) → session'.fault ≡ None → totals' ≡ with_records totals (fed session piece).known.waiting → IsReadOn all left' before session' totals' (calls + 1)
-read_further all left left' before totals totals' session session' calls room n piece h reads some is none are = record {
+pub read_further : (all left left' : Option (List ℕ)) (before totals totals' : Totals) (session session' : Standing) (calls calls' : ℕ) (piece : List ℕ) → IsReadOn all left before session totals calls → calls' ≡ calls + 1 → prepend_known piece left' ≡ left
+    → 1 ≤ length piece → session' ≡ drained (fed session piece) → session'.fault ≡ None → totals' ≡ with_records totals (fed session piece).known.waiting → IsReadOn all left' before session' totals' calls'
+read_further all left left' before totals totals' session session' calls calls' piece h one reads some is none are = record {
   seen = h.seen ++ piece;
-  parts = read_more h.seen (h.seen ++ piece) piece room n left left' refl reads ∙ h.parts;
+  parts = read_more h.seen piece left left' reads ∙ h.parts;
   tallied = piece_tallied h.seen piece before totals totals' session session' h.tallied is none are;
-  count = omega (arith, h.count, length-append h.seen piece);
+  count = omega (arith, h.count, one, some, length-append h.seen piece);
 }
-
-pub read_out : (all left left' : Option (List ℕ)) (before totals : Totals) (session : Standing) (calls room : ℕ) (piece : List ℕ) → IsReadOn all left before session totals calls → 0 < room → Reads left left' room piece 0
-    → MayHaveLeft all (λ octets. IsTallied octets before session totals)
-read_out all left left' before totals session calls room piece h some reads =
-    (h.seen, subst (λ (o : Option (List ℕ)). MayBeLeft o h.seen) h.parts (read_end h.seen piece room left left' some reads).0, h.tallied)
-
-pub read_too_long : (all left : Option (List ℕ)) (before totals : Totals) (session : Standing) (calls limit : ℕ) → IsReadOn all left before session totals calls → limit ≤ calls → IfSome all (λ octets. limit ≤ length octets)
-read_too_long all left before totals session calls limit h most =
-    subst (λ (o : Option (List ℕ)). IfSome o (λ octets. limit ≤ length octets)) h.parts (held_within h.seen left limit (omega (arith, h.count)))
 
 -- a fault is answered for all that comes later
 faulty : (place : ℕ) (o : Option ℕ) (e : Fault) → answer_of place o ≡ Err e → (n : ℕ) × (o ≡ Some n)
@@ -119,24 +110,22 @@ still_refused seen piece later before totals session e t h =
     let stays = ap stream_read (sym (append_assoc seen piece later)) ∙ sym (pieces start (seen ++ piece) later) ∙ fed_off now later f.0 (ap (λ (s : Standing). s.fault) on ∙ f.1) in
     ap (λ (s : Standing). answer_of s.place s.fault) (stays ∙ on) ∙ h
 
-pub read_refused : (all left left' : Option (List ℕ)) (before totals : Totals) (session : Standing) (calls room n : ℕ) (piece : List ℕ) (e : Fault) → IsReadOn all left before session totals calls → Reads left left' room piece n
+-- what may be left behind a piece, and the piece and what was read before it
+left_behind : (seen piece rest : List ℕ) (left left' : Option (List ℕ)) → prepend_known piece left' ≡ left → MayBeLeft left' rest → MayBeLeft (prepend_known seen left) (seen ++ (piece ++ rest))
+left_behind seen piece rest left None is behind = rw (← is) tt
+left_behind seen piece rest left (Some l) is behind = rw (← is) (ap (λ (xs : List ℕ). seen ++ (piece ++ xs)) behind)
+
+pub read_refused : (all left left' : Option (List ℕ)) (before totals : Totals) (session : Standing) (calls : ℕ) (piece : List ℕ) (e : Fault) → IsReadOn all left before session totals calls → prepend_known piece left' ≡ left
     → answer_of (fed session piece).place (fed session piece).fault ≡ Err e → MayHaveLeft all (λ octets. answer_of (stream_read octets).place (stream_read octets).fault ≡ Err e)
-read_refused all left left' before totals session calls room n piece e h reads refused =
+read_refused all left left' before totals session calls piece e h reads refused =
     let later = something_left left' in
-    (h.seen ++ (piece ++ later.0), subst (λ (o : Option (List ℕ)). MayBeLeft o (h.seen ++ (piece ++ later.0))) h.parts (by left later.0 reads later.1), still_refused h.seen piece later.0 before totals session e h.tallied refused) where
-      by : (o : Option (List ℕ)) (rest : List ℕ) → Reads o left' room piece n → MayBeLeft left' rest → MayBeLeft (prepend_known h.seen o) (h.seen ++ (piece ++ rest))
-      by None rest r is = tt
-      by (Some old) rest r is =
-          let rest_is : rest ≡ drop n old = rw r.rest at is in
-          ap (λ (xs : List ℕ). h.seen ++ (piece ++ xs)) rest_is ∙ ap (λ (xs : List ℕ). h.seen ++ xs) (ap (λ (xs : List ℕ). xs ++ drop n old) r.octets_are ∙ take-append-drop n old)
+    let octets : List ℕ = h.seen ++ (piece ++ later.0) in
+    (octets, subst (λ (o : Option (List ℕ)). MayBeLeft o octets) h.parts (left_behind h.seen piece later.0 left left' reads later.1), still_refused h.seen piece later.0 before totals session e h.tallied refused)
 
-pub still_faultless : (all left : Option (List ℕ)) (before totals : Totals) (session : Standing) (calls : ℕ) → IsReadOn all left before session totals calls → session.fault ≡ None
-still_faultless all left before totals session calls h = ap (λ (s : Standing). s.fault) h.tallied.session_is ∙ h.tallied.faultless
-
-pub piece_refused : (all left left' : Option (List ℕ)) (before totals : Totals) (session : Standing) (calls room n : ℕ) (piece : List ℕ) (e : Fault) (M F : Type 0) → IsReadOn all left before session totals calls → Reads left left' room piece n
+pub piece_refused : (all left left' : Option (List ℕ)) (before totals : Totals) (session : Standing) (calls : ℕ) (piece : List ℕ) (e : Fault) (M F : Type 0) → IsReadOn all left before session totals calls → prepend_known piece left' ≡ left
     → M ⊎ (answer_of (fed session piece).place (fed session piece).fault ≡ Err e) → M ⊎ (F ⊎ MayHaveLeft all (λ octets. answer_of (stream_read octets).place (stream_read octets).fault ≡ Err e))
-piece_refused all left left' before totals session calls room n piece e M F h reads refused =
-    elim refused [ inl m ↦ inl m | inr r ↦ inr (inr (read_refused all left left' before totals session calls room n piece e h reads r)) ]
+piece_refused all left left' before totals session calls piece e M F h reads refused =
+    elim refused [ inl m ↦ inl m | inr r ↦ inr (inr (read_refused all left left' before totals session calls piece e h reads r)) ]
 
 -- ---- what is written
 

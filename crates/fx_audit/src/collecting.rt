@@ -1,5 +1,5 @@
 //! A stream's records, tallied as they come.
-ghost use Rattle.std.specs.Prelude.{◌≡◌, ◌⊎◌, ℕ, List, true, false, None, Err, OnOk, IfOk, IfErr, IfSome};
+ghost use Rattle.std.specs.Prelude.{◌≡◌, ◌⊎◌, ℕ, List, true, false, None, Err, OnOk, IfOk, IfErr};
 ghost use Rattle.fx_base.specs.Device.{MayHaveLeft, Writes};
 ghost use Rattle.fx_base.specs.Fault.{fault_at};
 ghost use Rattle.fx_base.specs.declared.fault.Place.TheVariants as places;
@@ -11,18 +11,12 @@ ghost use Rattle.fx_audit.specs.Texts.{IsCollectText};
 ghost use Rattle.fx_audit.specs.declared.answer.Answer.TheVariants.{Yes};
 
 use crate::answer::Answer;
-use fx_base::{Fault, Sink, Source};
+use fx_base::{Fault, PieceReader, Sink, Source};
 use fx_collect::{Totals, put_number_line};
 use fx_layout::Seed;
 use fx_tables::Net;
 use fx_session::Session;
 use std::alloc::Global;
-
-/// The number of octets that are asked for at once.
-const PIECE: usize = 4096;
-
-/// The number of calls after which a source that hasn't ended counts as failing.
-const MOST_CALLS: u64 = 4_294_967_296;
 
 /// Tallies the records that wait.
 fn tally_waiting(session: &mut Session, totals: &mut Totals) -> Result<(), Fault>
@@ -60,15 +54,11 @@ fn tally_stream<R: Source>(
     ensures err { IfErr result (λ e. (e ≡ fault_at 900 places.None) ⊎ (ReadFails (R.left stream.old) (R.calls stream.old) (R.calls stream.new) (R.failed stream.new) e
         ⊎ MayHaveLeft (R.left stream.old) (λ octets. streams.answer_of (stream_read octets).place (stream_read octets).fault ≡ Err e))) }
 {
-    let mut piece = [0u8; PIECE];
-    for _call in 0..MOST_CALLS {
-        let n = stream.read(&mut piece)?;
-        if n == 0 {
-            return Ok(());
-        }
-        take_piece(session, totals, &piece[..n])?;
+    let mut pieces = PieceReader::new();
+    'pieces: while pieces.advance(stream)? {
+        take_piece(session, totals, pieces.piece())?;
     }
-    Err(Fault::bare(901))
+    Ok(())
 }
 
 /// Writes the text of totals, with their keys in ascending order, and the numbers of gaps and of skipped records.

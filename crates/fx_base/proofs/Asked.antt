@@ -20,20 +20,19 @@ asked_then a b c (suc m) (suc n) first next =
 pub asked_so_often : (a b m n : ℕ) → m ≡ n → IsAsked a m b → IsAsked a n b
 asked_so_often a b m n same asked = subst (λ k. IsAsked a k b) same asked
 
--- none since, and one more
+-- none since
 pub none_since : (a n : ℕ) → IsAsked a (n - n) a
 none_since a n = let same : n - n ≡ 0 = omega arith in subst (λ k. IsAsked a k a) (sym same) refl
 
-pub one_since : (a b c m n : ℕ) → m ≤ n → IsAsked a (n - m) b → c ≡ (b + 1) % 2 ^ 64 → IsAsked a (n + 1 - m) c
-one_since a b c m n le so_far next =
-    let same : n - m + 1 ≡ n + 1 - m = omega (arith, le) in
-    subst (λ k. IsAsked a k c) same (asked_then a b c (n - m) 1 so_far next)
+-- some since, and then more
+pub asked_further : (a b c k m n : ℕ) → k ≤ m → m ≤ n → IsAsked a (m - k) b → IsAsked b (n - m) c → IsAsked a (n - k) c
+asked_further a b c k m n first next before after =
+    let more : m - k + (n - m) ≡ n - k = omega (arith, first, next) in
+    subst (λ x. IsAsked a x c) more (asked_then a b c (m - k) (n - m) before after)
 
 -- a reader's calls, and then more
 pub asks_then : (k l m : Lines) → Asks k l → Asks l m → Asks k m
-asks_then k l m first next =
-    let more : l.calls - k.calls + (m.calls - l.calls) ≡ m.calls - k.calls = omega (arith, first.calls, next.calls) in
-    record {
-      calls = omega (arith, first.calls, next.calls);
-      asked = subst (λ n. IsAsked k.asked n m.asked) more (asked_then k.asked l.asked m.asked (l.calls - k.calls) (m.calls - l.calls) first.asked next.asked);
-    }
+asks_then k l m first next = record {
+  calls = omega (arith, first.calls, next.calls);
+  asked = asked_further k.asked l.asked m.asked k.calls l.calls m.calls first.calls next.calls first.asked next.asked;
+}

@@ -1,9 +1,10 @@
 -- A reader that goes on from line to line, and what it has asked of its source since.
-use Rattle.std.proofs.Common.{◌≡◌, Bool, ℕ, ◌+◌, ◌-◌, ◌^◌, ◌≤◌, ◌<◌, true, false, if◌then◌else◌, List, [], length, Option, Some, None, IfSome, refl, sym, ◌∙◌, inl, inr, arith}
+use Rattle.std.proofs.Common.{◌≡◌, Bool, ℕ, ◌+◌, ◌-◌, ◌≤◌, ◌<◌, true, false, if◌then◌else◌, List, [], length, Option, Some, None, IfSome, refl, sym, ◌∙◌, inl, inr, arith}
 use Rattle.std.proofs.lemmas.Bool.{cases_lt, lt-ltb, false≢true}
 use Rattle.std.proofs.lemmas.List.{drop_all}
 use Rattle.fx_base.proofs.Asked.{asks_then, none_since}
 use Rattle.fx_base.specs.Device.{MayBeLeft}
+use Rattle.fx_base.specs.Limits.{call_limit}
 use Rattle.fx_base.specs.Lines.{Lines, AtLine, Gains, GoesOn, IsCutOff, MayFollow, line_len, first_line, line_ends, after_line}
 
 pub at_once : (l : Lines) → GoesOn l l
@@ -52,12 +53,12 @@ goes_then k l m first next = record {
 pub cut_off_behind : (k l m : Lines) → GoesOn k l → IsCutOff l m → IsCutOff k m
 cut_off_behind k l m first (inl failed) = inl failed
 cut_off_behind k l m first (inr (all, asks, endless)) = inr (all, asks_then k l m first.asks asks, gained k.left first.gains) where
-  behind : (text rest : List ℕ) → l.left ≡ Some rest → l.calls + (length rest - l.held) ≤ k.calls + (length text - k.held) → 2 ^ 32 ≤ k.calls + (length text - k.held)
+  behind : (text rest : List ℕ) → l.left ≡ Some rest → l.calls + (length rest - l.held) ≤ k.calls + (length text - k.held) → call_limit ≤ k.calls + (length text - k.held)
   behind text rest is le =
-      let h : 2 ^ 32 ≤ l.calls + (length rest - l.held) = rw is at endless in
+      let h : call_limit ≤ l.calls + (length rest - l.held) = rw is at endless in
       omega (arith, h, le)
 
-  gained : (o : Option (List ℕ)) → IfSome o (λ text. (rest : List ℕ) × (l.left ≡ Some rest) × (l.calls + (length rest - l.held) ≤ k.calls + (length text - k.held))) → IfSome o (λ text. 2 ^ 32 ≤ k.calls + (length text - k.held))
+  gained : (o : Option (List ℕ)) → IfSome o (λ text. (rest : List ℕ) × (l.left ≡ Some rest) × (l.calls + (length rest - l.held) ≤ k.calls + (length text - k.held))) → IfSome o (λ text. call_limit ≤ k.calls + (length text - k.held))
   gained None h = tt
   gained (Some text) h = behind text h.0 h.1 h.2
 

@@ -7,7 +7,7 @@ ghost use Rattle.fx_base.specs.declared.fault.Place.TheVariants as places;
 use crate::fault::Fault;
 
 /// The number of calls after which a source that hasn't ended counts as failing.
-pub(crate) const MOST_CALLS: u64 = 4_294_967_296;
+pub const MOST_CALLS: u64 = 4_294_967_296;
 
 /// What octets come from, seen as the octets that it has left, where it tells them, as whether its
 /// last call failed, and as the number of its calls.

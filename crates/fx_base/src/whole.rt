@@ -5,11 +5,9 @@ ghost use Rattle.fx_base.specs.Fault.{fault_at};
 ghost use Rattle.fx_base.specs.declared.fault.Place.TheVariants as places;
 
 use crate::fault::Fault;
-use crate::source::{MOST_CALLS, Source};
+use crate::pieces::PieceReader;
+use crate::source::Source;
 use std::alloc::Global;
-
-/// The number of octets that are asked for at once.
-const PIECE: usize = 4096;
 
 /// All octets that a source has left.
 ///
@@ -21,16 +19,13 @@ pub fn read_whole<R: Source>(alloc: Global, source: &mut R) -> Result<Vec<u8>, F
     ensures untold { R.left source.old ≡ None → R.left source.new ≡ None }
     ensures err { IfErr result (λ e. (e ≡ fault_at 900 places.None)
         ⊎ ((e ≡ fault_at 901 places.None)
-        × IsUnread (R.left source.old) (R.calls source.old) (R.calls source.new) (R.failed source.new))) }
+        × IsUnread (R.left source.old) (R.calls source.old) (R.calls source.new)
+        (R.failed source.new))) }
 {
     let mut octets = Vec::new(alloc);
-    let mut piece = [0u8; PIECE];
-    for _call in 0..MOST_CALLS {
-        let n = source.read(&mut piece)?;
-        if n == 0 {
-            return Ok(octets);
-        }
-        octets.extend_from_slice(&piece[..n])?;
+    let mut pieces = PieceReader::new();
+    'pieces: while pieces.advance(source)? {
+        octets.extend_from_slice(pieces.piece())?;
     }
-    Err(Fault::bare(901))
+    Ok(octets)
 }

@@ -1,107 +1,111 @@
-//! A buffer of a text's bytes, and the next line in it.
-ghost use Rattle.std.specs.Prelude.{◌≡◌, ◌+◌, ◌≤◌, ◌<◌, ◌-◌, ◌*◌, ◌%◌, ◌^◌, [], length, take, true, None, OnOk, OnErr, IfOk, IfErr, IfSome, IfNone, ◌==◌, slice_range};
-ghost use Rattle.std.specs.List.{position};
+//! The octets of a source, of which some are held.
+ghost use Rattle.std.specs.Prelude.{◌≡◌, ◌⊎◌, ◌+◌, ◌-◌, ◌≤◌, ◌<◌, [], length, take, drop, true, OnOk, OnErr, IfOk, IfErr, IfSome, slice_range};
 ghost use Rattle.std.specs.Io.KnownBytes.{prepend_known};
+ghost use Rattle.fx_base.specs.Limits.{call_limit};
 ghost use Rattle.fx_base.specs.Device.{IsAsked};
-ghost use Rattle.fx_base.specs.Lines.{line_len};
-ghost use Rattle.fx_base.specs.Window.{Fits, HasLine, IsPart, IsSpent, IsStop, calls_at_end, calls_of_part};
+ghost use Rattle.fx_base.specs.Fault.{fault_at};
+ghost use Rattle.fx_base.specs.declared.fault.Place.TheVariants as places;
+ghost use Rattle.fx_base.specs.Window.{octets_of, HasFailed};
 
+use crate::calls::read_next;
 use crate::fault::Fault;
-use crate::source::{MOST_CALLS, Source};
+use crate::source::Source;
+use std::alloc::Global;
+use std::marker::Model;
 
-/// The greatest number of bytes of a line, its line feed not counted.
-const LONGEST: usize = 4096;
-
-/// The number of bytes that are held at once.
-pub(crate) const ROOM: usize = 8192;
-
-/// Why a reader stops.
-#[derive(Clone, Copy, Debug, PartialEq, Eq)]
-pub(crate) enum Stop {
-    Device,
-    TooLong,
+/// The octets of a source, of which the first are held in a buffer of a fixed room.
+///
+/// What was read stays held until it is passed over, so a reader can look at as many octets at once
+/// as there is room for. It makes 4,294,967,296 calls of its source at most, and takes memory only
+/// when it is made.
+#[derive(Drop)]
+pub struct Window<R: Source> {
+    source: R,
+    bytes: Vec<u8>,
+    start: usize,
+    end: usize,
+    calls: u64,
 }
 
-/// Reads behind the first `end` bytes.
-fn read_behind<R: Source>(source: &mut R, bytes: &mut [u8], end: usize) -> Result<usize, Fault>
-    requires { end < length bytes.old }
-    ensures text { IfOk result (λ n. prepend_known (take (end + n) bytes.new) (R.left source.new) ≡ prepend_known (take end bytes.old) (R.left source.old)) }
+impl<R: Source> Model for Window<R> {
+    ghost use Rattle.std.specs.Prelude.{length, slice_range};
+    ghost use Rattle.fx_base.specs.Window.{Held, IsWindow};
+
+    ghost Value = { Held };
+
+    ghost view = { λ w. record {
+      room = length w.bytes.items;
+      held = slice_range w.bytes.items w.start w.end;
+      left = R.left w.source;
+      failed = R.failed w.source;
+      calls = w.calls;
+      asked = R.calls w.source;
+    } };
+
+    ghost invariant = { λ w. IsWindow (length w.bytes.items) w.start w.end w.calls };
+}
+
+/// Reads behind the first `end` octets.
+fn read_behind<R: Source>(
+    source: &mut R,
+    bytes: &mut [u8],
+    end: usize,
+    calls: &mut u64,
+) -> Result<usize, Fault>
+    requires room { end < length bytes.old }
+    requires calls { calls.old ≤ call_limit }
+    ensures octets { IfOk result (λ n. prepend_known (take (end + n) bytes.new) (R.left source.new)
+        ≡ prepend_known (take end bytes.old) (R.left source.old)) }
     ensures front { take end bytes.new ≡ take end bytes.old }
     ensures count { IfOk result (λ n. end + n ≤ length bytes.old) }
-    ensures end { IfOk result (λ n. n ≡ 0 → IfSome (R.left source.new) (λ text. text ≡ [])) }
-    ensures err { OnErr result (R.failed source.new ≡ true) }
-    ensures asked { R.calls source.new ≡ (R.calls source.old + 1) % 2 ^ 64 }
+    ensures end { IfOk result (λ n. n ≡ 0 → IfSome (R.left source.new) (λ left. left ≡ [])) }
+    ensures counted { OnOk result (calls.new ≡ calls.old + 1) }
+    ensures calls { (calls.old ≤ calls.new) × (calls.new ≤ call_limit)
+        × (calls.new ≤ calls.old + 1) }
+    ensures asked { IsAsked (R.calls source.old) (calls.new - calls.old) (R.calls source.new) }
+    ensures left { OnErr result (R.left source.new ≡ R.left source.old) }
+    ensures err { IfErr result (λ e. (e ≡ fault_at 901 places.None)
+        × ((R.failed source.new ≡ true) ⊎ (calls.old ≡ call_limit))) }
 {
-    source.read(&mut bytes[end..])
+    read_next(source, &mut bytes[end..], calls)
 }
 
-/// Where the first line feed is.
-fn position_of_line_feed(bytes: &[u8]) -> Option<usize>
-    ensures { result ≡ position (λ b. b == 10) bytes.now }
-{
-    bytes.iter().position(|b| *b == 10)
-}
-
-/// Where the first line feed is.
-fn line_feed(bytes: &[u8]) -> Option<usize>
-    ensures found { IfSome result (λ n. (n ≡ line_len bytes.now) × (n < length bytes.now)) }
-    ensures none { IfNone result (line_len bytes.now ≡ length bytes.now) }
-{
-    position_of_line_feed(bytes)
-}
-
-/// Reads behind the first `held` bytes until they have a line, and answers their number and the line's length.
-#[tactic(auto, using(crate::proofs::Held::long_line))]
+/// Reads behind the first octets until there are as many as wanted, or the source ends.
 fn gather<R: Source>(
     source: &mut R,
     bytes: &mut [u8],
-    held: usize,
+    end: &mut usize,
+    want: usize,
     calls: &mut u64,
-) -> Result<(usize, Option<usize>), Stop>
-    requires held { held ≤ 8192 }
-    requires room { length bytes.old ≡ 8192 }
-    requires calls { calls.old ≤ 2 ^ 32 }
-    ensures text { IfOk result (λ x. prepend_known (take x.0 bytes.new) (R.left source.new) ≡ prepend_known (take held bytes.old) (R.left source.old)) }
-    ensures line { IfOk result (λ x. HasLine (take x.0 bytes.new) x.1 (R.left source.new)) }
-    ensures fits { IfOk result (λ x. (held ≤ x.0) × (x.0 ≤ 8192) × (held < x.0 → calls.old < calls.new)) }
-    ensures spent { IfOk result (λ x. calls.new + held ≤ calls.old + x.0 + calls_at_end x.1) }
-    ensures calls { (calls.old ≤ calls.new) × (calls.new ≤ 2 ^ 32) }
+) -> Result<(), Fault>
+    requires end { end.old ≤ length bytes.old }
+    requires want { want ≤ length bytes.old }
+    requires calls { calls.old ≤ call_limit }
+    ensures octets { prepend_known (take end.new bytes.new) (R.left source.new)
+        ≡ prepend_known (take end.old bytes.old) (R.left source.old) }
+    ensures front { take end.old bytes.new ≡ take end.old bytes.old }
+    ensures enough { OnOk result (end.new < want → IfSome (R.left source.new) (λ left. left ≡ [])) }
+    ensures fits { (end.old ≤ end.new) × (end.new ≤ length bytes.old)
+        × (end.old < end.new → calls.old < calls.new) }
+    ensures spent { (calls.new + end.old ≤ calls.old + end.new + 1)
+        × (want ≤ end.new → calls.new + end.old ≤ calls.old + end.new) }
+    ensures calls { (calls.old ≤ calls.new) × (calls.new ≤ call_limit) }
     ensures asked { IsAsked (R.calls source.old) (calls.new - calls.old) (R.calls source.new) }
-    ensures err { IfErr result (λ stop. IsStop stop (R.failed source.new) calls.new calls.old held (prepend_known (take held bytes.old) (R.left source.old))) }
+    ensures err { IfErr result (λ e. (e ≡ fault_at 901 places.None) × ((R.failed source.new ≡ true)
+        ⊎ ((calls.new ≡ call_limit)
+        × IfSome (R.left source.old) (λ left. call_limit ≤ calls.old + length left)))) }
 {
-    let mut end = held;
-    'reading: loop {
-        if let Some(n) = line_feed(&bytes[..end]) {
-            if n > LONGEST {
-                return Err(Stop::TooLong);
-            }
-            return Ok((end, Some(n)));
+    'reading: while *end < want {
+        let n = read_behind(source, bytes, *end, calls)?;
+        if n == 0 {
+            return Ok(());
         }
-        if end > LONGEST {
-            return Err(Stop::TooLong);
-        }
-        if *calls >= MOST_CALLS {
-            return Err(Stop::Device);
-        }
-        *calls += 1;
-        match read_behind(source, bytes, end) {
-            Ok(0) => return Ok((end, None)),
-            Ok(n) => end += n,
-            Err(_) => return Err(Stop::Device),
-        }
+        *end += n;
     }
+    Ok(())
 }
 
-/// The next line in a buffer, from `from` to `to`; what is left of it is from `next` to `end`.
-#[derive(Clone, Copy, Debug, PartialEq, Eq)]
-pub(crate) struct Part {
-    pub(crate) from: usize,
-    pub(crate) to: usize,
-    pub(crate) next: usize,
-    pub(crate) end: usize,
-}
-
-/// Moves the bytes from `start` to `end` to the front.
+/// Moves the octets from `start` to `end` to the front.
 fn to_front(bytes: &mut [u8], start: usize, end: usize)
     requires { (start ≤ end) × (end ≤ length bytes.old) }
     ensures { take (end - start) bytes.new ≡ slice_range bytes.old start end }
@@ -109,52 +113,93 @@ fn to_front(bytes: &mut [u8], start: usize, end: usize)
     bytes.copy_within(start..end, 0);
 }
 
-/// Finds the next line among the bytes from `start` to `end` and those that the source has left.
-pub(crate) fn find_line<R: Source>(
-    source: &mut R,
-    bytes: &mut [u8],
-    start: usize,
-    end: usize,
-    calls: &mut u64,
-) -> Result<Part, Stop>
-    requires room { length bytes.old ≡ 8192 }
-    requires held { (start ≤ end) × (end ≤ 8192) }
-    requires calls { calls.old ≤ 2 ^ 32 }
-    ensures text { IfOk result (λ part. IsPart part bytes.new (R.left source.new) (prepend_known (slice_range bytes.old start end) (R.left source.old))) }
-    ensures untold { OnOk result (R.left source.old ≡ None → R.left source.new ≡ None) }
-    ensures fits { IfOk result (λ part. Fits part) }
-    ensures smaller { IfOk result (λ part. part.from < part.next → (2 ^ 32 - calls.new) * 8193 + (part.end - part.next) < (2 ^ 32 - calls.old) * 8193 + (end - start)) }
-    ensures one { IfOk result (λ part. line_len (slice_range bytes.new part.from part.to) ≡ part.to - part.from) }
-    ensures spent { IfOk result (λ part. IsSpent (R.left source.old) (R.left source.new) calls.old calls.new (calls_of_part part)) }
-    ensures calls { (calls.old ≤ calls.new) × (calls.new ≤ 2 ^ 32) }
-    ensures asked { IsAsked (R.calls source.old) (calls.new - calls.old) (R.calls source.new) }
-    ensures err { IfErr result (λ stop. IsStop stop (R.failed source.new) calls.new calls.old (end - start) (prepend_known (slice_range bytes.old start end) (R.left source.old))) }
-{
-    if let Some(n) = line_feed(&bytes[start..end]) {
-        if n > LONGEST {
-            return Err(Stop::TooLong);
-        }
-        return Ok(Part {
-            from: start,
-            to: start + n,
-            next: start + n + 1,
-            end,
-        });
+impl<R: Source> Window<R> {
+    /// A window on a source, which holds nothing yet, with room for so many octets.
+    ///
+    /// Fails with 900, at no place, for want of memory.
+    pub fn new(alloc: Global, source: R, room: usize) -> Result<Window<R>, Fault>
+        ensures ok { IfOk result (λ w. w ≡ record {
+          room = room;
+          held = [];
+          left = R.left source;
+          failed = R.failed source;
+          calls = 0;
+          asked = R.calls source;
+        }) }
+        ensures err { IfErr result (λ e. e ≡ fault_at 900 places.None) }
+    {
+        Ok(Window {
+            source,
+            bytes: vec![in alloc; 0; room]?,
+            start: 0,
+            end: 0,
+            calls: 0,
+        })
     }
-    to_front(bytes, start, end);
-    let (end, line) = gather(source, bytes, end - start, calls)?;
-    match line {
-        Some(n) => Ok(Part {
-            from: 0,
-            to: n,
-            next: n + 1,
-            end,
-        }),
-        None => Ok(Part {
-            from: 0,
-            to: end,
-            next: end,
-            end,
-        }),
+
+    /// Reads until it holds as many octets as wanted, for which it has to have room, or the source
+    /// has ended. It calls its source only if it holds fewer.
+    ///
+    /// Fails with 901, at no place, where a read fails or the source hasn't ended after
+    /// 4,294,967,296 calls. No octet is lost then.
+    pub fn fill(&mut self, want: usize) -> Result<(), Fault>
+        requires { want ≤ self.old.room }
+        ensures octets { octets_of self.new ≡ octets_of self.old }
+        ensures front { take (length self.old.held) self.new.held ≡ self.old.held }
+        ensures room { self.new.room ≡ self.old.room }
+        ensures enough { OnOk result (length self.new.held < want
+            → IfSome self.new.left (λ left. left ≡ [])) }
+        ensures idle { want ≤ length self.old.held → self.new ≡ self.old }
+        ensures fits { (length self.old.held ≤ length self.new.held)
+            × (length self.new.held ≤ self.old.room)
+            × (length self.old.held < length self.new.held → self.old.calls < self.new.calls) }
+        ensures spent { (self.new.calls + length self.old.held
+            ≤ self.old.calls + length self.new.held + 1)
+            × (want ≤ length self.new.held
+            → self.new.calls + length self.old.held ≤ self.old.calls + length self.new.held) }
+        ensures calls { (self.old.calls ≤ self.new.calls) × (self.new.calls ≤ call_limit) }
+        ensures asked { IsAsked self.old.asked (self.new.calls - self.old.calls) self.new.asked }
+        ensures err { IfErr result (λ e. (e ≡ fault_at 901 places.None)
+            × HasFailed self.old self.new) }
+    {
+        let held = self.end - self.start;
+        if held >= want {
+            return Ok(());
+        }
+        to_front(&mut self.bytes, self.start, self.end);
+        self.start = 0;
+        self.end = held;
+        gather(
+            &mut self.source,
+            &mut self.bytes,
+            &mut self.end,
+            want,
+            &mut self.calls,
+        )
+    }
+
+    /// The octets that it holds.
+    pub fn octets(&self) -> &[u8]
+        ensures value { result.now ≡ self.now.held }
+        ensures room { length result.now ≤ self.now.room }
+    {
+        &self.bytes[self.start..self.end]
+    }
+
+    /// The source, which stands behind the octets that it holds.
+    pub fn get_ref(&self) -> &R
+        ensures left { R.left result.now ≡ self.now.left }
+        ensures failed { R.failed result.now ≡ self.now.failed }
+        ensures calls { R.calls result.now ≡ self.now.asked }
+    {
+        &self.source
+    }
+
+    /// Passes over the first octets, of which it has to hold so many.
+    pub fn pass(&mut self, n: usize)
+        requires { n ≤ length self.old.held }
+        ensures { self.new ≡ record self.old { held = drop n self.old.held } }
+    {
+        self.start += n;
     }
 }

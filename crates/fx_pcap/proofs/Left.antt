@@ -18,8 +18,3 @@ pub first_and_more : (n : ℕ) (held rest : List ℕ) (left : Option (List ℕ))
 first_and_more n held rest None h = tt
 first_and_more n held rest (Some l) h =
     ap (λ (x : List ℕ). take n held ++ x) h ∙ sym (append_assoc (take n held) (drop n held) l) ∙ ap (λ (x : List ℕ). x ++ l) (take-append-drop n held)
-
--- the octets of a source are told as they were, whatever of them is held
-pub untold_behind : (front held behind : List ℕ) (left left' : Option (List ℕ)) → prepend_known held left' ≡ prepend_known front left → prepend_known front left ≡ None → prepend_known behind left' ≡ None
-untold_behind front held behind left None same none = refl
-untold_behind front held behind left (Some l) same none = let no : Some (held ++ l) ≡ None = same ∙ none in absurd (cc)

@@ -2,7 +2,6 @@ pub mod Tags
 pub mod Typed
 pub mod HeaderByHeader
 pub mod Left
-pub mod Spending
 pub mod Whole
 pub mod Passing
 pub mod Refusing

@@ -12,15 +12,18 @@ use Rattle.fx_pcap.specs.declared.skipped.Skipped.{Skipped}
 use Rattle.fx_pcap.specs.Numbers.{number_in}
 use Rattle.fx_pcap.specs.Frames.{content_of}
 use Rattle.fx_pcap.specs.Records.{captured_length, second_of, record_fault, item_of, Records, place_after, with_item, records_of}
-use Rattle.fx_pcap.specs.Captures.{Seen, counted, with_frame, frames_in, skipped_in, Ahead, ahead_in, Reading, ahead_of, with_first}
-use Rattle.fx_pcap.specs.Captures.{Asks, Gains, AtFrame, budget}
-use Rattle.fx_pcap.specs.Window.{Held, octets_of, HasRecord}
+use Rattle.fx_pcap.specs.Captures.{Seen, counted, with_frame, frames_in, skipped_in, Ahead, ahead_in, Reading, ahead_of, with_first, Asks, Gains, AtFrame, budget}
+use Rattle.fx_base.specs.Window.{Held, octets_of}
+use Rattle.fx_base.specs.Limits.{call_limit}
+use Rattle.fx_pcap.specs.FirstRecord.{HasRecord}
+use Rattle.fx_pcap.specs.declared.record.TheConstants.{ROOM}
 use Rattle.fx_pcap.specs.Kept.{Kept, fault_of, reading_of, Passes}
 use Rattle.fx_pcap.specs.declared.content.Content.TheVariants.{Packet, Other, Malformed}
 use Rattle.fx_pcap.specs.declared.stop.Stop.{Stop}
 use Rattle.fx_base.specs.Device.{MayBeLeft, MayHaveLeft, IsAsked}
 use Rattle.fx_pcap.proofs.Asking.{asks_of, gains_of}
-use Rattle.fx_pcap.proofs.Left.{first_and_more, untold_behind}
+use Rattle.fx_base.proofs.Reading.{untold_behind}
+use Rattle.fx_pcap.proofs.Left.{first_and_more}
 use Rattle.fx_pcap.proofs.Whole.{number_whole}
 use Rattle.fx_pcap.proofs.Passing.{first_record}
 
@@ -107,7 +110,7 @@ no_stop : (place place' : ℕ) (o : Option Stop) → option_map (fault_of place)
 no_stop place place' None h = refl
 no_stop place place' (Some stop) h = absurd (cc)
 
-pub after_record : (w w1 w2 : Held) (k : Kept) (n place : ℕ) (s : Skipped) (fields : List ℕ) (size second : ℕ) (content : Content) (octets : List ℕ) → w1 ≡ record w { held = drop k.taken w.held } → octets_of w2 ≡ octets_of w1 → w2.calls + length w1.held ≤ w1.calls + length w2.held → w1.calls ≤ w2.calls → IsAsked w1.asked (w2.calls - w1.calls) w2.asked → HasRecord k.format.order n w2.held → (2 ^ 32 - w2.calls) * 524289 + (length w2.held - n) < (2 ^ 32 - w1.calls) * 524289 + length w1.held → octets ≡ w2.held → content ≡ content_of k.format.link (slice_range octets 16 n) → second ≡ number_in k.format.order 4 0 octets → k.place ≤ 2 ^ 64 - 1 → place ≡ place_after k.place n → (reading_of w k).stopped ≡ None → After (reading_of w k) (reading_of w2 (behind k n place s fields size second)) content k.skipped
+pub after_record : (w w1 w2 : Held) (k : Kept) (n place : ℕ) (s : Skipped) (fields : List ℕ) (size second : ℕ) (content : Content) (octets : List ℕ) → w1 ≡ record w { held = drop k.taken w.held } → octets_of w2 ≡ octets_of w1 → w2.calls + length w1.held ≤ w1.calls + length w2.held → w1.calls ≤ w2.calls → IsAsked w1.asked (w2.calls - w1.calls) w2.asked → HasRecord k.format.order n w2.held → (call_limit - w2.calls) * (ROOM + 1) + (length w2.held - n) < (call_limit - w1.calls) * (ROOM + 1) + length w1.held → octets ≡ w2.held → content ≡ content_of k.format.link (slice_range octets 16 n) → second ≡ number_in k.format.order 4 0 octets → k.place ≤ 2 ^ 64 - 1 → place ≡ place_after k.place n → (reading_of w k).stopped ≡ None → After (reading_of w k) (reading_of w2 (behind k n place s fields size second)) content k.skipped
 after_record w w1 w2 k n place s fields size second content octets passed same spent more asked has smaller held is when fits at going =
     let all : octets_of w2 ≡ prepend_known (drop k.taken w.held) w.left = same ∙ ap octets_of passed in
     let here : content ≡ content_of k.format.link (slice_range w2.held 16 n) = is ∙ ap (λ (l : List ℕ). content_of k.format.link (slice_range l 16 n)) held in
@@ -123,7 +126,7 @@ after_record w w1 w2 k n place s fields size second content octets passed same s
       format = refl;
       asks = asks_of w w1 w2 k (behind k n place s fields size second) passed more asked;
       gains = gains_of 0 w w1 w2 k (behind k n place s fields size second) passed same (omega (arith, spent));
-      smaller = subst (λ (m : ℕ). (2 ^ 32 - w2.calls) * 524289 + (length w2.held - n) < m) ((λ i. (2 ^ 32 - calls i) * 524289 + long i)) smaller;
+      smaller = subst (λ (m : ℕ). (call_limit - w2.calls) * (ROOM + 1) + (length w2.held - n) < m) ((λ i. (call_limit - calls i) * (ROOM + 1) + long i)) smaller;
     }
 
 frame_first : (content : Content) (fields : List ℕ) (octets : ℕ) (seen : Seen) (s : Skipped) (r : Records) → content ≡ Packet fields octets → seen.fields ≡ fields → seen.octets ≡ octets → ahead_with content seen.captured seen.second s r ≡ with_first seen s (ahead_in s r)

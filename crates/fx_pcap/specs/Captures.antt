@@ -4,6 +4,8 @@ use Rattle.fx_base.specs.declared.fault.Fault.{Fault}
 use Rattle.fx_base.specs.declared.fault.Place.TheVariants as places
 use Rattle.fx_base.specs.Device.{MayBeLeft, MayHaveLeft, IsAsked, IsUnread}
 use Rattle.fx_base.specs.Fault.{fault_at}
+use Rattle.fx_base.specs.Limits.{call_limit}
+use Rattle.fx_pcap.specs.declared.record.TheConstants.{ROOM}
 use Rattle.fx_pcap.specs.declared.content.Content.{Content}
 use Rattle.fx_pcap.specs.declared.content.Content.TheVariants.{Packet, Other, Malformed}
 use Rattle.fx_pcap.specs.declared.header.Format.{Format}
@@ -90,7 +92,7 @@ HadAhead old new f = (rest : List ℕ) → MayBeLeft new.left rest → MayHaveLe
 
 -- falls with each frame
 abbrev pub budget : Reading → ℕ
-budget r = (2 ^ 32 - r.calls) * 524289 + r.held
+budget r = (call_limit - r.calls) * (ROOM + 1) + r.held
 
 -- how many of these octets, which it has left, it hasn't read
 abbrev pub unread : Reading → List ℕ → ℕ
@@ -127,11 +129,11 @@ pub record AtEnd (old new : Reading) : Type 0 where
   pub asks : Asks old new
   pub gains : Gains 1 old new
 
--- its source's last call failed, or it made 2 to the 32 calls and the source hasn't ended
+-- its source's last call failed, or it made so many calls and the source hasn't ended
 abbrev pub IsCutOff : Reading → Reading → Type 0
 IsCutOff old new =
     (new.failed ≡ true)
-    ⊎ ((new.calls ≡ 2 ^ 32) × Asks old new × IfSome old.left (λ octets. 2 ^ 32 ≤ old.calls + unread old octets))
+    ⊎ ((new.calls ≡ call_limit) × Asks old new × IfSome old.left (λ octets. call_limit ≤ old.calls + unread old octets))
 
 -- why a reader that hadn't stopped stops
 abbrev pub Stops : Reading → Reading → Fault → Type 0

@@ -1,5 +1,5 @@
 -- A reader of a capture by what it keeps.
-use Rattle.std.specs.Prelude.{◌≡◌, ℕ, ◌-◌, ◌<◌, Bool, true, false, List, length, drop, min, Option, None, slice_range, Result, Ok, Err}
+use Rattle.std.specs.Prelude.{◌≡◌, ℕ, ◌-◌, ◌≤◌, ◌<◌, Bool, true, false, List, length, drop, min, Option, None, slice_range, Result, Ok, Err}
 use Rattle.std.specs.Option.{option_map}
 use Rattle.std.specs.Io.KnownBytes.{prepend_known}
 use Rattle.fx_base.specs.declared.fault.Fault.{Fault}
@@ -12,7 +12,8 @@ use Rattle.fx_pcap.specs.declared.stop.Stop.TheVariants.{Device, Cut, TooLong}
 use Rattle.fx_pcap.specs.declared.capture.Taken.{Taken}
 use Rattle.fx_pcap.specs.declared.capture.Taken.TheVariants as taken
 use Rattle.fx_pcap.specs.Captures.{Reading, HadAhead, budget, Asks, Gains, Stops, AtFrame, AtEnd}
-use Rattle.fx_pcap.specs.Window.{Held}
+use Rattle.fx_base.specs.Window.{Held}
+use Rattle.fx_pcap.specs.declared.record.TheConstants.{ROOM}
 
 pub record Kept : Type 0 where
   pub format : Format
@@ -43,6 +44,11 @@ reading_of w k =
       asked = w.asked;
       held = length w.held - k.taken;
     }
+
+-- the record that it is at is at the front of what its window holds
+pub record IsReader (w : Held) (taken : ℕ) : Type 0 where
+  pub room : w.room ≡ ROOM
+  pub within : taken ≤ length w.held
 
 -- a record was taken, and its frame passed over
 pub record Passes (old new : Reading) : Type 0 where

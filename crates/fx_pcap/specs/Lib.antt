@@ -6,5 +6,5 @@ pub mod Ipv6
 pub mod Frames
 pub mod Records
 pub mod Captures
-pub mod Window
+pub mod FirstRecord
 pub mod Kept

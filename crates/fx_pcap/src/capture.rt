@@ -6,11 +6,10 @@ ghost use Rattle.fx_pcap.specs.Kept.{fault_of};
 use crate::content::{Content, read_content};
 use crate::frame::Frame;
 use crate::header::{FILE_HEADER, Format, read_format};
-use crate::record::{RECORD_HEADER, find_record};
+use crate::record::{RECORD_HEADER, ROOM, find_record};
 use crate::skipped::Skipped;
 use crate::stop::Stop;
-use crate::window::Window;
-use fx_base::{Fault, Source};
+use fx_base::{Fault, Source, Window};
 use fx_boxes::Fields;
 use fx_elements::AXES;
 use std::alloc::Global;
@@ -56,15 +55,14 @@ pub struct Capture<R: Source> {
 }
 
 impl<R: Source> Model for Capture<R> {
-    ghost use Rattle.std.specs.Prelude.{◌≤◌, length};
     ghost use Rattle.fx_pcap.specs.Captures.{Reading};
-    ghost use Rattle.fx_pcap.specs.Kept.{reading_of};
+    ghost use Rattle.fx_pcap.specs.Kept.{reading_of, IsReader};
 
     ghost Value = { Reading };
 
     ghost view = { λ c. reading_of c.window (record { format = c.format; place = c.place; taken = c.taken; skipped = c.skipped; fields = c.fields; octets = c.octets; second = c.second; stopped = c.stopped }) };
 
-    ghost invariant = { λ c. c.taken ≤ length c.window.held };
+    ghost invariant = { λ c. IsReader c.window c.taken };
 }
 
 impl<R: Source> Capture<R> {
@@ -81,7 +79,7 @@ impl<R: Source> Capture<R> {
         ensures err { IfErr result (IsRefused (R.left source)
             (IsUnreadable R.calls R.failed (R.left source) (R.calls source))) }
     {
-        let mut window = Window::new(alloc, source)?;
+        let mut window = Window::new(alloc, source, ROOM)?;
         let Ok(()) = window.fill(FILE_HEADER) else {
             // So that the contract can speak of the source as it is now.
             window.get_ref();

@@ -16,7 +16,6 @@ mod record;
 mod skipped;
 mod stop;
 mod transport;
-mod window;
 
 pub use capture::Capture;
 pub use frame::Frame;

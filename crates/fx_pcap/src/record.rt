@@ -1,12 +1,13 @@
 //! Records of a capture: a header of 16 octets, and the captured octets.
-ghost use Rattle.std.specs.Prelude.{◌≡◌, ◌+◌, ◌-◌, ◌*◌, ◌^◌, ◌≤◌, ◌<◌, length, MatchOption, None, OnOk, IfOk, IfErr, IfSome};
+ghost use Rattle.std.specs.Prelude.{◌≡◌, ◌+◌, ◌-◌, ◌*◌, ◌≤◌, ◌<◌, length, MatchOption, None, IfOk, IfErr, IfSome};
+ghost use Rattle.fx_base.specs.Limits.{call_limit};
 ghost use Rattle.fx_base.specs.Device.{IsAsked};
-ghost use Rattle.fx_pcap.specs.Window.{octets_of, HasEnded, HasRecord, IsStop};
+ghost use Rattle.fx_base.specs.Window.{octets_of};
+ghost use Rattle.fx_pcap.specs.FirstRecord.{HasEnded, HasRecord, IsStop};
 
 use crate::order::Order;
 use crate::stop::Stop;
-use crate::window::Window;
-use fx_base::Source;
+use fx_base::{Source, Window};
 
 /// The number of octets of a record's header.
 pub(crate) const RECORD_HEADER: usize = 16;
@@ -14,14 +15,22 @@ pub(crate) const RECORD_HEADER: usize = 16;
 /// The greatest number of captured octets of a record.
 const LONGEST: u32 = 262_144;
 
+/// The number of octets that are held at once: two of the longest records.
+pub(crate) const ROOM: usize = 524_288;
+
 /// Has the next record held, whole, and answers its number of octets; none at the end.
 pub(crate) fn find_record<R: Source>(
     window: &mut Window<R>,
     order: Order,
 ) -> Result<Option<usize>, Stop>
-    ensures octets { OnOk result (octets_of window.new ≡ octets_of window.old) }
-    ensures found { IfOk result (λ size. MatchOption size (HasEnded window.new) (λ n. HasRecord order n window.new.held)) }
-    ensures smaller { IfOk result (λ size. IfSome size (λ n. (2 ^ 32 - window.new.calls) * 524289 + (length window.new.held - n) < (2 ^ 32 - window.old.calls) * 524289 + length window.old.held)) }
+    requires { window.old.room ≡ ROOM }
+    ensures octets { octets_of window.new ≡ octets_of window.old }
+    ensures room { window.new.room ≡ ROOM }
+    ensures found { IfOk result (λ size. MatchOption size (HasEnded window.new)
+        (λ n. HasRecord order n window.new.held)) }
+    ensures smaller { IfOk result (λ size. IfSome size (λ n.
+        (call_limit - window.new.calls) * (ROOM + 1) + (length window.new.held - n)
+        < (call_limit - window.old.calls) * (ROOM + 1) + length window.old.held)) }
     ensures spent { IfOk result (λ size. MatchOption size
         (window.new.calls + length window.old.held ≤ window.old.calls + length window.new.held + 1)
         (λ _. window.new.calls + length window.old.held
@@ -31,7 +40,9 @@ pub(crate) fn find_record<R: Source>(
         window.new.asked }
     ensures stop { IfErr result (λ stop. IsStop order stop window.old window.new) }
 {
-    window.fill(RECORD_HEADER)?;
+    let Ok(()) = window.fill(RECORD_HEADER) else {
+        return Err(Stop::Device);
+    };
     let octets = window.octets();
     if octets.is_empty() {
         return Ok(None);
@@ -44,7 +55,9 @@ pub(crate) fn find_record<R: Source>(
         return Err(Stop::TooLong);
     }
     let size = RECORD_HEADER + captured as usize;
-    window.fill(size)?;
+    let Ok(()) = window.fill(size) else {
+        return Err(Stop::Device);
+    };
     if window.octets().len() < size {
         return Err(Stop::Cut);
     }

@@ -1,7 +1,8 @@
 //! Lines, names, places, numbers and texts written out, and devices that fail.
 use fx_base::{
-    Counts, Fault, Fuse, Line, LineReader, Name, Octets, Outside, Room, Sink, Source, put_fault,
-    entry_at, numbered, put_number, put_number_wide, put_place, put_text, read_whole,
+    Counts, Fault, Fuse, Line, LineReader, Name, Octets, Outside, PieceReader, Room, Sink, Source,
+    Window, entry_at, numbered, put_fault, put_number, put_number_wide, put_place, put_text,
+    read_whole,
 };
 use std::alloc::{AllocError, Global};
 use std::test::Fail;
@@ -273,6 +274,39 @@ fn reads_a_source_whole(rt: HostRuntime) -> Result<(), Fail> {
     assert!(rt; is_left(rt.alloc(), &mut source, b"")?);
     let mut source = Fuse::new(Octets::new(&LONG), 2);
     assert!(rt; is_refused(is_left(rt.alloc(), &mut source, b""), &Fault::bare(901)));
+    Ok(())
+}
+
+#[test]
+fn lends_pieces_of_a_source(rt: HostRuntime) -> Result<(), Fail> {
+    let mut source = Octets::new(&LONG);
+    let mut pieces = PieceReader::new();
+    assert!(rt; pieces.advance(&mut source)? && pieces.piece() == &LONG[..4096]);
+    assert!(rt; pieces.advance(&mut source)? && pieces.piece() == b"x".as_slice());
+    assert!(rt; !pieces.advance(&mut source)? && pieces.piece().is_empty());
+    Ok(())
+}
+
+#[test]
+fn holds_octets_of_a_source(rt: HostRuntime) -> Result<(), Fail> {
+    let mut window = Window::new(rt.alloc(), Octets::new(b"12345678"), 4)?;
+    window.fill(3)?;
+    assert!(rt; window.octets() == b"1234".as_slice());
+    let n = window.octets().len().min(3);
+    window.pass(n);
+    assert!(rt; window.octets() == b"4".as_slice());
+    Ok(())
+}
+
+#[test]
+fn fills_a_window_again(rt: HostRuntime) -> Result<(), Fail> {
+    let mut window = Window::new(rt.alloc(), Fuse::new(Octets::new(b"12345678"), 2), 4)?;
+    window.fill(2)?;
+    let n = window.octets().len().min(3);
+    window.pass(n);
+    assert!(rt; is_refused(window.fill(4), &Fault::bare(901)));
+    window.fill(4)?;
+    assert!(rt; window.octets() == b"4567".as_slice());
     Ok(())
 }
 

@@ -3,6 +3,6 @@ use Rattle.std.proofs.lemmas.List.{length-take-le}
 use Rattle.fx_base.proofs.Held.{read_behind_ok}
 use Rattle.fx_base.proofs.window.read_behind.Goals as goal
 
-pub returns-clause-text : goal.returns-clause-text
-returns-clause-text g c =
-    read_behind_ok (take c.args.end c.args.bytes.now) c.read.new.buffer _ c.args.end _ _ _ c.read.result (length-take-le c.args.end c.args.bytes.now (omega arith)) c.read.auto.buffer c.read.ensures.count c.read.ensures.octets
+pub returns-clause-octets : goal.returns-clause-octets
+returns-clause-octets g c =
+    read_behind_ok (take c.args.end c.args.bytes.now) c.read_next.new.buffer _ c.args.end _ _ _ c.read_next.result (length-take-le c.args.end c.args.bytes.now (omega arith)) c.read_next.auto.buffer c.read_next.ensures.count c.read_next.ensures.octets

@@ -1,24 +1,23 @@
 use Rattle.std.proofs.Common.{ℕ, ◌+◌, ◌≤◌, ◌<◌, length, ap, sym, ◌∙◌, arith}
-use Rattle.std.proofs.lemmas.Result.{err_from_is_err_and}
 use Rattle.fx_pcap.specs.Records.{captured_length}
-use Rattle.fx_pcap.specs.Window.{octets_of}
-use Rattle.fx_pcap.proofs.Spending.{failed_behind}
+use Rattle.fx_base.specs.Window.{octets_of}
+use Rattle.fx_base.proofs.Spending.{failed_behind}
 use Rattle.fx_pcap.proofs.Refusing.{too_long, cut}
 use Rattle.fx_pcap.proofs.Whole.{number_in_front}
 use Rattle.fx_pcap.proofs.record.find_record.Goals as goal
 
-pub returns-in_err-fill-2-clause-stop : goal.returns-in_err-fill-2-clause-stop
-returns-in_err-fill-2-clause-stop g c =
-    let p = err_from_is_err_and c.from_residual-in_err-fill-2.result c.from_residual-in_err-fill-2.ensures.1 in
+pub returns-in_default-fill-clause-stop : goal.returns-in_default-fill-clause-stop
+returns-in_default-fill-clause-stop g c =
     let enough : 16 ≤ length c.fill.new.self.held = omega (arith, c.if-octets-lt-RECORD_HEADER.false, ap length c.octets-octets.ensures.value) in
-    rw (p.1, p.2, c.in_err-fill-2.ensures.err.0) (failed_behind c.args.window.now c.fill.new.self c.fill-2.new.self c.in_ok-fill.ensures.octets (c.in_ok-fill.ensures.spent.1 enough) c.in_err-fill-2.ensures.err.1)
+    let why = rw c.in_default-fill.is at c.fill-2.ensures.err in
+    failed_behind c.args.window.now c.fill.new.self c.fill-2.new.self c.fill.ensures.octets (c.fill.ensures.spent.1 enough) why.1
 
 pub returns-clause-found : goal.returns-clause-found
 returns-clause-found g c =
     let held = c.fill.new.self.held in
     let long : 16 ≤ length held = omega (arith, c.if-octets-lt-RECORD_HEADER.false, ap length c.octets-octets.ensures.value) in
     let read = c.read32-captured.ensures ∙ ap (captured_length c.args.order) c.octets-octets.ensures.value in
-    let size = read ∙ sym (number_in_front c.args.order 4 8 held c.fill-2.new.self.held c.in_ok-fill-2.ensures.front (omega (arith, long))) in
+    let size = read ∙ sym (number_in_front c.args.order 4 8 held c.fill-2.new.self.held c.fill-2.ensures.front (omega (arith, long))) in
     record {
       size = ap (λ (n : ℕ). 16 + n) size;
       short = omega (arith, size, c.if-captured-gt-LONGEST.false);
@@ -30,7 +29,7 @@ returns-then-captured-gt-LONGEST-clause-stop g c =
     let w = c.fill.new.self in
     let header : 16 ≤ length w.held = omega (arith, c.if-octets-lt-RECORD_HEADER.false, ap length c.octets-octets.ensures.value) in
     let read = c.read32-captured.ensures ∙ ap (captured_length c.args.order) c.octets-octets.ensures.value in
-    too_long c.args.order w.held w.left (octets_of c.args.window.now) c.in_ok-fill.ensures.octets header (omega (arith, read, c.if-captured-gt-LONGEST.true))
+    too_long c.args.order w.held w.left (octets_of c.args.window.now) c.fill.ensures.octets header (omega (arith, read, c.if-captured-gt-LONGEST.true))
 
 pub returns-then-octets-size-clause-stop : goal.returns-then-octets-size-clause-stop
 returns-then-octets-size-clause-stop g c =
@@ -38,6 +37,6 @@ returns-then-octets-size-clause-stop g c =
     let w = c.fill-2.new.self in
     let header : 16 ≤ length held = omega (arith, c.if-octets-lt-RECORD_HEADER.false, ap length c.octets-octets.ensures.value) in
     let read = c.read32-captured.ensures ∙ ap (captured_length c.args.order) c.octets-octets.ensures.value in
-    let size = read ∙ sym (number_in_front c.args.order 4 8 held w.held c.in_ok-fill-2.ensures.front (omega (arith, header))) in
+    let size = read ∙ sym (number_in_front c.args.order 4 8 held w.held c.fill-2.ensures.front (omega (arith, header))) in
     let few : length w.held < 16 + captured_length c.args.order w.held = omega (arith, size, c.if-octets-size.true, ap length c.octets.ensures.value) in
-    cut c.args.order w.held w.left (octets_of c.args.window.now) (c.in_ok-fill-2.ensures.octets ∙ c.in_ok-fill.ensures.octets) (c.in_ok-fill-2.ensures.enough (omega (arith, c.if-octets-size.true, ap length c.octets.ensures.value))) (omega (arith, header, c.in_ok-fill-2.ensures.fits)) (omega (arith, size, c.if-captured-gt-LONGEST.false)) few
+    cut c.args.order w.held w.left (octets_of c.args.window.now) (c.fill-2.ensures.octets ∙ c.fill.ensures.octets) (c.in-Ok-fill.ensures.enough (omega (arith, c.if-octets-size.true, ap length c.octets.ensures.value))) (omega (arith, header, c.fill-2.ensures.fits)) (omega (arith, size, c.if-captured-gt-LONGEST.false)) few

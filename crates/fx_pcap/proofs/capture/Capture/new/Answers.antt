@@ -2,10 +2,10 @@ use Rattle.std.proofs.Common.{◌≡◌, ◌≤◌, [], length, drop, refl, sym,
 use Rattle.std.proofs.lemmas.Result.{err_from_is_err_and}
 use Rattle.std.specs.Io.KnownBytes.{prepend_known}
 use Rattle.fx_base.proofs.Held.{prepend_nil}
-use Rattle.fx_pcap.specs.Window.{Held, octets_of}
+use Rattle.fx_base.specs.Window.{Held, octets_of}
 use Rattle.fx_pcap.specs.Records.{format_of}
 use Rattle.fx_pcap.proofs.Whole.{format_long, refused, headed, told_behind}
-use Rattle.fx_pcap.proofs.Left.{untold_behind}
+use Rattle.fx_base.proofs.Reading.{untold_behind}
 use Rattle.fx_pcap.proofs.Asking.{asks_opened, gains_opened}
 use Rattle.fx_pcap.proofs.capture.Capture.new.Goals as goal
 

@@ -1,0 +1,89 @@
+//! The next line among the octets of a text.
+ghost use Rattle.std.specs.Prelude.{◌≡◌, ◌+◌, ◌-◌, ◌*◌, ◌≤◌, ◌<◌, length, IfOk, IfErr, IfSome, IfNone, ◌==◌};
+ghost use Rattle.std.specs.List.{position};
+ghost use Rattle.fx_base.specs.Limits.{call_limit};
+ghost use Rattle.fx_base.specs.Device.{IsAsked};
+ghost use Rattle.fx_base.specs.Lines.{line_len};
+ghost use Rattle.fx_base.specs.Part.{IsPart, IsStop, calls_of_part};
+ghost use Rattle.fx_base.specs.Window.{octets_of};
+
+use crate::source::Source;
+use crate::window::Window;
+
+/// The greatest number of bytes of a line, its line feed not counted.
+pub(crate) const LONGEST: usize = 4096;
+
+/// The number of bytes that are held at once.
+pub(crate) const ROOM: usize = 8192;
+
+/// Why a reader stops.
+#[derive(Clone, Copy, Debug, PartialEq, Eq)]
+pub(crate) enum Stop {
+    Device,
+    TooLong,
+}
+
+/// The number of bytes of the line at the front of what is held, without its line feed and with it.
+#[derive(Clone, Copy, Debug, PartialEq, Eq)]
+pub(crate) struct Part {
+    pub(crate) line: usize,
+    pub(crate) taken: usize,
+}
+
+/// Where the first line feed is.
+fn position_of_line_feed(bytes: &[u8]) -> Option<usize>
+    ensures { result ≡ position (λ b. b == 10) bytes.now }
+{
+    bytes.iter().position(|b| *b == 10)
+}
+
+/// Where the first line feed is.
+fn line_feed(bytes: &[u8]) -> Option<usize>
+    ensures found { IfSome result (λ n. (n ≡ line_len bytes.now) × (n < length bytes.now)) }
+    ensures none { IfNone result (line_len bytes.now ≡ length bytes.now) }
+{
+    position_of_line_feed(bytes)
+}
+
+/// Has the next line held, and answers how much of what is held it is; nothing at the end.
+pub(crate) fn find_line<R: Source>(window: &mut Window<R>) -> Result<Part, Stop>
+    requires { window.old.room ≡ ROOM }
+    ensures octets { octets_of window.new ≡ octets_of window.old }
+    ensures room { window.new.room ≡ ROOM }
+    ensures part { IfOk result (λ part. IsPart part window.new.held window.new.left) }
+    ensures smaller { IfOk result (λ part. 0 < part.taken
+        → (call_limit - window.new.calls) * (ROOM + 1) + (length window.new.held - part.taken)
+        < (call_limit - window.old.calls) * (ROOM + 1) + length window.old.held) }
+    ensures spent { IfOk result (λ part. window.new.calls + length window.old.held
+        ≤ window.old.calls + length window.new.held + calls_of_part part) }
+    ensures calls { window.old.calls ≤ window.new.calls }
+    ensures asked { IsAsked window.old.asked (window.new.calls - window.old.calls)
+        window.new.asked }
+    ensures stop { IfErr result (λ stop. IsStop stop window.old window.new) }
+{
+    'reading: loop {
+        let bytes = window.octets();
+        let held = bytes.len();
+        if let Some(n) = line_feed(bytes) {
+            if n > LONGEST {
+                return Err(Stop::TooLong);
+            }
+            return Ok(Part {
+                line: n,
+                taken: n + 1,
+            });
+        }
+        if held > LONGEST {
+            return Err(Stop::TooLong);
+        }
+        let Ok(()) = window.fill(held + 1) else {
+            return Err(Stop::Device);
+        };
+        if window.octets().len() == held {
+            return Ok(Part {
+                line: held,
+                taken: held,
+            });
+        }
+    }
+}

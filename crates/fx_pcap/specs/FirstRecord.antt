@@ -1,0 +1,24 @@
+-- The first record among the octets of a capture, of which some are held.
+use Rattle.std.specs.Prelude.{◌≡◌, ℕ, ◌+◌, ◌≤◌, ◌<◌, List, [], length, Some, IfSome}
+use Rattle.fx_base.specs.Device.{MayHaveLeft}
+use Rattle.fx_base.specs.Window.{Held, octets_of, HasFailed}
+use Rattle.fx_pcap.specs.declared.order.Order.{Order}
+use Rattle.fx_pcap.specs.declared.stop.Stop.{Stop}
+use Rattle.fx_pcap.specs.declared.stop.Stop.TheVariants.{Device, Cut, TooLong}
+use Rattle.fx_pcap.specs.Records.{captured_length, record_fault}
+
+-- nothing is left
+abbrev pub HasEnded : Held → Type 0
+HasEnded w = (w.held ≡ []) × IfSome w.left (λ left. left ≡ [])
+
+-- the first record is held, whole, and has so many octets
+pub record HasRecord (order : Order) (n : ℕ) (held : List ℕ) : Type 0 where
+  pub size : n ≡ 16 + captured_length order held
+  pub short : captured_length order held ≤ 262144
+  pub whole : n ≤ length held
+
+-- why no record is found
+abbrev pub IsStop : Order → Stop → Held → Held → Type 0
+IsStop order Device old new = HasFailed old new
+IsStop order Cut old new = MayHaveLeft (octets_of old) (λ os. (0 < length os) × (record_fault order os ≡ Some 703))
+IsStop order TooLong old new = MayHaveLeft (octets_of old) (λ os. (0 < length os) × (record_fault order os ≡ Some 704))
