@@ -41,7 +41,8 @@ fn is_mark_at(bytes: &[u8], at: usize) -> bool
 /// The place of the first line `%%`.
 #[tactic(auto, using(crate::proofs::Marks::mark_within))]
 fn first_mark(bytes: &[u8]) -> Option<usize>
-    ensures some { IfSome result (λ at. (at + 3 ≤ length bytes.now) × (is_mark_at bytes.now at ≡ true) × ((k : ℕ) → k < at → is_mark_at bytes.now k ≡ false)) }
+    ensures some { IfSome result (λ at. (at + 3 ≤ length bytes.now)
+        × (is_mark_at bytes.now at ≡ true) × ((k : ℕ) → k < at → is_mark_at bytes.now k ≡ false)) }
     ensures none { IfNone result (HasNoMark bytes.now) }
 {
     for at in 0..bytes.len() {
@@ -64,7 +65,8 @@ fn first_text(bytes: &[u8]) -> Option<(&[u8], &[u8])>
 /// What stands behind the line of a command, and the command.
 fn command_of(bytes: &[u8]) -> Option<(Command, &[u8])>
     ensures some { IfSome result (λ p. bytes.now ≡ command_line p.0 ++ p.1.now) }
-    ensures none { IfNone result ((command : Command) (rest : List ℕ) → bytes.now ≡ command_line command ++ rest → ⊥) }
+    ensures none { IfNone result ((command : Command) (rest : List ℕ)
+        → bytes.now ≡ command_line command ++ rest → ⊥) }
 {
     if let Some(rest) = bytes.strip_prefix(b"replay\n") {
         return Some((Command::Replay, rest));
@@ -93,8 +95,10 @@ fn third_text(command: Command, bytes: &[u8]) -> Option<(&[u8], &[u8])>
 
 /// The bundle that these octets are, or None where they have another shape.
 pub fn read_bundle(bytes: &[u8]) -> Option<Bundle<'_>>
-    ensures some { IfSome result (λ bundle. IsBundle bytes.now bundle.command bundle.network.now bundle.traffic.now bundle.third.now) }
-    ensures none { IfNone result ((command : Command) (network : List ℕ) (traffic : List ℕ) (third : List ℕ) → IsBundle bytes.now command network traffic third → ⊥) }
+    ensures some { IfSome result (λ bundle. IsBundle bytes.now bundle.command bundle.network.now
+        bundle.traffic.now bundle.third.now) }
+    ensures none { IfNone result ((command : Command) (network : List ℕ) (traffic : List ℕ)
+        (third : List ℕ) → IsBundle bytes.now command network traffic third → ⊥) }
 {
     let (command, rest) = command_of(bytes)?;
     let (network, rest) = first_text(rest)?;

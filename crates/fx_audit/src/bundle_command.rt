@@ -126,11 +126,14 @@ fn answer_bundle<S: Sink>(
     sink: &mut S,
 ) -> Result<Answer, Fault>
     ensures ok { IfOk result (λ answer. (text : List ℕ)
-        × IsDone bundle.now.command bundle.now.network.now bundle.now.traffic.now (lines_in bundle.now.third.now) answer text × Writes (S.taken sink.old) (S.taken sink.new) text) }
+        × IsDone bundle.now.command bundle.now.network.now bundle.now.traffic.now
+        (lines_in bundle.now.third.now) answer text
+        × Writes (S.taken sink.old) (S.taken sink.new) text) }
     ensures going { OnOk result (S.failed sink.old ≡ false → S.failed sink.new ≡ false) }
     ensures err { IfErr result (λ e. (e ≡ fault_at 900 places.None)
         ⊎ (((e ≡ fault_at 902 places.None) × (S.failed sink.new ≡ true))
-        ⊎ IsRefusedThere bundle.now.command bundle.now.network.now bundle.now.traffic.now bundle.now.third.now e)) }
+        ⊎ IsRefusedThere bundle.now.command bundle.now.network.now bundle.now.traffic.now
+        bundle.now.third.now e)) }
     ensures quiet { IfErr result (λ e. ((e ≡ fault_at 902 places.None) × (S.failed sink.new ≡ true))
         ⊎ (sink.new ≡ sink.old)) }
 {
@@ -155,11 +158,14 @@ pub fn bundle_bytes<B: Source, S: Sink>(
     sink: &mut S,
 ) -> Result<Answer, Fault>
     ensures ok { IfOk result (λ answer. MayHaveLeft (B.left bundle.old) (λ octets.
-        (command : Command) × (network : List ℕ) × (traffic : List ℕ) × (third : List ℕ) × (text : List ℕ) × IsBundle octets command network traffic third
-        × IsDone command network traffic (lines_in third) answer text × Writes (S.taken sink.old) (S.taken sink.new) text)) }
+        (command : Command) × (network : List ℕ) × (traffic : List ℕ) × (third : List ℕ)
+        × (text : List ℕ) × IsBundle octets command network traffic third
+        × IsDone command network traffic (lines_in third) answer text
+        × Writes (S.taken sink.old) (S.taken sink.new) text)) }
     ensures going { OnOk result (S.failed sink.old ≡ false → S.failed sink.new ≡ false) }
     ensures err { IfErr result (λ e. (e ≡ fault_at 900 places.None)
-        ⊎ (ReadFails (B.left bundle.old) (B.calls bundle.old) (B.calls bundle.new) (B.failed bundle.new) e
+        ⊎ (ReadFails (B.left bundle.old) (B.calls bundle.old) (B.calls bundle.new)
+        (B.failed bundle.new) e
         ⊎ (((e ≡ fault_at 902 places.None) × (S.failed sink.new ≡ true))
         ⊎ MayHaveLeft (B.left bundle.old) (λ octets. IsRefusedBundle octets e)))) }
     ensures told { IfOk result (λ answer. (text : List ℕ)

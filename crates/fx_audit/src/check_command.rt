@@ -30,9 +30,11 @@ pub(crate) fn put_no<S: Sink>(sink: &mut S, fault: &Fault) -> Result<(), Fault>
 
 /// Answers the refusal of a certificate: no, by its number, or the refusal itself.
 fn answer_refusal<S: Sink>(sink: &mut S, fault: Fault) -> Result<Answer, Fault>
-    ensures ok { IfOk result (λ answer. (answer ≡ No) × MeansNo fault.number × Writes (S.taken sink.old) (S.taken sink.new) (no_line fault)) }
+    ensures ok { IfOk result (λ answer. (answer ≡ No) × MeansNo fault.number
+        × Writes (S.taken sink.old) (S.taken sink.new) (no_line fault)) }
     ensures going { OnOk result (S.failed sink.old ≡ false → S.failed sink.new ≡ false) }
-    ensures err { IfErr result (λ e. ((e ≡ fault) × (MeansNo fault.number → ⊥)) ⊎ ((e ≡ fault_at 902 places.None) × (S.failed sink.new ≡ true))) }
+    ensures err { IfErr result (λ e. ((e ≡ fault) × (MeansNo fault.number → ⊥))
+        ⊎ ((e ≡ fault_at 902 places.None) × (S.failed sink.new ≡ true))) }
     ensures quiet { IfErr result (λ e. ((e ≡ fault_at 902 places.None) × (S.failed sink.new ≡ true))
         ⊎ (sink.new ≡ sink.old)) }
 {
@@ -52,7 +54,8 @@ fn check_lines<C: Source, S: Sink>(
 ) -> Result<Answer, Fault>
     ensures answer { IfOk result (λ answer. (answer ≡ Yes) ⊎ (answer ≡ No)) }
     ensures ok { IfOk result (λ answer. (text : List ℕ)
-        × IsAnswered documents.now.plan documents.now.traffic certificate.old answer text × Writes (S.taken sink.old) (S.taken sink.new) text) }
+        × IsAnswered documents.now.plan documents.now.traffic certificate.old answer text
+        × Writes (S.taken sink.old) (S.taken sink.new) text) }
     ensures going { OnOk result (S.failed sink.old ≡ false → S.failed sink.new ≡ false) }
     ensures err { IfErr result (λ e. (e ≡ fault_at 900 places.None)
         ⊎ (Fails certificate.old certificate.new e
@@ -89,17 +92,23 @@ pub fn check_bytes<N: Source, T: Source, C: Source, S: Sink>(
 ) -> Result<Answer, Fault>
     ensures answer { IfOk result (λ answer. (answer ≡ Yes) ⊎ (answer ≡ No)) }
     // Yes: each packet is counted once.
-    ensures ok { IfOk result (λ answer. MayHaveLeft (N.left network.old) (λ n. MayHaveLeft (T.left traffic.old) (λ t.
-        (text : List ℕ) × IsChecked n t certificate.old answer text × Writes (S.taken sink.old) (S.taken sink.new) text))) }
+    ensures ok { IfOk result (λ answer. MayHaveLeft (N.left network.old)
+        (λ n. MayHaveLeft (T.left traffic.old) (λ t.
+        (text : List ℕ) × IsChecked n t certificate.old answer text
+        × Writes (S.taken sink.old) (S.taken sink.new) text))) }
     ensures going { OnOk result (S.failed sink.old ≡ false → S.failed sink.new ≡ false) }
     ensures err { IfErr result (λ e. (e ≡ fault_at 900 places.None)
-        ⊎ (ReadFails (N.left network.old) (N.calls network.old) (N.calls network.new) (N.failed network.new) e
-        ⊎ (ReadFails (T.left traffic.old) (T.calls traffic.old) (T.calls traffic.new) (T.failed traffic.new) e
+        ⊎ (ReadFails (N.left network.old) (N.calls network.old) (N.calls network.new)
+        (N.failed network.new) e
+        ⊎ (ReadFails (T.left traffic.old) (T.calls traffic.old) (T.calls traffic.new)
+        (T.failed traffic.new) e
         ⊎ (Fails certificate.old certificate.new e
         ⊎ (((e ≡ fault_at 902 places.None) × (S.failed sink.new ≡ true))
-        ⊎ MayHaveLeft (N.left network.old) (λ n. MayHaveLeft (T.left traffic.old) (λ t. IsRefusedCheck n t certificate.old e))))))) }
+        ⊎ MayHaveLeft (N.left network.old) (λ n. MayHaveLeft (T.left traffic.old)
+        (λ t. IsRefusedCheck n t certificate.old e))))))) }
     // 401 to 415, with the line, are answered no. Once the certificate is read, what isn't answered is 900 to 903.
-    ensures numbers { IfErr result (λ e. (certificate.new ≡ certificate.old) ⊎ IsUnanswered certificate.old e) }
+    ensures numbers { IfErr result (λ e. (certificate.new ≡ certificate.old)
+        ⊎ IsUnanswered certificate.old e) }
     ensures told { IfOk result (λ answer. (text : List ℕ)
         × IsCheckText answer text × Writes (S.taken sink.old) (S.taken sink.new) text) }
     ensures order { IfSome (N.left network.old) (λ n. (e : Fault)

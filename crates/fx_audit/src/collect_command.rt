@@ -31,17 +31,23 @@ pub fn collect_bytes<N: Source, R: Source, S: Sink>(
     stream: &mut R,
     sink: &mut S,
 ) -> Result<Answer, Fault>
-    ensures ok { IfOk result (λ answer. (answer ≡ Yes) × MayHaveLeft (N.left network.old) (λ n. MayHaveLeft (R.left stream.old) (λ octets.
-        (text : List ℕ) × IsCollected n octets text × Writes (S.taken sink.old) (S.taken sink.new) text))) }
+    ensures ok { IfOk result (λ answer. (answer ≡ Yes)
+        × MayHaveLeft (N.left network.old) (λ n. MayHaveLeft (R.left stream.old) (λ octets.
+        (text : List ℕ) × IsCollected n octets text
+        × Writes (S.taken sink.old) (S.taken sink.new) text))) }
     ensures going { OnOk result (S.failed sink.old ≡ false → S.failed sink.new ≡ false) }
     ensures err { IfErr result (λ e. (e ≡ fault_at 900 places.None)
-        ⊎ (ReadFails (N.left network.old) (N.calls network.old) (N.calls network.new) (N.failed network.new) e
-        ⊎ (ReadFails (R.left stream.old) (R.calls stream.old) (R.calls stream.new) (R.failed stream.new) e
+        ⊎ (ReadFails (N.left network.old) (N.calls network.old) (N.calls network.new)
+        (N.failed network.new) e
+        ⊎ (ReadFails (R.left stream.old) (R.calls stream.old) (R.calls stream.new)
+        (R.failed stream.new) e
         ⊎ (((e ≡ fault_at 902 places.None) × (S.failed sink.new ≡ true))
-        ⊎ MayHaveLeft (N.left network.old) (λ n. MayHaveLeft (R.left stream.old) (λ octets. IsRefusedCollect n octets e)))))) }
+        ⊎ MayHaveLeft (N.left network.old) (λ n. MayHaveLeft (R.left stream.old)
+        (λ octets. IsRefusedCollect n octets e)))))) }
     ensures told { IfOk result (λ answer. (text : List ℕ)
         × IsCollectText answer text × Writes (S.taken sink.old) (S.taken sink.new) text) }
-    ensures untouched { IfSome (N.left network.old) (λ n. (e : Fault) → IsRefusedNetwork n e → stream.new ≡ stream.old) }
+    ensures untouched { IfSome (N.left network.old) (λ n. (e : Fault) → IsRefusedNetwork n e
+        → stream.new ≡ stream.old) }
     ensures quiet { IfErr result (λ e. ((e ≡ fault_at 902 places.None) × (S.failed sink.new ≡ true))
         ⊎ (sink.new ≡ sink.old)) }
 {

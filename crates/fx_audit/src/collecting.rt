@@ -14,8 +14,8 @@ use crate::answer::Answer;
 use fx_base::{Fault, PieceReader, Sink, Source};
 use fx_collect::{Totals, put_number_line};
 use fx_layout::Seed;
-use fx_tables::Net;
 use fx_session::Session;
+use fx_tables::Net;
 use std::alloc::Global;
 
 /// Tallies the records that wait.
@@ -35,9 +35,11 @@ fn take_piece(session: &mut Session, totals: &mut Totals, piece: &[u8]) -> Resul
     requires { session.old.fault ≡ None }
     ensures session { OnOk result (session.new ≡ drained (streams.fed session.old piece.now)) }
     ensures faultless { OnOk result (session.new.fault ≡ None) }
-    ensures totals { OnOk result (totals.new ≡ with_records totals.old (streams.fed session.old piece.now).known.waiting) }
+    ensures totals { OnOk result (totals.new
+        ≡ with_records totals.old (streams.fed session.old piece.now).known.waiting) }
     ensures err { IfErr result (λ e. (e ≡ fault_at 900 places.None)
-        ⊎ (streams.answer_of (streams.fed session.old piece.now).place (streams.fed session.old piece.now).fault ≡ Err e)) }
+        ⊎ (streams.answer_of (streams.fed session.old piece.now).place
+        (streams.fed session.old piece.now).fault ≡ Err e)) }
 {
     session.feed(piece)?;
     tally_waiting(session, totals)
@@ -50,9 +52,13 @@ fn tally_stream<R: Source>(
     stream: &mut R,
 ) -> Result<(), Fault>
     requires { session.old ≡ streams.start }
-    ensures ok { OnOk result (MayHaveLeft (R.left stream.old) (λ octets. IsTallied octets totals.old session.new totals.new)) }
-    ensures err { IfErr result (λ e. (e ≡ fault_at 900 places.None) ⊎ (ReadFails (R.left stream.old) (R.calls stream.old) (R.calls stream.new) (R.failed stream.new) e
-        ⊎ MayHaveLeft (R.left stream.old) (λ octets. streams.answer_of (stream_read octets).place (stream_read octets).fault ≡ Err e))) }
+    ensures ok { OnOk result (MayHaveLeft (R.left stream.old)
+        (λ octets. IsTallied octets totals.old session.new totals.new)) }
+    ensures err { IfErr result (λ e. (e ≡ fault_at 900 places.None)
+        ⊎ (ReadFails (R.left stream.old) (R.calls stream.old) (R.calls stream.new)
+        (R.failed stream.new) e
+        ⊎ MayHaveLeft (R.left stream.old) (λ octets. streams.answer_of (stream_read octets).place
+        (stream_read octets).fault ≡ Err e))) }
 {
     let mut pieces = PieceReader::new();
     'pieces: while pieces.advance(stream)? {
@@ -66,9 +72,12 @@ fn tally_stream<R: Source>(
 ///
 /// Fails with 900 for want of memory and with 902 where a write fails, each at no place.
 fn put_collected<S: Sink>(session: &Session, totals: &mut Totals, sink: &mut S) -> Result<(), Fault>
-    ensures ok { OnOk result ((text : List ℕ) × IsTotalsText totals.old session.now.known.gaps session.now.known.skipped text × Writes (S.taken sink.old) (S.taken sink.new) text) }
+    ensures ok { OnOk result ((text : List ℕ)
+        × IsTotalsText totals.old session.now.known.gaps session.now.known.skipped text
+        × Writes (S.taken sink.old) (S.taken sink.new) text) }
     ensures going { OnOk result (S.failed sink.old ≡ false → S.failed sink.new ≡ false) }
-    ensures err { IfErr result (λ e. (e ≡ fault_at 900 places.None) ⊎ ((e ≡ fault_at 902 places.None) × (S.failed sink.new ≡ true))) }
+    ensures err { IfErr result (λ e. (e ≡ fault_at 900 places.None)
+        ⊎ ((e ≡ fault_at 902 places.None) × (S.failed sink.new ≡ true))) }
     ensures quiet { IfErr result (λ e. ((e ≡ fault_at 902 places.None) × (S.failed sink.new ≡ true))
         ⊎ (sink.new ≡ sink.old)) }
 {
@@ -93,11 +102,14 @@ pub fn collect<R: Source, S: Sink>(
     stream: &mut R,
     sink: &mut S,
 ) -> Result<Answer, Fault>
-    ensures ok { IfOk result (λ answer. (answer ≡ Yes) × MayHaveLeft (R.left stream.old) (λ octets. IsWhole (stream_read octets)
-        × ((text : List ℕ) × IsStreamText net.now.report_layout (stream_read octets).known text × Writes (S.taken sink.old) (S.taken sink.new) text))) }
+    ensures ok { IfOk result (λ answer. (answer ≡ Yes)
+        × MayHaveLeft (R.left stream.old) (λ octets. IsWhole (stream_read octets)
+        × ((text : List ℕ) × IsStreamText net.now.report_layout (stream_read octets).known text
+        × Writes (S.taken sink.old) (S.taken sink.new) text))) }
     ensures going { OnOk result (S.failed sink.old ≡ false → S.failed sink.new ≡ false) }
     ensures err { IfErr result (λ e. (e ≡ fault_at 900 places.None)
-        ⊎ (ReadFails (R.left stream.old) (R.calls stream.old) (R.calls stream.new) (R.failed stream.new) e
+        ⊎ (ReadFails (R.left stream.old) (R.calls stream.old) (R.calls stream.new)
+        (R.failed stream.new) e
         ⊎ (((e ≡ fault_at 902 places.None) × (S.failed sink.new ≡ true))
         ⊎ MayHaveLeft (R.left stream.old) (λ octets. IsRefusedStream (stream_read octets) e)))) }
     ensures told { IfOk result (λ answer. (text : List ℕ)

@@ -21,7 +21,8 @@ use std::alloc::Global;
 /// Fails, at no place, with 101 where they are no text of a value in UTF-8, and with 900 for want of memory.
 fn value_of(alloc: Global, octets: &[u8]) -> Result<Value, Fault>
     ensures ok { IfOk result (λ value. IsJson octets.now (view value)) }
-    ensures err { IfErr result (λ e. (e ≡ fault_at 900 places.None) ⊎ ((e ≡ fault_at 101 places.None) × ((d : Data) → IsJson octets.now d → ⊥))) }
+    ensures err { IfErr result (λ e. (e ≡ fault_at 900 places.None)
+        ⊎ ((e ≡ fault_at 101 places.None) × ((d : Data) → IsJson octets.now d → ⊥))) }
 {
     match Value::from_slice(alloc, octets) {
         Ok(value) => Ok(value),
@@ -48,8 +49,11 @@ pub struct Documents {
 /// Fails with 101, at no place, where they are no JSON text; as [`read_plan`] does; with 901, at no place, where
 /// a read fails or the source hasn't ended after 4,294,967,296 calls; and with 900 for want of memory.
 pub(crate) fn network_from<R: Source>(alloc: Global, source: &mut R) -> Result<Plan, Fault>
-    ensures ok { IfOk result (λ plan. MayHaveLeft (R.left source.old) (λ octets. IsNetwork octets plan)) }
-    ensures err { IfErr result (λ e. (e ≡ fault_at 900 places.None) ⊎ (ReadFails (R.left source.old) (R.calls source.old) (R.calls source.new) (R.failed source.new) e
+    ensures ok { IfOk result (λ plan. MayHaveLeft (R.left source.old)
+        (λ octets. IsNetwork octets plan)) }
+    ensures err { IfErr result (λ e. (e ≡ fault_at 900 places.None)
+        ⊎ (ReadFails (R.left source.old) (R.calls source.old) (R.calls source.new)
+        (R.failed source.new) e
         ⊎ MayHaveLeft (R.left source.old) (λ octets. IsRefusedNetwork octets e))) }
 {
     let octets = read_whole(alloc, source)?;
@@ -61,9 +65,13 @@ pub(crate) fn network_from<R: Source>(alloc: Global, source: &mut R) -> Result<P
 ///
 /// Fails as [`network_from`] does, but as [`read_traffic`] in place of [`read_plan`].
 fn traffic_from<R: Source>(alloc: Global, source: &mut R, plan: &Plan) -> Result<Traffic, Fault>
-    ensures ok { IfOk result (λ traffic. MayHaveLeft (R.left source.old) (λ octets. IsTraffic plan.now octets traffic)) }
-    ensures err { IfErr result (λ e. (e ≡ fault_at 900 places.None) ⊎ (ReadFails (R.left source.old) (R.calls source.old) (R.calls source.new) (R.failed source.new) e
-        ⊎ MayHaveLeft (R.left source.old) (λ octets. IsFirstFault (traffic_faults (device_names plan.now) []) octets e))) }
+    ensures ok { IfOk result (λ traffic. MayHaveLeft (R.left source.old)
+        (λ octets. IsTraffic plan.now octets traffic)) }
+    ensures err { IfErr result (λ e. (e ≡ fault_at 900 places.None)
+        ⊎ (ReadFails (R.left source.old) (R.calls source.old) (R.calls source.new)
+        (R.failed source.new) e
+        ⊎ MayHaveLeft (R.left source.old) (λ octets. IsFirstFault
+        (traffic_faults (device_names plan.now) []) octets e))) }
 {
     let octets = read_whole(alloc, source)?;
     let value = value_of(alloc, octets.as_slice())?;
@@ -79,12 +87,17 @@ pub fn read_documents<N: Source, T: Source>(
     network: &mut N,
     traffic: &mut T,
 ) -> Result<Documents, Fault>
-    ensures network { IfOk result (λ documents. MayHaveLeft (N.left network.old) (λ octets. IsNetwork octets documents.plan)) }
-    ensures traffic { IfOk result (λ documents. MayHaveLeft (T.left traffic.old) (λ octets. IsTraffic documents.plan octets documents.traffic)) }
+    ensures network { IfOk result (λ documents. MayHaveLeft (N.left network.old)
+        (λ octets. IsNetwork octets documents.plan)) }
+    ensures traffic { IfOk result (λ documents. MayHaveLeft (T.left traffic.old)
+        (λ octets. IsTraffic documents.plan octets documents.traffic)) }
     ensures err { IfErr result (λ e. (e ≡ fault_at 900 places.None)
-        ⊎ (ReadFails (N.left network.old) (N.calls network.old) (N.calls network.new) (N.failed network.new) e
-        ⊎ (ReadFails (T.left traffic.old) (T.calls traffic.old) (T.calls traffic.new) (T.failed traffic.new) e
-        ⊎ MayHaveLeft (N.left network.old) (λ n. MayHaveLeft (T.left traffic.old) (λ t. IsRefusedByDocuments n t e))))) }
+        ⊎ (ReadFails (N.left network.old) (N.calls network.old) (N.calls network.new)
+        (N.failed network.new) e
+        ⊎ (ReadFails (T.left traffic.old) (T.calls traffic.old) (T.calls traffic.new)
+        (T.failed traffic.new) e
+        ⊎ MayHaveLeft (N.left network.old) (λ n. MayHaveLeft (T.left traffic.old)
+        (λ t. IsRefusedByDocuments n t e))))) }
     ensures order { IfSome (N.left network.old) (λ n. (e : Fault)
         → IsRefusedNetwork n e → traffic.new ≡ traffic.old) }
 {

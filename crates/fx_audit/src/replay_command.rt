@@ -27,7 +27,8 @@ fn replay_lines<R: Source, S: Sink>(
     sink: &mut S,
 ) -> Result<Answer, Fault>
     ensures ok { IfOk result (λ answer. (answer ≡ Yes) × ((text : List ℕ)
-        × IsReplayedIn documents.now.plan documents.now.traffic run.old text × Writes (S.taken sink.old) (S.taken sink.new) text)) }
+        × IsReplayedIn documents.now.plan documents.now.traffic run.old text
+        × Writes (S.taken sink.old) (S.taken sink.new) text)) }
     ensures going { OnOk result (S.failed sink.old ≡ false → S.failed sink.new ≡ false) }
     ensures err { IfErr result (λ e. (e ≡ fault_at 900 places.None)
         ⊎ (Fails run.old run.new e
@@ -57,15 +58,20 @@ pub fn replay_bytes<N: Source, T: Source, R: Source, S: Sink>(
     run: &mut LineReader<R>,
     sink: &mut S,
 ) -> Result<Answer, Fault>
-    ensures ok { IfOk result (λ answer. (answer ≡ Yes) × MayHaveLeft (N.left network.old) (λ n. MayHaveLeft (T.left traffic.old) (λ t.
-        (text : List ℕ) × IsReplayed n t run.old text × Writes (S.taken sink.old) (S.taken sink.new) text))) }
+    ensures ok { IfOk result (λ answer. (answer ≡ Yes)
+        × MayHaveLeft (N.left network.old) (λ n. MayHaveLeft (T.left traffic.old) (λ t.
+        (text : List ℕ) × IsReplayed n t run.old text
+        × Writes (S.taken sink.old) (S.taken sink.new) text))) }
     ensures going { OnOk result (S.failed sink.old ≡ false → S.failed sink.new ≡ false) }
     ensures err { IfErr result (λ e. (e ≡ fault_at 900 places.None)
-        ⊎ (ReadFails (N.left network.old) (N.calls network.old) (N.calls network.new) (N.failed network.new) e
-        ⊎ (ReadFails (T.left traffic.old) (T.calls traffic.old) (T.calls traffic.new) (T.failed traffic.new) e
+        ⊎ (ReadFails (N.left network.old) (N.calls network.old) (N.calls network.new)
+        (N.failed network.new) e
+        ⊎ (ReadFails (T.left traffic.old) (T.calls traffic.old) (T.calls traffic.new)
+        (T.failed traffic.new) e
         ⊎ (Fails run.old run.new e
         ⊎ (((e ≡ fault_at 902 places.None) × (S.failed sink.new ≡ true))
-        ⊎ MayHaveLeft (N.left network.old) (λ n. MayHaveLeft (T.left traffic.old) (λ t. IsRefusedReplay n t run.old e))))))) }
+        ⊎ MayHaveLeft (N.left network.old) (λ n. MayHaveLeft (T.left traffic.old)
+        (λ t. IsRefusedReplay n t run.old e))))))) }
     ensures told { IfOk result (λ answer. (text : List ℕ)
         × IsReplayText answer text × Writes (S.taken sink.old) (S.taken sink.new) text) }
     ensures order { IfSome (N.left network.old) (λ n. (e : Fault)

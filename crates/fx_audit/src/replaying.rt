@@ -21,12 +21,15 @@ use std::alloc::Global;
 
 /// Makes one step after another, up to the first that is refused.
 fn make_steps(state: &mut State<'_>, steps: &[Step]) -> Result<(), Fault>
-    ensures ok { OnOk result ((s : states.State) → state.old.state ≡ states.told s → (last : states.State)
+    ensures ok { OnOk result ((s : states.State) → state.old.state ≡ states.told s
+        → (last : states.State)
         × (stepping.run state.old.net state.old.classes state.old.packets steps.now s ≡ Ok last)
         × (state.new.state ≡ states.told last)) }
     ensures net { state.new.net ≡ state.old.net }
-    ensures err { IfErr result (λ e. (e.place ≡ places.None) × ((e.number ≡ 900) ⊎ ((s : states.State) → state.old.state ≡ states.told s
-        → stepping.run state.old.net state.old.classes state.old.packets steps.now s ≡ Err e.number))) }
+    ensures err { IfErr result (λ e. (e.place ≡ places.None)
+        × ((e.number ≡ 900) ⊎ ((s : states.State) → state.old.state ≡ states.told s
+        → stepping.run state.old.net state.old.classes state.old.packets steps.now s
+        ≡ Err e.number))) }
 {
     for step in steps {
         state.step(step)?;
@@ -36,7 +39,8 @@ fn make_steps(state: &mut State<'_>, steps: &[Step]) -> Result<(), Fault>
 
 /// Writes the line that says whether a run is complete.
 fn put_complete<S: Sink>(sink: &mut S, complete: bool) -> Result<(), Fault>
-    ensures ok { OnOk result (Writes (S.taken sink.old) (S.taken sink.new) (complete_line complete)) }
+    ensures ok { OnOk result (Writes (S.taken sink.old) (S.taken sink.new)
+        (complete_line complete)) }
     ensures going { OnOk result (S.failed sink.old ≡ false → S.failed sink.new ≡ false) }
     ensures err { IfErr result (λ e. (e ≡ fault_at 902 places.None) × (S.failed sink.new ≡ true)) }
 {
@@ -57,10 +61,14 @@ fn put_state<S: Sink>(
     state: &State<'_>,
     sink: &mut S,
 ) -> Result<(), Fault>
-    requires own { totals_of state.now.net.report_layout state.now.state ≡ totals_in state.now.net.report_layout state.now.state }
-    ensures ok { OnOk result ((text : List ℕ) × IsTextOf state.now.net.report_layout state.now.state text × Writes (S.taken sink.old) (S.taken sink.new) text) }
+    requires own { totals_of state.now.net.report_layout state.now.state
+        ≡ totals_in state.now.net.report_layout state.now.state }
+    ensures ok { OnOk result ((text : List ℕ)
+        × IsTextOf state.now.net.report_layout state.now.state text
+        × Writes (S.taken sink.old) (S.taken sink.new) text) }
     ensures going { OnOk result (S.failed sink.old ≡ false → S.failed sink.new ≡ false) }
-    ensures err { IfErr result (λ e. (e ≡ fault_at 900 places.None) ⊎ ((e ≡ fault_at 902 places.None) × (S.failed sink.new ≡ true))) }
+    ensures err { IfErr result (λ e. (e ≡ fault_at 900 places.None)
+        ⊎ ((e ≡ fault_at 902 places.None) × (S.failed sink.new ≡ true))) }
     ensures quiet { IfErr result (λ e. ((e ≡ fault_at 902 places.None) × (S.failed sink.new ≡ true))
         ⊎ (sink.new ≡ sink.old)) }
 {
@@ -85,10 +93,14 @@ pub fn replay<S: Sink>(
     sink: &mut S,
 ) -> Result<Answer, Fault>
     ensures ok { IfOk result (λ answer. (answer ≡ Yes) × ((last : states.State) × (text : List ℕ)
-        × (stepping.run net.now classes.now run.packets run.steps (states.opening net.now classes.now run.packets) ≡ Ok last)
-        × IsTextOf net.now.report_layout (states.told last) text × Writes (S.taken sink.old) (S.taken sink.new) text)) }
+        × (stepping.run net.now classes.now run.packets run.steps
+        (states.opening net.now classes.now run.packets) ≡ Ok last)
+        × IsTextOf net.now.report_layout (states.told last) text
+        × Writes (S.taken sink.old) (S.taken sink.new) text)) }
     ensures going { OnOk result (S.failed sink.old ≡ false → S.failed sink.new ≡ false) }
-    ensures err { IfErr result (λ e. IsRefused net.now classes.now run e ⊎ ((e ≡ fault_at 900 places.None) ⊎ ((e ≡ fault_at 902 places.None) × (S.failed sink.new ≡ true)))) }
+    ensures err { IfErr result (λ e. IsRefused net.now classes.now run e
+        ⊎ ((e ≡ fault_at 900 places.None) ⊎ ((e ≡ fault_at 902 places.None)
+        × (S.failed sink.new ≡ true)))) }
     ensures quiet { IfErr result (λ e. ((e ≡ fault_at 902 places.None) × (S.failed sink.new ≡ true))
         ⊎ (sink.new ≡ sink.old)) }
 {

@@ -40,7 +40,8 @@ fn meter<C: Source, Q: Source, L: Links>(
     links: &mut L,
 ) -> Result<Metered, Fault>
     ensures ok { IfOk result (λ metered. IsRun documents.now.plan documents.now.traffic
-        (C.left capture) (C.calls capture) schedule.old schedule.new (L.put_on links.old) (L.put_on links.new)
+        (C.left capture) (C.calls capture) schedule.old schedule.new (L.put_on links.old)
+        (L.put_on links.new)
         metered.totals metered.skipped) }
     ensures going { OnOk result (L.failed links.old ≡ false → L.failed links.new ≡ false) }
     ensures err { IfErr result (λ e. FailsOutside (L.failed links.new) e
@@ -152,23 +153,30 @@ pub fn run_bytes<N: Source, T: Source, C: Source, Q: Source, L: Links, S: Sink>(
     sink: &mut S,
 ) -> Result<Answer, Fault>
     ensures ok { IfOk result (λ answer. (answer ≡ Yes)
-        × MayHaveLeft (N.left network.old) (λ n. MayHaveLeft (T.left traffic.old) (λ t. (text : List ℕ)
+        × MayHaveLeft (N.left network.old) (λ n. MayHaveLeft (T.left traffic.old)
+        (λ t. (text : List ℕ)
         × IsMetered n t (C.left capture) (C.calls capture) schedule.old schedule.new
-        (L.put_on links.old) (L.put_on links.new) text × Writes (S.taken sink.old) (S.taken sink.new) text))) }
+        (L.put_on links.old) (L.put_on links.new) text
+        × Writes (S.taken sink.old) (S.taken sink.new) text))) }
     ensures going { OnOk result (S.failed sink.old ≡ false → S.failed sink.new ≡ false) }
     ensures links_going { OnOk result (L.failed links.old ≡ false → L.failed links.new ≡ false) }
     ensures err { IfErr result (λ e. FailsOutside (L.failed links.new) e
-        ⊎ (ReadFails (N.left network.old) (N.calls network.old) (N.calls network.new) (N.failed network.new) e
-        ⊎ (ReadFails (T.left traffic.old) (T.calls traffic.old) (T.calls traffic.new) (T.failed traffic.new) e
+        ⊎ (ReadFails (N.left network.old) (N.calls network.old) (N.calls network.new)
+        (N.failed network.new) e
+        ⊎ (ReadFails (T.left traffic.old) (T.calls traffic.old) (T.calls traffic.new)
+        (T.failed traffic.new) e
         ⊎ (((e ≡ fault_at 902 places.None) × (S.failed sink.new ≡ true))
-        ⊎ MayHaveLeft (N.left network.old) (λ n. MayHaveLeft (T.left traffic.old) (λ t. IsRefusedMetering n t
-        (C.left capture) (C.calls capture) (IsUnreadable C.calls C.failed (C.left capture) (C.calls capture))
+        ⊎ MayHaveLeft (N.left network.old) (λ n. MayHaveLeft (T.left traffic.old)
+        (λ t. IsRefusedMetering n t
+        (C.left capture) (C.calls capture) (IsUnreadable C.calls C.failed (C.left capture)
+        (C.calls capture))
         schedule.old schedule.new (L.put_on links.old) e)))))) }
     ensures told { IfOk result (λ answer. (text : List ℕ)
         × IsRunText answer text × Writes (S.taken sink.old) (S.taken sink.new) text) }
     ensures order { IfSome (N.left network.old) (λ n. (e : Fault)
         → IsRefusedNetwork n e → traffic.new ≡ traffic.old) }
-    ensures untouched { IfSome (N.left network.old) (λ n. IfSome (T.left traffic.old) (λ t. (e : Fault)
+    ensures untouched { IfSome (N.left network.old)
+        (λ n. IfSome (T.left traffic.old) (λ t. (e : Fault)
         → IsRefusedByDocuments n t e → (schedule.new ≡ schedule.old) × (links.new ≡ links.old))) }
     ensures unopened { IfSome (C.left capture) (λ c. (e : Fault)
         → format_of c ≡ Err e → (schedule.new ≡ schedule.old) × (links.new ≡ links.old)) }

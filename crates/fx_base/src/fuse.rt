@@ -72,8 +72,10 @@ impl<D: Source> Source for Fuse<D> {
     fn read(&mut self, buffer: &mut [u8]) -> Result<usize, Fault>
         ensures count { IfOk result (λ n. n ≤ length buffer.old) }
         ensures ok { OnOk result (self.new.failed ≡ false) }
-        ensures octets { IfOk result (λ n. Reads (D.left self.old.device) (D.left self.new.device) (length buffer.old) (take n buffer.new) n) }
-        ensures err { IfErr result (λ e. (e ≡ fault_at 901 places.None) × (self.new.failed ≡ true) × (D.left self.new.device ≡ D.left self.old.device)) }
+        ensures octets { IfOk result (λ n. Reads (D.left self.old.device) (D.left self.new.device)
+            (length buffer.old) (take n buffer.new) n) }
+        ensures err { IfErr result (λ e. (e ≡ fault_at 901 places.None) × (self.new.failed ≡ true)
+            × (D.left self.new.device ≡ D.left self.old.device)) }
         ensures asked { self.new.reads ≡ (self.old.reads + 1) % 2 ^ 64 }
 
         // The call that it names fails, and a call that fails otherwise is one where the device failed.
@@ -103,8 +105,10 @@ impl<D: Sink> Sink for Fuse<D> {
         ensures count { IfOk result (λ n. n ≤ length octets.now) }
         ensures some { IfOk result (λ n. n ≡ 0 → octets.now ≡ []) }
         ensures ok { OnOk result (self.new.failed ≡ false) }
-        ensures octets { IfOk result (λ n. Writes (D.taken self.old.device) (D.taken self.new.device) (take n octets.now)) }
-        ensures err { IfErr result (λ e. (e ≡ fault_at 902 places.None) × (self.new.failed ≡ true)) }
+        ensures octets { IfOk result (λ n. Writes (D.taken self.old.device)
+            (D.taken self.new.device) (take n octets.now)) }
+        ensures err { IfErr result (λ e. (e ≡ fault_at 902 places.None)
+            × (self.new.failed ≡ true)) }
 
         // The call that it names fails, and a call that fails otherwise is one where the device failed.
         ensures burns { self.old.calls ≡ 1 → IsErr result }
@@ -121,9 +125,11 @@ impl<D: Sink> Sink for Fuse<D> {
     }
 
     fn flush(&mut self) -> Result<(), Fault>
-        ensures ok { OnOk result ((self.new.failed ≡ false) × (D.holds_back self.new.device ≡ false)) }
+        ensures ok { OnOk result ((self.new.failed ≡ false)
+            × (D.holds_back self.new.device ≡ false)) }
         ensures octets { OnOk result (D.taken self.new.device ≡ D.taken self.old.device) }
-        ensures err { IfErr result (λ e. (e ≡ fault_at 902 places.None) × (self.new.failed ≡ true)) }
+        ensures err { IfErr result (λ e. (e ≡ fault_at 902 places.None)
+            × (self.new.failed ≡ true)) }
 
         // The call that it names fails, and a call that fails otherwise is one where the device failed.
         ensures burns { self.old.calls ≡ 1 → IsErr result }

@@ -82,7 +82,8 @@ pub fn put_place<S: Sink>(sink: &mut S, place: &Place) -> Result<(), Fault>
 
 /// Writes a space and a place behind what stands before it, or nothing where there is no place.
 fn put_behind<S: Sink>(sink: &mut S, place: &Place) -> Result<(), Fault>
-    ensures ok { OnOk result (Writes (S.taken sink.old) (S.taken sink.new) (place_behind place.now)) }
+    ensures ok { OnOk result (Writes (S.taken sink.old) (S.taken sink.new)
+        (place_behind place.now)) }
     ensures going { OnOk result (S.failed sink.old ≡ false → S.failed sink.new ≡ false) }
     ensures err { IfErr result (λ e. (e ≡ fault_at 902 places.None) × (S.failed sink.new ≡ true)) }
 {

@@ -53,8 +53,10 @@ impl Sink for Room<'_> {
         ensures count { IfOk result (λ n. n ≤ length octets.now) }
         ensures some { IfOk result (λ n. n ≡ 0 → octets.now ≡ []) }
         ensures ok { OnOk result (self.new.failed ≡ false) }
-        ensures octets { IfOk result (λ n. Writes (Some (room_octets self.old)) (Some (room_octets self.new)) (take n octets.now)) }
-        ensures err { IfErr result (λ e. (e ≡ fault_at 902 places.None) × (self.new.failed ≡ true)) }
+        ensures octets { IfOk result (λ n. Writes (Some (room_octets self.old))
+            (Some (room_octets self.new)) (take n octets.now)) }
+        ensures err { IfErr result (λ e. (e ≡ fault_at 902 places.None)
+            × (self.new.failed ≡ true)) }
 
         // It fails only where it is full, and then holds what it held.
         ensures full { OnErr result (length (room_octets self.old) ≡ room_size self.old) }

@@ -26,8 +26,10 @@ pub trait Sink: Drop {
         ensures count { IfOk result (λ n. n ≤ length octets.now) }
         ensures some { IfOk result (λ n. n ≡ 0 → octets.now ≡ []) }
         ensures ok { OnOk result (failed self.new ≡ false) }
-        ensures octets { IfOk result (λ n. Writes (taken self.old) (taken self.new) (take n octets.now)) }
-        ensures err { IfErr result (λ e. (e ≡ fault_at 902 places.None) × (failed self.new ≡ true)) };
+        ensures octets { IfOk result (λ n. Writes (taken self.old) (taken self.new)
+            (take n octets.now)) }
+        ensures err { IfErr result (λ e. (e ≡ fault_at 902 places.None)
+            × (failed self.new ≡ true)) };
 
     /// Hands on what it holds back.
     ///
@@ -35,7 +37,8 @@ pub trait Sink: Drop {
     fn flush(&mut self) -> Result<(), Fault>
         ensures ok { OnOk result ((failed self.new ≡ false) × (holds_back self.new ≡ false)) }
         ensures octets { OnOk result (taken self.new ≡ taken self.old) }
-        ensures err { IfErr result (λ e. (e ≡ fault_at 902 places.None) × (failed self.new ≡ true)) };
+        ensures err { IfErr result (λ e. (e ≡ fault_at 902 places.None)
+            × (failed self.new ≡ true)) };
 }
 
 /// A sink that is lent.

@@ -38,8 +38,10 @@ impl Region {
 
     /// The region from the least fields to the greatest, if no low is above its high.
     pub fn between(low: &Fields, high: &Fields) -> Option<Region>
-        ensures exact { IsSome result ↔ ((k : ℕ) → k < axis_count → slice_index low.now k ≤ slice_index high.now k) }
-        ensures value { IfSome result (λ region. (region.low ≡ low.now) × (region.high ≡ high.now)) }
+        ensures exact { IsSome result ↔ ((k : ℕ) → k < axis_count
+            → slice_index low.now k ≤ slice_index high.now k) }
+        ensures value { IfSome result (λ region. (region.low ≡ low.now)
+            × (region.high ≡ high.now)) }
     {
         let least = low.array();
         let greatest = high.array();
@@ -76,9 +78,12 @@ impl Region {
     /// The two parts of the region: values on the axis below `at`, and those from `at` on.
     pub fn split(&self, axis: Axis, at: u128) -> Option<(Region, Region)>
         ensures exact { IsSome result ↔ IsStrictlyInside self.now (axis_index axis) at }
-        ensures parts { IfSome result (λ parts. (parts.0 ≡ below_part self.now (axis_index axis) at) × (parts.1 ≡ above_part self.now (axis_index axis) at)) }
-        ensures below { IfSome result (λ parts. (f : List ℕ) → Holds parts.0 f ↔ (Holds self.now f × (slice_index f (axis_index axis) < at))) }
-        ensures above { IfSome result (λ parts. (f : List ℕ) → Holds parts.1 f ↔ (Holds self.now f × (at ≤ slice_index f (axis_index axis)))) }
+        ensures parts { IfSome result (λ parts. (parts.0 ≡ below_part self.now (axis_index axis) at)
+            × (parts.1 ≡ above_part self.now (axis_index axis) at)) }
+        ensures below { IfSome result (λ parts. (f : List ℕ)
+            → Holds parts.0 f ↔ (Holds self.now f × (slice_index f (axis_index axis) < at))) }
+        ensures above { IfSome result (λ parts. (f : List ℕ)
+            → Holds parts.1 f ↔ (Holds self.now f × (at ≤ slice_index f (axis_index axis)))) }
     {
         if !self.can_split(axis, at) {
             return None;
@@ -136,7 +141,8 @@ impl Region {
     /// The fields that are in both regions, if there are any.
     pub fn meet(&self, other: &Region) -> Option<Region>
         ensures none { IsNone result ↔ IsDisjoint self.now other.now }
-        ensures both { IfSome result (λ both. (f : List ℕ) → Holds both f ↔ (Holds self.now f × Holds other.now f)) }
+        ensures both { IfSome result (λ both. (f : List ℕ)
+            → Holds both f ↔ (Holds self.now f × Holds other.now f)) }
     {
         let mut low = self.low;
         let mut high = self.high;

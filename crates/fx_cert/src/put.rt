@@ -28,7 +28,8 @@ pub(crate) fn word(axis: Axis) -> &'static [u8]
 }
 
 fn put_class<S: Sink>(sink: &mut S, class: u64, path: u64) -> Result<(), Fault>
-    ensures ok { OnOk result (Writes (S.taken sink.old) (S.taken sink.new) (item_text (items.Class class path))) }
+    ensures ok { OnOk result (Writes (S.taken sink.old) (S.taken sink.new)
+        (item_text (items.Class class path))) }
     ensures going { OnOk result (S.failed sink.old ≡ false → S.failed sink.new ≡ false) }
     ensures err { IfErr result (λ e. (e ≡ fault_at 902 places.None) × (S.failed sink.new ≡ true)) }
 {
@@ -39,7 +40,8 @@ fn put_class<S: Sink>(sink: &mut S, class: u64, path: u64) -> Result<(), Fault>
 }
 
 fn put_split<S: Sink>(sink: &mut S, axis: Axis, at: u128) -> Result<(), Fault>
-    ensures ok { OnOk result (Writes (S.taken sink.old) (S.taken sink.new) (item_text (items.Split axis at))) }
+    ensures ok { OnOk result (Writes (S.taken sink.old) (S.taken sink.new)
+        (item_text (items.Split axis at))) }
     ensures going { OnOk result (S.failed sink.old ≡ false → S.failed sink.new ≡ false) }
     ensures err { IfErr result (λ e. (e ≡ fault_at 902 places.None) × (S.failed sink.new ≡ true)) }
 {
@@ -50,7 +52,8 @@ fn put_split<S: Sink>(sink: &mut S, axis: Axis, at: u128) -> Result<(), Fault>
 }
 
 fn put_leaf<S: Sink>(sink: &mut S, crossing: u64, point: u64, process: u64) -> Result<(), Fault>
-    ensures ok { OnOk result (Writes (S.taken sink.old) (S.taken sink.new) (item_text (items.Leaf crossing point process))) }
+    ensures ok { OnOk result (Writes (S.taken sink.old) (S.taken sink.new)
+        (item_text (items.Leaf crossing point process))) }
     ensures going { OnOk result (S.failed sink.old ≡ false → S.failed sink.new ≡ false) }
     ensures err { IfErr result (λ e. (e ≡ fault_at 902 places.None) × (S.failed sink.new ≡ true)) }
 {
@@ -86,7 +89,8 @@ fn put_words<S: Sink>(sink: &mut S, item: &Item) -> Result<(), Fault>
 ///
 /// Fails with 902, at no place, where a write fails. How much the sink has taken then is open.
 pub fn put_item<S: Sink>(sink: &mut S, item: &Item) -> Result<(), Fault>
-    ensures ok { OnOk result (Writes (S.taken sink.old) (S.taken sink.new) (item_text item.now ++ 10 ∷ [])) }
+    ensures ok { OnOk result (Writes (S.taken sink.old) (S.taken sink.new) (item_text item.now
+        ++ 10 ∷ [])) }
     ensures going { OnOk result (S.failed sink.old ≡ false → S.failed sink.new ≡ false) }
     ensures err { IfErr result (λ e. (e ≡ fault_at 902 places.None) × (S.failed sink.new ≡ true)) }
 {

@@ -103,7 +103,8 @@ fn read_text(text: &[u8]) -> Option<Item>
 /// Fails with 402, at the line, where the bytes are no item's text.
 pub fn read_item(line: &Line<'_>) -> Result<Item, Fault>
     ensures ok { IfOk result (λ item. IsText line.now.bytes.now item) }
-    ensures err { IfErr result (λ e. (e ≡ fault_at 402 (places.Line line.now.number)) × ((item : of_item.Item) → IsText line.now.bytes.now item → ⊥)) }
+    ensures err { IfErr result (λ e. (e ≡ fault_at 402 (places.Line line.now.number))
+        × ((item : of_item.Item) → IsText line.now.bytes.now item → ⊥)) }
 {
     match read_text(line.bytes) {
         Some(item) => Ok(item),

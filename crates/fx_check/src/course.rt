@@ -49,7 +49,8 @@ pub(crate) struct Course {
 impl Course {
     /// Before the first line.
     pub(crate) fn new(alloc: Global) -> Result<Course, AllocError>
-        ensures { IfOk result (λ c. (c.stage ≡ Stage.Header) × (c.current ≡ 0) × (c.waiting ≡ []) × (c.made ≡ 0)) }
+        ensures { IfOk result (λ c. (c.stage ≡ Stage.Header) × (c.current ≡ 0) × (c.waiting ≡ [])
+            × (c.made ≡ 0)) }
     {
         Ok(Course {
             stage: Stage::Header,
@@ -64,7 +65,8 @@ impl Course {
     fn between(&mut self, targets: &[Target<'_>], item: &Item) -> Result<(), u16>
         requires standing { IsStanding targets.now self.old }
         requires stage { self.old.stage ≡ Stage.Between }
-        ensures after { (judge : Judge) → after judge self.old.made (goals targets.now self.old) item.now ≡ map_result result (goals targets.now self.new) }
+        ensures after { (judge : Judge) → after judge self.old.made (goals targets.now self.old)
+            item.now ≡ map_result result (goals targets.now self.new) }
         ensures standing { OnOk result (IsStanding targets.now self.new) }
         ensures made { OnOk result (self.new.made ≡ made_by self.old.made item.now) }
     {
@@ -120,7 +122,9 @@ impl Course {
         requires room { length tables.now.net.processes ≤ length scratch.old }
         requires standing { IsStanding targets.now self.old }
         requires stage { IsInTree self.old.stage }
-        ensures after { after (judge_of tables.now.net) self.old.made (goals targets.now self.old) (of_item.Leaf leaf.now.crossing leaf.now.point leaf.now.process) ≡ map_result result (goals targets.now self.new) }
+        ensures after { after (judge_of tables.now.net) self.old.made (goals targets.now self.old)
+            (of_item.Leaf leaf.now.crossing leaf.now.point leaf.now.process)
+            ≡ map_result result (goals targets.now self.new) }
         ensures standing { OnOk result (IsStanding targets.now self.new) }
         ensures made { OnOk result (self.new.made ≡ self.old.made + 1) }
         ensures size { length scratch.new ≡ length scratch.old }
@@ -154,7 +158,8 @@ impl Course {
         requires room { length tables.now.net.processes ≤ length scratch.old }
         requires standing { IsStanding targets.now self.old }
         requires stage { IsInTree self.old.stage }
-        ensures after { after (judge_of tables.now.net) self.old.made (goals targets.now self.old) of_item.Never ≡ map_result result (goals targets.now self.new) }
+        ensures after { after (judge_of tables.now.net) self.old.made (goals targets.now self.old)
+            of_item.Never ≡ map_result result (goals targets.now self.new) }
         ensures standing { OnOk result (IsStanding targets.now self.new) }
         ensures made { OnOk result (self.new.made ≡ self.old.made + 1) }
         ensures size { length scratch.new ≡ length scratch.old }
@@ -181,7 +186,8 @@ impl Course {
     fn split(&mut self, targets: &[Target<'_>], axis: Axis, at: u128) -> Result<(), u16>
         requires standing { IsStanding targets.now self.old }
         requires stage { IsInTree self.old.stage }
-        ensures after { (judge : Judge) → after judge self.old.made (goals targets.now self.old) (of_item.Split axis at) ≡ map_result result (goals targets.now self.new) }
+        ensures after { (judge : Judge) → after judge self.old.made (goals targets.now self.old)
+            (of_item.Split axis at) ≡ map_result result (goals targets.now self.new) }
         ensures standing { OnOk result (IsStanding targets.now self.new) }
         ensures made { OnOk result (self.new.made ≡ self.old.made + 1) }
     {
@@ -206,7 +212,8 @@ impl Course {
         requires room { length tables.now.net.processes ≤ length scratch.old }
         requires standing { IsStanding targets.now self.old }
         requires stage { IsInTree self.old.stage }
-        ensures after { after (judge_of tables.now.net) self.old.made (goals targets.now self.old) item.now ≡ map_result result (goals targets.now self.new) }
+        ensures after { after (judge_of tables.now.net) self.old.made (goals targets.now self.old)
+            item.now ≡ map_result result (goals targets.now self.new) }
         ensures standing { OnOk result (IsStanding targets.now self.new) }
         ensures made { OnOk result (self.new.made ≡ made_by self.old.made item.now) }
         ensures size { length scratch.new ≡ length scratch.old }
@@ -241,7 +248,8 @@ impl Course {
         requires tables { AreTables tables.now }
         requires room { length tables.now.net.processes ≤ length scratch.old }
         requires standing { IsStanding targets.now self.old }
-        ensures after { after (judge_of tables.now.net) self.old.made (goals targets.now self.old) item.now ≡ map_result result (goals targets.now self.new) }
+        ensures after { after (judge_of tables.now.net) self.old.made (goals targets.now self.old)
+            item.now ≡ map_result result (goals targets.now self.new) }
         ensures standing { OnOk result (IsStanding targets.now self.new) }
         ensures made { OnOk result (self.new.made ≡ made_by self.old.made item.now) }
         ensures size { length scratch.new ≡ length scratch.old }
@@ -290,9 +298,12 @@ impl Course {
         requires room { length tables.now.net.processes ≤ length scratch.old }
         requires standing { IsStanding targets.now self.old }
         requires short { length line.now.bytes.now ≤ 4096 }
-        ensures after { after_reading (judge_of tables.now.net) self.old.made (goals targets.now self.old) (reading_of (line.now.bytes.now, line.now.ended)) ≡ map_result result (goals targets.now self.new) }
+        ensures after { after_reading (judge_of tables.now.net) self.old.made
+            (goals targets.now self.old) (reading_of (line.now.bytes.now, line.now.ended))
+            ≡ map_result result (goals targets.now self.new) }
         ensures standing { OnOk result (IsStanding targets.now self.new) }
-        ensures made { OnOk result (self.new.made ≡ made_after self.old.made (reading_of (line.now.bytes.now, line.now.ended))) }
+        ensures made { OnOk result (self.new.made
+            ≡ made_after self.old.made (reading_of (line.now.bytes.now, line.now.ended))) }
         ensures size { length scratch.new ≡ length scratch.old }
     {
         if !line.ended {
@@ -308,7 +319,8 @@ impl Course {
     pub(crate) fn end(&self, targets: &[Target<'_>], number: u64) -> Result<(), Fault>
         requires { IsStanding targets.now self.now }
         ensures ok { OnOk result ((n : ℕ) → at_end n (goals targets.now self.now) ≡ None) }
-        ensures err { IfErr result (λ e. at_end number (goals targets.now self.now) ≡ Some (record { fault = e; last = number; behind = [] })) }
+        ensures err { IfErr result (λ e. at_end number (goals targets.now self.now)
+            ≡ Some (record { fault = e; last = number; behind = [] })) }
     {
         match self.stage {
             Stage::Ended => Ok(()),

@@ -24,7 +24,8 @@ pub(crate) fn leaf_fault(
 ) -> Option<u16>
     requires tables { AreTables tables.now }
     requires room { length tables.now.net.processes ≤ length scratch.old }
-    ensures fault { result ≡ of_judging.judge_of tables.now.net target.now region.now (Some leaf.now) }
+    ensures fault { result ≡ of_judging.judge_of tables.now.net target.now region.now
+        (Some leaf.now) }
     ensures size { length scratch.new ≡ length scratch.old }
 {
     match fate(scratch, tables, target.crossings, region) {

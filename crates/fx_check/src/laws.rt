@@ -17,8 +17,14 @@ ghost use Rattle.fx_check.specs.Verdict.{Line, first_refusal, whole};
 /// Lines have no refusal exactly where they are those of a certificate: a sound tree for each path of each class,
 /// within the limits.
 pub fn certificates_are_accepted()
-    ensures only { (net : network.Net) (classes : List traffic.Class) (before : ℕ) (lines : List Line) → IsNetwork net → AreRegions (targets_of classes) → first_refusal (judge_of net) before 0 (whole (targets_of classes)) lines ≡ None → IsCertificate net classes lines }
-    ensures all { (net : network.Net) (classes : List traffic.Class) (before : ℕ) (lines : List Line) → IsNetwork net → AreRegions (targets_of classes) → IsCertificate net classes lines → first_refusal (judge_of net) before 0 (whole (targets_of classes)) lines ≡ None }
+    ensures only { (net : network.Net) (classes : List traffic.Class) (before : ℕ)
+        (lines : List Line) → IsNetwork net → AreRegions (targets_of classes)
+        → first_refusal (judge_of net) before 0 (whole (targets_of classes)) lines ≡ None
+        → IsCertificate net classes lines }
+    ensures all { (net : network.Net) (classes : List traffic.Class) (before : ℕ)
+        (lines : List Line) → IsNetwork net → AreRegions (targets_of classes)
+        → IsCertificate net classes lines → first_refusal (judge_of net) before 0
+        (whole (targets_of classes)) lines ≡ None }
 {}
 
 /// Where there is a certificate, each packet of the classes is counted exactly once by every complete run, and those of
@@ -34,7 +40,8 @@ pub fn certificates_count_once()
 /// Where something is wrong with a leaf for a region, its number says why no leaf is sound there, or is 410 where
 /// another one is; of a leaf that says that nothing is counted it says why packets are.
 pub fn wrong_leaves_are_told()
-    ensures counted { (net : network.Net) (target : Target) (region : Bounds) (leaf : Counted) (number : ℕ)
+    ensures counted { (net : network.Net) (target : Target) (region : Bounds) (leaf : Counted)
+        (number : ℕ)
         → IsNetwork net → IsRegion region → judge_of net target region (Some leaf) ≡ Some number
         → IsWrong net target.crossings region leaf number }
     ensures never { (net : network.Net) (target : Target) (region : Bounds) (number : ℕ)

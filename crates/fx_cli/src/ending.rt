@@ -13,7 +13,8 @@ const WRITE_FAILED: u8 = 5;
 
 /// Writes the line of a refusal.
 fn put_refusal<S: Sink>(sink: &mut S, fault: &Fault) -> Result<(), Fault>
-    ensures ok { OnOk result (Writes (S.taken sink.old) (S.taken sink.new) (refusal_line fault.now)) }
+    ensures ok { OnOk result (Writes (S.taken sink.old) (S.taken sink.new)
+        (refusal_line fault.now)) }
     ensures going { OnOk result (S.failed sink.old ≡ false → S.failed sink.new ≡ false) }
     ensures err { IfErr result (λ e. (e ≡ fault_at 902 places.None) × (S.failed sink.new ≡ true)) }
 {

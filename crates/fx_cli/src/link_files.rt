@@ -48,7 +48,8 @@ impl<'a, R: Files> LinkFiles<'a, R> {
 
     /// Writes the first octets of a link, into a file that is made for it.
     fn begin(&mut self, link: u64, octets: &[u8]) -> Result<(), Fault>
-        ensures { IfErr result (λ e. (e ≡ fault_at 902 places.None) ⊎ (e ≡ fault_at 900 places.None)) }
+        ensures { IfErr result (λ e. (e ≡ fault_at 902 places.None)
+            ⊎ (e ≡ fault_at 900 places.None)) }
     {
         let path = link_path(self.alloc, self.prefix, link)?;
         let mut file = make(self.rt, path.as_str())?;
@@ -59,7 +60,8 @@ impl<'a, R: Files> LinkFiles<'a, R> {
 
     /// Writes octets behind those that were put on the link before.
     fn append(&mut self, link: u64, octets: &[u8]) -> Result<(), Fault>
-        ensures { IfErr result (λ e. (e ≡ fault_at 902 places.None) ⊎ (e ≡ fault_at 900 places.None)) }
+        ensures { IfErr result (λ e. (e ≡ fault_at 902 places.None)
+            ⊎ (e ≡ fault_at 900 places.None)) }
     {
         match self.files.get_mut(&link) {
             Some(file) => put_text(file, octets),

@@ -289,7 +289,8 @@ fn answer_words<R: AllocGlobal + Files + Input + RandomSource, S: Sink>(
         → EndsAs (IsCallText call) (S.taken sink.old) (S.taken sink.new)
         (S.failed sink.old ≡ false → S.failed sink.new ≡ false)
         (HasFailedToWrite S.taken S.failed sink.new) result }
-    ensures no_call { 2 ≤ length words.now → NamesNoCall (map string_bytes words.now) → IsWordsStatus (map string_bytes words.now) (S.failed sink.new) result }
+    ensures no_call { 2 ≤ length words.now → NamesNoCall (map string_bytes words.now)
+        → IsWordsStatus (map string_bytes words.now) (S.failed sink.new) result }
     ensures exit { IsExitStatus result }
 {
     if words.len() < 2 {

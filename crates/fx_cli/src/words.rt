@@ -88,7 +88,8 @@ fn with_file<'a>(
     help: &'a str,
 ) -> Result<Command<'a>, AllocError>
     requires { (out-Command command).has_globals ≡ false }
-    ensures app { IfOk result (λ c. app_of c ≡ with_rule (app_of command.entry) (file_rule name.entry.now)) }
+    ensures app { IfOk result (λ c. app_of c
+        ≡ with_rule (app_of command.entry) (file_rule name.entry.now)) }
     ensures local { IfOk result (λ c. (out-Command c).has_globals ≡ false) }
 {
     command.arg(file(alloc, name, help))
@@ -100,7 +101,8 @@ fn network_command<'a>(
     name: &'a str,
     about: &'a str,
 ) -> Result<Command<'a>, AllocError>
-    ensures app { IfOk result (λ c. app_of c ≡ with_rule (new_app name.entry.now) (file_rule (codes "NETWORK"))) }
+    ensures app { IfOk result (λ c. app_of c
+        ≡ with_rule (new_app name.entry.now) (file_rule (codes "NETWORK"))) }
     ensures local { IfOk result (λ c. (out-Command c).has_globals ≡ false) }
 {
     let command = Command::new(alloc, name).about(about);
@@ -115,7 +117,8 @@ fn over_documents<'a>(
     third: &'a str,
     help: &'a str,
 ) -> Result<Command<'a>, AllocError>
-    ensures app { IfOk result (λ c. app_of c ≡ over_documents name.entry.now (file_rule third.entry.now)) }
+    ensures app { IfOk result (λ c. app_of c
+        ≡ over_documents name.entry.now (file_rule third.entry.now)) }
     ensures local { IfOk result (λ c. (out-Command c).has_globals ≡ false) }
 {
     let command = network_command(alloc, name, about)?;
@@ -125,7 +128,8 @@ fn over_documents<'a>(
 
 /// The command `replay`.
 fn replay_command<'a>(alloc: Global) -> Result<Command<'a>, AllocError>
-    ensures app { IfOk result (λ c. app_of c ≡ over_documents (codes "replay") (file_rule (codes "RUN"))) }
+    ensures app { IfOk result (λ c. app_of c
+        ≡ over_documents (codes "replay") (file_rule (codes "RUN"))) }
     ensures local { IfOk result (λ c. (out-Command c).has_globals ≡ false) }
 {
     over_documents(
@@ -139,7 +143,8 @@ fn replay_command<'a>(alloc: Global) -> Result<Command<'a>, AllocError>
 
 /// The command `collect`.
 fn collect_command<'a>(alloc: Global) -> Result<Command<'a>, AllocError>
-    ensures app { IfOk result (λ c. app_of c ≡ over_network (codes "collect") (file_rule (codes "STREAM"))) }
+    ensures app { IfOk result (λ c. app_of c
+        ≡ over_network (codes "collect") (file_rule (codes "STREAM"))) }
     ensures local { IfOk result (λ c. (out-Command c).has_globals ≡ false) }
 {
     let command = network_command(
@@ -157,7 +162,8 @@ fn collect_command<'a>(alloc: Global) -> Result<Command<'a>, AllocError>
 
 /// The command `check`.
 fn check_command<'a>(alloc: Global) -> Result<Command<'a>, AllocError>
-    ensures app { IfOk result (λ c. app_of c ≡ over_documents (codes "check") (file_rule (codes "CERTIFICATE"))) }
+    ensures app { IfOk result (λ c. app_of c
+        ≡ over_documents (codes "check") (file_rule (codes "CERTIFICATE"))) }
     ensures local { IfOk result (λ c. (out-Command c).has_globals ≡ false) }
 {
     over_documents(
@@ -406,7 +412,8 @@ fn call_of(alloc: Global, matches: &ArgMatches<'_>) -> Result<Call, AllocError>
 /// The error is clap's: its text is for the user, also where help is asked for. Where the words name a call, only want
 /// of memory is an error (`ErrorKind::OutOfMemory`).
 pub fn read_words(alloc: Global, words: &[String]) -> Result<Call, Error>
-    ensures call { MatchResult result (Names (map string_bytes words.now)) (λ e. (kind_of e ≡ ErrorKind.OutOfMemory)
+    ensures call { MatchResult result (Names (map string_bytes words.now))
+        (λ e. (kind_of e ≡ ErrorKind.OutOfMemory)
         ⊎ NamesNoCall (map string_bytes words.now)) }
     ensures kinds { IfErr result (HasKind (fault_of once_app (map string_bytes words.now))) }
 {

@@ -15,7 +15,8 @@ use fx_layout::{Layout, Part, Values};
 fn put_parts<S: Sink>(sink: &mut S, parts: &[Part], values: &[u128]) -> Result<(), Fault>
     requires fits { Fits parts.now }
     requires bits { HasBits parts.now values.now }
-    ensures ok { OnOk result (Writes (S.taken sink.old) (S.taken sink.new) (parts_text parts.now values.now)) }
+    ensures ok { OnOk result (Writes (S.taken sink.old) (S.taken sink.new)
+        (parts_text parts.now values.now)) }
     ensures going { OnOk result (S.failed sink.old ≡ false → S.failed sink.new ≡ false) }
     ensures err { IfErr result (λ e. (e ≡ fault_at 902 places.None) × (S.failed sink.new ≡ true)) }
 {
@@ -37,7 +38,8 @@ fn put_parts<S: Sink>(sink: &mut S, parts: &[Part], values: &[u128]) -> Result<(
 /// Writes the values of a key, or `all` for a key without parts.
 fn put_fields<S: Sink>(sink: &mut S, layout: &Layout, values: &[u128]) -> Result<(), Fault>
     requires { HasBits layout.now values.now }
-    ensures ok { OnOk result (Writes (S.taken sink.old) (S.taken sink.new) (fields_text layout.now values.now)) }
+    ensures ok { OnOk result (Writes (S.taken sink.old) (S.taken sink.new)
+        (fields_text layout.now values.now)) }
     ensures going { OnOk result (S.failed sink.old ≡ false → S.failed sink.new ≡ false) }
     ensures err { IfErr result (λ e. (e ≡ fault_at 902 places.None) × (S.failed sink.new ≡ true)) }
 {
@@ -56,7 +58,12 @@ fn put_line<S: Sink>(
     counts: &Counts,
 ) -> Result<(), Fault>
     requires { HasBits layout.now values.now }
-    ensures ok { OnOk result (Writes (S.taken sink.old) (S.taken sink.new) (record_line (record { key = record { layout = layout.now; values = values.now }; counts = counts.now }))) }
+    ensures ok { OnOk result (Writes (S.taken sink.old) (S.taken sink.new)
+        (record_line (record {
+          key = record { layout = layout.now; values = values.now };
+          counts =
+              counts.now;
+        }))) }
     ensures going { OnOk result (S.failed sink.old ≡ false → S.failed sink.new ≡ false) }
     ensures err { IfErr result (λ e. (e ≡ fault_at 902 places.None) × (S.failed sink.new ≡ true)) }
 {
@@ -72,7 +79,8 @@ fn put_line<S: Sink>(
 ///
 /// Fails with 902, at no place, where a write fails; how much the sink has taken then is open.
 pub fn put_number_line<S: Sink>(sink: &mut S, word: &[u8], number: u64) -> Result<(), Fault>
-    ensures ok { OnOk result (Writes (S.taken sink.old) (S.taken sink.new) (number_line word.now number)) }
+    ensures ok { OnOk result (Writes (S.taken sink.old) (S.taken sink.new)
+        (number_line word.now number)) }
     ensures going { OnOk result (S.failed sink.old ≡ false → S.failed sink.new ≡ false) }
     ensures err { IfErr result (λ e. (e ≡ fault_at 902 places.None) × (S.failed sink.new ≡ true)) }
 {
@@ -84,9 +92,11 @@ pub fn put_number_line<S: Sink>(sink: &mut S, word: &[u8], number: u64) -> Resul
 impl Totals {
     /// Writes the line of each key.
     fn put_lines<S: Sink>(&self, sink: &mut S) -> Result<(), Fault>
-        ensures ok { OnOk result (Writes (S.taken sink.old) (S.taken sink.new) (record_lines self.now.entries)) }
+        ensures ok { OnOk result (Writes (S.taken sink.old) (S.taken sink.new)
+            (record_lines self.now.entries)) }
         ensures going { OnOk result (S.failed sink.old ≡ false → S.failed sink.new ≡ false) }
-        ensures err { IfErr result (λ e. (e ≡ fault_at 902 places.None) × (S.failed sink.new ≡ true)) }
+        ensures err { IfErr result (λ e. (e ≡ fault_at 902 places.None)
+            × (S.failed sink.new ≡ true)) }
     {
         for (values, counts) in self.counts.iter() {
             put_line(sink, &self.layout, values, counts)?;
@@ -103,9 +113,11 @@ impl Totals {
     /// much the sink has taken then is open.
     pub fn put_report<S: Sink>(&self, sink: &mut S) -> Result<(), Fault>
         requires { Ascends self.now.entries }
-        ensures ok { OnOk result (Writes (S.taken sink.old) (S.taken sink.new) (totals_text self.now)) }
+        ensures ok { OnOk result (Writes (S.taken sink.old) (S.taken sink.new)
+            (totals_text self.now)) }
         ensures going { OnOk result (S.failed sink.old ≡ false → S.failed sink.new ≡ false) }
-        ensures err { IfErr result (λ e. (e ≡ fault_at 902 places.None) × (S.failed sink.new ≡ true)) }
+        ensures err { IfErr result (λ e. (e ≡ fault_at 902 places.None)
+            × (S.failed sink.new ≡ true)) }
     {
         put_number_line(sink, b"keys ", self.len() as u64)?;
         self.put_lines(sink)?;

@@ -29,7 +29,12 @@ impl Model for Totals {
 
     ghost Value = { totals.Totals };
 
-    ghost view = { λ t. record { layout = t.layout; entries = totals.records_of t.layout t.counts.entries; unassigned = t.unassigned } };
+    ghost view = { λ t. record {
+      layout = t.layout;
+      entries = totals.records_of t.layout
+          t.counts.entries;
+      unassigned = t.unassigned;
+    } };
 
     ghost invariant = { λ t. totals.AllHaveBits t.layout t.counts.entries };
 }
@@ -52,7 +57,10 @@ impl Totals {
     /// Adds the counts at the values of a key.
     fn add(&mut self, values: Values, counts: &Counts) -> Result<(), Fault>
         requires { HasBits self.old.layout values }
-        ensures ok { OnOk result (self.new ≡ record self.old { entries = add_at self.old.entries (record { layout = self.old.layout; values = values }) counts.now }) }
+        ensures ok { OnOk result (self.new ≡ record self.old {
+          entries = add_at self.old.entries
+              (record { layout = self.old.layout; values = values }) counts.now;
+        }) }
         ensures err { IfErr result (λ e. (e ≡ fault_at 900 places.None) × (self.new ≡ self.old)) }
     {
         match self.counts.get_index_of(&values) {
@@ -89,7 +97,8 @@ impl Totals {
     ///
     /// Fails with 900, at no place, for want of memory.
     pub fn of(alloc: Global, seed: Seed, state: &State<'_>) -> Result<Totals, Fault>
-        ensures ok { IfOk result (λ totals. totals ≡ totals_of state.now.net.report_layout state.now.state) }
+        ensures ok { IfOk result (λ totals. totals
+            ≡ totals_of state.now.net.report_layout state.now.state) }
         ensures err { IfErr result (λ e. e ≡ fault_at 900 places.None) }
     {
         let mut totals = Totals::new(alloc, seed, state.net().report_layout().copy())?;
@@ -138,7 +147,8 @@ impl Totals {
     /// Fails with 900, at no place, for want of memory; the totals are as before then.
     pub fn sort(&mut self) -> Result<(), Fault>
         ensures sorted { OnOk result (Ascends self.new.entries) }
-        ensures same { OnOk result (IsPermutation self.old.entries self.new.entries × (self.new.layout ≡ self.old.layout) × (self.new.unassigned ≡ self.old.unassigned)) }
+        ensures same { OnOk result (IsPermutation self.old.entries self.new.entries
+            × (self.new.layout ≡ self.old.layout) × (self.new.unassigned ≡ self.old.unassigned)) }
         ensures err { IfErr result (λ e. (e ≡ fault_at 900 places.None) × (self.new ≡ self.old)) }
     {
         self.counts.sort_keys()?;

@@ -45,6 +45,9 @@ known_if_there : (known : List (List ℕ)) (up : List ℕ) (name : Option (List 
 known_if_there known up None h = tt
 known_if_there known up (Some name) h = known_where_none known up name h
 
+names_known : (known : List (List ℕ)) (up : List ℕ) (names : List (List ℕ)) → items_faults (unknown known) up 0 names ≡ [] → All (IsKnown known) names
+names_known known up names none = items_all (unknown known) _ (known_where_none known) up 0 names none
+
 pub resolves : (up : List ℕ) (device : Device) → reference_faults up device ≡ [] → Resolves device
 resolves up device h =
     let points = none_before _ _ h in
@@ -54,11 +57,11 @@ resolves up device h =
     let caches = map (λ x. x.name) device.caches in
     let exporting = map (λ x. x.name) device.exporting_processes in
     record {
-      points = items_all (point_references selecting) _ (λ up point none. items_all (unknown selecting) _ (known_where_none selecting) _ 0 point.selection_processes none) _ 0 device.observation_points points;
+      points = items_all (point_references selecting) _ (λ up point none. names_known selecting _ point.selection_processes none) _ 0 device.observation_points points;
       processes = items_all (process_references caches) _ (λ up process none. known_if_there caches _ process.cache none) _ 0 device.selection_processes (none_before _ _ rest);
-      caches = items_all (cache_references exporting) _ (λ up cache none. items_all (unknown exporting) _ (known_where_none exporting) _ 0 cache.exporting_processes none) _ 0 device.caches (none_before _ _ last);
-      collecting = items_all (collecting_references exporting) _ (λ up process none. items_all (unknown exporting) _ (known_where_none exporting) _ 0 process.exporting_processes (none_before _ _ none)) _ 0 device.collecting_processes (none_behind _ _ last);
-      aggregations = items_all (collecting_references exporting) _ (λ up process none. items_all (aggregation_references exporting) _ (λ up aggregation known. items_all (unknown exporting) _ (known_where_none exporting) _ 0 aggregation.exporting_processes known) _ 0 process.aggregations (none_behind _ _ none)) _ 0 device.collecting_processes (none_behind _ _ last);
+      caches = items_all (cache_references exporting) _ (λ up cache none. names_known exporting _ cache.exporting_processes none) _ 0 device.caches (none_before _ _ last);
+      collecting = items_all (collecting_references exporting) _ (λ up process none. names_known exporting _ process.exporting_processes (none_before _ _ none)) _ 0 device.collecting_processes (none_behind _ _ last);
+      aggregations = items_all (collecting_references exporting) _ (λ up process none. items_all (aggregation_references exporting) _ (λ up aggregation known. names_known exporting _ aggregation.exporting_processes known) _ 0 process.aggregations (none_behind _ _ none)) _ 0 device.collecting_processes (none_behind _ _ last);
     }
 
 rows_none : (may : List ℕ → Bool) (rows : List Row) (up : List ℕ) (d : Data) (o : Option Members) → of_kind o (λ ms. others may up ms ++ row_faults rows up d) up ≡ [] → row_faults rows up d ≡ []

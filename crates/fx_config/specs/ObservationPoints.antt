@@ -1,12 +1,11 @@
 -- Observation points (RFC 6728, section 4.1).
-use Rattle.std.specs.Prelude.{ℕ, List, [], ◌∷◌, codes, map, Option, Some, None, option_map, if◌then◌else◌}
-use Rattle.std.specs.Option.{unwrap_or}
+use Rattle.std.specs.Prelude.{ℕ, List, [], ◌∷◌, codes, map, Option, Some, None, if◌then◌else◌}
 use Rattle.std.specs.Str.{bytes_eq}
 use Rattle.serde_json.specs.Data.{Data}
 use Rattle.serde_json.specs.Find.{get}
 use Rattle.fx_walk.specs.Walk.{Found, Row, object_faults, required, optional, member_of}
 use Rattle.fx_walk.specs.Lists.{entries, items_of, name_once}
-use Rattle.fx_walk.specs.Scalars.{text_of, number_of, whole_faults, word_faults}
+use Rattle.fx_walk.specs.Scalars.{text_of, number_of, whole_faults, word_faults, word_given}
 use Rattle.fx_config.specs.Limits.{entry_limit}
 use Rattle.fx_config.specs.declared.observation_point.ObservationPoint.{ObservationPoint}
 use Rattle.fx_config.specs.declared.observation_point.Direction.{Direction}
@@ -20,15 +19,6 @@ direction_named name =
     (if bytes_eq name (codes "egress") then Some Egress else
     (if bytes_eq name (codes "both") then Some Both else None))
 
-abbrev pub direction_faults : List ℕ → Data → List Found
-direction_faults = word_faults direction_named
-
-abbrev pub direction_given : Option Direction → Direction
-direction_given direction = unwrap_or direction Both
-
-abbrev pub direction_of : Data → Direction
-direction_of d = direction_given (direction_named (text_of d))
-
 -- ---- observation points
 
 abbrev pub observation_point_rows : List (List ℕ) → List Row
@@ -36,7 +26,7 @@ observation_point_rows earlier =
     required (codes "name") (name_once earlier)
     ∷ required (codes "observationDomainId") (whole_faults 0 0xffff_ffff)
     ∷ entries 1 entry_limit (codes "ifName") name_once text_of
-    ∷ optional (codes "direction") direction_faults
+    ∷ optional (codes "direction") (word_faults direction_named)
     ∷ entries 0 entry_limit (codes "selectionProcess") name_once text_of
     ∷ []
 
@@ -48,6 +38,6 @@ observation_point_of d = record {
   name = text_of (member_of (codes "name") d);
   observation_domain_id = number_of (member_of (codes "observationDomainId") d);
   interfaces = map text_of (items_of (member_of (codes "ifName") d));
-  direction = direction_given (option_map direction_of (get (codes "direction") d));
+  direction = word_given direction_named Both (get (codes "direction") d);
   selection_processes = map text_of (items_of (member_of (codes "selectionProcess") d));
 }

@@ -2,8 +2,7 @@
 use Rattle.std.specs.Prelude.{ℕ, List, ◌++◌, codes, map, All, IfSome}
 use Rattle.fx_walk.specs.Pointer.{below}
 use Rattle.fx_walk.specs.Walk.{Found}
-use Rattle.fx_walk.specs.Lists.{items_faults}
-use Rattle.fx_walk.specs.KnownNames.{unknown, unknown_if_there, IsKnown}
+use Rattle.fx_walk.specs.KnownNames.{IsKnown, member_references, unknown, unknown_if_there}
 use Rattle.fx_config.specs.declared.observation_point.ObservationPoint.{ObservationPoint}
 use Rattle.fx_config.specs.declared.selection_process.SelectionProcess.{SelectionProcess}
 use Rattle.fx_config.specs.declared.cache.Cache.{Cache}
@@ -13,34 +12,36 @@ use Rattle.fx_config.specs.declared.ipfix.Device.{Device}
 
 -- a point's selection processes
 abbrev pub point_references : List (List ℕ) → List ℕ → ObservationPoint → List Found
-point_references processes up point = items_faults (unknown processes) (below up (codes "selectionProcess")) 0 point.selection_processes
+point_references processes up point = member_references (unknown processes) up (codes "selectionProcess") point.selection_processes
 
 -- a selection process's cache
 abbrev pub process_references : List (List ℕ) → List ℕ → SelectionProcess → List Found
 process_references caches up process = unknown_if_there caches (below up (codes "cache")) process.cache
 
--- a cache's exporting processes
-abbrev pub cache_references : List (List ℕ) → List ℕ → Cache → List Found
-cache_references exporters up cache = items_faults (unknown exporters) (below up (codes "exportingProcess")) 0 cache.exporting_processes
+-- names of exporting processes
+abbrev pub exporting_references : List (List ℕ) → List ℕ → List (List ℕ) → List Found
+exporting_references exporters up names = member_references (unknown exporters) up (codes "exportingProcess") names
 
--- an aggregation's exporting processes
+abbrev pub cache_references : List (List ℕ) → List ℕ → Cache → List Found
+cache_references exporters up cache = exporting_references exporters up cache.exporting_processes
+
 abbrev pub aggregation_references : List (List ℕ) → List ℕ → Aggregation → List Found
-aggregation_references exporters up aggregation = items_faults (unknown exporters) (below up (codes "exportingProcess")) 0 aggregation.exporting_processes
+aggregation_references exporters up aggregation = exporting_references exporters up aggregation.exporting_processes
 
 -- a collecting process's exporting processes, and then those of its aggregations
 abbrev pub collecting_references : List (List ℕ) → List ℕ → CollectingProcess → List Found
 collecting_references exporters up process =
-    items_faults (unknown exporters) (below up (codes "exportingProcess")) 0 process.exporting_processes
-    ++ items_faults (aggregation_references exporters) (below up (codes "once-audit:aggregation")) 0 process.aggregations
+    exporting_references exporters up process.exporting_processes
+    ++ member_references (aggregation_references exporters) up (codes "once-audit:aggregation") process.aggregations
 
 -- all of a device's, in the order of the walk, where these are the names of its selection processes, caches and
 -- exporting processes
 abbrev pub references_among : List (List ℕ) → List (List ℕ) → List (List ℕ) → List ℕ → Device → List Found
 references_among processes caches exporters up device =
-    items_faults (point_references processes) (below up (codes "observationPoint")) 0 device.observation_points
-    ++ (items_faults (process_references caches) (below up (codes "selectionProcess")) 0 device.selection_processes
-    ++ (items_faults (cache_references exporters) (below up (codes "cache")) 0 device.caches
-    ++ items_faults (collecting_references exporters) (below up (codes "collectingProcess")) 0 device.collecting_processes))
+    member_references (point_references processes) up (codes "observationPoint") device.observation_points
+    ++ (member_references (process_references caches) up (codes "selectionProcess") device.selection_processes
+    ++ (member_references (cache_references exporters) up (codes "cache") device.caches
+    ++ member_references (collecting_references exporters) up (codes "collectingProcess") device.collecting_processes))
 
 abbrev pub reference_faults : List ℕ → Device → List Found
 reference_faults up device =

@@ -4,11 +4,11 @@ ghost use Rattle.fx_config.specs.Aggregations.{aggregation_faults, aggregation_o
 use crate::key::key_member;
 use crate::limits::ENTRIES;
 use crate::property_match::PropertyMatch;
+use fx_base::{Fault, Name};
+use fx_layout::Layout;
 use fx_walk::{
     Entry, Named, Names, Path, Sequence, entries_member, items_member, name_member, object_of,
 };
-use fx_base::{Fault, Name};
-use fx_layout::Layout;
 use serde_json::Value;
 use std::alloc::Global;
 

@@ -8,12 +8,12 @@ ghost use Rattle.fx_config.specs.Caches.{cache_faults, cache_of, kind_given, max
 
 use crate::cache_layout::layout_member;
 use crate::limits::ENTRIES;
+use fx_base::{Fault, Name};
+use fx_layout::Layout;
 use fx_walk::{
     Entry, Named, Names, Path, Sequence, Whole, entries_member, name_member, object_of, one_of,
     optional_member,
 };
-use fx_base::{Fault, Name};
-use fx_layout::Layout;
 use serde_json::Value;
 use std::alloc::Global;
 
@@ -57,7 +57,8 @@ fn read_settings(
     value: &Value,
     immediate: bool,
 ) -> Result<Settings, Fault>
-    ensures { Reads (settings_faults immediate (pointer path.now) (view value.now)) (settings_of immediate (view value.now)) result }
+    ensures { Reads (settings_faults immediate (pointer path.now) (view value.now))
+        (settings_of immediate (view value.now)) result }
 {
     object_of(
         alloc,
@@ -90,7 +91,9 @@ fn settings_member(
     name: &str,
     immediate: bool,
 ) -> Result<Option<Settings>, Fault>
-    ensures { Reads ((optional name.now (settings_faults immediate)).faults (pointer path.now) (view object.now)) (option_map (settings_of immediate) (get name.now (view object.now))) result }
+    ensures { Reads ((optional name.now (settings_faults immediate)).faults (pointer path.now)
+        (view object.now)) (option_map (settings_of immediate) (get name.now (view object.now)))
+        result }
 {
     match object.get(name) {
         Some(value) => {

@@ -8,12 +8,12 @@ ghost use Rattle.fx_config.specs.CacheFields.{cache_field_faults, cache_field_of
 
 use crate::element::{ElementNumber, Enterprise, NamedElement, element_given};
 use crate::limits::FIELDS;
+use fx_base::{Fault, Name};
+use fx_elements::{Element, width};
 use fx_walk::{
     Empty, Named, Names, Path, Sequence, Whole, items_in, name_member, object_of, one_of,
     optional_member, refusal,
 };
-use fx_base::{Fault, Name};
-use fx_elements::{Element, width};
 use serde_json::Value;
 use std::alloc::Global;
 
@@ -131,8 +131,10 @@ fn read_field(
     earlier: &mut Names,
     immediate: bool,
 ) -> Result<CacheField, Fault>
-    ensures reads { Reads (cache_field_faults immediate earlier.old (pointer path.now) (view value.now)) (cache_field_of immediate (view value.now)) result }
-    ensures names { OnOk result (earlier.new ≡ earlier.old ++ (cache_field_of immediate (view value.now)).name ∷ []) }
+    ensures reads { Reads (cache_field_faults immediate earlier.old (pointer path.now)
+        (view value.now)) (cache_field_of immediate (view value.now)) result }
+    ensures names { OnOk result (earlier.new
+        ≡ earlier.old ++ (cache_field_of immediate (view value.now)).name ∷ []) }
 {
     object_of(
         alloc,
@@ -171,7 +173,9 @@ fn fields_of(
     items: &[Value],
     immediate: bool,
 ) -> Result<Sequence<CacheField>, Fault>
-    ensures { Reads (entries_faults (cache_field_faults immediate) (λ d. (cache_field_of immediate d).name) [] (pointer path.now) 0 (map view items.now)) (map (cache_field_of immediate) (map view items.now)) result }
+    ensures { Reads (entries_faults (cache_field_faults immediate)
+        (λ d. (cache_field_of immediate d).name) [] (pointer path.now) 0 (map view items.now))
+        (map (cache_field_of immediate) (map view items.now)) result }
 {
     let mut fields = Vec::new(alloc);
     let mut names = Names::new(alloc);
@@ -191,7 +195,9 @@ pub fn fields_member(
     object: &Value,
     immediate: bool,
 ) -> Result<Sequence<CacheField>, Fault>
-    ensures { Reads ((fields_row immediate).faults (pointer path.now) (view object.now)) (map (cache_field_of immediate) (items_of (member_of (codes "cacheField") (view object.now)))) result }
+    ensures { Reads ((fields_row immediate).faults (pointer path.now) (view object.now))
+        (map (cache_field_of immediate) (items_of
+        (member_of (codes "cacheField") (view object.now)))) result }
 {
     match object.get("cacheField") {
         Some(value) => {

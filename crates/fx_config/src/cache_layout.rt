@@ -6,10 +6,10 @@ ghost use Rattle.fx_walk.specs.Walk.{Reads, member_of, required};
 ghost use Rattle.fx_config.specs.CacheLayouts.{add_axis, add_key, cache_layout_faults, cache_layout_of, counter_faults, counts_octets, counts_packets, layout_of};
 
 use crate::cache_field::{CacheField, fields_member};
-use fx_walk::{Path, object_of, refusal};
 use fx_base::Fault;
 use fx_elements::{Element, width};
 use fx_layout::Layout;
+use fx_walk::{Path, object_of, refusal};
 use serde_json::Value;
 use std::alloc::Global;
 
@@ -71,7 +71,8 @@ fn read_layout(
     value: &Value,
     immediate: bool,
 ) -> Result<Layout, Fault>
-    ensures { Reads (cache_layout_faults immediate (pointer path.now) (view value.now)) (cache_layout_of immediate (view value.now)) result }
+    ensures { Reads (cache_layout_faults immediate (pointer path.now) (view value.now))
+        (cache_layout_of immediate (view value.now)) result }
 {
     object_of(alloc, path, value, &["cacheField"])?;
     let fields = fields_member(alloc, path, value, immediate)?;
@@ -87,7 +88,9 @@ pub fn layout_member(
     object: &Value,
     immediate: bool,
 ) -> Result<Layout, Fault>
-    ensures { Reads ((required (codes "cacheLayout") (cache_layout_faults immediate)).faults (pointer path.now) (view object.now)) (cache_layout_of immediate (member_of (codes "cacheLayout") (view object.now))) result }
+    ensures { Reads ((required (codes "cacheLayout") (cache_layout_faults immediate)).faults
+        (pointer path.now) (view object.now))
+        (cache_layout_of immediate (member_of (codes "cacheLayout") (view object.now))) result }
 {
     match object.get("cacheLayout") {
         Some(value) => read_layout(alloc, &Path::Member(path, "cacheLayout"), value, immediate),

@@ -3,10 +3,10 @@ ghost use Rattle.fx_config.specs.CollectingProcesses.{collecting_process_faults,
 
 use crate::aggregation::Aggregation;
 use crate::limits::ENTRIES;
+use fx_base::{Fault, Name};
 use fx_walk::{
     Entry, Named, Names, Path, Refused, Sequence, entries_member, name_member, none_of, object_of,
 };
-use fx_base::{Fault, Name};
 use serde_json::Value;
 use std::alloc::Global;
 

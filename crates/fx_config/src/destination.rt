@@ -3,8 +3,8 @@ ghost use Rattle.std.specs.Prelude.{◌≡◌};
 ghost use Rattle.serde_json.specs.View.{view};
 ghost use Rattle.fx_config.specs.Destinations.{destination_faults, destination_of, transport_of};
 
-use fx_walk::{Entry, Named, Names, Path, Refused, name_member, none_of, object_of, one_of};
 use fx_base::{Fault, Name};
+use fx_walk::{Entry, Named, Names, Path, Refused, name_member, none_of, object_of, one_of};
 use serde_json::Value;
 use std::alloc::Global;
 

@@ -6,8 +6,8 @@ ghost use Rattle.fx_config.specs.References.{Resolves};
 ghost use Rattle.fx_config.specs.Devices.{device_faults, device_of};
 
 use crate::ipfix::{Device, Ipfix};
-use fx_walk::{FromValue, Path, document_of, required_member};
 use fx_base::Fault;
+use fx_walk::{FromValue, Path, document_of, required_member};
 use serde_json::Value;
 use std::alloc::Global;
 

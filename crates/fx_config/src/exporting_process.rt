@@ -1,14 +1,13 @@
 //! Exporting processes.
-ghost use Rattle.std.specs.Prelude.{◌≡◌};
-ghost use Rattle.fx_config.specs.ExportingProcesses.{export_mode_faults, export_mode_given, export_mode_named, export_mode_of, exporting_process_faults, exporting_process_of};
+ghost use Rattle.fx_config.specs.ExportingProcesses.{export_mode_named, exporting_process_faults, exporting_process_of};
+ghost use Rattle.fx_config.specs.declared.exporting_process.ExportMode.TheVariants.{Parallel};
 
 use crate::destination::Destination;
 use crate::limits::ENTRIES;
-use fx_walk::{
-    Entry, FromValue, Named, Names, Path, Sequence, entries_member, name_member, object_of,
-    optional_member, refusal,
-};
 use fx_base::{Fault, Name};
+use fx_walk::{
+    Entry, Named, Names, Path, Sequence, Word, entries_member, name_member, object_of, word_member,
+};
 use serde_json::Value;
 use std::alloc::Global;
 
@@ -23,42 +22,23 @@ pub enum ExportMode {
     Fallback,
 }
 
-/// The mode of this name, which may have the prefix of the module.
-fn export_mode_named(name: &str) -> Option<ExportMode>
-    ensures { result ≡ export_mode_named name.now }
-{
-    match name {
-        "parallel" | "ietf-ipfix-psamp:parallel" => Some(ExportMode::Parallel),
-        "loadBalancing" | "ietf-ipfix-psamp:loadBalancing" => Some(ExportMode::LoadBalancing),
-        "fallback" | "ietf-ipfix-psamp:fallback" => Some(ExportMode::Fallback),
-        _ => None,
-    }
-}
+/// A mode by its name, which may have the prefix of the module, or parallel.
+impl Word for ExportMode {
+    ghost named = { export_mode_named };
 
-/// A mode by its name: 104 for no text, 105 for another text.
-impl FromValue for ExportMode {
-    ghost faults = { export_mode_faults };
+    ghost unsaid = { Parallel };
 
-    ghost meaning = { export_mode_of };
-
-    fn from_value(alloc: Global, path: &Path<'_>, value: &Value) -> Result<ExportMode, Fault> {
-        let Some(name) = value.as_str() else {
-            return Err(refusal(alloc, 104, path));
-        };
-        match export_mode_named(name) {
-            Some(mode) => Ok(mode),
-            None => Err(refusal(alloc, 105, path)),
+    fn named(text: &str) -> Option<ExportMode> {
+        match text {
+            "parallel" | "ietf-ipfix-psamp:parallel" => Some(ExportMode::Parallel),
+            "loadBalancing" | "ietf-ipfix-psamp:loadBalancing" => Some(ExportMode::LoadBalancing),
+            "fallback" | "ietf-ipfix-psamp:fallback" => Some(ExportMode::Fallback),
+            _ => None,
         }
     }
-}
 
-/// The mode that is given, or parallel.
-fn export_mode_given(mode: Option<ExportMode>) -> ExportMode
-    ensures { result ≡ export_mode_given mode }
-{
-    match mode {
-        Some(mode) => mode,
-        None => ExportMode::Parallel,
+    fn unsaid() -> ExportMode {
+        ExportMode::Parallel
     }
 }
 
@@ -99,11 +79,11 @@ impl Entry for ExportingProcess {
             &["name", "exportMode", "destination", "options"],
         )?;
         let name = name_member(alloc, path, value, earlier)?;
-        let mode = optional_member(alloc, path, value, "exportMode")?;
+        let mode = word_member(alloc, path, value, "exportMode")?;
         let destinations = entries_member(alloc, path, value, "destination", 1, ENTRIES)?;
         Ok(ExportingProcess {
             name,
-            mode: export_mode_given(mode),
+            mode,
             destinations,
         })
     }

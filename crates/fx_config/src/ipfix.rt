@@ -9,10 +9,11 @@ use crate::collecting_process::CollectingProcess;
 use crate::exporting_process::ExportingProcess;
 use crate::limits::ENTRIES;
 use crate::observation_point::ObservationPoint;
-use crate::references::{all_collecting_refer, caches_refer, points_refer, processes_refer};
 use crate::selection_process::SelectionProcess;
-use fx_walk::{EntryNames, FromValue, Path, Sequence, entries_member, named_member, object_of};
 use fx_base::Fault;
+use fx_walk::{
+    EntryNames, FromValue, Path, Sequence, entries_member, items_refer, named_member, object_of,
+};
 use serde_json::Value;
 use std::alloc::Global;
 
@@ -41,36 +42,20 @@ struct Known {
 
 /// Refuses a name that stands for nothing of the device, whose container `ipfix` is at the path (107).
 fn refers(alloc: Global, path: &Path<'_>, device: &Device, known: &Known) -> Result<(), Fault>
-    ensures { Reads (references_among known.now.selecting known.now.caches known.now.exporting (pointer path.now) device.now) tt result }
+    ensures { let names = known.now in
+        let faults = references_among names.selecting names.caches names.exporting in
+        Reads (faults (pointer path.now) device.now) tt result }
 {
-    let points = device.observation_points.as_slice();
-    let selecting = device.selection_processes.as_slice();
-    let caches = device.caches.as_slice();
-    let collecting = device.collecting_processes.as_slice();
-    points_refer(
-        alloc,
-        &Path::Member(&*path, "observationPoint"),
-        points,
-        known.selecting.get(),
-    )?;
-    processes_refer(
-        alloc,
-        &Path::Member(&*path, "selectionProcess"),
-        selecting,
-        known.caches.get(),
-    )?;
-    caches_refer(
-        alloc,
-        &Path::Member(&*path, "cache"),
-        caches,
-        known.exporting.get(),
-    )?;
-    all_collecting_refer(
-        alloc,
-        &Path::Member(&*path, "collectingProcess"),
-        collecting,
-        known.exporting.get(),
-    )
+    let selecting = known.selecting.get();
+    let caches = known.caches.get();
+    let exporting = known.exporting.get();
+    let points = &device.observation_points;
+    let processes = &device.selection_processes;
+    let collecting = &device.collecting_processes;
+    items_refer(alloc, path, "observationPoint", points, selecting)?;
+    items_refer(alloc, path, "selectionProcess", processes, caches)?;
+    items_refer(alloc, path, "cache", &device.caches, exporting)?;
+    items_refer(alloc, path, "collectingProcess", collecting, exporting)
 }
 
 /// The container `ipfix` (RFC 6728, section 6).

@@ -9,9 +9,9 @@ ghost use Rattle.fx_config.specs.Keys.{add_field, field_check, fields_faults, ke
 
 use crate::key_field::{KeyField, part_of};
 use crate::limits::FIELDS;
-use fx_walk::{FromValue, Path, items_in, refusal};
 use fx_base::Fault;
 use fx_layout::Layout;
+use fx_walk::{FromValue, Path, items_in, refusal};
 use serde_json::Value;
 use std::alloc::Global;
 
@@ -30,7 +30,8 @@ fn add_field(
     layout: &Layout,
     field: &KeyField,
 ) -> Result<Layout, Fault>
-    ensures { Reads (field_check layout.now field.now (pointer path.now)) (add_field layout.now field.now) result }
+    ensures { Reads (field_check layout.now field.now (pointer path.now))
+        (add_field layout.now field.now) result }
 {
     match with_field(layout, field) {
         Some(layout) => Ok(layout),
@@ -40,7 +41,8 @@ fn add_field(
 
 /// The layout of the fields of the list at the path.
 fn fields_of(alloc: Global, path: &Path<'_>, items: &[Value]) -> Result<Layout, Fault>
-    ensures { Reads (fields_faults [] (pointer path.now) 0 (map view items.now)) (with_fields [] (map view items.now)) result }
+    ensures { Reads (fields_faults [] (pointer path.now) 0 (map view items.now))
+        (with_fields [] (map view items.now)) result }
 {
     let mut layout = Layout::new();
     let mut place = 0;
@@ -55,7 +57,8 @@ fn fields_of(alloc: Global, path: &Path<'_>, items: &[Value]) -> Result<Layout, 
 
 /// The member `key`, a list of fields; without it the key has none.
 pub fn key_member(alloc: Global, path: &Path<'_>, object: &Value) -> Result<Layout, Fault>
-    ensures { Reads (key_row.faults (pointer path.now) (view object.now)) (with_fields [] (items_of (member_of (codes "key") (view object.now)))) result }
+    ensures { Reads (key_row.faults (pointer path.now) (view object.now))
+        (with_fields [] (items_of (member_of (codes "key") (view object.now)))) result }
 {
     match object.get("key") {
         Some(value) => {

@@ -5,10 +5,10 @@ ghost use Rattle.fx_walk.specs.Walk.{Reads};
 ghost use Rattle.fx_config.specs.KeyFields.{is_prefix, key_field_faults, key_field_of, longest_prefix, part_of, prefix_check, prefix_part};
 
 use crate::element::{ElementNumber, NamedElement, element_given};
-use fx_walk::{FromValue, Path, Whole, object_of, one_of, optional_member, refusal};
 use fx_base::Fault;
 use fx_elements::{Axis, Element, width};
 use fx_layout::Part;
+use fx_walk::{FromValue, Path, Whole, object_of, one_of, optional_member, refusal};
 use serde_json::Value;
 use std::alloc::Global;
 

@@ -1,13 +1,13 @@
 //! Observation points.
-ghost use Rattle.std.specs.Prelude.{◌≡◌};
-ghost use Rattle.fx_config.specs.ObservationPoints.{direction_faults, direction_given, direction_named, direction_of, observation_point_faults, observation_point_of};
+ghost use Rattle.fx_config.specs.ObservationPoints.{direction_named, observation_point_faults, observation_point_of};
+ghost use Rattle.fx_config.specs.declared.observation_point.Direction.TheVariants.{Both};
 
 use crate::limits::ENTRIES;
-use fx_walk::{
-    Entry, FromValue, Named, Names, Path, Sequence, Whole, entries_member, name_member, object_of,
-    optional_member, refusal, required_member,
-};
 use fx_base::{Fault, Name};
+use fx_walk::{
+    Entry, Named, Names, Path, Sequence, Whole, Word, entries_member, name_member, object_of,
+    required_member, word_member,
+};
 use serde_json::Value;
 use std::alloc::Global;
 
@@ -22,42 +22,23 @@ pub enum Direction {
     Both,
 }
 
-/// The direction of this name.
-fn direction_named(name: &str) -> Option<Direction>
-    ensures { result ≡ direction_named name.now }
-{
-    match name {
-        "ingress" => Some(Direction::Ingress),
-        "egress" => Some(Direction::Egress),
-        "both" => Some(Direction::Both),
-        _ => None,
-    }
-}
+/// A direction by its name, or both.
+impl Word for Direction {
+    ghost named = { direction_named };
 
-/// A direction by its name: 104 for no text, 105 for another text.
-impl FromValue for Direction {
-    ghost faults = { direction_faults };
+    ghost unsaid = { Both };
 
-    ghost meaning = { direction_of };
-
-    fn from_value(alloc: Global, path: &Path<'_>, value: &Value) -> Result<Direction, Fault> {
-        let Some(name) = value.as_str() else {
-            return Err(refusal(alloc, 104, path));
-        };
-        match direction_named(name) {
-            Some(direction) => Ok(direction),
-            None => Err(refusal(alloc, 105, path)),
+    fn named(text: &str) -> Option<Direction> {
+        match text {
+            "ingress" => Some(Direction::Ingress),
+            "egress" => Some(Direction::Egress),
+            "both" => Some(Direction::Both),
+            _ => None,
         }
     }
-}
 
-/// The direction that is given, or both.
-fn direction_given(direction: Option<Direction>) -> Direction
-    ensures { result ≡ direction_given direction }
-{
-    match direction {
-        Some(direction) => direction,
-        None => Direction::Both,
+    fn unsaid() -> Direction {
+        Direction::Both
     }
 }
 
@@ -115,13 +96,13 @@ impl Entry for ObservationPoint {
             "observationDomainId",
         )?;
         let interfaces = entries_member(alloc, path, value, "ifName", 1, ENTRIES)?;
-        let direction = optional_member(alloc, path, value, "direction")?;
+        let direction = word_member(alloc, path, value, "direction")?;
         let processes = entries_member(alloc, path, value, "selectionProcess", 0, ENTRIES)?;
         Ok(ObservationPoint {
             name,
             observation_domain_id: domain.number(),
             interfaces,
-            direction: direction_given(direction),
+            direction,
             selection_processes: processes,
         })
     }

@@ -5,11 +5,11 @@ ghost use Rattle.fx_walk.specs.Walk.{Reads};
 ghost use Rattle.fx_config.specs.PropertyMatches.{axis_matched, property_check, property_given, property_match_faults, property_match_of, property_meant};
 
 use crate::element::{ElementNumber, Enterprise, NamedElement, element_given};
+use fx_base::Fault;
+use fx_elements::{Axis, Element, Range, read_value};
 use fx_walk::{
     FromValue, Path, Text, object_of, one_of, optional_member, refusal, required_member,
 };
-use fx_base::Fault;
-use fx_elements::{Axis, Element, Range, read_value};
 use serde_json::Value;
 use std::alloc::Global;
 
@@ -48,7 +48,8 @@ fn known_property(
     element: Element,
     text: &str,
 ) -> Result<PropertyMatch, Fault>
-    ensures { Reads (property_check element text.now (pointer path.now)) (property_meant element text.now) result }
+    ensures { Reads (property_check element text.now (pointer path.now))
+        (property_meant element text.now) result }
 {
     match property_given(element, text) {
         Some(property) => Ok(property),

@@ -3,10 +3,10 @@ ghost use Rattle.fx_config.specs.SelectionProcesses.{selection_process_faults, s
 
 use crate::limits::SELECTORS;
 use crate::selector::Selector;
+use fx_base::{Fault, Name};
 use fx_walk::{
     Entry, Named, Names, Path, Sequence, entries_member, name_member, object_of, optional_member,
 };
-use fx_base::{Fault, Name};
 use serde_json::Value;
 use std::alloc::Global;
 

@@ -4,11 +4,11 @@ ghost use Rattle.serde_json.specs.View.{view};
 ghost use Rattle.fx_config.specs.Selectors.{all_faults, is_all, method_given, selector_faults, selector_of};
 
 use crate::property_match::PropertyMatch;
+use fx_base::{Fault, Name};
 use fx_walk::{
     Entry, FromValue, Named, Names, Path, Refused, is_empty_type, name_member, none_of, object_of,
     one_of, optional_member, refusal,
 };
-use fx_base::{Fault, Name};
 use serde_json::Value;
 use std::alloc::Global;
 

@@ -3,8 +3,8 @@ ghost use Rattle.fx_plan.specs.Tables.{net_of};
 ghost use Rattle.fx_conform.specs.Conforming.{IsSound};
 ghost use Rattle.fx_conform.specs.Sendable.{HaveLayouts};
 
-use fx_tables::Holder;
 use fx_plan::Plan;
+use fx_tables::Holder;
 
 /// Each holder has a layout.
 fn have_layouts(holders: &[Holder])

@@ -93,7 +93,8 @@ fn put_groups<S: Sink>(sink: &mut S, address: u128) -> Result<(), Fault>
 
 /// Writes a value of an axis: an address as a dotted quad or as eight groups, any other as a decimal number.
 fn put_whole<S: Sink>(sink: &mut S, axis: Axis, value: u128) -> Result<(), Fault>
-    ensures ok { OnOk result (Writes (S.taken sink.old) (S.taken sink.new) (value_text axis value)) }
+    ensures ok { OnOk result (Writes (S.taken sink.old) (S.taken sink.new)
+        (value_text axis value)) }
     ensures going { OnOk result (S.failed sink.old ≡ false → S.failed sink.new ≡ false) }
     ensures err { IfErr result (λ e. (e ≡ fault_at 902 places.None) × (S.failed sink.new ≡ true)) }
 {
@@ -139,7 +140,8 @@ fn put_bits<S: Sink>(sink: &mut S, axis: Axis, bits: u32) -> Result<(), Fault>
 pub fn put_value<S: Sink>(sink: &mut S, axis: Axis, bits: u32, value: u128) -> Result<(), Fault>
     requires fewer { bits ≤ axis_width axis }
     requires fits { value < 2 ^ bits }
-    ensures ok { OnOk result (Writes (S.taken sink.old) (S.taken sink.new) (leading_text axis bits value)) }
+    ensures ok { OnOk result (Writes (S.taken sink.old) (S.taken sink.new)
+        (leading_text axis bits value)) }
     ensures going { OnOk result (S.failed sink.old ≡ false → S.failed sink.new ≡ false) }
     ensures err { IfErr result (λ e. (e ≡ fault_at 902 places.None) × (S.failed sink.new ≡ true)) }
 {

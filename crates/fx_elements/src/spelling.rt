@@ -93,9 +93,11 @@ pub fn read_prefix(text: &[u8]) -> Option<(u128, u128)>
 /// nothing else is.
 pub fn one_spelling()
     ensures number { (top n : ℕ) → top < 2 ^ 128 → n ≤ top → number_of top (decimal n) ≡ Some n }
-    ensures only_number { (top n : ℕ) (text : List ℕ) → top < 2 ^ 128 → number_of top text ≡ Some n → (text ≡ decimal n) × (n ≤ top) }
+    ensures only_number { (top n : ℕ) (text : List ℕ) → top < 2 ^ 128 → number_of top text ≡ Some n
+        → (text ≡ decimal n) × (n ≤ top) }
     ensures address { (v : ℕ) → v < 2 ^ 32 → quad_of (quad v) ≡ Some v }
-    ensures only_address { (v : ℕ) (text : List ℕ) → quad_of text ≡ Some v → (text ≡ quad v) × (v < 2 ^ 32) }
+    ensures only_address { (v : ℕ) (text : List ℕ) → quad_of text ≡ Some v
+        → (text ≡ quad v) × (v < 2 ^ 32) }
     ensures wide { (v : ℕ) → v < 2 ^ 128 → groups_of (groups v) ≡ Some v }
     ensures only_wide { (v : ℕ) (text : List ℕ) → groups_of text ≡ Some v
         → (text ≡ groups v) × (v < 2 ^ 128) }
@@ -103,6 +105,8 @@ pub fn one_spelling()
         → written_on axis (value_text axis v) ≡ Some v }
     ensures only_written { (axis : Axis) (text : List ℕ) (v : ℕ) → written_on axis text ≡ Some v
         → (text ≡ value_text axis v) × (v ≤ slice_index tops (axis_index axis)) }
-    ensures leading { (v n : ℕ) → v < 2 ^ 32 → 0 < n → n ≤ 32 → prefix_of (prefix v n) ≡ Some (v, n) }
-    ensures only_leading { (p : ℕ × ℕ) (text : List ℕ) → prefix_of text ≡ Some p → (text ≡ prefix p.0 p.1) × (p.0 < 2 ^ 32) × (0 < p.1) × (p.1 ≤ 32) }
+    ensures leading { (v n : ℕ) → v < 2 ^ 32 → 0 < n → n ≤ 32
+        → prefix_of (prefix v n) ≡ Some (v, n) }
+    ensures only_leading { (p : ℕ × ℕ) (text : List ℕ) → prefix_of text ≡ Some p
+        → (text ≡ prefix p.0 p.1) × (p.0 < 2 ^ 32) × (0 < p.1) × (p.1 ≤ 32) }
 {}

@@ -171,7 +171,11 @@ impl Key {
 /// The laws of keys: projecting a packet's key gives its key under the coarser layout, projections compose,
 /// and the test for the same key tells equality.
 pub fn keys_project()
-    ensures packet { (layout : keys.Layout) (other : keys.Layout) (fields : axes.Fields) → keys.Fits layout → keys.refines layout other ≡ true → keys.project (keys.key_of layout fields) other ≡ keys.key_of other fields }
-    ensures again { (key : keys.Key) (layout : keys.Layout) (other : keys.Layout) → keys.refines key.layout layout ≡ true → keys.refines layout other ≡ true → keys.project (keys.project key layout) other ≡ keys.project key other }
+    ensures packet { (layout : keys.Layout) (other : keys.Layout) (fields : axes.Fields)
+        → keys.Fits layout → keys.refines layout other ≡ true
+        → keys.project (keys.key_of layout fields) other ≡ keys.key_of other fields }
+    ensures again { (key : keys.Key) (layout : keys.Layout) (other : keys.Layout)
+        → keys.refines key.layout layout ≡ true → keys.refines layout other ≡ true
+        → keys.project (keys.project key layout) other ≡ keys.project key other }
     ensures same { (a : keys.Key) (b : keys.Key) → (keys.same_key a b ≡ true) ↔ (a ≡ b) }
 {}

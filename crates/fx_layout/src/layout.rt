@@ -60,7 +60,8 @@ fn parts_read(parts: &[Part], axis: Axis, bits: u32) -> bool
 
 /// The place of the first part of a later axis.
 fn later_part(parts: &[Part], axis: Axis) -> Option<usize>
-    ensures { result ≡ position (λ part. nat_lt (axes.axis_index axis) (axes.axis_index part.axis)) parts.now }
+    ensures { result ≡ position (λ part. nat_lt (axes.axis_index axis) (axes.axis_index part.axis))
+        parts.now }
 {
     parts
         .iter()
@@ -70,7 +71,8 @@ fn later_part(parts: &[Part], axis: Axis) -> Option<usize>
 /// The place of the first part of a later axis, or behind all parts.
 fn place_for(parts: &[Part], axis: Axis) -> usize
     ensures bound { result ≤ length parts.now }
-    ensures place { result ≡ position_or_len (λ part. nat_lt (axes.axis_index axis) (axes.axis_index part.axis)) parts.now }
+    ensures place { result ≡ position_or_len
+        (λ part. nat_lt (axes.axis_index axis) (axes.axis_index part.axis)) parts.now }
 {
     match later_part(parts, axis) {
         Some(place) => place,
@@ -90,8 +92,10 @@ impl Layout {
 
     /// The layout with a part more, or None where it has the axis already or an axis can't have so many bits.
     pub fn with(&self, axis: Axis, bits: u32) -> Option<Layout>
-        ensures exact { is_some result ≡ (keys.can_stand (record { axis = axis; bits = bits }) && not (is_some (keys.part_at self.now axis))) }
-        ensures value { IfSome result (λ layout. layout ≡ keys.with_part self.now (record { axis = axis; bits = bits })) }
+        ensures exact { is_some result ≡ (keys.can_stand (record { axis = axis; bits = bits })
+            && not (is_some (keys.part_at self.now axis))) }
+        ensures value { IfSome result (λ layout. layout
+            ≡ keys.with_part self.now (record { axis = axis; bits = bits })) }
     {
         let new = Part { axis, bits };
         if !can_stand(new) || parts_read(self.parts.as_slice(), axis, 0) {

@@ -13,8 +13,8 @@ use crate::links::Links;
 use crate::outlet::Outlet;
 use crate::stream::Stream;
 use fx_base::Fault;
-use fx_tables::Record;
 use fx_session::Session;
+use fx_tables::Record;
 use std::alloc::Global;
 use std::marker::Model;
 
@@ -93,7 +93,8 @@ impl Link {
     fn flush(&mut self, time: u32) -> Result<(), Fault>
         ensures ok { OnOk result (self.new
             ≡ record self.old { outgoing = outgoing.after_flush time self.old.outgoing }) }
-        ensures room { sending.has_room_for self.old.outgoing.batch self.old.outgoing.sender ≡ true }
+        ensures room { sending.has_room_for self.old.outgoing.batch self.old.outgoing.sender
+            ≡ true }
         ensures err { IfErr result (λ e. e ≡ fault_at 900 places.None) }
     {
         self.outlet.flush(time, &mut self.stream)
@@ -107,7 +108,8 @@ impl Link {
         ensures ok { OnOk result (self.new ≡ ongoing.after_finish time self.old) }
         ensures put { OnOk result (Puts (L.put_on links.old) (L.put_on links.new) number
             (ongoing.to_put time self.old)) }
-        ensures room { sending.has_room_for self.old.outgoing.batch self.old.outgoing.sender ≡ true }
+        ensures room { sending.has_room_for self.old.outgoing.batch self.old.outgoing.sender
+            ≡ true }
         ensures going { OnOk result (L.failed links.old ≡ false → L.failed links.new ≡ false) }
         ensures err { IfErr result (λ e. (e ≡ fault_at 900 places.None)
             ⊎ ((e ≡ fault_at 902 places.None) × (L.failed links.new ≡ true))) }

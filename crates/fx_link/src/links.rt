@@ -23,7 +23,8 @@ pub trait Links: Drop {
         ensures ok { OnOk result (Puts (put_on self.old) (put_on self.new) link octets.now) }
         ensures going { OnOk result (failed self.old ≡ false → failed self.new ≡ false) }
         ensures err { IfErr result (λ e.
-            ((e ≡ fault_at 902 places.None) ⊎ (e ≡ fault_at 900 places.None)) × (failed self.new ≡ true)) };
+            ((e ≡ fault_at 902 places.None) ⊎ (e ≡ fault_at 900 places.None))
+            × (failed self.new ≡ true)) };
 }
 
 /// Links whose octets go nowhere: it tells none of them, takes no memory and never fails.

@@ -28,9 +28,11 @@ pub struct Taking {
 
 /// The counts of a record are added to the held record of this number, from 1, if it is there and has the key.
 fn join(records: &mut Vec<Record>, number: u64, entry: &Record) -> Option<Joined>
-    ensures some { IfSome result (λ j. (acts.joined (network.numbered records.old.items number) records.old.items number entry.now ≡ Some records.new.items)
+    ensures some { IfSome result (λ j. (acts.joined (network.numbered records.old.items number)
+        records.old.items number entry.now ≡ Some records.new.items)
         × (holds.with_counts records.new.items j.place j.counts ≡ records.old.items)) }
-    ensures none { IfNone result ((acts.joined (network.numbered records.old.items number) records.old.items number entry.now ≡ None)
+    ensures none { IfNone result ((acts.joined (network.numbered records.old.items number)
+        records.old.items number entry.now ≡ None)
         × (records.new.items ≡ records.old.items)) }
 {
     if number == 0 || number > records.len() as u64 {
@@ -59,9 +61,11 @@ fn set_counts(records: &mut Vec<Record>, joined: Joined)
 impl Records {
     /// Takes in a record: as a new one, which comes last, or added to the held record of this number.
     fn take_in(&mut self, entry: Record, choice: Option<u64>) -> Result<Option<Joined>, Fault>
-        ensures ok { IfOk result (λ j. (acts.taken_in self.old choice entry ≡ Some self.new) × (holds.given_back j self.new ≡ self.old)) }
+        ensures ok { IfOk result (λ j. (acts.taken_in self.old choice entry ≡ Some self.new)
+            × (holds.given_back j self.new ≡ self.old)) }
         ensures same { OnErr result (self.new ≡ self.old) }
-        ensures err { IfErr result (λ e. (e ≡ fault_at 900 faults.None) ⊎ ((e ≡ fault_at 852 faults.None) × (acts.taken_in self.old choice entry ≡ None))) }
+        ensures err { IfErr result (λ e. (e ≡ fault_at 900 faults.None)
+            ⊎ ((e ≡ fault_at 852 faults.None) × (acts.taken_in self.old choice entry ≡ None))) }
     {
         match choice {
             None => {
@@ -95,10 +99,13 @@ fn hold(
     counts: &Counts,
     choice: Option<u64>,
 ) -> Result<Taking, Fault>
-    ensures ok { IfOk result (λ t. (holds.held_with held.old.items counts.now holding.now choice ≡ Some held.new.items)
+    ensures ok { IfOk result (λ t. (holds.held_with held.old.items counts.now holding.now choice
+        ≡ Some held.new.items)
         × (holds.back_at held.new.items t.holder t.joined ≡ held.old.items)) }
     ensures same { OnErr result (held.new.items ≡ held.old.items) }
-    ensures err { IfErr result (λ e. (e ≡ fault_at 900 faults.None) ⊎ ((e ≡ fault_at 852 faults.None) × (holds.held_with held.old.items counts.now holding.now choice ≡ None))) }
+    ensures err { IfErr result (λ e. (e ≡ fault_at 900 faults.None)
+        ⊎ ((e ≡ fault_at 852 faults.None) × (holds.held_with held.old.items counts.now holding.now
+        choice ≡ None))) }
 {
     let holder = holding.holder;
     if holder >= held.len() {
@@ -131,10 +138,14 @@ fn hold_next(
     counts: &Counts,
     choice: Option<u64>,
 ) -> Result<(), Fault>
-    ensures ok { OnOk result ((holds.held_with held.old.items counts.now holding.now choice ≡ Some held.new.items)
+    ensures ok { OnOk result ((holds.held_with held.old.items counts.now holding.now choice
+        ≡ Some held.new.items)
         × (holds.undone log.new.items held.new.items ≡ holds.undone log.old.items held.old.items)) }
-    ensures same { OnErr result ((held.new.items ≡ held.old.items) × (log.new.items ≡ log.old.items)) }
-    ensures err { IfErr result (λ e. (e ≡ fault_at 900 faults.None) ⊎ ((e ≡ fault_at 852 faults.None) × (holds.held_with held.old.items counts.now holding.now choice ≡ None))) }
+    ensures same { OnErr result ((held.new.items ≡ held.old.items)
+        × (log.new.items ≡ log.old.items)) }
+    ensures err { IfErr result (λ e. (e ≡ fault_at 900 faults.None)
+        ⊎ ((e ≡ fault_at 852 faults.None) × (holds.held_with held.old.items counts.now holding.now
+        choice ≡ None))) }
 {
     let taking = hold(held, holding, counts, choice)?;
     if log.push(taking).is_err() {
@@ -165,10 +176,13 @@ pub fn hold_all(
     counts: &Counts,
     choices: &[Option<u64>],
 ) -> Result<Vec<Taking>, Fault>
-    ensures ok { IfOk result (λ log. (holds.hold_all counts.now holdings.now held.old.items choices.now ≡ Some held.new.items)
+    ensures ok { IfOk result (λ log. (holds.hold_all counts.now holdings.now held.old.items
+        choices.now ≡ Some held.new.items)
         × (holds.undone log.items held.new.items ≡ held.old.items)) }
     ensures same { OnErr result (held.new.items ≡ held.old.items) }
-    ensures err { IfErr result (λ e. (e ≡ fault_at 900 faults.None) ⊎ ((e ≡ fault_at 852 faults.None) × (holds.hold_all counts.now holdings.now held.old.items choices.now ≡ None))) }
+    ensures err { IfErr result (λ e. (e ≡ fault_at 900 faults.None)
+        ⊎ ((e ≡ fault_at 852 faults.None) × (holds.hold_all counts.now holdings.now held.old.items
+        choices.now ≡ None))) }
 {
     if holdings.len() != choices.len() {
         return Err(Fault::bare(852));

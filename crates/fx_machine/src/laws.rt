@@ -23,18 +23,23 @@ ghost use Rattle.fx_run_text.specs.declared.step.Step as of_step;
 /// The steps with their choices written are just what a network may do: each step is a move, and each move is
 /// a step with some choices.
 pub fn choices_are_free()
-    ensures step_is_move { (net : network.Net) (classes : List traffic.Class) (packets : List of_packet.Packet)
+    ensures step_is_move { (net : network.Net) (classes : List traffic.Class)
+        (packets : List of_packet.Packet)
         (step : of_step.Step) (s : states.State) (new : states.State)
         → steps.after net classes packets step s ≡ Ok new → moves.Moves net classes packets s new }
-    ensures move_is_step { (net : network.Net) (classes : List traffic.Class) (packets : List of_packet.Packet)
+    ensures move_is_step { (net : network.Net) (classes : List traffic.Class)
+        (packets : List of_packet.Packet)
         (s : states.State) (new : states.State)
         → moves.Moves net classes packets s new
         → (step : of_step.Step) × (steps.after net classes packets step s ≡ Ok new) }
     // So runs are.
-    ensures steps_are_moves { (net : network.Net) (classes : List traffic.Class) (packets : List of_packet.Packet)
+    ensures steps_are_moves { (net : network.Net) (classes : List traffic.Class)
+        (packets : List of_packet.Packet)
         (written : List of_step.Step) (s : states.State) (last : states.State)
-        → steps.run net classes packets written s ≡ Ok last → moves.Runs net classes packets s last }
-    ensures moves_are_steps { (net : network.Net) (classes : List traffic.Class) (packets : List of_packet.Packet)
+        → steps.run net classes packets written s ≡ Ok last
+        → moves.Runs net classes packets s last }
+    ensures moves_are_steps { (net : network.Net) (classes : List traffic.Class)
+        (packets : List of_packet.Packet)
         (s : states.State) (last : states.State)
         → moves.Runs net classes packets s last
         → (written : List of_step.Step) × (steps.run net classes packets written s ≡ Ok last) }

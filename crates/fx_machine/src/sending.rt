@@ -57,7 +57,8 @@ fn choose(
     ensures ok { IfOk result (λ n. (n ≤ length choices.now) × ((rest : List network.Exporter) →
         sends.chosen_from links.old.items (exporter.now ∷ rest) choices.now
         ≡ sends.chosen_from links.new.items rest (drop n choices.now))) }
-    ensures err { IfErr result (λ e. (e ≡ fault_at 900 faults.None) ⊎ ((e ≡ fault_at 852 faults.None) × ((rest : List network.Exporter) →
+    ensures err { IfErr result (λ e. (e ≡ fault_at 900 faults.None)
+        ⊎ ((e ≡ fault_at 852 faults.None) × ((rest : List network.Exporter) →
         sends.chosen_from links.old.items (exporter.now ∷ rest) choices.now ≡ None))) }
 {
     if exporter.parallel() {
@@ -83,10 +84,13 @@ fn choose_at(
     choices: &[Option<u64>],
 ) -> Result<usize, Fault>
     ensures ok { IfOk result (λ n. (n ≤ length choices.now) × ((rest : List network.Exporter) →
-        sends.chosen_from links.old.items (network.before (slice_get exporters.now place) rest) choices.now
+        sends.chosen_from links.old.items (network.before (slice_get exporters.now place) rest)
+        choices.now
         ≡ sends.chosen_from links.new.items rest (drop n choices.now))) }
-    ensures err { IfErr result (λ e. (e ≡ fault_at 900 faults.None) ⊎ ((e ≡ fault_at 852 faults.None) × ((rest : List network.Exporter) →
-        sends.chosen_from links.old.items (network.before (slice_get exporters.now place) rest) choices.now ≡ None))) }
+    ensures err { IfErr result (λ e. (e ≡ fault_at 900 faults.None)
+        ⊎ ((e ≡ fault_at 852 faults.None) × ((rest : List network.Exporter) →
+        sends.chosen_from links.old.items (network.before (slice_get exporters.now place) rest)
+        choices.now ≡ None))) }
 {
     match exporters.get(place) {
         None => Ok(0),
@@ -105,8 +109,11 @@ pub fn chosen_links(
     choices: &[Option<u64>],
 ) -> Result<(Vec<usize>, usize), Fault>
     ensures ok { IfOk result (λ x. (x.1 ≤ length choices.now)
-        × (sends.chosen_from [] (network.at_places exporters.now places.now) choices.now ≡ Some (record { links = x.0.items; rest = drop x.1 choices.now }))) }
-    ensures err { IfErr result (λ e. (e ≡ fault_at 900 faults.None) ⊎ ((e ≡ fault_at 852 faults.None) × (sends.chosen_from [] (network.at_places exporters.now places.now) choices.now ≡ None))) }
+        × (sends.chosen_from [] (network.at_places exporters.now places.now) choices.now
+        ≡ Some (record { links = x.0.items; rest = drop x.1 choices.now }))) }
+    ensures err { IfErr result (λ e. (e ≡ fault_at 900 faults.None)
+        ⊎ ((e ≡ fault_at 852 faults.None) × (sends.chosen_from []
+        (network.at_places exporters.now places.now) choices.now ≡ None))) }
 {
     let mut links: Vec<usize> = Vec::new(alloc);
     let mut used: usize = 0;
@@ -143,7 +150,8 @@ fn put_on(carried: &mut Vec<Records>, link: usize, entry: Record) -> Result<(), 
 
 /// The last record of a link goes, if it is there.
 fn take_back(carried: &mut Vec<Records>, link: usize)
-    ensures { (rss : List (List of_record.Record)) (r : of_record.Record) → carried.old.items ≡ states.put_last rss link r → carried.new.items ≡ rss }
+    ensures { (rss : List (List of_record.Record)) (r : of_record.Record)
+        → carried.old.items ≡ states.put_last rss link r → carried.new.items ≡ rss }
 {
     if link < carried.len() {
         let records = &mut carried[link];
@@ -157,7 +165,8 @@ pub fn put_all(
     links: &[usize],
     entry: &Record,
 ) -> Result<(), AllocError>
-    ensures ok { OnOk result (carried.new.items ≡ sends.put_all links.now entry.now carried.old.items) }
+    ensures ok { OnOk result (carried.new.items
+        ≡ sends.put_all links.now entry.now carried.old.items) }
     ensures err { OnErr result (carried.new.items ≡ carried.old.items) }
 {
     for done in 0..links.len() {
@@ -171,7 +180,8 @@ pub fn put_all(
 
 /// The last record of each of these links goes, the last link first.
 pub fn take_all_back(carried: &mut Vec<Records>, links: &[usize], entry: &Record)
-    ensures { (rss : List (List of_record.Record)) → carried.old.items ≡ sends.put_all links.now entry.now rss → carried.new.items ≡ rss }
+    ensures { (rss : List (List of_record.Record))
+        → carried.old.items ≡ sends.put_all links.now entry.now rss → carried.new.items ≡ rss }
 {
     for back in 0..links.len() {
         take_back(carried, links[links.len() - 1 - back]);

@@ -40,7 +40,8 @@ impl<'a> Model for State<'a> {
 
 /// Whether all packets are of their classes.
 fn all_of(classes: &Classes, packets: &[Packet]) -> bool
-    ensures { IsTrue result ↔ All (λ packet. traffic.IsOf packet (network.numbered classes.now packet.class)) packets.now }
+    ensures { IsTrue result ↔ All (λ packet. traffic.IsOf packet
+        (network.numbered classes.now packet.class)) packets.now }
 {
     packets.iter().all(|packet| classes.contains(packet))
 }
@@ -57,10 +58,22 @@ impl<'a> State<'a> {
         classes: &'a Classes,
         packets: Vec<Packet>,
     ) -> Result<State<'a>, Fault>
-        ensures ok { IfOk result (λ run. (run ≡ record { net = net.now; classes = classes.now; packets = packets.items; state = states.opening net.now classes.now packets.items })
-            × All (λ packet. traffic.IsOf packet (network.numbered classes.now packet.class)) packets.items) }
-        ensures err { IfErr result (λ e. ((e ≡ fault_at 856 faults.None) × (All (λ packet. traffic.IsOf packet (network.numbered classes.now packet.class)) packets.items → ⊥))
-            ⊎ ((e ≡ fault_at 900 faults.None) × All (λ packet. traffic.IsOf packet (network.numbered classes.now packet.class)) packets.items)) }
+        ensures ok { IfOk result (λ run. (run
+            ≡ record {
+              net = net.now;
+              classes = classes.now;
+              packets = packets.items;
+              state =
+                  states.opening net.now classes.now packets.items;
+            })
+            × All (λ packet. traffic.IsOf packet (network.numbered classes.now packet.class))
+            packets.items) }
+        ensures err { IfErr result (λ e. ((e ≡ fault_at 856 faults.None)
+            × (All (λ packet. traffic.IsOf packet (network.numbered classes.now packet.class))
+            packets.items → ⊥))
+            ⊎ ((e ≡ fault_at 900 faults.None) × All
+            (λ packet. traffic.IsOf packet (network.numbered classes.now packet.class))
+            packets.items)) }
     {
         if !all_of(classes, packets.as_slice()) {
             return Err(Fault::bare(856));
@@ -89,13 +102,17 @@ impl<'a> State<'a> {
     /// many as needed, or a chosen destination or held record isn't there or has another key; and with 900
     /// for want of memory. After a fault the state is what it was.
     pub fn step(&mut self, step: &Step) -> Result<(), Fault>
-        ensures ok { OnOk result ((s : states.State) → self.old.state ≡ states.told s → (next : states.State)
+        ensures ok { OnOk result ((s : states.State) → self.old.state ≡ states.told s
+            → (next : states.State)
             × (steps.after self.old.net self.old.classes self.old.packets step.now s ≡ Ok next)
             × (self.new.state ≡ states.told next)) }
-        ensures tables { (self.new.net ≡ self.old.net) × (self.new.classes ≡ self.old.classes) × (self.new.packets ≡ self.old.packets) }
+        ensures tables { (self.new.net ≡ self.old.net) × (self.new.classes ≡ self.old.classes)
+            × (self.new.packets ≡ self.old.packets) }
         ensures same { OnErr result (self.new ≡ self.old) }
-        ensures err { IfErr result (λ e. (e.place ≡ faults.None) × ((e.number ≡ 900) ⊎ ((s : states.State) → self.old.state ≡ states.told s
-            → steps.after self.old.net self.old.classes self.old.packets step.now s ≡ Err e.number))) }
+        ensures err { IfErr result (λ e. (e.place ≡ faults.None)
+            × ((e.number ≡ 900) ⊎ ((s : states.State) → self.old.state ≡ states.told s
+            → steps.after self.old.net self.old.classes self.old.packets step.now s
+            ≡ Err e.number))) }
     {
         match step {
             Step::Cross {

@@ -71,7 +71,8 @@ fn all_empty(lists: &[Records]) -> bool
 
 /// Whether nothing is to come, held or carried.
 fn nothing_left(to_come: &[Marks], held: &[Records], carried: &[Records]) -> bool
-    ensures { result ≡ (comings.all_crossed to_come.now && states.all_empty held.now && states.all_empty carried.now) }
+    ensures { result ≡ (comings.all_crossed to_come.now && states.all_empty held.now
+        && states.all_empty carried.now) }
 {
     all_crossed(to_come) && all_empty(held) && all_empty(carried)
 }
@@ -82,7 +83,8 @@ fn all_to_come(
     classes: &Classes,
     packets: &[Packet],
 ) -> Result<Vec<Marks>, AllocError>
-    ensures { IfOk result (λ to_come. comings.coming_of 1 to_come.items ≡ states.coming_from classes.now 1 packets.now) }
+    ensures { IfOk result (λ to_come. comings.coming_of 1 to_come.items
+        ≡ states.coming_from classes.now 1 packets.now) }
 {
     let mut to_come: Vec<Marks> = Vec::new(alloc);
     for packet in packets {
@@ -119,7 +121,9 @@ fn crossing_holdings(
     packet: &Packet,
     crossing: u64,
 ) -> Result<Vec<Holding>, AllocError>
-    ensures { IfOk result (λ holdings. map holds.hold_act holdings.items ≡ steps.crossing_acts net.now packet.now.fields (network.numbered (traffic.path classes.now packet.now) crossing)) }
+    ensures { IfOk result (λ holdings. map holds.hold_act holdings.items
+        ≡ steps.crossing_acts net.now packet.now.fields
+        (network.numbered (traffic.path classes.now packet.now) crossing)) }
 {
     let Some(found) = numbered(classes.path_of(packet), crossing) else {
         return Ok(Vec::new(alloc));
@@ -183,12 +187,16 @@ impl Store {
         crossing: u64,
         choices: &[Option<u64>],
     ) -> Result<(), Fault>
-        ensures ok { OnOk result ((s : states.State) → self.old ≡ states.told s → (next : states.State)
-            × (steps.after_cross net.now classes.now (network.numbered packets.now packet) (steps.place s.coming packet crossing) crossing s choices.now ≡ Ok next)
+        ensures ok { OnOk result ((s : states.State) → self.old ≡ states.told s
+            → (next : states.State)
+            × (steps.after_cross net.now classes.now (network.numbered packets.now packet)
+            (steps.place s.coming packet crossing) crossing s choices.now ≡ Ok next)
             × (self.new ≡ states.told next)) }
         ensures same { OnErr result (self.new ≡ self.old) }
-        ensures err { IfErr result (λ e. (e.place ≡ faults.None) × ((e.number ≡ 900) ⊎ ((s : states.State) → self.old ≡ states.told s
-            → steps.after_cross net.now classes.now (network.numbered packets.now packet) (steps.place s.coming packet crossing) crossing s choices.now ≡ Err e.number))) }
+        ensures err { IfErr result (λ e. (e.place ≡ faults.None)
+            × ((e.number ≡ 900) ⊎ ((s : states.State) → self.old ≡ states.told s
+            → steps.after_cross net.now classes.now (network.numbered packets.now packet)
+            (steps.place s.coming packet crossing) crossing s choices.now ≡ Err e.number))) }
     {
         if !is_to_come(self.to_come.as_slice(), packet, crossing) {
             return Err(Fault::bare(851));
@@ -215,12 +223,16 @@ impl Store {
         number: u64,
         choices: &[Option<u64>],
     ) -> Result<(), Fault>
-        ensures ok { OnOk result ((s : states.State) → self.old ≡ states.told s → (next : states.State)
-            × (steps.expire_at net.now (network.holder_place net.now holder) number s choices.now ≡ Ok next)
+        ensures ok { OnOk result ((s : states.State) → self.old ≡ states.told s
+            → (next : states.State)
+            × (steps.expire_at net.now (network.holder_place net.now holder) number s choices.now
+            ≡ Ok next)
             × (self.new ≡ states.told next)) }
         ensures same { OnErr result (self.new ≡ self.old) }
-        ensures err { IfErr result (λ e. (e.place ≡ faults.None) × ((e.number ≡ 900) ⊎ ((s : states.State) → self.old ≡ states.told s
-            → steps.expire_at net.now (network.holder_place net.now holder) number s choices.now ≡ Err e.number))) }
+        ensures err { IfErr result (λ e. (e.place ≡ faults.None)
+            × ((e.number ≡ 900) ⊎ ((s : states.State) → self.old ≡ states.told s
+            → steps.expire_at net.now (network.holder_place net.now holder) number s choices.now
+            ≡ Err e.number))) }
     {
         let Some(place) = net.holder_place(holder) else {
             return Err(Fault::bare(851));
@@ -253,12 +265,15 @@ impl Store {
         number: u64,
         choices: &[Option<u64>],
     ) -> Result<(), Fault>
-        ensures ok { OnOk result ((s : states.State) → self.old ≡ states.told s → (next : states.State)
+        ensures ok { OnOk result ((s : states.State) → self.old ≡ states.told s
+            → (next : states.State)
             × (steps.arrive_at net.now (steps.link_place link) number s choices.now ≡ Ok next)
             × (self.new ≡ states.told next)) }
         ensures same { OnErr result (self.new ≡ self.old) }
-        ensures err { IfErr result (λ e. (e.place ≡ faults.None) × ((e.number ≡ 900) ⊎ ((s : states.State) → self.old ≡ states.told s
-            → steps.arrive_at net.now (steps.link_place link) number s choices.now ≡ Err e.number))) }
+        ensures err { IfErr result (λ e. (e.place ≡ faults.None)
+            × ((e.number ≡ 900) ⊎ ((s : states.State) → self.old ≡ states.told s
+            → steps.arrive_at net.now (steps.link_place link) number s choices.now
+            ≡ Err e.number))) }
     {
         let Some(place) = link_place(link) else {
             return Err(Fault::bare(851));

@@ -49,9 +49,12 @@ pub fn tally(
     layout: &Layout,
     entry: &Record,
 ) -> Result<(), AllocError>
-    ensures ok { OnOk result ((totals.new.items ≡ sums.totals_with layout.now entry.now.key entry.now.counts totals.old.items)
-        × ((u : ℕ) → unassigned.old ≡ u % 2 ^ 64 → unassigned.new ≡ sums.unassigned_with layout.now entry.now.key u % 2 ^ 64)) }
-    ensures err { OnErr result ((totals.new.items ≡ totals.old.items) × (unassigned.new ≡ unassigned.old)) }
+    ensures ok { OnOk result ((totals.new.items
+        ≡ sums.totals_with layout.now entry.now.key entry.now.counts totals.old.items)
+        × ((u : ℕ) → unassigned.old ≡ u % 2 ^ 64
+        → unassigned.new ≡ sums.unassigned_with layout.now entry.now.key u % 2 ^ 64)) }
+    ensures err { OnErr result ((totals.new.items ≡ totals.old.items)
+        × (unassigned.new ≡ unassigned.old)) }
 {
     match entry.key.project(layout) {
         Some(key) => add_at(totals, key, &entry.counts)?,
@@ -68,9 +71,12 @@ pub fn tally_if(
     layout: &Layout,
     entry: &Record,
 ) -> Result<(), AllocError>
-    ensures ok { OnOk result ((totals.new.items ≡ sums.totals_when tallies layout.now entry.now.key entry.now.counts totals.old.items)
-        × ((u : ℕ) → unassigned.old ≡ u % 2 ^ 64 → unassigned.new ≡ sums.unassigned_when tallies layout.now entry.now.key u % 2 ^ 64)) }
-    ensures err { OnErr result ((totals.new.items ≡ totals.old.items) × (unassigned.new ≡ unassigned.old)) }
+    ensures ok { OnOk result ((totals.new.items
+        ≡ sums.totals_when tallies layout.now entry.now.key entry.now.counts totals.old.items)
+        × ((u : ℕ) → unassigned.old ≡ u % 2 ^ 64
+        → unassigned.new ≡ sums.unassigned_when tallies layout.now entry.now.key u % 2 ^ 64)) }
+    ensures err { OnErr result ((totals.new.items ≡ totals.old.items)
+        × (unassigned.new ≡ unassigned.old)) }
 {
     if tallies {
         tally(totals, unassigned, layout, entry)?;
@@ -88,10 +94,14 @@ pub fn send_and_tally(
     layout: &Layout,
     entry: &Record,
 ) -> Result<(), AllocError>
-    ensures ok { OnOk result ((carried.new.items ≡ sends.put_all links.now entry.now carried.old.items)
-        × (totals.new.items ≡ sums.totals_when tallies layout.now entry.now.key entry.now.counts totals.old.items)
-        × ((u : ℕ) → unassigned.old ≡ u % 2 ^ 64 → unassigned.new ≡ sums.unassigned_when tallies layout.now entry.now.key u % 2 ^ 64)) }
-    ensures err { OnErr result ((carried.new.items ≡ carried.old.items) × (totals.new.items ≡ totals.old.items) × (unassigned.new ≡ unassigned.old)) }
+    ensures ok { OnOk result ((carried.new.items
+        ≡ sends.put_all links.now entry.now carried.old.items)
+        × (totals.new.items ≡ sums.totals_when tallies layout.now entry.now.key entry.now.counts
+        totals.old.items)
+        × ((u : ℕ) → unassigned.old ≡ u % 2 ^ 64
+        → unassigned.new ≡ sums.unassigned_when tallies layout.now entry.now.key u % 2 ^ 64)) }
+    ensures err { OnErr result ((carried.new.items ≡ carried.old.items)
+        × (totals.new.items ≡ totals.old.items) × (unassigned.new ≡ unassigned.old)) }
 {
     put_all(carried, links, entry)?;
     if let Err(error) = tally_if(tallies, totals, unassigned, layout, entry) {

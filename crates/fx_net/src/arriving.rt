@@ -54,7 +54,8 @@ pub(crate) fn queued(links: &[Link], link: usize) -> Option<usize>
 /// So many octets of the link at this place reach its end, if it is there.
 fn carry_on(links: &mut Vec<Link>, link: usize, count: usize) -> Result<(), Fault>
     requires { count ≤ arriving.queued_on (slice_get links.old.items link) }
-    ensures ok { OnOk result (links.new.items ≡ contents.changed (ongoing.after_carry count) links.old.items link) }
+    ensures ok { OnOk result (links.new.items
+        ≡ contents.changed (ongoing.after_carry count) links.old.items link) }
     ensures err { IfErr result (λ e. e ≡ fault_at 900 places.None) }
 {
     let Some(link) = links.get_mut(link) else {

@@ -15,8 +15,8 @@ use crate::network::Network;
 use crate::stop::Stop;
 use fx_base::{Fault, Source};
 use fx_link::{Link, Links};
-use fx_tables::{Aggregation, Device, Net, Occurrence, Process};
 use fx_pcap::Capture;
+use fx_tables::{Aggregation, Device, Net, Occurrence, Process};
 use std::alloc::Global;
 
 /// How many octets of the link at this place wait to be carried.
@@ -86,7 +86,8 @@ impl Contents {
         devices: &[Device],
         links: &mut L,
     ) -> Result<(), Fault>
-        ensures ok { OnOk result (doings.EmptiesAll net.now (flat_map (λ (d : network.Device). d.caches) devices.now)
+        ensures ok { OnOk result (doings.EmptiesAll net.now
+            (flat_map (λ (d : network.Device). d.caches) devices.now)
             (L.put_on links.old) self.old (L.put_on links.new) self.new) }
         ensures going { OnOk result (L.failed links.old ≡ false → L.failed links.new ≡ false) }
         ensures err { IfErr result (running.FailsOutside (L.failed links.new)) }
@@ -104,7 +105,8 @@ impl Contents {
         aggregations: &[Aggregation],
         links: &mut L,
     ) -> Result<(), Fault>
-        ensures ok { OnOk result (doings.EmptiesAll net.now (map (λ (a : network.Aggregation). a.holder) aggregations.now)
+        ensures ok { OnOk result (doings.EmptiesAll net.now
+            (map (λ (a : network.Aggregation). a.holder) aggregations.now)
             (L.put_on links.old) self.old (L.put_on links.new) self.new) }
         ensures going { OnOk result (L.failed links.old ≡ false → L.failed links.new ≡ false) }
         ensures err { IfErr result (running.FailsOutside (L.failed links.new)) }
@@ -163,7 +165,8 @@ impl Contents {
         process: usize,
         links: &mut L,
     ) -> Result<(), Fault>
-        ensures ok { OnOk result (doings.Each (doings.CarriesInto net.now process) (doings.link_places net.now)
+        ensures ok { OnOk result (doings.Each (doings.CarriesInto net.now process)
+            (doings.link_places net.now)
             (L.put_on links.old) self.old (L.put_on links.new) self.new) }
         ensures going { OnOk result (L.failed links.old ≡ false → L.failed links.new ≡ false) }
         ensures err { IfErr result (running.FailsOutside (L.failed links.new)) }
@@ -239,9 +242,11 @@ impl<'a> Network<'a> {
         links: &mut L,
         met: &mut Vec<Occurrence>,
     ) -> Result<(), Stop>
-        ensures ok { OnOk result (running.ReadsOne self.old self.new capture.now.seen (L.put_on links.old) (L.put_on links.new)) }
+        ensures ok { OnOk result (running.ReadsOne self.old self.new capture.now.seen
+            (L.put_on links.old) (L.put_on links.new)) }
         ensures going { OnOk result (L.failed links.old ≡ false → L.failed links.new ≡ false) }
-        ensures err { IfErr result (λ s. running.FailsOutside (L.failed links.new) (running.fault_of s)
+        ensures err { IfErr result (λ s. running.FailsOutside (L.failed links.new)
+            (running.fault_of s)
             ⊎ ((s ≡ stop.Bare 804) × running.IsOfNone self.old.classes capture.now.seen)) }
     {
         if !self.meter_first(capture, met)? {
@@ -260,7 +265,8 @@ impl<'a> Network<'a> {
         ensures ok { OnOk result (running.ReadsRest self.old self.new capture.old capture.new
             (L.put_on links.old) (L.put_on links.new)) }
         ensures going { OnOk result (L.failed links.old ≡ false → L.failed links.new ≡ false) }
-        ensures err { IfErr result (λ s. running.FailsOutside (L.failed links.new) (running.fault_of s)
+        ensures err { IfErr result (λ s. running.FailsOutside (L.failed links.new)
+            (running.fault_of s)
             ⊎ running.RefusesClose self.old capture.old capture.new (running.fault_of s)) }
     {
         let mut met: Vec<Occurrence> = Vec::new(self.alloc);
@@ -279,7 +285,8 @@ impl<'a> Network<'a> {
         ensures ok { OnOk result (running.Closes self.old self.new capture.old capture.new
             (L.put_on links.old) (L.put_on links.new)) }
         ensures going { OnOk result (L.failed links.old ≡ false → L.failed links.new ≡ false) }
-        ensures err { IfErr result (λ s. running.FailsOutside (L.failed links.new) (running.fault_of s)
+        ensures err { IfErr result (λ s. running.FailsOutside (L.failed links.new)
+            (running.fault_of s)
             ⊎ running.RefusesClose self.old capture.old capture.new (running.fault_of s)) }
     {
         self.read_rest(capture, links)?;
@@ -303,7 +310,8 @@ impl<'a> Network<'a> {
         ensures ok { OnOk result (running.Closes self.old self.new capture.old capture.new
             (L.put_on links.old) (L.put_on links.new)) }
         ensures going { OnOk result (L.failed links.old ≡ false → L.failed links.new ≡ false) }
-        ensures err { self.old.fault ≡ None → IfErr result (λ e. running.FailsOutside (L.failed links.new) e
+        ensures err { self.old.fault ≡ None → IfErr result
+            (λ e. running.FailsOutside (L.failed links.new) e
             ⊎ running.RefusesClose self.old capture.old capture.new e) }
         ensures stopped { IfErr result (λ e. self.new.fault ≡ Some e) }
         ensures again { running.AnswersAgain self.old self.new result }

@@ -74,7 +74,8 @@ fn put_to_one(
     flow: &Record,
 ) -> Result<(), Fault>
     ensures ok { OnOk result (links.new.items
-        ≡ exporting.put_each time flow.now (in_use.link_numbered destinations.now number) links.old.items) }
+        ≡ exporting.put_each time flow.now (in_use.link_numbered destinations.now number)
+        links.old.items) }
     ensures err { IfErr result (λ e. e ≡ fault_at 900 places.None) }
 {
     if number == 0 {
@@ -95,7 +96,8 @@ fn export(
     flow: &Record,
 ) -> Result<(), Fault>
     ensures ok { OnOk result (links.new.items
-        ≡ exporting.put_each time flow.now (in_use.links_of_exporter exporter.now number) links.old.items) }
+        ≡ exporting.put_each time flow.now (in_use.links_of_exporter exporter.now number)
+        links.old.items) }
     ensures err { IfErr result (λ e. e ≡ fault_at 900 places.None) }
 {
     if exporter.parallel() {
@@ -125,7 +127,8 @@ fn export_at(
     flow: &Record,
 ) -> Result<(), Fault>
     ensures ok { OnOk result (links.new.items
-        ≡ exporting.put_each time flow.now (in_use.used_at net.now chosen.now place) links.old.items) }
+        ≡ exporting.put_each time flow.now (in_use.used_at net.now chosen.now place)
+        links.old.items) }
     ensures err { IfErr result (λ e. e ≡ fault_at 900 places.None) }
 {
     match net.exporters().get(place) {
@@ -144,7 +147,8 @@ fn export_all(
     flow: &Record,
 ) -> Result<(), Fault>
     ensures ok { OnOk result (links.new.items
-        ≡ exporting.put_each time flow.now (in_use.links_used net.now chosen.now exporters.now) links.old.items) }
+        ≡ exporting.put_each time flow.now (in_use.links_used net.now chosen.now exporters.now)
+        links.old.items) }
     ensures err { IfErr result (λ e. e ≡ fault_at 900 places.None) }
 {
     for exporter in exporters {
@@ -163,7 +167,8 @@ impl Contents {
         exporters: &[usize],
         flow: &Record,
     ) -> Result<(), Fault>
-        ensures ok { OnOk result (self.new ≡ exporting.after_send net.now exporters.now flow.now self.old) }
+        ensures ok { OnOk result (self.new ≡ exporting.after_send net.now exporters.now flow.now
+            self.old) }
         ensures err { IfErr result (λ e. e ≡ fault_at 900 places.None) }
     {
         let time = self.second;

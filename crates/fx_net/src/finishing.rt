@@ -12,7 +12,8 @@ use fx_link::{Link, Links};
 /// All records that wait on these links have their messages, which are put out, link by link.
 fn finish_all<L: Links>(lines: &mut Vec<Link>, time: u32, links: &mut L) -> Result<(), Fault>
     ensures ok { OnOk result (lines.new.items ≡ map (ongoing.after_finish time) lines.old.items) }
-    ensures put { OnOk result (finishing.PutsAll (L.put_on links.old) (L.put_on links.new) time lines.old.items) }
+    ensures put { OnOk result (finishing.PutsAll (L.put_on links.old) (L.put_on links.new) time
+        lines.old.items) }
     ensures going { OnOk result (L.failed links.old ≡ false → L.failed links.new ≡ false) }
     ensures err { IfErr result (λ e. (e ≡ fault_at 900 places.None)
         ⊎ ((e ≡ fault_at 902 places.None) × (L.failed links.new ≡ true))) }
@@ -30,7 +31,8 @@ impl Contents {
     /// Fails with 900, at no place, for want of memory, and as the links' octets are put out.
     pub(crate) fn finish<L: Links>(&mut self, links: &mut L) -> Result<(), Fault>
         ensures ok { OnOk result (self.new ≡ finishing.after_finishing self.old) }
-        ensures put { OnOk result (finishing.PutsAll (L.put_on links.old) (L.put_on links.new) self.old.second self.old.links) }
+        ensures put { OnOk result (finishing.PutsAll (L.put_on links.old) (L.put_on links.new)
+            self.old.second self.old.links) }
         ensures going { OnOk result (L.failed links.old ≡ false → L.failed links.new ≡ false) }
         ensures err { IfErr result (λ e. (e ≡ fault_at 900 places.None)
             ⊎ ((e ≡ fault_at 902 places.None) × (L.failed links.new ≡ true))) }

@@ -10,8 +10,8 @@ use crate::holding::count_at;
 use crate::store::Store;
 use fx_base::{Counts, Fault};
 use fx_layout::Key;
-use fx_tables::{Net, Record};
 use fx_store::FlowStore;
+use fx_tables::{Net, Record};
 
 /// A record that leaves the holder at a place of the network's table.
 #[derive(Drop)]

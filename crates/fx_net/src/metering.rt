@@ -25,7 +25,8 @@ impl Contents {
         met: &mut Vec<Occurrence>,
     ) -> Result<(), Fault>
         ensures ok { OnOk result (self.new
-            ≡ taking.after_taking net.now counts (metered net.now fields.now crossing.now) self.old) }
+            ≡ taking.after_taking net.now counts (metered net.now fields.now crossing.now)
+            self.old) }
         ensures err { IfErr result (λ e. e ≡ fault_at 900 places.None) }
     {
         met.clear();

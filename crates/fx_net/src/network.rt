@@ -18,9 +18,9 @@ use fx_base::{Counts, Fault, Source};
 use fx_boxes::Fields;
 use fx_collect::Totals;
 use fx_layout::Seed;
-use fx_tables::{Class, Occurrence, Packet};
 use fx_pcap::{Capture, Frame};
 use fx_plan::Plan;
+use fx_tables::{Class, Occurrence, Packet};
 use fx_traffic::Traffic;
 use std::alloc::Global;
 use std::marker::Model;
@@ -86,7 +86,12 @@ impl<'a> Network<'a> {
         plan: &'a Plan,
         traffic: &'a Traffic,
     ) -> Result<Network<'a>, Fault>
-        ensures ok { IfOk result (λ n. n ≡ record { network = plan.now; classes = traffic.now; contents = opening.opened plan.now; fault = None }) }
+        ensures ok { IfOk result (λ n. n ≡ record {
+          network = plan.now;
+          classes = traffic.now;
+          contents = opening.opened plan.now;
+          fault = None;
+        }) }
         ensures err { IfErr result (λ e. e ≡ fault_at 900 places.None) }
     {
         Ok(Network {
@@ -109,7 +114,8 @@ impl<'a> Network<'a> {
     ) -> Result<(), Stop>
         ensures ok { OnOk result (self.new ≡ record self.old {
           contents = doings.after_packet (net_of self.old.network)
-              self.old.classes (running.packet_of (captures.seen_of frame.now) class path) frame.now.second self.old.contents;
+              self.old.classes (running.packet_of (captures.seen_of frame.now) class path)
+              frame.now.second self.old.contents;
         }) }
         ensures frame { doings.IsFrame (running.packet_of (captures.seen_of frame.now) class path)
             (captures.seen_of frame.now) }
@@ -140,7 +146,8 @@ impl<'a> Network<'a> {
         ensures read { IfOk result (λ there. there ≡ true
             → doings.Reads (net_of self.old.network) self.old.classes action.Next capture.now.seen
             self.old.contents self.new.contents) }
-        ensures none { IfOk result (λ there. there ≡ false → running.IsOfNone self.old.classes capture.now.seen) }
+        ensures none { IfOk result (λ there. there ≡ false
+            → running.IsOfNone self.old.classes capture.now.seen) }
         ensures rest { OnOk result (self.new ≡ record self.old { contents = self.new.contents }) }
         ensures err { IfErr result (λ s. s ≡ stop.Bare 900) }
     {

@@ -16,8 +16,8 @@ use crate::stop::Stop;
 use fx_base::{Fault, Line, Source, numbered};
 use fx_boxes::Fields;
 use fx_link::Links;
-use fx_tables::{Class, HolderName, Occurrence};
 use fx_pcap::Capture;
+use fx_tables::{Class, HolderName, Occurrence};
 
 /// Whether there is a path of this number, from 1, in a class that holds these fields.
 fn has_path(class: &Class, fields: &Fields, path: u64) -> bool
@@ -56,7 +56,8 @@ impl<'a> Network<'a> {
             self.old.contents self.new.contents) }
         ensures rest { OnOk result (self.new ≡ record self.old { contents = self.new.contents }) }
         ensures err { IfErr result (λ s. (s ≡ stop.Bare 900)
-            ⊎ running.RefusesAction self.old capture.old capture.new line action.Next (running.fault_of s)) }
+            ⊎ running.RefusesAction self.old capture.old capture.new line action.Next
+            (running.fault_of s)) }
     {
         if !capture.advance()? {
             return Err(Stop::Line { number: 802, line });
@@ -77,11 +78,13 @@ impl<'a> Network<'a> {
         line: u64,
     ) -> Result<(), Stop>
         ensures ok { OnOk result (captures.AtFrame capture.old capture.new
-            × doings.Reads (net_of self.old.network) self.old.classes (action.NextOf class path) capture.new.seen
+            × doings.Reads (net_of self.old.network) self.old.classes (action.NextOf class path)
+            capture.new.seen
             self.old.contents self.new.contents) }
         ensures rest { OnOk result (self.new ≡ record self.old { contents = self.new.contents }) }
         ensures err { IfErr result (λ s. (s ≡ stop.Bare 900)
-            ⊎ running.RefusesAction self.old capture.old capture.new line (action.NextOf class path) (running.fault_of s)) }
+            ⊎ running.RefusesAction self.old capture.old capture.new line (action.NextOf class path)
+            (running.fault_of s)) }
     {
         if !capture.advance()? {
             return Err(Stop::Line { number: 802, line });
@@ -101,7 +104,8 @@ impl<'a> Network<'a> {
 
     /// The record of the least key leaves a holder.
     fn expire(&mut self, name: HolderName, line: u64) -> Result<(), Stop>
-        ensures ok { OnOk result (doings.LeastLeaves (net_of self.old.network) name self.old.contents self.new.contents) }
+        ensures ok { OnOk result (doings.LeastLeaves (net_of self.old.network) name
+            self.old.contents self.new.contents) }
         ensures rest { OnOk result (self.new ≡ record self.old { contents = self.new.contents }) }
         ensures err { IfErr result (λ s. (s ≡ stop.Bare 900)
             ⊎ ((s ≡ stop.Line 802 line) × running.HoldsNothing self.old name)) }
@@ -118,7 +122,8 @@ impl<'a> Network<'a> {
 
     /// So many octets of a link reach its end, and the records that they complete are handled.
     fn carry(&mut self, link: u64, octets: u64, line: u64) -> Result<(), Stop>
-        ensures ok { OnOk result (doings.CarriesOn (net_of self.old.network) link octets self.old.contents self.new.contents) }
+        ensures ok { OnOk result (doings.CarriesOn (net_of self.old.network) link octets
+            self.old.contents self.new.contents) }
         ensures rest { OnOk result (self.new ≡ record self.old { contents = self.new.contents }) }
         ensures err { IfErr result (λ s. (s ≡ stop.Bare 900)
             ⊎ ((s ≡ stop.Line 802 line) × running.HasTooFew self.old.contents link octets)) }
@@ -148,10 +153,12 @@ impl<'a> Network<'a> {
         destination: u64,
         line: u64,
     ) -> Result<(), Stop>
-        ensures ok { OnOk result (doings.Uses self.old.network device exporter destination self.old.contents self.new.contents) }
+        ensures ok { OnOk result (doings.Uses self.old.network device exporter destination
+            self.old.contents self.new.contents) }
         ensures rest { OnOk result (self.new ≡ record self.old { contents = self.new.contents }) }
         ensures err { IfErr result (λ s. (s ≡ stop.Bare 900)
-            ⊎ ((s ≡ stop.Line 802 line) × running.HasNoDestination self.old.network device exporter destination)) }
+            ⊎ ((s ≡ stop.Line 802 line) × running.HasNoDestination self.old.network device exporter
+            destination)) }
     {
         let Ok(place) = self.plan.exporter_place(self.alloc, device, exporter) else {
             return Err(Stop::Bare { number: 900 });
@@ -178,7 +185,8 @@ impl<'a> Network<'a> {
     ) -> Result<(), Stop>
         ensures ok { OnOk result (running.Acts asked self.old self.new capture.old capture.new) }
         ensures err { IfErr result (λ s. (s ≡ stop.Bare 900)
-            ⊎ running.RefusesAction self.old capture.old capture.new line asked (running.fault_of s)) }
+            ⊎ running.RefusesAction self.old capture.old capture.new line asked
+            (running.fault_of s)) }
     {
         match asked {
             Action::Next => self.read_next(capture, line),
@@ -214,11 +222,14 @@ impl<'a> Network<'a> {
         capture: &mut Capture<R>,
         links: &mut L,
     ) -> Result<(), Stop>
-        ensures ok { OnOk result (running.Obeys line.now.bytes.now self.old self.new capture.old capture.new
+        ensures ok { OnOk result (running.Obeys line.now.bytes.now self.old self.new capture.old
+            capture.new
             (L.put_on links.old) (L.put_on links.new)) }
         ensures going { OnOk result (L.failed links.old ≡ false → L.failed links.new ≡ false) }
-        ensures err { IfErr result (λ s. running.FailsOutside (L.failed links.new) (running.fault_of s)
-            ⊎ running.RefusesLine line.now.bytes.now line.now.number self.old capture.old capture.new
+        ensures err { IfErr result (λ s. running.FailsOutside (L.failed links.new)
+            (running.fault_of s)
+            ⊎ running.RefusesLine line.now.bytes.now line.now.number self.old capture.old
+            capture.new
             (running.fault_of s)) }
     {
         let Some(asked) = read_action(line.bytes) else {
@@ -247,11 +258,14 @@ impl<'a> Network<'a> {
         capture: &mut Capture<R>,
         links: &mut L,
     ) -> Result<(), Fault>
-        ensures ok { OnOk result (running.Obeys line.now.bytes.now self.old self.new capture.old capture.new
+        ensures ok { OnOk result (running.Obeys line.now.bytes.now self.old self.new capture.old
+            capture.new
             (L.put_on links.old) (L.put_on links.new)) }
         ensures going { OnOk result (L.failed links.old ≡ false → L.failed links.new ≡ false) }
-        ensures err { self.old.fault ≡ None → IfErr result (λ e. running.FailsOutside (L.failed links.new) e
-            ⊎ running.RefusesLine line.now.bytes.now line.now.number self.old capture.old capture.new e) }
+        ensures err { self.old.fault ≡ None → IfErr result
+            (λ e. running.FailsOutside (L.failed links.new) e
+            ⊎ running.RefusesLine line.now.bytes.now line.now.number self.old capture.old
+            capture.new e) }
         ensures stopped { IfErr result (λ e. self.new.fault ≡ Some e) }
         ensures again { running.AnswersAgain self.old self.new result }
     {

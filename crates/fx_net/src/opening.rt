@@ -13,8 +13,8 @@ use fx_collect::Totals;
 use fx_config::{Cache, CacheKind};
 use fx_layout::Seed;
 use fx_link::Link;
-use fx_tables::{Exporter, Holder, Net};
 use fx_plan::Plan;
+use fx_tables::{Exporter, Holder, Net};
 use fx_topology::{Network, NetworkDevice};
 use std::alloc::Global;
 
@@ -36,7 +36,8 @@ fn push_caches(
     stores: &mut Vec<Option<Store>>,
     caches: &[Cache],
 ) -> Result<(), Fault>
-    ensures ok { OnOk result (stores.new.items ≡ stores.old.items ++ map opening.store_of caches.now) }
+    ensures ok { OnOk result (stores.new.items
+        ≡ stores.old.items ++ map opening.store_of caches.now) }
     ensures err { IfErr result (λ e. e ≡ fault_at 900 places.None) }
 {
     for cache in caches {
@@ -69,7 +70,8 @@ fn push_aggregations(
     stores: &mut Vec<Option<Store>>,
     aggregations: &[Holder],
 ) -> Result<(), Fault>
-    ensures ok { OnOk result (stores.new.items ≡ stores.old.items ++ opening.aggregation_stores aggregations.now) }
+    ensures ok { OnOk result (stores.new.items
+        ≡ stores.old.items ++ opening.aggregation_stores aggregations.now) }
     ensures err { IfErr result (λ e. e ≡ fault_at 900 places.None) }
 {
     for _aggregation in aggregations {

@@ -22,12 +22,14 @@ impl<'a> Network<'a> {
         links: &mut L,
     ) -> Result<(), Fault>
         requires { self.old.fault ≡ None }
-        ensures ok { OnOk result (running.ObeysAll self.old self.new capture.old capture.new schedule.old schedule.new
+        ensures ok { OnOk result (running.ObeysAll self.old self.new capture.old capture.new
+            schedule.old schedule.new
             (L.put_on links.old) (L.put_on links.new)) }
         ensures faultless { OnOk result (self.new.fault ≡ None) }
         ensures going { OnOk result (L.failed links.old ≡ false → L.failed links.new ≡ false) }
         ensures err { IfErr result (λ e. running.FailsOutside (L.failed links.new) e
-            ⊎ running.RefusesRun self.old capture.old capture.new schedule.old schedule.new (L.put_on links.old) e) }
+            ⊎ running.RefusesRun self.old capture.old capture.new schedule.old schedule.new
+            (L.put_on links.old) e) }
     {
         while schedule.advance()? {
             self.obey(&schedule.line(), capture, links)?;
@@ -43,11 +45,13 @@ impl<'a> Network<'a> {
         links: &mut L,
     ) -> Result<(), Fault>
         requires { self.old.fault ≡ None }
-        ensures ok { OnOk result (running.Runs self.old self.new capture.old capture.new schedule.old schedule.new
+        ensures ok { OnOk result (running.Runs self.old self.new capture.old capture.new
+            schedule.old schedule.new
             (L.put_on links.old) (L.put_on links.new)) }
         ensures going { OnOk result (L.failed links.old ≡ false → L.failed links.new ≡ false) }
         ensures err { IfErr result (λ e. running.FailsOutside (L.failed links.new) e
-            ⊎ running.RefusesRun self.old capture.old capture.new schedule.old schedule.new (L.put_on links.old) e) }
+            ⊎ running.RefusesRun self.old capture.old capture.new schedule.old schedule.new
+            (L.put_on links.old) e) }
     {
         self.obey_all(capture, schedule, links)?;
         self.close(capture, links)
@@ -75,7 +79,8 @@ pub fn run<R: Source, Q: Source, L: Links>(
     schedule: &mut LineReader<Q>,
     links: &mut L,
 ) -> Result<Totals, Fault>
-    ensures ok { IfOk result (λ totals. running.RunsTo (running.begun plan.now traffic.now) capture.old capture.new
+    ensures ok { IfOk result (λ totals. running.RunsTo (running.begun plan.now traffic.now)
+        capture.old capture.new
         schedule.old schedule.new (L.put_on links.old) (L.put_on links.new) totals) }
     ensures going { OnOk result (L.failed links.old ≡ false → L.failed links.new ≡ false) }
     ensures err { IfErr result (λ e. running.FailsOutside (L.failed links.new) e

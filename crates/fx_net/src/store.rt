@@ -67,8 +67,10 @@ impl FlowStore for Store {
     /// Adds the counts at the key. Where there is a bound, the store is full and the key is new, the least
     /// recently added-to entry leaves.
     fn add(&mut self, key: Key, counts: Counts) -> Result<Option<(Key, Counts)>, Fault>
-        ensures ok { IfOk result (λ left. Adds (flows_in self.old) (flows_in self.new) key counts left) }
-        ensures err { IfErr result (λ e. (e ≡ fault_at 900 places.None) × (flows_in self.new ≡ flows_in self.old)) }
+        ensures ok { IfOk result (λ left. Adds (flows_in self.old) (flows_in self.new) key counts
+            left) }
+        ensures err { IfErr result (λ e. (e ≡ fault_at 900 places.None)
+            × (flows_in self.new ≡ flows_in self.old)) }
         ensures held { IsSome (map.get (flows_in self.old) key) → IsOk result }
         ensures stored { OnOk result (self.new ≡ with_counts self.old key counts) }
         ensures leaves { IfOk result (λ left. left ≡ makes_room self.old key counts) }

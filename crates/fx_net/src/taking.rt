@@ -13,8 +13,8 @@ use crate::store::Store;
 use fx_base::{Counts, Fault};
 use fx_boxes::Fields;
 use fx_layout::Key;
-use fx_tables::{Holding, Net, Occurrence, Record};
 use fx_store::FlowStore;
+use fx_tables::{Holding, Net, Occurrence, Record};
 use std::alloc::Global;
 
 /// A record that leaves a holder comes last.
@@ -43,7 +43,8 @@ fn add(
     counts: Counts,
 ) -> Result<(), Fault>
     ensures ok { OnOk result (record { stores = stores.new.items; left = left.new.items }
-        ≡ taking.with_holding counts holding (record { stores = stores.old.items; left = left.old.items })) }
+        ≡ taking.with_holding counts holding
+        (record { stores = stores.old.items; left = left.old.items })) }
     ensures err { IfErr result (λ e. e ≡ fault_at 900 places.None) }
 {
     let Some(store) = stores.get_mut(holding.holder) else {
@@ -103,7 +104,8 @@ fn take(
     counts: Counts,
 ) -> Result<(), Fault>
     ensures ok { OnOk result (record { stores = stores.new.items; left = leavers.new.left.items }
-        ≡ taking.with_holding counts holding (record { stores = stores.old.items; left = leavers.old.left.items })) }
+        ≡ taking.with_holding counts holding
+        (record { stores = stores.old.items; left = leavers.old.left.items })) }
     ensures passing { OnOk result (leavers.new.passing.items
         ≡ leavers.old.passing.items ++ taking.leaves_at_once stores.old.items counts holding) }
     ensures err { IfErr result (λ e. e ≡ fault_at 900 places.None) }
@@ -120,9 +122,11 @@ fn take_all(
     counts: Counts,
 ) -> Result<(), Fault>
     ensures ok { OnOk result (record { stores = stores.new.items; left = leavers.new.left.items }
-        ≡ taking.with_holdings counts holdings.items (record { stores = stores.old.items; left = leavers.old.left.items })) }
+        ≡ taking.with_holdings counts holdings.items
+        (record { stores = stores.old.items; left = leavers.old.left.items })) }
     ensures passing { OnOk result (leavers.new.passing.items
-        ≡ leavers.old.passing.items ++ taking.all_leave_at_once stores.old.items counts holdings.items) }
+        ≡ leavers.old.passing.items ++ taking.all_leave_at_once stores.old.items counts
+        holdings.items) }
     ensures err { IfErr result (λ e. e ≡ fault_at 900 places.None) }
 {
     for holding in holdings {
@@ -144,7 +148,8 @@ fn meet_all(
         ≡ taking.with_holdings counts (met_holdings net.now.holders fields.now met.now)
         (record { stores = stores.old.items; left = leavers.old.left.items })) }
     ensures passing { OnOk result (leavers.new.passing.items ≡ leavers.old.passing.items
-        ++ taking.all_leave_at_once stores.old.items counts (met_holdings net.now.holders fields.now met.now)) }
+        ++ taking.all_leave_at_once stores.old.items counts
+        (met_holdings net.now.holders fields.now met.now)) }
     ensures err { IfErr result (λ e. e ≡ fault_at 900 places.None) }
 {
     for occurrence in met {
@@ -174,7 +179,8 @@ impl Contents {
         holdings: Vec<Holding>,
         counts: Counts,
     ) -> Result<(), Fault>
-        ensures ok { OnOk result (self.new ≡ taking.after_taking net.now counts holdings.items self.old) }
+        ensures ok { OnOk result (self.new ≡ taking.after_taking net.now counts holdings.items
+            self.old) }
         ensures err { IfErr result (λ e. e ≡ fault_at 900 places.None) }
     {
         let mut leavers = Leavers::new(alloc);
@@ -195,7 +201,8 @@ impl Contents {
         counts: Counts,
     ) -> Result<(), Fault>
         ensures ok { OnOk result (self.new
-            ≡ taking.after_taking net.now counts (met_holdings net.now.holders fields.now met.now) self.old) }
+            ≡ taking.after_taking net.now counts (met_holdings net.now.holders fields.now met.now)
+            self.old) }
         ensures err { IfErr result (λ e. e ≡ fault_at 900 places.None) }
     {
         let mut leavers = Leavers::new(alloc);

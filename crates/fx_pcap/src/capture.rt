@@ -60,7 +60,18 @@ impl<R: Source> Model for Capture<R> {
 
     ghost Value = { Reading };
 
-    ghost view = { λ c. reading_of c.window (record { format = c.format; place = c.place; taken = c.taken; skipped = c.skipped; fields = c.fields; octets = c.octets; second = c.second; stopped = c.stopped }) };
+    ghost view = { λ c. reading_of c.window
+        (record {
+          format = c.format;
+          place = c.place;
+          taken = c.taken;
+          skipped = c.skipped;
+          fields =
+              c.fields;
+          octets = c.octets;
+          second = c.second;
+          stopped = c.stopped;
+        }) };
 
     ghost invariant = { λ c. IsReader c.window c.taken };
 }

@@ -12,14 +12,17 @@ pub record Label : Type 0 where
 abbrev pub device_labels : {X : Type 0} → (X → List ℕ) → List ℕ → List X → List Label
 device_labels name device things = map (λ thing. record { device = device; name = name thing }) things
 
+abbrev pub labels_of : {X : Type 0} → (NetworkDevice → List X) → (X → List ℕ) → List NetworkDevice → List Label
+labels_of things name devices = flat_map (λ x. device_labels name x.name (things x)) devices
+
 abbrev pub exporting_labels : List NetworkDevice → List Label
-exporting_labels devices = flat_map (λ x. device_labels (λ e. e.name) x.name x.config.exporting_processes) devices
+exporting_labels = labels_of (λ x. x.config.exporting_processes) (λ e. e.name)
 
 abbrev pub cache_labels : List NetworkDevice → List Label
-cache_labels devices = flat_map (λ x. device_labels (λ c. c.name) x.name x.config.caches) devices
+cache_labels = labels_of (λ x. x.config.caches) (λ c. c.name)
 
 abbrev pub collecting_labels : List NetworkDevice → List Label
-collecting_labels devices = flat_map (λ x. device_labels (λ p. p.name) x.name x.config.collecting_processes) devices
+collecting_labels = labels_of (λ x. x.config.collecting_processes) (λ p. p.name)
 
 abbrev pub is_label : List ℕ → List ℕ → Label → Bool
 is_label device name label = bytes_eq label.device device && bytes_eq label.name name

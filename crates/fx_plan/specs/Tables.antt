@@ -46,11 +46,14 @@ exporters_of links devices = flat_map (λ x. map (exporter_of links x.name) x.co
 
 -- ---- what holds records: all caches, then all aggregations, with the places of the exporting processes that they name
 
+abbrev pub holder_with : List Label → List ℕ → Layout → List (List ℕ) → machine.Holder
+holder_with exporting device layout names = record { layout = layout; exporters = map (place exporting device) names }
+
 abbrev pub cache_holder : List Label → List ℕ → Cache → machine.Holder
-cache_holder exporting device cache = record { layout = cache.layout; exporters = map (place exporting device) cache.exporting_processes }
+cache_holder exporting device cache = holder_with exporting device cache.layout cache.exporting_processes
 
 abbrev pub aggregation_holder : List Label → List ℕ → Aggregation → machine.Holder
-aggregation_holder exporting device aggregation = record { layout = aggregation.key; exporters = map (place exporting device) aggregation.exporting_processes }
+aggregation_holder exporting device aggregation = holder_with exporting device aggregation.key aggregation.exporting_processes
 
 -- what holds the records of these processes' aggregations
 abbrev pub held_by : List Label → List ℕ → List CollectingProcess → List machine.Holder

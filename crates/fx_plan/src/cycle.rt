@@ -23,7 +23,8 @@ fn push_numbers(
     device: usize,
     count: usize,
 ) -> Result<(), AllocError>
-    ensures { OnOk result (numbers.new.items ≡ numbers.old.items ++ cycles.numbers_on device count) }
+    ensures { OnOk result (numbers.new.items
+        ≡ numbers.old.items ++ cycles.numbers_on device count) }
 {
     for n in 0..count {
         numbers.push(ProcessNumber {
@@ -51,7 +52,8 @@ fn process_numbers(
 
 /// The places of the processes that haven't come.
 fn places_left(alloc: Global, come: &[bool]) -> Result<Vec<usize>, AllocError>
-    ensures { IfOk result (λ v. v.items ≡ filter (λ place. not (slice_index_or come.now place false)) (range_with_len 0 (length come.now))) }
+    ensures { IfOk result (λ v. v.items ≡ filter
+        (λ place. not (slice_index_or come.now place false)) (range_with_len 0 (length come.now))) }
 {
     let mut places = Vec::new(alloc);
     for (place, there) in come.iter().enumerate() {
@@ -85,7 +87,8 @@ fn numbers_at(
 }
 
 fn push_number(text: &mut String, number: ProcessNumber) -> Result<(), AllocError>
-    ensures { OnOk result (string_bytes text.new ≡ string_bytes text.old ++ cycles.number_text number) }
+    ensures { OnOk result (string_bytes text.new
+        ≡ string_bytes text.old ++ cycles.number_text number) }
 {
     write!(text, "{}.{}", number.device, number.process)
 }
@@ -107,7 +110,9 @@ fn numbers_text(alloc: Global, numbers: &[ProcessNumber]) -> Result<String, Allo
 
 /// The numbers of the processes that haven't come, separated by single spaces.
 fn cycle_text(alloc: Global, devices: &[NetworkDevice], come: &[bool]) -> Result<String, AllocError>
-    ensures { IfOk result (λ s. string_bytes s ≡ cycles.stuck_text devices.now (filter (λ place. not (slice_index_or come.now place false)) (range_with_len 0 (length come.now)))) }
+    ensures { IfOk result (λ s. string_bytes s
+        ≡ cycles.stuck_text devices.now (filter (λ place. not (slice_index_or come.now place false))
+        (range_with_len 0 (length come.now)))) }
 {
     let places = places_left(alloc, come)?;
     let numbers = process_numbers(alloc, devices)?;
@@ -118,7 +123,10 @@ fn cycle_text(alloc: Global, devices: &[NetworkDevice], come: &[bool]) -> Result
 /// The refusal (204) of a network of these devices whose processes don't all come, or want of memory (900) for its
 /// text.
 pub fn cycle(alloc: Global, devices: &[NetworkDevice], come: &[bool]) -> Fault
-    ensures { (result ≡ fault_at 900 places.None) ⊎ ((result.number ≡ 204) × cycles.IsText result.place (cycles.stuck_text devices.now (filter (λ place. not (slice_index_or come.now place false)) (range_with_len 0 (length come.now))))) }
+    ensures { (result ≡ fault_at 900 places.None)
+        ⊎ ((result.number ≡ 204) × cycles.IsText result.place
+        (cycles.stuck_text devices.now (filter (λ place. not (slice_index_or come.now place false))
+        (range_with_len 0 (length come.now))))) }
 {
     match cycle_text(alloc, devices, come) {
         Ok(text) => Fault {

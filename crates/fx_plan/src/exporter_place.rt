@@ -2,9 +2,10 @@
 ghost use Rattle.std.specs.Prelude.{◌≡◌, IfOk};
 ghost use Rattle.fx_plan.specs.ExporterPlaces.{exporter_place};
 
-use crate::labels::{exporting_labels, place};
+use crate::labels::{labels_of, place};
 use crate::plan::Plan;
 use fx_base::numbered;
+use fx_config::ExportingProcess;
 use std::alloc::{AllocError, Global};
 
 impl Plan {
@@ -26,7 +27,7 @@ impl Plan {
         let Some(process) = numbered(processes, exporter) else {
             return Ok(None);
         };
-        let labels = exporting_labels(alloc, devices)?;
+        let labels = labels_of::<ExportingProcess>(alloc, devices)?;
         Ok(Some(place(&labels, &named.name, &process.name)))
     }
 }

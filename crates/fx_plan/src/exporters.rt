@@ -18,7 +18,8 @@ fn link_places(
     process: &Name,
     destinations: &[Destination],
 ) -> Result<Vec<Option<usize>>, AllocError>
-    ensures { IfOk result (λ v. v.items ≡ map (λ d. position (leads_from device.now process.now d.name) links.now) destinations.now) }
+    ensures { IfOk result (λ v. v.items ≡ map
+        (λ d. position (leads_from device.now process.now d.name) links.now) destinations.now) }
 {
     let mut places = Vec::new(alloc);
     for destination in destinations {
@@ -59,7 +60,8 @@ fn push_exporters(
     device: &Name,
     processes: &[ExportingProcess],
 ) -> Result<(), AllocError>
-    ensures { OnOk result (exporters.new.items ≡ exporters.old.items ++ map (tables.exporter_of links.now device.now) processes.now) }
+    ensures { OnOk result (exporters.new.items
+        ≡ exporters.old.items ++ map (tables.exporter_of links.now device.now) processes.now) }
 {
     for process in processes {
         let exporter = exporter_of(alloc, links, device, process)?;

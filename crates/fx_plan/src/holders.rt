@@ -5,22 +5,25 @@ ghost use Rattle.fx_plan.specs.Tables as tables;
 
 use crate::labels::{Labels, places};
 use fx_base::Name;
-use fx_config::{Aggregation, Cache};
+use fx_config::Cache;
+use fx_layout::Layout;
 use fx_tables::Holder;
 use fx_topology::NetworkDevice;
 use std::alloc::{AllocError, Global};
 
-fn cache_holder(
+/// What holds records of the layout, which go to the exporting processes of these names.
+pub fn holder_with(
     alloc: Global,
     exporting: &Labels<'_>,
     device: &Name,
-    cache: &Cache,
+    layout: &Layout,
+    names: &[Name],
 ) -> Result<Holder, AllocError>
-    ensures { IfOk result (λ h. h ≡ tables.cache_holder exporting.now device.now cache.now) }
+    ensures { let holder = tables.holder_with exporting.now device.now layout.now names.now in
+        IfOk result (λ h. h ≡ holder) }
 {
-    let named = cache.exporting_processes.as_slice();
-    let exporters = places(alloc, exporting, device, named)?;
-    Ok(Holder::new(cache.layout.copy(), exporters))
+    let exporters = places(alloc, exporting, device, names)?;
+    Ok(Holder::new(layout.copy(), exporters))
 }
 
 /// The caches of a device come last.
@@ -31,11 +34,12 @@ fn push_caches(
     device: &Name,
     caches: &[Cache],
 ) -> Result<(), AllocError>
-    ensures { OnOk result (holders.new.items ≡ holders.old.items ++ map (tables.cache_holder exporting.now device.now) caches.now) }
+    ensures { OnOk result (holders.new.items
+        ≡ holders.old.items ++ map (tables.cache_holder exporting.now device.now) caches.now) }
 {
     for cache in caches {
-        let holder = cache_holder(alloc, exporting, device, cache)?;
-        holders.push(holder)?;
+        let names = cache.exporting_processes.as_slice();
+        holders.push(holder_with(alloc, exporting, device, &cache.layout, names)?)?;
     }
     Ok(())
 }
@@ -54,17 +58,4 @@ pub fn cache_holders(
         push_caches(alloc, &mut holders, exporting, &device.name, caches)?;
     }
     Ok(holders)
-}
-
-pub fn aggregation_holder(
-    alloc: Global,
-    exporting: &Labels<'_>,
-    device: &Name,
-    aggregation: &Aggregation,
-) -> Result<Holder, AllocError>
-    ensures { IfOk result (λ h. h ≡ tables.aggregation_holder exporting.now device.now aggregation.now) }
-{
-    let named = aggregation.exporting_processes.as_slice();
-    let exporters = places(alloc, exporting, device, named)?;
-    Ok(Holder::new(aggregation.key.copy(), exporters))
 }

@@ -1,13 +1,50 @@
 //! How the things of a network's devices are named.
-ghost use Rattle.std.specs.Prelude.{◌≡◌, ◌++◌, OnOk, IfOk, length, map};
+ghost use Rattle.std.specs.Prelude.{◌≡◌, ◌++◌, List, OnOk, IfOk, length, map};
 ghost use Rattle.std.specs.List.{position};
 ghost use Rattle.fx_plan.specs.Labels as naming;
 
 use fx_base::Name;
-use fx_walk::Named;
+use fx_config::{Cache, CollectingProcess, ExportingProcess};
 use fx_topology::NetworkDevice;
+use fx_walk::Named;
 use std::alloc::{AllocError, Global};
 use std::marker::Model;
+
+/// What a device has a list of.
+pub trait Thing: Named {
+    ghost use Rattle.fx_topology.specs.declared.network_device.NetworkDevice.{NetworkDevice};
+
+    /// Those that a device has, in document order.
+    ghost things: { NetworkDevice → List Self };
+
+    /// Those that a device has, in document order.
+    fn things(device: &NetworkDevice) -> &[Self]
+        ensures { result.now ≡ things device.now };
+}
+
+impl Thing for ExportingProcess {
+    ghost things = { λ device. device.config.exporting_processes };
+
+    fn things(device: &NetworkDevice) -> &[ExportingProcess] {
+        device.config.exporting_processes.as_slice()
+    }
+}
+
+impl Thing for Cache {
+    ghost things = { λ device. device.config.caches };
+
+    fn things(device: &NetworkDevice) -> &[Cache] {
+        device.config.caches.as_slice()
+    }
+}
+
+impl Thing for CollectingProcess {
+    ghost things = { λ device. device.config.collecting_processes };
+
+    fn things(device: &NetworkDevice) -> &[CollectingProcess] {
+        device.config.collecting_processes.as_slice()
+    }
+}
 
 /// A thing's device and its own name.
 #[derive(Drop)]
@@ -39,7 +76,8 @@ fn push_labels<'n, T: Named>(
     device: &'n Name,
     things: &'n [T],
 ) -> Result<(), AllocError>
-    ensures { OnOk result (labels.new.items ≡ labels.old.items ++ naming.device_labels T.name device.now things.now) }
+    ensures { OnOk result (labels.new.items
+        ≡ labels.old.items ++ naming.device_labels T.name device.now things.now) }
 {
     for thing in things {
         let name = thing.name();
@@ -80,7 +118,8 @@ impl<'n> Model for Labels<'n> {
 
     ghost view = { λ l. l.labels.items };
 
-    ghost invariant = { λ l. naming.AreGrouped 0 l.labels.items l.groups.items (length l.labels.items) };
+    ghost invariant = { λ l. naming.AreGrouped 0 l.labels.items l.groups.items
+        (length l.labels.items) };
 }
 
 /// The labels of a device's things come last, as a group.
@@ -90,8 +129,11 @@ fn push_group<'n, T: Named>(
     device: &'n Name,
     things: &'n [T],
 ) -> Result<(), AllocError>
-    ensures labels { OnOk result (labels.new.items ≡ labels.old.items ++ naming.device_labels T.name device.now things.now) }
-    ensures groups { OnOk result (naming.AreGrouped 0 labels.old.items groups.old.items (length labels.old.items) → naming.AreGrouped 0 labels.new.items groups.new.items (length labels.new.items)) }
+    ensures labels { OnOk result (labels.new.items
+        ≡ labels.old.items ++ naming.device_labels T.name device.now things.now) }
+    ensures groups { OnOk result (naming.AreGrouped 0 labels.old.items groups.old.items
+        (length labels.old.items) → naming.AreGrouped 0 labels.new.items groups.new.items
+        (length labels.new.items)) }
 {
     let start = labels.len();
     push_labels(labels, device, things)?;
@@ -100,49 +142,17 @@ fn push_group<'n, T: Named>(
     Ok(())
 }
 
-/// The labels of all exporting processes, in document order.
-pub fn exporting_labels<'n>(
+/// The labels of all devices' things of a kind, in document order.
+pub fn labels_of<'n, T: Thing + 'n>(
     alloc: Global,
     devices: &'n [NetworkDevice],
 ) -> Result<Labels<'n>, AllocError>
-    ensures { IfOk result (λ v. v ≡ naming.exporting_labels devices.now) }
+    ensures { IfOk result (λ v. v ≡ naming.labels_of T.things T.name devices.now) }
 {
     let mut labels = Vec::new(alloc);
     let mut groups = Vec::new(alloc);
     for device in devices {
-        let things = device.config.exporting_processes.as_slice();
-        push_group(&mut labels, &mut groups, &device.name, things)?;
-    }
-    Ok(Labels { labels, groups })
-}
-
-/// The labels of all caches, in document order.
-pub fn cache_labels<'n>(
-    alloc: Global,
-    devices: &'n [NetworkDevice],
-) -> Result<Labels<'n>, AllocError>
-    ensures { IfOk result (λ v. v ≡ naming.cache_labels devices.now) }
-{
-    let mut labels = Vec::new(alloc);
-    let mut groups = Vec::new(alloc);
-    for device in devices {
-        let things = device.config.caches.as_slice();
-        push_group(&mut labels, &mut groups, &device.name, things)?;
-    }
-    Ok(Labels { labels, groups })
-}
-
-/// The labels of all collecting processes, in document order.
-pub fn collecting_labels<'n>(
-    alloc: Global,
-    devices: &'n [NetworkDevice],
-) -> Result<Labels<'n>, AllocError>
-    ensures { IfOk result (λ v. v ≡ naming.collecting_labels devices.now) }
-{
-    let mut labels = Vec::new(alloc);
-    let mut groups = Vec::new(alloc);
-    for device in devices {
-        let things = device.config.collecting_processes.as_slice();
+        let things = T::things(device);
         push_group(&mut labels, &mut groups, &device.name, things)?;
     }
     Ok(Labels { labels, groups })
@@ -177,7 +187,8 @@ pub fn places<T: Named>(
     device: &Name,
     things: &[T],
 ) -> Result<Vec<usize>, AllocError>
-    ensures { IfOk result (λ v. v.items ≡ map (λ t. naming.place labels.now device.now (T.name t)) things.now) }
+    ensures { IfOk result (λ v. v.items ≡ map (λ t. naming.place labels.now device.now (T.name t))
+        things.now) }
 {
     let mut places = Vec::new(alloc);
     for thing in things {

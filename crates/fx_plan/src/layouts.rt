@@ -24,9 +24,13 @@ fn position_of(known: &[Layout], layout: &Layout) -> Option<usize>
 /// Fails with 207 where there would be too many, and with 900 for want of memory.
 fn number_in(known: &mut Vec<Layout>, layout: &Layout) -> Result<usize, Fault>
     requires { length known.old.items ≤ layout_limit }
-    ensures known { IfOk result (λ n. (known.new.items ≡ layouts.with_layout known.old.items layout.now) × (slice_get known.new.items n ≡ Some layout.now)) }
+    ensures known { IfOk result (λ n. (known.new.items
+        ≡ layouts.with_layout known.old.items layout.now)
+        × (slice_get known.new.items n ≡ Some layout.now)) }
     ensures few { IfOk result (λ n. length known.new.items ≤ layout_limit) }
-    ensures err { IfErr result (λ e. (e ≡ fault_at 900 places.None) ⊎ ((e ≡ fault_at 207 places.None) × (layout_limit < length (layouts.with_layout known.old.items layout.now)))) }
+    ensures err { IfErr result (λ e. (e ≡ fault_at 900 places.None)
+        ⊎ ((e ≡ fault_at 207 places.None) × (layout_limit
+        < length (layouts.with_layout known.old.items layout.now)))) }
 {
     if let Some(number) = position_of(known.as_slice(), layout) {
         return Ok(number);
@@ -53,11 +57,14 @@ fn numbers_of(
     holders: &[Holder],
 ) -> Result<Vec<usize>, Fault>
     requires { length known.old.items ≤ layout_limit }
-    ensures known { IfOk result (λ v. known.new.items ≡ layouts.with_layouts known.old.items (layouts.held_layouts holders.now)) }
+    ensures known { IfOk result (λ v. known.new.items
+        ≡ layouts.with_layouts known.old.items (layouts.held_layouts holders.now)) }
     ensures numbers { IfOk result (λ v. layouts.AreNumbers known.new.items holders.now v.items) }
     ensures fits { IfOk result (λ v. (k : ℕ) → Fits (layout_of (slice_get holders.now k))) }
     ensures few { IfOk result (λ v. length known.new.items ≤ layout_limit) }
-    ensures err { IfErr result (λ e. (e ≡ fault_at 900 places.None) ⊎ ((e ≡ fault_at 207 places.None) × (layout_limit < length (layouts.with_layouts known.old.items (layouts.held_layouts holders.now))))) }
+    ensures err { IfErr result (λ e. (e ≡ fault_at 900 places.None)
+        ⊎ ((e ≡ fault_at 207 places.None) × (layout_limit
+        < length (layouts.with_layouts known.old.items (layouts.held_layouts holders.now))))) }
 {
     let mut numbers = Vec::new(alloc);
     for holder in holders {
@@ -83,10 +90,12 @@ pub struct Numbering {
 /// Fails with 207 where there are too many, and with 900 for want of memory.
 pub fn numbering_of(alloc: Global, net: &Net) -> Result<Numbering, Fault>
     ensures layouts { IfOk result (λ n. n.layouts.items ≡ layouts.layouts_of net.now) }
-    ensures numbers { IfOk result (λ n. layouts.AreNumbers n.layouts.items net.now.holders n.numbers.items) }
+    ensures numbers { IfOk result (λ n. layouts.AreNumbers n.layouts.items net.now.holders
+        n.numbers.items) }
     ensures fits { IfOk result (λ n. (k : ℕ) → Fits (layout_of (slice_get net.now.holders k))) }
     ensures few { IfOk result (λ n. length n.layouts.items ≤ layout_limit) }
-    ensures err { IfErr result (λ e. (e ≡ fault_at 900 places.None) ⊎ ((e ≡ fault_at 207 places.None) × (layout_limit < length (layouts.layouts_of net.now)))) }
+    ensures err { IfErr result (λ e. (e ≡ fault_at 900 places.None)
+        ⊎ ((e ≡ fault_at 207 places.None) × (layout_limit < length (layouts.layouts_of net.now)))) }
 {
     let mut layouts = Vec::new(alloc);
     let numbers = numbers_of(alloc, &mut layouts, net.holders())?;

@@ -14,13 +14,13 @@ ghost use Rattle.fx_plan.specs.Tables as tables;
 
 use crate::exporters::exporters_of;
 use crate::holders::cache_holders;
-use crate::labels::{cache_labels, collecting_labels, exporting_labels, place};
+use crate::labels::{labels_of, place};
 use crate::layouts::{Numbering, numbering_of};
 use crate::points::tables_of;
 use crate::processes::{link_ends, processes_in};
 use crate::ranks::{Ranks, ranks_of};
 use fx_base::{Fault, numbered};
-use fx_config::Device;
+use fx_config::{Cache, CollectingProcess, Device, ExportingProcess};
 use fx_layout::Layout;
 use fx_tables::Net;
 use fx_topology::{Network, read_network};
@@ -42,11 +42,11 @@ fn net_of(alloc: Global, network: &Network) -> Result<Net, AllocError>
     ensures { IfOk result (λ net. net ≡ tables.net_of network.now) }
 {
     let devices = network.devices.as_slice();
-    let caches = cache_labels(alloc, devices)?;
-    let collecting = collecting_labels(alloc, devices)?;
+    let caches = labels_of::<Cache>(alloc, devices)?;
+    let collecting = labels_of::<CollectingProcess>(alloc, devices)?;
     let tables = tables_of(alloc, &caches, &collecting, devices)?;
     let exporters = exporters_of(alloc, &network.links, devices)?;
-    let exporting = exporting_labels(alloc, devices)?;
+    let exporting = labels_of::<ExportingProcess>(alloc, devices)?;
     let mut holders = cache_holders(alloc, &exporting, devices)?;
     let processes = processes_in(alloc, &mut holders, &exporting, devices)?;
     let ends = link_ends(alloc, &collecting, network.links.as_slice())?;
@@ -89,7 +89,9 @@ impl Model for Plan {
 
     ghost view = { λ p. p.parts.value.network };
 
-    ghost invariant = { λ p. IsPlan p.parts.value.network p.parts.value.net p.parts.value.ranks.ranked.items p.parts.value.ranks.order.items p.parts.value.numbering.layouts.items p.parts.value.numbering.numbers.items };
+    ghost invariant = { λ p. IsPlan p.parts.value.network p.parts.value.net
+        p.parts.value.ranks.ranked.items p.parts.value.ranks.order.items
+        p.parts.value.numbering.layouts.items p.parts.value.numbering.numbers.items };
 }
 
 impl Plan {
@@ -155,7 +157,8 @@ impl Plan {
 
     /// For each cache and aggregation of the network the number of its layout, from 0.
     pub fn layout_numbers(&self) -> &[usize]
-        ensures { AreNumbers (layouts_of (tables.net_of self.now)) (tables.net_of self.now).holders result.now }
+        ensures { AreNumbers (layouts_of (tables.net_of self.now)) (tables.net_of self.now).holders
+            result.now }
     {
         self.parts.numbering.numbers.as_slice()
     }
@@ -169,7 +172,8 @@ fn planned(
     ranks: Ranks,
     numbering: Numbering,
 ) -> Result<Plan, AllocError>
-    requires { IsPlan network net ranks.ranked.items ranks.order.items numbering.layouts.items numbering.numbers.items }
+    requires { IsPlan network net ranks.ranked.items ranks.order.items numbering.layouts.items
+        numbering.numbers.items }
     ensures { IfOk result (λ plan. plan ≡ network) }
 {
     let parts = Box::new(

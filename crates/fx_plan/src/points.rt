@@ -8,8 +8,8 @@ use crate::labels::{Labels, place, places};
 use fx_base::Name;
 use fx_boxes::Region;
 use fx_config::{Direction, ObservationPoint, SelectionProcess};
-use fx_tables::{Device, Point, Selection};
 use fx_selectors::region_of;
+use fx_tables::{Device, Point, Selection};
 use fx_topology::NetworkDevice;
 use std::alloc::{AllocError, Global};
 
@@ -50,7 +50,9 @@ fn process_named<'p>(processes: &'p [SelectionProcess], name: &Name) -> Option<&
 
 /// The place of the cache of a device's selection process of this name, if it has one.
 fn cache_place(caches: &Labels<'_>, device: &NetworkDevice, name: &Name) -> Option<usize>
-    ensures { result ≡ option_map (naming.place caches.now device.now.name) (option_and_then (λ p. p.cache) (tables.process_named device.now.config.selection_processes name.now)) }
+    ensures { result ≡ option_map (naming.place caches.now device.now.name)
+        (option_and_then (λ p. p.cache) (tables.process_named device.now.config.selection_processes
+        name.now)) }
 {
     match process_named(device.config.selection_processes.as_slice(), name) {
         Some(process) => match &process.cache {
@@ -63,7 +65,8 @@ fn cache_place(caches: &Labels<'_>, device: &NetworkDevice, name: &Name) -> Opti
 
 /// The region of the packets that a device's selection process of this name selects, if it selects any.
 fn region_named(device: &NetworkDevice, name: &Name) -> Option<Region>
-    ensures { result ≡ option_and_then region_of (tables.process_named device.now.config.selection_processes name.now) }
+    ensures { result ≡ option_and_then region_of
+        (tables.process_named device.now.config.selection_processes name.now) }
 {
     let process = process_named(device.config.selection_processes.as_slice(), name)?;
     region_of(process)
@@ -75,7 +78,8 @@ fn selections_of(
     device: &NetworkDevice,
     names: &[Name],
 ) -> Result<Vec<Selection>, AllocError>
-    ensures { IfOk result (λ v. v.items ≡ map (tables.selection_of caches.now device.now) names.now) }
+    ensures { IfOk result (λ v. v.items ≡ map (tables.selection_of caches.now device.now)
+        names.now) }
 {
     let mut selections = Vec::new(alloc);
     for name in names {
@@ -161,7 +165,8 @@ pub fn tables_of(
     collecting: &Labels<'_>,
     devices: &[NetworkDevice],
 ) -> Result<Vec<Device>, AllocError>
-    ensures { IfOk result (λ v. v.items ≡ map (tables.table_of caches.now collecting.now) devices.now) }
+    ensures { IfOk result (λ v. v.items ≡ map (tables.table_of caches.now collecting.now)
+        devices.now) }
 {
     let mut tables = Vec::new(alloc);
     for device in devices {

@@ -3,7 +3,7 @@ ghost use Rattle.std.specs.Prelude.{◌≡◌, ◌++◌, OnOk, IfOk, length, map
 ghost use Rattle.fx_plan.specs.Labels as naming;
 ghost use Rattle.fx_plan.specs.Tables as tables;
 
-use crate::holders::aggregation_holder;
+use crate::holders::holder_with;
 use crate::labels::{Labels, place, places};
 use fx_base::Name;
 use fx_config::{Aggregation, CollectingProcess, PropertyMatch};
@@ -44,14 +44,18 @@ fn push_aggregations(
     device: &Name,
     aggregations: &[Aggregation],
 ) -> Result<Vec<fx_tables::Aggregation>, AllocError>
-    ensures held { OnOk result (holders.new.items ≡ holders.old.items ++ map (tables.aggregation_holder exporting.now device.now) aggregations.now) }
-    ensures tables { IfOk result (λ v. v.items ≡ tables.aggregations_from (length holders.old.items) aggregations.now) }
+    ensures held { OnOk result (holders.new.items
+        ≡ holders.old.items ++ map (tables.aggregation_holder exporting.now device.now)
+        aggregations.now) }
+    ensures tables { IfOk result (λ v. v.items
+        ≡ tables.aggregations_from (length holders.old.items) aggregations.now) }
 {
     let mut taken = Vec::new(alloc);
     for aggregation in aggregations {
         let matches = match_entries(alloc, aggregation.matches.as_slice())?;
         taken.push(fx_tables::Aggregation::new(holders.len(), matches))?;
-        holders.push(aggregation_holder(alloc, exporting, device, aggregation)?)?;
+        let names = aggregation.exporting_processes.as_slice();
+        holders.push(holder_with(alloc, exporting, device, &aggregation.key, names)?)?;
     }
     Ok(taken)
 }
@@ -63,8 +67,11 @@ fn process_from(
     device: &Name,
     process: &CollectingProcess,
 ) -> Result<Process, AllocError>
-    ensures held { OnOk result (holders.new.items ≡ holders.old.items ++ map (tables.aggregation_holder exporting.now device.now) process.now.aggregations) }
-    ensures table { IfOk result (λ p. p ≡ tables.process_from exporting.now device.now (length holders.old.items) process.now) }
+    ensures held { OnOk result (holders.new.items
+        ≡ holders.old.items ++ map (tables.aggregation_holder exporting.now device.now)
+        process.now.aggregations) }
+    ensures table { IfOk result (λ p. p ≡ tables.process_from exporting.now device.now
+        (length holders.old.items) process.now) }
 {
     let named = process.exporting_processes.as_slice();
     let exporters = places(alloc, exporting, device, named)?;
@@ -82,8 +89,11 @@ fn push_processes(
     device: &Name,
     collecting: &[CollectingProcess],
 ) -> Result<(), AllocError>
-    ensures held { OnOk result (holders.new.items ≡ holders.old.items ++ tables.held_by exporting.now device.now collecting.now) }
-    ensures tables { OnOk result (processes.new.items ≡ processes.old.items ++ tables.processes_from exporting.now device.now (length holders.old.items) collecting.now) }
+    ensures held { OnOk result (holders.new.items
+        ≡ holders.old.items ++ tables.held_by exporting.now device.now collecting.now) }
+    ensures tables { OnOk result (processes.new.items
+        ≡ processes.old.items ++ tables.processes_from exporting.now device.now
+        (length holders.old.items) collecting.now) }
 {
     for process in collecting {
         let process = process_from(alloc, holders, exporting, device, process)?;
@@ -100,8 +110,10 @@ pub fn processes_in(
     exporting: &Labels<'_>,
     devices: &[NetworkDevice],
 ) -> Result<Vec<Process>, AllocError>
-    ensures held { OnOk result (holders.new.items ≡ holders.old.items ++ tables.aggregation_holders exporting.now devices.now) }
-    ensures tables { IfOk result (λ v. v.items ≡ tables.processes_in exporting.now (length holders.old.items) devices.now) }
+    ensures held { OnOk result (holders.new.items
+        ≡ holders.old.items ++ tables.aggregation_holders exporting.now devices.now) }
+    ensures tables { IfOk result (λ v. v.items
+        ≡ tables.processes_in exporting.now (length holders.old.items) devices.now) }
 {
     let mut processes = Vec::new(alloc);
     for device in devices {
@@ -124,7 +136,8 @@ pub fn link_ends(
     collecting: &Labels<'_>,
     links: &[Link],
 ) -> Result<Vec<usize>, AllocError>
-    ensures { IfOk result (λ v. v.items ≡ map (λ link. naming.place collecting.now link.to_device link.to_process) links.now) }
+    ensures { IfOk result (λ v. v.items ≡ map
+        (λ link. naming.place collecting.now link.to_device link.to_process) links.now) }
 {
     let mut ends = Vec::new(alloc);
     for link in links {

@@ -10,7 +10,8 @@ use std::alloc::{AllocError, Global};
 
 fn any_leads(linked: &LinkedProcesses<'_>, process: usize, places: &[usize]) -> bool
     requires { process < length linked.now.processes }
-    ensures { result ≡ list_any (λ place. feeding.leads_at linked.now process (slice_get linked.now.exporters place)) places.now }
+    ensures { result ≡ list_any (λ place. feeding.leads_at linked.now process
+        (slice_get linked.now.exporters place)) places.now }
 {
     places.iter().any(|place| linked.leads_at(process, *place))
 }
@@ -18,7 +19,8 @@ fn any_leads(linked: &LinkedProcesses<'_>, process: usize, places: &[usize]) -> 
 /// Whether one of the exporting processes at these places has a destination that is linked to the process.
 fn lead_to(linked: &LinkedProcesses<'_>, process: usize, places: &[usize]) -> bool
     requires { process < length linked.now.processes }
-    ensures { result ≡ feeding.lead_to linked.now process (machine.at_places linked.now.exporters places.now) }
+    ensures { result ≡ feeding.lead_to linked.now process
+        (machine.at_places linked.now.exporters places.now) }
 {
     any_leads(linked, process, places)
 }
@@ -30,7 +32,8 @@ fn aggregation_leads(
     aggregation: &Aggregation,
 ) -> bool
     requires { process < length linked.now.processes }
-    ensures { result ≡ feeding.lead_to linked.now process (machine.exporters_of linked.now (slice_get linked.now.holders aggregation.now.holder)) }
+    ensures { result ≡ feeding.lead_to linked.now process
+        (machine.exporters_of linked.now (slice_get linked.now.holders aggregation.now.holder)) }
 {
     match linked.net().holders().get(aggregation.holder()) {
         Some(holder) => lead_to(linked, process, holder.exporters()),
@@ -44,7 +47,9 @@ fn any_aggregation_leads(
     aggregations: &[Aggregation],
 ) -> bool
     requires { process < length linked.now.processes }
-    ensures { result ≡ list_any (λ a. feeding.lead_to linked.now process (machine.exporters_of linked.now (slice_get linked.now.holders a.holder))) aggregations.now }
+    ensures { result ≡ list_any (λ a. feeding.lead_to linked.now process
+        (machine.exporters_of linked.now (slice_get linked.now.holders a.holder)))
+        aggregations.now }
 {
     aggregations.iter().any(|aggregation| aggregation_leads(linked, process, aggregation))
 }
@@ -81,7 +86,8 @@ fn feeders_of(
 
 /// For each process, which processes feed it.
 pub fn all_feeders(alloc: Global, net: &Net) -> Result<Vec<Vec<bool>>, AllocError>
-    ensures { IfOk result (λ v. map (λ row. row.items) v.items ≡ map (feeding.feeders net.now) (feeding.places_of net.now)) }
+    ensures { IfOk result (λ v. map (λ row. row.items) v.items
+        ≡ map (feeding.feeders net.now) (feeding.places_of net.now)) }
 {
     let linked = LinkedProcesses::of(alloc, net)?;
     let mut rows = Vec::new(alloc);

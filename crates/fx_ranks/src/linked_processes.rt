@@ -53,7 +53,8 @@ fn linked_processes_of(
 
 /// The same of all exporting processes.
 fn all_linked_processes(alloc: Global, net: &Net) -> Result<Vec<Vec<bool>>, AllocError>
-    ensures { IfOk result (λ v. map (λ row. row.items) v.items ≡ map (feeding.linked_processes net.now) net.now.exporters) }
+    ensures { IfOk result (λ v. map (λ row. row.items) v.items
+        ≡ map (feeding.linked_processes net.now) net.now.exporters) }
 {
     let mut rows = Vec::new(alloc);
     for exporter in net.exporters() {
@@ -78,7 +79,8 @@ impl<'n> Model for LinkedProcesses<'n> {
 
     ghost view = { λ t. t.net.now };
 
-    ghost invariant = { λ t. map (λ row. row.items) t.rows.items ≡ map (feeding.linked_processes t.net.now) t.net.now.exporters };
+    ghost invariant = { λ t. map (λ row. row.items) t.rows.items
+        ≡ map (feeding.linked_processes t.net.now) t.net.now.exporters };
 }
 
 impl<'n> LinkedProcesses<'n> {

@@ -28,7 +28,8 @@ fn have_come(feeders: &[bool], come: &[bool]) -> bool
 
 /// The place of the first process that hasn't come, all of whose feeders have.
 fn first_ready(feeders: &[Vec<bool>], come: &[bool]) -> Option<usize>
-    ensures { result ≡ position (λ x. not x.1 && have_come x.0.items come.now) (zip feeders.now come.now) }
+    ensures { result ≡ position (λ x. not x.1
+        && have_come x.0.items come.now) (zip feeders.now come.now) }
 {
     feeders.iter().zip(come).position(|(feeders, there)| !*there
         && have_come(feeders.as_slice(), come))
@@ -37,7 +38,8 @@ fn first_ready(feeders: &[Vec<bool>], come: &[bool]) -> Option<usize>
 /// The processes of the network that come in the order of ranks.
 pub fn rank_order(alloc: Global, net: &Net) -> Result<RankOrder, AllocError>
     ensures order { IfOk result (λ coming. IsRankOrder net.now coming.order.items) }
-    ensures come { IfOk result (λ coming. coming.come.items ≡ map (is_in coming.order.items) (places_of net.now)) }
+    ensures come { IfOk result (λ coming. coming.come.items
+        ≡ map (is_in coming.order.items) (places_of net.now)) }
     ensures short { IfOk result (λ coming. length coming.order.items ≤ length net.now.processes) }
 {
     let feeders = all_feeders(alloc, net)?;

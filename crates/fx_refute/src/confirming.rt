@@ -16,9 +16,9 @@ use fx_base::{Counts, Fault};
 use fx_collect::Totals;
 use fx_layout::{Key, Layout, Seed};
 use fx_machine::State;
+use fx_plan::Plan;
 use fx_run_text::Step;
 use fx_tables::{Classes, Net, Packet, Record};
-use fx_plan::Plan;
 use fx_traffic::Traffic;
 use std::alloc::Global;
 

@@ -69,7 +69,8 @@ fn read_next<R: Source>(
 fn read_end<R: Source>(lines: &mut LineReader<R>) -> Result<(), Fault>
     requires { lines.old.stopped ≡ None }
     ensures ok { OnOk result ((run : Run) → MayEnd lines.old run (Ok run)) }
-    ensures err { IfErr result (λ e. Fails lines.old lines.new e ⊎ ((run : Run) → MayEnd lines.old run (Err e))) }
+    ensures err { IfErr result (λ e. Fails lines.old lines.new e
+        ⊎ ((run : Run) → MayEnd lines.old run (Err e))) }
 {
     if lines.advance()? {
         return Err(Fault::at_line(855, lines.number()));

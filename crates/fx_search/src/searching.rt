@@ -25,10 +25,10 @@ use fx_base::Fault;
 use fx_cert::{Item, Version};
 use fx_check::{certificates_count_once, tables_of};
 use fx_leaf::{Judgement, Scratch, Tables};
-use fx_tables::{Class, Classes};
 use fx_plan::Plan;
 use fx_refute::{Refutation, refutations_refute};
 use fx_steps::wrong_run;
+use fx_tables::{Class, Classes};
 use fx_traffic::{Target, Traffic};
 use std::alloc::Global;
 

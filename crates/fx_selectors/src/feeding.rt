@@ -44,7 +44,9 @@ fn has_cache(processes: &[SelectionProcess], name: &Name) -> bool
 
 /// The place of the first of the names from a place on whose process has a cache.
 fn next_fed(processes: &[SelectionProcess], names: &[Name], from: usize) -> Option<usize>
-    ensures none { MatchOption result (fed processes.now (from + 1) (drop from names.now) ≡ []) (λ place. fed processes.now (from + 1) (drop from names.now) ≡ (place + 1) ∷ fed processes.now (place + 1 + 1) (drop (place + 1) names.now)) }
+    ensures none { MatchOption result (fed processes.now (from + 1) (drop from names.now)
+        ≡ []) (λ place. fed processes.now (from + 1) (drop from names.now)
+        ≡ (place + 1) ∷ fed processes.now (place + 1 + 1) (drop (place + 1) names.now)) }
     ensures bound { MatchOption result (Unit {0}) (λ place. place < length names.now) }
 {
     for place in from..names.len() {
@@ -72,7 +74,8 @@ impl<'a> Model for FedPairs<'a> {
 
     ghost Value = { List (ℕ × ℕ) };
 
-    ghost view = { λ s. left s.device.now.selection_processes s.interface.now s.inwards (s.point + 1) s.process (drop s.point s.device.now.observation_points) };
+    ghost view = { λ s. left s.device.now.selection_processes s.interface.now s.inwards (s.point
+        + 1) s.process (drop s.point s.device.now.observation_points) };
 }
 
 /// The pairs that meet a crossing of the interface into the device or out of it: whether or not the process
@@ -92,7 +95,8 @@ pub fn feeds<'a>(device: &'a Device, interface: &'a str, inwards: bool) -> FedPa
 impl<'a> FedPairs<'a> {
     /// The next pair.
     fn next_pair(&mut self) -> Option<(usize, usize)>
-        ensures { MatchOption result ((self.old ≡ []) × (self.new ≡ [])) (λ pair. self.old ≡ pair ∷ self.new) }
+        ensures { MatchOption result ((self.old ≡ [])
+            × (self.new ≡ [])) (λ pair. self.old ≡ pair ∷ self.new) }
     {
         let points = self.device.observation_points.as_slice();
         let processes = self.device.selection_processes.as_slice();

@@ -64,8 +64,10 @@ fn region_within(low: [u128; AXES], high: [u128; AXES]) -> Option<Region>
 pub fn region_of(process: &SelectionProcess) -> Option<Region>
     ensures bounds { result ≡ selection.region_of process.now }
     // It selects just the packets whose fields the region holds, and where there is no region none.
-    ensures some { IfSome result (λ region. (fields : List ℕ) → boxes.IsFields fields → boxes.holds region fields ≡ selection.selects process.now fields) }
-    ensures none { IfNone result ((fields : List ℕ) → boxes.IsFields fields → selection.selects process.now fields ≡ false) }
+    ensures some { IfSome result (λ region. (fields : List ℕ) → boxes.IsFields fields
+        → boxes.holds region fields ≡ selection.selects process.now fields) }
+    ensures none { IfNone result ((fields : List ℕ) → boxes.IsFields fields
+        → selection.selects process.now fields ≡ false) }
 {
     let Bounds { low, high } = bounds_of(process.selectors.as_slice());
     region_within(low, high)

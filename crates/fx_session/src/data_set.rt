@@ -62,7 +62,8 @@ pub(crate) fn take_flows(template: &Template, taken: &mut Taken, octets: &[u8]) 
 ///
 /// Fails with 619 where one is cut.
 pub(crate) fn pass_records(template: &Template, taken: &mut Taken, octets: &[u8]) -> Result<(), u16>
-    ensures done { Does result (sets.option_set template.now.fields taken.old octets.now) taken.new }
+    ensures done { Does result (sets.option_set template.now.fields taken.old octets.now)
+        taken.new }
     ensures grows { Grows taken.old.waiting taken.new.waiting }
 {
     let shortest = template.shortest();

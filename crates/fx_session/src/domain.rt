@@ -34,7 +34,8 @@ pub(crate) fn put_domain(
     number: u32,
     domain: Domain,
 ) -> Result<(), u16>
-    ensures ok { OnOk result (domains.new.entries ≡ templates.with_entry domains.old.entries number domain) }
+    ensures ok { OnOk result (domains.new.entries
+        ≡ templates.with_entry domains.old.entries number domain) }
     ensures err { IfErr result (λ n. n ≡ 900) }
 {
     match domains.insert(number, domain) {

@@ -27,7 +27,13 @@ impl Model for Known {
 
     ghost Value = { messages.Known };
 
-    ghost view = { λ k. record { domains = k.domains.entries; waiting = k.taken.waiting; gaps = k.gaps; skipped = k.taken.skipped } };
+    ghost view = { λ k. record {
+      domains = k.domains.entries;
+      waiting = k.taken.waiting;
+      gaps =
+          k.gaps;
+      skipped = k.taken.skipped;
+    } };
 }
 
 /// The number of gaps after a message with this sequence number, where the other one comes next.
@@ -58,8 +64,18 @@ fn read_message(
     message: &Message<'_>,
 ) -> Result<(), u16>
     ensures done { Does result
-        (messages.message_read (record { domains = domains.old.entries; waiting = taken.old.waiting; gaps = gaps.old; skipped = taken.old.skipped }) message.now)
-        (record { domains = domains.new.entries; waiting = taken.new.waiting; gaps = gaps.new; skipped = taken.new.skipped }) }
+        (messages.message_read (record {
+          domains = domains.old.entries;
+          waiting = taken.old.waiting;
+          gaps = gaps.old;
+          skipped = taken.old.skipped;
+        }) message.now)
+        (record {
+          domains = domains.new.entries;
+          waiting = taken.new.waiting;
+          gaps = gaps.new;
+          skipped = taken.new.skipped;
+        }) }
     ensures grows { Grows taken.old.waiting taken.new.waiting }
     ensures gaps_stay { OnErr result (gaps.new ≡ gaps.old) }
 {

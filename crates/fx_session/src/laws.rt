@@ -13,19 +13,23 @@ ghost use Rattle.fx_session.specs.Templates as of_templates;
 /// The records of sets and the messages of streams are those that the cases say, and no others: that functions which
 /// count their turns define what is read changes nothing.
 pub fn sets_by_cases()
-    ensures flows { (fields : List of_field.FieldSpecifier) (taken : data_sets.Taken) (octets : List ℕ)
+    ensures flows { (fields : List of_field.FieldSpecifier) (taken : data_sets.Taken)
+        (octets : List ℕ)
         (result : Result data_sets.Taken ℕ) → 1 ≤ values.shortest_record fields
         → cases.AreFlowRecords fields taken octets result
         ↔ (result ≡ data_sets.flow_set fields taken octets) }
-    ensures options { (fields : List of_field.FieldSpecifier) (taken : data_sets.Taken) (octets : List ℕ)
+    ensures options { (fields : List of_field.FieldSpecifier) (taken : data_sets.Taken)
+        (octets : List ℕ)
         (result : Result data_sets.Taken ℕ) → 1 ≤ values.shortest_record fields
         → cases.AreOptionRecords fields taken octets result
         ↔ (result ≡ data_sets.option_set fields taken octets) }
-    ensures templates { (kind : of_kind.TemplateKind) (live : of_templates.Templates) (octets : List ℕ)
+    ensures templates { (kind : of_kind.TemplateKind) (live : of_templates.Templates)
+        (octets : List ℕ)
         (result : Result of_templates.Templates ℕ)
         → cases.AreTemplateRecords kind live octets result
         ↔ (result ≡ template_sets.template_set live kind octets) }
-    ensures messages { (known : messages.Known) (place : ℕ) (octets : List ℕ) (standing : streams.Standing)
+    ensures messages { (known : messages.Known) (place : ℕ) (octets : List ℕ)
+        (standing : streams.Standing)
         → cases.AreMessages known place octets standing
         ↔ (standing ≡ streams.read_all known place octets) }
 {}

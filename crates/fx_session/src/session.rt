@@ -17,9 +17,11 @@ fn take_messages(
     place: &mut u64,
     octets: &[u8],
 ) -> (usize, Option<u16>)
-    ensures read { result.1 ≢ Some 900 → streams.read_all known.old place.old octets.now ≡ streams.left_by known.new place.new octets.now result }
+    ensures read { result.1 ≢ Some 900 → streams.read_all known.old place.old octets.now
+        ≡ streams.left_by known.new place.new octets.now result }
     ensures bound { result.0 ≤ length octets.now }
-    ensures stops { streams.Stops known.old place.old (take result.0 octets.now) result.1 known.new place.new }
+    ensures stops { streams.Stops known.old place.old (take result.0 octets.now) result.1 known.new
+        place.new }
 {
     let mut at: usize = 0;
     'each: loop {
@@ -76,7 +78,13 @@ impl Model for Session {
 
     ghost Value = { streams.Standing };
 
-    ghost view = { λ s. record { known = s.known; place = s.place; rest = s.octets.items; fault = s.fault } };
+    ghost view = { λ s. record {
+      known = s.known;
+      place = s.place;
+      rest = s.octets.items;
+      fault =
+          s.fault;
+    } };
 }
 
 /// The fault of this number where the first octet of the refused message is at this place.
@@ -116,7 +124,8 @@ impl Session {
         ensures answer { result ≡ streams.answer_of self.new.place self.new.fault }
         ensures fed { self.new.fault ≢ Some 900 → self.new ≡ streams.fed self.old piece.now }
         ensures again { IsSome self.old.fault → self.new ≡ self.old }
-        ensures starves { self.old.fault ≡ None → self.new.fault ≡ Some 900 → streams.Starves self.old piece.now self.new }
+        ensures starves { self.old.fault ≡ None → self.new.fault ≡ Some 900
+            → streams.Starves self.old piece.now self.new }
     {
         if let Some(number) = self.fault {
             return Err(fault_of(self.place, number));
@@ -186,11 +195,14 @@ impl Session {
 
 /// One piece and then another are both as one, for every session: it doesn't matter how a stream is cut.
 pub fn pieces()
-    ensures { (st : streams.Standing) (a : List ℕ) (b : List ℕ) → streams.fed (streams.fed st a) b ≡ streams.fed st (a ++ b) }
+    ensures { (st : streams.Standing) (a : List ℕ) (b : List ℕ)
+        → streams.fed (streams.fed st a) b ≡ streams.fed st (a ++ b) }
 {}
 
 /// Records that wait stand before those that a piece adds, and change nothing else, for every session: it doesn't
 /// matter when they are taken out.
 pub fn waiting()
-    ensures { (before : List Record) (st : streams.Standing) (piece : List ℕ) → streams.fed (streams.behind before st) piece ≡ streams.behind before (streams.fed st piece) }
+    ensures { (before : List Record) (st : streams.Standing) (piece : List ℕ)
+        → streams.fed (streams.behind before st) piece
+        ≡ streams.behind before (streams.fed st piece) }
 {}

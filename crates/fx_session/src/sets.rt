@@ -16,7 +16,8 @@ use std::alloc::Global;
 ///
 /// Fails with 617 where there is none, and as the first record that does.
 fn take_data(templates: &Templates, taken: &mut Taken, id: u16, content: &[u8]) -> Result<(), u16>
-    ensures done { Does result (messages.data_by (tables.at_number templates.now.plain id) (tables.at_number templates.now.options id) taken.old content.now) taken.new }
+    ensures done { Does result (messages.data_by (tables.at_number templates.now.plain id)
+        (tables.at_number templates.now.options id) taken.old content.now) taken.new }
     ensures grows { Grows taken.old.waiting taken.new.waiting }
 {
     if let Some(template) = templates.plain(id) {
@@ -39,7 +40,9 @@ fn take_set(
     taken: &mut Taken,
     set: &Set<'_>,
 ) -> Result<(), u16>
-    ensures done { Does result (messages.set_read (record { templates = templates.old; taken = taken.old }) (wire.set_parts set.now)) (record { templates = templates.new; taken = taken.new }) }
+    ensures done { Does result (messages.set_read
+        (record { templates = templates.old; taken = taken.old }) (wire.set_parts set.now))
+        (record { templates = templates.new; taken = taken.new }) }
     ensures grows { Grows taken.old.waiting taken.new.waiting }
 {
     if set.id == 2 {
@@ -60,7 +63,9 @@ pub(crate) fn take_sets(
     taken: &mut Taken,
     sets: Sets<'_>,
 ) -> Result<(), u16>
-    ensures done { Does result (messages.sets_read (record { templates = templates.old; taken = taken.old }) sets.entry) (record { templates = templates.new; taken = taken.new }) }
+    ensures done { Does result (messages.sets_read
+        (record { templates = templates.old; taken = taken.old }) sets.entry)
+        (record { templates = templates.new; taken = taken.new }) }
     ensures grows { Grows taken.old.waiting taken.new.waiting }
 {
     let mut left = sets;

@@ -39,7 +39,12 @@ impl Taken {
 
     /// A message begins.
     pub fn start(&mut self)
-        ensures { self.new ≡ record { waiting = self.old.waiting; skipped = self.old.skipped; count = 0 } }
+        ensures { self.new ≡ record {
+          waiting = self.old.waiting;
+          skipped = self.old.skipped;
+          count
+              = 0;
+        } }
     {
         self.count = 0;
     }
@@ -67,7 +72,12 @@ impl Taken {
 
     /// A data record that isn't read.
     pub fn pass(&mut self)
-        ensures { self.new ≡ record { waiting = self.old.waiting; skipped = self.old.skipped; count = (self.old.count + 1) % 2 ^ 32 } }
+        ensures { self.new ≡ record {
+          waiting = self.old.waiting;
+          skipped = self.old.skipped;
+          count
+              = (self.old.count + 1) % 2 ^ 32;
+        } }
     {
         self.count = self.count.wrapping_add(1);
     }
@@ -95,7 +105,11 @@ impl Taken {
 
     /// So many records stay, and the number of skipped ones is this.
     pub fn cut_back(&mut self, waiting: usize, skipped: u64)
-        ensures { self.new ≡ record { waiting = take waiting self.old.waiting; skipped = skipped; count = self.old.count } }
+        ensures { self.new ≡ record {
+          waiting = take waiting self.old.waiting;
+          skipped = skipped;
+          count = self.old.count;
+        } }
     {
         self.waiting.truncate(waiting);
         self.skipped = skipped;

@@ -82,7 +82,8 @@ fn declare<'a>(
     octets: &'a [u8],
 ) -> Result<&'a [u8], u16>
     requires { 1 ≤ new.count }
-    ensures done { reading.Follows (sets.with_fields templates.old kind new.id new.scope (fields.fields_in new.count octets.now)) templates.new result }
+    ensures done { reading.Follows (sets.with_fields templates.old kind new.id new.scope
+        (fields.fields_in new.count octets.now)) templates.new result }
     ensures shorter { reading.IsNoLonger octets.now result }
 {
     let (mut fields, rest) = read_fields(alloc, new.count, octets)?;
@@ -107,7 +108,8 @@ fn take_record<'a>(
     octets: &'a [u8],
 ) -> Result<&'a [u8], u16>
     requires { 4 ≤ length octets.now }
-    ensures done { reading.Follows (sets.template_record templates.old kind octets.now) templates.new result }
+    ensures done { reading.Follows (sets.template_record templates.old kind octets.now)
+        templates.new result }
     ensures shorter { reading.IsShorter octets.now result }
 {
     let (heading, rest) = read_heading(kind, octets)?;

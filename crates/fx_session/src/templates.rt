@@ -33,7 +33,8 @@ fn declare_in(
     id: u16,
     new: Template,
 ) -> Result<(), u16>
-    ensures { Does result (templates.in_table (templates.at_number table.old.entries id) other table.old.entries id new) table.new.entries }
+    ensures { Does result (templates.in_table (templates.at_number table.old.entries id) other
+        table.old.entries id new) table.new.entries }
 {
     if let Some(old) = table.get(&id) {
         return if old.same(&new) { Ok(()) } else { Err(616) };

@@ -85,8 +85,10 @@ impl FlowStore for BoundedStore {
     /// Adds the counts at the key. Where the store is full and the key is new, the least recently
     /// added-to entry leaves.
     fn add(&mut self, key: Key, counts: Counts) -> Result<Option<(Key, Counts)>, Fault>
-        ensures ok { IfOk result (λ left. Adds (flows_of self.old.entries) (flows_of self.new.entries) key counts left) }
-        ensures err { IfErr result (λ e. (e ≡ fault_at 900 places.None) × (flows_of self.new.entries ≡ flows_of self.old.entries)) }
+        ensures ok { IfOk result (λ left. Adds (flows_of self.old.entries)
+            (flows_of self.new.entries) key counts left) }
+        ensures err { IfErr result (λ e. (e ≡ fault_at 900 places.None)
+            × (flows_of self.new.entries ≡ flows_of self.old.entries)) }
         ensures held { IsSome (map.get (flows_of self.old.entries) key) → IsOk result }
         ensures recent { OnOk result (self.new ≡ after_add self.old key counts) }
         ensures leaves { IfOk result (λ left. left ≡ pushed_out self.old key counts) }
@@ -106,7 +108,8 @@ impl FlowStore for BoundedStore {
     fn take(&mut self, key: &Key) -> Option<Counts>
         ensures value { result ≡ map.get (flows_of self.old.entries) key.now }
         ensures rest { flows_of self.new.entries ≡ map.remove (flows_of self.old.entries) key.now }
-        ensures recent { self.new ≡ record self.old { entries = without_key self.old.entries key.now } }
+        ensures recent { self.new ≡ record self.old
+            { entries = without_key self.old.entries key.now } }
     {
         let key = Ordered::new(key.copy());
         let _held = self.recent.len();
@@ -117,7 +120,8 @@ impl FlowStore for BoundedStore {
     fn take_least(&mut self) -> Option<(Key, Counts)>
         ensures value { result ≡ least (flows_of self.old.entries) }
         ensures rest { flows_of self.new.entries ≡ without (flows_of self.old.entries) result }
-        ensures recent { IfSome result (λ e. self.new ≡ record self.old { entries = without_key self.old.entries e.0 }) }
+        ensures recent { IfSome result (λ e. self.new
+            ≡ record self.old { entries = without_key self.old.entries e.0 }) }
         ensures none { IfNone result (self.new ≡ self.old) }
     {
         let _held = self.recent.len();

@@ -69,8 +69,10 @@ impl FlowStore for ListStore {
 
     /// Adds the counts at the key; no entry leaves.
     fn add(&mut self, key: Key, counts: Counts) -> Result<Option<(Key, Counts)>, Fault>
-        ensures ok { IfOk result (λ left. Adds (flows_of self.old) (flows_of self.new) key counts left) }
-        ensures err { IfErr result (λ e. (e ≡ fault_at 900 places.None) × (flows_of self.new ≡ flows_of self.old)) }
+        ensures ok { IfOk result (λ left. Adds (flows_of self.old) (flows_of self.new) key counts
+            left) }
+        ensures err { IfErr result (λ e. (e ≡ fault_at 900 places.None)
+            × (flows_of self.new ≡ flows_of self.old)) }
         ensures held { IsSome (map.get (flows_of self.old) key) → IsOk result }
         ensures stays { IfOk result (λ left. left ≡ None) }
         ensures unchanged { OnErr result (self.new ≡ self.old) }

@@ -24,7 +24,8 @@ pub trait FlowStore: Drop {
     /// as before then.
     fn add(&mut self, key: Key, counts: Counts) -> Result<Option<(Key, Counts)>, Fault>
         ensures ok { IfOk result (λ left. Adds (flows self.old) (flows self.new) key counts left) }
-        ensures err { IfErr result (λ e. (e ≡ fault_at 900 places.None) × (flows self.new ≡ flows self.old)) }
+        ensures err { IfErr result (λ e. (e ≡ fault_at 900 places.None)
+            × (flows self.new ≡ flows self.old)) }
         ensures held { IsSome (map.get (flows self.old) key) → IsOk result };
 
     /// Takes the key's entry out, and answers its counts, if it is there.

@@ -18,13 +18,23 @@ impl Model for Device {
 
     ghost Value = { network.Device };
 
-    ghost view = { λ d. record { points = d.points.items; caches = d.caches.items; processes = d.processes.items } };
+    ghost view = { λ d. record {
+      points = d.points.items;
+      caches = d.caches.items;
+      processes =
+          d.processes.items;
+    } };
 }
 
 impl Device {
     /// A device with these points, caches and collecting processes.
     pub fn new(points: Vec<Point>, caches: Vec<usize>, processes: Vec<usize>) -> Device
-        ensures { result ≡ record { points = points.items; caches = caches.items; processes = processes.items } }
+        ensures { result ≡ record {
+          points = points.items;
+          caches = caches.items;
+          processes =
+              processes.items;
+        } }
     {
         Device {
             points,

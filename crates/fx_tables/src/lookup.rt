@@ -172,7 +172,8 @@ impl Classes {
     /// Whether a packet is one of these classes' packets: its class and its path are there, by their numbers
     /// from 1, and the class's region holds its fields.
     pub fn contains(&self, packet: &Packet) -> bool
-        ensures value { result ≡ traffic.is_of packet.now (network.numbered self.now packet.now.class) }
+        ensures value { result ≡ traffic.is_of packet.now
+            (network.numbered self.now packet.now.class) }
         ensures meaning { IsTrue result
             ↔ traffic.IsOf packet.now (network.numbered self.now packet.now.class) }
     {

@@ -79,7 +79,8 @@ fn push_met_by(
     selections: &[Selection],
     fields: &Fields,
 ) -> Result<(), AllocError>
-    ensures { OnOk result (found.new.items ≡ found.old.items ++ met.met_by point 1 selections.now fields.now) }
+    ensures { OnOk result (found.new.items
+        ≡ found.old.items ++ met.met_by point 1 selections.now fields.now) }
 {
     for place in 0..selections.len() {
         push_met(found, point, place + 1, &selections[place], fields)?;
@@ -95,7 +96,9 @@ fn push_met_at(
     crossing: &Crossing,
     fields: &Fields,
 ) -> Result<(), AllocError>
-    ensures { OnOk result (found.new.items ≡ found.old.items ++ (if met.watches point.now crossing.now then met.met_by number 1 point.now.selections fields.now else [])) }
+    ensures { OnOk result (found.new.items
+        ≡ found.old.items ++ (if met.watches point.now crossing.now
+        then met.met_by number 1 point.now.selections fields.now else [])) }
 {
     if point.watches(crossing) {
         push_met_by(found, number, point.selections.as_slice(), fields)?;
@@ -149,7 +152,8 @@ impl Net {
         crossing: &Crossing,
         fields: &Fields,
     ) -> Result<Vec<Occurrence>, AllocError>
-        ensures { IfOk result (λ found. found.items ≡ met.occurrences self.now crossing.now fields.now) }
+        ensures { IfOk result (λ found. found.items
+            ≡ met.occurrences self.now crossing.now fields.now) }
     {
         let mut found: Vec<Occurrence> = Vec::new(alloc);
         self.push_occurrences(&mut found, crossing, fields)?;

@@ -49,7 +49,16 @@ impl Net {
         report: usize,
         report_layout: Layout,
     ) -> Net
-        ensures { result ≡ record { devices = devices.items; exporters = exporters.items; holders = holders.items; processes = processes.items; links = links.items; report = report; report_layout = report_layout } }
+        ensures { result ≡ record {
+          devices = devices.items;
+          exporters = exporters.items;
+          holders =
+              holders.items;
+          processes = processes.items;
+          links = links.items;
+          report = report;
+          report_layout = report_layout;
+        } }
     {
         Net {
             devices,

@@ -44,7 +44,13 @@ impl Point {
         egress: bool,
         selections: Vec<Selection>,
     ) -> Point
-        ensures { result ≡ record { interfaces = interfaces.items; ingress = ingress; egress = egress; selections = selections.items } }
+        ensures { result ≡ record {
+          interfaces = interfaces.items;
+          ingress = ingress;
+          egress =
+              egress;
+          selections = selections.items;
+        } }
     {
         Point {
             interfaces,

@@ -17,13 +17,21 @@ impl Model for Process {
 
     ghost Value = { network.Process };
 
-    ghost view = { λ p. record { exporters = p.exporters.items; aggregations = p.aggregations.items } };
+    ghost view = { λ p. record {
+      exporters = p.exporters.items;
+      aggregations =
+          p.aggregations.items;
+    } };
 }
 
 impl Process {
     /// A collecting process that names these exporting processes and has these aggregations.
     pub fn new(exporters: Vec<usize>, aggregations: Vec<Aggregation>) -> Process
-        ensures { result ≡ record { exporters = exporters.items; aggregations = aggregations.items } }
+        ensures { result ≡ record {
+          exporters = exporters.items;
+          aggregations =
+              aggregations.items;
+        } }
     {
         Process {
             exporters,

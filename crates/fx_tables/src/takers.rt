@@ -15,7 +15,8 @@ use std::alloc::{AllocError, Global};
 
 /// Whether the key has the leading bits of all these entries, with their values.
 fn matches(key: &Key, entries: &[MatchEntry]) -> bool
-    ensures { result ≡ list_all (λ e. keys.reads key.now.layout e.axis e.bits && keys.cut key.now e.axis e.bits == e.value) entries.now }
+    ensures { result ≡ list_all (λ e. keys.reads key.now.layout e.axis e.bits
+        && keys.cut key.now e.axis e.bits == e.value) entries.now }
 {
     entries.iter().all(|entry| key.layout().reads(entry.axis, entry.bits)
         && key.cut(entry.axis, entry.bits) == entry.value)
@@ -28,7 +29,8 @@ fn push_taken(
     key: &Key,
     aggregation: &Aggregation,
 ) -> Result<(), AllocError>
-    ensures { OnOk result (holdings.new.items ≡ holdings.old.items ++ aggregating holders.now key.now aggregation.now) }
+    ensures { OnOk result (holdings.new.items
+        ≡ holdings.old.items ++ aggregating holders.now key.now aggregation.now) }
 {
     if let Some(projected) = key.project(&layout_at(holders, aggregation.holder)) {
         if matches(key, aggregation.matches.as_slice()) {
@@ -48,7 +50,8 @@ fn taken(
     key: &Key,
     aggregations: &[Aggregation],
 ) -> Result<Vec<Holding>, AllocError>
-    ensures { IfOk result (λ holdings. holdings.items ≡ aggregated holders.now key.now aggregations.now) }
+    ensures { IfOk result (λ holdings. holdings.items
+        ≡ aggregated holders.now key.now aggregations.now) }
 {
     let mut holdings: Vec<Holding> = Vec::new(alloc);
     for aggregation in aggregations {

@@ -4,11 +4,11 @@ use crate::check::traffic_of;
 use crate::plan::plan_of;
 use fx_base::{Fault, LineReader, Octets, Room};
 use fx_collect::Totals;
-use fx_run_text::run_lines_have_one_text;
 use fx_plan::Plan;
 use fx_refute::{
     confirm, put_refutation, read_refutation, refutations_have_one_text, refutations_refute,
 };
+use fx_run_text::run_lines_have_one_text;
 use fx_traffic::Traffic;
 use std::alloc::Global;
 use std::test::Fail;

@@ -14,7 +14,9 @@ use std::alloc::Global;
 use std::test::Fail;
 
 fn exporters(alloc: Global) -> Result<Vec<Exporter>, Fail>
-    ensures { IfOk result (λ es. es.items ≡ record { parallel = true; destinations = Some 0 ∷ [] } ∷ record { parallel = true; destinations = Some 1 ∷ [] } ∷ record { parallel = true; destinations = Some 2 ∷ [] } ∷ []) }
+    ensures { IfOk result (λ es. es.items ≡ record { parallel = true; destinations = Some 0 ∷ [] }
+        ∷ record { parallel = true; destinations = Some 1 ∷ [] }
+        ∷ record { parallel = true; destinations = Some 2 ∷ [] } ∷ []) }
 {
     Ok(vec![in alloc;
         exporter(alloc, 0)?,
@@ -24,7 +26,9 @@ fn exporters(alloc: Global) -> Result<Vec<Exporter>, Fail>
 }
 
 fn holders(alloc: Global, own: &Layout, middle: &Layout, last: &Layout) -> Result<Vec<Holder>, Fail>
-    ensures { IfOk result (λ hs. hs.items ≡ record { layout = own.now; exporters = 0 ∷ [] } ∷ record { layout = middle.now; exporters = 1 ∷ [] } ∷ record { layout = last.now; exporters = 2 ∷ [] } ∷ []) }
+    ensures { IfOk result (λ hs. hs.items ≡ record { layout = own.now; exporters = 0 ∷ [] }
+        ∷ record { layout = middle.now; exporters = 1 ∷ [] }
+        ∷ record { layout = last.now; exporters = 2 ∷ [] } ∷ []) }
 {
     let cache = holder(alloc, own, 0)?;
     let first = holder(alloc, middle, 1)?;
@@ -34,7 +38,11 @@ fn holders(alloc: Global, own: &Layout, middle: &Layout, last: &Layout) -> Resul
 
 /// Aggregates all records.
 fn first(alloc: Global) -> Result<Process, Fail>
-    ensures { IfOk result (λ p. p ≡ record { exporters = []; aggregations = record { holder = 1; matches = [] } ∷ [] }) }
+    ensures { IfOk result (λ p. p ≡ record {
+      exporters = [];
+      aggregations =
+          record { holder = 1; matches = [] } ∷ [];
+    }) }
 {
     let aggregation = Aggregation::new(1, Vec::new(alloc));
     Ok(Process::new(Vec::new(alloc), vec![in alloc; aggregation]?))
@@ -42,7 +50,15 @@ fn first(alloc: Global) -> Result<Process, Fail>
 
 /// Aggregates those from 10.1.2.0/24.
 fn second(alloc: Global) -> Result<Process, Fail>
-    ensures { IfOk result (λ p. p ≡ record { exporters = []; aggregations = record { holder = 2; matches = record { axis = axis.Source; bits = 24; value = 0x0a0102 } ∷ [] } ∷ [] }) }
+    ensures { IfOk result (λ p. p ≡ record {
+      exporters = [];
+      aggregations =
+          record {
+            holder = 2;
+            matches = record { axis = axis.Source; bits = 24; value = 0x0a0102 }
+                ∷ [];
+          } ∷ [];
+    }) }
 {
     let entry = MatchEntry {
         axis: Axis::Source,
@@ -54,8 +70,20 @@ fn second(alloc: Global) -> Result<Process, Fail>
 }
 
 fn processes(alloc: Global) -> Result<Vec<Process>, Fail>
-    ensures { IfOk result (λ ps. ps.items ≡ record { exporters = []; aggregations = record { holder = 1; matches = [] } ∷ [] }
-        ∷ record { exporters = []; aggregations = record { holder = 2; matches = record { axis = axis.Source; bits = 24; value = 0x0a0102 } ∷ [] } ∷ [] }
+    ensures { IfOk result (λ ps. ps.items ≡ record {
+      exporters = [];
+      aggregations =
+          record { holder = 1; matches = [] } ∷ [];
+    }
+        ∷ record {
+          exporters = [];
+          aggregations =
+              record {
+                holder = 2;
+                matches = record { axis = axis.Source; bits = 24; value = 0x0a0102 }
+                    ∷ [];
+              } ∷ [];
+        }
         ∷ record { exporters = []; aggregations = [] } ∷ []) }
 {
     Ok(vec![in alloc; first(alloc)?, second(alloc)?, process(alloc)]?)
@@ -67,10 +95,25 @@ fn devices(alloc: Global) -> Result<Vec<Device>, Fail> {
 }
 
 fn network(alloc: Global, own: &Layout, middle: &Layout, last: &Layout) -> Result<Net, Fail>
-    ensures exporters { IfOk result (λ n. n.exporters ≡ record { parallel = true; destinations = Some 0 ∷ [] } ∷ record { parallel = true; destinations = Some 1 ∷ [] } ∷ record { parallel = true; destinations = Some 2 ∷ [] } ∷ []) }
-    ensures holders { IfOk result (λ n. n.holders ≡ record { layout = own.now; exporters = 0 ∷ [] } ∷ record { layout = middle.now; exporters = 1 ∷ [] } ∷ record { layout = last.now; exporters = 2 ∷ [] } ∷ []) }
-    ensures processes { IfOk result (λ n. n.processes ≡ record { exporters = []; aggregations = record { holder = 1; matches = [] } ∷ [] }
-        ∷ record { exporters = []; aggregations = record { holder = 2; matches = record { axis = axis.Source; bits = 24; value = 0x0a0102 } ∷ [] } ∷ [] }
+    ensures exporters { IfOk result (λ n. n.exporters
+        ≡ record { parallel = true; destinations = Some 0 ∷ [] }
+        ∷ record { parallel = true; destinations = Some 1 ∷ [] }
+        ∷ record { parallel = true; destinations = Some 2 ∷ [] } ∷ []) }
+    ensures holders { IfOk result (λ n. n.holders
+        ≡ record { layout = own.now; exporters = 0 ∷ [] }
+        ∷ record { layout = middle.now; exporters = 1 ∷ [] }
+        ∷ record { layout = last.now; exporters = 2 ∷ [] } ∷ []) }
+    ensures processes { IfOk result (λ n. n.processes
+        ≡ record { exporters = []; aggregations = record { holder = 1; matches = [] } ∷ [] }
+        ∷ record {
+          exporters = [];
+          aggregations =
+              record {
+                holder = 2;
+                matches = record { axis = axis.Source; bits = 24; value = 0x0a0102 }
+                    ∷ [];
+              } ∷ [];
+        }
         ∷ record { exporters = []; aggregations = [] } ∷ []) }
     ensures links { IfOk result (λ n. n.links ≡ 0 ∷ 1 ∷ 2 ∷ []) }
     ensures report { IfOk result (λ n. n.report ≡ 2) }
@@ -101,7 +144,12 @@ fn asked(
     low: u128,
     high: u128,
 ) -> Result<Answers, Fail>
-    requires { by_table.AreTables (record { net = net.now; order = 2 ∷ 1 ∷ 0 ∷ []; numbering = record { layouts = layouts.now; numbers = 0 ∷ 1 ∷ 2 ∷ [] } }) }
+    requires { by_table.AreTables (record {
+      net = net.now;
+      order = 2 ∷ 1 ∷ 0
+          ∷ [];
+      numbering = record { layouts = layouts.now; numbers = 0 ∷ 1 ∷ 2 ∷ [] };
+    }) }
 {
     let region = sources(low, high)?;
     let path = path(alloc)?;

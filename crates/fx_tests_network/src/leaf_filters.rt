@@ -26,7 +26,8 @@ fn devices(alloc: Global) -> Result<Vec<Device>, Fail> {
 }
 
 fn caches(alloc: Global) -> Result<Vec<Holder>, Fail>
-    ensures { IfOk result (λ hs. hs.items ≡ record { layout = []; exporters = 0 ∷ [] } ∷ record { layout = []; exporters = 1 ∷ [] } ∷ []) }
+    ensures { IfOk result (λ hs. hs.items ≡ record { layout = []; exporters = 0 ∷ [] }
+        ∷ record { layout = []; exporters = 1 ∷ [] } ∷ []) }
 {
     let layout = Layout::new();
     Ok(vec![in alloc; holder(alloc, &layout, 0)?, holder(alloc, &layout, 1)?]?)
@@ -44,8 +45,11 @@ fn exporters(
 
 /// The network of those, in which the report has this layout.
 fn network(alloc: Global, exporters: Vec<Exporter>, report: Layout) -> Result<Net, Fail>
-    ensures holders { IfOk result (λ n. n.holders ≡ record { layout = []; exporters = 0 ∷ [] } ∷ record { layout = []; exporters = 1 ∷ [] } ∷ []) }
-    ensures processes { IfOk result (λ n. n.processes ≡ record { exporters = []; aggregations = [] } ∷ []) }
+    ensures holders { IfOk result (λ n. n.holders
+        ≡ record { layout = []; exporters = 0 ∷ [] } ∷ record { layout = []; exporters = 1 ∷ [] }
+        ∷ []) }
+    ensures processes { IfOk result (λ n. n.processes
+        ≡ record { exporters = []; aggregations = [] } ∷ []) }
     ensures report { IfOk result (λ n. n.report ≡ 0) }
 {
     Ok(Net::new(
@@ -75,7 +79,8 @@ type Answers = (
 
 /// What is answered for the sources from one to another.
 fn asked(alloc: Global, net: &Net, low: u128, high: u128) -> Result<Answers, Fail>
-    requires holders { net.now.holders ≡ record { layout = []; exporters = 0 ∷ [] } ∷ record { layout = []; exporters = 1 ∷ [] } ∷ [] }
+    requires holders { net.now.holders ≡ record { layout = []; exporters = 0 ∷ [] }
+        ∷ record { layout = []; exporters = 1 ∷ [] } ∷ [] }
     requires processes { net.now.processes ≡ record { exporters = []; aggregations = [] } ∷ [] }
     requires report { net.now.report ≡ 0 }
 {

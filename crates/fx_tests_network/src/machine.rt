@@ -4,9 +4,13 @@ use crate::parts::{by_source, collector, exporter, holder, process};
 use fx_base::Fault;
 use fx_boxes::{Fields, Region};
 use fx_elements::Axis;
-use fx_machine::{State, choices_are_free, complete_runs_exist, six_axes_suffice, unnamed_axes_mean_nothing};
+use fx_machine::{
+    State, choices_are_free, complete_runs_exist, six_axes_suffice, unnamed_axes_mean_nothing,
+};
 use fx_run_text::{Choices, Step};
-use fx_tables::{Aggregation, Class, Classes, Device, HolderName, MatchEntry, Net, Packet, Path, Process};
+use fx_tables::{
+    Aggregation, Class, Classes, Device, HolderName, MatchEntry, Net, Packet, Path, Process,
+};
 use std::alloc::Global;
 use std::test::Fail;
 
@@ -186,10 +190,12 @@ fn is_watched(net: &Net, classes: &Classes) -> bool {
 /// Whether a packet of the class makes its one crossing, and one of no class none.
 fn is_followed(classes: &Classes) -> Result<bool, &'static str> {
     let (followed, lost) = (packet(1, 1)?, packet(1, 2)?);
-    Ok(classes.path_of(&followed).len() == 1
-        && classes.path_of(&lost).is_empty()
-        && classes.contains(&followed)
-        && !classes.contains(&lost))
+    Ok(
+        classes.path_of(&followed).len() == 1
+            && classes.path_of(&lost).is_empty()
+            && classes.contains(&followed)
+            && !classes.contains(&lost),
+    )
 }
 
 /// Whether the packets of an exempt class are exempt, and no others.

@@ -1,7 +1,10 @@
 //! Runs' texts read, and refused at the line.
 use crate::meters::sources;
 use fx_base::{Fault, LineReader, Octets, Room};
-use fx_run_text::{Run, RunLine, Step, TextVersion, put_packet_line, put_step_line, read_run, read_run_line, run_lines_have_one_text, run_texts};
+use fx_run_text::{
+    Run, RunLine, Step, TextVersion, put_packet_line, put_step_line, read_run, read_run_line,
+    run_lines_have_one_text, run_texts,
+};
 use fx_tables::{Class, Classes, HolderName, Packet, Path};
 use std::alloc::Global;
 use std::test::Fail;

@@ -38,7 +38,8 @@ pub(crate) fn meter(
     outwards: bool,
 ) -> Result<Device, Fail>
     ensures caches { IfOk result (λ d. d.caches ≡ cache ∷ []) }
-    ensures points { IfOk result (λ d. All (λ p. All (λ s. s.holder ≡ Some cache) p.selections) d.points) }
+    ensures points { IfOk result (λ d. All (λ p. All (λ s. s.holder ≡ Some cache) p.selections)
+        d.points) }
 {
     let point = point(alloc, region, cache, outwards)?;
     let points = vec![in alloc; point]?;

@@ -1,8 +1,8 @@
 //! Streams of messages in whatever pieces they come.
 use fx_base::Fault;
 use fx_elements::Axis;
-use fx_tables::Record;
 use fx_session::{Session, pieces, sets_by_cases, waiting};
+use fx_tables::Record;
 use std::alloc::Global;
 use std::test::Fail;
 

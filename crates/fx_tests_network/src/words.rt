@@ -1,6 +1,5 @@
 //! The words of a line.
-use fx_elements::Axis;
-use fx_elements::{Words, is_word};
+use fx_elements::{Axis, Words, is_word};
 use std::test::Fail;
 
 /// The source and the number behind the word `use`, where nothing stands behind them.

@@ -10,8 +10,8 @@ use fx_boxes::{Fields, Region};
 use fx_layout::Layout;
 use fx_leaf::Tables;
 use fx_run_text::Step;
-use fx_tables::{Class, Classes, Exporter, Net, Packet, Path, Process};
 use fx_steps::{packets_have_runs, wrong_run};
+use fx_tables::{Class, Classes, Exporter, Net, Packet, Path, Process};
 use std::alloc::Global;
 use std::test::Fail;
 
@@ -22,7 +22,11 @@ fn to_two(
     one: Option<usize>,
     other: Option<usize>,
 ) -> Result<Exporter, Fail>
-    ensures { IfOk result (λ e. e ≡ record { parallel = parallel; destinations = one ∷ other ∷ [] }) }
+    ensures { IfOk result (λ e. e ≡ record {
+      parallel = parallel;
+      destinations = one ∷ other
+          ∷ [];
+    }) }
 {
     Ok(Exporter::new(parallel, vec![in alloc; one, other]?))
 }

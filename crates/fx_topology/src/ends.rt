@@ -5,8 +5,8 @@ ghost use Rattle.fx_topology.specs.Links as links;
 use crate::link::Link;
 use crate::network_device::NetworkDevice;
 use fx_base::Name;
-use fx_walk::is_named;
 use fx_config::{Device, ExportingProcess};
+use fx_walk::is_named;
 
 /// The configuration of the device of this name.
 pub fn device_named<'d>(devices: &'d [NetworkDevice], name: &Name) -> Option<&'d Device>
@@ -44,7 +44,8 @@ fn has_destination(device: &Device, process: &Name, destination: &Name) -> bool
 
 /// Whether the device of this name has a collecting process of that one.
 pub fn has_collecting_process(devices: &[NetworkDevice], device: &Name, process: &Name) -> bool
-    ensures { result ≡ links.has_collecting_process process.now (links.device_named devices.now device.now) }
+    ensures { result ≡ links.has_collecting_process process.now
+        (links.device_named devices.now device.now) }
 {
     match device_named(devices, device) {
         Some(device) => is_named(device.collecting_processes.as_slice(), process),
@@ -54,7 +55,8 @@ pub fn has_collecting_process(devices: &[NetworkDevice], device: &Name, process:
 
 /// Whether the link leads from a destination of the network.
 fn has_start(devices: &[NetworkDevice], link: &Link) -> bool
-    ensures { result ≡ links.has_destination link.now.exporting_process link.now.destination (links.device_named devices.now link.now.device) }
+    ensures { result ≡ links.has_destination link.now.exporting_process link.now.destination
+        (links.device_named devices.now link.now.device) }
 {
     match device_named(devices, &link.device) {
         Some(device) => has_destination(device, &link.exporting_process, &link.destination),

@@ -87,7 +87,8 @@ impl Links {
         exporting_process: &Name,
         destination: &Name,
     ) -> Result<Option<usize>, AllocError>
-        ensures { IfOk result (λ place. place ≡ position (leads_from device.now exporting_process.now destination.now) self.now) }
+        ensures { IfOk result (λ place. place
+            ≡ position (leads_from device.now exporting_process.now destination.now) self.now) }
     {
         let start = Start::new(self.alloc, device, exporting_process, destination)?;
         Ok(self.starts.get_index_of(&start))
@@ -100,7 +101,8 @@ impl Links {
     pub(crate) fn add(&mut self, link: Link) -> Result<bool, Fault>
         ensures answer { IfOk result (λ new. new ≡ not (starts_there self.old link)) }
         ensures err { IfErr result (λ e. e ≡ fault_at 900 places.None) }
-        ensures links { OnOk result (self.new ≡ (if starts_there self.old link then self.old else self.old ++ link ∷ [])) }
+        ensures links { OnOk result (self.new
+            ≡ (if starts_there self.old link then self.old else self.old ++ link ∷ [])) }
     {
         let start = Start::new(
             self.alloc,

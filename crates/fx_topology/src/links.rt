@@ -23,14 +23,16 @@ fn ends_are_there(
     devices: &[NetworkDevice],
     link: &Link,
 ) -> Result<(), Fault>
-    ensures { Reads (fault_if (not (has_ends devices.now link.now)) 201 (pointer path.now)) tt result }
+    ensures { Reads (fault_if (not (has_ends devices.now link.now)) 201 (pointer path.now)) tt
+        result }
 {
     refuse_if(alloc, path, 201, !has_ends(devices, link))
 }
 
 /// Puts a link at the path behind these. Refuses it where one of them leads from the same destination (202).
 fn add_alone(alloc: Global, path: &Path<'_>, earlier: &mut Links, link: Link) -> Result<(), Fault>
-    ensures reads { Reads (fault_if (starts_there earlier.old link) 202 (pointer path.now)) tt result }
+    ensures reads { Reads (fault_if (starts_there earlier.old link) 202 (pointer path.now)) tt
+        result }
     ensures links { OnOk result (earlier.new ≡ earlier.old ++ link ∷ []) }
 {
     let alone = earlier.add(link)?;
@@ -46,7 +48,8 @@ fn add_link(
     devices: &[NetworkDevice],
     earlier: &mut Links,
 ) -> Result<(), Fault>
-    ensures reads { Reads (link_faults devices.now earlier.old (pointer path.now) (view value.now)) tt result }
+    ensures reads { Reads (link_faults devices.now earlier.old (pointer path.now) (view value.now))
+        tt result }
     ensures links { OnOk result (earlier.new ≡ earlier.old ++ link_of (view value.now) ∷ []) }
 {
     object_of(
@@ -85,7 +88,8 @@ fn links_of(
     items: &[Value],
     devices: &[NetworkDevice],
 ) -> Result<Links, Fault>
-    ensures { Reads (links_faults devices.now [] (pointer path.now) 0 (map view items.now)) (map link_of (map view items.now)) result }
+    ensures { Reads (links_faults devices.now [] (pointer path.now) 0 (map view items.now))
+        (map link_of (map view items.now)) result }
 {
     let mut links = Links::new(alloc);
     let mut place = 0;
@@ -104,7 +108,8 @@ pub fn links_member(
     object: &Value,
     devices: &[NetworkDevice],
 ) -> Result<Links, Fault>
-    ensures { Reads ((links_row devices.now).faults (pointer path.now) (view object.now)) (map link_of (items_of (member_of (codes "links") (view object.now)))) result }
+    ensures { Reads ((links_row devices.now).faults (pointer path.now) (view object.now))
+        (map link_of (items_of (member_of (codes "links") (view object.now)))) result }
 {
     match object.get("links") {
         Some(value) => {

@@ -33,7 +33,8 @@ pub fn processes_are_few(
     path: &Path<'_>,
     devices: &[NetworkDevice],
 ) -> Result<(), Fault>
-    ensures { Reads (fault_if (nat_lt process_limit (process_count devices.now)) 115 (below (pointer path.now) (codes "devices"))) tt result }
+    ensures { Reads (fault_if (nat_lt process_limit (process_count devices.now)) 115
+        (below (pointer path.now) (codes "devices"))) tt result }
 {
     let path = Path::Member(path, "devices");
     refuse_if(alloc, &path, 115, are_too_many(devices))

@@ -43,7 +43,8 @@ fn process_is_there(
     devices: &[NetworkDevice],
     report: &Report,
 ) -> Result<(), Fault>
-    ensures { Reads (fault_if (not (has_place devices.now report.now)) 205 (pointer path.now)) tt result }
+    ensures { Reads (fault_if (not (has_place devices.now report.now)) 205 (pointer path.now)) tt
+        result }
 {
     let there = has_collecting_process(devices, &report.device, &report.collecting_process);
     refuse_if(alloc, path, 205, !there)
@@ -51,7 +52,8 @@ fn process_is_there(
 
 /// Refuses a report at the path with a key field that stands for no part of an axis, or with an axis twice (206).
 fn key_is_axes(alloc: Global, path: &Path<'_>, report: &Report) -> Result<(), Fault>
-    ensures { Reads (fault_if (not (is_some (key_layout report.now.key))) 206 (pointer path.now)) tt result }
+    ensures { Reads (fault_if (not (is_some (key_layout report.now.key))) 206 (pointer path.now)) tt
+        result }
 {
     let fails = report.layout().is_none();
     refuse_if(alloc, path, 206, fails)
@@ -64,7 +66,8 @@ fn report_at(
     value: &Value,
     devices: &[NetworkDevice],
 ) -> Result<Report, Fault>
-    ensures { Reads (report_faults devices.now (pointer path.now) (view value.now)) (report_of (view value.now)) result }
+    ensures { Reads (report_faults devices.now (pointer path.now) (view value.now))
+        (report_of (view value.now)) result }
 {
     object_of(alloc, path, value, &["device", "collectingProcess", "key"])?;
     let device = required_member::<Name>(alloc, path, value, "device")?;
@@ -87,7 +90,9 @@ pub fn report_member(
     object: &Value,
     devices: &[NetworkDevice],
 ) -> Result<Report, Fault>
-    ensures { Reads ((required (codes "report") (report_faults devices.now)).faults (pointer path.now) (view object.now)) (report_of (member_of (codes "report") (view object.now))) result }
+    ensures { Reads ((required (codes "report") (report_faults devices.now)).faults
+        (pointer path.now) (view object.now))
+        (report_of (member_of (codes "report") (view object.now))) result }
 {
     match object.get("report") {
         Some(value) => report_at(alloc, &Path::Member(path, "report"), value, devices),

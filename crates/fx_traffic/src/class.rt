@@ -16,14 +16,15 @@ use crate::region::{read_region, whole};
 use crate::text::name_member;
 use fx_base::Fault;
 use fx_boxes::Region;
-use fx_walk::{Named, Names, Path, Sequence, is_empty_type, object_of, refusal};
 use fx_tables::{Class, Path as Route};
+use fx_walk::{Named, Names, Path, Sequence, is_empty_type, object_of, refusal};
 use serde_json::Value;
 use std::alloc::Global;
 
 /// The member `region`, which is whole where it isn't there.
 fn region_member(alloc: Global, path: &Path<'_>, object: &Value) -> Result<Region, Fault>
-    ensures { Reads ((optional (codes "region") region_faults).faults (pointer path.now) (view object.now)) (region_given (get (codes "region") (view object.now))) result }
+    ensures { Reads ((optional (codes "region") region_faults).faults (pointer path.now)
+        (view object.now)) (region_given (get (codes "region") (view object.now))) result }
 {
     match object.get("region") {
         Some(value) => read_region(alloc, &Path::Member(path, "region"), value),
@@ -37,7 +38,10 @@ fn paths_member<T: Named>(
     object: &Value,
     devices: &[T],
 ) -> Result<Sequence<Route>, Fault>
-    ensures { Reads ((required (codes "paths") (paths_faults (map T.name devices.now))).faults (pointer path.now) (view object.now)) (map (path_of (map T.name devices.now)) (items_of (member_of (codes "paths") (view object.now)))) result }
+    ensures { Reads ((required (codes "paths") (paths_faults (map T.name devices.now))).faults
+        (pointer path.now) (view object.now))
+        (map (path_of (map T.name devices.now))
+        (items_of (member_of (codes "paths") (view object.now)))) result }
 {
     match object.get("paths") {
         Some(value) => read_paths(alloc, &Path::Member(path, "paths"), value, devices),
@@ -47,7 +51,8 @@ fn paths_member<T: Named>(
 
 /// The member `exempt`: whether it is there.
 fn exempt_member(alloc: Global, path: &Path<'_>, object: &Value) -> Result<bool, Fault>
-    ensures { Reads ((optional (codes "exempt") exempt_faults).faults (pointer path.now) (view object.now)) (is_some (get (codes "exempt") (view object.now))) result }
+    ensures { Reads ((optional (codes "exempt") exempt_faults).faults (pointer path.now)
+        (view object.now)) (is_some (get (codes "exempt") (view object.now))) result }
 {
     match object.get("exempt") {
         Some(value) => {
@@ -69,7 +74,8 @@ fn read_class<T: Named>(
     devices: &[T],
     earlier: &mut Names,
 ) -> Result<Class, Fault>
-    ensures reads { Reads (class_faults (map T.name devices.now) earlier.old (pointer path.now) (view value.now)) (class_of (map T.name devices.now) (view value.now)) result }
+    ensures reads { Reads (class_faults (map T.name devices.now) earlier.old (pointer path.now)
+        (view value.now)) (class_of (map T.name devices.now) (view value.now)) result }
     ensures names { OnOk result (earlier.new ≡ earlier.old ++ class_name (view value.now) ∷ []) }
 {
     object_of(alloc, path, value, &["name", "region", "paths", "exempt"])?;
@@ -87,7 +93,9 @@ fn classes_of<T: Named>(
     items: &[Value],
     devices: &[T],
 ) -> Result<Sequence<Class>, Fault>
-    ensures { Reads (entries_faults (class_faults (map T.name devices.now)) class_name [] (pointer path.now) 0 (map view items.now)) (map (class_of (map T.name devices.now)) (map view items.now)) result }
+    ensures { Reads (entries_faults (class_faults (map T.name devices.now)) class_name []
+        (pointer path.now) 0 (map view items.now))
+        (map (class_of (map T.name devices.now)) (map view items.now)) result }
 {
     let mut names = Names::new(alloc);
     let mut classes = Vec::new(alloc);
@@ -107,7 +115,9 @@ pub fn read_list<T: Named>(
     value: &Value,
     devices: &[T],
 ) -> Result<Sequence<Class>, Fault>
-    ensures { Reads (list_of_classes_faults (map T.name devices.now) (pointer path.now) (view value.now)) (map (class_of (map T.name devices.now)) (items_of (view value.now))) result }
+    ensures { Reads (list_of_classes_faults (map T.name devices.now) (pointer path.now)
+        (view value.now)) (map (class_of (map T.name devices.now)) (items_of (view value.now)))
+        result }
 {
     let items = items_in(alloc, path, value, 0, CLASSES)?;
     classes_of(alloc, path, items, devices)

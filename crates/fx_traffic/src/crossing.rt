@@ -7,10 +7,11 @@ ghost use Rattle.fx_walk.specs.Scalars.{text_of};
 ghost use Rattle.fx_traffic.specs.Texts.{name_faults};
 ghost use Rattle.fx_traffic.specs.Crossings.{number_in, number_of, device_faults, inwards_in, inwards_of, direction_faults, crossing_faults, crossing_of};
 
+use crate::list::FromValueAmong;
 use crate::text::read_name;
 use fx_base::{Fault, Name};
-use fx_walk::{Named, Path, object_of, place_of, refusal};
 use fx_tables::Crossing;
+use fx_walk::{Named, Path, object_of, place_of, refusal};
 use serde_json::Value;
 use std::alloc::Global;
 
@@ -29,7 +30,8 @@ fn device_at<T: Named>(
     value: &Value,
     devices: &[T],
 ) -> Result<u64, Fault>
-    ensures { Reads (device_faults (map T.name devices.now) (pointer path.now) (view value.now)) (number_of (map T.name devices.now) (view value.now)) result }
+    ensures { Reads (device_faults (map T.name devices.now) (pointer path.now) (view value.now))
+        (number_of (map T.name devices.now) (view value.now)) result }
 {
     let name = read_name(alloc, path, value)?;
     match number_in(devices, &name) {
@@ -44,7 +46,9 @@ fn device_member<T: Named>(
     object: &Value,
     devices: &[T],
 ) -> Result<u64, Fault>
-    ensures { Reads ((required (codes "device") (device_faults (map T.name devices.now))).faults (pointer path.now) (view object.now)) (number_of (map T.name devices.now) (member_of (codes "device") (view object.now))) result }
+    ensures { Reads ((required (codes "device") (device_faults (map T.name devices.now))).faults
+        (pointer path.now) (view object.now))
+        (number_of (map T.name devices.now) (member_of (codes "device") (view object.now))) result }
 {
     match object.get("device") {
         Some(value) => device_at(alloc, &Path::Member(path, "device"), value, devices),
@@ -53,7 +57,8 @@ fn device_member<T: Named>(
 }
 
 fn interface_member(alloc: Global, path: &Path<'_>, object: &Value) -> Result<Name, Fault>
-    ensures { Reads ((required (codes "interface") name_faults).faults (pointer path.now) (view object.now)) (text_of (member_of (codes "interface") (view object.now))) result }
+    ensures { Reads ((required (codes "interface") name_faults).faults (pointer path.now)
+        (view object.now)) (text_of (member_of (codes "interface") (view object.now))) result }
 {
     match object.get("interface") {
         Some(value) => read_name(alloc, &Path::Member(path, "interface"), value),
@@ -74,7 +79,8 @@ fn inwards_in(text: &str) -> Option<bool>
 
 /// A direction: 104 for no text, 302 for another text than `ingress` and `egress`.
 fn inwards_at(alloc: Global, path: &Path<'_>, value: &Value) -> Result<bool, Fault>
-    ensures { Reads (direction_faults (pointer path.now) (view value.now)) (inwards_of (view value.now)) result }
+    ensures { Reads (direction_faults (pointer path.now) (view value.now))
+        (inwards_of (view value.now)) result }
 {
     let Some(text) = value.as_str() else {
         return Err(refusal(alloc, 104, path));
@@ -86,7 +92,8 @@ fn inwards_at(alloc: Global, path: &Path<'_>, value: &Value) -> Result<bool, Fau
 }
 
 fn inwards_member(alloc: Global, path: &Path<'_>, object: &Value) -> Result<bool, Fault>
-    ensures { Reads ((required (codes "direction") direction_faults).faults (pointer path.now) (view object.now)) (inwards_of (member_of (codes "direction") (view object.now))) result }
+    ensures { Reads ((required (codes "direction") direction_faults).faults (pointer path.now)
+        (view object.now)) (inwards_of (member_of (codes "direction") (view object.now))) result }
 {
     match object.get("direction") {
         Some(value) => inwards_at(alloc, &Path::Member(path, "direction"), value),
@@ -94,22 +101,26 @@ fn inwards_member(alloc: Global, path: &Path<'_>, object: &Value) -> Result<bool
     }
 }
 
-/// A crossing of one of these devices.
-pub fn read_crossing<T: Named>(
-    alloc: Global,
-    path: &Path<'_>,
-    value: &Value,
-    devices: &[T],
-) -> Result<Crossing, Fault>
-    ensures { Reads (crossing_faults (map T.name devices.now) (pointer path.now) (view value.now)) (crossing_of (map T.name devices.now) (view value.now)) result }
-{
-    object_of(alloc, path, value, &["device", "interface", "direction"])?;
-    let device = device_member(alloc, path, value, devices)?;
-    let interface = interface_member(alloc, path, value)?;
-    let inwards = inwards_member(alloc, path, value)?;
-    Ok(Crossing {
-        device,
-        interface,
-        inwards,
-    })
+/// A crossing of one of the devices.
+impl FromValueAmong for Crossing {
+    ghost faults = { crossing_faults };
+
+    ghost meaning = { crossing_of };
+
+    fn from_value_among<D: Named>(
+        alloc: Global,
+        path: &Path<'_>,
+        value: &Value,
+        devices: &[D],
+    ) -> Result<Crossing, Fault> {
+        object_of(alloc, path, value, &["device", "interface", "direction"])?;
+        let device = device_member(alloc, path, value, devices)?;
+        let interface = interface_member(alloc, path, value)?;
+        let inwards = inwards_member(alloc, path, value)?;
+        Ok(Crossing {
+            device,
+            interface,
+            inwards,
+        })
+    }
 }

@@ -1,10 +1,14 @@
 //! Lists in a declaration of traffic.
+ghost use Rattle.std.specs.Prelude.{ℕ, List, map};
+ghost use Rattle.serde_json.specs.Data.{Data};
 ghost use Rattle.serde_json.specs.View.{view};
+ghost use Rattle.fx_walk.specs.Lists.{items_faults, items_of};
 ghost use Rattle.fx_walk.specs.Pointer.{pointer};
-ghost use Rattle.fx_traffic.specs.Lists.{IsListOf};
+ghost use Rattle.fx_walk.specs.Walk.{Found, Reads};
+ghost use Rattle.fx_traffic.specs.Lists.{IsListOf, list_faults};
 
 use fx_base::Fault;
-use fx_walk::{Path, items_by};
+use fx_walk::{Named, Path, Sequence, items_by};
 use serde_json::Value;
 use std::alloc::Global;
 
@@ -19,4 +23,63 @@ pub fn items_in<'v>(
     ensures { IsListOf least most (pointer path.now) (view value.now) result }
 {
     items_by(alloc, path, value, least, most, 304, 305)
+}
+
+/// What a value may be read as that names devices.
+pub trait FromValueAmong: Drop {
+    /// The faults of a value at a pointer, where the devices have these names.
+    ghost faults: { List (List ℕ) → List ℕ → Data → List Found };
+
+    /// What a value without a fault means there.
+    ghost meaning: { List (List ℕ) → Data → Self };
+
+    /// Reads the value that stands at the path, or answers its first fault.
+    fn from_value_among<D: Named>(
+        alloc: Global,
+        path: &Path<'_>,
+        value: &Value,
+        devices: &[D],
+    ) -> Result<Self, Fault>
+        ensures { let names = map D.name devices.now in
+            Reads (faults names (pointer path.now) (view value.now))
+            (meaning names (view value.now)) result };
+}
+
+/// What the items of the list at the path mean, in order.
+fn values_among<T: FromValueAmong, D: Named>(
+    alloc: Global,
+    path: &Path<'_>,
+    items: &[Value],
+    devices: &[D],
+) -> Result<Sequence<T>, Fault>
+    ensures { let names = map D.name devices.now in
+        let faults = items_faults (T.faults names) (pointer path.now) 0 (map view items.now) in
+        Reads faults (map (T.meaning names) (map view items.now)) result }
+{
+    let mut values = Vec::new(alloc);
+    let mut place = 0;
+    for item in items {
+        let path = Path::Item(&*path, place);
+        values.push(T::from_value_among(alloc, &path, item, devices)?)?;
+        place += 1;
+    }
+    Ok(Sequence::from_vec(values))
+}
+
+/// A list of `least` to `most` items: 104, 305 and 304 as for any list, or the faults of its items.
+pub fn list_among<T: FromValueAmong, D: Named>(
+    alloc: Global,
+    path: &Path<'_>,
+    value: &Value,
+    least: usize,
+    most: usize,
+    devices: &[D],
+) -> Result<Sequence<T>, Fault>
+    ensures { let names = map D.name devices.now in
+        let faults = list_faults least most (λ up ds. items_faults (T.faults names) up 0 ds) in
+        let meaning = map (T.meaning names) (items_of (view value.now)) in
+        Reads (faults (pointer path.now) (view value.now)) meaning result }
+{
+    let items = items_in(alloc, path, value, least, most)?;
+    values_among(alloc, path, items, devices)
 }

@@ -11,10 +11,10 @@ ghost use Rattle.fx_traffic.specs.Regions.{IsOn, all_on, axis_name, region_fault
 
 use fx_base::Fault;
 use fx_boxes::{Fields, Region};
-use fx_walk::{Path, object_of, refusal};
 use fx_elements::{
     AXES, Axis, EVERY_AXIS, Element, Range, TOPS, cut, read_on, read_value, top, values_fit, width,
 };
+use fx_walk::{Path, object_of, refusal};
 use serde_json::Value;
 use std::alloc::Global;
 
@@ -81,7 +81,8 @@ fn all_on(axis: Axis) -> Range
 
 /// Values on the axis: 104 for no text, 302 for a text that spells none.
 fn values_at(alloc: Global, path: &Path<'_>, value: &Value, axis: Axis) -> Result<Range, Fault>
-    ensures answer { Reads (values_faults axis (pointer path.now) (view value.now)) (values_in axis (view value.now)) result }
+    ensures answer { Reads (values_faults axis (pointer path.now) (view value.now))
+        (values_in axis (view value.now)) result }
     ensures bound { IfOk result (IsOn axis) }
 {
     let Some(text) = value.as_str() else {
@@ -116,7 +117,9 @@ fn axis_name(axis: Axis) -> &'static str
 
 /// The values on the axis that an object's member gives; all where it isn't there.
 fn axis_member(alloc: Global, path: &Path<'_>, object: &Value, axis: Axis) -> Result<Range, Fault>
-    ensures answer { Reads ((optional (axis_name axis) (values_faults axis)).faults (pointer path.now) (view object.now)) (values_given axis (get (axis_name axis) (view object.now))) result }
+    ensures answer { Reads ((optional (axis_name axis) (values_faults axis)).faults
+        (pointer path.now) (view object.now))
+        (values_given axis (get (axis_name axis) (view object.now))) result }
     ensures bound { IfOk result (IsOn axis) }
 {
     let name = axis_name(axis);
@@ -161,7 +164,8 @@ fn region_in(alloc: Global, path: &Path<'_>, object: &Value) -> Result<Region, F
 
 /// A region: an object that names axes, each with the values that packets may have on it.
 pub fn read_region(alloc: Global, path: &Path<'_>, value: &Value) -> Result<Region, Fault>
-    ensures { Reads (region_faults (pointer path.now) (view value.now)) (region_of (view value.now)) result }
+    ensures { Reads (region_faults (pointer path.now) (view value.now)) (region_of (view value.now))
+        result }
 {
     object_of(alloc, path, value, &NAMES)?;
     region_in(alloc, path, value)

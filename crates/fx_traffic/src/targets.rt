@@ -31,7 +31,14 @@ impl<'a> Model for Target<'a> {
 
     ghost Value = { Target };
 
-    ghost view = { λ t. record { class = t.class; path = t.path; region = t.region; crossings = t.crossings.now; exempt = t.exempt } };
+    ghost view = { λ t. record {
+      class = t.class;
+      path = t.path;
+      region = t.region;
+      crossings =
+          t.crossings.now;
+      exempt = t.exempt;
+    } };
 }
 
 /// Adds the paths of the class of this number.
@@ -40,8 +47,11 @@ fn add_paths<'a>(
     number: u64,
     class: &'a Class,
 ) -> Result<(), AllocError>
-    ensures items { OnOk result (targets.new.items ≡ targets.old.items ++ of_targets.targets_along number class.now.region class.now.exempt 1 class.now.paths) }
-    ensures regions { OnOk result (of_targets.AreRegions targets.old.items → of_targets.AreRegions targets.new.items) }
+    ensures items { OnOk result (targets.new.items
+        ≡ targets.old.items ++ of_targets.targets_along number class.now.region class.now.exempt 1
+        class.now.paths) }
+    ensures regions { OnOk result (of_targets.AreRegions targets.old.items
+        → of_targets.AreRegions targets.new.items) }
 {
     let region = class.region();
     let _greatest = region.far_corner();

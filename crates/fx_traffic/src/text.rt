@@ -13,7 +13,8 @@ use std::alloc::Global;
 
 /// A name: 104 for no text, 302 for a text that is no name.
 pub fn read_name(alloc: Global, path: &Path<'_>, value: &Value) -> Result<Name, Fault>
-    ensures { Reads (name_faults (pointer path.now) (view value.now)) (text_of (view value.now)) result }
+    ensures { Reads (name_faults (pointer path.now) (view value.now)) (text_of (view value.now))
+        result }
 {
     fx_walk::read_name(alloc, path, value, 302)
 }
@@ -25,7 +26,8 @@ fn unique_name(
     value: &Value,
     earlier: &mut Names,
 ) -> Result<Name, Fault>
-    ensures reads { Reads (name_once earlier.old (pointer path.now) (view value.now)) (text_of (view value.now)) result }
+    ensures reads { Reads (name_once earlier.old (pointer path.now) (view value.now))
+        (text_of (view value.now)) result }
     ensures names { OnOk result (earlier.new ≡ earlier.old ++ text_of (view value.now) ∷ []) }
 {
     unique_name_by(alloc, path, value, earlier, 302, 301)
@@ -38,8 +40,11 @@ pub fn name_member(
     object: &Value,
     earlier: &mut Names,
 ) -> Result<Name, Fault>
-    ensures reads { Reads ((required (codes "name") (name_once earlier.old)).faults (pointer path.now) (view object.now)) (text_of (member_of (codes "name") (view object.now))) result }
-    ensures names { OnOk result (earlier.new ≡ earlier.old ++ text_of (member_of (codes "name") (view object.now)) ∷ []) }
+    ensures reads { Reads ((required (codes "name") (name_once earlier.old)).faults
+        (pointer path.now) (view object.now)) (text_of (member_of (codes "name") (view object.now)))
+        result }
+    ensures names { OnOk result (earlier.new
+        ≡ earlier.old ++ text_of (member_of (codes "name") (view object.now)) ∷ []) }
 {
     match object.get("name") {
         Some(value) => unique_name(alloc, &Path::Member(path, "name"), value, earlier),

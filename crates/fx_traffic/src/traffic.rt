@@ -9,9 +9,9 @@ ghost use Rattle.fx_traffic.specs.Classes.{class_of, list_of_classes_faults, tra
 
 use crate::class::read_list;
 use fx_base::Fault;
-use fx_walk::{Named, Path, Sequence, object_of, refusal};
-use fx_tables::{Class, Classes};
 use fx_plan::Plan;
+use fx_tables::{Class, Classes};
+use fx_walk::{Named, Path, Sequence, object_of, refusal};
 use serde_json::Value;
 use std::alloc::Global;
 use std::marker::Model;
@@ -46,7 +46,10 @@ fn classes_member<T: Named>(
     object: &Value,
     devices: &[T],
 ) -> Result<Sequence<Class>, Fault>
-    ensures { Reads ((required (codes "classes") (list_of_classes_faults (map T.name devices.now))).faults (pointer path.now) (view object.now)) (map (class_of (map T.name devices.now)) (items_of (member_of (codes "classes") (view object.now)))) result }
+    ensures { Reads ((required (codes "classes")
+        (list_of_classes_faults (map T.name devices.now))).faults (pointer path.now)
+        (view object.now)) (map (class_of (map T.name devices.now))
+        (items_of (member_of (codes "classes") (view object.now)))) result }
 {
     match object.get("classes") {
         Some(value) => read_list(alloc, &Path::Member(path, "classes"), value, devices),
@@ -61,7 +64,8 @@ fn traffic_at<T: Named>(
     value: &Value,
     devices: &[T],
 ) -> Result<Traffic, Fault>
-    ensures { Reads (traffic_faults (map T.name devices.now) (pointer path.now) (view value.now)) (traffic_of (map T.name devices.now) (view value.now)) result }
+    ensures { Reads (traffic_faults (map T.name devices.now) (pointer path.now) (view value.now))
+        (traffic_of (map T.name devices.now) (view value.now)) result }
 {
     object_of(alloc, path, value, &["classes"])?;
     let classes = classes_member(alloc, path, value, devices)?;
@@ -76,7 +80,8 @@ pub(crate) fn read_classes<T: Named>(
     value: &Value,
     devices: &[T],
 ) -> Result<Traffic, Fault>
-    ensures { Reads (traffic_faults (map T.name devices.now) [] (view value.now)) (traffic_of (map T.name devices.now) (view value.now)) result }
+    ensures { Reads (traffic_faults (map T.name devices.now) [] (view value.now))
+        (traffic_of (map T.name devices.now) (view value.now)) result }
 {
     traffic_at(alloc, &Path::Root, value, devices)
 }
@@ -90,7 +95,8 @@ pub(crate) fn read_classes<T: Named>(
 /// earlier class, 302 a text that isn't allowed, 303 the name of no device, 304 a class without a path, 305 too
 /// many entries; 900, at no place, for want of memory.
 pub fn read_traffic(alloc: Global, value: &Value, plan: &Plan) -> Result<Traffic, Fault>
-    ensures { Reads (traffic_faults (device_names plan.now) [] (view value.now)) (traffic_of (device_names plan.now) (view value.now)) result }
+    ensures { Reads (traffic_faults (device_names plan.now) [] (view value.now))
+        (traffic_of (device_names plan.now) (view value.now)) result }
 {
     read_classes(alloc, value, plan.network().devices.as_slice())
 }

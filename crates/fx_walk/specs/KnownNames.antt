@@ -1,7 +1,12 @@
--- Names that stand for entries of a list (leafrefs, RFC 7950, section 9.9).
-use Rattle.std.specs.Prelude.{ℕ, List, [], not, Option, Some, None, IsSome}
+-- Names that stand for things that are known by theirs.
+use Rattle.std.specs.Prelude.{ℕ, List, [], Option, Some, None, not, IsSome}
+use Rattle.fx_walk.specs.Pointer.{below}
 use Rattle.fx_walk.specs.Walk.{Found, fault_if}
-use Rattle.fx_walk.specs.Lists.{is_among, place_in}
+use Rattle.fx_walk.specs.Lists.{is_among, items_faults, place_in}
+
+-- a name stands for one of those that have these names
+abbrev pub IsKnown : List (List ℕ) → List ℕ → Type 0
+IsKnown known name = IsSome (place_in known name)
 
 -- a name that is not among those that are known
 abbrev pub unknown : List (List ℕ) → List ℕ → List ℕ → List Found
@@ -11,6 +16,6 @@ abbrev pub unknown_if_there : List (List ℕ) → List ℕ → Option (List ℕ)
 unknown_if_there known up None = []
 unknown_if_there known up (Some name) = unknown known up name
 
--- a name stands for one of those that have these names
-abbrev pub IsKnown : List (List ℕ) → List ℕ → Type 0
-IsKnown known name = IsSome (place_in known name)
+-- the faults of a list's items, where the list is an object's member of this name
+abbrev pub member_references : {X : Type 0} → (List ℕ → X → List Found) → List ℕ → List ℕ → List X → List Found
+member_references faults up name xs = items_faults faults (below up name) 0 xs

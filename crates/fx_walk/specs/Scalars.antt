@@ -29,6 +29,14 @@ text_faults up d = of_kind (as_str d) (λ text. []) up
 abbrev pub word_faults : {X : Type 0} → (List ℕ → Option X) → List ℕ → Data → List Found
 word_faults named = text_that 105 (λ text. is_some (named text))
 
+-- what a word stands for, and a member that may be there; the second is meant where there is no word
+abbrev pub meaning_of_word : {X : Type 0} → (List ℕ → Option X) → X → Data → X
+meaning_of_word named unsaid d = unwrap_or (named (text_of d)) unsaid
+
+abbrev pub word_given : {X : Type 0} → (List ℕ → Option X) → X → Option Data → X
+word_given named unsaid None = unsaid
+word_given named unsaid (Some d) = meaning_of_word named unsaid d
+
 -- ---- whole numbers, spelled without fraction and exponent
 
 abbrev pub whole_in : ℕ → ℕ → List ℕ → Option ℕ → List Found

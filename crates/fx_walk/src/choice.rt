@@ -22,14 +22,16 @@ fn how_many(value: &Value, names: &[&str]) -> usize
 }
 
 fn how_many_named(value: &Value, names: &[&str]) -> usize
-    ensures { result ≡ count_by (λ n. is_some (get n (view value.now))) (map (λ n. n.now) names.now) }
+    ensures { result ≡ count_by (λ n. is_some (get n (view value.now)))
+        (map (λ n. n.now) names.now) }
 {
     how_many(value, names)
 }
 
 /// Refuses an object with none of these members (103), or with several (105).
 pub fn one_of(alloc: Global, path: &Path<'_>, object: &Value, names: &[&str]) -> Result<(), Fault>
-    ensures { Reads ((one_of (map (λ n. n.now) names.now)).faults (pointer path.now) (view object.now)) tt result }
+    ensures { Reads ((one_of (map (λ n. n.now) names.now)).faults (pointer path.now)
+        (view object.now)) tt result }
 {
     match how_many_named(object, names) {
         0 => Err(refusal(alloc, 103, path)),
@@ -62,7 +64,8 @@ pub fn none_of(
     object: &Value,
     rows: &[Refused<'_>],
 ) -> Result<(), Fault>
-    ensures { Reads ((none_of (map numbered_row rows.now)).faults (pointer path.now) (view object.now)) tt result }
+    ensures { Reads ((none_of (map numbered_row rows.now)).faults (pointer path.now)
+        (view object.now)) tt result }
 {
     match first_refused(object, rows) {
         Some(row) => Err(refusal(alloc, row.number, &Path::Member(path, row.name))),

@@ -44,8 +44,10 @@ pub trait Entry: Named {
         value: &Value,
         earlier: &mut Names,
     ) -> Result<Self, Fault>
-        ensures reads { Reads (faults earlier.old (pointer path.now) (view value.now)) (meaning (view value.now)) result }
-        ensures names { OnOk result (earlier.new ≡ earlier.old ++ Self.name (meaning (view value.now)) ∷ []) };
+        ensures reads { Reads (faults earlier.old (pointer path.now) (view value.now))
+            (meaning (view value.now)) result }
+        ensures names { OnOk result (earlier.new
+            ≡ earlier.old ++ Self.name (meaning (view value.now)) ∷ []) };
 }
 
 /// A name that differs from those of earlier entries: 104 for no text, `wrong` for a text that is no name,
@@ -58,7 +60,8 @@ pub fn unique_name_by(
     wrong: u16,
     twice: u16,
 ) -> Result<Name, Fault>
-    ensures reads { Reads (name_once_by wrong twice earlier.old (pointer path.now) (view value.now)) (text_of (view value.now)) result }
+    ensures reads { Reads (name_once_by wrong twice earlier.old (pointer path.now) (view value.now))
+        (text_of (view value.now)) result }
     ensures names { OnOk result (earlier.new ≡ earlier.old ++ text_of (view value.now) ∷ []) }
     ensures same { OnErr result (earlier.new ≡ earlier.old) }
 {
@@ -76,7 +79,8 @@ pub fn unique_name(
     value: &Value,
     earlier: &mut Names,
 ) -> Result<Name, Fault>
-    ensures reads { Reads (name_once earlier.old (pointer path.now) (view value.now)) (text_of (view value.now)) result }
+    ensures reads { Reads (name_once earlier.old (pointer path.now) (view value.now))
+        (text_of (view value.now)) result }
     ensures names { OnOk result (earlier.new ≡ earlier.old ++ text_of (view value.now) ∷ []) }
     ensures same { OnErr result (earlier.new ≡ earlier.old) }
 {
@@ -90,8 +94,11 @@ pub fn name_member(
     object: &Value,
     earlier: &mut Names,
 ) -> Result<Name, Fault>
-    ensures reads { Reads ((required (codes "name") (name_once earlier.old)).faults (pointer path.now) (view object.now)) (text_of (member_of (codes "name") (view object.now))) result }
-    ensures names { OnOk result (earlier.new ≡ earlier.old ++ text_of (member_of (codes "name") (view object.now)) ∷ []) }
+    ensures reads { Reads ((required (codes "name") (name_once earlier.old)).faults
+        (pointer path.now) (view object.now)) (text_of (member_of (codes "name") (view object.now)))
+        result }
+    ensures names { OnOk result (earlier.new
+        ≡ earlier.old ++ text_of (member_of (codes "name") (view object.now)) ∷ []) }
     ensures same { OnErr result (earlier.new ≡ earlier.old) }
 {
     match object.get("name") {
@@ -171,7 +178,8 @@ fn entries_of<T: Entry>(
     path: &Path<'_>,
     items: &[Value],
 ) -> Result<Entries<T>, Fault>
-    ensures { Reads (entries_faults T.faults (λ d. T.name (T.meaning d)) [] (pointer path.now) 0 (map view items.now)) (named_entries T.name (map T.meaning (map view items.now))) result }
+    ensures { Reads (entries_faults T.faults (λ d. T.name (T.meaning d)) [] (pointer path.now) 0
+        (map view items.now)) (named_entries T.name (map T.meaning (map view items.now))) result }
 {
     let mut values = Vec::new(alloc);
     let mut names = Names::new(alloc);
@@ -197,7 +205,10 @@ pub fn named_member<T: Entry>(
     least: usize,
     most: usize,
 ) -> Result<Entries<T>, Fault>
-    ensures { Reads ((entries least most name.now T.faults (λ d. T.name (T.meaning d))).faults (pointer path.now) (view object.now)) (named_entries T.name (map T.meaning (items_of (member_of name.now (view object.now))))) result }
+    ensures { Reads ((entries least most name.now T.faults (λ d. T.name (T.meaning d))).faults
+        (pointer path.now) (view object.now))
+        (named_entries T.name (map T.meaning (items_of (member_of name.now (view object.now)))))
+        result }
 {
     match object.get(name) {
         Some(value) => {
@@ -225,7 +236,9 @@ pub fn entries_member<T: Entry>(
     least: usize,
     most: usize,
 ) -> Result<Sequence<T>, Fault>
-    ensures { Reads ((entries least most name.now T.faults (λ d. T.name (T.meaning d))).faults (pointer path.now) (view object.now)) (map T.meaning (items_of (member_of name.now (view object.now)))) result }
+    ensures { Reads ((entries least most name.now T.faults (λ d. T.name (T.meaning d))).faults
+        (pointer path.now) (view object.now))
+        (map T.meaning (items_of (member_of name.now (view object.now)))) result }
 {
     Ok(named_member(alloc, path, object, name, least, most)?.items)
 }

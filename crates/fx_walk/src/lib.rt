@@ -18,6 +18,7 @@ mod refuse;
 mod required_list;
 mod scalar;
 mod sequence;
+mod word;
 
 pub use choice::{Refused, none_of, one_of};
 pub use entries::{
@@ -29,8 +30,9 @@ pub use member::{FromValue, optional_member, required_member};
 pub use names::Names;
 pub use object::{document_of, object_of};
 pub use path::{Path, refusal};
-pub use reference::{is_named, known_name, known_names, place_of};
+pub use reference::{Refers, is_named, items_refer, place_of};
 pub use refuse::refuse_if;
 pub use required_list::{required_entries, required_items};
 pub use scalar::{Empty, Text, Whole, is_empty_type, read_name};
 pub use sequence::Sequence;
+pub use word::{Word, word_member};

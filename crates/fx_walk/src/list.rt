@@ -55,7 +55,8 @@ fn values_of<T: FromValue>(
     path: &Path<'_>,
     items: &[Value],
 ) -> Result<Sequence<T>, Fault>
-    ensures { Reads (items_faults T.faults (pointer path.now) 0 (map view items.now)) (map T.meaning (map view items.now)) result }
+    ensures { Reads (items_faults T.faults (pointer path.now) 0 (map view items.now))
+        (map T.meaning (map view items.now)) result }
 {
     let mut values = Vec::new(alloc);
     let mut place = 0;
@@ -76,7 +77,9 @@ pub fn items_member<T: FromValue>(
     least: usize,
     most: usize,
 ) -> Result<Sequence<T>, Fault>
-    ensures { Reads ((items least most name.now T.faults).faults (pointer path.now) (view object.now)) (map T.meaning (items_of (member_of name.now (view object.now)))) result }
+    ensures { Reads ((items least most name.now T.faults).faults (pointer path.now)
+        (view object.now)) (map T.meaning (items_of (member_of name.now (view object.now))))
+        result }
 {
     match object.get(name) {
         Some(value) => {

@@ -21,7 +21,8 @@ pub trait FromValue: Drop {
 
     /// Reads the value that stands at the path, or answers its first fault.
     fn from_value(alloc: Global, path: &Path<'_>, value: &Value) -> Result<Self, Fault>
-        ensures { Reads (faults (pointer path.now) (view value.now)) (meaning (view value.now)) result };
+        ensures { Reads (faults (pointer path.now) (view value.now)) (meaning (view value.now))
+            result };
 }
 
 /// A member that an object must have: 103 at the object where it isn't there.
@@ -31,7 +32,8 @@ pub fn required_member<T: FromValue>(
     object: &Value,
     name: &str,
 ) -> Result<T, Fault>
-    ensures { Reads ((required name.now T.faults).faults (pointer path.now) (view object.now)) (T.meaning (member_of name.now (view object.now))) result }
+    ensures { Reads ((required name.now T.faults).faults (pointer path.now) (view object.now))
+        (T.meaning (member_of name.now (view object.now))) result }
 {
     match object.get(name) {
         Some(value) => T::from_value(alloc, &Path::Member(path, name), value),
@@ -46,7 +48,8 @@ pub fn optional_member<T: FromValue>(
     object: &Value,
     name: &str,
 ) -> Result<Option<T>, Fault>
-    ensures { Reads ((optional name.now T.faults).faults (pointer path.now) (view object.now)) (option_map T.meaning (get name.now (view object.now))) result }
+    ensures { Reads ((optional name.now T.faults).faults (pointer path.now) (view object.now))
+        (option_map T.meaning (get name.now (view object.now))) result }
 {
     match object.get(name) {
         Some(value) => Ok(Some(T::from_value(alloc, &Path::Member(path, name), value)?)),

@@ -55,7 +55,8 @@ impl Names {
     pub fn add(&mut self, name: &Name) -> Result<bool, Fault>
         ensures answer { IfOk result (λ new. new ≡ not (is_among self.old name.now)) }
         ensures err { IfErr result (λ e. e ≡ fault_at 900 places.None) }
-        ensures names { OnOk result (self.new ≡ (if is_among self.old name.now then self.old else self.old ++ name.now ∷ [])) }
+        ensures names { OnOk result (self.new
+            ≡ (if is_among self.old name.now then self.old else self.old ++ name.now ∷ [])) }
         ensures same { OnErr result (self.new ≡ self.old) }
     {
         let text = String::from_str(self.alloc, name.as_str())?;

@@ -25,7 +25,9 @@ fn is_listed(listed: &[&str], name: &str) -> bool
 }
 
 fn first_other<'v>(members: &'v Map<String, Value>, listed: &[&str]) -> Option<&'v String>
-    ensures { option_map (λ k. k.now) result ≡ find (λ k. not (is_listed (map (λ t. t.now) listed.now) (string_bytes k))) (keys_of members.now.entries) }
+    ensures { option_map (λ k. k.now) result
+        ≡ find (λ k. not (is_listed (map (λ t. t.now) listed.now) (string_bytes k)))
+        (keys_of members.now.entries) }
 {
     members
         .keys()
@@ -40,7 +42,8 @@ pub fn object_of(
     value: &Value,
     listed: &[&str],
 ) -> Result<(), Fault>
-    ensures { IsObject object_faults (map (λ t. t.now) listed.now) (pointer path.now) (view value.now) result }
+    ensures { IsObject object_faults (map (λ t. t.now) listed.now) (pointer path.now)
+        (view value.now) result }
 {
     let Value::Object(members) = value else {
         return Err(refusal(alloc, 104, path));
@@ -65,7 +68,9 @@ fn first_refused<'v>(
     home: &str,
     listed: &[&str],
 ) -> Option<&'v String>
-    ensures { option_map (λ k. k.now) result ≡ find (λ k. not (is_listed (map (λ t. t.now) listed.now) (string_bytes k) || is_foreign home.now (string_bytes k))) (keys_of members.now.entries) }
+    ensures { option_map (λ k. k.now) result
+        ≡ find (λ k. not (is_listed (map (λ t. t.now) listed.now) (string_bytes k)
+        || is_foreign home.now (string_bytes k))) (keys_of members.now.entries) }
 {
     members.keys().find(|name| !(is_listed(listed, name.as_str())
         || is_foreign(home, name.as_str())))
@@ -80,7 +85,8 @@ pub fn document_of(
     home: &str,
     listed: &[&str],
 ) -> Result<(), Fault>
-    ensures { IsObject (open_object_faults home.now) (map (λ t. t.now) listed.now) (pointer path.now) (view value.now) result }
+    ensures { IsObject (open_object_faults home.now) (map (λ t. t.now) listed.now)
+        (pointer path.now) (view value.now) result }
 {
     let Value::Object(members) = value else {
         return Err(refusal(alloc, 104, path));

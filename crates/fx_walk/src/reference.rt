@@ -3,42 +3,68 @@ ghost use Rattle.std.specs.Prelude.{◌≡◌, ℕ, List, [], ◌∷◌, map};
 ghost use Rattle.std.specs.List.{position};
 ghost use Rattle.std.specs.Str.{bytes_eq};
 ghost use Rattle.fx_walk.specs.Pointer.{pointer};
-ghost use Rattle.fx_walk.specs.Walk.{Reads};
+ghost use Rattle.fx_walk.specs.Walk.{Found, Reads};
 ghost use Rattle.fx_walk.specs.Lists.{is_among, items_faults, place_in};
-ghost use Rattle.fx_walk.specs.KnownNames.{unknown};
+ghost use Rattle.fx_walk.specs.KnownNames.{member_references, unknown};
 
 use crate::entries::Named;
 use crate::names::Names;
 use crate::path::{Path, refusal};
+use crate::sequence::Sequence;
 use fx_base::{Fault, Name};
 use std::alloc::Global;
 
-/// Refuses the name at the path unless it is one of these (107).
-pub fn known_name(alloc: Global, path: &Path<'_>, name: &Name, known: &Names) -> Result<(), Fault>
-    ensures { Reads (unknown known.now (pointer path.now) name.now) tt result }
-{
-    if known.contains(name) {
-        Ok(())
-    } else {
-        Err(refusal(alloc, 107, path))
+/// What refers to things by their names.
+pub trait Refers {
+    /// The faults of one at a pointer, where these are the names of all things that it may refer to.
+    ghost faults: { List (List ℕ) → List ℕ → Self → List Found };
+
+    /// Refuses the first name in the one at the path that is none of these (107).
+    fn refers(&self, alloc: Global, path: &Path<'_>, known: &Names) -> Result<(), Fault>
+        ensures { Reads (faults known.now (pointer path.now) self.now) tt result };
+}
+
+impl Refers for Name {
+    ghost faults = { unknown };
+
+    fn refers(&self, alloc: Global, path: &Path<'_>, known: &Names) -> Result<(), Fault> {
+        if known.contains(self) {
+            Ok(())
+        } else {
+            Err(refusal(alloc, 107, path))
+        }
     }
 }
 
-/// Refuses the first name of the list at the path that is none of these (107).
-pub fn known_names(
+/// The same for all items of the list at the path.
+fn each_refers<T: Refers>(
     alloc: Global,
     path: &Path<'_>,
-    names: &[Name],
+    items: &[T],
     known: &Names,
 ) -> Result<(), Fault>
-    ensures { Reads (items_faults (unknown known.now) (pointer path.now) 0 names.now) tt result }
+    ensures { Reads (items_faults (T.faults known.now) (pointer path.now) 0 items.now) tt result }
 {
     let mut place = 0;
-    for name in names {
-        known_name(alloc, &Path::Item(&*path, place), name, known)?;
+    for item in items {
+        item.refers(alloc, &Path::Item(&*path, place), known)?;
         place += 1;
     }
     Ok(())
+}
+
+/// The same for all items of the list that is the member `name` of the object at the path.
+pub fn items_refer<T: Refers>(
+    alloc: Global,
+    path: &Path<'_>,
+    name: &str,
+    items: &Sequence<T>,
+    known: &Names,
+) -> Result<(), Fault>
+    ensures { let faults = member_references (T.faults known.now) in
+        Reads (faults (pointer path.now) name.now items.now) tt result }
+{
+    each_refers(alloc, &Path::Member(path, name), items.as_slice(), known)
 }
 
 /// Whether an entry has the name.

@@ -23,7 +23,9 @@ pub fn required_items<T: FromValue>(
     name: &str,
     most: usize,
 ) -> Result<Sequence<T>, Fault>
-    ensures { Reads ((required_items most name.now T.faults).faults (pointer path.now) (view object.now)) (map T.meaning (items_of (member_of name.now (view object.now)))) result }
+    ensures { Reads ((required_items most name.now T.faults).faults (pointer path.now)
+        (view object.now)) (map T.meaning (items_of (member_of name.now (view object.now))))
+        result }
 {
     match object.get(name) {
         Some(_) => items_member(alloc, path, object, name, 0, most),
@@ -39,7 +41,9 @@ pub fn required_entries<T: Entry>(
     name: &str,
     most: usize,
 ) -> Result<Sequence<T>, Fault>
-    ensures { Reads ((required_entries most name.now T.faults (λ d. T.name (T.meaning d))).faults (pointer path.now) (view object.now)) (map T.meaning (items_of (member_of name.now (view object.now)))) result }
+    ensures { Reads ((required_entries most name.now T.faults (λ d. T.name (T.meaning d))).faults
+        (pointer path.now) (view object.now))
+        (map T.meaning (items_of (member_of name.now (view object.now)))) result }
 {
     match object.get(name) {
         Some(_) => entries_member(alloc, path, object, name, 0, most),

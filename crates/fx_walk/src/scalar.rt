@@ -17,7 +17,8 @@ use std::marker::Model;
 
 /// A name: 104 for no text, and this number for a text that is no name.
 pub fn read_name(alloc: Global, path: &Path<'_>, value: &Value, wrong: u16) -> Result<Name, Fault>
-    ensures { Reads (text_that wrong is_name (pointer path.now) (view value.now)) (text_of (view value.now)) result }
+    ensures { Reads (text_that wrong is_name (pointer path.now) (view value.now))
+        (text_of (view value.now)) result }
 {
     let Some(text) = value.as_str() else {
         return Err(refusal(alloc, 104, path));

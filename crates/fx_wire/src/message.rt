@@ -23,7 +23,12 @@ impl<'a> Model for Message<'a> {
 
     ghost Value = { messages.Message };
 
-    ghost view = { λ m. record { octets = 16 + length m.body.now; header = m.header; sets = told (sets_of m.body.now) } };
+    ghost view = { λ m. record {
+      octets = 16
+          + length m.body.now;
+      header = m.header;
+      sets = told (sets_of m.body.now);
+    } };
 
     ghost invariant = { λ m. is_ok (sets_of m.body.now) ≡ true };
 }

@@ -29,7 +29,8 @@ pub fn message_length(sets: &[Set<'_>]) -> Option<u16>
 /// Writes a version and the length of the whole message.
 #[tactic(auto, unfolding(crate::specs::Writing::version_octets))]
 fn put_version<S: Sink>(sink: &mut S, length: u16) -> Result<(), Fault>
-    ensures ok { OnOk result (Writes (S.taken sink.old) (S.taken sink.new) (writing.version_octets length)) }
+    ensures ok { OnOk result (Writes (S.taken sink.old) (S.taken sink.new)
+        (writing.version_octets length)) }
     ensures going { OnOk result (S.failed sink.old ≡ false → S.failed sink.new ≡ false) }
     ensures err { IfErr result (λ e. (e ≡ fault_at 902 places.None) × (S.failed sink.new ≡ true)) }
 {
@@ -40,7 +41,8 @@ fn put_version<S: Sink>(sink: &mut S, length: u16) -> Result<(), Fault>
 /// Writes what a header tells.
 #[tactic(auto, unfolding(crate::specs::Writing::origin_octets))]
 fn put_origin<S: Sink>(sink: &mut S, header: &Header) -> Result<(), Fault>
-    ensures ok { OnOk result (Writes (S.taken sink.old) (S.taken sink.new) (writing.origin_octets header.now)) }
+    ensures ok { OnOk result (Writes (S.taken sink.old) (S.taken sink.new)
+        (writing.origin_octets header.now)) }
     ensures going { OnOk result (S.failed sink.old ≡ false → S.failed sink.new ≡ false) }
     ensures err { IfErr result (λ e. (e ≡ fault_at 902 places.None) × (S.failed sink.new ≡ true)) }
 {
@@ -53,7 +55,8 @@ fn put_origin<S: Sink>(sink: &mut S, header: &Header) -> Result<(), Fault>
 #[tactic(auto, unfolding(crate::specs::Writing::set_octets))]
 fn put_set<S: Sink>(sink: &mut S, set: &Set<'_>) -> Result<(), Fault>
     requires { writing.set_length (set_parts set.now) ≤ 65535 }
-    ensures ok { OnOk result (Writes (S.taken sink.old) (S.taken sink.new) (writing.set_octets (set_parts set.now))) }
+    ensures ok { OnOk result (Writes (S.taken sink.old) (S.taken sink.new)
+        (writing.set_octets (set_parts set.now))) }
     ensures going { OnOk result (S.failed sink.old ≡ false → S.failed sink.new ≡ false) }
     ensures err { IfErr result (λ e. (e ≡ fault_at 902 places.None) × (S.failed sink.new ≡ true)) }
 {
@@ -66,7 +69,8 @@ fn put_set<S: Sink>(sink: &mut S, set: &Set<'_>) -> Result<(), Fault>
 /// Writes sets, one after another.
 fn put_sets<S: Sink>(sink: &mut S, sets: &[Set<'_>]) -> Result<(), Fault>
     requires { writing.message_length (map set_parts sets.now) ≤ 65535 }
-    ensures ok { OnOk result (Writes (S.taken sink.old) (S.taken sink.new) (writing.sets_octets (map set_parts sets.now))) }
+    ensures ok { OnOk result (Writes (S.taken sink.old) (S.taken sink.new)
+        (writing.sets_octets (map set_parts sets.now))) }
     ensures going { OnOk result (S.failed sink.old ≡ false → S.failed sink.new ≡ false) }
     ensures err { IfErr result (λ e. (e ≡ fault_at 902 places.None) × (S.failed sink.new ≡ true)) }
 {
@@ -82,7 +86,8 @@ fn put_sets<S: Sink>(sink: &mut S, sets: &[Set<'_>]) -> Result<(), Fault>
 /// Fails with 902, at no place, where a write fails. How much the sink has taken then is open.
 pub fn put_message<S: Sink>(sink: &mut S, header: &Header, sets: &[Set<'_>]) -> Result<(), Fault>
     requires { writing.message_length (map set_parts sets.now) ≤ 65535 }
-    ensures ok { OnOk result (Writes (S.taken sink.old) (S.taken sink.new) (writing.message_octets header.now (map set_parts sets.now))) }
+    ensures ok { OnOk result (Writes (S.taken sink.old) (S.taken sink.new)
+        (writing.message_octets header.now (map set_parts sets.now))) }
     ensures going { OnOk result (S.failed sink.old ≡ false → S.failed sink.new ≡ false) }
     ensures err { IfErr result (λ e. (e ≡ fault_at 902 places.None) × (S.failed sink.new ≡ true)) }
 {
@@ -97,5 +102,6 @@ pub fn put_message<S: Sink>(sink: &mut S, header: &Header, sets: &[Set<'_>]) -> 
 /// What is written is that message: it is read back with its header and its sets.
 pub fn messages_are_read()
     ensures { (header : Header) (sets : List SetParts) → writing.IsMessage header sets
-        → front (writing.message_octets header sets) ≡ complete (record { octets = writing.message_length sets; header = header; sets = sets }) }
+        → front (writing.message_octets header sets)
+        ≡ complete (record { octets = writing.message_length sets; header = header; sets = sets }) }
 {}

@@ -6,15 +6,15 @@ use Rattle.fx_base.specs.Window.{octets_of}
 use Rattle.fx_base.specs.Limits.{line_length_limit}
 use Rattle.fx_base.proofs.part.find_line.Goals as goal
 
-pub returns-then-n-gt-line_length_limit-clause-stop : goal.returns-then-n-gt-line_length_limit-clause-stop
-returns-then-n-gt-line_length_limit-clause-stop g c =
+pub returns-then-n-gt-LONGEST-clause-stop : goal.returns-then-n-gt-LONGEST-clause-stop
+returns-then-n-gt-LONGEST-clause-stop g c =
     let w = c.reading.window in
-    long_line w.held w.left (octets_of c.args.window.now) line_length_limit c.reading.invariant.octets (omega (arith, c.in-Some.ensures.found.0, ap line_len c.octets-bytes.ensures.value, c.if-n-gt-line_length_limit.true))
+    long_line w.held w.left (octets_of c.args.window.now) line_length_limit c.reading.invariant.octets (omega (arith, c.in-Some.ensures.found.0, ap line_len c.octets-bytes.ensures.value, c.if-n-gt-LONGEST.true))
 
-pub returns-then-held-gt-line_length_limit-clause-stop : goal.returns-then-held-gt-line_length_limit-clause-stop
-returns-then-held-gt-line_length_limit-clause-stop g c =
+pub returns-then-held-gt-LONGEST-clause-stop : goal.returns-then-held-gt-LONGEST-clause-stop
+returns-then-held-gt-LONGEST-clause-stop g c =
     let w = c.reading.window in
-    long_line w.held w.left (octets_of c.args.window.now) line_length_limit c.reading.invariant.octets (omega (arith, c.in_default.ensures.none, ap line_len c.octets-bytes.ensures.value, ap length c.octets-bytes.ensures.value, c.if-held-gt-line_length_limit.true))
+    long_line w.held w.left (octets_of c.args.window.now) line_length_limit c.reading.invariant.octets (omega (arith, c.in_default.ensures.none, ap line_len c.octets-bytes.ensures.value, ap length c.octets-bytes.ensures.value, c.if-held-gt-LONGEST.true))
 
 pub returns-in_default-fill-clause-stop : goal.returns-in_default-fill-clause-stop
 returns-in_default-fill-clause-stop g c =

@@ -21,4 +21,4 @@ returns-in_err-destinations-clause-reads c =
 
 pub returns-clause-reads : goal.returns-clause-reads
 returns-clause-reads c =
-    (rw (c.in_ok-object_of.ensures (exporting_process_rows c.args.earlier.now) refl, c.in_ok-name.ensures.reads.0, c.in_ok-mode.ensures.0, c.in_ok-destinations.ensures.0) refl, rw (c.in_ok-name.ensures.reads.1, c.export_mode_given.ensures, c.in_ok-mode.ensures.1, c.in_ok-destinations.ensures.1) refl)
+    (rw (c.in_ok-object_of.ensures (exporting_process_rows c.args.earlier.now) refl, c.in_ok-name.ensures.reads.0, c.in_ok-mode.ensures.0, c.in_ok-destinations.ensures.0) refl, rw (c.in_ok-name.ensures.reads.1, c.in_ok-mode.ensures.1, c.in_ok-destinations.ensures.1) refl)

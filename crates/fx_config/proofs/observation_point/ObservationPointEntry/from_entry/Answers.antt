@@ -29,4 +29,4 @@ returns-in_err-processes-clause-reads c =
 
 pub returns-clause-reads : goal.returns-clause-reads
 returns-clause-reads c =
-    (rw (c.in_ok-object_of.ensures (observation_point_rows c.args.earlier.now) refl, c.in_ok-name.ensures.reads.0, c.in_ok-domain.ensures.0, c.in_ok-interfaces.ensures.0, c.in_ok-direction.ensures.0, c.in_ok-processes.ensures.0) refl, rw (c.in_ok-name.ensures.reads.1, c.number.ensures.value, c.in_ok-domain.ensures.1, c.in_ok-interfaces.ensures.1, c.direction_given.ensures, c.in_ok-direction.ensures.1, c.in_ok-processes.ensures.1) refl)
+    (rw (c.in_ok-object_of.ensures (observation_point_rows c.args.earlier.now) refl, c.in_ok-name.ensures.reads.0, c.in_ok-domain.ensures.0, c.in_ok-interfaces.ensures.0, c.in_ok-direction.ensures.0, c.in_ok-processes.ensures.0) refl, rw (c.in_ok-name.ensures.reads.1, c.number.ensures.value, c.in_ok-domain.ensures.1, c.in_ok-interfaces.ensures.1, c.in_ok-direction.ensures.1, c.in_ok-processes.ensures.1) refl)

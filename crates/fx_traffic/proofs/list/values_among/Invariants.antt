@@ -2,15 +2,14 @@ use Rattle.std.proofs.Common.{◌≡◌, ◌++◌, drop, map}
 use Rattle.serde_json.specs.View.{view}
 use Rattle.fx_walk.specs.Pointer.{pointer}
 use Rattle.fx_walk.specs.Lists.{items_faults}
-use Rattle.fx_traffic.specs.Crossings.{crossing_faults, crossing_of}
-use Rattle.fx_traffic.proofs.path.crossings_of.Given as goal
+use Rattle.fx_traffic.proofs.list.values_among.Given as goal
 
 abbrev pub invariant-loop-item : goal.invariant-loop-item
 invariant-loop-item g l =
-    let faults = crossing_faults (map g.T.Named.name l.devices) in
-    let meaning = crossing_of (map g.T.Named.name l.devices) in
+    let faults = g.T.FromValueAmong.faults (map g.D.Named.name l.devices) in
+    let meaning = g.T.FromValueAmong.meaning (map g.D.Named.name l.devices) in
     record {
       place : l.place ≡ l.item-index;
       faults : items_faults faults (pointer l.path) 0 (map view l.items) ≡ items_faults faults (pointer l.path) l.place (map view (drop l.place l.items));
-      crossings : l.crossings.items ++ map meaning (map view (drop l.place l.items)) ≡ map meaning (map view l.items);
+      values : l.values.items ++ map meaning (map view (drop l.place l.items)) ≡ map meaning (map view l.items);
     }

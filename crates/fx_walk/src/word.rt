@@ -1,0 +1,60 @@
+//! Values that are written as one of a few words.
+ghost use Rattle.std.specs.Prelude.{◌≡◌, ℕ, List, Option};
+ghost use Rattle.serde_json.specs.Find.{get};
+ghost use Rattle.serde_json.specs.View.{view};
+ghost use Rattle.fx_walk.specs.Pointer.{pointer};
+ghost use Rattle.fx_walk.specs.Scalars.{meaning_of_word, word_faults, word_given};
+ghost use Rattle.fx_walk.specs.Walk.{Reads, optional};
+
+use crate::path::{Path, refusal};
+use fx_base::Fault;
+use serde_json::Value;
+use std::alloc::Global;
+
+/// What is written as one of a few words.
+pub trait Word: Drop {
+    /// What a text stands for.
+    ghost named: { List ℕ → Option Self };
+
+    /// What is meant where no word is given.
+    ghost unsaid: { Self };
+
+    /// What the text stands for.
+    fn named(text: &str) -> Option<Self>
+        ensures { result ≡ named text.now };
+
+    /// What is meant where no word is given.
+    fn unsaid() -> Self
+        ensures { result ≡ unsaid };
+}
+
+/// What a word stands for: 104 for no text, 105 for another text.
+fn read_word<T: Word>(alloc: Global, path: &Path<'_>, value: &Value) -> Result<T, Fault>
+    ensures { let meaning = meaning_of_word T.named T.unsaid (view value.now) in
+        Reads (word_faults T.named (pointer path.now) (view value.now)) meaning result }
+{
+    let Some(text) = value.as_str() else {
+        return Err(refusal(alloc, 104, path));
+    };
+    match T::named(text) {
+        Some(meaning) => Ok(meaning),
+        None => Err(refusal(alloc, 105, path)),
+    }
+}
+
+/// A member that is a word, and that an object may have.
+pub fn word_member<T: Word>(
+    alloc: Global,
+    path: &Path<'_>,
+    object: &Value,
+    name: &str,
+) -> Result<T, Fault>
+    ensures { let faults = (optional name.now (word_faults T.named)).faults in
+        let meaning = word_given T.named T.unsaid (get name.now (view object.now)) in
+        Reads (faults (pointer path.now) (view object.now)) meaning result }
+{
+    match object.get(name) {
+        Some(value) => read_word(alloc, &Path::Member(path, name), value),
+        None => Ok(T::unsaid()),
+    }
+}
