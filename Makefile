@@ -61,13 +61,16 @@ run-wrong:
 wrong: kit
 	python3 tests/wrong_bodies.py --kept --jobs 2 $(NAME)
 
-# Compares the lists of definitions to believe, then runs the program over the worked rows, over long certificates, with
+# Compares the lists of definitions to believe, and looks at clauses and crates.txt; then runs the program over the worked rows, over long certificates, with
 # growths of its memory refused, with reads and writes failed, with full files, over inputs that were changed or cut, and
 # over keys that were chosen to be slow to find.
 rows: once run-rows
 
 run-rows:
 	python3 tests/definitions.py --compare
+	python3 tests/clauses.py
+	python3 tests/crates.py
+	python3 tests/callers.py
 	python3 tests/rows.py ./once
 	python3 tests/long_certificates.py ./once
 	python3 tests/refused_growth.py ./once

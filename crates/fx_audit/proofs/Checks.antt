@@ -17,21 +17,21 @@ use Rattle.fx_audit.specs.declared.answer.Answer.{Answer}
 use Rattle.fx_audit.specs.declared.answer.Answer.TheVariants.{No}
 use Rattle.fx_audit.specs.Checks.{IsAnswered, IsNo, IsFaultOf, IsRefusedCertificate, IsRefusedText, no_line, IsNoAnswer, memory, read_failed, write_failed, too_long, IsUnanswered, MeansNo}
 use Rattle.fx_audit.specs.Commands.{IsChecked, IsRefusedCheck}
-use Rattle.fx_audit.specs.Documents.{IsNetwork, IsRefusedByDocuments, IsTraffic}
+use Rattle.fx_audit.specs.Documents.{IsNetworkDocument, IsRefusedByDocuments, IsTraffic}
 use Rattle.fx_audit.proofs.Documents.{both_mapped, both_told}
 
 -- ---- two documents and a certificate
 
-pub check_done : (left_n left_t : Option (List ℕ)) (network : Network) (classes : List Class) (lines : Lines) (W : List ℕ → Type 0) (result : Result Answer Fault) → MayHaveLeft left_n (λ n. IsNetwork n network) → MayHaveLeft left_t (λ t. IsTraffic network t classes)
+pub check_done : (left_n left_t : Option (List ℕ)) (network : Network) (classes : List Class) (lines : Lines) (W : List ℕ → Type 0) (result : Result Answer Fault) → MayHaveLeft left_n (λ n. IsNetworkDocument n network) → MayHaveLeft left_t (λ t. IsTraffic network t classes)
     → IfOk result (λ a. (text : List ℕ) × IsAnswered network classes lines a text × W text) → IfOk result (λ a. MayHaveLeft left_n (λ n. MayHaveLeft left_t (λ t. (text : List ℕ) × IsChecked n t lines a text × W text)))
 check_done left_n left_t network classes lines W (Err e) n t h = cc
 check_done left_n left_t network classes lines W (Ok a) n t h =
     let text = h.0 in
     let answered : IsAnswered network classes lines a text = h.1 in
     let written : W text = h.2 in
-    both_told left_n left_t (λ o. IsNetwork o network) (λ o. IsTraffic network o classes) (λ x y. (text' : List ℕ) × IsChecked x y lines a text' × W text') n t (λ x y p q. (text, record { network = network; classes = classes; network_is = p; traffic_is = q; answered = answered }, written))
+    both_told left_n left_t (λ o. IsNetworkDocument o network) (λ o. IsTraffic network o classes) (λ x y. (text' : List ℕ) × IsChecked x y lines a text' × W text') n t (λ x y p q. (text, record { network = network; classes = classes; network_is = p; traffic_is = q; answered = answered }, written))
 
-pub check_refused : (left_n left_t : Option (List ℕ)) (network : Network) (classes : List Class) (lines : Lines) (N T F W : Fault → Type 0) (result : Result Answer Fault) → MayHaveLeft left_n (λ n. IsNetwork n network) → MayHaveLeft left_t (λ t. IsTraffic network t classes)
+pub check_refused : (left_n left_t : Option (List ℕ)) (network : Network) (classes : List Class) (lines : Lines) (N T F W : Fault → Type 0) (result : Result Answer Fault) → MayHaveLeft left_n (λ n. IsNetworkDocument n network) → MayHaveLeft left_t (λ t. IsTraffic network t classes)
     → IfErr result (λ e. (e ≡ fault_at 900 places.None) ⊎ (F e ⊎ (W e ⊎ IsRefusedCertificate network classes lines e)))
     → IfErr result (λ e. (e ≡ fault_at 900 places.None) ⊎ (N e ⊎ (T e ⊎ (F e ⊎ (W e ⊎ MayHaveLeft left_n (λ n. MayHaveLeft left_t (λ t. IsRefusedCheck n t lines e)))))))
 check_refused left_n left_t network classes lines N T F W (Ok a) n t h = cc
@@ -40,7 +40,7 @@ check_refused left_n left_t network classes lines N T F W (Err e) n t h =
       | inl m ↦ inl m
       | inr (inl f) ↦ inr (inr (inr (inl f)))
       | inr (inr (inl w)) ↦ inr (inr (inr (inr (inl w))))
-      | inr (inr (inr r)) ↦ inr (inr (inr (inr (inr (both_told left_n left_t (λ o. IsNetwork o network) (λ o. IsTraffic network o classes) (λ x y. IsRefusedCheck x y lines e) n t (λ x y p q. inr (network, classes, p, q, r)))))))
+      | inr (inr (inr r)) ↦ inr (inr (inr (inr (inr (both_told left_n left_t (λ o. IsNetworkDocument o network) (λ o. IsTraffic network o classes) (λ x y. IsRefusedCheck x y lines e) n t (λ x y p q. inr (network, classes, p, q, r)))))))
     ]
 
 -- a document is refused

@@ -17,21 +17,21 @@ use Rattle.fx_traffic.specs.Classes.{traffic_faults, traffic_of}
 use Rattle.fx_audit.specs.declared.answer.Answer.{Answer}
 use Rattle.fx_audit.specs.declared.answer.Answer.TheVariants.{Yes}
 use Rattle.fx_audit.specs.Commands.{IsCollected, IsRefusedCollect}
-use Rattle.fx_audit.specs.Documents.{IsDocument, IsFirstFault, IsNetwork, IsPlannable, IsRefusedByDocuments, IsRefusedNetwork, IsTraffic, by_walk, by_plan, is_found}
-use Rattle.fx_audit.specs.Streams.{IsRefusedStream, IsStreamText, IsWhole, stream_read}
+use Rattle.fx_audit.specs.Documents.{IsDocument, IsFirstFault, IsNetworkDocument, IsPlannable, IsRefusedByDocuments, IsRefusedNetwork, IsTraffic, by_walk, by_plan, is_found}
+use Rattle.fx_audit.specs.Streams.{IsRefusedStream, IsStreamText, EndsWithMessage, stream_read}
 use Rattle.fx_audit.proofs.Documents.{both_told, first_told}
 
 -- ---- a stream at the report of a network
 
 abbrev Collects : Net → (List ℕ → Type 0) → List ℕ → Type 0
-Collects net W octets = IsWhole (stream_read octets) × ((text : List ℕ) × IsStreamText net.report_layout (stream_read octets).known text × W text)
+Collects net W octets = EndsWithMessage (stream_read octets) × ((text : List ℕ) × IsStreamText net.report_layout (stream_read octets).known text × W text)
 
-pub collect_done : (left_n left_s : Option (List ℕ)) (network : Network) (net : Net) (W : List ℕ → Type 0) (result : Result Answer Fault) → net ≡ net_of network → MayHaveLeft left_n (λ n. IsNetwork n network)
+pub collect_done : (left_n left_s : Option (List ℕ)) (network : Network) (net : Net) (W : List ℕ → Type 0) (result : Result Answer Fault) → net ≡ net_of network → MayHaveLeft left_n (λ n. IsNetworkDocument n network)
     → IfOk result (λ a. (a ≡ Yes) × MayHaveLeft left_s (λ octets. Collects net W octets)) → IfOk result (λ a. (a ≡ Yes) × MayHaveLeft left_n (λ n. MayHaveLeft left_s (λ octets. (text : List ℕ) × IsCollected n octets text × W text)))
 collect_done left_n left_s network net W (Err e) is n h = cc
 collect_done left_n left_s network net W (Ok a) is n h =
-    (h.0, both_told left_n left_s (λ o. IsNetwork o network) (Collects net W) (λ o octets. (text : List ℕ) × IsCollected o octets text × W text) n h.1 (λ o octets p c. told o octets p c)) where
-      told : (o octets : List ℕ) → IsNetwork o network → Collects net W octets → (text : List ℕ) × IsCollected o octets text × W text
+    (h.0, both_told left_n left_s (λ o. IsNetworkDocument o network) (Collects net W) (λ o octets. (text : List ℕ) × IsCollected o octets text × W text) n h.1 (λ o octets p c. told o octets p c)) where
+      told : (o octets : List ℕ) → IsNetworkDocument o network → Collects net W octets → (text : List ℕ) × IsCollected o octets text × W text
       told o octets p c =
           let text = c.1.0 in
           let is_text : IsStreamText net.report_layout (stream_read octets).known text = c.1.1 in
@@ -39,7 +39,7 @@ collect_done left_n left_s network net W (Ok a) is n h =
           let written : W text = c.1.2 in
           (text, record { network = network; network_is = p; whole = c.0; text_is = here }, written)
 
-pub collect_refused : (left_n left_s : Option (List ℕ)) (network : Network) (N F W : Fault → Type 0) (M : Fault → Type 0) (result : Result Answer Fault) → MayHaveLeft left_n (λ n. IsNetwork n network)
+pub collect_refused : (left_n left_s : Option (List ℕ)) (network : Network) (N F W : Fault → Type 0) (M : Fault → Type 0) (result : Result Answer Fault) → MayHaveLeft left_n (λ n. IsNetworkDocument n network)
     → IfErr result (λ e. M e ⊎ (F e ⊎ (W e ⊎ MayHaveLeft left_s (λ octets. IsRefusedStream (stream_read octets) e))))
     → IfErr result (λ e. M e ⊎ (N e ⊎ (F e ⊎ (W e ⊎ MayHaveLeft left_n (λ n. MayHaveLeft left_s (λ octets. IsRefusedCollect n octets e))))))
 collect_refused left_n left_s network N F W M (Ok a) n h = cc
@@ -49,7 +49,7 @@ collect_refused left_n left_s network N F W M (Err e) n h =
       | inr (inl f) ↦ inr (inr (inl f))
       | inr (inr (inl w)) ↦ inr (inr (inr (inl w)))
       | inr (inr (inr r)) ↦
-          inr (inr (inr (inr (both_told left_n left_s (λ o. IsNetwork o network) (λ octets. IsRefusedStream (stream_read octets) e) (λ o octets. IsRefusedCollect o octets e) n r (λ o octets p q. inr (network, p, q))))))
+          inr (inr (inr (inr (both_told left_n left_s (λ o. IsNetworkDocument o network) (λ octets. IsRefusedStream (stream_read octets) e) (λ o octets. IsRefusedCollect o octets e) n r (λ o octets p q. inr (network, p, q))))))
     ]
 
 -- ---- a document that is read has no fault
@@ -77,28 +77,28 @@ unrefused : (network : Network) (e : Fault) → IsPlannable network → RefusesN
 unrefused network e p (inl h) = let few = p.0 in let many = h.1 in absurd (omega (arith, few, many))
 unrefused network e p (inr h) = p.1 h.1.one.0 h.1.one.2
 
-not_refused : (octets : List ℕ) (network : Network) (e : Fault) → IsNetwork octets network → IsRefusedNetwork octets e → ⊥
+not_refused : (octets : List ℕ) (network : Network) (e : Fault) → IsNetworkDocument octets network → IsRefusedNetwork octets e → ⊥
 not_refused octets network e n (by_walk h) = faultless (network_faults []) network_of octets network e n.document h
 not_refused octets network e n (by_plan other document refuses) =
     unrefused network e n.plannable (subst (λ (x : Network). RefusesNetwork x e) (same_network octets network other n.document document) refuses)
 
 -- so what holds of a network that is refused holds where the network was read
-pub network_faultless : (left : Option (List ℕ)) (network : Network) (A : Type 0) → MayHaveLeft left (λ n. IsNetwork n network) → IfSome left (λ n. (e : Fault) → IsRefusedNetwork n e → A)
+pub network_faultless : (left : Option (List ℕ)) (network : Network) (A : Type 0) → MayHaveLeft left (λ n. IsNetworkDocument n network) → IfSome left (λ n. (e : Fault) → IsRefusedNetwork n e → A)
 network_faultless None network A h = tt
-network_faultless (Some octets) network A h = λ e f. absurd (not_refused octets network e (subst (λ (n : List ℕ). IsNetwork n network) h.1 h.2) f)
+network_faultless (Some octets) network A h = λ e f. absurd (not_refused octets network e (subst (λ (n : List ℕ). IsNetworkDocument n network) h.1 h.2) f)
 
 -- the same for two documents
-not_refused_by : (n t : List ℕ) (network : Network) (classes : List Class) (e : Fault) → IsNetwork n network → IsTraffic network t classes → IsRefusedByDocuments n t e → ⊥
+not_refused_by : (n t : List ℕ) (network : Network) (classes : List Class) (e : Fault) → IsNetworkDocument n network → IsTraffic network t classes → IsRefusedByDocuments n t e → ⊥
 not_refused_by n t network classes e is of (inl h) = not_refused n network e is h
 not_refused_by n t network classes e is of (inr h) =
     let same = same_network n network h.0 is.document h.1.document in
     faultless (traffic_faults (device_names network) []) (traffic_of (device_names network)) t classes e of (subst (λ (x : Network). IsFirstFault (traffic_faults (device_names x) []) t e) same h.2)
 
-pub documents_faultless : (left_n left_t : Option (List ℕ)) (network : Network) (classes : List Class) (A : Type 0) → MayHaveLeft left_n (λ n. IsNetwork n network) → MayHaveLeft left_t (λ t. IsTraffic network t classes) → IfSome left_n (λ n. IfSome left_t (λ t. (e : Fault) → IsRefusedByDocuments n t e → A))
+pub documents_faultless : (left_n left_t : Option (List ℕ)) (network : Network) (classes : List Class) (A : Type 0) → MayHaveLeft left_n (λ n. IsNetworkDocument n network) → MayHaveLeft left_t (λ t. IsTraffic network t classes) → IfSome left_n (λ n. IfSome left_t (λ t. (e : Fault) → IsRefusedByDocuments n t e → A))
 documents_faultless None left_t network classes A n t = tt
 documents_faultless (Some x) None network classes A n t = tt
 documents_faultless (Some x) (Some y) network classes A n t = λ e f.
-    absurd (not_refused_by x y network classes e (subst (λ (o : List ℕ). IsNetwork o network) n.1 n.2) (subst (λ (o : List ℕ). IsTraffic network o classes) t.1 t.2) f)
+    absurd (not_refused_by x y network classes e (subst (λ (o : List ℕ). IsNetworkDocument o network) n.1 n.2) (subst (λ (o : List ℕ). IsTraffic network o classes) t.1 t.2) f)
 
 -- the network's document is refused
 pub collect_unread : (left_n left_s : Option (List ℕ)) (e : Fault) (M N T W : Type 0) → M ⊎ (N ⊎ MayHaveLeft left_n (λ n. IsRefusedNetwork n e)) → M ⊎ (N ⊎ (T ⊎ (W ⊎ MayHaveLeft left_n (λ n. MayHaveLeft left_s (λ o. IsRefusedCollect n o e)))))

@@ -18,7 +18,7 @@ use Rattle.fx_audit.specs.declared.answer.Answer.TheVariants.{Yes}
 use Rattle.fx_audit.specs.declared.bundle.Command.{Command}
 use Rattle.fx_audit.specs.declared.bundle.Command.TheVariants.{Audit, Replay, Check, Confirm}
 use Rattle.fx_audit.specs.Bundle.{IsBundle}
-use Rattle.fx_audit.specs.Documents.{IsNetwork, IsRefusedByDocuments, IsTraffic, ReadFails}
+use Rattle.fx_audit.specs.Documents.{IsNetworkDocument, IsRefusedByDocuments, IsTraffic, ReadFails}
 use Rattle.fx_audit.specs.Commands.{IsAudited, IsChecked, IsConfirmed, IsDone, IsRefusedBundle, IsRefusedBy, IsRefusedReplay, IsRefusedRun, IsRefusedThere, IsReplayed, IsReplayedIn}
 use Rattle.fx_audit.specs.Replay.{IsRefused}
 use Rattle.fx_audit.proofs.Documents.{both_mapped, both_told, told}
@@ -37,19 +37,19 @@ lines_refused network classes known lines r net F W (Err e) same of read h =
 
 -- ---- two documents and a run
 
-pub replay_done : (left_n left_t : Option (List ℕ)) (network : Network) (classes : List Class) (lines : Lines) (W : List ℕ → Type 0) (result : Result Answer Fault) → MayHaveLeft left_n (λ n. IsNetwork n network) → MayHaveLeft left_t (λ t. IsTraffic network t classes) → IfOk result (λ a. (a ≡ Yes) × ((text : List ℕ) × IsReplayedIn network classes lines text × W text)) → IfOk result (λ a. (a ≡ Yes) × MayHaveLeft left_n (λ n. MayHaveLeft left_t (λ t. (text : List ℕ) × IsReplayed n t lines text × W text)))
+pub replay_done : (left_n left_t : Option (List ℕ)) (network : Network) (classes : List Class) (lines : Lines) (W : List ℕ → Type 0) (result : Result Answer Fault) → MayHaveLeft left_n (λ n. IsNetworkDocument n network) → MayHaveLeft left_t (λ t. IsTraffic network t classes) → IfOk result (λ a. (a ≡ Yes) × ((text : List ℕ) × IsReplayedIn network classes lines text × W text)) → IfOk result (λ a. (a ≡ Yes) × MayHaveLeft left_n (λ n. MayHaveLeft left_t (λ t. (text : List ℕ) × IsReplayed n t lines text × W text)))
 replay_done left_n left_t network classes lines W (Err e) n t h = cc
 replay_done left_n left_t network classes lines W (Ok a) n t h =
     let text = h.1.0 in
     let replayed : IsReplayedIn network classes lines text = h.1.1 in
     let written : W text = h.1.2 in
-    (h.0, both_told left_n left_t (λ o. IsNetwork o network) (λ o. IsTraffic network o classes) (λ x y. (text' : List ℕ) × IsReplayed x y lines text' × W text') n t (λ x y p q. (text, record { network = network; classes = classes; network_is = p; traffic_is = q; replayed = replayed }, written)))
+    (h.0, both_told left_n left_t (λ o. IsNetworkDocument o network) (λ o. IsTraffic network o classes) (λ x y. (text' : List ℕ) × IsReplayed x y lines text' × W text') n t (λ x y p q. (text, record { network = network; classes = classes; network_is = p; traffic_is = q; replayed = replayed }, written)))
 
-run_refused : (left_n left_t : Option (List ℕ)) (network : Network) (classes : List Class) (lines : Lines) (e : Fault) → MayHaveLeft left_n (λ n. IsNetwork n network) → MayHaveLeft left_t (λ t. IsTraffic network t classes) → IsRefusedRun network classes lines e → MayHaveLeft left_n (λ n. MayHaveLeft left_t (λ t. IsRefusedReplay n t lines e))
+run_refused : (left_n left_t : Option (List ℕ)) (network : Network) (classes : List Class) (lines : Lines) (e : Fault) → MayHaveLeft left_n (λ n. IsNetworkDocument n network) → MayHaveLeft left_t (λ t. IsTraffic network t classes) → IsRefusedRun network classes lines e → MayHaveLeft left_n (λ n. MayHaveLeft left_t (λ t. IsRefusedReplay n t lines e))
 run_refused left_n left_t network classes lines e n t h =
-    both_told left_n left_t (λ o. IsNetwork o network) (λ o. IsTraffic network o classes) (λ x y. IsRefusedReplay x y lines e) n t (λ x y p q. inr (network, classes, p, q, h))
+    both_told left_n left_t (λ o. IsNetworkDocument o network) (λ o. IsTraffic network o classes) (λ x y. IsRefusedReplay x y lines e) n t (λ x y p q. inr (network, classes, p, q, h))
 
-pub replay_refused : (left_n left_t : Option (List ℕ)) (network : Network) (classes : List Class) (lines : Lines) (N T F W : Fault → Type 0) (result : Result Answer Fault) → MayHaveLeft left_n (λ n. IsNetwork n network) → MayHaveLeft left_t (λ t. IsTraffic network t classes) → IfErr result (λ e. (e ≡ fault_at 900 places.None) ⊎ (F e ⊎ (W e ⊎ IsRefusedRun network classes lines e))) → IfErr result (λ e. (e ≡ fault_at 900 places.None) ⊎ (N e ⊎ (T e ⊎ (F e ⊎ (W e ⊎ MayHaveLeft left_n (λ n. MayHaveLeft left_t (λ t. IsRefusedReplay n t lines e)))))))
+pub replay_refused : (left_n left_t : Option (List ℕ)) (network : Network) (classes : List Class) (lines : Lines) (N T F W : Fault → Type 0) (result : Result Answer Fault) → MayHaveLeft left_n (λ n. IsNetworkDocument n network) → MayHaveLeft left_t (λ t. IsTraffic network t classes) → IfErr result (λ e. (e ≡ fault_at 900 places.None) ⊎ (F e ⊎ (W e ⊎ IsRefusedRun network classes lines e))) → IfErr result (λ e. (e ≡ fault_at 900 places.None) ⊎ (N e ⊎ (T e ⊎ (F e ⊎ (W e ⊎ MayHaveLeft left_n (λ n. MayHaveLeft left_t (λ t. IsRefusedReplay n t lines e)))))))
 replay_refused left_n left_t network classes lines N T F W (Ok a) n t h = cc
 replay_refused left_n left_t network classes lines N T F W (Err e) n t h =
     elim h [

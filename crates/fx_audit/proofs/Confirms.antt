@@ -13,22 +13,22 @@ use Rattle.fx_audit.specs.declared.answer.Answer.TheVariants.{Yes, No, Unknown}
 use Rattle.fx_audit.specs.Checks.{no_line}
 use Rattle.fx_audit.specs.Commands.{IsConfirmed, IsRefusedConfirm}
 use Rattle.fx_audit.specs.Confirms.{IsConfirmedIn, IsNo, IsRefusedOtherwise, IsRefusedRefutation, IsRefuted, IsYes, RefutesNothing, refuted_text}
-use Rattle.fx_audit.specs.Documents.{IsNetwork, IsRefusedByDocuments, IsTraffic}
+use Rattle.fx_audit.specs.Documents.{IsNetworkDocument, IsRefusedByDocuments, IsTraffic}
 use Rattle.fx_audit.specs.Texts.{IsConfirmText}
 use Rattle.fx_audit.proofs.Documents.{both_mapped, both_told}
 
 -- ---- two documents and a refutation
 
-pub confirm_done : (left_n left_t : Option (List ℕ)) (network : Network) (classes : List Class) (lines : Lines) (W : List ℕ → Type 0) (result : Result Answer Fault) → MayHaveLeft left_n (λ n. IsNetwork n network) → MayHaveLeft left_t (λ t. IsTraffic network t classes)
+pub confirm_done : (left_n left_t : Option (List ℕ)) (network : Network) (classes : List Class) (lines : Lines) (W : List ℕ → Type 0) (result : Result Answer Fault) → MayHaveLeft left_n (λ n. IsNetworkDocument n network) → MayHaveLeft left_t (λ t. IsTraffic network t classes)
     → IfOk result (λ a. (text : List ℕ) × IsConfirmedIn network classes lines a text × W text) → IfOk result (λ a. MayHaveLeft left_n (λ n. MayHaveLeft left_t (λ t. (text : List ℕ) × IsConfirmed n t lines a text × W text)))
 confirm_done left_n left_t network classes lines W (Err e) n t h = tt
 confirm_done left_n left_t network classes lines W (Ok a) n t h =
     let text = h.0 in
     let answered : IsConfirmedIn network classes lines a text = h.1 in
     let written : W text = h.2 in
-    both_told left_n left_t (λ o. IsNetwork o network) (λ o. IsTraffic network o classes) (λ x y. (text' : List ℕ) × IsConfirmed x y lines a text' × W text') n t (λ x y p q. (text, record { network = network; classes = classes; network_is = p; traffic_is = q; answered = answered }, written))
+    both_told left_n left_t (λ o. IsNetworkDocument o network) (λ o. IsTraffic network o classes) (λ x y. (text' : List ℕ) × IsConfirmed x y lines a text' × W text') n t (λ x y p q. (text, record { network = network; classes = classes; network_is = p; traffic_is = q; answered = answered }, written))
 
-pub confirm_refused : (left_n left_t : Option (List ℕ)) (network : Network) (classes : List Class) (lines : Lines) (N T F W : Fault → Type 0) (result : Result Answer Fault) → MayHaveLeft left_n (λ n. IsNetwork n network) → MayHaveLeft left_t (λ t. IsTraffic network t classes)
+pub confirm_refused : (left_n left_t : Option (List ℕ)) (network : Network) (classes : List Class) (lines : Lines) (N T F W : Fault → Type 0) (result : Result Answer Fault) → MayHaveLeft left_n (λ n. IsNetworkDocument n network) → MayHaveLeft left_t (λ t. IsTraffic network t classes)
     → IfErr result (λ e. (e ≡ fault_at 900 places.None) ⊎ (F e ⊎ (W e ⊎ IsRefusedOtherwise network classes lines e)))
     → IfErr result (λ e. (e ≡ fault_at 900 places.None) ⊎ (N e ⊎ (T e ⊎ (F e ⊎ (W e ⊎ MayHaveLeft left_n (λ n. MayHaveLeft left_t (λ t. IsRefusedConfirm n t lines e)))))))
 confirm_refused left_n left_t network classes lines N T F W (Ok a) n t h = tt
@@ -37,7 +37,7 @@ confirm_refused left_n left_t network classes lines N T F W (Err e) n t h =
       | inl m ↦ inl m
       | inr (inl f) ↦ inr (inr (inr (inl f)))
       | inr (inr (inl w)) ↦ inr (inr (inr (inr (inl w))))
-      | inr (inr (inr r)) ↦ inr (inr (inr (inr (inr (both_told left_n left_t (λ o. IsNetwork o network) (λ o. IsTraffic network o classes) (λ x y. IsRefusedConfirm x y lines e) n t (λ x y p q. inr (network, classes, p, q, r)))))))
+      | inr (inr (inr r)) ↦ inr (inr (inr (inr (inr (both_told left_n left_t (λ o. IsNetworkDocument o network) (λ o. IsTraffic network o classes) (λ x y. IsRefusedConfirm x y lines e) n t (λ x y p q. inr (network, classes, p, q, r)))))))
     ]
 
 -- a document is refused

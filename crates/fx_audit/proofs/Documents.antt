@@ -13,7 +13,7 @@ use Rattle.fx_topology.specs.declared.network.Network.{Network}
 use Rattle.fx_topology.specs.Networks.{device_names, network_faults, network_of}
 use Rattle.fx_plan.specs.Plans.{ReadsPlan}
 use Rattle.fx_traffic.specs.Classes.{traffic_faults}
-use Rattle.fx_audit.specs.Documents.{IsDocument, IsFirstFault, IsJson, IsNetwork, IsRefusedByDocuments, IsRefusedNetwork, by_walk, by_plan, is_found}
+use Rattle.fx_audit.specs.Documents.{IsDocument, IsFirstFault, IsJson, IsNetworkDocument, IsRefusedByDocuments, IsRefusedNetwork, by_walk, by_plan, is_found}
 
 -- what holds of the octets that were read holds of those that were left
 pub told : (left : Option (List ℕ)) (octets : List ℕ) (P : List ℕ → Type 0) → MayBeLeft left octets → P octets → MayHaveLeft left P
@@ -40,9 +40,9 @@ source_refused faults meaning left octets text d Q same is json (Err e) h =
     elim (found_or_memory e.number e.place (faults d) h) [ inl m ↦ inl m | inr f ↦ inr (inr (refused_first faults left octets e same (inr (d, subst (λ (o : List ℕ). IsJson o d) is json, f)))) ]
 
 -- the same for the document of a network, which can be planned or is refused
-pub network_read : (left : Option (List ℕ)) (octets text : List ℕ) (d : Data) → MayBeLeft left octets → text ≡ octets → IsJson text d → (r : Result Network Fault) → ReadsPlan d r → IfOk r (λ x. MayHaveLeft left (λ l. IsNetwork l x))
+pub network_read : (left : Option (List ℕ)) (octets text : List ℕ) (d : Data) → MayBeLeft left octets → text ≡ octets → IsJson text d → (r : Result Network Fault) → ReadsPlan d r → IfOk r (λ x. MayHaveLeft left (λ l. IsNetworkDocument l x))
 network_read left octets text d same is json (Ok x) h =
-    told left octets (λ l. IsNetwork l x) same (record {
+    told left octets (λ l. IsNetworkDocument l x) same (record {
       document = record { value = d; json = subst (λ (o : List ℕ). IsJson o d) is json; faultless = h.0; means = h.1 };
       plannable = (h.2, h.3);
     })
@@ -94,10 +94,10 @@ first_refused left_n left_t e M N T h =
       | inr (inr f) ↦ inr (inr (inr (first_told left_n left_t (λ n. IsRefusedNetwork n e) (λ n t. IsRefusedByDocuments n t e) (λ n t p. inl p) f)))
     ]
 
-pub traffic_refused : (left_n left_t : Option (List ℕ)) (network : Network) (e : Fault) (M N T : Type 0) → MayHaveLeft left_n (λ n. IsNetwork n network) → M ⊎ (T ⊎ MayHaveLeft left_t (λ t. IsFirstFault (traffic_faults (device_names network) []) t e)) → M ⊎ (N ⊎ (T ⊎ MayHaveLeft left_n (λ n. MayHaveLeft left_t (λ t. IsRefusedByDocuments n t e))))
+pub traffic_refused : (left_n left_t : Option (List ℕ)) (network : Network) (e : Fault) (M N T : Type 0) → MayHaveLeft left_n (λ n. IsNetworkDocument n network) → M ⊎ (T ⊎ MayHaveLeft left_t (λ t. IsFirstFault (traffic_faults (device_names network) []) t e)) → M ⊎ (N ⊎ (T ⊎ MayHaveLeft left_n (λ n. MayHaveLeft left_t (λ t. IsRefusedByDocuments n t e))))
 traffic_refused left_n left_t network e M N T is h =
     elim h [
       | inl m ↦ inl m
       | inr (inl t) ↦ inr (inr (inl t))
-      | inr (inr f) ↦ inr (inr (inr (both_told left_n left_t (λ n. IsNetwork n network) (λ t. IsFirstFault (traffic_faults (device_names network) []) t e) (λ n t. IsRefusedByDocuments n t e) is f (λ n t p q. inr (network, p, q)))))
+      | inr (inr f) ↦ inr (inr (inr (both_told left_n left_t (λ n. IsNetworkDocument n network) (λ t. IsFirstFault (traffic_faults (device_names network) []) t e) (λ n t. IsRefusedByDocuments n t e) is f (λ n t p q. inr (network, p, q)))))
     ]

@@ -20,7 +20,7 @@ use Rattle.fx_conform.proofs.Paths.{declarations_have_paths}
 use Rattle.fx_conform.proofs.WholeRuns.{runs_are_complete}
 use Rattle.fx_audit.specs.declared.answer.Answer.{Answer}
 use Rattle.fx_audit.specs.declared.answer.Answer.TheVariants.{Yes}
-use Rattle.fx_audit.specs.Documents.{IsNetwork, IsRefusedByDocuments, IsTraffic}
+use Rattle.fx_audit.specs.Documents.{IsNetworkDocument, IsRefusedByDocuments, IsTraffic}
 use Rattle.fx_audit.specs.Metering.{IsMetered, IsMeteredIn, IsRefusedIn, IsRefusedMetering}
 use Rattle.fx_audit.proofs.Documents.{both_mapped, both_told}
 
@@ -59,7 +59,7 @@ run_complete network classes left asked from last before after text traffic_octe
     runs_are_complete network classes metered.ran.at metered.ran.to from last before after metered.totals sound paths metered.ran.runs
 
 pub run_done : (left_n left_t left : Option (List ℕ)) (asked : ℕ) (network : Network) (classes : List Class) (from last : Lines) (before after : Put) (W : List ℕ → Type 0) (result : Result Answer Fault)
-    → IsSound (net_of network) → MayHaveLeft left_n (λ n. IsNetwork n network) → MayHaveLeft left_t (λ t. IsTraffic network t classes)
+    → IsSound (net_of network) → MayHaveLeft left_n (λ n. IsNetworkDocument n network) → MayHaveLeft left_t (λ t. IsTraffic network t classes)
     → IfOk result (λ a. (a ≡ Yes) × ((text : List ℕ) × IsMeteredIn network classes left asked from last before after text × W text))
     → IfOk result (λ a. (a ≡ Yes) × MayHaveLeft left_n (λ n. MayHaveLeft left_t (λ t. (text : List ℕ) × IsMetered n t left asked from last before after text × W text)))
 run_done left_n left_t left asked network classes from last before after W (Err e) sound n t h = tt
@@ -67,11 +67,11 @@ run_done left_n left_t left asked network classes from last before after W (Ok a
     let text = h.1.0 in
     let metered : IsMeteredIn network classes left asked from last before after text = h.1.1 in
     let written : W text = h.1.2 in
-    (h.0, both_told left_n left_t (λ o. IsNetwork o network) (λ o. IsTraffic network o classes) (λ x y. (text' : List ℕ) × IsMetered x y left asked from last before after text' × W text') n t (λ x y p q. (text, record { network = network; classes = classes; network_is = p; traffic_is = q; metered = metered; complete = run_complete network classes left asked from last before after text y sound q metered }, written)))
+    (h.0, both_told left_n left_t (λ o. IsNetworkDocument o network) (λ o. IsTraffic network o classes) (λ x y. (text' : List ℕ) × IsMetered x y left asked from last before after text' × W text') n t (λ x y p q. (text, record { network = network; classes = classes; network_is = p; traffic_is = q; metered = metered; complete = run_complete network classes left asked from last before after text y sound q metered }, written)))
 
 -- the run is refused, in the network and traffic that were read
 pub run_refused : (left_n left_t left : Option (List ℕ)) (asked : ℕ) (unread : Type 0) (network : Network) (classes : List Class) (from last : Lines) (before : Put) (M N T W : Fault → Type 0) (result : Result Answer Fault)
-    → MayHaveLeft left_n (λ n. IsNetwork n network) → MayHaveLeft left_t (λ t. IsTraffic network t classes)
+    → MayHaveLeft left_n (λ n. IsNetworkDocument n network) → MayHaveLeft left_t (λ t. IsTraffic network t classes)
     → IfErr result (λ e. M e ⊎ (W e ⊎ IsRefusedIn network classes left asked unread from last before e))
     → IfErr result (λ e. M e ⊎ (N e ⊎ (T e ⊎ (W e ⊎ MayHaveLeft left_n (λ n. MayHaveLeft left_t (λ t. IsRefusedMetering n t left asked unread from last before e))))))
 run_refused left_n left_t left asked unread network classes from last before M N T W (Ok a) n t h = tt
@@ -80,7 +80,7 @@ run_refused left_n left_t left asked unread network classes from last before M N
       | inl m ↦ inl m
       | inr (inl w) ↦ inr (inr (inr (inl w)))
       | inr (inr r) ↦
-          inr (inr (inr (inr (both_told left_n left_t (λ o. IsNetwork o network) (λ o. IsTraffic network o classes) (λ x y. IsRefusedMetering x y left asked unread from last before e) n t (λ x y p q. inr (network, classes, p, q, r))))))
+          inr (inr (inr (inr (both_told left_n left_t (λ o. IsNetworkDocument o network) (λ o. IsTraffic network o classes) (λ x y. IsRefusedMetering x y left asked unread from last before e) n t (λ x y p q. inr (network, classes, p, q, r))))))
     ]
 
 -- a document is refused

@@ -12,28 +12,28 @@ use Rattle.fx_collect.specs.Report.{number_line}
 use Rattle.fx_collect.specs.Totals.{Totals, with_record, with_records}
 use Rattle.fx_session.proofs.InFront.{fed-behind}
 use Rattle.fx_session.proofs.StreamSteps.{all_none, fed_off, pieces}
-use Rattle.fx_session.specs.Streams.{IsNextRecord, Standing, answer_of, behind, fed, start}
+use Rattle.fx_session.specs.Streams.{IsNextRecord, SessionState, answer_of, behind, fed, start}
 use Rattle.fx_audit.specs.Streams.{IsTallied, drained, stream_read}
 
 -- ---- one record after another
 
-pub next_tallied : (t : Totals) (r : Record) (old new : Standing) → IsNextRecord old new (Some r) → with_records (with_record t r) new.known.waiting ≡ with_records t old.known.waiting
-next_tallied t r old new e = ap (λ (st : Standing). with_records t st.known.waiting) (sym e)
+pub next_tallied : (t : Totals) (r : Record) (old new : SessionState) → IsNextRecord old new (Some r) → with_records (with_record t r) new.known.waiting ≡ with_records t old.known.waiting
+next_tallied t r old new e = ap (λ (st : SessionState). with_records t st.known.waiting) (sym e)
 
-pub next_drained : (r : Record) (old new : Standing) → IsNextRecord old new (Some r) → drained new ≡ drained old
+pub next_drained : (r : Record) (old new : SessionState) → IsNextRecord old new (Some r) → drained new ≡ drained old
 next_drained r old new e = ap drained (sym e)
 
-pub next_smaller : (r : Record) (old new : Standing) → IsNextRecord old new (Some r) → length new.known.waiting < length old.known.waiting
-next_smaller r old new e = let d = ap (λ (st : Standing). length st.known.waiting) e in omega (arith, d)
+pub next_smaller : (r : Record) (old new : SessionState) → IsNextRecord old new (Some r) → length new.known.waiting < length old.known.waiting
+next_smaller r old new e = let d = ap (λ (st : SessionState). length st.known.waiting) e in omega (arith, d)
 
-pub none_tallied : (t : Totals) (old new : Standing) → IsNextRecord old new None → t ≡ with_records t old.known.waiting
+pub none_tallied : (t : Totals) (old new : SessionState) → IsNextRecord old new None → t ≡ with_records t old.known.waiting
 none_tallied t old new h = ap (with_records t) (sym h.0)
 
 -- a session in which no record waits
-pub none_drained : (old new : Standing) → IsNextRecord old new None → new ≡ drained old
+pub none_drained : (old new : SessionState) → IsNextRecord old new None → new ≡ drained old
 none_drained old new h = h.1 ∙ empty old h.0 where
-  empty : (st : Standing) → st.known.waiting ≡ [] → st ≡ drained st
-  empty st e = ap (λ (rs : List Record). let other : Standing = record { known = record { domains = st.known.domains; waiting = rs; gaps = st.known.gaps; skipped = st.known.skipped }; place = st.place; rest = st.rest; fault = st.fault } in other) e
+  empty : (st : SessionState) → st.known.waiting ≡ [] → st ≡ drained st
+  empty st e = ap (λ (rs : List Record). let other : SessionState = record { known = record { domains = st.known.domains; waiting = rs; gaps = st.known.gaps; skipped = st.known.skipped }; place = st.place; rest = st.rest; fault = st.fault } in other) e
 
 -- ---- piece after piece
 
@@ -42,35 +42,35 @@ with_more t [] more = refl
 with_more t (r ∷ rs) more = with_more (with_record t r) rs more
 
 -- reading on, with the records taken out, is reading on and taking them out
-read_on : (st : Standing) (piece : List ℕ) → fed st piece ≡ behind st.known.waiting (fed (drained st) piece)
-read_on st piece = ap (λ (s : Standing). fed s piece) (same st) ∙ fed-behind st.known.waiting (drained st) piece where
-  same : (st : Standing) → st ≡ behind st.known.waiting (drained st)
-  same st = ap (λ (rs : List Record). let other : Standing = record { known = record { domains = st.known.domains; waiting = rs; gaps = st.known.gaps; skipped = st.known.skipped }; place = st.place; rest = st.rest; fault = st.fault } in other) (sym (append-nil st.known.waiting))
+read_on : (st : SessionState) (piece : List ℕ) → fed st piece ≡ behind st.known.waiting (fed (drained st) piece)
+read_on st piece = ap (λ (s : SessionState). fed s piece) (same st) ∙ fed-behind st.known.waiting (drained st) piece where
+  same : (st : SessionState) → st ≡ behind st.known.waiting (drained st)
+  same st = ap (λ (rs : List Record). let other : SessionState = record { known = record { domains = st.known.domains; waiting = rs; gaps = st.known.gaps; skipped = st.known.skipped }; place = st.place; rest = st.rest; fault = st.fault } in other) (sym (append-nil st.known.waiting))
 
 -- what is read of a stream after a piece more
-stream_on : (seen piece : List ℕ) (session : Standing) → session ≡ drained (stream_read seen) → stream_read (seen ++ piece) ≡ behind (stream_read seen).known.waiting (fed session piece)
+stream_on : (seen piece : List ℕ) (session : SessionState) → session ≡ drained (stream_read seen) → stream_read (seen ++ piece) ≡ behind (stream_read seen).known.waiting (fed session piece)
 stream_on seen piece session is =
-    sym (pieces start seen piece) ∙ read_on (stream_read seen) piece ∙ ap (λ (s : Standing). behind (stream_read seen).known.waiting (fed s piece)) (sym is)
+    sym (pieces start seen piece) ∙ read_on (stream_read seen) piece ∙ ap (λ (s : SessionState). behind (stream_read seen).known.waiting (fed s piece)) (sym is)
 
-piece_tallied : (seen piece : List ℕ) (before totals totals' : Totals) (session session' : Standing) → IsTallied seen before session totals → session' ≡ drained (fed session piece) → session'.fault ≡ None
+piece_tallied : (seen piece : List ℕ) (before totals totals' : Totals) (session session' : SessionState) → IsTallied seen before session totals → session' ≡ drained (fed session piece) → session'.fault ≡ None
     → totals' ≡ with_records totals (fed session piece).known.waiting → IsTallied (seen ++ piece) before session' totals'
 piece_tallied seen piece before totals totals' session session' t is none are =
     let on = stream_on seen piece session t.session_is in
     let more = (fed session piece).known.waiting in
     record {
       session_is = is ∙ sym (ap drained on);
-      faultless = ap (λ (s : Standing). s.fault) on ∙ sym (ap (λ (s : Standing). s.fault) is) ∙ none;
-      totals_are = are ∙ ap (λ (x : Totals). with_records x more) t.totals_are ∙ sym (with_more before (stream_read seen).known.waiting more) ∙ sym (ap (λ (s : Standing). with_records before s.known.waiting) on);
+      faultless = ap (λ (s : SessionState). s.fault) on ∙ sym (ap (λ (s : SessionState). s.fault) is) ∙ none;
+      totals_are = are ∙ ap (λ (x : Totals). with_records x more) t.totals_are ∙ sym (with_more before (stream_read seen).known.waiting more) ∙ sym (ap (λ (s : SessionState). with_records before s.known.waiting) on);
     }
 
 -- so many calls have read these octets of a stream, and its records were tallied
-pub record IsReadOn (all left : Option (List ℕ)) (before : Totals) (session : Standing) (totals : Totals) (calls : ℕ) : Type 0 where
+pub record IsReadOn (all left : Option (List ℕ)) (before : Totals) (session : SessionState) (totals : Totals) (calls : ℕ) : Type 0 where
   pub seen : List ℕ
   pub parts : prepend_known seen left ≡ all
   pub tallied : IsTallied seen before session totals
   pub count : calls ≤ length seen
 
-pub begun : (all : Option (List ℕ)) (before : Totals) (session : Standing) (calls : ℕ) → calls ≡ 0 → session ≡ start → IsReadOn all all before session before calls
+pub begun : (all : Option (List ℕ)) (before : Totals) (session : SessionState) (calls : ℕ) → calls ≡ 0 → session ≡ start → IsReadOn all all before session before calls
 begun all before session calls none_made is =
     let none = all_none start.known 0 in
     record {
@@ -78,8 +78,8 @@ begun all before session calls none_made is =
       parts = nothing_held all;
       tallied = record {
         session_is = is ∙ sym (ap drained none);
-        faultless = ap (λ (s : Standing). s.fault) none;
-        totals_are = sym (ap (λ (s : Standing). with_records before s.known.waiting) none);
+        faultless = ap (λ (s : SessionState). s.fault) none;
+        totals_are = sym (ap (λ (s : SessionState). with_records before s.known.waiting) none);
       };
       count = omega (arith, none_made);
     } where
@@ -87,7 +87,7 @@ begun all before session calls none_made is =
       nothing_held None = refl
       nothing_held (Some octets) = refl
 
-pub read_further : (all left left' : Option (List ℕ)) (before totals totals' : Totals) (session session' : Standing) (calls calls' : ℕ) (piece : List ℕ) → IsReadOn all left before session totals calls → calls' ≡ calls + 1 → prepend_known piece left' ≡ left
+pub read_further : (all left left' : Option (List ℕ)) (before totals totals' : Totals) (session session' : SessionState) (calls calls' : ℕ) (piece : List ℕ) → IsReadOn all left before session totals calls → calls' ≡ calls + 1 → prepend_known piece left' ≡ left
     → 1 ≤ length piece → session' ≡ drained (fed session piece) → session'.fault ≡ None → totals' ≡ with_records totals (fed session piece).known.waiting → IsReadOn all left' before session' totals' calls'
 read_further all left left' before totals totals' session session' calls calls' piece h one reads some is none are = record {
   seen = h.seen ++ piece;
@@ -101,28 +101,28 @@ faulty : (place : ℕ) (o : Option ℕ) (e : Fault) → answer_of place o ≡ Er
 faulty place (Some n) e h = (n, refl)
 faulty place None e h = absurd cc
 
-still_refused : (seen piece later : List ℕ) (before totals : Totals) (session : Standing) (e : Fault) → IsTallied seen before session totals → answer_of (fed session piece).place (fed session piece).fault ≡ Err e
+still_refused : (seen piece later : List ℕ) (before totals : Totals) (session : SessionState) (e : Fault) → IsTallied seen before session totals → answer_of (fed session piece).place (fed session piece).fault ≡ Err e
     → answer_of (stream_read (seen ++ (piece ++ later))).place (stream_read (seen ++ (piece ++ later))).fault ≡ Err e
 still_refused seen piece later before totals session e t h =
     let on = stream_on seen piece session t.session_is in
     let f = faulty (fed session piece).place (fed session piece).fault e h in
     let now = stream_read (seen ++ piece) in
-    let stays = ap stream_read (sym (append_assoc seen piece later)) ∙ sym (pieces start (seen ++ piece) later) ∙ fed_off now later f.0 (ap (λ (s : Standing). s.fault) on ∙ f.1) in
-    ap (λ (s : Standing). answer_of s.place s.fault) (stays ∙ on) ∙ h
+    let stays = ap stream_read (sym (append_assoc seen piece later)) ∙ sym (pieces start (seen ++ piece) later) ∙ fed_off now later f.0 (ap (λ (s : SessionState). s.fault) on ∙ f.1) in
+    ap (λ (s : SessionState). answer_of s.place s.fault) (stays ∙ on) ∙ h
 
 -- what may be left behind a piece, and the piece and what was read before it
 left_behind : (seen piece rest : List ℕ) (left left' : Option (List ℕ)) → prepend_known piece left' ≡ left → MayBeLeft left' rest → MayBeLeft (prepend_known seen left) (seen ++ (piece ++ rest))
 left_behind seen piece rest left None is behind = rw (← is) tt
 left_behind seen piece rest left (Some l) is behind = rw (← is) (ap (λ (xs : List ℕ). seen ++ (piece ++ xs)) behind)
 
-pub read_refused : (all left left' : Option (List ℕ)) (before totals : Totals) (session : Standing) (calls : ℕ) (piece : List ℕ) (e : Fault) → IsReadOn all left before session totals calls → prepend_known piece left' ≡ left
+pub read_refused : (all left left' : Option (List ℕ)) (before totals : Totals) (session : SessionState) (calls : ℕ) (piece : List ℕ) (e : Fault) → IsReadOn all left before session totals calls → prepend_known piece left' ≡ left
     → answer_of (fed session piece).place (fed session piece).fault ≡ Err e → MayHaveLeft all (λ octets. answer_of (stream_read octets).place (stream_read octets).fault ≡ Err e)
 read_refused all left left' before totals session calls piece e h reads refused =
     let later = something_left left' in
     let octets : List ℕ = h.seen ++ (piece ++ later.0) in
     (octets, subst (λ (o : Option (List ℕ)). MayBeLeft o octets) h.parts (left_behind h.seen piece later.0 left left' reads later.1), still_refused h.seen piece later.0 before totals session e h.tallied refused)
 
-pub piece_refused : (all left left' : Option (List ℕ)) (before totals : Totals) (session : Standing) (calls : ℕ) (piece : List ℕ) (e : Fault) (M F : Type 0) → IsReadOn all left before session totals calls → prepend_known piece left' ≡ left
+pub piece_refused : (all left left' : Option (List ℕ)) (before totals : Totals) (session : SessionState) (calls : ℕ) (piece : List ℕ) (e : Fault) (M F : Type 0) → IsReadOn all left before session totals calls → prepend_known piece left' ≡ left
     → M ⊎ (answer_of (fed session piece).place (fed session piece).fault ≡ Err e) → M ⊎ (F ⊎ MayHaveLeft all (λ octets. answer_of (stream_read octets).place (stream_read octets).fault ≡ Err e))
 piece_refused all left left' before totals session calls piece e M F h reads refused =
     elim refused [ inl m ↦ inl m | inr r ↦ inr (inr (read_refused all left left' before totals session calls piece e h reads r)) ]

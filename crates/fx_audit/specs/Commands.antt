@@ -20,9 +20,9 @@ use Rattle.fx_audit.specs.Checks.{IsAnswered, IsRefusedCertificate}
 use Rattle.fx_audit.specs.Confirms.{IsConfirmedIn, IsRefusedOtherwise}
 use Rattle.fx_audit.specs.declared.bundle.Command.{Command}
 use Rattle.fx_audit.specs.declared.bundle.Command.TheVariants.{Audit, Replay, Check, Confirm}
-use Rattle.fx_audit.specs.Documents.{IsNetwork, IsRefusedByDocuments, IsRefusedNetwork, IsTraffic}
+use Rattle.fx_audit.specs.Documents.{IsNetworkDocument, IsRefusedByDocuments, IsRefusedNetwork, IsTraffic}
 use Rattle.fx_audit.specs.Replay.{IsRefused, IsTextOf}
-use Rattle.fx_audit.specs.Streams.{IsRefusedStream, IsStreamText, IsWhole, stream_read}
+use Rattle.fx_audit.specs.Streams.{IsRefusedStream, IsStreamText, EndsWithMessage, stream_read}
 
 -- ---- a run that is replayed
 
@@ -38,7 +38,7 @@ pub record IsReplayedIn (network : Network) (classes : List Class) (lines : Line
 pub record IsReplayed (network_octets traffic_octets : List ℕ) (lines : Lines) (text : List ℕ) : Type 0 where
   pub network : Network
   pub classes : List Class
-  pub network_is : IsNetwork network_octets network
+  pub network_is : IsNetworkDocument network_octets network
   pub traffic_is : IsTraffic network traffic_octets classes
   pub replayed : IsReplayedIn network classes lines text
 
@@ -51,7 +51,7 @@ IsRefusedRun network classes lines e =
 abbrev pub IsRefusedReplay : List ℕ → List ℕ → Lines → Fault → Type 0
 IsRefusedReplay network_octets traffic_octets lines e =
     IsRefusedByDocuments network_octets traffic_octets e
-    ⊎ ((network : Network) × (classes : List Class) × IsNetwork network_octets network × IsTraffic network traffic_octets classes
+    ⊎ ((network : Network) × (classes : List Class) × IsNetworkDocument network_octets network × IsTraffic network traffic_octets classes
     × IsRefusedRun network classes lines e)
 
 -- ---- a stream that is collected
@@ -59,15 +59,15 @@ IsRefusedReplay network_octets traffic_octets lines e =
 -- the text that a stream comes to at the report of the network that a document says; the stream is whole
 pub record IsCollected (network_octets stream_octets text : List ℕ) : Type 0 where
   pub network : Network
-  pub network_is : IsNetwork network_octets network
-  pub whole : IsWhole (stream_read stream_octets)
+  pub network_is : IsNetworkDocument network_octets network
+  pub whole : EndsWithMessage (stream_read stream_octets)
   pub text_is : IsStreamText (net_of network).report_layout (stream_read stream_octets).known text
 
 -- the first refusal of what is collected: that of the network's document, then the stream's
 abbrev pub IsRefusedCollect : List ℕ → List ℕ → Fault → Type 0
 IsRefusedCollect network_octets stream_octets e =
     IsRefusedNetwork network_octets e
-    ⊎ ((network : Network) × IsNetwork network_octets network × IsRefusedStream (stream_read stream_octets) e)
+    ⊎ ((network : Network) × IsNetworkDocument network_octets network × IsRefusedStream (stream_read stream_octets) e)
 
 -- ---- a certificate that is checked
 
@@ -75,7 +75,7 @@ IsRefusedCollect network_octets stream_octets e =
 pub record IsChecked (network_octets traffic_octets : List ℕ) (lines : Lines) (answer : Answer) (text : List ℕ) : Type 0 where
   pub network : Network
   pub classes : List Class
-  pub network_is : IsNetwork network_octets network
+  pub network_is : IsNetworkDocument network_octets network
   pub traffic_is : IsTraffic network traffic_octets classes
   pub answered : IsAnswered network classes lines answer text
 
@@ -83,7 +83,7 @@ pub record IsChecked (network_octets traffic_octets : List ℕ) (lines : Lines) 
 abbrev pub IsRefusedCheck : List ℕ → List ℕ → Lines → Fault → Type 0
 IsRefusedCheck network_octets traffic_octets lines e =
     IsRefusedByDocuments network_octets traffic_octets e
-    ⊎ ((network : Network) × (classes : List Class) × IsNetwork network_octets network × IsTraffic network traffic_octets classes
+    ⊎ ((network : Network) × (classes : List Class) × IsNetworkDocument network_octets network × IsTraffic network traffic_octets classes
     × IsRefusedCertificate network classes lines e)
 
 -- ---- a refutation that is confirmed
@@ -92,7 +92,7 @@ IsRefusedCheck network_octets traffic_octets lines e =
 pub record IsConfirmed (network_octets traffic_octets : List ℕ) (lines : Lines) (answer : Answer) (text : List ℕ) : Type 0 where
   pub network : Network
   pub classes : List Class
-  pub network_is : IsNetwork network_octets network
+  pub network_is : IsNetworkDocument network_octets network
   pub traffic_is : IsTraffic network traffic_octets classes
   pub answered : IsConfirmedIn network classes lines answer text
 
@@ -100,7 +100,7 @@ pub record IsConfirmed (network_octets traffic_octets : List ℕ) (lines : Lines
 abbrev pub IsRefusedConfirm : List ℕ → List ℕ → Lines → Fault → Type 0
 IsRefusedConfirm network_octets traffic_octets lines e =
     IsRefusedByDocuments network_octets traffic_octets e
-    ⊎ ((network : Network) × (classes : List Class) × IsNetwork network_octets network × IsTraffic network traffic_octets classes
+    ⊎ ((network : Network) × (classes : List Class) × IsNetworkDocument network_octets network × IsTraffic network traffic_octets classes
     × IsRefusedOtherwise network classes lines e)
 
 -- ---- an audit
@@ -109,7 +109,7 @@ IsRefusedConfirm network_octets traffic_octets lines e =
 pub record IsAudited (network_octets traffic_octets : List ℕ) (limit : ℕ) (answer : Answer) (text : List ℕ) : Type 0 where
   pub network : Network
   pub classes : List Class
-  pub network_is : IsNetwork network_octets network
+  pub network_is : IsNetworkDocument network_octets network
   pub traffic_is : IsTraffic network traffic_octets classes
   pub audited : IsAuditedIn network classes limit answer text
 

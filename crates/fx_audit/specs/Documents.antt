@@ -48,7 +48,7 @@ abbrev pub IsPlannable : Network → Type 0
 IsPlannable network = (length (layouts_of (net_of network)) ≤ layout_limit) × ((process : ℕ) → IsStuck (net_of network) process → ⊥)
 
 -- the octets are the document of a network
-pub record IsNetwork (octets : List ℕ) (network : Network) : Type 0 where
+pub record IsNetworkDocument (octets : List ℕ) (network : Network) : Type 0 where
   pub document : IsDocument (network_faults []) network_of octets network
   pub plannable : IsPlannable network
 
@@ -65,4 +65,4 @@ IsTraffic network octets classes = IsDocument (traffic_faults (device_names netw
 abbrev pub IsRefusedByDocuments : List ℕ → List ℕ → Fault → Type 0
 IsRefusedByDocuments network_octets traffic_octets e =
     IsRefusedNetwork network_octets e
-    ⊎ ((network : Network) × IsNetwork network_octets network × IsFirstFault (traffic_faults (device_names network) []) traffic_octets e)
+    ⊎ ((network : Network) × IsNetworkDocument network_octets network × IsFirstFault (traffic_faults (device_names network) []) traffic_octets e)

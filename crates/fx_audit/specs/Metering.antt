@@ -13,7 +13,7 @@ use Rattle.fx_topology.specs.declared.network.Network.{Network}
 use Rattle.fx_plan.specs.Tables.{net_of}
 use Rattle.fx_net.specs.Running.{RefusesRun, RunsTo, begun}
 use Rattle.fx_conform.specs.Whole.{IsRunOf}
-use Rattle.fx_audit.specs.Documents.{IsNetwork, IsRefusedByDocuments, IsTraffic}
+use Rattle.fx_audit.specs.Documents.{IsNetworkDocument, IsRefusedByDocuments, IsTraffic}
 
 -- ---- the text
 
@@ -60,7 +60,7 @@ IsRefusedIn network classes left asked unread from last before e =
 pub record IsMetered (network_octets traffic_octets : List ℕ) (left : Option (List ℕ)) (asked : ℕ) (from last : Lines) (before after : Put) (text : List ℕ) : Type 0 where
   pub network : Network
   pub classes : List Class
-  pub network_is : IsNetwork network_octets network
+  pub network_is : IsNetworkDocument network_octets network
   pub traffic_is : IsTraffic network traffic_octets classes
   pub metered : IsMeteredIn network classes left asked from last before after text
   pub complete : IsRunOf (net_of network) classes metered.ran.at metered.ran.to from last before after metered.totals
@@ -69,5 +69,5 @@ pub record IsMetered (network_octets traffic_octets : List ℕ) (left : Option (
 abbrev pub IsRefusedMetering : List ℕ → List ℕ → Option (List ℕ) → ℕ → Type 0 → Lines → Lines → Put → Fault → Type 0
 IsRefusedMetering network_octets traffic_octets left asked unread from last before e =
     IsRefusedByDocuments network_octets traffic_octets e
-    ⊎ ((network : Network) × (classes : List Class) × IsNetwork network_octets network × IsTraffic network traffic_octets classes
+    ⊎ ((network : Network) × (classes : List Class) × IsNetworkDocument network_octets network × IsTraffic network traffic_octets classes
     × IsRefusedIn network classes left asked unread from last before e)

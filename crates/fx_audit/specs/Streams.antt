@@ -7,18 +7,18 @@ use Rattle.fx_collect.specs.Totals.{Totals, nothing, with_records}
 use Rattle.fx_collect.specs.Report.{Ascends, number_line, totals_text}
 use Rattle.fx_layout.specs.Keys.{Layout}
 use Rattle.fx_session.specs.Messages.{Known}
-use Rattle.fx_session.specs.Streams.{Standing, answer_of, fed, start}
+use Rattle.fx_session.specs.Streams.{SessionState, answer_of, fed, start}
 
 -- what a session has read that is fed a whole stream
-abbrev pub stream_read : List ℕ → Standing
+abbrev pub stream_read : List ℕ → SessionState
 stream_read octets = fed start octets
 
 -- no message is refused, and the last one ends with the stream
-abbrev pub IsWhole : Standing → Type 0
-IsWhole st = (st.fault ≡ None) × (st.rest ≡ [])
+abbrev pub EndsWithMessage : SessionState → Type 0
+EndsWithMessage st = (st.fault ≡ None) × (st.rest ≡ [])
 
 -- why a stream is refused: a message is, the first one with this fault, or, where none is, the stream ends inside one
-abbrev pub IsRefusedStream : Standing → Fault → Type 0
+abbrev pub IsRefusedStream : SessionState → Fault → Type 0
 IsRefusedStream st e =
     (answer_of st.place st.fault ≡ Err e)
     ⊎ ((st.fault ≡ None) × (st.rest ≢ []) × (e ≡ fault_at 612 (places.Octet st.place)))
@@ -39,7 +39,7 @@ IsStreamText layout k text = IsTotalsText (with_records (nothing layout) k.waiti
 -- ---- what is kept while a stream is read
 
 -- no record waits any more
-abbrev pub drained : Standing → Standing
+abbrev pub drained : SessionState → SessionState
 drained st = record {
   known = record { domains = st.known.domains; waiting = []; gaps = st.known.gaps; skipped = st.known.skipped };
   place = st.place;
@@ -48,7 +48,7 @@ drained st = record {
 }
 
 -- a session that has read these octets, and whose records were tallied
-pub record IsTallied (octets : List ℕ) (before : Totals) (session : Standing) (totals : Totals) : Type 0 where
+pub record IsTallied (octets : List ℕ) (before : Totals) (session : SessionState) (totals : Totals) : Type 0 where
   pub session_is : session ≡ drained (stream_read octets)
   pub faultless : (stream_read octets).fault ≡ None
   pub totals_are : totals ≡ with_records before (stream_read octets).known.waiting

@@ -6,7 +6,7 @@ ghost use Rattle.fx_base.specs.declared.fault.Place.TheVariants as places;
 ghost use Rattle.fx_collect.specs.Totals.{with_records};
 ghost use Rattle.fx_session.specs.Streams as streams;
 ghost use Rattle.fx_audit.specs.Documents.{ReadFails};
-ghost use Rattle.fx_audit.specs.Streams.{drained, stream_read, IsRefusedStream, IsStreamText, IsTallied, IsTotalsText, IsWhole};
+ghost use Rattle.fx_audit.specs.Streams.{drained, stream_read, IsRefusedStream, IsStreamText, IsTallied, IsTotalsText, EndsWithMessage};
 ghost use Rattle.fx_audit.specs.Texts.{IsCollectText};
 ghost use Rattle.fx_audit.specs.declared.answer.Answer.TheVariants.{Yes};
 
@@ -103,7 +103,7 @@ pub fn collect<R: Source, S: Sink>(
     sink: &mut S,
 ) -> Result<Answer, Fault>
     ensures ok { IfOk result (λ answer. (answer ≡ Yes)
-        × MayHaveLeft (R.left stream.old) (λ octets. IsWhole (stream_read octets)
+        × MayHaveLeft (R.left stream.old) (λ octets. EndsWithMessage (stream_read octets)
         × ((text : List ℕ) × IsStreamText net.now.report_layout (stream_read octets).known text
         × Writes (S.taken sink.old) (S.taken sink.new) text))) }
     ensures going { OnOk result (S.failed sink.old ≡ false → S.failed sink.new ≡ false) }

@@ -8,7 +8,7 @@ ghost use Rattle.fx_base.specs.declared.fault.Fault.{Fault};
 ghost use Rattle.fx_base.specs.declared.fault.Place.TheVariants as places;
 ghost use Rattle.fx_topology.specs.Networks.{device_names};
 ghost use Rattle.fx_traffic.specs.Classes.{traffic_faults};
-ghost use Rattle.fx_audit.specs.Documents.{IsFirstFault, IsJson, IsNetwork, IsRefusedByDocuments, IsRefusedNetwork, IsTraffic, ReadFails};
+ghost use Rattle.fx_audit.specs.Documents.{IsFirstFault, IsJson, IsNetworkDocument, IsRefusedByDocuments, IsRefusedNetwork, IsTraffic, ReadFails};
 
 use fx_base::{Fault, Source, read_whole};
 use fx_plan::{Plan, read_plan};
@@ -50,7 +50,7 @@ pub struct Documents {
 /// a read fails or the source hasn't ended after 4,294,967,296 calls; and with 900 for want of memory.
 pub(crate) fn network_from<R: Source>(alloc: Global, source: &mut R) -> Result<Plan, Fault>
     ensures ok { IfOk result (λ plan. MayHaveLeft (R.left source.old)
-        (λ octets. IsNetwork octets plan)) }
+        (λ octets. IsNetworkDocument octets plan)) }
     ensures err { IfErr result (λ e. (e ≡ fault_at 900 places.None)
         ⊎ (ReadFails (R.left source.old) (R.calls source.old) (R.calls source.new)
         (R.failed source.new) e
@@ -88,7 +88,7 @@ pub fn read_documents<N: Source, T: Source>(
     traffic: &mut T,
 ) -> Result<Documents, Fault>
     ensures network { IfOk result (λ documents. MayHaveLeft (N.left network.old)
-        (λ octets. IsNetwork octets documents.plan)) }
+        (λ octets. IsNetworkDocument octets documents.plan)) }
     ensures traffic { IfOk result (λ documents. MayHaveLeft (T.left traffic.old)
         (λ octets. IsTraffic documents.plan octets documents.traffic)) }
     ensures err { IfErr result (λ e. (e ≡ fault_at 900 places.None)

@@ -1,4 +1,4 @@
-pub mod Standing
+pub mod ConsistentCourses
 pub mod Readings
 pub mod Going
 pub mod Lent

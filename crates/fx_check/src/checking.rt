@@ -7,7 +7,7 @@ ghost use Rattle.fx_machine.specs.Claim.{ExactlyOnce, OnceModulo};
 ghost use Rattle.fx_base.specs.Lines.{Fails};
 ghost use Rattle.fx_plan.specs.Tables.{net_of};
 ghost use Rattle.fx_check.specs.Outcomes.{IsToldBy, Accepts, MayBeAccepted, MayBeCertificate, MayBeRefused};
-ghost use Rattle.fx_check.specs.Standing.{goals, IsStanding};
+ghost use Rattle.fx_check.specs.Remaining.{goals, IsConsistent};
 ghost use Rattle.fx_traffic.specs.Targets.{AreRegions, targets_of};
 ghost use Rattle.fx_check.specs.Verdict.{whole};
 
@@ -29,7 +29,7 @@ fn take_lines<R: Source>(
 ) -> Result<(), Fault>
     requires tables { AreTables tables.now }
     requires room { length tables.now.net.processes ≤ length scratch.old }
-    requires standing { IsStanding targets.now course.old }
+    requires consistent { IsConsistent targets.now course.old }
     requires made { course.old.made ≡ 0 }
     requires goals { goals targets.now course.old ≡ whole targets.now }
     ensures ok { OnOk result (MayBeAccepted tables.now.net targets.now lines.old) }

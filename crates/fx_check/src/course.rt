@@ -4,7 +4,7 @@ ghost use Rattle.fx_cert.specs.declared.item.Item.TheVariants as of_item;
 ghost use Rattle.fx_elements.specs.Axes.{axis_index};
 ghost use Rattle.fx_leaf.specs.Tables.{AreTables};
 ghost use Rattle.fx_check.specs.Judging.{Judge, judge_of};
-ghost use Rattle.fx_check.specs.Standing.{goals, rest_goals, IsStanding, IsInTree, map_result, below_waits, above_waits};
+ghost use Rattle.fx_check.specs.Remaining.{goals, rest_goals, IsConsistent, IsInTree, map_result, below_waits, above_waits};
 ghost use Rattle.fx_check.specs.Verdict.{Goal, after, after_reading, split_answer, made_by, made_after, form_fault, reading_of, at_end};
 
 use crate::judging::{leaf_fault, never_fault};
@@ -63,11 +63,11 @@ impl Course {
 
     /// Takes an item between the trees.
     fn between(&mut self, targets: &[Target<'_>], item: &Item) -> Result<(), u16>
-        requires standing { IsStanding targets.now self.old }
+        requires consistent { IsConsistent targets.now self.old }
         requires stage { self.old.stage ≡ Stage.Between }
         ensures after { (judge : Judge) → after judge self.old.made (goals targets.now self.old)
             item.now ≡ map_result result (goals targets.now self.new) }
-        ensures standing { OnOk result (IsStanding targets.now self.new) }
+        ensures consistent { OnOk result (IsConsistent targets.now self.new) }
         ensures made { OnOk result (self.new.made ≡ made_by self.old.made item.now) }
     {
         if self.current < targets.len() {
@@ -92,10 +92,10 @@ impl Course {
 
     /// Ends the tree of a region: that of the region on top comes next, or the target is done.
     fn close_region(&mut self, targets: &[Target<'_>])
-        requires standing { IsStanding targets.now self.old }
+        requires consistent { IsConsistent targets.now self.old }
         requires stage { IsInTree self.old.stage }
         ensures goals { goals targets.now self.new ≡ rest_goals targets.now self.old }
-        ensures standing { IsStanding targets.now self.new }
+        ensures consistent { IsConsistent targets.now self.new }
         ensures made { self.new.made ≡ self.old.made }
         ensures version { self.new.version ≡ self.old.version }
     {
@@ -120,12 +120,12 @@ impl Course {
     ) -> Result<(), u16>
         requires tables { AreTables tables.now }
         requires room { length tables.now.net.processes ≤ length scratch.old }
-        requires standing { IsStanding targets.now self.old }
+        requires consistent { IsConsistent targets.now self.old }
         requires stage { IsInTree self.old.stage }
         ensures after { after (judge_of tables.now.net) self.old.made (goals targets.now self.old)
             (of_item.Leaf leaf.now.crossing leaf.now.point leaf.now.process)
             ≡ map_result result (goals targets.now self.new) }
-        ensures standing { OnOk result (IsStanding targets.now self.new) }
+        ensures consistent { OnOk result (IsConsistent targets.now self.new) }
         ensures made { OnOk result (self.new.made ≡ self.old.made + 1) }
         ensures size { length scratch.new ≡ length scratch.old }
     {
@@ -156,11 +156,11 @@ impl Course {
     ) -> Result<(), u16>
         requires tables { AreTables tables.now }
         requires room { length tables.now.net.processes ≤ length scratch.old }
-        requires standing { IsStanding targets.now self.old }
+        requires consistent { IsConsistent targets.now self.old }
         requires stage { IsInTree self.old.stage }
         ensures after { after (judge_of tables.now.net) self.old.made (goals targets.now self.old)
             of_item.Never ≡ map_result result (goals targets.now self.new) }
-        ensures standing { OnOk result (IsStanding targets.now self.new) }
+        ensures consistent { OnOk result (IsConsistent targets.now self.new) }
         ensures made { OnOk result (self.new.made ≡ self.old.made + 1) }
         ensures size { length scratch.new ≡ length scratch.old }
     {
@@ -184,11 +184,11 @@ impl Course {
 
     /// Takes a split of a region: its lower part comes next, and its upper part waits.
     fn split(&mut self, targets: &[Target<'_>], axis: Axis, at: u128) -> Result<(), u16>
-        requires standing { IsStanding targets.now self.old }
+        requires consistent { IsConsistent targets.now self.old }
         requires stage { IsInTree self.old.stage }
         ensures after { (judge : Judge) → after judge self.old.made (goals targets.now self.old)
             (of_item.Split axis at) ≡ map_result result (goals targets.now self.new) }
-        ensures standing { OnOk result (IsStanding targets.now self.new) }
+        ensures consistent { OnOk result (IsConsistent targets.now self.new) }
         ensures made { OnOk result (self.new.made ≡ self.old.made + 1) }
     {
         let Stage::Tree(here) = &mut self.stage else {
@@ -210,11 +210,11 @@ impl Course {
     ) -> Result<(), u16>
         requires tables { AreTables tables.now }
         requires room { length tables.now.net.processes ≤ length scratch.old }
-        requires standing { IsStanding targets.now self.old }
+        requires consistent { IsConsistent targets.now self.old }
         requires stage { IsInTree self.old.stage }
         ensures after { after (judge_of tables.now.net) self.old.made (goals targets.now self.old)
             item.now ≡ map_result result (goals targets.now self.new) }
-        ensures standing { OnOk result (IsStanding targets.now self.new) }
+        ensures consistent { OnOk result (IsConsistent targets.now self.new) }
         ensures made { OnOk result (self.new.made ≡ made_by self.old.made item.now) }
         ensures size { length scratch.new ≡ length scratch.old }
     {
@@ -247,10 +247,10 @@ impl Course {
     ) -> Result<(), u16>
         requires tables { AreTables tables.now }
         requires room { length tables.now.net.processes ≤ length scratch.old }
-        requires standing { IsStanding targets.now self.old }
+        requires consistent { IsConsistent targets.now self.old }
         ensures after { after (judge_of tables.now.net) self.old.made (goals targets.now self.old)
             item.now ≡ map_result result (goals targets.now self.new) }
-        ensures standing { OnOk result (IsStanding targets.now self.new) }
+        ensures consistent { OnOk result (IsConsistent targets.now self.new) }
         ensures made { OnOk result (self.new.made ≡ made_by self.old.made item.now) }
         ensures size { length scratch.new ≡ length scratch.old }
     {
@@ -271,7 +271,7 @@ impl Course {
 
     /// The number of the fault of a line that is no item's text.
     fn form_fault(&self, targets: &[Target<'_>]) -> u16
-        requires { IsStanding targets.now self.now }
+        requires { IsConsistent targets.now self.now }
         ensures { result ≡ form_fault (goals targets.now self.now) }
     {
         match self.stage {
@@ -296,12 +296,12 @@ impl Course {
     ) -> Result<(), u16>
         requires tables { AreTables tables.now }
         requires room { length tables.now.net.processes ≤ length scratch.old }
-        requires standing { IsStanding targets.now self.old }
+        requires consistent { IsConsistent targets.now self.old }
         requires short { length line.now.bytes.now ≤ 4096 }
         ensures after { after_reading (judge_of tables.now.net) self.old.made
             (goals targets.now self.old) (reading_of (line.now.bytes.now, line.now.ended))
             ≡ map_result result (goals targets.now self.new) }
-        ensures standing { OnOk result (IsStanding targets.now self.new) }
+        ensures consistent { OnOk result (IsConsistent targets.now self.new) }
         ensures made { OnOk result (self.new.made
             ≡ made_after self.old.made (reading_of (line.now.bytes.now, line.now.ended))) }
         ensures size { length scratch.new ≡ length scratch.old }
@@ -317,7 +317,7 @@ impl Course {
 
     /// What is answered at the text's end, behind the line of this number.
     pub(crate) fn end(&self, targets: &[Target<'_>], number: u64) -> Result<(), Fault>
-        requires { IsStanding targets.now self.now }
+        requires { IsConsistent targets.now self.now }
         ensures ok { OnOk result ((n : ℕ) → at_end n (goals targets.now self.now) ≡ None) }
         ensures err { IfErr result (λ e. at_end number (goals targets.now self.now)
             ≡ Some (record { fault = e; last = number; behind = [] })) }

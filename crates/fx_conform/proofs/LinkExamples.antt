@@ -3,7 +3,7 @@ use Rattle.std.proofs.Common.{◌≡◌, ℕ, ◌^◌, ◌<◌, List, [], ◌∷
 use Rattle.std.specs.Prelude.{slice_get}
 use Rattle.fx_tables.specs.declared.record.Record.{Record}
 use Rattle.fx_machine.proofs.ClaimExamples.{source, first}
-use Rattle.fx_session.specs.Streams.{Standing}
+use Rattle.fx_session.specs.Streams.{SessionState}
 use Rattle.fx_session.proofs.StreamSteps.{fed_on, all_none}
 use Rattle.fx_link.specs.Sending.{IsSent}
 use Rattle.fx_link.specs.Wires.{new_wire}
@@ -53,7 +53,7 @@ pending_elsewhere : pending_from 1 (first ∷ []) 0 ≡ []
 pending_elsewhere = refl
 
 -- a receiver that has read a record which isn't handled yet
-abbrev holding : Standing
+abbrev holding : SessionState
 holding = record { known = record { domains = []; waiting = first ∷ []; gaps = 0; skipped = 0 }; place = 0; rest = []; fault = None }
 
 -- with two octets more on the link
@@ -61,7 +61,7 @@ abbrev busy : Ongoing
 busy = record { outgoing = (at_rest new_wire).outgoing; queue = 0 ∷ 10 ∷ []; receiver = holding }
 
 arrived_there : arrived 1 0 (at_rest new_wire ∷ busy ∷ []) ≡ first ∷ []
-arrived_there = ap (λ (x : Standing). x.known.waiting) (fed_on holding [] refl ∙ all_none holding.known holding.place)
+arrived_there = ap (λ (x : SessionState). x.known.waiting) (fed_on holding [] refl ∙ all_none holding.known holding.place)
 
 -- no link has this number
 arrived_nowhere : arrived 2 0 (at_rest new_wire ∷ busy ∷ []) ≡ []

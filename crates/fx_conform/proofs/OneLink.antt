@@ -3,7 +3,7 @@ use Rattle.std.proofs.Common.{◌≡◌, ℕ, ◌+◌, ◌^◌, ◌<◌, ◌≤�
 use Rattle.std.specs.List.{AllByRecursion}
 use Rattle.std.proofs.lemmas.List.{take-append-drop}
 use Rattle.fx_tables.specs.declared.record.Record.{Record}
-use Rattle.fx_session.specs.Streams.{Standing, start, fed, behind}
+use Rattle.fx_session.specs.Streams.{SessionState, start, fed, behind}
 use Rattle.fx_session.proofs.StreamSteps.{pieces, fed_on, all_none}
 use Rattle.fx_session.proofs.InFront.{fed-behind}
 use Rattle.fx_link.specs.Sending.{Sender, IsSent, KeepsUp, layout_of, knows, joins, after_batch, after_sent, sent_octets, has_room_for}
@@ -24,11 +24,11 @@ start_settled = fed_on start [] refl ∙ all_none start.known start.place
 
 nothing_read : AreRead [] []
 nothing_read = record {
-  waiting = ap (λ (x : Standing). x.known.waiting) start_settled;
-  gaps = ap (λ (x : Standing). x.known.gaps) start_settled;
-  skipped = ap (λ (x : Standing). x.known.skipped) start_settled;
-  rest = ap (λ (x : Standing). x.rest) start_settled;
-  fault = ap (λ (x : Standing). x.fault) start_settled;
+  waiting = ap (λ (x : SessionState). x.known.waiting) start_settled;
+  gaps = ap (λ (x : SessionState). x.known.gaps) start_settled;
+  skipped = ap (λ (x : SessionState). x.known.skipped) start_settled;
+  rest = ap (λ (x : SessionState). x.rest) start_settled;
+  fault = ap (λ (x : SessionState). x.fault) start_settled;
 }
 
 pub new_is_still : IsStill [] [] (at_rest new_wire) []
@@ -36,7 +36,7 @@ new_is_still = record {
   wire = new_wire;
   kept = record { in_step = new_in_step; settled = start_settled; keeps_up = new_in_step.keeps_up; read = nothing_read };
   ongoing_is = refl;
-  records_are = sym (ap (λ (x : Standing). x.known.waiting) start_settled);
+  records_are = sym (ap (λ (x : SessionState). x.known.waiting) start_settled);
   sent = tt;
 }
 
@@ -121,13 +121,13 @@ kept_sent time wire history before put h k s few =
     record {
       in_step = (sending_adds time put wire h k.in_step s few).0;
       settled = k.settled;
-      keeps_up = subst (λ (x : Standing). KeepsUp (after_sent wire.sender put) x) whole back.0;
+      keeps_up = subst (λ (x : SessionState). KeepsUp (after_sent wire.sender put) x) whole back.0;
       read = record {
-        waiting = sym (ap (λ (x : Standing). x.known.waiting) whole) ∙ back.1.waiting ∙ ap (λ (l : List Record). l ++ put) k.read.waiting;
-        gaps = sym (ap (λ (x : Standing). x.known.gaps) whole) ∙ back.1.gaps ∙ k.read.gaps;
-        skipped = sym (ap (λ (x : Standing). x.known.skipped) whole) ∙ back.1.skipped ∙ k.read.skipped;
-        rest = sym (ap (λ (x : Standing). x.rest) whole) ∙ back.0.rest;
-        fault = sym (ap (λ (x : Standing). x.fault) whole) ∙ back.0.fault;
+        waiting = sym (ap (λ (x : SessionState). x.known.waiting) whole) ∙ back.1.waiting ∙ ap (λ (l : List Record). l ++ put) k.read.waiting;
+        gaps = sym (ap (λ (x : SessionState). x.known.gaps) whole) ∙ back.1.gaps ∙ k.read.gaps;
+        skipped = sym (ap (λ (x : SessionState). x.known.skipped) whole) ∙ back.1.skipped ∙ k.read.skipped;
+        rest = sym (ap (λ (x : SessionState). x.rest) whole) ∙ back.0.rest;
+        fault = sym (ap (λ (x : SessionState). x.fault) whole) ∙ back.0.fault;
       };
     }
 
@@ -155,28 +155,28 @@ abbrev carrying : ℕ → Wire → Wire
 carrying n wire = record { sender = wire.sender; queue = drop n wire.queue; receiver = without_waiting (fed wire.receiver (take n wire.queue)) }
 
 -- a session stands behind the records that it has read
-behind_emptied : (st : Standing) → behind st.known.waiting (without_waiting st) ≡ st
-behind_emptied st = ap (λ (w : List Record). let x : Standing = record st { known = record st.known { waiting = w } } in x) (append-nil st.known.waiting)
+behind_emptied : (st : SessionState) → behind st.known.waiting (without_waiting st) ≡ st
+behind_emptied st = ap (λ (w : List Record). let x : SessionState = record st { known = record st.known { waiting = w } } in x) (append-nil st.known.waiting)
 
 carrying_takes : (n : ℕ) (wire : Wire) → InStep wire
     → InStep (carrying n wire) × (on_link wire ≡ (fed wire.receiver (take n wire.queue)).known.waiting ++ on_link (carrying n wire))
 carrying_takes n wire step =
     let front : List ℕ = take n wire.queue in
     let rest : List ℕ = drop n wire.queue in
-    let st : Standing = fed wire.receiver front in
+    let st : SessionState = fed wire.receiver front in
     let all : fed st rest ≡ fed wire.receiver wire.queue = pieces wire.receiver front rest ∙ ap (fed wire.receiver) (take-append-drop n wire.queue) in
-    let split : fed st rest ≡ behind st.known.waiting (fed (without_waiting st) rest) = ap (λ (x : Standing). fed x rest) (sym (behind_emptied st)) ∙ fed-behind st.known.waiting (without_waiting st) rest in
+    let split : fed st rest ≡ behind st.known.waiting (fed (without_waiting st) rest) = ap (λ (x : SessionState). fed x rest) (sym (behind_emptied st)) ∙ fed-behind st.known.waiting (without_waiting st) rest in
     let same : fed wire.receiver wire.queue ≡ behind st.known.waiting (fed (without_waiting st) rest) = sym all ∙ split in (
       record {
         sender = step.sender;
         keeps_up = record {
-          domains = sym (ap (λ (x : Standing). x.known.domains) same) ∙ step.keeps_up.domains;
-          rest = sym (ap (λ (x : Standing). x.rest) same) ∙ step.keeps_up.rest;
-          fault = sym (ap (λ (x : Standing). x.fault) same) ∙ step.keeps_up.fault;
+          domains = sym (ap (λ (x : SessionState). x.known.domains) same) ∙ step.keeps_up.domains;
+          rest = sym (ap (λ (x : SessionState). x.rest) same) ∙ step.keeps_up.rest;
+          fault = sym (ap (λ (x : SessionState). x.fault) same) ∙ step.keeps_up.fault;
         };
         handled = refl;
       },
-      ap (λ (x : Standing). x.known.waiting) same,
+      ap (λ (x : SessionState). x.known.waiting) same,
     )
 
 none_behind : (xs ys : List Record) → xs ++ ys ≡ xs → ys ≡ []
@@ -184,12 +184,12 @@ none_behind [] ys e = e
 none_behind (x ∷ xs) ys e = none_behind xs ys (let h : xs ++ ys ≡ xs = cc in h)
 
 -- what completes nothing more without new octets doesn't once its records are handled
-settled_emptied : (st : Standing) → fed st [] ≡ st → fed (without_waiting st) [] ≡ without_waiting st
+settled_emptied : (st : SessionState) → fed st [] ≡ st → fed (without_waiting st) [] ≡ without_waiting st
 settled_emptied st e =
-    let x : Standing = fed (without_waiting st) [] in
-    let same : behind st.known.waiting x ≡ st = sym (fed-behind st.known.waiting (without_waiting st) []) ∙ ap (λ (y : Standing). fed y []) (behind_emptied st) ∙ e in
-    let none : x.known.waiting ≡ [] = none_behind st.known.waiting x.known.waiting (ap (λ (y : Standing). y.known.waiting) same) in
-    ap (λ (w : List Record). let y : Standing = record x { known = record x.known { waiting = w } } in y) none ∙ ap without_waiting same
+    let x : SessionState = fed (without_waiting st) [] in
+    let same : behind st.known.waiting x ≡ st = sym (fed-behind st.known.waiting (without_waiting st) []) ∙ ap (λ (y : SessionState). fed y []) (behind_emptied st) ∙ e in
+    let none : x.known.waiting ≡ [] = none_behind st.known.waiting x.known.waiting (ap (λ (y : SessionState). y.known.waiting) same) in
+    ap (λ (w : List Record). let y : SessionState = record x { known = record x.known { waiting = w } } in y) none ∙ ap without_waiting same
 
 settled_after : (n : ℕ) (wire : Wire) → fed (fed wire.receiver (take n wire.queue)) [] ≡ fed wire.receiver (take n wire.queue)
 settled_after n wire = pieces wire.receiver (take n wire.queue) [] ∙ ap (fed wire.receiver) (append-nil (take n wire.queue))
@@ -230,4 +230,4 @@ module _ (time : ℕ) (history : List ℕ) (all : List Record) (o : Ongoing) (rs
   pub nothing_carried : IsStill history all o rs → o.queue ≡ [] → rs ≡ []
   nothing_carried s e =
       let none : s.wire.queue ≡ [] = ap (λ (x : Ongoing). x.queue) (sym s.ongoing_is) ∙ e in
-      s.records_are ∙ ap (λ (l : List ℕ). (fed s.wire.receiver l).known.waiting) none ∙ ap (λ (x : Standing). x.known.waiting) s.kept.settled ∙ s.kept.in_step.handled
+      s.records_are ∙ ap (λ (l : List ℕ). (fed s.wire.receiver l).known.waiting) none ∙ ap (λ (x : SessionState). x.known.waiting) s.kept.settled ∙ s.kept.in_step.handled

@@ -11,14 +11,14 @@ Stand P (s ∷ ss) (rs ∷ rss) = P 0 s rs × Stand (λ n. P (suc n)) ss rss
 Stand P _ _ = ⊥
 
 -- what stands at a place
-pub record Standing (P : ℕ → Option Stored → List Record → Type 0) (ss : List (Option Stored)) (rss : List (List Record)) (n : ℕ) : Type 0 where
+pub record SessionState (P : ℕ → Option Stored → List Record → Type 0) (ss : List (Option Stored)) (rss : List (List Record)) (n : ℕ) : Type 0 where
   pub s : Option Stored
   pub rs : List Record
   pub store_is : slice_get ss n ≡ Some s
   pub records_are : slice_get rss n ≡ Some rs
   pub fact : P n s rs
 
-pub standing : (P : ℕ → Option Stored → List Record → Type 0) (ss : List (Option Stored)) (rss : List (List Record)) (n : ℕ) → Stand P ss rss → n < length ss → Standing P ss rss n
+pub standing : (P : ℕ → Option Stored → List Record → Type 0) (ss : List (Option Stored)) (rss : List (List Record)) (n : ℕ) → Stand P ss rss → n < length ss → SessionState P ss rss n
 standing P [] rss n h lt = absurd (omega arith)
 standing P (s ∷ ss) [] n h lt = absurd h
 standing P (s ∷ ss) (rs ∷ rss) zero h lt = record { s = s; rs = rs; store_is = refl; records_are = refl; fact = h.0 }

@@ -21,7 +21,7 @@ use Rattle.fx_session.specs.TemplateSets.{template_set}
 use Rattle.fx_session.specs.DataSets.{Taken, flow_set}
 use Rattle.fx_session.specs.Messages.{Reading, Known, with_templates, with_taken, data_by, set_read, sets_read, new_domain, gaps_after, with_domain, known_after, message_read}
 use Rattle.fx_session.specs.Messages as messages
-use Rattle.fx_session.specs.Streams.{Standing, waits, moved, read_all, fed}
+use Rattle.fx_session.specs.Streams.{SessionState, waits, moved, read_all, fed}
 use Rattle.fx_session.specs.declared.domain.Domain.{Domain}
 use Rattle.fx_session.proofs.MessageSteps.{sets_read-first, sets_read-end}
 use Rattle.fx_session.proofs.StreamSteps.{fed_on, all_goes, all_none}
@@ -209,7 +209,7 @@ ids_are layouts batch h = by (knows layouts (layout_of batch)) where
 
 -- ---- the law
 
-waits_then : (st : Standing) (time : ℕ) (s : Sender) (batch : List Record) → time < 2 ^ 32 → IsSender s → IsBatch batch → KeepsUp s st
+waits_then : (st : SessionState) (time : ℕ) (s : Sender) (batch : List Record) → time < 2 ^ 32 → IsSender s → IsBatch batch → KeepsUp s st
     → (place : ℕ) × (fed st (batch_octets time s batch) ≡ waits (known_then st.known s batch) place [])
 unfolding batch_octets
 waits_then st time s batch h is b up =
@@ -224,11 +224,11 @@ waits_then st time s batch h is b up =
           ∙ ap (read_all (known_then st.known s batch) (moved st.place m.octets)) end ∙ all_none (known_then st.known s batch) (moved st.place m.octets),
     )
 
-pub batch_back : (time : ℕ) (s : Sender) (st : Standing) (batch : List Record) → time < 2 ^ 32 → IsSender s → IsBatch batch → KeepsUp s st
+pub batch_back : (time : ℕ) (s : Sender) (st : SessionState) (batch : List Record) → time < 2 ^ 32 → IsSender s → IsBatch batch → KeepsUp s st
     → KeepsUp (after_batch s batch) (fed st (batch_octets time s batch)) × ReadsOn st (fed st (batch_octets time s batch)) batch
 batch_back time s st batch h is b up =
     let w = waits_then st time s batch h is b up in
-    let known : (fed st (batch_octets time s batch)).known ≡ known_then st.known s batch = ap (λ (x : Standing). x.known) w.1 in (
-      record { domains = ap (λ (k : Known). k.domains) known; rest = ap (λ (x : Standing). x.rest) w.1; fault = ap (λ (x : Standing). x.fault) w.1 },
+    let known : (fed st (batch_octets time s batch)).known ≡ known_then st.known s batch = ap (λ (x : SessionState). x.known) w.1 in (
+      record { domains = ap (λ (k : Known). k.domains) known; rest = ap (λ (x : SessionState). x.rest) w.1; fault = ap (λ (x : SessionState). x.fault) w.1 },
       record { waiting = ap (λ (k : Known). k.waiting) known; gaps = ap (λ (k : Known). k.gaps) known; skipped = ap (λ (k : Known). k.skipped) known },
     )

@@ -3,7 +3,7 @@ use Rattle.std.proofs.Common.{arith, ◌≡◌, ℕ, suc, ◌+◌, ◌^◌, ◌<
 use Rattle.std.specs.List.{AllByRecursion}
 use Rattle.std.proofs.lemmas.List.{take-append-drop, append-nil}
 use Rattle.fx_tables.specs.declared.record.Record.{Record}
-use Rattle.fx_session.specs.Streams.{Standing, start, fed, behind}
+use Rattle.fx_session.specs.Streams.{SessionState, start, fed, behind}
 use Rattle.fx_session.proofs.StreamSteps.{pieces, fed_on, all_none}
 use Rattle.fx_session.proofs.InFront.{fed-behind}
 use Rattle.fx_link.specs.Sending.{IsSent, KeepsUp, after_sent, sent_octets}
@@ -16,36 +16,36 @@ use Rattle.fx_link.proofs.StreamTrip.{records_back, senders_stay}
 pub sending_adds : (time : ℕ) (rs : List Record) (wire : Wire) → time < 2 ^ 32 → InStep wire → AllByRecursion IsSent rs → 256 + length (after_sent wire.sender rs).layouts < 2 ^ 16
     → InStep (sent_on time rs wire) × (on_link (sent_on time rs wire) ≡ on_link wire ++ rs)
 sending_adds time rs wire h step all few =
-    let st : Standing = fed wire.receiver wire.queue in
+    let st : SessionState = fed wire.receiver wire.queue in
     let back = records_back time wire.sender st rs h step.sender all few step.keeps_up in
     let whole : fed st (sent_octets time wire.sender rs) ≡ fed wire.receiver (wire.queue ++ sent_octets time wire.sender rs) = pieces wire.receiver wire.queue (sent_octets time wire.sender rs) in (
-      record { sender = senders_stay wire.sender rs step.sender all few; keeps_up = subst (λ (x : Standing). KeepsUp (after_sent wire.sender rs) x) whole back.0; handled = step.handled },
-      ap (λ (x : Standing). x.known.waiting) (sym whole) ∙ back.1.waiting,
+      record { sender = senders_stay wire.sender rs step.sender all few; keeps_up = subst (λ (x : SessionState). KeepsUp (after_sent wire.sender rs) x) whole back.0; handled = step.handled },
+      ap (λ (x : SessionState). x.known.waiting) (sym whole) ∙ back.1.waiting,
     )
 
 -- a session stands behind the records that it has read
-behind_emptied : (st : Standing) → behind st.known.waiting (without_waiting st) ≡ st
-behind_emptied st = ap (λ (w : List Record). let x : Standing = record st { known = record st.known { waiting = w } } in x) (append-nil st.known.waiting)
+behind_emptied : (st : SessionState) → behind st.known.waiting (without_waiting st) ≡ st
+behind_emptied st = ap (λ (w : List Record). let x : SessionState = record st { known = record st.known { waiting = w } } in x) (append-nil st.known.waiting)
 
 pub carrying_takes : (n : ℕ) (wire : Wire) → InStep wire
     → InStep (carried (suc n) wire) × (on_link wire ≡ (fed wire.receiver (take (suc n) wire.queue)).known.waiting ++ on_link (carried (suc n) wire))
 carrying_takes n wire step =
     let front : List ℕ = take (suc n) wire.queue in
     let rest : List ℕ = drop (suc n) wire.queue in
-    let st : Standing = fed wire.receiver front in
+    let st : SessionState = fed wire.receiver front in
     let all : fed st rest ≡ fed wire.receiver wire.queue = pieces wire.receiver front rest ∙ ap (fed wire.receiver) (take-append-drop (suc n) wire.queue) in
-    let split : fed st rest ≡ behind st.known.waiting (fed (without_waiting st) rest) = ap (λ (x : Standing). fed x rest) (sym (behind_emptied st)) ∙ fed-behind st.known.waiting (without_waiting st) rest in
+    let split : fed st rest ≡ behind st.known.waiting (fed (without_waiting st) rest) = ap (λ (x : SessionState). fed x rest) (sym (behind_emptied st)) ∙ fed-behind st.known.waiting (without_waiting st) rest in
     let same : fed wire.receiver wire.queue ≡ behind st.known.waiting (fed (without_waiting st) rest) = sym all ∙ split in (
       record {
         sender = step.sender;
         keeps_up = record {
-          domains = sym (ap (λ (x : Standing). x.known.domains) same) ∙ step.keeps_up.domains;
-          rest = sym (ap (λ (x : Standing). x.rest) same) ∙ step.keeps_up.rest;
-          fault = sym (ap (λ (x : Standing). x.fault) same) ∙ step.keeps_up.fault;
+          domains = sym (ap (λ (x : SessionState). x.known.domains) same) ∙ step.keeps_up.domains;
+          rest = sym (ap (λ (x : SessionState). x.rest) same) ∙ step.keeps_up.rest;
+          fault = sym (ap (λ (x : SessionState). x.fault) same) ∙ step.keeps_up.fault;
         };
         handled = refl;
       },
-      ap (λ (x : Standing). x.known.waiting) same,
+      ap (λ (x : SessionState). x.known.waiting) same,
     )
 
 pub putting_sends : (time : ℕ) (rs : List Record) (wire : Wire) → after_finish time (record (at_rest wire) { outgoing = with_all time (at_rest wire).outgoing rs }) ≡ at_rest (sent_on time rs wire)
@@ -57,6 +57,6 @@ new_in_step =
     let same : fed start [] ≡ start = fed_on start [] refl ∙ all_none start.known start.place in
     record {
       sender = record { layouts = tt; few = omega arith; sent = omega arith };
-      keeps_up = record { domains = ap (λ (x : Standing). x.known.domains) same; rest = ap (λ (x : Standing). x.rest) same; fault = ap (λ (x : Standing). x.fault) same };
+      keeps_up = record { domains = ap (λ (x : SessionState). x.known.domains) same; rest = ap (λ (x : SessionState). x.rest) same; fault = ap (λ (x : SessionState). x.fault) same };
       handled = refl;
     }

@@ -1,7 +1,7 @@
 -- A link in the middle of what is done.
 use Rattle.std.specs.Prelude.{◌≡◌, ℕ, List, [], ◌++◌, take, drop}
 use Rattle.fx_tables.specs.declared.record.Record.{Record}
-use Rattle.fx_session.specs.Streams.{Standing, fed}
+use Rattle.fx_session.specs.Streams.{SessionState, fed}
 use Rattle.fx_link.specs.Outgoing.{Outgoing, after_flush, with_all}
 use Rattle.fx_link.specs.Wires.{Wire, sent_on}
 
@@ -9,7 +9,7 @@ use Rattle.fx_link.specs.Wires.{Wire, sent_on}
 pub record Ongoing : Type 0 where
   pub outgoing : Outgoing
   pub queue : List ℕ
-  pub receiver : Standing
+  pub receiver : SessionState
 
 -- no record waits for its message, and all octets were put out
 abbrev pub at_rest : Wire → Ongoing

@@ -6,7 +6,7 @@ use Rattle.fx_tables.specs.declared.record.Record.{Record}
 use Rattle.fx_wire.specs.Sets.{SetParts}
 use Rattle.fx_wire.specs.Writing.{message_octets}
 use Rattle.fx_wire.specs.declared.header.Header.{Header}
-use Rattle.fx_session.specs.Streams.{Standing, fed}
+use Rattle.fx_session.specs.Streams.{SessionState, fed}
 use Rattle.fx_session.specs.Templates.{Template}
 use Rattle.fx_session.specs.declared.domain.Domain.{Domain}
 use Rattle.fx_link.specs.Records.{fields_of, template_octets, records_octets}
@@ -145,13 +145,13 @@ abbrev pub domains_of : Sender → List (ℕ × Domain)
 domains_of s = elim s.layouts [ [] ↦ [] | layout ∷ layouts ↦ (0, domain_of s) ∷ [] ]
 
 -- A session has read all that a sender has put on its link, and nothing else.
-pub record KeepsUp (s : Sender) (st : Standing) : Type 0 where
+pub record KeepsUp (s : Sender) (st : SessionState) : Type 0 where
   pub domains : st.known.domains ≡ domains_of s
   pub rest : st.rest ≡ []
   pub fault : st.fault ≡ None
 
 -- with more records that wait, and nothing else told of them
-pub record ReadsOn (old new : Standing) (rs : List Record) : Type 0 where
+pub record ReadsOn (old new : SessionState) (rs : List Record) : Type 0 where
   pub waiting : new.known.waiting ≡ old.known.waiting ++ rs
   pub gaps : new.known.gaps ≡ old.known.gaps
   pub skipped : new.known.skipped ≡ old.known.skipped
@@ -172,7 +172,7 @@ after_sent s rs = after_batches s (batches_of rs)
 -- Reading what is written for a batch gives just its records.
 abbrev pub BatchesAreRead : Type 0
 BatchesAreRead =
-    (time : ℕ) (s : Sender) (st : Standing) (batch : List Record)
+    (time : ℕ) (s : Sender) (st : SessionState) (batch : List Record)
     → time < 2 ^ 32 → IsSender s → IsBatch batch → KeepsUp s st
     → KeepsUp (after_batch s batch) (fed st (batch_octets time s batch))
     × ReadsOn st (fed st (batch_octets time s batch)) batch
@@ -180,7 +180,7 @@ BatchesAreRead =
 -- Whatever records are sent together, in messages of one layout and of 64 records at most, just they are read, in order.
 abbrev pub RecordsAreRead : Type 0
 RecordsAreRead =
-    (time : ℕ) (s : Sender) (st : Standing) (rs : List Record)
+    (time : ℕ) (s : Sender) (st : SessionState) (rs : List Record)
     → time < 2 ^ 32 → IsSender s → AllByRecursion IsSent rs → 256 + length (after_sent s rs).layouts < 2 ^ 16 → KeepsUp s st
     → KeepsUp (after_sent s rs) (fed st (sent_octets time s rs))
     × ReadsOn st (fed st (sent_octets time s rs)) rs

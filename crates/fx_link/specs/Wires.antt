@@ -2,14 +2,14 @@
 use Rattle.std.specs.Prelude.{◌≡◌, ℕ, zero, suc, ◌+◌, ◌^◌, ◌<◌, List, [], ◌++◌, length, take, drop}
 use Rattle.std.specs.List.{AllByRecursion}
 use Rattle.fx_tables.specs.declared.record.Record.{Record}
-use Rattle.fx_session.specs.Streams.{Standing, start, fed}
+use Rattle.fx_session.specs.Streams.{SessionState, start, fed}
 use Rattle.fx_link.specs.Sending.{Sender, new_sender, IsSender, IsSent, KeepsUp, sent_octets, after_sent}
 
 -- a link: what its sender keeps, the octets that haven't been carried yet, and what its receiver has read
 pub record Wire : Type 0 where
   pub sender : Sender
   pub queue : List ℕ
-  pub receiver : Standing
+  pub receiver : SessionState
 
 -- a link that nothing was put on
 abbrev pub new_wire : Wire
@@ -20,7 +20,7 @@ abbrev pub on_link : Wire → List Record
 on_link wire = (fed wire.receiver wire.queue).known.waiting
 
 -- what has been read leaves
-abbrev pub without_waiting : Standing → Standing
+abbrev pub without_waiting : SessionState → SessionState
 without_waiting st = record st { known = record st.known { waiting = [] } }
 
 -- so many octets reach the receiver, and all records that were read are handled

@@ -6,7 +6,7 @@ use Rattle.fx_tables.specs.declared.holding.Holding.{Holding}
 use Rattle.fx_tables.specs.declared.record.Record.{Record}
 use Rattle.fx_tables.specs.Network.{Net, named_by}
 use Rattle.fx_collect.specs.Totals.{with_record}
-use Rattle.fx_session.specs.Streams.{Standing, IsNextRecord}
+use Rattle.fx_session.specs.Streams.{SessionState, IsNextRecord}
 use Rattle.fx_link.specs.Ongoing.{Ongoing}
 use Rattle.fx_net.specs.declared.leaving.Leaver.{Leaver}
 use Rattle.fx_net.specs.Contents.{Contents, changed}
@@ -26,12 +26,12 @@ link_is xs n x lt e = slice_get-get_or xs n x lt ∙ ap Some (sym e)
 pub next_is : (xs : List Ongoing) (n : ℕ) (old new : Ongoing) (result : Option Record) → n < length xs → old ≡ get_or xs n old
     → IsNextRecord old.receiver new.receiver result → new ≡ record old { receiver = new.receiver } → IsNext n xs (set xs n new) result
 next_is xs n old new None lt is h rest =
-    (ap (set xs n) (rest ∙ ap (λ (st : Standing). record old { receiver = st }) h.1) ∙ set_same xs n old lt is, ap waiting_on (link_is xs n old lt is) ∙ h.0)
+    (ap (set xs n) (rest ∙ ap (λ (st : SessionState). record old { receiver = st }) h.1) ∙ set_same xs n old lt is, ap waiting_on (link_is xs n old lt is) ∙ h.0)
 next_is xs n old new (Some r) lt is h rest =
     let rs = new.receiver.known.waiting in (
       rs,
-      ap waiting_on (link_is xs n old lt is) ∙ ap (λ (st : Standing). st.known.waiting) h,
-      changed_set (with_left rs) xs n old new lt (rest ∙ sym (ap (λ (st : Standing). record old { receiver = record st { known = record st.known { waiting = rs } } }) h) ∙ ap (with_left rs) is),
+      ap waiting_on (link_is xs n old lt is) ∙ ap (λ (st : SessionState). st.known.waiting) h,
+      changed_set (with_left rs) xs n old new lt (rest ∙ sym (ap (λ (st : SessionState). record old { receiver = record st { known = record st.known { waiting = rs } } }) h) ∙ ap (with_left rs) is),
     )
 
 -- ---- nothing else is done to what waits at a receiver

@@ -12,7 +12,7 @@ use Rattle.fx_session.proofs.TemplateSteps.{template_record-shorter, template_se
 use Rattle.fx_session.specs.ByCases.{AreFlowRecords, flow_padding, flow_first, flow_refused, AreOptionRecords, option_padding, option_first, option_refused, AreTemplateRecords, template_padding, template_first, template_refused, AreMessages, unfinished, message_first, malformed, message_refused, one_more}
 use Rattle.fx_session.specs.DataSets.{Taken, flow_record, flow_set, option_set}
 use Rattle.fx_session.specs.Messages.{Known, message_read}
-use Rattle.fx_session.specs.Streams.{Standing, moved, read_all}
+use Rattle.fx_session.specs.Streams.{SessionState, moved, read_all}
 use Rattle.fx_session.specs.Templates.{Templates}
 use Rattle.fx_session.specs.TemplateSets.{template_record, template_set}
 
@@ -100,7 +100,7 @@ templates kind ts octets r = (
 
 -- ---- streams
 
-messages_only : (k : Known) (place : ℕ) (octets : List ℕ) (st : Standing) → AreMessages k place octets st → st ≡ read_all k place octets
+messages_only : (k : Known) (place : ℕ) (octets : List ℕ) (st : SessionState) → AreMessages k place octets st → st ≡ read_all k place octets
 messages_only _ _ _ _ (unfinished k place octets e) = sym (all_more k place octets e)
 messages_only _ _ _ _ (message_first k next place octets m st e g rest) = messages_only next (moved place m.octets) (drop m.octets octets) st rest ∙ sym (all_goes k next place m octets e g)
 messages_only _ _ _ _ (malformed k place number octets e) = sym (all_refused k place number octets e)
@@ -118,7 +118,7 @@ messages_all (suc n) k place octets lt = by (λ next at m is. messages_all n nex
   by rest (refusal number) e = subst (AreMessages k place octets) (sym (all_refused k place number octets e)) (malformed k place number octets e)
   by rest (complete m) e = read rest m e (message_read k m) refl
 
-pub messages : (k : Known) (place : ℕ) (octets : List ℕ) (st : Standing) → AreMessages k place octets st ↔ (st ≡ read_all k place octets)
+pub messages : (k : Known) (place : ℕ) (octets : List ℕ) (st : SessionState) → AreMessages k place octets st ↔ (st ≡ read_all k place octets)
 messages k place octets st = (
   λ are. messages_only k place octets st are,
   λ is. subst (AreMessages k place octets) (sym is) (messages_all (suc (length octets)) k place octets (omega arith)),

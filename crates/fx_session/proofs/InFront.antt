@@ -6,7 +6,7 @@ use Rattle.fx_session.proofs.StreamSteps.{fed_on, fed_off}
 use Rattle.fx_session.specs.DataSets.{Taken, with_flow, after_flow, after_values, flow_record, flow_records, flow_set, option_records, option_set}
 use Rattle.fx_session.specs.Flows.{flow_in}
 use Rattle.fx_session.specs.Messages.{Known, Reading, with_templates, with_taken, data_by, set_read, sets_read, domain_of, known_after, message_read}
-use Rattle.fx_session.specs.Streams.{Standing, moved, waits, fails, known_behind, behind, read_in, read_all, fed}
+use Rattle.fx_session.specs.Streams.{SessionState, moved, waits, fails, known_behind, behind, read_in, read_all, fed}
 use Rattle.fx_session.specs.TemplateSets.{template_set}
 use Rattle.fx_session.specs.Templates.{Template, Templates, at_number}
 use Rattle.fx_session.specs.declared.domain.Domain.{Domain}
@@ -143,11 +143,11 @@ message_read-behind rs k m =
 
 -- ---- streams
 
-abbrev taken_on : ℕ → Known → ℕ → List ℕ → ℕ → Result Known ℕ → Standing
+abbrev taken_on : ℕ → Known → ℕ → List ℕ → ℕ → Result Known ℕ → SessionState
 taken_on turns k place bs n (Ok next) = read_in turns next (moved place n) (drop n bs)
 taken_on turns k place bs n (Err number) = fails k place number
 
-abbrev turn : ℕ → Known → ℕ → List ℕ → Front → Standing
+abbrev turn : ℕ → Known → ℕ → List ℕ → Front → SessionState
 turn turns k place bs needs_more = waits k place bs
 turn turns k place bs (refusal number) = fails k place number
 turn turns k place bs (complete m) = taken_on turns k place bs m.octets (message_read k m)
@@ -172,7 +172,7 @@ unfolding read_all
 read_all-behind rs k place bs = read_in-behind (length bs) rs k place bs
 
 -- reading on behind records that wait
-pub fed-behind : (rs : List Record) (st : Standing) (piece : List ℕ) → fed (behind rs st) piece ≡ behind rs (fed st piece)
+pub fed-behind : (rs : List Record) (st : SessionState) (piece : List ℕ) → fed (behind rs st) piece ≡ behind rs (fed st piece)
 fed-behind rs st piece = by st.fault refl where
   by : (o : Option ℕ) → st.fault ≡ o → fed (behind rs st) piece ≡ behind rs (fed st piece)
   by (Some n) e = fed_off (behind rs st) piece n e ∙ sym (ap (behind rs) (fed_off st piece n e))

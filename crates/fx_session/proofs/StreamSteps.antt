@@ -5,15 +5,15 @@ use Rattle.std.proofs.Math.Seq.{take-add}
 use Rattle.fx_wire.specs.Messages.{Message, Front, front, needs_more, complete, refusal}
 use Rattle.fx_wire.proofs.Fronts.{front_size, front_more, front_alone}
 use Rattle.fx_session.specs.Messages.{Known, message_read, forgotten}
-use Rattle.fx_session.specs.Streams.{Standing, moved, waits, fails, read_in, read_all, fed}
+use Rattle.fx_session.specs.Streams.{SessionState, moved, waits, fails, read_in, read_all, fed}
 
 -- what a message that was read leaves
-abbrev taken : ℕ → Known → ℕ → List ℕ → ℕ → Result Known ℕ → Standing
+abbrev taken : ℕ → Known → ℕ → List ℕ → ℕ → Result Known ℕ → SessionState
 taken turns k place bs n (Ok next) = read_in turns next (moved place n) (drop n bs)
 taken turns k place bs n (Err number) = fails k place number
 
 -- one turn, by what stands at the front
-abbrev turn : ℕ → Known → ℕ → List ℕ → Front → Standing
+abbrev turn : ℕ → Known → ℕ → List ℕ → Front → SessionState
 turn turns k place bs needs_more = waits k place bs
 turn turns k place bs (refusal number) = fails k place number
 turn turns k place bs (complete m) = taken turns k place bs m.octets (message_read k m)
@@ -64,38 +64,38 @@ all_goes k t place m (b ∷ bs) e g =
 -- reading on with what comes later
 join_step : (k : Known) (place : ℕ) (bs cs : List ℕ) → ((t : Known) (p n : ℕ) → 16 ≤ n → n ≤ length bs → read_all t p (drop n bs ++ cs) ≡ fed (read_all t p (drop n bs)) cs)
     → (f : Front) → front bs ≡ f → read_all k place (bs ++ cs) ≡ fed (read_all k place bs) cs
-join_step k place bs cs ih needs_more e = ap (λ (st : Standing). fed st cs) (sym (all_more k place bs e))
+join_step k place bs cs ih needs_more e = ap (λ (st : SessionState). fed st cs) (sym (all_more k place bs e))
 join_step k place bs cs ih (refusal n) e =
     let ne : front bs ≢ needs_more = λ h. cc in
-    all_refused k place n (bs ++ cs) (front_more bs cs ne ∙ e) ∙ sym (ap (λ (st : Standing). fed st cs) (all_refused k place n bs e))
+    all_refused k place n (bs ++ cs) (front_more bs cs ne ∙ e) ∙ sym (ap (λ (st : SessionState). fed st cs) (all_refused k place n bs e))
 join_step k place bs cs ih (complete m) e = took (message_read k m) refl where
   later : front (bs ++ cs) ≡ complete m
   later = let ne : front bs ≢ needs_more = λ h. cc in front_more bs cs ne ∙ e
 
   took : (r : Result Known ℕ) → message_read k m ≡ r → read_all k place (bs ++ cs) ≡ fed (read_all k place bs) cs
-  took (Err n) g = all_err k place m (bs ++ cs) n later g ∙ sym (ap (λ (st : Standing). fed st cs) (all_err k place m bs n e g))
+  took (Err n) g = all_err k place m (bs ++ cs) n later g ∙ sym (ap (λ (st : SessionState). fed st cs) (all_err k place m bs n e g))
   took (Ok t) g =
       let w = front_size bs m e in
       all_goes k t place m (bs ++ cs) later g ∙ ap (read_all t (moved place m.octets)) (drop-append-le m.octets bs cs w.1)
-      ∙ ih t (moved place m.octets) m.octets w.0 w.1 ∙ sym (ap (λ (st : Standing). fed st cs) (all_goes k t place m bs e g))
+      ∙ ih t (moved place m.octets) m.octets w.0 w.1 ∙ sym (ap (λ (st : SessionState). fed st cs) (all_goes k t place m bs e g))
 
 join : (turns : ℕ) (k : Known) (place : ℕ) (bs cs : List ℕ) → length bs ≤ turns → read_all k place (bs ++ cs) ≡ fed (read_all k place bs) cs
 join zero k place bs cs le = join_step k place bs cs (λ t p n pos small. absurd (omega arith)) (front bs) refl
 join (suc turns) k place bs cs le = join_step k place bs cs (λ t p n pos small. join turns t p (drop n bs) cs (omega (arith, length-drop n bs))) (front bs) refl
 
-pub fed_on : (st : Standing) (piece : List ℕ) → st.fault ≡ None → fed st piece ≡ read_all st.known st.place (st.rest ++ piece)
+pub fed_on : (st : SessionState) (piece : List ℕ) → st.fault ≡ None → fed st piece ≡ read_all st.known st.place (st.rest ++ piece)
 fed_on st piece e = rw e refl
 
-pub fed_off : (st : Standing) (piece : List ℕ) (n : ℕ) → st.fault ≡ Some n → fed st piece ≡ st
+pub fed_off : (st : SessionState) (piece : List ℕ) (n : ℕ) → st.fault ≡ Some n → fed st piece ≡ st
 fed_off st piece n e = rw e refl
 
 -- one piece and then another are both as one
-pub pieces : (st : Standing) (a b : List ℕ) → fed (fed st a) b ≡ fed st (a ++ b)
+pub pieces : (st : SessionState) (a b : List ℕ) → fed (fed st a) b ≡ fed st (a ++ b)
 pieces st a b = by_fault st.fault refl where
   by_fault : (o : Option ℕ) → st.fault ≡ o → fed (fed st a) b ≡ fed st (a ++ b)
-  by_fault (Some n) e = ap (λ (x : Standing). fed x b) (fed_off st a n e) ∙ fed_off st b n e ∙ sym (fed_off st (a ++ b) n e)
+  by_fault (Some n) e = ap (λ (x : SessionState). fed x b) (fed_off st a n e) ∙ fed_off st b n e ∙ sym (fed_off st (a ++ b) n e)
   by_fault None e =
-      ap (λ (x : Standing). fed x b) (fed_on st a e) ∙ sym (join (length (st.rest ++ a)) st.known st.place (st.rest ++ a) b (omega arith))
+      ap (λ (x : SessionState). fed x b) (fed_on st a e) ∙ sym (join (length (st.rest ++ a)) st.known st.place (st.rest ++ a) b (omega arith))
       ∙ ap (read_all st.known st.place) (append_assoc st.rest a b) ∙ sym (fed_on st (a ++ b) e)
 
 pub after_goes : (k t : Known) (place place' at : ℕ) (m : Message) (octets rest : List ℕ) → rest ≡ drop at octets → front rest ≡ complete m → message_read k m ≡ Ok t → place' ≡ moved place m.octets
@@ -132,5 +132,5 @@ before_goes k0 k t place0 place place' at n m octets rest before size r e g p =
     let alone = front_alone rest m (sym e) in
     let parts : take (at + n) octets ≡ take at octets ++ take m.octets rest = take-add at n octets ∙ ap (λ (x : ℕ). take at octets ++ take x (drop at octets)) size ∙ ap (λ (xs : List ℕ). take at octets ++ take m.octets xs) (sym r) in
     let none : drop m.octets (take m.octets rest) ≡ [] = drop_all m.octets (take m.octets rest) (omega (arith, length-take m.octets rest)) in
-    ap (read_all k0 place0) parts ∙ join (length (take at octets)) k0 place0 (take at octets) (take m.octets rest) (omega arith) ∙ ap (λ (st : Standing). fed st (take m.octets rest)) before
+    ap (read_all k0 place0) parts ∙ join (length (take at octets)) k0 place0 (take at octets) (take m.octets rest) (omega arith) ∙ ap (λ (st : SessionState). fed st (take m.octets rest)) before
     ∙ all_goes k t place m (take m.octets rest) alone g ∙ ap (read_all t (moved place m.octets)) none ∙ ap (λ (x : ℕ). read_all t x []) (sym (p ∙ ap (moved place) size)) ∙ all_none t place'

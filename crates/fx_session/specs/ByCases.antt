@@ -6,7 +6,7 @@ use Rattle.fx_wire.specs.declared.field.FieldSpecifier.{FieldSpecifier}
 use Rattle.fx_wire.specs.declared.template.TemplateKind.{TemplateKind}
 use Rattle.fx_session.specs.DataSets.{Taken, flow_record}
 use Rattle.fx_session.specs.Messages.{Known, message_read}
-use Rattle.fx_session.specs.Streams.{Standing, moved, waits, fails}
+use Rattle.fx_session.specs.Streams.{SessionState, moved, waits, fails}
 use Rattle.fx_session.specs.Templates.{Templates}
 use Rattle.fx_session.specs.TemplateSets.{template_record}
 
@@ -36,8 +36,8 @@ pub data AreTemplateRecords (kind : TemplateKind) : Templates → List ℕ → R
 
 -- The octets of a stream: too few for a message wait; a message is read before those behind it; one that is refused, by
 -- its form or by what it says, ends the reading.
-pub data AreMessages : Known → ℕ → List ℕ → Standing → Type 0 where
+pub data AreMessages : Known → ℕ → List ℕ → SessionState → Type 0 where
   unfinished : (k : Known) (place : ℕ) (octets : List ℕ) → front octets ≡ needs_more → AreMessages k place octets (waits k place octets)
-  message_first : (k next : Known) (place : ℕ) (octets : List ℕ) (m : Message) (standing : Standing) → front octets ≡ complete m → message_read k m ≡ Ok next → AreMessages next (moved place m.octets) (drop m.octets octets) standing → AreMessages k place octets standing
+  message_first : (k next : Known) (place : ℕ) (octets : List ℕ) (m : Message) (standing : SessionState) → front octets ≡ complete m → message_read k m ≡ Ok next → AreMessages next (moved place m.octets) (drop m.octets octets) standing → AreMessages k place octets standing
   malformed : (k : Known) (place number : ℕ) (octets : List ℕ) → front octets ≡ refusal number → AreMessages k place octets (fails k place number)
   message_refused : (k : Known) (place number : ℕ) (octets : List ℕ) (m : Message) → front octets ≡ complete m → message_read k m ≡ Err number → AreMessages k place octets (fails k place number)

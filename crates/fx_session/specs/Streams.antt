@@ -9,28 +9,28 @@ use Rattle.fx_session.specs.Messages.{Known, message_read, forgotten}
 
 -- What a session is seen as: what it knows, the place of the first octet of the unfinished message, that message's octets, and
 -- the number of the fault that it answers from now on.
-pub record Standing : Type 0 where
+pub record SessionState : Type 0 where
   pub known : Known
   pub place : ℕ
   pub rest : List ℕ
   pub fault : Option ℕ
 
-abbrev pub start : Standing
+abbrev pub start : SessionState
 start = record { known = record { domains = []; waiting = []; gaps = 0; skipped = 0 }; place = 0; rest = []; fault = None }
 
 -- places stay at the last that there is
 abbrev pub moved : ℕ → ℕ → ℕ
 moved place n = min (place + n) 18446744073709551615
 
-abbrev pub waits : Known → ℕ → List ℕ → Standing
+abbrev pub waits : Known → ℕ → List ℕ → SessionState
 waits k place octets = record { known = k; place = place; rest = octets; fault = None }
 
 -- Nothing of a message that is refused is kept, nor of what follows it, nor any template.
-abbrev pub fails : Known → ℕ → ℕ → Standing
+abbrev pub fails : Known → ℕ → ℕ → SessionState
 fails k place number = record { known = forgotten k; place = place; rest = []; fault = Some number }
 
 -- Reading message after message. Each has octets, so as many turns do as there are octets.
-unfoldable pub read_in : ℕ → Known → ℕ → List ℕ → Standing
+unfoldable pub read_in : ℕ → Known → ℕ → List ℕ → SessionState
 read_in zero k place octets = waits k place octets
 read_in (suc turns) k place octets = elim (front octets) [
   | needs_more ↦ waits k place octets
@@ -39,18 +39,18 @@ read_in (suc turns) k place octets = elim (front octets) [
 ]
 
 -- all whole messages of the octets
-unfoldable pub read_all : Known → ℕ → List ℕ → Standing
+unfoldable pub read_all : Known → ℕ → List ℕ → SessionState
 read_all k place octets = read_in (length octets) k place octets
 
 -- A piece: the unfinished octets are read on with it. A session that has answered a fault stays as it is.
-abbrev pub fed : Standing → List ℕ → Standing
+abbrev pub fed : SessionState → List ℕ → SessionState
 fed st piece = elim st.fault [ Some number ↦ st | None ↦ read_all st.known st.place (st.rest ++ piece) ]
 
 -- the same behind records that wait already
 abbrev pub known_behind : List Record → Known → Known
 known_behind records k = record { domains = k.domains; waiting = records ++ k.waiting; gaps = k.gaps; skipped = k.skipped }
 
-abbrev pub behind : List Record → Standing → Standing
+abbrev pub behind : List Record → SessionState → SessionState
 behind records st = record { known = known_behind records st.known; place = st.place; rest = st.rest; fault = st.fault }
 
 -- a fault stands at the first octet of the message that is refused, want of memory nowhere
@@ -67,7 +67,7 @@ ReadsAll old place octets new later = read_all old place octets ≡ waits new la
 
 -- Want of memory: some first messages of the unfinished octets and the piece are read, and then the session stops, as at a
 -- refused message.
-abbrev pub Starves : Standing → List ℕ → Standing → Type 0
+abbrev pub Starves : SessionState → List ℕ → SessionState → Type 0
 Starves old piece new = (count : ℕ) × (read : Known) × (ReadsAll old.known old.place (take count (old.rest ++ piece)) read new.place) × (new ≡ fails read new.place 900)
 
 -- ---- what the code keeps
@@ -77,7 +77,7 @@ rest_of octets count None = drop count octets
 rest_of octets count (Some number) = []
 
 -- so many octets were read, and this fault came
-abbrev pub left_by : Known → ℕ → List ℕ → ℕ × Option ℕ → Standing
+abbrev pub left_by : Known → ℕ → List ℕ → ℕ × Option ℕ → SessionState
 left_by k place octets answer = record { known = k; place = place; rest = rest_of octets answer.0 answer.1; fault = answer.1 }
 
 -- where a fault came, the messages before it were read, and then all domains were forgotten
@@ -90,7 +90,7 @@ abbrev pub FirstLeaves : Known → Known → Option Record → Type 0
 FirstLeaves old new None = (old.waiting ≡ []) × (new ≡ old)
 FirstLeaves old new (Some r) = old ≡ record { domains = new.domains; waiting = r ∷ new.waiting; gaps = new.gaps; skipped = new.skipped }
 
-abbrev pub IsNextRecord : Standing → Standing → Option Record → Type 0
+abbrev pub IsNextRecord : SessionState → SessionState → Option Record → Type 0
 IsNextRecord old new None = (old.known.waiting ≡ []) × (new ≡ old)
 IsNextRecord old new (Some r) = old ≡ record {
   known = record { domains = new.known.domains; waiting = r ∷ new.known.waiting; gaps = new.known.gaps; skipped = new.known.skipped };

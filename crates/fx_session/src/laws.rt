@@ -29,7 +29,7 @@ pub fn sets_by_cases()
         → cases.AreTemplateRecords kind live octets result
         ↔ (result ≡ template_sets.template_set live kind octets) }
     ensures messages { (known : messages.Known) (place : ℕ) (octets : List ℕ)
-        (standing : streams.Standing)
+        (standing : streams.SessionState)
         → cases.AreMessages known place octets standing
         ↔ (standing ≡ streams.read_all known place octets) }
 {}

@@ -76,7 +76,7 @@ pub struct Session {
 impl Model for Session {
     ghost use Rattle.fx_session.specs.Streams as streams;
 
-    ghost Value = { streams.Standing };
+    ghost Value = { streams.SessionState };
 
     ghost view = { λ s. record {
       known = s.known;
@@ -195,14 +195,14 @@ impl Session {
 
 /// One piece and then another are both as one, for every session: it doesn't matter how a stream is cut.
 pub fn pieces()
-    ensures { (st : streams.Standing) (a : List ℕ) (b : List ℕ)
+    ensures { (st : streams.SessionState) (a : List ℕ) (b : List ℕ)
         → streams.fed (streams.fed st a) b ≡ streams.fed st (a ++ b) }
 {}
 
 /// Records that wait stand before those that a piece adds, and change nothing else, for every session: it doesn't
 /// matter when they are taken out.
 pub fn waiting()
-    ensures { (before : List Record) (st : streams.Standing) (piece : List ℕ)
+    ensures { (before : List Record) (st : streams.SessionState) (piece : List ℕ)
         → streams.fed (streams.behind before st) piece
         ≡ streams.behind before (streams.fed st piece) }
 {}

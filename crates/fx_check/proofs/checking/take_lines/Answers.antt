@@ -1,7 +1,7 @@
 use Rattle.std.proofs.Common.{◌≡◌, ℕ, Some, [], sym, ap, ◌∙◌, inr, subst}
 use Rattle.std.proofs.lemmas.Result.{err_from_is_err_and}
 use Rattle.fx_check.specs.Judging.{judge_of}
-use Rattle.fx_check.specs.Standing.{goals}
+use Rattle.fx_check.specs.Remaining.{goals}
 use Rattle.fx_check.specs.Verdict.{after_reading, at_end, at_line, made_after, reading_of, whole}
 use Rattle.fx_base.proofs.GoingOn.{goes_then, to_line}
 use Rattle.fx_check.proofs.Going.{reads_on, reader_refuses, refuses_line, ends_early, ends_well, ended_line, err_gives, ok_gives, at_end_of, at_line_of, lent_line}
@@ -35,7 +35,7 @@ lines-preserved g c =
     let made = c.in_default.ensures.made ∙ sym (lent_line (λ l. made_after c.lines.course.made (reading_of l)) c.advance.new.self c.line.result.bytes.now c.line.result.ended c.line.ensures.bytes c.line.ensures.ended) in
     record {
       room = rw c.take.ensures.size c.lines.invariant.room;
-      standing = c.in_default.ensures.standing;
+      consistent = c.in_default.ensures.consistent;
       stopped = λ e. λ h. absurd (let n = at.going.1 in cc);
       on = goes_then c.args.lines.now c.lines.lines c.advance.new.self c.lines.invariant.on (to_line c.lines.lines c.advance.new.self at (ended_line judge c.lines.course.made gs _ (c.advance.new.self.line, c.advance.new.self.ended) after));
       reads = reads_on judge c.args.lines.now c.lines.lines c.advance.new.self (whole c.args.targets.now) gs (goals c.args.targets.now c.take.new.self) c.lines.course.made c.take.new.self.made c.lines.invariant.reads at after made;

@@ -3,14 +3,14 @@ use Rattle.fx_base.specs.declared.fault.Fault.{Fault}
 use Rattle.fx_base.specs.Lines.{GoesOn, budget}
 use Rattle.fx_check.specs.Judging.{judge_of}
 use Rattle.fx_check.specs.Outcomes.{Continues}
-use Rattle.fx_check.specs.Standing.{goals, IsStanding}
+use Rattle.fx_check.specs.Remaining.{goals, IsConsistent}
 use Rattle.fx_check.specs.Verdict.{whole}
 use Rattle.fx_check.proofs.checking.take_lines.Given as goal
 
 abbrev pub invariant-lines : goal.invariant-lines
 invariant-lines g l = record {
   room : length l.tables.net.processes ≤ length l.scratch;
-  standing : IsStanding l.targets l.course;
+  consistent : IsConsistent l.targets l.course;
   stopped : (e : Fault) → l.lines.stopped ≡ Some e → l.fn.lines.stopped ≡ Some e;
   on : GoesOn l.fn.lines l.lines;
   reads : Continues (judge_of l.tables.net) l.fn.lines (whole l.targets) l.lines l.course.made (goals l.targets l.course);

@@ -1,4 +1,4 @@
-use Rattle.fx_check.proofs.Standing.{not_ended}
+use Rattle.fx_check.proofs.ConsistentCourses.{not_ended}
 use Rattle.fx_check.proofs.course.Course.end.Goals as goal
 
 pub returns-in_default : goal.returns-in_default

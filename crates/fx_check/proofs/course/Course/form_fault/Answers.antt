@@ -1,4 +1,4 @@
-use Rattle.fx_check.proofs.Standing.{form_fault_between, form_fault_tree}
+use Rattle.fx_check.proofs.ConsistentCourses.{form_fault_between, form_fault_tree}
 use Rattle.fx_check.proofs.course.Course.form_fault.Goals as goal
 
 pub returns-in-Between : goal.returns-in-Between

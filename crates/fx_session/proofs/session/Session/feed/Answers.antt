@@ -1,16 +1,16 @@
 use Rattle.std.proofs.Common.{◌++◌, ◌∙◌, ap, sym, take, List, [], ℕ, Option, Some}
 use Rattle.fx_session.specs.Messages.{Known, forgotten}
-use Rattle.fx_session.specs.Streams.{Standing, read_all, waits}
+use Rattle.fx_session.specs.Streams.{SessionState, read_all, waits}
 use Rattle.fx_session.proofs.StreamSteps.{all_none}
 use Rattle.fx_session.proofs.session.Session.feed.Goals as goal
 
-abbrev stopped : Known → ℕ → List ℕ → Option ℕ → Standing
+abbrev stopped : Known → ℕ → List ℕ → Option ℕ → SessionState
 stopped k place rest fault = record { known = k; place = place; rest = rest; fault = fault }
 
 pub returns-in-Err-clause-starves : goal.returns-in-Err-clause-starves
 returns-in-Err-clause-starves c = λ _ _.
-    let known = ap (λ (s : Standing). s.known) c.self.view_is in
-    let place = ap (λ (s : Standing). s.place) c.self.view_is in (
+    let known = ap (λ (s : SessionState). s.known) c.self.view_is in
+    let place = ap (λ (s : SessionState). s.place) c.self.view_is in (
       0,
       c.args.self.now.known,
       all_none c.args.self.now.known c.args.self.now.place ∙ ap (λ (p : ℕ). waits c.args.self.now.known p []) (sym place),
@@ -20,9 +20,9 @@ returns-in-Err-clause-starves c = λ _ _.
 
 pub returns-in-Some-fault-clause-starves : goal.returns-in-Some-fault-clause-starves
 returns-in-Some-fault-clause-starves c = λ _ starved.
-    let known = ap (λ (s : Standing). s.known) c.self.view_is in
-    let place = ap (λ (s : Standing). s.place) c.self.view_is in
-    let rest = ap (λ (s : Standing). s.rest) c.self.view_is in
+    let known = ap (λ (s : SessionState). s.known) c.self.view_is in
+    let place = ap (λ (s : SessionState). s.place) c.self.view_is in
+    let rest = ap (λ (s : SessionState). s.rest) c.self.view_is in
     let stops = rw starved at c.take_messages-at.ensures.stops in
     let octets = c.as_slice.ensures.value ∙ c.in_default-extend_from_slice.ensures.items ∙ ap (λ (bs : List ℕ). bs ++ c.args.piece.now) rest in
     let count = c.take_messages-at.result.0 in

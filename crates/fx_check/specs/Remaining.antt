@@ -43,14 +43,14 @@ AreDeepFrom k (w ∷ ws) = (k < w.depth) × (w.depth ≤ 512) × AreDeepFrom (k 
 abbrev pub AreDeep : List Waiting → ℕ → Type 0
 AreDeep ws depth = (depth ≤ 512) × (length ws ≤ depth) × AreDeepFrom 0 ws
 
-abbrev pub IsStandingAt : List Target → ℕ → List Waiting → Stage → Type 0
-IsStandingAt ts at ws stage.Header = ws ≡ []
-IsStandingAt ts at ws stage.Between = ws ≡ []
-IsStandingAt ts at ws (stage.Tree w) = (at < length ts) × AreDeep ws w.depth
-IsStandingAt ts at ws stage.Ended = ws ≡ []
+abbrev pub IsConsistentAt : List Target → ℕ → List Waiting → Stage → Type 0
+IsConsistentAt ts at ws stage.Header = ws ≡ []
+IsConsistentAt ts at ws stage.Between = ws ≡ []
+IsConsistentAt ts at ws (stage.Tree w) = (at < length ts) × AreDeep ws w.depth
+IsConsistentAt ts at ws stage.Ended = ws ≡ []
 
-abbrev pub IsStanding : List Target → Course → Type 0
-IsStanding ts c = IsStandingAt ts c.current c.waiting c.stage
+abbrev pub IsConsistent : List Target → Course → Type 0
+IsConsistent ts c = IsConsistentAt ts c.current c.waiting c.stage
 
 -- in the tree of a region
 abbrev pub IsInTree : Stage → Type 0

@@ -1,0 +1,28 @@
+//! A document of one's own, read by the walk.
+ghost use Rattle.fx_callers.specs.Sites.{site_faults, site_of};
+
+use fx_base::{Fault, Name};
+use fx_walk::{FromValue, Path, Sequence, items_member, object_of, required_member};
+use serde_json::Value;
+use std::alloc::Global;
+
+/// A site, with the names of its racks.
+#[derive(Debug, Drop)]
+pub struct Site {
+    pub name: Name,
+    pub racks: Sequence<Name>,
+}
+
+/// A site: its name, which must be there (103), and at most 64 racks (115); no other member (102).
+impl FromValue for Site {
+    ghost faults = { site_faults };
+
+    ghost meaning = { site_of };
+
+    fn from_value(alloc: Global, path: &Path<'_>, value: &Value) -> Result<Site, Fault> {
+        object_of(alloc, path, value, &["name", "rack"])?;
+        let name = required_member::<Name>(alloc, path, value, "name")?;
+        let racks = items_member::<Name>(alloc, path, value, "rack", 0, 64)?;
+        Ok(Site { name, racks })
+    }
+}

@@ -1,0 +1,14 @@
+//! A caller of each crate that others may build on: what its CALLING.md quotes, proved.
+#![tactic(auto)]
+
+mod documents;
+mod flows;
+mod leaves;
+mod searches;
+mod streams;
+
+pub use documents::Site;
+pub use flows::{count_packet, room_for};
+pub use leaves::leaf_of;
+pub use searches::counts_once;
+pub use streams::records_of;

@@ -1,0 +1,23 @@
+//! The flow records of a stream.
+ghost use Rattle.std.specs.Prelude.{◌≡◌, IfOk};
+ghost use Rattle.fx_session.specs.Streams.{fed, start};
+
+use fx_base::Fault;
+use fx_session::Session;
+use fx_tables::Record;
+use std::alloc::Global;
+
+/// The flow records of an IPFIX stream that is in memory, in order.
+///
+/// Fails as [`Session::feed`] where a message is refused, and with 900 for want of memory.
+pub fn records_of(alloc: Global, stream: &[u8]) -> Result<Vec<Record>, Fault>
+    ensures { IfOk result (λ records. records.items ≡ (fed start stream.now).known.waiting) }
+{
+    let mut session = Session::new(alloc)?;
+    session.feed(stream)?;
+    let mut records: Vec<Record> = Vec::new(alloc);
+    while let Some(record) = session.next_record() {
+        records.push(record)?;
+    }
+    Ok(records)
+}
