@@ -6,6 +6,8 @@ mod flows;
 mod leaves;
 mod searches;
 mod streams;
+#[cfg(test)]
+mod tests;
 
 pub use documents::Site;
 pub use flows::{count_packet, room_for};

@@ -1,9 +1,9 @@
 pub mod ConsistentCourses
-pub mod Readings
-pub mod Going
-pub mod Lent
+pub mod ItemsRead
+pub mod FirstRefusals
+pub mod LentTables
 pub mod Trees
-pub mod Sounding
-pub mod Accepting
-pub mod Calling
+pub mod SoundLeaves
+pub mod AcceptedCertificates
+pub mod PlanAndTraffic
 pub mod Numbers

@@ -10,7 +10,7 @@ use Rattle.fx_cli.proofs.FileWords.{command_fault}
 use Rattle.fx_cli.proofs.LimitWords.{limit_read, limit_taken}
 use Rattle.fx_cli.proofs.OptionNames.{IsName}
 use Rattle.fx_cli.proofs.OptionCommand.{IsTaking, Taking}
-use Rattle.fx_cli.proofs.OptionHeld.{HasAll, first_held, one_held}
+use Rattle.fx_cli.proofs.OptionRows.{HasAll, first_held, one_held}
 use Rattle.fx_cli.proofs.OptionSaid.{HoldsAtEnd, IsFine}
 use Rattle.fx_cli.proofs.OptionWords.{decide_option}
 

@@ -11,7 +11,7 @@ use Rattle.fx_cli.proofs.FileWords.{more_named, names_at, turn_of, walk_at}
 use Rattle.fx_cli.proofs.DocumentWords.{next_fault, next_walk, value_walked}
 use Rattle.fx_cli.proofs.OptionNames.{file_named, named_double, named_file, nothing_named}
 use Rattle.fx_cli.proofs.OptionCommand.{IsTaking, Taking, arguments, file_argument, file_by_index, place, stray_index, taking}
-use Rattle.fx_cli.proofs.OptionHeld.{HasAll, and_false, or_false}
+use Rattle.fx_cli.proofs.OptionRows.{HasAll, and_false, or_false}
 use Rattle.fx_cli.proofs.OptionSaid.{HoldsAtEnd, IsFine, Said, all_pass, all_there, as_many, ending, file_said, final_rows, option_there, too_few, walk_of}
 use Rattle.fx_cli.proofs.OptionWalk.{fails_at, file_fault, kept_behind, outcome, outcome_behind, rows_kept, value_fault}
 

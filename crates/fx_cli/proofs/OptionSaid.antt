@@ -18,7 +18,7 @@ use Rattle.clap.specs.declared.parser.matches.ValueSource.TheVariants.{DefaultVa
 use Rattle.fx_cli.proofs.SingleWords.{Fails, fails_second, help, held}
 use Rattle.fx_cli.proofs.FileWords.{at_end, walk_at}
 use Rattle.fx_cli.proofs.OptionCommand.{Differs, IsTaking, Taking, apart_behind, apart_files, arguments, file_argument, file_arguments, file_by_id, from_option, differ_back, option_argument, option_by_id, others, place, same_text, taking}
-use Rattle.fx_cli.proofs.OptionHeld.{Has, HasAll, HasText, Lacks, LacksAll, all_still, cond_same, finds_row, found_before, found_behind, has_new, held_row, lacks_row, lacks_still, new_row, none_still, one_more, or_true, row_at, text_row, text_still, used_row}
+use Rattle.fx_cli.proofs.OptionRows.{Has, HasAll, HasText, Lacks, LacksAll, all_still, cond_same, finds_row, found_before, found_behind, has_new, held_row, lacks_row, lacks_still, new_row, none_still, one_more, or_true, row_at, text_row, text_still, used_row}
 
 -- ---- what words have said
 

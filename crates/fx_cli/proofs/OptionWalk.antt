@@ -13,7 +13,7 @@ use Rattle.fx_cli.proofs.SingleWords.{Fails, IsNoFlag, bool_cases, fails_first, 
 use Rattle.fx_cli.proofs.FileWords.{at_end, turn_of, walk_at}
 use Rattle.fx_cli.proofs.DocumentWords.{double_fault, double_walk}
 use Rattle.fx_cli.proofs.OptionCommand.{IsTaking, Taking, arguments, file_argument, option_argument, option_by_id, others, same_text as same_name, some_index, taking}
-use Rattle.fx_cli.proofs.OptionHeld.{and_false}
+use Rattle.fx_cli.proofs.OptionRows.{and_false}
 
 -- ---- the whole of the command, from where a walk stands
 

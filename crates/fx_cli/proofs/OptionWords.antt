@@ -16,7 +16,7 @@ use Rattle.fx_cli.proofs.FileWords.{command_fault, walk_at}
 use Rattle.fx_cli.proofs.DocumentWords.{double_fault, double_walk}
 use Rattle.fx_cli.proofs.OptionNames.{OptionFirst, long_written, named_flag, option_named}
 use Rattle.fx_cli.proofs.OptionCommand.{IsTaking, Taking, arguments, no_long, no_short, option_argument, option_by_id, option_by_long, others, place, taking}
-use Rattle.fx_cli.proofs.OptionHeld.{Has, HasAll, Lacks, finds_row, held_row, lacks_row, used_row}
+use Rattle.fx_cli.proofs.OptionRows.{Has, HasAll, Lacks, finds_row, held_row, lacks_row, used_row}
 use Rattle.fx_cli.proofs.OptionSaid.{HoldsAtEnd, IsFine, Said, none_of, nothing_said, option_said, option_set, walk_of}
 use Rattle.fx_cli.proofs.OptionWalk.{Unsettled, awaited_double, awaited_end, awaited_flag, awaited_turn, awaited_walk, awaiting, doomed, fails_at, fails_behind, outcome, twice}
 use Rattle.fx_cli.proofs.OptionFiles.{AllJudged, Behind, Judged, JudgedBy, Named, behind, file_word, with_double, without_double, words_end}

@@ -9,7 +9,7 @@ use Rattle.fx_cli.proofs.SingleWords.{Fails, run}
 use Rattle.fx_cli.proofs.FileWords.{command_fault}
 use Rattle.fx_cli.proofs.OptionNames.{IsName}
 use Rattle.fx_cli.proofs.OptionCommand.{IsTaking, Taking}
-use Rattle.fx_cli.proofs.OptionHeld.{HasAll, first_held}
+use Rattle.fx_cli.proofs.OptionRows.{HasAll, first_held}
 use Rattle.fx_cli.proofs.OptionSaid.{HoldsAtEnd, IsFine}
 use Rattle.fx_cli.proofs.OptionWords.{decide_option}
 

@@ -14,7 +14,7 @@ use Rattle.fx_machine.specs.States.{State, opening, told, tallied, sent_to, sent
 use Rattle.fx_machine.specs.Acts.{Choices, Act, Tally, Send, Hold, Made, Outcome, sent_to_chosen, send_by_choice, taken_in, with_held, hold_in, hold, act, act_all, all_acts, all_used}
 use Rattle.fx_machine.specs.Steps.{one_packet, crossing_acts, leaving, arriving, place, link_place, after_cross, after_expire, expire_from, expire_at, after_arrive, arrive_from, arrive_at, after, then_run, run}
 use Rattle.fx_collect.specs.Totals.{Totals, IsUnder, IsTable, totals_of, totals_in}
-use Rattle.fx_collect.proofs.Retelling.{table_added, retold}
+use Rattle.fx_collect.proofs.TotalsOfTotals.{table_added, retold}
 
 module _ (net : Net) where
   Kept : State → Type 0

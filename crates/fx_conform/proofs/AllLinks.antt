@@ -5,7 +5,7 @@ use Rattle.std.proofs.lemmas.Bool.{eqb-true, eqb-false, eq-eqb}
 use Rattle.fx_tables.specs.declared.record.Record.{Record}
 use Rattle.fx_machine.specs.States.{all_empty, nothing_at}
 use Rattle.fx_machine.specs.Sends.{put_all}
-use Rattle.fx_machine.proofs.Leaving.{there}
+use Rattle.fx_machine.proofs.LastLeaves.{there}
 use Rattle.fx_link.specs.Sending.{IsSent}
 use Rattle.fx_link.specs.Wires.{new_wire}
 use Rattle.fx_link.specs.Ongoing.{Ongoing, at_rest, after_finish, after_carry}
@@ -15,7 +15,7 @@ use Rattle.fx_net.specs.Exporting.{put_each}
 use Rattle.fx_net.specs.Finishing.{HasRoom, to_put_on}
 use Rattle.fx_net.specs.Opening.{new_links}
 use Rattle.fx_runs.specs.Given.{given}
-use Rattle.fx_runs.proofs.Given.{gives_all}
+use Rattle.fx_runs.proofs.RecordsGiven.{gives_all}
 use Rattle.fx_conform.specs.OnLinks.{AreRead, IsStill, IsCarried, AreStill, AreCarried, none_pending, pending_from, with_octets_carried, arrived, NoOctets}
 use Rattle.fx_conform.proofs.Places.{at_set, at_other, changed_other}
 use Rattle.fx_conform.proofs.LinkPlaces.{same_some, made_of, map_at, changed_here, mapped_many, changed_many, set_many, put_all_many, put_each_many, given_sent, putting, put_each_at}

@@ -3,7 +3,7 @@ use Rattle.std.proofs.Common.{◌≡◌, inl, inr, ℕ, zero, suc, ◌<◌, true
 use Rattle.std.specs.List.{AllByRecursion}
 use Rattle.std.proofs.lemmas.Bool.{both_ways}
 use Rattle.fx_tables.specs.Network.{Net, Process, named_by}
-use Rattle.fx_machine.proofs.Leaving.{there}
+use Rattle.fx_machine.proofs.LastLeaves.{there}
 use Rattle.fx_link.specs.Links.{Put}
 use Rattle.fx_link.specs.Ongoing.{Ongoing}
 use Rattle.fx_ranks.specs.Ranks.{IsWhole, is_in}
@@ -13,8 +13,8 @@ use Rattle.fx_net.specs.Doings.{EmptiesNetwork, caches_of_all, holders_of}
 use Rattle.fx_conform.specs.Closing.{IsNamed, NothingIsStored, NothingWaits, OnlyNamedHold}
 use Rattle.fx_conform.specs.OnLinks.{NoOctets}
 use Rattle.fx_conform.specs.Usable.{AreUsable}
-use Rattle.fx_conform.proofs.Amid.{there_is_below}
-use Rattle.fx_conform.proofs.ClosingCalm.{LeavesOn, Rests, rests_once_all_emptied, holds_in_more}
+use Rattle.fx_conform.proofs.NetworkMidway.{there_is_below}
+use Rattle.fx_conform.proofs.CalmLinks.{LeavesOn, Rests, rests_once_all_emptied, holds_in_more}
 use Rattle.fx_conform.proofs.ClosingHolders.{cache_or_aggregation}
 use Rattle.fx_conform.proofs.ClosingRanks.{IsToCome, LeadsOn, all_finished}
 

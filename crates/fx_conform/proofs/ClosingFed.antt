@@ -7,7 +7,7 @@ use Rattle.fx_machine.specs.Sends.{links_of}
 use Rattle.fx_ranks.specs.Feeding.{feeds_by, is_place, lead_to, leads_to}
 use Rattle.fx_runs.specs.Destinations.{number_in_use, link_of, link_numbered, links_of_exporter, used_by, links_used}
 use Rattle.fx_net.specs.Arriving.{exporters_named}
-use Rattle.fx_conform.proofs.Crossing.{all_join}
+use Rattle.fx_conform.proofs.PacketsCross.{all_join}
 
 pub all_more : {A : Type 0} (P Q : A → Type 0) (xs : List A) → ((x : A) → P x → Q x) → AllByRecursion P xs → AllByRecursion Q xs
 all_more P Q [] f h = tt

@@ -14,11 +14,11 @@ use Rattle.fx_net.specs.Stores.{Stored, flows_in, with_counts}
 use Rattle.fx_net.specs.Taking.{adding}
 use Rattle.fx_conform.specs.Emptying.{without_leasts, count_in}
 use Rattle.fx_conform.specs.Usable.{UsableAt, AreUsable}
-use Rattle.fx_conform.proofs.Apart.{usable_at, usable_changed}
-use Rattle.fx_conform.proofs.Emptying.{least_there, without_flows}
+use Rattle.fx_conform.proofs.RecordsOfOneKey.{usable_at, usable_changed}
+use Rattle.fx_conform.proofs.LeastLeaves.{least_there, without_flows}
 use Rattle.fx_conform.proofs.Places.{stored_here, stored_other}
-use Rattle.fx_conform.proofs.TakingIn.{after_one, stores_then}
-use Rattle.fx_conform.proofs.Usable.{added_is_usable, taken_is_usable}
+use Rattle.fx_conform.proofs.CountsTakenIn.{after_one, stores_then}
+use Rattle.fx_conform.proofs.UsableStores.{added_is_usable, taken_is_usable}
 
 -- only the stores at these places hold records
 abbrev pub OnlyFilled : (ℕ → Type 0) → List (Option Stored) → Type 0

@@ -6,14 +6,14 @@ use Rattle.fx_tables.specs.Network.{Net, Aggregation, Process, aggregations_of, 
 use Rattle.fx_link.specs.Links.{Put}
 use Rattle.fx_ranks.specs.Feeding.{feeds, feeds_by}
 use Rattle.fx_ranks.specs.Ranks.{ComesNext, is_in}
-use Rattle.fx_ranks.proofs.Comings.{come_more, come_kept, come_last, IsReady, next_is_ready}
+use Rattle.fx_ranks.proofs.OrderKeeps.{come_more, come_kept, come_last, IsReady, next_is_ready}
 use Rattle.fx_runs.specs.Destinations.{links_used}
 use Rattle.fx_net.specs.Arriving.{process_behind, exporters_named}
 use Rattle.fx_net.specs.Contents.{Contents}
 use Rattle.fx_net.specs.Doings.{Each, Ended, CarriesWhole, CarriesInto, Finishes, Where, holders_of, leads_to}
-use Rattle.fx_conform.proofs.Amid.{there_is_below}
-use Rattle.fx_conform.proofs.ClosingBusy.{busy_in_more}
-use Rattle.fx_conform.proofs.ClosingCalm.{IsOfThese, LeavesOn, Rests, rests_once_carried, rests_once_all_emptied, holds_in_more}
+use Rattle.fx_conform.proofs.NetworkMidway.{there_is_below}
+use Rattle.fx_conform.proofs.BusyLinks.{busy_in_more}
+use Rattle.fx_conform.proofs.CalmLinks.{IsOfThese, LeavesOn, Rests, rests_once_carried, rests_once_all_emptied, holds_in_more}
 use Rattle.fx_conform.proofs.ClosingFed.{LeadsOnlyTo, all_more, sends_where_it_feeds, leaves_where_it_feeds}
 
 -- ---- the order

@@ -13,8 +13,8 @@ use Rattle.fx_net.specs.Taking.{adding, all_leave_at_once}
 use Rattle.fx_conform.specs.Held.{AreHeld, AllLeave}
 use Rattle.fx_conform.specs.Usable.{AreUsable}
 use Rattle.fx_conform.specs.TakingIn.{TakesIn}
-use Rattle.fx_conform.proofs.Joining.{turned}
-use Rattle.fx_conform.proofs.AtOnce.{taking_in}
+use Rattle.fx_conform.proofs.JoinedRecords.{turned}
+use Rattle.fx_conform.proofs.ImmediateCaches.{taking_in}
 
 one : Counts
 one = record { packets = 1; octets = 60 }

@@ -28,10 +28,10 @@ use Rattle.fx_conform.specs.OnLinks.{none_pending}
 use Rattle.fx_conform.specs.Conforming.{IsSound, Conforms}
 use Rattle.fx_conform.specs.Rows.{AreArrivals, AreCrossings, AreRows, AreRowsThen, IsExpiry, IsRow}
 use Rattle.fx_conform.specs.Whole.{AreOf, HavePaths}
-use Rattle.fx_conform.proofs.Amid.{IsAmid}
-use Rattle.fx_conform.proofs.Crossing.{Then as Made, all_at, all_to_list}
-use Rattle.fx_conform.proofs.Between.{Went, amid_of, ended}
-use Rattle.fx_conform.proofs.Doing.{least_left, carried_so, packet_crosses, uses_so}
+use Rattle.fx_conform.proofs.NetworkMidway.{IsAmid}
+use Rattle.fx_conform.proofs.PacketsCross.{Then as Made, all_at, all_to_list}
+use Rattle.fx_conform.proofs.CalmTimes.{Went, amid_of, ended}
+use Rattle.fx_conform.proofs.LinesAsSteps.{least_left, carried_so, packet_crosses, uses_so}
 
 pub length_snoc : {A : Type 0} (xs : List A) (x : A) → length (xs ++ x ∷ []) ≡ suc (length xs)
 length_snoc [] x = refl

@@ -10,7 +10,7 @@ use Rattle.fx_link.specs.Sending.{Sender, IsSent, KeepsUp, layout_of, knows, joi
 use Rattle.fx_link.specs.Outgoing.{Outgoing, after_flush, with_one, with_all}
 use Rattle.fx_link.specs.Ongoing.{Ongoing, at_rest, to_put, after_finish, after_carry}
 use Rattle.fx_link.specs.Wires.{Wire, new_wire, on_link, without_waiting, sent_on, InStep}
-use Rattle.fx_link.proofs.Flushing.{flushes_are_sent}
+use Rattle.fx_link.proofs.FlushedMessages.{flushes_are_sent}
 use Rattle.fx_link.proofs.StreamTrip.{records_back}
 use Rattle.fx_link.proofs.WireTrip.{sending_adds, putting_sends, new_in_step}
 use Rattle.fx_net.specs.Arriving.{waiting_on, with_left}

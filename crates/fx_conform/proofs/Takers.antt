@@ -14,10 +14,10 @@ use Rattle.fx_conform.specs.Held.{Leaver, AreHeld, AllLeave}
 use Rattle.fx_conform.specs.Usable.{AreUsable}
 use Rattle.fx_conform.specs.TakingIn.{AreThere, IsUnbounded, AreUnbounded, Join}
 use Rattle.fx_conform.proofs.Places.{stored_other, stored_here}
-use Rattle.fx_conform.proofs.Standing.{held_stand, stand_held, stand_usable}
-use Rattle.fx_conform.proofs.Commuting.{NoneAt}
-use Rattle.fx_conform.proofs.TakingIn.{after_one, stores_then, left_then, AreApart, takes_in}
-use Rattle.fx_conform.proofs.AtOnce.{as_many, all_leave}
+use Rattle.fx_conform.proofs.FactsOfPlaces.{held_stand, stand_held, stand_usable}
+use Rattle.fx_conform.proofs.LeavingCommutes.{NoneAt}
+use Rattle.fx_conform.proofs.CountsTakenIn.{after_one, stores_then, left_then, AreApart, takes_in}
+use Rattle.fx_conform.proofs.ImmediateCaches.{as_many, all_leave}
 
 -- ---- a store without a bound
 

@@ -8,7 +8,7 @@ use Rattle.fx_tables.specs.declared.record.Record.{Record}
 use Rattle.fx_run_text.specs.declared.step.Step.{Step}
 use Rattle.fx_tables.specs.Network.{Net}
 use Rattle.fx_base.specs.Entries.{numbered}
-use Rattle.fx_machine.proofs.Running.{runs_of}
+use Rattle.fx_machine.proofs.RunsAreMoves.{runs_of}
 use Rattle.fx_machine.specs.Claim.{ExactlyOnce, CountsEachOnce}
 use Rattle.fx_tables.specs.Classes.{Class, IsOf, path, to_count}
 use Rattle.fx_machine.specs.Moves.{Runs}
@@ -34,14 +34,14 @@ use Rattle.fx_conform.specs.Conforming.{IsSound, Conforms}
 use Rattle.fx_conform.specs.OnLinks.{AreStill}
 use Rattle.fx_conform.specs.Rows.{AllCross, AllExpire, AreRows, Followed, InTurn, IsFinished}
 use Rattle.fx_conform.specs.Whole.{AreOf, ArePlainSums, HavePaths, IsRunOf, ReadsLines, RunsAreComplete, TotalsArePlainSums}
-use Rattle.fx_conform.proofs.Emptied.{holds_nothing}
+use Rattle.fx_conform.proofs.EmptiedHolders.{holds_nothing}
 use Rattle.fx_conform.proofs.LinkLaws.{history_reads, nothing_carries}
 use Rattle.fx_conform.proofs.ClosingEnd.{closing_empties}
-use Rattle.fx_conform.proofs.Amid.{there_is_below}
-use Rattle.fx_conform.proofs.Between.{Went}
-use Rattle.fx_conform.proofs.Ending.{network_goes, all_by_index}
+use Rattle.fx_conform.proofs.NetworkMidway.{there_is_below}
+use Rattle.fx_conform.proofs.CalmTimes.{Went}
+use Rattle.fx_conform.proofs.ClosingSteps.{network_goes, all_by_index}
 use Rattle.fx_conform.proofs.Lines.{ReadOne, RunsOn, none_below, Same, lines_go, read_then, reads_one, runs_on_nothing, same_then}
-use Rattle.fx_conform.proofs.Starting.{starts}
+use Rattle.fx_conform.proofs.OpeningOfNetworks.{starts}
 
 -- ---- one after another
 

@@ -12,7 +12,7 @@ use Rattle.fx_leaf.specs.Answers.{NoneIsCut, SomeIsFate, OnceIsSound, NoOtherIsS
 use Rattle.fx_leaf.proofs.OverlapsAreRight.{in_holds, is_low, ordered}
 use Rattle.fx_leaf.proofs.Trees.{counted_once, counted_never, never_counted}
 use Rattle.fx_leaf.proofs.Paths.{packet_said, packet_counted}
-use Rattle.fx_leaf.proofs.Uncut.{selections_uncut, matches_uncut, path_lost}
+use Rattle.fx_leaf.proofs.VerdictsWhereUncut.{selections_uncut, matches_uncut, path_lost}
 
 -- the least packet of a region
 pub low_holds : (region : Bounds) → IsRegion region → holds region region.low ≡ true

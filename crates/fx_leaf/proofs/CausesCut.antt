@@ -25,7 +25,7 @@ use Rattle.fx_leaf.specs.Verdicts.{tally_verdict, handled_verdict, coming_verdic
 use Rattle.fx_leaf.proofs.Ranks.{every_of_all}
 use Rattle.fx_leaf.proofs.RowsAreVerdicts.{closed_from, handled_same}
 use Rattle.fx_leaf.proofs.OverlapsAreRight.{match_overlap_is}
-use Rattle.fx_leaf.proofs.Uncut.{every_at, in_front, behind, mapped, filtered, both_none, verdict_agrees}
+use Rattle.fx_leaf.proofs.VerdictsWhereUncut.{every_at, in_front, behind, mapped, filtered, both_none, verdict_agrees}
 use Rattle.fx_leaf.proofs.Verdicts.{takes_read}
 
 same_some : {A : Type 0} {x y : A} → Some x ≡ Some y → x ≡ y

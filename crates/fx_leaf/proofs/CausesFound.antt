@@ -5,8 +5,8 @@ use Rattle.fx_tables.specs.Network.{Net, Exporter, at_places, before}
 use Rattle.fx_leaf.specs.Causes.{LeadsOn, SendsOn}
 use Rattle.fx_leaf.specs.Tables.{Table, entry}
 use Rattle.fx_leaf.specs.Verdicts.{Verdict, verdict_of_both, verdict_of_all, verdict_of_one, destination_verdict, send_verdict, sent_verdict}
-use Rattle.fx_leaf.proofs.Joins.{drop_here, drop_none}
-use Rattle.fx_leaf.proofs.Uncut.{both_none, either_none, further, in_front}
+use Rattle.fx_leaf.proofs.JoinedVerdicts.{drop_here, drop_none}
+use Rattle.fx_leaf.proofs.VerdictsWhereUncut.{both_none, either_none, further, in_front}
 
 module _ {A : Type 0} (f : A → Verdict) where
   -- where all have none, the rest has none

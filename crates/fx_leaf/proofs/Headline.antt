@@ -13,7 +13,7 @@ use Rattle.fx_machine.specs.States.{State, opening, Complete}
 use Rattle.fx_machine.specs.Steps.{run}
 use Rattle.fx_machine.specs.Sums.{plain_sum, total_at, SumsFit}
 use Rattle.fx_machine.proofs.Lists.{length_nothing}
-use Rattle.fx_machine.proofs.Running.{steps_of}
+use Rattle.fx_machine.proofs.RunsAreMoves.{steps_of}
 use Rattle.fx_machine.specs.Claim.{CountsEachOnce, wrapped, CountsEachModulo}
 use Rattle.fx_tables.specs.Ranks.{IsNetwork}
 use Rattle.fx_leaf.specs.Fates.{fate, packet_fate, wanted_fate}

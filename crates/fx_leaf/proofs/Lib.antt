@@ -11,9 +11,9 @@ pub mod Examples
 mod FateExamples
 pub mod OverlapsAreRight
 pub mod Verdicts
-pub mod Joins
+pub mod JoinedVerdicts
 pub mod Paths
-pub mod Uncut
+pub mod VerdictsWhereUncut
 pub mod Answers
 pub mod RowsAreVerdicts
 pub mod RowsGrow

@@ -15,9 +15,9 @@ use Rattle.fx_tables.specs.Ranks.{RisesTo, Rises, AllRise, ProcessRises, IsRanke
 use Rattle.fx_leaf.specs.Reach.{IsMarked, KeepsMarks, HoldsWhereSent, HoldsBehindHolder, HoldsBehind, HoldsAlongPath, IsClosed, marks_at, marks_behind, marks_to, marks_by, marks_by_holder, marks_by_holders, marks_on, marks_from, spread, holders_by, holders_at, holders_along}
 use Rattle.fx_leaf.specs.Tables.{Numbering, Tables, AreTables, number_of_layout}
 use Rattle.fx_leaf.proofs.FateLaws.{Every}
-use Rattle.fx_leaf.proofs.Joins.{drop_here}
+use Rattle.fx_leaf.proofs.JoinedVerdicts.{drop_here}
 use Rattle.fx_leaf.proofs.Ranks.{every_of_all}
-use Rattle.fx_leaf.proofs.Uncut.{every_at, in_front, behind, further, mapped}
+use Rattle.fx_leaf.proofs.VerdictsWhereUncut.{every_at, in_front, behind, further, mapped}
 
 -- ---- bits
 

@@ -9,7 +9,7 @@ use Rattle.fx_tables.specs.Occurrences.{watches}
 use Rattle.fx_leaf.specs.declared.path.PathFate.{PathFate}
 use Rattle.fx_leaf.specs.Leaves.{AddsVerdicts, numbers_of}
 use Rattle.fx_leaf.specs.Verdicts.{Verdict, VerdictAt, verdict_of_both, verdict_of_all, SelectionVerdict, selection_verdicts, point_verdicts, crossing_verdicts, path_verdicts, last_counter}
-use Rattle.fx_leaf.proofs.Joins.{joined_assoc, joined_never, never_joined}
+use Rattle.fx_leaf.proofs.JoinedVerdicts.{joined_assoc, joined_never, never_joined}
 
 -- ---- one verdict more
 

@@ -39,7 +39,7 @@ use Rattle.fx_leaf.proofs.Answers.{low_holds, some_is_fate}
 use Rattle.fx_leaf.proofs.CausesCut.{numbered_holder, sends_feed, no_verdict_within}
 use Rattle.fx_leaf.proofs.RowsAreVerdicts.{holder_same}
 use Rattle.fx_leaf.proofs.OverlapsAreRight.{selection_overlap_is, region_overlap_is}
-use Rattle.fx_leaf.proofs.Uncut.{in_front, behind, mapped}
+use Rattle.fx_leaf.proofs.VerdictsWhereUncut.{in_front, behind, mapped}
 
 pub some_more : {A : Type 0} (P Q : A → Type 0) (o : Option A) → ((x : A) → P x → Q x) → IfSome o P → IfSome o Q
 some_more P Q None f h = tt

@@ -15,7 +15,7 @@ use Rattle.fx_leaf.specs.Overlaps.{region_overlap, match_fields}
 use Rattle.fx_leaf.specs.Tables.{Numbering, number_of_layout, Numbers, Table, entry_in, entry, taken_entry, handled_entry, entry_from}
 use Rattle.fx_leaf.specs.Verdicts.{Verdict, verdict_of_both, verdict_of_all, verdict_of_one, overlap_verdict, process_verdict, destination_verdict, send_verdict, sent_verdict, holder_verdict, layout_reads, taken_verdict, tally_verdict, handled_verdict, verdict}
 use Rattle.fx_leaf.proofs.Ranks.{every_of_all}
-use Rattle.fx_leaf.proofs.Uncut.{every_at, further, verdict_agrees}
+use Rattle.fx_leaf.proofs.VerdictsWhereUncut.{every_at, further, verdict_agrees}
 
 -- ---- processes that are fed have a higher rank
 

@@ -8,8 +8,8 @@ pub mod TemplateTrip
 pub mod TableTrip
 pub mod BatchTrip
 pub mod StreamTrip
-pub mod Flushing
-pub mod Carrying
+pub mod FlushedMessages
+pub mod OctetsCarried
 pub mod WireTrip
-pub mod Putting
+pub mod OctetsPut
 pub mod SetsTrip

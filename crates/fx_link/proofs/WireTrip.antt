@@ -10,7 +10,7 @@ use Rattle.fx_link.specs.Sending.{IsSent, KeepsUp, after_sent, sent_octets}
 use Rattle.fx_link.specs.Wires.{Wire, new_wire, on_link, without_waiting, carried, sent_on, InStep}
 use Rattle.fx_link.specs.Outgoing.{Outgoing, with_all}
 use Rattle.fx_link.specs.Ongoing.{Ongoing, at_rest, after_finish}
-use Rattle.fx_link.proofs.Flushing.{flushes_are_sent}
+use Rattle.fx_link.proofs.FlushedMessages.{flushes_are_sent}
 use Rattle.fx_link.proofs.StreamTrip.{records_back, senders_stay}
 
 pub sending_adds : (time : ℕ) (rs : List Record) (wire : Wire) → time < 2 ^ 32 → InStep wire → AllByRecursion IsSent rs → 256 + length (after_sent wire.sender rs).layouts < 2 ^ 16

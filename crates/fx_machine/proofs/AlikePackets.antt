@@ -23,7 +23,7 @@ use Rattle.fx_machine.specs.Steps.{meet, crossing_acts, cross_now, after_cross, 
 use Rattle.fx_machine.specs.Moves.{Runs}
 use Rattle.fx_machine.specs.Sums.{plain_sum, one_more, IsBelow, SumsFit}
 use Rattle.fx_tables.specs.NamedAxes.{Agree, FitsElsewhere, IsAlike, AreAlike, LayoutNamesOnly, RegionNamesOnly, PointNamesOnly, NamesOnly, ClassesNameOnly}
-use Rattle.fx_machine.proofs.Running.{runs_of, steps_of}
+use Rattle.fx_machine.proofs.RunsAreMoves.{runs_of, steps_of}
 
 -- ---- all of a list
 

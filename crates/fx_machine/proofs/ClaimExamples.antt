@@ -17,7 +17,7 @@ use Rattle.fx_machine.specs.States.{State, opening, Complete}
 use Rattle.fx_machine.specs.Steps.{run}
 use Rattle.fx_machine.specs.Sums.{plain_sum, total_at, one_more, IsBelow, SumsFit}
 use Rattle.fx_machine.specs.Claim.{CountsEachOnce, ExactlyOnce}
-use Rattle.fx_machine.proofs.Running.{runs_of}
+use Rattle.fx_machine.proofs.RunsAreMoves.{runs_of}
 
 abbrev pub source : ℕ → Layout
 source bits = record { axis = Source; bits = bits } ∷ []

@@ -15,8 +15,8 @@ use Rattle.fx_tables.specs.Ranks.{ProcessRises, IsRanked}
 use Rattle.fx_tables.specs.Runnable.{IsHolder, HasDestinations, HasAggregations, HasCaches, IsRunnable}
 use Rattle.fx_machine.specs.CompleteRun.{HasCompleteRun}
 use Rattle.fx_machine.proofs.ClaimExamples.{source, net, customers, first_packet, one, by_choice}
-use Rattle.fx_machine.proofs.Emptying.{tally_tells}
-use Rattle.fx_machine.proofs.Completing.{complete_runs_exist}
+use Rattle.fx_machine.proofs.ActsCanLeave.{tally_tells}
+use Rattle.fx_machine.proofs.CompleteRuns.{complete_runs_exist}
 
 -- how records are sent, and the exporting processes of the collector's process
 abbrev sending_on : Exporter → List ℕ → Net

@@ -2,11 +2,11 @@ pub mod Nets
 pub mod NamedNets
 pub mod Numberings
 pub mod Resolution
-pub mod Faultless
-pub mod Placing
+pub mod FaultlessNetworks
+pub mod PlacesOfThings
 pub mod Runnable
-pub mod Matching
-pub mod Stalling
-pub mod Grouping
+pub mod MatchesFit
+pub mod StuckProcesses
+pub mod LabelGroups
 mod Examples
 mod TableExamples

@@ -30,9 +30,9 @@ use Rattle.fx_plan.specs.Labels.{Label, cache_labels, collecting_labels, device_
 use Rattle.fx_topology.specs.Links.{link_of, leads_from}
 use Rattle.fx_topology.specs.Networks.{devices_of, network_faults, network_of}
 use Rattle.fx_plan.specs.Tables.{aggregations_from, aggregation_holder, aggregation_holders, cache_holder, cache_holders, exporter_of, exporters_of, held_by, net_of, point_of, process_from, process_named, processes_from, processes_in, selection_of, table_of}
-use Rattle.fx_plan.proofs.Faultless.{AllNew, HasDestination, IsFaultless, devices_faultless}
+use Rattle.fx_plan.proofs.FaultlessNetworks.{AllNew, HasDestination, IsFaultless, devices_faultless}
 use Rattle.fx_plan.proofs.Numberings.{next_at}
-use Rattle.fx_plan.proofs.Placing.{cache_within, place_known, process_place}
+use Rattle.fx_plan.proofs.PlacesOfThings.{cache_within, place_known, process_place}
 use Rattle.fx_plan.proofs.Resolution.{label_of, so_many_from}
 
 -- ---- destinations

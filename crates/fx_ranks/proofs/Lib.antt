@@ -1,4 +1,4 @@
 pub mod Ranges
 pub mod LinkedProcesses
-pub mod Comings
-pub mod Ranked
+pub mod OrderKeeps
+pub mod RankedNetworks

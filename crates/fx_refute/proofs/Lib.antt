@@ -1,6 +1,6 @@
-pub mod Stepping
-pub mod Making
-pub mod Tallying
-pub mod Agreeing
+pub mod StepsInTurn
+pub mod StepsMade
+pub mod UnassignedPerStep
+pub mod TotalsAgree
 pub mod ReadingLines
 pub mod RefutationTexts

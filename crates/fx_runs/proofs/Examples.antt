@@ -13,8 +13,8 @@ use Rattle.fx_runs.specs.Destinations.{AllUsable, number_in_use, sent_by}
 use Rattle.fx_runs.specs.Extending.{with_packet}
 use Rattle.fx_runs.specs.PutOn.{put_by, put_on}
 use Rattle.fx_runs.specs.Given.{given}
-use Rattle.fx_runs.proofs.Extending.{runs_extend}
-use Rattle.fx_runs.proofs.Making.{expires_are_made}
+use Rattle.fx_runs.proofs.RunsGoOn.{runs_extend}
+use Rattle.fx_runs.proofs.StepsThatCanBeMade.{expires_are_made}
 
 -- one destination is a link, and the other has none
 abbrev meter : Net

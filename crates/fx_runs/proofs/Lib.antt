@@ -1,5 +1,5 @@
-pub mod Extending
+pub mod RunsGoOn
 pub mod PutOn
-pub mod Given
-pub mod Making
+pub mod RecordsGiven
+pub mod StepsThatCanBeMade
 mod Examples

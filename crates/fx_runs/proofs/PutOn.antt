@@ -9,7 +9,7 @@ use Rattle.fx_machine.specs.States.{State, Coming}
 use Rattle.fx_machine.specs.Steps.{after, run}
 use Rattle.fx_runs.specs.Extending.{coming_too}
 use Rattle.fx_runs.specs.PutOn.{put_by, put_then, put_on}
-use Rattle.fx_runs.proofs.Extending.{first_made, after_too}
+use Rattle.fx_runs.proofs.RunsGoOn.{first_made, after_too}
 
 -- a step that can be made, and the rest
 pub put_first : (net : Net) (classes : List Class) (packets : List Packet) (link : ℕ) (step : Step) (steps : List Step) (s t : State) → after net classes packets step s ≡ Ok t

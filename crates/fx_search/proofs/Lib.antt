@@ -1,6 +1,6 @@
-pub mod Lying
-pub mod Begun
-pub mod Writing
-pub mod Taking
-pub mod Ending
+pub mod AheadWithinTarget
+pub mod GrowingCertificate
+pub mod ShortLines
+pub mod RegionsTaken
+pub mod SearchEnds
 pub mod Texts

@@ -1,3 +1,3 @@
-pub mod Left
-pub mod Room
-pub mod Selecting
+pub mod AllPairsLeft
+pub mod AnyFieldsWithin
+pub mod SelectedFields

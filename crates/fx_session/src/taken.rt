@@ -22,7 +22,11 @@ impl Model for Taken {
 
     ghost Value = { sets.Taken };
 
-    ghost view = { λ t. record { waiting = t.waiting.items; skipped = t.skipped; count = t.count } };
+    ghost view = { λ t. record {
+      waiting = t.waiting.items;
+      skipped = t.skipped;
+      count = t.count;
+    } };
 }
 
 impl Taken {

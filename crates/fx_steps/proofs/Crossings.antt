@@ -28,17 +28,17 @@ use Rattle.fx_steps.specs.Planning.{pending_items, total_cost, meets, meets_choo
 use Rattle.fx_steps.specs.Playing.{fate_of}
 use Rattle.fx_steps.specs.Spread.{pick}
 use Rattle.fx_steps.specs.UnderWay.{reached, UnderWay, HasCosts}
-use Rattle.fx_steps.proofs.Advancing.{sized}
-use Rattle.fx_steps.proofs.Costing.{cost_next}
-use Rattle.fx_steps.proofs.Crossing.{caches_met}
-use Rattle.fx_steps.proofs.Filled.{table_tells}
-use Rattle.fx_steps.proofs.Footing.{each_crosses}
+use Rattle.fx_steps.proofs.RunGoesOn.{sized}
+use Rattle.fx_steps.proofs.CostsTell.{cost_next}
+use Rattle.fx_steps.proofs.PathCosts.{caches_met}
+use Rattle.fx_steps.proofs.FilledTables.{table_tells}
+use Rattle.fx_steps.proofs.StepsMeetFates.{each_crosses}
 use Rattle.fx_steps.proofs.Packets
-use Rattle.fx_steps.proofs.Picking.{pick_is}
-use Rattle.fx_steps.proofs.Playing
-use Rattle.fx_steps.proofs.Spreading.{acts_done}
-use Rattle.fx_steps.proofs.Standing.{all_of_every, meets_there}
-use Rattle.fx_steps.proofs.Whole.{whole}
+use Rattle.fx_steps.proofs.SharesCost.{pick_is}
+use Rattle.fx_steps.proofs.RunsOfPackets
+use Rattle.fx_steps.proofs.RecordsSpread.{acts_done}
+use Rattle.fx_steps.proofs.PlannedPlaces.{all_of_every, meets_there}
+use Rattle.fx_steps.proofs.WholeNetworks.{whole}
 
 module _ (net : Net) (n : Numbering) (table : CostTable) (classes : List Class) (p : Packet) (network : IsNetwork net) where
   pub crossed : (c : Crossing) (number : ℕ) (coming : List Coming) (f g : Fate) (old new : List Step) → numbered (path classes p) number ≡ Some c → Crosses table net n p.fields c g → new ≡ old ++ Cross 1 number (meets_choose (occurrences net c p.fields)) ∷ [] → UnderWay net n classes p (record { packet = 1; crossing = number } ∷ coming) f old [] → UnderWay net n classes p coming (both f g) new (meets table net n (occurrences net c p.fields) g)
@@ -57,7 +57,7 @@ module _ (net : Net) (n : Numbering) (table : CostTable) (classes : List Class) 
       record {
         tallies = way.tallies;
         unassigned = way.unassigned;
-        runs = ap (λ steps. run net classes (p ∷ []) steps (opening net classes (p ∷ []))) last ∙ Playing.run_both net classes p network old (step ∷ []) (opening net classes (p ∷ [])) from end way.runs one;
+        runs = ap (λ steps. run net classes (p ∷ []) steps (opening net classes (p ∷ []))) last ∙ RunsOfPackets.run_both net classes p network old (step ∷ []) (opening net classes (p ∷ [])) from end way.runs one;
         joint = ap₂ both (sym (both_never (fate_of way.tallies way.unassigned)) ∙ way.joint) can.fate;
         few = let b = way.few in let l = ap length last ∙ length-append old (step ∷ []) in omega arith;
       }

@@ -26,8 +26,8 @@ use Rattle.fx_steps.specs.Playing.{add_times, fate_of, RunOf}
 use Rattle.fx_steps.specs.Ways.{PacketComes}
 use Rattle.fx_steps.specs.Ways.PacketComes.{no_crossing, cross}
 use Rattle.fx_steps.proofs.Places.{next_here}
-use Rattle.fx_steps.proofs.Chaining.{chained}
-use Rattle.fx_steps.proofs.Playing
+use Rattle.fx_steps.proofs.ChainsOfActs.{chained}
+use Rattle.fx_steps.proofs.RunsOfPackets
 use Rattle.fx_machine.proofs.TallyCounts.{count_meets}
 use Rattle.fx_steps.proofs.Tallies.{fates_both, total_of_times}
 
@@ -37,7 +37,7 @@ nothing_empty (x ∷ xs) = nothing_empty xs
 
 module _ (net : Net) (classes : List Class) (p : Packet) (network : IsNetwork net) where
   abbrev counted : ℕ → ℕ → State → State
-  counted t u s = Playing.counted net classes p network t u s
+  counted t u s = RunsOfPackets.counted net classes p network t u s
 
   abbrev own_key : Key
   own_key = key_of net.report_layout p.fields
@@ -60,7 +60,7 @@ module _ (net : Net) (classes : List Class) (p : Packet) (network : IsNetwork ne
     fate_is : fate_of tallies lost ≡ f
     few : tallies ≤ n
 
-  cross_played : (c : Crossing) (cs : List Crossing) (f g : Fate) (m n : ℕ) (before : List Crossing) (s : State) → path classes p ≡ before ++ c ∷ cs → IsSized net s → s.coming ≡ crossings_from 1 (suc (length before)) (c ∷ cs) → ((s : State) → IsSized net s → Playing.Played net classes p network (crossing_acts net p.fields (Some c)) f m s) → ((s : State) → IsSized net s → s.coming ≡ crossings_from 1 (suc (suc (length before))) cs → PathPlayed g n s) → PathPlayed (both f g) (suc m + n) s
+  cross_played : (c : Crossing) (cs : List Crossing) (f g : Fate) (m n : ℕ) (before : List Crossing) (s : State) → path classes p ≡ before ++ c ∷ cs → IsSized net s → s.coming ≡ crossings_from 1 (suc (length before)) (c ∷ cs) → ((s : State) → IsSized net s → RunsOfPackets.Played net classes p network (crossing_acts net p.fields (Some c)) f m s) → ((s : State) → IsSized net s → s.coming ≡ crossings_from 1 (suc (suc (length before))) cs → PathPlayed g n s) → PathPlayed (both f g) (suc m + n) s
   cross_played c cs f g m n before s at z coming inner rest =
       let others = crossings_from 1 (suc (suc (length before))) cs in
       let s0 : State = record s { coming = others } in
@@ -70,12 +70,12 @@ module _ (net : Net) (classes : List Class) (p : Packet) (network : IsNetwork ne
       let here : numbered (path classes p) number ≡ Some c = ap (λ xs. slice_get xs (length before)) at ∙ next_here before c cs in
       let one = Cross 1 number i.choices in
       let begins : after net classes (p ∷ []) one s ≡ Ok i.mid = ap (λ xs. after net classes (p ∷ []) one (record s { coming = xs })) coming ∙ crosses s others number i.choices ∙ ap (λ o. all_acts net (one_packet p) (crossing_acts net p.fields o) s0 i.choices) here ∙ i.made in
-      let end = Playing.run_both net classes p network i.steps r.steps i.mid (counted i.tallies i.lost s0) (counted r.tallies r.lost (counted i.tallies i.lost (record s { coming = [] }))) i.ends r.ends in
+      let end = RunsOfPackets.run_both net classes p network i.steps r.steps i.mid (counted i.tallies i.lost s0) (counted r.tallies r.lost (counted i.tallies i.lost (record s { coming = [] }))) i.ends r.ends in
       record {
         steps = one ∷ (i.steps ++ r.steps);
         tallies = i.tallies + r.tallies;
         lost = i.lost + r.lost;
-        ends = ap (λ o. then_run o (run net classes (p ∷ []) (i.steps ++ r.steps))) begins ∙ end ∙ ap Ok (Playing.counted_on net classes p network i.tallies i.lost r.tallies r.lost (record s { coming = [] }));
+        ends = ap (λ o. then_run o (run net classes (p ∷ []) (i.steps ++ r.steps))) begins ∙ end ∙ ap Ok (RunsOfPackets.counted_on net classes p network i.tallies i.lost r.tallies r.lost (record s { coming = [] }));
         number = let e = length-append i.steps r.steps in let a = i.number in let b = r.number in omega arith;
         fate_is = fates_both i.tallies i.lost r.tallies r.lost ∙ ap₂ both i.fate_is r.fate_is;
         few = let a = i.few in let b = r.few in let e = count_meets net p.fields (occurrences net c p.fields) in omega arith;
@@ -96,7 +96,7 @@ module _ (net : Net) (classes : List Class) (p : Packet) (network : IsNetwork ne
   path_played (cross c cs f g m n d e) before at s z coming =
       let next = before ++ c ∷ [] in
       let size : suc (length next) ≡ suc (suc (length before)) = let k = length-append before (c ∷ []) in omega arith in
-      cross_played c cs f g m n before s at z coming (Playing.play net classes p network (chained net d) (Playing.met_own net classes p network (occurrences net c p.fields))) (λ s z k. path_played e next (at ∙ sym (append_assoc before (c ∷ []) cs)) s z (k ∙ ap (λ j. crossings_from 1 j cs) (sym size)))
+      cross_played c cs f g m n before s at z coming (RunsOfPackets.play net classes p network (chained net d) (RunsOfPackets.met_own net classes p network (occurrences net c p.fields))) (λ s z k. path_played e next (at ∙ sym (append_assoc before (c ∷ []) cs)) s z (k ∙ ap (λ j. crossings_from 1 j cs) (sym size)))
 
   -- ---- totals
 

@@ -1,2 +1,2 @@
-pub mod Linking
-pub mod Starting
+pub mod LinkByLink
+pub mod StartsFindLinks

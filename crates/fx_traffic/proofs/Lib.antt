@@ -1,3 +1,3 @@
 mod Regions
-pub mod Listing
+pub mod TargetsInOrder
 mod Examples

@@ -1,5 +1,5 @@
 use Rattle.fx_plan.specs.Tables.{net_of}
-use Rattle.fx_check.proofs.Calling.{accepted, once, modulo, certificate, unrefused, faults}
+use Rattle.fx_check.proofs.PlanAndTraffic.{accepted, once, modulo, certificate, unrefused, faults}
 use Rattle.fx_check.proofs.checking.check.Goals as goal
 
 pub returns-clause-once : goal.returns-clause-once

@@ -3,8 +3,8 @@ use Rattle.std.proofs.lemmas.Result.{err_from_is_err_and}
 use Rattle.fx_base.specs.Lines.{Fails}
 use Rattle.fx_check.specs.Outcomes.{MayBeRefused}
 use Rattle.fx_traffic.specs.Targets.{AreRegions, Target}
-use Rattle.fx_check.proofs.Calling.{accepts}
-use Rattle.fx_check.proofs.Going.{err_gives}
+use Rattle.fx_check.proofs.PlanAndTraffic.{accepts}
+use Rattle.fx_check.proofs.FirstRefusals.{err_gives}
 use Rattle.fx_check.proofs.Numbers.{from_memory}
 use Rattle.fx_check.proofs.checking.check_classes.Goals as goal
 

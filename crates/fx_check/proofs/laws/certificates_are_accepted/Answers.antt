@@ -1,4 +1,4 @@
-use Rattle.fx_check.proofs.Accepting.{certificate_only, certificate_all}
+use Rattle.fx_check.proofs.AcceptedCertificates.{certificate_only, certificate_all}
 use Rattle.fx_check.proofs.laws.certificates_are_accepted.Goals as goal
 
 pub returns-clause-only : goal.returns-clause-only

@@ -1,4 +1,4 @@
-use Rattle.fx_check.proofs.Accepting.{certified_once, certified_modulo}
+use Rattle.fx_check.proofs.AcceptedCertificates.{certified_once, certified_modulo}
 use Rattle.fx_check.proofs.laws.certificates_count_once.Goals as goal
 
 pub returns-clause-once : goal.returns-clause-once

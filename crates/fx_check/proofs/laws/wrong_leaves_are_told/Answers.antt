@@ -1,4 +1,4 @@
-use Rattle.fx_check.proofs.Sounding.{leaf_wrong, never_wrong}
+use Rattle.fx_check.proofs.SoundLeaves.{leaf_wrong, never_wrong}
 use Rattle.fx_check.proofs.laws.wrong_leaves_are_told.Goals as goal
 
 pub returns-clause-counted : goal.returns-clause-counted

@@ -1,6 +1,6 @@
 use Rattle.std.proofs.Common.{sym, subst}
 use Rattle.fx_leaf.specs.Tables.{AreTables}
-use Rattle.fx_check.proofs.Lent.{lent_by}
+use Rattle.fx_check.proofs.LentTables.{lent_by}
 use Rattle.fx_check.proofs.tables.tables_of.Goals as goal
 
 pub returns-clause-tables : goal.returns-clause-tables

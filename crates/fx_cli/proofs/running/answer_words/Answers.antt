@@ -2,7 +2,7 @@ use Rattle.std.proofs.Common.{inl, inr, map, string_bytes}
 use Rattle.fx_base.specs.Fault.{fault_at}
 use Rattle.fx_base.specs.declared.fault.Place.TheVariants as places
 use Rattle.fx_cli.specs.Running.{IsCallText}
-use Rattle.fx_cli.proofs.Called.{ended, ends_as}
+use Rattle.fx_cli.proofs.CallOutputs.{ended, ends_as}
 use Rattle.fx_cli.proofs.running.answer_words.Goals as goal
 
 pub returns-in-Err-clause-call : goal.returns-in-Err-clause-call

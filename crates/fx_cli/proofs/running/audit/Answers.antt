@@ -1,5 +1,5 @@
 use Rattle.std.proofs.Common.{None}
-use Rattle.fx_cli.proofs.Called.{within_limit}
+use Rattle.fx_cli.proofs.CallOutputs.{within_limit}
 use Rattle.fx_cli.proofs.running.audit.Goals as goal
 
 pub returns-clause-told : goal.returns-clause-told

@@ -1,6 +1,6 @@
 use Rattle.std.proofs.Common.{refl}
 use Rattle.clap.specs.Words.{found_of}
-use Rattle.fx_cli.proofs.Matching.{all_found, audit_files, audit_found, both_found, check_files, collect_files, confirm_files, if_some, names_audit, names_check, names_collect, names_confirm, names_replay, names_run, ok_as, replay_files, replay_name, run_files, run_found, taken_replay}
+use Rattle.fx_cli.proofs.ParsedWords.{all_found, audit_files, audit_found, both_found, check_files, collect_files, confirm_files, if_some, names_audit, names_check, names_collect, names_confirm, names_replay, names_run, ok_as, replay_files, replay_name, run_files, run_found, taken_replay}
 use Rattle.fx_cli.proofs.words.call_of.Goals as goal
 
 -- ---- where the command is `collect`

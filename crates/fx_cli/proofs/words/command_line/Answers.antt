@@ -1,6 +1,6 @@
 use Rattle.std.proofs.Common.{◌≡◌, ◌∙◌, ap, List, [], ◌∷◌, ◌++◌, rules}
 use Rattle.clap.specs.declared.builder.command.Command.{Command}
-use Rattle.fx_cli.proofs.Matching.{six_commands}
+use Rattle.fx_cli.proofs.ParsedWords.{six_commands}
 use Rattle.fx_cli.proofs.words.command_line.Goals as goal
 
 pub returns : goal.returns

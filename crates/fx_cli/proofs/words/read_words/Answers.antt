@@ -1,5 +1,5 @@
 use Rattle.std.proofs.Common.{map, string_bytes}
-use Rattle.fx_cli.proofs.Matching.{are_matches, its_kind, passed_kinds, passed_on, refused}
+use Rattle.fx_cli.proofs.ParsedWords.{are_matches, its_kind, passed_kinds, passed_on, refused}
 use Rattle.fx_cli.proofs.words.read_words.Goals as goal
 
 pub returns-in_err-matches-clause-call : goal.returns-in_err-matches-clause-call

@@ -1,6 +1,6 @@
 use Rattle.serde_json.specs.View.{view}
 use Rattle.fx_walk.proofs.Faults.{pointer-Root}
-use Rattle.fx_config.proofs.Resolved.{answer_resolves}
+use Rattle.fx_config.proofs.NamesResolve.{answer_resolves}
 use Rattle.fx_config.proofs.device.read_device.Goals as goal
 
 pub returns-clause-resolved : goal.returns-clause-resolved

@@ -1,5 +1,5 @@
-use Rattle.fx_conform.proofs.Emptying.{least_leaves, leasts_leave}
-use Rattle.fx_conform.proofs.Emptied.{emptied_holds_nothing, emptying_is_leaving}
+use Rattle.fx_conform.proofs.LeastLeaves.{least_leaves, leasts_leave}
+use Rattle.fx_conform.proofs.EmptiedHolders.{emptied_holds_nothing, emptying_is_leaving}
 use Rattle.fx_conform.proofs.stores.holders_are_emptied.Goals as goal
 
 pub returns-clause-least : goal.returns-clause-least

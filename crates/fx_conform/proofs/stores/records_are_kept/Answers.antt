@@ -1,5 +1,5 @@
-use Rattle.fx_conform.proofs.Joining.{joins_are_made}
-use Rattle.fx_conform.proofs.Removing.{leavings_are_made}
+use Rattle.fx_conform.proofs.JoinedRecords.{joins_are_made}
+use Rattle.fx_conform.proofs.RemovedRecords.{leavings_are_made}
 use Rattle.fx_conform.proofs.stores.records_are_kept.Goals as goal
 
 pub returns-clause-joins : goal.returns-clause-joins

@@ -1,4 +1,4 @@
-use Rattle.fx_conform.proofs.Usable.{new_is_usable, added_is_usable, left_is_usable, taken_is_usable}
+use Rattle.fx_conform.proofs.UsableStores.{new_is_usable, added_is_usable, left_is_usable, taken_is_usable}
 use Rattle.fx_conform.proofs.stores.stores_stay_usable.Goals as goal
 
 pub returns-clause-new : goal.returns-clause-new

@@ -1,4 +1,4 @@
-use Rattle.fx_conform.proofs.AtOnce.{met_have_keys, aggregated_have_keys, taking_in}
+use Rattle.fx_conform.proofs.ImmediateCaches.{met_have_keys, aggregated_have_keys, taking_in}
 use Rattle.fx_conform.proofs.Takers.{takers_join}
 use Rattle.fx_conform.proofs.stores.stores_take_in.Goals as goal
 

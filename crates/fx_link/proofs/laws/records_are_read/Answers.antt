@@ -1,6 +1,6 @@
 use Rattle.fx_link.proofs.BatchTrip.{batch_back}
 use Rattle.fx_link.proofs.StreamTrip.{records_back}
-use Rattle.fx_link.proofs.Flushing.{flushes_are_sent}
+use Rattle.fx_link.proofs.FlushedMessages.{flushes_are_sent}
 use Rattle.fx_link.proofs.laws.records_are_read.Goals as goal
 
 pub returns-clause-batch : goal.returns-clause-batch

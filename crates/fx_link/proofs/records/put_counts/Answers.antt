@@ -1,7 +1,7 @@
 use Rattle.std.proofs.Common.{ℕ, ap, ◌++◌, ◌∙◌, List, cond}
 use Rattle.std.specs.Prelude.{is_ok}
 use Rattle.std.specs.Int.{bytes_high_first}
-use Rattle.fx_link.proofs.Putting.{then_more, if_ok}
+use Rattle.fx_link.proofs.OctetsPut.{then_more, if_ok}
 use Rattle.fx_link.proofs.records.put_counts.Goals as goal
 
 pub returns : goal.returns

@@ -1,7 +1,7 @@
 use Rattle.std.proofs.Common.{◌≡◌, ◌<◌, ◌^◌, ℕ, Bool, false, cond, List, [], ◌∷◌, ◌++◌, ap, sym, ◌∙◌, subst, append_assoc}
 use Rattle.fx_elements.specs.Axes.{axis_width}
 use Rattle.fx_link.specs.Records.{is_whole, whole_octets, prefix_of}
-use Rattle.fx_link.proofs.Putting.{prefix_shifts, apart_test}
+use Rattle.fx_link.proofs.OctetsPut.{prefix_shifts, apart_test}
 use Rattle.fx_link.proofs.records.put_value.Goals as goal
 
 pub put_whole-requires-2 : goal.put_whole-requires-2

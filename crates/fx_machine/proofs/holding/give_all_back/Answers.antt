@@ -3,7 +3,7 @@ use Rattle.std.proofs.lemmas.List.{get_or_default}
 use Rattle.fx_tables.specs.declared.record.Record.{Record}
 use Rattle.fx_machine.specs.declared.holding.Taking.{Taking}
 use Rattle.fx_machine.specs.Holds.{undone, back_at}
-use Rattle.fx_machine.proofs.Takings.{undone_less}
+use Rattle.fx_machine.proofs.RecordsTakenIn.{undone_less}
 use Rattle.fx_machine.proofs.holding.give_all_back.Goals as goal
 
 -- one step back

@@ -1,5 +1,5 @@
 use Rattle.std.proofs.Common.{arith}
-use Rattle.fx_machine.proofs.Takings.{back_set, back_past}
+use Rattle.fx_machine.proofs.RecordsTakenIn.{back_set, back_past}
 use Rattle.fx_machine.proofs.holding.give_back.Goals as goal
 
 pub returns-then-taking-len : goal.returns-then-taking-len

@@ -1,5 +1,5 @@
 use Rattle.std.proofs.Common.{arith}
-use Rattle.fx_machine.proofs.Takings.{hold_made}
+use Rattle.fx_machine.proofs.RecordsTakenIn.{hold_made}
 use Rattle.fx_machine.proofs.holding.hold.Goals as goal
 
 pub returns-clause-ok : goal.returns-clause-ok

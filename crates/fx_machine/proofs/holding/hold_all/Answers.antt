@@ -1,5 +1,5 @@
 use Rattle.std.proofs.Common.{inr}
-use Rattle.fx_machine.proofs.Takings.{hold_unequal}
+use Rattle.fx_machine.proofs.RecordsTakenIn.{hold_unequal}
 use Rattle.fx_machine.proofs.holding.hold_all.Goals as goal
 
 pub returns-then-holdings-choices-clause-err : goal.returns-then-holdings-choices-clause-err

@@ -1,7 +1,7 @@
 use Rattle.std.proofs.Common.{◌≡◌, ◌∙◌, ap, ◌++◌, List, [], ◌∷◌}
 use Rattle.fx_machine.specs.declared.holding.Taking.{Taking}
 use Rattle.fx_machine.specs.Holds.{undone}
-use Rattle.fx_machine.proofs.Takings.{undone_more}
+use Rattle.fx_machine.proofs.RecordsTakenIn.{undone_more}
 use Rattle.fx_machine.proofs.holding.hold_next.Goals as goal
 
 pub returns-clause-ok : goal.returns-clause-ok

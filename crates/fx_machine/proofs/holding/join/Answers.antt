@@ -1,6 +1,6 @@
 use Rattle.std.proofs.Common.{◌≡◌, ◌≢◌, ◌≤◌, length, arith, true, false, sym, ◌∙◌}
 use Rattle.fx_layout.specs.Keys.{same_key}
-use Rattle.fx_machine.proofs.Takings.{join_refused, join_made}
+use Rattle.fx_machine.proofs.RecordsTakenIn.{join_refused, join_made}
 use Rattle.fx_machine.proofs.holding.join.Goals as goal
 
 pub returns-then-not-same-clause-none : goal.returns-then-not-same-clause-none

@@ -1,5 +1,5 @@
 use Rattle.std.proofs.Common.{arith}
-use Rattle.fx_machine.proofs.Takings.{counts_set, counts_past}
+use Rattle.fx_machine.proofs.RecordsTakenIn.{counts_set, counts_past}
 use Rattle.fx_machine.proofs.holding.set_counts.Goals as goal
 
 pub returns-then-joined-len : goal.returns-then-joined-len

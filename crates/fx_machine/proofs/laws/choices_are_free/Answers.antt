@@ -1,5 +1,5 @@
-use Rattle.fx_machine.proofs.Choosing.{step_is_move, move_is_step}
-use Rattle.fx_machine.proofs.Running.{runs_of, steps_of}
+use Rattle.fx_machine.proofs.StepsAreMoves.{step_is_move, move_is_step}
+use Rattle.fx_machine.proofs.RunsAreMoves.{runs_of, steps_of}
 use Rattle.fx_machine.proofs.laws.choices_are_free.Goals as goal
 
 pub returns-clause-step_is_move : goal.returns-clause-step_is_move

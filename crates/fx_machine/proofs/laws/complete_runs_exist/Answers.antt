@@ -1,4 +1,4 @@
-use Rattle.fx_machine.proofs.Completing as completing
+use Rattle.fx_machine.proofs.CompleteRuns as completing
 use Rattle.fx_machine.proofs.laws.complete_runs_exist.Goals as goal
 
 pub returns : goal.returns

@@ -1,8 +1,8 @@
 use Rattle.std.proofs.Common.{◌≤◌, ◌∙◌, sym, ap, subst, Option}
 use Rattle.fx_link.specs.Ongoing.{Ongoing, after_carry}
 use Rattle.fx_net.specs.Arriving.{queued_on}
-use Rattle.fx_net.proofs.Changing.{changed_past, changed_set}
-use Rattle.fx_net.proofs.Handlings.{link_is}
+use Rattle.fx_net.proofs.ChangedLists.{changed_past, changed_set}
+use Rattle.fx_net.proofs.RecordsHandled.{link_is}
 use Rattle.fx_net.proofs.arriving.carry_on.Goals as goal
 
 pub returns-in_default-clause-ok : goal.returns-in_default-clause-ok

@@ -1,4 +1,4 @@
-use Rattle.fx_net.proofs.Handlings.{next_is}
+use Rattle.fx_net.proofs.RecordsHandled.{next_is}
 use Rattle.fx_net.proofs.arriving.next_record.Goals as goal
 
 pub returns-in-Some : goal.returns-in-Some

@@ -3,7 +3,7 @@ use Rattle.std.proofs.lemmas.List.{drop_more}
 use Rattle.fx_link.specs.Ongoing.{Ongoing}
 use Rattle.fx_runs.specs.Destinations.{links_used, used_at}
 use Rattle.fx_net.specs.Exporting.{put_each}
-use Rattle.fx_net.proofs.Changing.{put_each_more}
+use Rattle.fx_net.proofs.ChangedLists.{put_each_more}
 use Rattle.fx_net.proofs.exporting.export_all.Goals as goal
 
 pub loop-exporter-preserved : goal.loop-exporter-preserved

@@ -1,7 +1,7 @@
 use Rattle.std.proofs.Common.{◌∙◌, sym, ap}
 use Rattle.fx_tables.specs.declared.record.Record.{Record}
 use Rattle.fx_net.specs.Exporting.{with_waiting}
-use Rattle.fx_net.proofs.Changing.{changed_past, changed_set}
+use Rattle.fx_net.proofs.ChangedLists.{changed_past, changed_set}
 use Rattle.fx_net.proofs.exporting.put.Goals as goal
 
 pub returns-in_default-clause-ok : goal.returns-in_default-clause-ok

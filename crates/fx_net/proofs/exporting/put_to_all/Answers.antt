@@ -3,7 +3,7 @@ use Rattle.std.proofs.lemmas.List.{drop_more}
 use Rattle.fx_link.specs.Ongoing.{Ongoing}
 use Rattle.fx_machine.specs.Sends.{linked, links_of}
 use Rattle.fx_net.specs.Exporting.{put_each}
-use Rattle.fx_net.proofs.Changing.{put_each_more}
+use Rattle.fx_net.proofs.ChangedLists.{put_each_more}
 use Rattle.fx_net.proofs.exporting.put_to_all.Goals as goal
 
 pub loop-destination-preserved : goal.loop-destination-preserved

@@ -2,8 +2,8 @@ use Rattle.std.proofs.Common.{◌≡◌, ◌∙◌, ◌+◌, ◌<◌, ◌≤◌,
 use Rattle.fx_link.specs.Ongoing.{Ongoing, after_finish, to_put}
 use Rattle.fx_link.specs.Links.{Puts}
 use Rattle.fx_net.specs.Finishing.{HasRoom}
-use Rattle.fx_net.proofs.Changing.{mapped_all, mapped_at, mapped_more}
-use Rattle.fx_net.proofs.PuttingOut.{puts_more}
+use Rattle.fx_net.proofs.ChangedLists.{mapped_all, mapped_at, mapped_more}
+use Rattle.fx_net.proofs.LinksPutOut.{puts_more}
 use Rattle.fx_net.proofs.finishing.finish_all.Goals as goal
 
 pub loop-place-preserved : goal.loop-place-preserved

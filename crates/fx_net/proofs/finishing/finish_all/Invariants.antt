@@ -2,7 +2,7 @@
 use Rattle.std.proofs.Common.{◌≡◌, take, false}
 use Rattle.fx_link.specs.Ongoing.{after_finish}
 use Rattle.fx_net.specs.Finishing.{PutsAll}
-use Rattle.fx_net.proofs.Changing.{mapped}
+use Rattle.fx_net.proofs.ChangedLists.{mapped}
 use Rattle.fx_net.proofs.finishing.finish_all.Given as goal
 
 abbrev pub invariant-loop-place : goal.invariant-loop-place

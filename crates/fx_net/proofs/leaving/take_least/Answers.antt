@@ -1,7 +1,7 @@
 use Rattle.std.proofs.Common.{◌≡◌, ◌∙◌, sym, ap, subst, get_or, Option}
 use Rattle.fx_net.specs.Stores.{Stored}
 use Rattle.fx_net.specs.Leaving.{least_of}
-use Rattle.fx_net.proofs.Changing.{stored_is, stored_past, changed_past, taken_is, without_none_set, without_some}
+use Rattle.fx_net.proofs.ChangedLists.{stored_is, stored_past, changed_past, taken_is, without_none_set, without_some}
 use Rattle.fx_net.proofs.leaving.take_least.Goals as goal
 
 pub returns-in-None-clause-value : goal.returns-in-None-clause-value

@@ -1,5 +1,5 @@
 use Rattle.std.proofs.Common.{ℕ, sym, refl}
-use Rattle.fx_net.proofs.Changing.{changed_past, changed_set}
+use Rattle.fx_net.proofs.ChangedLists.{changed_past, changed_set}
 use Rattle.fx_net.proofs.obeying.choose.Goals as goal
 
 pub returns-in_default : goal.returns-in_default

@@ -1,7 +1,7 @@
 use Rattle.std.proofs.Common.{◌++◌, ◌∙◌, ap, take, List, [], ◌∷◌}
 use Rattle.fx_link.specs.Ongoing.{Ongoing}
 use Rattle.fx_net.specs.Opening.{new_links}
-use Rattle.fx_net.proofs.Openings.{made_new, new_links_more}
+use Rattle.fx_net.proofs.HoldersInOrder.{made_new, new_links_more}
 use Rattle.fx_net.proofs.opening.links_of.Goals as goal
 
 pub loop-process-preserved : goal.loop-process-preserved

@@ -4,7 +4,7 @@ use Rattle.fx_topology.specs.declared.network_device.NetworkDevice.{NetworkDevic
 use Rattle.fx_topology.specs.declared.network.Network.{Network}
 use Rattle.fx_tables.specs.Network.{Net}
 use Rattle.fx_net.specs.Opening.{store_of}
-use Rattle.fx_net.proofs.Openings.{all_stores}
+use Rattle.fx_net.proofs.HoldersInOrder.{all_stores}
 use Rattle.fx_net.proofs.opening.stores_of.Goals as goal
 
 pub returns-clause-ok : goal.returns-clause-ok

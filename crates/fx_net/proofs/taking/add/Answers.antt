@@ -1,7 +1,7 @@
 use Rattle.std.proofs.Common.{◌≡◌, ◌∙◌, subst, get_or, Option}
 use Rattle.std.proofs.lemmas.Result.{on_ok_weaker}
 use Rattle.fx_net.specs.Stores.{Stored}
-use Rattle.fx_net.proofs.Takings.{holding_past, holding_none, holding_some, none_more, one_more}
+use Rattle.fx_net.proofs.StoresTakeIn.{holding_past, holding_none, holding_some, none_more, one_more}
 use Rattle.fx_net.proofs.taking.add.Goals as goal
 
 pub returns-in_default-clause-ok : goal.returns-in_default-clause-ok

@@ -3,7 +3,7 @@ use Rattle.std.proofs.lemmas.List.{drop_more}
 use Rattle.fx_tables.specs.declared.holding.Holding.{Holding}
 use Rattle.fx_tables.specs.Holdings.{met_holdings}
 use Rattle.fx_net.specs.Taking.{with_holdings, all_leave_at_once}
-use Rattle.fx_net.proofs.Takings.{passing_next, still_next}
+use Rattle.fx_net.proofs.StoresTakeIn.{passing_next, still_next}
 use Rattle.fx_net.proofs.taking.meet_all.Goals as goal
 
 pub loop-occurrence-preserved : goal.loop-occurrence-preserved

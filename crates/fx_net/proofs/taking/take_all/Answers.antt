@@ -1,7 +1,7 @@
 use Rattle.std.proofs.Common.{◌≡◌, ◌++◌, ◌∷◌, ◌∙◌, sym, ap, List}
 use Rattle.fx_tables.specs.declared.holding.Holding.{Holding}
 use Rattle.fx_net.specs.Taking.{with_holdings, all_leave_at_once}
-use Rattle.fx_net.proofs.Takings.{passing_next, still_next}
+use Rattle.fx_net.proofs.StoresTakeIn.{passing_next, still_next}
 use Rattle.fx_net.proofs.taking.take_all.Goals as goal
 
 pub loop-holding-preserved : goal.loop-holding-preserved

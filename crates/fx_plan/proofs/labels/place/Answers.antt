@@ -3,8 +3,8 @@ use Rattle.std.specs.List.{slice_range}
 use Rattle.std.specs.Str.{bytes_eq}
 use Rattle.std.proofs.lemmas.List.{drop_all}
 use Rattle.fx_plan.specs.Labels.{AreGrouped, Group, Label, is_label, place}
-use Rattle.fx_plan.proofs.Grouping.{NoneIn, found_at, not_there, nowhere, of_others, passed}
-use Rattle.fx_topology.proofs.Linking.{drop_item}
+use Rattle.fx_plan.proofs.LabelGroups.{NoneIn, found_at, not_there, nowhere, of_others, passed}
+use Rattle.fx_topology.proofs.LinkByLink.{drop_item}
 use Rattle.fx_plan.proofs.labels.place.Goals as goal
 use Rattle.fx_plan.proofs.labels.place.Goals.{then-eq+in_default, else-eq}
 

@@ -1,6 +1,6 @@
 use Rattle.std.proofs.Common.{ℕ, length, drop}
 use Rattle.fx_plan.specs.Labels.{AreGrouped}
-use Rattle.fx_plan.proofs.Grouping.{NoneIn}
+use Rattle.fx_plan.proofs.LabelGroups.{NoneIn}
 use Rattle.fx_plan.proofs.labels.place.Given as goal
 
 abbrev pub invariant-loop-group : goal.invariant-loop-group

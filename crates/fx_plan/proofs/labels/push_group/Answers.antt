@@ -1,6 +1,6 @@
 use Rattle.std.proofs.Common.{◌≡◌, ◌++◌, length, ap, ◌∙◌}
 use Rattle.fx_plan.specs.Labels.{Group, device_labels}
-use Rattle.fx_plan.proofs.Grouping.{one_group_more, own_device}
+use Rattle.fx_plan.proofs.LabelGroups.{one_group_more, own_device}
 use Rattle.fx_plan.proofs.labels.push_group.Goals as goal
 
 pub returns-clause-groups : goal.returns-clause-groups

@@ -6,7 +6,7 @@ use Rattle.fx_layout.specs.Keys.{Layout, Fits}
 use Rattle.fx_tables.specs.Network.{Holder, layout_of}
 use Rattle.fx_plan.specs.Layouts.{held_layouts, with_layout, with_layouts}
 use Rattle.fx_tables.specs.Limits.{layout_limit}
-use Rattle.fx_topology.proofs.Linking.{drop_item}
+use Rattle.fx_topology.proofs.LinkByLink.{drop_item}
 use Rattle.fx_plan.proofs.Numberings.{all_longer, exit_with, numbers_grow, numbers_push}
 use Rattle.fx_plan.proofs.layouts.numbers_of.Goals as goal
 

@@ -15,10 +15,10 @@ use Rattle.fx_topology.specs.declared.network.Network.{Network}
 use Rattle.fx_tables.specs.Limits.{layout_limit}
 use Rattle.fx_layout.specs.Keys.{Layout}
 use Rattle.fx_plan.specs.Tables.{net_of}
-use Rattle.fx_plan.proofs.Matching.{network_entries}
+use Rattle.fx_plan.proofs.MatchesFit.{network_entries}
 use Rattle.fx_plan.proofs.Resolution.{resolved}
 use Rattle.fx_plan.proofs.Runnable.{runnable}
-use Rattle.fx_plan.proofs.Stalling.{none_are_stuck}
+use Rattle.fx_plan.proofs.StuckProcesses.{none_are_stuck}
 use Rattle.fx_plan.proofs.plan.read_plan.Goals as goal
 
 -- the exit where there are no ranks

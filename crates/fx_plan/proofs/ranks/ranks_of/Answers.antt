@@ -2,7 +2,7 @@ use Rattle.std.proofs.Common.{◌≡◌, Bool, true, false, List, sym, ap, ◌�
 use Rattle.std.specs.List.{list_all}
 use Rattle.fx_topology.specs.declared.network_device.NetworkDevice.{NetworkDevice}
 use Rattle.fx_plan.specs.Cycles.{IsText, stuck_text}
-use Rattle.fx_plan.proofs.Stalling.{no_ranks, one_stuck, stuck_if, stuck_places, whole_if}
+use Rattle.fx_plan.proofs.StuckProcesses.{no_ranks, one_stuck, stuck_if, stuck_places, whole_if}
 use Rattle.fx_plan.proofs.ranks.ranks_of.Goals as goal
 
 pub returns-then-not-all_have_come-clause-err : goal.returns-then-not-all_have_come-clause-err

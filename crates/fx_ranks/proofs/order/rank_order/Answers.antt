@@ -5,7 +5,7 @@ use Rattle.std.proofs.lemmas.List.FromFn.{length-map-range_with_len, get_or-map-
 use Rattle.fx_tables.specs.Network.{Net}
 use Rattle.fx_ranks.specs.Feeding.{feeds, feeders, have_come, places_of}
 use Rattle.fx_ranks.specs.Ranks.{is_in, next}
-use Rattle.fx_ranks.proofs.Comings.{come_kept, come_last, come_more, next_is_ready}
+use Rattle.fx_ranks.proofs.OrderKeeps.{come_kept, come_last, come_more, next_is_ready}
 use Rattle.fx_ranks.proofs.Ranges.{ready_position, flags_set, flags_none, count_set, count_none}
 use Rattle.fx_ranks.proofs.order.rank_order.Goals as goal
 

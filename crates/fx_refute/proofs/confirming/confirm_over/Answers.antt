@@ -18,8 +18,8 @@ use Rattle.fx_refute.specs.Confirming.{plain_totals, Agree, IsStopped}
 use Rattle.fx_machine.specs.Limits.{step_limit}
 use Rattle.fx_refute.specs.Refutations.{Refutation, RunsTo, ArePlainSums, IsRefused, Refutes, counted}
 use Rattle.fx_refute.specs.Refutations.IsRefused.{no_member, incomplete, agrees}
-use Rattle.fx_refute.proofs.Agreeing.{ran, stopped, one_or_none, plain_are_sums, agrees_counted, counted_agrees}
-use Rattle.fx_refute.proofs.Tallying.{few_unassigned}
+use Rattle.fx_refute.proofs.TotalsAgree.{ran, stopped, one_or_none, plain_are_sums, agrees_counted, counted_agrees}
+use Rattle.fx_refute.proofs.UnassignedPerStep.{few_unassigned}
 use Rattle.fx_refute.proofs.confirming.confirm_over.Goals as goal
 
 -- ---- what a run's end tells

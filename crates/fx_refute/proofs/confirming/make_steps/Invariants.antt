@@ -1,6 +1,6 @@
 use Rattle.std.proofs.Common.{◌≤◌, length}
 use Rattle.fx_machine.specs.Limits.{step_limit}
-use Rattle.fx_refute.proofs.Making.{Made}
+use Rattle.fx_refute.proofs.StepsMade.{Made}
 use Rattle.fx_refute.proofs.confirming.make_steps.Given as goal
 
 -- the steps so far are made

@@ -9,7 +9,7 @@ use Rattle.fx_machine.specs.States.{opening}
 use Rattle.fx_machine.specs.Steps.{one_packet}
 use Rattle.fx_machine.specs.Sums.{IsBelow, SumsFit}
 use Rattle.fx_refute.specs.Refutations.{counted}
-use Rattle.fx_refute.proofs.Agreeing.{IsOneOrNone, one_or_none}
+use Rattle.fx_refute.proofs.TotalsAgree.{IsOneOrNone, one_or_none}
 use Rattle.fx_refute.proofs.laws.refutations_refute.Goals as goal
 
 one_fits : (net : Net) (p : Packet) → p.octets < 2 ^ 64 → SumsFit net.report_layout (p ∷ [])

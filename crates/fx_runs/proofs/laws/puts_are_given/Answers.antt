@@ -1,4 +1,4 @@
-use Rattle.fx_runs.proofs.Given.{gives_all, expire_puts, arrive_puts, cross_puts}
+use Rattle.fx_runs.proofs.RecordsGiven.{gives_all, expire_puts, arrive_puts, cross_puts}
 use Rattle.fx_runs.proofs.laws.puts_are_given.Goals as goal
 
 pub returns-clause-gives : goal.returns-clause-gives

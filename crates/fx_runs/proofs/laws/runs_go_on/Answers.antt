@@ -1,4 +1,4 @@
-use Rattle.fx_runs.proofs.Extending.{runs_extend, runs_extend_from, runs_join}
+use Rattle.fx_runs.proofs.RunsGoOn.{runs_extend, runs_extend_from, runs_join}
 use Rattle.fx_runs.proofs.PutOn.{put_extends, put_joins}
 use Rattle.fx_runs.proofs.laws.runs_go_on.Goals as goal
 

@@ -1,4 +1,4 @@
-use Rattle.fx_runs.proofs.Making.{expires_are_made, arrives_are_made, crosses_are_made}
+use Rattle.fx_runs.proofs.StepsThatCanBeMade.{expires_are_made, arrives_are_made, crosses_are_made}
 use Rattle.fx_runs.proofs.laws.steps_are_made.Goals as goal
 
 pub returns-clause-expires : goal.returns-clause-expires

@@ -1,4 +1,4 @@
-use Rattle.fx_search.proofs.Writing.{leaf_writable}
+use Rattle.fx_search.proofs.ShortLines.{leaf_writable}
 use Rattle.fx_search.proofs.growing.leaf.Goals as goal
 
 pub returns-clause-writable : goal.returns-clause-writable

@@ -1,4 +1,4 @@
-use Rattle.fx_search.proofs.Writing.{class_writable}
+use Rattle.fx_search.proofs.ShortLines.{class_writable}
 use Rattle.fx_search.proofs.growing.opening.Goals as goal
 
 pub returns-clause-writable : goal.returns-clause-writable

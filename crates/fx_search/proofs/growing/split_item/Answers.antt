@@ -1,4 +1,4 @@
-use Rattle.fx_search.proofs.Writing.{split_writable}
+use Rattle.fx_search.proofs.ShortLines.{split_writable}
 use Rattle.fx_search.proofs.growing.split_item.Goals as goal
 
 pub returns-clause-writable : goal.returns-clause-writable

@@ -1,8 +1,8 @@
 use Rattle.std.proofs.Common.{[], ◌∷◌}
 use Rattle.fx_cert.specs.declared.item.Item.TheVariants as item
-use Rattle.fx_search.proofs.Begun.{certifies, found}
-use Rattle.fx_search.proofs.Taking.{written_more}
-use Rattle.fx_search.proofs.Writing.{end_writable}
+use Rattle.fx_search.proofs.GrowingCertificate.{certifies, found}
+use Rattle.fx_search.proofs.RegionsTaken.{written_more}
+use Rattle.fx_search.proofs.ShortLines.{end_writable}
 use Rattle.fx_search.proofs.searching.certificate.Goals as goal
 
 pub returns-clause-right : goal.returns-clause-right

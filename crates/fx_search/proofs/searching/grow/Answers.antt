@@ -1,7 +1,7 @@
 use Rattle.std.proofs.Common.{◌≡◌, ℕ, ◌-◌, append-nil, take, [], reverse, subst, ap, ◌∙◌}
 use Rattle.std.proofs.lemmas.Result.{err_from_is_err_and}
 use Rattle.fx_search.specs.Growing.{IsGrowing, IsTaken}
-use Rattle.fx_search.proofs.Ending.{popped}
+use Rattle.fx_search.proofs.SearchEnds.{popped}
 use Rattle.fx_search.proofs.searching.grow.Goals as goal
 
 pub returns-in_default-clause-grown : goal.returns-in_default-clause-grown

@@ -1,7 +1,7 @@
 use Rattle.std.proofs.Common.{◌≡◌, ◌<◌, ◌^◌, ap, arith, subst, IfSome}
 use Rattle.fx_tables.specs.declared.packet.Packet.{Packet}
 use Rattle.fx_steps.specs.WrongRun.{IsWrongRun}
-use Rattle.fx_search.proofs.Ending.{refutes_there}
+use Rattle.fx_search.proofs.SearchEnds.{refutes_there}
 use Rattle.fx_search.proofs.searching.refute.Goals as goal
 
 pub returns-in-Some-clause-settles : goal.returns-in-Some-clause-settles

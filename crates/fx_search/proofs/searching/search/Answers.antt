@@ -3,11 +3,11 @@ use Rattle.std.proofs.lemmas.Result.{err_from_is_err_and}
 use Rattle.fx_cert.specs.declared.item.Version.{Version}
 use Rattle.fx_tables.specs.Classes.{Class}
 use Rattle.fx_traffic.specs.Targets.{targets_of}
-use Rattle.fx_check.proofs.Going.{err_gives}
+use Rattle.fx_check.proofs.FirstRefusals.{err_gives}
 use Rattle.fx_search.specs.Growing.{IsGrowing, IsGrown, Lies}
 use Rattle.fx_search.specs.Fronts.{most_lines, root}
 use Rattle.fx_search.specs.Found.{version_for}
-use Rattle.fx_search.proofs.Ending.{HasNone, given_up, lies_there, started}
+use Rattle.fx_search.proofs.SearchEnds.{HasNone, given_up, lies_there, started}
 use Rattle.fx_search.proofs.searching.search.Goals as goal
 
 pub returns-in_err-here-clause-err : goal.returns-in_err-here-clause-err

@@ -3,7 +3,7 @@ use Rattle.std.proofs.lemmas.List.{reverse-append}
 use Rattle.fx_check.specs.Verdict.{depth_limit}
 use Rattle.fx_search.specs.Fronts.{Ahead, lower, upper}
 use Rattle.fx_search.specs.Growing.{leaf_item}
-use Rattle.fx_search.proofs.Taking.{cut_taken, leaf_taken, cut_given_up, leaf_given_up, wrong_at}
+use Rattle.fx_search.proofs.RegionsTaken.{cut_taken, leaf_taken, cut_given_up, leaf_given_up, wrong_at}
 use Rattle.fx_search.proofs.searching.take.Goals as goal
 use Rattle.fx_search.proofs.searching.take.Goals.{then-growth-most-via-then-growth-most, then-growth-most-via-else-growth-most+then-here-ge-DEPTHS}
 

@@ -1,4 +1,4 @@
-use Rattle.fx_selectors.proofs.Left.{left_all}
+use Rattle.fx_selectors.proofs.AllPairsLeft.{left_all}
 use Rattle.fx_selectors.proofs.feeding.feeds.Goals as goal
 
 pub returns : goal.returns

@@ -1,6 +1,6 @@
 use Rattle.std.proofs.Common.{◌∙◌, ap}
 use Rattle.fx_selectors.specs.Selection as selection
-use Rattle.fx_selectors.proofs.Selecting.{some_selects, none_selects}
+use Rattle.fx_selectors.proofs.SelectedFields.{some_selects, none_selects}
 use Rattle.fx_selectors.proofs.region.region_of.Goals as goal
 
 pub returns-clause-some : goal.returns-clause-some

@@ -1,6 +1,6 @@
 use Rattle.std.proofs.Common.{◌≡◌, ◌∙◌, false, true, refl}
 use Rattle.fx_boxes.specs.Boxes.{Bounds}
-use Rattle.fx_selectors.proofs.Room.{between_with, high_fields, low_fields, none_within}
+use Rattle.fx_selectors.proofs.AnyFieldsWithin.{between_with, high_fields, low_fields, none_within}
 use Rattle.fx_selectors.proofs.region.region_within.Goals as goal
 
 pub returns-in_err-low : goal.returns-in_err-low

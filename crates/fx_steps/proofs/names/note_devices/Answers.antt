@@ -1,5 +1,5 @@
 use Rattle.std.proofs.Common.{◌∙◌, ap, inl, inr, length, arith}
-use Rattle.fx_steps.proofs.Naming.{before_next, note_kept, all_named}
+use Rattle.fx_steps.proofs.HolderNames.{before_next, note_kept, all_named}
 use Rattle.fx_steps.proofs.names.note_devices.Goals as goal
 
 pub loop-number-preserved : goal.loop-number-preserved

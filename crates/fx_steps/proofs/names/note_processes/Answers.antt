@@ -3,7 +3,7 @@ use Rattle.std.proofs.lemmas.Option.{get_or_from_slice_get}
 use Rattle.fx_tables.specs.declared.holder_name.HolderName.TheVariants as variants
 use Rattle.fx_tables.specs.Network.{aggregations_of}
 use Rattle.fx_steps.specs.Names.{Note}
-use Rattle.fx_steps.proofs.Naming.{inside, before_next, note_kept, kept_on}
+use Rattle.fx_steps.proofs.HolderNames.{inside, before_next, note_kept, kept_on}
 use Rattle.fx_steps.proofs.names.note_processes.Goals as goal
 
 pub loop-process-preserved : goal.loop-process-preserved

@@ -3,7 +3,7 @@ use Rattle.fx_steps.specs.declared.costs.Costs.{Costs}
 use Rattle.fx_steps.specs.Costs.{Tells}
 use Rattle.fx_steps.specs.CostTables.{CostTable, path_costs}
 use Rattle.fx_steps.specs.Ways.{PacketComes}
-use Rattle.fx_steps.proofs.Crossing.{least_tell}
+use Rattle.fx_steps.proofs.PathCosts.{least_tell}
 use Rattle.fx_steps.proofs.path.least_steps.Goals as goal
 
 pub returns-clause-tells : goal.returns-clause-tells

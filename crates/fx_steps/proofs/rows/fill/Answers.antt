@@ -1,5 +1,5 @@
 use Rattle.std.proofs.Common.{◌<◌, get_or, length, arith, List, [], ℕ, subst, sym}
-use Rattle.fx_steps.proofs.Rowing.{is_there}
+use Rattle.fx_steps.proofs.RowsGrow.{is_there}
 use Rattle.fx_steps.proofs.rows.fill.Goals as goal
 
 pub set_row-requires : goal.set_row-requires

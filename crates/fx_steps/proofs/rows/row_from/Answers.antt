@@ -1,7 +1,7 @@
 use Rattle.std.proofs.Common.{◌≡◌, ◌∙◌, ap, length, take, arith, length-take}
 use Rattle.fx_layout.specs.Keys.{Layout}
 use Rattle.std.proofs.Common.{List}
-use Rattle.fx_steps.proofs.Rowing.{row_length, next_entry}
+use Rattle.fx_steps.proofs.RowsGrow.{row_length, next_entry}
 use Rattle.fx_steps.proofs.rows.row_from.Goals as goal
 
 pub push-requires : goal.push-requires

@@ -1,5 +1,5 @@
 use Rattle.std.proofs.Common.{◌≡◌, ◌-◌, ◌≤◌, ◌∙◌, List, ℕ, ap, sym, subst, slice_index_or, slice_set}
-use Rattle.fx_steps.proofs.Counting.{set_back, some_raised, count_raised}
+use Rattle.fx_steps.proofs.WaitingCounts.{set_back, some_raised, count_raised}
 use Rattle.fx_steps.proofs.waiting.lower.Goals as goal
 
 pub overflow_sub-counts : goal.overflow_sub-counts

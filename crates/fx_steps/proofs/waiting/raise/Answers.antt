@@ -1,5 +1,5 @@
 use Rattle.std.proofs.Common.{arith}
-use Rattle.fx_steps.proofs.Counting.{set_raised, count_of_total}
+use Rattle.fx_steps.proofs.WaitingCounts.{set_raised, count_of_total}
 use Rattle.fx_steps.proofs.waiting.raise.Goals as goal
 
 pub returns : goal.returns

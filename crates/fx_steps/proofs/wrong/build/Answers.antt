@@ -9,9 +9,9 @@ use Rattle.fx_machine.specs.Limits.{step_limit}
 use Rattle.fx_steps.specs.Costs.{cost_of, nothing}
 use Rattle.fx_steps.specs.CostTables.{path_costs}
 use Rattle.fx_steps.specs.UnderWay.{UnderWay}
-use Rattle.fx_steps.proofs.Behind.{rest_is}
-use Rattle.fx_steps.proofs.Ending.{drop_next}
-use Rattle.fx_steps.proofs.Picking.{alone}
+use Rattle.fx_steps.proofs.RecordsBehind.{rest_is}
+use Rattle.fx_steps.proofs.RunEnds.{drop_next}
+use Rattle.fx_steps.proofs.SharesCost.{alone}
 use Rattle.fx_steps.proofs.wrong.build.Goals as goal
 
 pub loop-number-preserved : goal.loop-number-preserved

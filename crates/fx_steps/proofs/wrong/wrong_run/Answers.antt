@@ -1,6 +1,6 @@
 use Rattle.std.proofs.Common.{◌≢◌, Bool, sym, subst}
 use Rattle.fx_leaf.specs.Fates.{wanted_fate}
-use Rattle.fx_steps.proofs.Ending.{ends_wrong}
+use Rattle.fx_steps.proofs.RunEnds.{ends_wrong}
 use Rattle.fx_steps.proofs.wrong.wrong_run.Goals as goal
 
 pub returns-clause-found : goal.returns-clause-found

@@ -5,7 +5,7 @@ use Rattle.serde_json.specs.declared.value.Value.{Value}
 use Rattle.fx_walk.specs.Pointer.{pointer}
 use Rattle.fx_walk.proofs.Faults.{pointer-Item}
 use Rattle.fx_topology.specs.Links.{link_of}
-use Rattle.fx_topology.proofs.Linking.{drop_item, next_faults, next_values}
+use Rattle.fx_topology.proofs.LinkByLink.{drop_item, next_faults, next_values}
 use Rattle.fx_topology.proofs.links.links_of.Goals as goal
 
 pub loop-item-preserved : goal.loop-item-preserved

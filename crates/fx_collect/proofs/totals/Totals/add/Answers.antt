@@ -7,7 +7,7 @@ use Rattle.fx_layout.specs.Keys.{Layout, HasBits}
 use Rattle.fx_tables.specs.declared.record.Record.{Record}
 use Rattle.fx_machine.specs.States.{add_at}
 use Rattle.fx_collect.specs.Totals.{Totals, added, records_of, AllHaveBits}
-use Rattle.fx_collect.proofs.Counting.{insert_adds, insert_has_bits, put_at, put_new}
+use Rattle.fx_collect.proofs.MapsOfCounts.{insert_adds, insert_has_bits, put_at, put_new}
 use Rattle.fx_collect.proofs.totals.Totals.add.Goals.{in-Some, in-None+in_ok-insert-in-None}
 use Rattle.fx_collect.proofs.totals.Totals.add.Goals as goal
 

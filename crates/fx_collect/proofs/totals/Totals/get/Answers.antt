@@ -3,7 +3,7 @@ use Rattle.fx_layout.specs.Keys.{Layout, Key, same_layout}
 use Rattle.fx_layout.proofs.Projections.{same_layout_is}
 use Rattle.fx_machine.specs.Sums.{total_at}
 use Rattle.fx_collect.specs.Totals.{Totals, records_of}
-use Rattle.fx_collect.proofs.Counting.{found_at, nothing_at_other}
+use Rattle.fx_collect.proofs.MapsOfCounts.{found_at, nothing_at_other}
 use Rattle.fx_collect.proofs.totals.Totals.get.Goals as goal
 
 pub returns-then-not-same : goal.returns-then-not-same

@@ -4,7 +4,7 @@ use Rattle.fx_base.specs.declared.counts.Counts.{Counts}
 use Rattle.fx_base.proofs.Writing.{writes_both}
 use Rattle.fx_collect.specs.Totals.{records_of, AllHaveBits}
 use Rattle.fx_collect.specs.Report.{record_lines}
-use Rattle.fx_collect.proofs.Counting.{behind_has_bits}
+use Rattle.fx_collect.proofs.MapsOfCounts.{behind_has_bits}
 use Rattle.fx_collect.proofs.totals.Totals.put_lines.Goals as goal
 
 pub loop-values-preserved : goal.loop-values-preserved

@@ -7,7 +7,7 @@ use Rattle.fx_base.specs.declared.counts.Counts.{Counts}
 use Rattle.fx_layout.specs.Keys.{HasBits}
 use Rattle.fx_tables.specs.declared.record.Record.{Record}
 use Rattle.fx_collect.specs.Totals.{Totals, record_of, records_of}
-use Rattle.fx_collect.proofs.Counting.{values_are}
+use Rattle.fx_collect.proofs.MapsOfCounts.{values_are}
 use Rattle.fx_collect.proofs.totals.Totals.sort.Goals as goal
 
 pub invariant_of-self-2 : goal.invariant_of-self-2

@@ -1,6 +1,6 @@
 use Rattle.fx_leaf.specs.Tables.{entry}
 use Rattle.fx_leaf.specs.Verdicts.{destination_verdict}
-use Rattle.fx_leaf.proofs.Joins.{So}
+use Rattle.fx_leaf.proofs.JoinedVerdicts.{So}
 use Rattle.fx_leaf.proofs.table.Verdicts.all_destinations_verdict.Given as goal
 
 abbrev pub invariant-loop-destination : goal.invariant-loop-destination

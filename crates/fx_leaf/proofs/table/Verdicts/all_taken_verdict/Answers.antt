@@ -1,5 +1,5 @@
 use Rattle.fx_leaf.specs.Tables.{taken_entry}
-use Rattle.fx_leaf.proofs.Joins.{all_at}
+use Rattle.fx_leaf.proofs.JoinedVerdicts.{all_at}
 use Rattle.fx_leaf.proofs.table.Verdicts.all_taken_verdict.Goals as goal
 
 pub loop-aggregation-preserved : goal.loop-aggregation-preserved

@@ -1,5 +1,5 @@
 use Rattle.fx_leaf.specs.Tables.{taken_entry}
-use Rattle.fx_leaf.proofs.Joins.{So}
+use Rattle.fx_leaf.proofs.JoinedVerdicts.{So}
 use Rattle.fx_leaf.proofs.table.Verdicts.all_taken_verdict.Given as goal
 
 abbrev pub invariant-loop-aggregation : goal.invariant-loop-aggregation

@@ -1,5 +1,5 @@
 use Rattle.fx_leaf.specs.Tables.{entry}
-use Rattle.fx_leaf.proofs.Joins.{at_place, places_joined}
+use Rattle.fx_leaf.proofs.JoinedVerdicts.{at_place, places_joined}
 use Rattle.std.proofs.Common.{◌∙◌}
 use Rattle.fx_leaf.proofs.CausesFound.{still_done, sends_among}
 use Rattle.fx_leaf.proofs.table.Verdicts.cause_by_exporters.Goals as goal

@@ -1,5 +1,5 @@
 use Rattle.fx_leaf.specs.Tables.{entry}
-use Rattle.fx_leaf.proofs.Joins.{at_place}
+use Rattle.fx_leaf.proofs.JoinedVerdicts.{at_place}
 use Rattle.fx_leaf.proofs.CausesFound.{Still}
 use Rattle.fx_leaf.proofs.table.Verdicts.cause_by_exporters.Given as goal
 

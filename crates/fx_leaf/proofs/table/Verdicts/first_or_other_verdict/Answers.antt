@@ -1,7 +1,7 @@
 use Rattle.std.proofs.Common.{◌≡◌, ◌∙◌, ap, ℕ, Option, None, get_or, ◌+◌, map, drop, ◌∷◌}
 use Rattle.fx_leaf.specs.Tables.{entry}
 use Rattle.fx_leaf.specs.Verdicts.{Verdict, destination_verdict, verdict_of_either, verdict_of_one}
-use Rattle.fx_leaf.proofs.Joins.{one_more}
+use Rattle.fx_leaf.proofs.JoinedVerdicts.{one_more}
 use Rattle.fx_leaf.proofs.table.Verdicts.first_or_other_verdict.Goals as goal
 
 pub loop-other-preserved : goal.loop-other-preserved

@@ -1,6 +1,6 @@
 use Rattle.fx_leaf.specs.Tables.{entry}
 use Rattle.fx_leaf.specs.Verdicts.{destination_verdict}
-use Rattle.fx_leaf.proofs.Joins.{OneSo}
+use Rattle.fx_leaf.proofs.JoinedVerdicts.{OneSo}
 use Rattle.fx_leaf.proofs.table.Verdicts.first_or_other_verdict.Given as goal
 
 abbrev pub invariant-loop-other : goal.invariant-loop-other

@@ -1,6 +1,6 @@
 use Rattle.std.proofs.Common.{◌∙◌}
 use Rattle.fx_leaf.specs.Tables.{entry}
-use Rattle.fx_leaf.proofs.Joins.{at_place, all_done, places_joined}
+use Rattle.fx_leaf.proofs.JoinedVerdicts.{at_place, all_done, places_joined}
 use Rattle.fx_leaf.proofs.table.Verdicts.sent_verdict.Goals as goal
 
 pub returns : goal.returns

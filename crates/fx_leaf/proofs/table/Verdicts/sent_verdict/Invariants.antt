@@ -1,5 +1,5 @@
 use Rattle.fx_leaf.specs.Tables.{entry}
-use Rattle.fx_leaf.proofs.Joins.{So, at_place}
+use Rattle.fx_leaf.proofs.JoinedVerdicts.{So, at_place}
 use Rattle.fx_leaf.proofs.table.Verdicts.sent_verdict.Given as goal
 
 abbrev pub invariant-loop-place : goal.invariant-loop-place

@@ -5,7 +5,7 @@ use Rattle.fx_base.specs.declared.fault.Place.TheVariants as places
 use Rattle.fx_base.specs.Fault.{fault_at}
 use Rattle.fx_session.specs.Streams.{SessionState, fed}
 use Rattle.fx_link.specs.Ongoing.{Ongoing}
-use Rattle.fx_link.proofs.Carrying.{starves}
+use Rattle.fx_link.proofs.OctetsCarried.{starves}
 use Rattle.fx_link.proofs.link.Link.carry.Goals as goal
 
 pub returns-in-Err-clause-err : goal.returns-in-Err-clause-err

@@ -3,7 +3,7 @@ use Rattle.fx_layout.specs.Keys.{Layout, HasBits, IsLayout}
 use Rattle.fx_tables.specs.declared.record.Record.{Record}
 use Rattle.fx_link.specs.Outgoing.{Waiting, IsWaiting}
 use Rattle.fx_link.specs.Sending.{IsSent}
-use Rattle.fx_link.proofs.Flushing.{waits_on, Takes, takes_flushed, takes_same}
+use Rattle.fx_link.proofs.FlushedMessages.{waits_on, Takes, takes_flushed, takes_same}
 use Rattle.fx_link.proofs.outlet.Outlet.put.Goals as goal
 use Rattle.fx_link.proofs.outlet.Outlet.put.Goals.{then-not-joins+in_ok-flush, else-not-joins}
 

@@ -11,7 +11,7 @@ use Rattle.fx_machine.specs.Holds.{hold_all}
 use Rattle.fx_machine.specs.Stores.{taken_out}
 use Rattle.fx_machine.specs.Tallies.{totals_when, unassigned_when}
 use Rattle.fx_machine.specs.Comings.{coming_of}
-use Rattle.fx_machine.proofs.Stepping.{arrive_is, arrived, refused_holds}
+use Rattle.fx_machine.proofs.StepOutcomes.{arrive_is, arrived, refused_holds}
 use Rattle.fx_machine.proofs.store.Store.arrive.Goals as goal
 
 pub returns-in_err-links-clause-err : goal.returns-in_err-links-clause-err

@@ -5,7 +5,7 @@ use Rattle.fx_tables.specs.declared.holding.Holding.{Holding}
 use Rattle.fx_machine.specs.Holds.{hold_all}
 use Rattle.fx_machine.specs.Comings.{coming_of, flagged, cleared}
 use Rattle.fx_machine.specs.Steps.{one_packet}
-use Rattle.fx_machine.proofs.Stepping.{cross_made, cross_is, crossed, held_out}
+use Rattle.fx_machine.proofs.StepOutcomes.{cross_made, cross_is, crossed, held_out}
 use Rattle.fx_machine.proofs.store.Store.cross.Goals as goal
 
 pub returns-then-not-is_to_come-clause-err : goal.returns-then-not-is_to_come-clause-err

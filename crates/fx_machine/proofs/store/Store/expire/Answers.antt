@@ -6,7 +6,7 @@ use Rattle.fx_tables.specs.Network.{Net, Exporter, at_places, named_by}
 use Rattle.fx_machine.specs.Sends.{put_all, Chosen, chosen_from}
 use Rattle.fx_machine.specs.Stores.{taken_out}
 use Rattle.fx_machine.specs.Comings.{coming_of}
-use Rattle.fx_machine.proofs.Stepping.{expire_is, expired, choices_left, choices_used}
+use Rattle.fx_machine.proofs.StepOutcomes.{expire_is, expired, choices_left, choices_used}
 use Rattle.fx_machine.proofs.store.Store.expire.Goals as goal
 
 -- the links that are chosen, told of the network's tables

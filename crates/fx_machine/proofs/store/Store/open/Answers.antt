@@ -4,7 +4,7 @@ use Rattle.fx_tables.specs.Network.{Holder}
 use Rattle.fx_machine.specs.States.{coming_from, nothing_at}
 use Rattle.fx_machine.specs.Comings.{coming_of}
 use Rattle.fx_machine.proofs.Crossings.{empties}
-use Rattle.fx_machine.proofs.Stepping.{same_parts}
+use Rattle.fx_machine.proofs.StepOutcomes.{same_parts}
 use Rattle.fx_machine.proofs.store.Store.open.Goals as goal
 
 pub returns : goal.returns

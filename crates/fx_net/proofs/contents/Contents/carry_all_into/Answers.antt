@@ -1,7 +1,7 @@
 use Rattle.std.proofs.Common.{◌≡◌, ℕ, suc, ◌+◌, ◌-◌, ap, subst, arith, length, List}
 use Rattle.std.specs.List.{range_with_len}
 use Rattle.fx_net.specs.Doings.{Doing, CarriesInto, link_places}
-use Rattle.fx_net.proofs.Goings.{Completes, completes_one}
+use Rattle.fx_net.proofs.OneAfterAnother.{Completes, completes_one}
 use Rattle.fx_net.proofs.contents.Contents.carry_all_into.Goals as goal
 
 pub loop-link-preserved : goal.loop-link-preserved

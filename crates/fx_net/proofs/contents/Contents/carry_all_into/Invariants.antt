@@ -2,7 +2,7 @@
 use Rattle.std.proofs.Common.{◌≡◌, ◌-◌, length, false}
 use Rattle.std.specs.List.{range_with_len}
 use Rattle.fx_net.specs.Doings.{CarriesInto}
-use Rattle.fx_net.proofs.Goings.{Completes}
+use Rattle.fx_net.proofs.OneAfterAnother.{Completes}
 use Rattle.fx_net.proofs.contents.Contents.carry_all_into.Given as goal
 
 abbrev pub invariant-loop-link : goal.invariant-loop-link

@@ -1,6 +1,6 @@
 use Rattle.std.proofs.Common.{◌∙◌, sym}
 use Rattle.fx_net.specs.Doings.{Ended, CarriesWhole}
-use Rattle.fx_net.proofs.Goings.{where_so, where_not}
+use Rattle.fx_net.proofs.OneAfterAnother.{where_so, where_not}
 use Rattle.fx_net.proofs.contents.Contents.carry_into.Goals as goal
 
 pub returns-then-not-leads_to-clause-ok : goal.returns-then-not-leads_to-clause-ok

@@ -2,7 +2,7 @@
 use Rattle.std.proofs.Common.{◌≡◌, drop, map, false}
 use Rattle.fx_tables.specs.Network as network
 use Rattle.fx_net.specs.Doings.{Ended, Empties}
-use Rattle.fx_net.proofs.Goings.{Completes}
+use Rattle.fx_net.proofs.OneAfterAnother.{Completes}
 use Rattle.fx_net.proofs.contents.Contents.empty_aggregations.Given as goal
 
 abbrev pub invariant-loop-aggregation : goal.invariant-loop-aggregation

@@ -1,7 +1,7 @@
 -- What completes the rest completes the whole.
 use Rattle.std.proofs.Common.{◌≡◌, drop, false}
 use Rattle.fx_net.specs.Doings.{Ended, Empties}
-use Rattle.fx_net.proofs.Goings.{Completes}
+use Rattle.fx_net.proofs.OneAfterAnother.{Completes}
 use Rattle.fx_net.proofs.contents.Contents.empty_all.Given as goal
 
 abbrev pub invariant-loop-place : goal.invariant-loop-place

@@ -3,7 +3,7 @@ use Rattle.std.proofs.lemmas.List.{drop_all, drop_more}
 use Rattle.std.specs.List.{flat_map}
 use Rattle.fx_tables.specs.Network.{Device}
 use Rattle.fx_net.specs.Doings.{Doing, Ended, Empties}
-use Rattle.fx_net.proofs.Goings.{Completes, completes_some, completed_by}
+use Rattle.fx_net.proofs.OneAfterAnother.{Completes, completes_some, completed_by}
 use Rattle.fx_net.proofs.contents.Contents.empty_caches.Goals as goal
 
 caches : List Device → List ℕ

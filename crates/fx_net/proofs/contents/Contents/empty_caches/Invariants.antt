@@ -3,7 +3,7 @@ use Rattle.std.proofs.Common.{◌≡◌, drop, false}
 use Rattle.std.specs.List.{flat_map}
 use Rattle.fx_tables.specs.Network as network
 use Rattle.fx_net.specs.Doings.{Ended, Empties}
-use Rattle.fx_net.proofs.Goings.{Completes}
+use Rattle.fx_net.proofs.OneAfterAnother.{Completes}
 use Rattle.fx_net.proofs.contents.Contents.empty_caches.Given as goal
 
 abbrev pub invariant-loop-device : goal.invariant-loop-device

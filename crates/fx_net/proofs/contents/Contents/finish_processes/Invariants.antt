@@ -1,7 +1,7 @@
 -- What completes the rest completes the whole.
 use Rattle.std.proofs.Common.{◌≡◌, drop, false}
 use Rattle.fx_net.specs.Doings.{Finishes}
-use Rattle.fx_net.proofs.Goings.{Completes}
+use Rattle.fx_net.proofs.OneAfterAnother.{Completes}
 use Rattle.fx_net.proofs.contents.Contents.finish_processes.Given as goal
 
 abbrev pub invariant-loop-process : goal.invariant-loop-process

@@ -2,7 +2,7 @@ use Rattle.std.proofs.Common.{◌≡◌, ◌∙◌, ap, sym, arith, length, List
 use Rattle.fx_link.specs.Ongoing.{Ongoing}
 use Rattle.fx_net.specs.Contents.{Contents}
 use Rattle.fx_net.specs.Arriving.{after_arrive, after_handling}
-use Rattle.fx_net.proofs.Handlings.{waits, handled_next, handled_fewer, handled_all}
+use Rattle.fx_net.proofs.RecordsHandled.{waits, handled_next, handled_fewer, handled_all}
 use Rattle.fx_net.proofs.contents.Contents.handle.Goals as goal
 
 pub loop-flow-smaller : goal.loop-flow-smaller

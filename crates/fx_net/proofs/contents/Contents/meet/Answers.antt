@@ -1,7 +1,7 @@
 use Rattle.std.proofs.Common.{◌∙◌}
 use Rattle.std.proofs.lemmas.Result.{on_ok_weaker}
 use Rattle.fx_tables.specs.Holdings.{met_holdings}
-use Rattle.fx_net.proofs.Takings.{taken_in_by}
+use Rattle.fx_net.proofs.StoresTakeIn.{taken_in_by}
 use Rattle.fx_net.proofs.contents.Contents.meet.Goals as goal
 
 pub returns-clause-ok : goal.returns-clause-ok

@@ -1,6 +1,6 @@
 use Rattle.std.proofs.Common.{◌∙◌}
 use Rattle.std.proofs.lemmas.Result.{on_ok_weaker}
-use Rattle.fx_net.proofs.Takings.{taken_in_by}
+use Rattle.fx_net.proofs.StoresTakeIn.{taken_in_by}
 use Rattle.fx_net.proofs.contents.Contents.take_in.Goals as goal
 
 pub returns-clause-ok : goal.returns-clause-ok

@@ -1,7 +1,7 @@
 use Rattle.std.proofs.Common.{sym, subst}
 use Rattle.fx_net.specs.declared.action.Action.{Action}
 use Rattle.fx_net.specs.Running.{Acts}
-use Rattle.fx_net.proofs.Acting.{both_ok, acts_next, acts_of, acts_expire, acts_emit, acts_use}
+use Rattle.fx_net.proofs.LinesAreDone.{both_ok, acts_next, acts_of, acts_expire, acts_emit, acts_use}
 use Rattle.fx_net.proofs.network.Network.act.Goals as goal
 
 pub returns-in-Next-clause-ok : goal.returns-in-Next-clause-ok

@@ -2,7 +2,7 @@ use Rattle.std.proofs.Common.{◌⊎◌, inr, ◌∙◌, ap}
 use Rattle.fx_base.specs.declared.fault.Fault.{Fault}
 use Rattle.fx_net.specs.Running.{Running, FailsOutside, RefusesRun, not_read}
 use Rattle.fx_net.proofs.Exits.{exit_with}
-use Rattle.fx_net.proofs.Readings.{at_line_of, obeys_lent, line_fault}
+use Rattle.fx_net.proofs.FramesRead.{at_line_of, obeys_lent, line_fault}
 use Rattle.fx_net.proofs.network.Network.obey_all.Goals as goal
 
 pub returns-in_err-advance-clause-err : goal.returns-in_err-advance-clause-err

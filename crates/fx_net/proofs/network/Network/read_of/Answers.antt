@@ -4,7 +4,7 @@ use Rattle.fx_tables.specs.Classes.{Class}
 use Rattle.fx_pcap.specs.Captures.{seen_of}
 use Rattle.fx_plan.specs.Tables.{net_of}
 use Rattle.fx_net.specs.Running.{Running, is_in}
-use Rattle.fx_net.proofs.Acting.{reads_given}
+use Rattle.fx_net.proofs.LinesAreDone.{reads_given}
 use Rattle.fx_net.proofs.Frames.{at_frame_of}
 use Rattle.fx_net.proofs.network.Network.read_of.Goals as goal
 

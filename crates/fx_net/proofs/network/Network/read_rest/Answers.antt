@@ -4,7 +4,7 @@ use Rattle.fx_net.specs.declared.stop.Stop.{Stop}
 use Rattle.fx_net.specs.Running.{Running, FailsOutside, RefusesClose, capture_cut, fault_of}
 use Rattle.fx_net.proofs.Exits.{told_exit, exit_with, close_refused}
 use Rattle.fx_net.proofs.Frames.{at_frame_of}
-use Rattle.fx_net.proofs.Readings.{reads_more, goes_more}
+use Rattle.fx_net.proofs.FramesRead.{reads_more, goes_more}
 use Rattle.fx_net.proofs.network.Network.read_rest.Goals as goal
 
 pub returns-in_err-advance-clause-err : goal.returns-in_err-advance-clause-err

@@ -2,7 +2,7 @@ use Rattle.std.proofs.Common.{sym, subst}
 use Rattle.fx_tables.specs.Network.{Net}
 use Rattle.fx_net.specs.Doings.{EmptiesNetwork}
 use Rattle.fx_net.specs.Running.{Running, ReadsRest}
-use Rattle.fx_net.proofs.Readings.{closes_by}
+use Rattle.fx_net.proofs.FramesRead.{closes_by}
 use Rattle.fx_net.proofs.network.Network.try_close.Goals as goal
 
 pub returns-clause-ok : goal.returns-clause-ok

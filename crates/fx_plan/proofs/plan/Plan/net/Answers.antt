@@ -1,4 +1,4 @@
-use Rattle.fx_ranks.proofs.Ranked.{network}
+use Rattle.fx_ranks.proofs.RankedNetworks.{network}
 use Rattle.fx_plan.proofs.plan.Plan.net.Goals as goal
 
 pub returns-clause-network : goal.returns-clause-network

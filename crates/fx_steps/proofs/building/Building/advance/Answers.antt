@@ -5,7 +5,7 @@ use Rattle.fx_tables.specs.Network.{Net}
 use Rattle.fx_steps.specs.declared.pending.Pending.{Pending}
 use Rattle.fx_steps.specs.Planning.{planned_of, total_cost, IsThere}
 use Rattle.fx_steps.specs.Waiting.{Wait, HasPlace}
-use Rattle.fx_steps.proofs.Behind.{top, places_of, planned_places, few_pending}
+use Rattle.fx_steps.proofs.RecordsBehind.{top, places_of, planned_places, few_pending}
 use Rattle.fx_steps.proofs.building.Building.advance.Goals as goal
 
 pub count_behind-requires-clause-there : goal.count_behind-requires-clause-there

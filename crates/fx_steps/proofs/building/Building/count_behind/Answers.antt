@@ -3,7 +3,7 @@ use Rattle.std.proofs.lemmas.List.{take-append-drop}
 use Rattle.std.specs.List.{AllByRecursion}
 use Rattle.fx_steps.specs.declared.pending.Pending.{Pending}
 use Rattle.fx_steps.specs.Waiting.{Wait, HasPlace, holders_with, links_with}
-use Rattle.fx_steps.proofs.Behind.{rest_is, sizes, few_wait, wait_behind}
+use Rattle.fx_steps.proofs.RecordsBehind.{rest_is, sizes, few_wait, wait_behind}
 use Rattle.fx_steps.proofs.building.Building.count_behind.Goals as goal
 
 pub add_all-requires-clause-there : goal.add_all-requires-clause-there

@@ -6,9 +6,9 @@ use Rattle.fx_tables.specs.declared.observation.Occurrence.{Occurrence}
 use Rattle.fx_steps.specs.declared.pending.Pending.{Pending}
 use Rattle.fx_steps.specs.Planning.{meets, IsThere}
 use Rattle.fx_steps.specs.Waiting.{HasPlace}
-use Rattle.fx_steps.proofs.Behind.{places_of, few_pending, every_along}
-use Rattle.fx_steps.proofs.Planned.{meets_meet}
-use Rattle.fx_steps.proofs.Standing.{meets_there, all_of_every}
+use Rattle.fx_steps.proofs.RecordsBehind.{places_of, few_pending, every_along}
+use Rattle.fx_steps.proofs.PlansMeetFates.{meets_meet}
+use Rattle.fx_steps.proofs.PlannedPlaces.{meets_there, all_of_every}
 use Rattle.fx_steps.proofs.building.Building.cross.Goals as goal
 
 pub count_behind-requires-clause-there : goal.count_behind-requires-clause-there

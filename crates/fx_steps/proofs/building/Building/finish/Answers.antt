@@ -2,8 +2,8 @@ use Rattle.std.proofs.Common.{◌∷◌, [], List, length, length-append, sym, s
 use Rattle.fx_steps.specs.declared.pending.Pending.{Pending}
 use Rattle.fx_steps.specs.Planning.{total_cost}
 use Rattle.fx_steps.specs.UnderWay.{CanLeave, UnderWay}
-use Rattle.fx_steps.proofs.Advancing.{goes_on}
-use Rattle.fx_steps.proofs.Behind.{top}
+use Rattle.fx_steps.proofs.RunGoesOn.{goes_on}
+use Rattle.fx_steps.proofs.RecordsBehind.{top}
 use Rattle.fx_steps.proofs.building.Building.finish.Goals as goal
 
 pub loop-top-smaller : goal.loop-top-smaller

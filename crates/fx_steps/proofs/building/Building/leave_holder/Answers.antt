@@ -5,8 +5,8 @@ use Rattle.fx_run_text.specs.declared.step.Step.TheVariants.{Expire}
 use Rattle.fx_steps.specs.declared.pending.Pending.TheVariants.{AtHolder}
 use Rattle.fx_steps.specs.Planning.{chosen_of}
 use Rattle.fx_steps.specs.Waiting.{Wait, nobody, holders_with}
-use Rattle.fx_steps.proofs.Behind.{always, sizes, holder_on_top, holder_within}
-use Rattle.fx_steps.proofs.Naming.{inside}
+use Rattle.fx_steps.proofs.RecordsBehind.{always, sizes, holder_on_top, holder_within}
+use Rattle.fx_steps.proofs.HolderNames.{inside}
 use Rattle.fx_steps.proofs.Places.{there}
 use Rattle.fx_steps.proofs.building.Building.leave_holder.Goals as goal
 

@@ -4,7 +4,7 @@ use Rattle.fx_run_text.specs.declared.step.Step.TheVariants.{Arrive}
 use Rattle.fx_steps.specs.declared.pending.Pending.TheVariants.{OnLink}
 use Rattle.fx_steps.specs.Planning.{chosen_of}
 use Rattle.fx_steps.specs.Waiting.{Wait, nobody, links_with}
-use Rattle.fx_steps.proofs.Behind.{always, sizes, link_on_top, link_within}
+use Rattle.fx_steps.proofs.RecordsBehind.{always, sizes, link_on_top, link_within}
 use Rattle.fx_steps.proofs.Places.{there}
 use Rattle.fx_steps.proofs.building.Building.leave_link.Goals as goal
 

@@ -1,6 +1,6 @@
 use Rattle.std.proofs.Common.{◌∙◌, ap, ◌∷◌, [], get_or, length, arith}
 use Rattle.fx_steps.specs.Waiting.{total}
-use Rattle.fx_steps.proofs.Counting.{next_holder, next_link, holders_length, links_length, holders_total, links_total}
+use Rattle.fx_steps.proofs.WaitingCounts.{next_holder, next_link, holders_length, links_length, holders_total, links_total}
 use Rattle.fx_steps.proofs.waiting.Waiting.add_all.Goals as goal
 
 pub loop-one-preserved : goal.loop-one-preserved

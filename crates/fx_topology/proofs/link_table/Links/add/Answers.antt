@@ -3,7 +3,7 @@ use Rattle.std.proofs.lemmas.Bool.{cond-true, cond-false, not-true, not-false}
 use Rattle.fx_topology.specs.declared.link.Link.{Link}
 use Rattle.fx_topology.specs.Links.{starts_there}
 use Rattle.fx_topology.specs.Starts.{AreStarts}
-use Rattle.fx_topology.proofs.Starting.{any_starts, start_inserted, starts_more}
+use Rattle.fx_topology.proofs.StartsFindLinks.{any_starts, start_inserted, starts_more}
 use Rattle.fx_topology.proofs.link_table.Links.add.Goals as goal
 
 pub returns-then-not-branch-clause-answer : goal.returns-then-not-branch-clause-answer

@@ -1,6 +1,6 @@
 use Rattle.std.proofs.Common.{◌∙◌, subst}
 use Rattle.fx_topology.specs.Starts.{AreStarts}
-use Rattle.fx_topology.proofs.Starting.{place_of_start}
+use Rattle.fx_topology.proofs.StartsFindLinks.{place_of_start}
 use Rattle.fx_topology.proofs.link_table.Links.place_of.Goals as goal
 
 pub returns : goal.returns
