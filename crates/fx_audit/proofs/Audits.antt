@@ -4,7 +4,7 @@ use Rattle.fx_base.specs.declared.fault.Fault.{Fault}
 use Rattle.fx_base.specs.Device.{MayHaveLeft}
 use Rattle.fx_base.specs.Lines.{text_lines}
 use Rattle.fx_tables.specs.Classes.{Class}
-use Rattle.fx_topology.specs.declared.network.Network.{Network}
+use Rattle.fx_topology.specs.declared.network.NetworkDocument.{NetworkDocument}
 use Rattle.fx_plan.specs.Tables.{net_of}
 use Rattle.fx_check.specs.Certificates.{IsCertificate}
 use Rattle.fx_search.specs.Found.{IsRight, Settles}
@@ -19,7 +19,7 @@ use Rattle.fx_audit.specs.Audits.{IsAuditedIn, IsFoundText, unknown_line}
 use Rattle.fx_audit.specs.Documents.{IsRefusedByDocuments}
 use Rattle.fx_audit.specs.Texts.{IsAuditText}
 
-pub found_answered : (network : Network) (classes : List Class) (limit : ℕ) (f : Found) (W : List ℕ → Type 0) (result : Result Answer Fault) → IsRight (net_of network) classes limit f → Settles (net_of network) classes f → IfOk result (λ a. (text : List ℕ) × IsFoundText f a text × W text) → IfOk result (λ a. (text : List ℕ) × IsAuditedIn network classes limit a text × W text)
+pub found_answered : (network : NetworkDocument) (classes : List Class) (limit : ℕ) (f : Found) (W : List ℕ → Type 0) (result : Result Answer Fault) → IsRight (net_of network) classes limit f → Settles (net_of network) classes f → IfOk result (λ a. (text : List ℕ) × IsFoundText f a text × W text) → IfOk result (λ a. (text : List ℕ) × IsAuditedIn network classes limit a text × W text)
 found_answered network classes limit f W (Err e) right settles h = tt
 found_answered network classes limit (found.Certificate items) W (Ok a) right settles h =
     let text = h.0 in
@@ -31,7 +31,7 @@ found_answered network classes limit (found.Refutation r) W (Ok a) right settles
     let said = h.1 in
     (text, subst (λ (x : Answer). IsAuditedIn network classes limit x text) (sym said.0) (record { not_once = settles; refutation = r; refutes = right; text_is = said.1 }), h.2)
 
-pub none_answered : (network : Network) (classes : List Class) (limit : ℕ) (fault : Fault) (W : List ℕ → Type 0) (result : Result Answer Fault) → IsGivenUp (net_of network) (targets_of classes) (most_lines limit) fault → IfOk result (λ a. (a ≡ Unknown) × (fault.number ≡ 601) × W unknown_line) → IfOk result (λ a. (text : List ℕ) × IsAuditedIn network classes limit a text × W text)
+pub none_answered : (network : NetworkDocument) (classes : List Class) (limit : ℕ) (fault : Fault) (W : List ℕ → Type 0) (result : Result Answer Fault) → IsGivenUp (net_of network) (targets_of classes) (most_lines limit) fault → IfOk result (λ a. (a ≡ Unknown) × (fault.number ≡ 601) × W unknown_line) → IfOk result (λ a. (text : List ℕ) × IsAuditedIn network classes limit a text × W text)
 none_answered network classes limit fault W (Err e) why h = tt
 none_answered network classes limit fault W (Ok a) (inl memory) h = absurd (let n = ap (λ (x : Fault). x.number) memory in let m = h.1 in omega (arith, n, m))
 none_answered network classes limit fault W (Ok a) (inr none) h =
@@ -47,11 +47,11 @@ audit_unread left_n left_t e M N T W h =
       | inr (inr (inr f)) ↦ inr (inr (inr (inr f)))
     ]
 
-pub audit_text : (network : Network) (classes : List Class) (limit : ℕ) (a : Answer) (text : List ℕ) → IsAuditedIn network classes limit a text → IsAuditText a text
+pub audit_text : (network : NetworkDocument) (classes : List Class) (limit : ℕ) (a : Answer) (text : List ℕ) → IsAuditedIn network classes limit a text → IsAuditText a text
 audit_text network classes limit Yes text h = (h.items, h.text_is)
 audit_text network classes limit No text h = (h.refutation, h.text_is)
 audit_text network classes limit Unknown text h = h.text_is
 
-pub audit_told : (network : Network) (classes : List Class) (limit : ℕ) (W : List ℕ → Type 0) (result : Result Answer Fault) → IfOk result (λ a. (text : List ℕ) × IsAuditedIn network classes limit a text × W text) → IfOk result (λ a. (text : List ℕ) × IsAuditText a text × W text)
+pub audit_told : (network : NetworkDocument) (classes : List Class) (limit : ℕ) (W : List ℕ → Type 0) (result : Result Answer Fault) → IfOk result (λ a. (text : List ℕ) × IsAuditedIn network classes limit a text × W text) → IfOk result (λ a. (text : List ℕ) × IsAuditText a text × W text)
 audit_told network classes limit W (Err e) h = tt
 audit_told network classes limit W (Ok a) h = (h.0, audit_text network classes limit a h.0 h.1, h.2)

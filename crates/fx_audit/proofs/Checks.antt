@@ -9,9 +9,9 @@ use Rattle.fx_check.specs.Judging.{judge_of}
 use Rattle.fx_check.specs.Outcomes.{IsRefusal, IsCheckFault, IsToldBy, MayBeRefused}
 use Rattle.fx_check.specs.Outcomes as of_check
 use Rattle.fx_traffic.specs.Targets.{targets_of}
-use Rattle.fx_check.specs.Verdict.{Refusal, first_refusal, whole}
+use Rattle.fx_check.specs.FirstRefusal.{Refusal, first_refusal, whole}
 use Rattle.fx_tables.specs.Classes.{Class}
-use Rattle.fx_topology.specs.declared.network.Network.{Network}
+use Rattle.fx_topology.specs.declared.network.NetworkDocument.{NetworkDocument}
 use Rattle.fx_plan.specs.Tables.{net_of}
 use Rattle.fx_audit.specs.declared.answer.Answer.{Answer}
 use Rattle.fx_audit.specs.declared.answer.Answer.TheVariants.{No}
@@ -22,7 +22,7 @@ use Rattle.fx_audit.proofs.Documents.{both_mapped, both_told}
 
 -- ---- two documents and a certificate
 
-pub check_done : (left_n left_t : Option (List ℕ)) (network : Network) (classes : List Class) (lines : Lines) (W : List ℕ → Type 0) (result : Result Answer Fault) → MayHaveLeft left_n (λ n. IsNetworkDocument n network) → MayHaveLeft left_t (λ t. IsTraffic network t classes)
+pub check_done : (left_n left_t : Option (List ℕ)) (network : NetworkDocument) (classes : List Class) (lines : Lines) (W : List ℕ → Type 0) (result : Result Answer Fault) → MayHaveLeft left_n (λ n. IsNetworkDocument n network) → MayHaveLeft left_t (λ t. IsTraffic network t classes)
     → IfOk result (λ a. (text : List ℕ) × IsAnswered network classes lines a text × W text) → IfOk result (λ a. MayHaveLeft left_n (λ n. MayHaveLeft left_t (λ t. (text : List ℕ) × IsChecked n t lines a text × W text)))
 check_done left_n left_t network classes lines W (Err e) n t h = cc
 check_done left_n left_t network classes lines W (Ok a) n t h =
@@ -31,7 +31,7 @@ check_done left_n left_t network classes lines W (Ok a) n t h =
     let written : W text = h.2 in
     both_told left_n left_t (λ o. IsNetworkDocument o network) (λ o. IsTraffic network o classes) (λ x y. (text' : List ℕ) × IsChecked x y lines a text' × W text') n t (λ x y p q. (text, record { network = network; classes = classes; network_is = p; traffic_is = q; answered = answered }, written))
 
-pub check_refused : (left_n left_t : Option (List ℕ)) (network : Network) (classes : List Class) (lines : Lines) (N T F W : Fault → Type 0) (result : Result Answer Fault) → MayHaveLeft left_n (λ n. IsNetworkDocument n network) → MayHaveLeft left_t (λ t. IsTraffic network t classes)
+pub check_refused : (left_n left_t : Option (List ℕ)) (network : NetworkDocument) (classes : List Class) (lines : Lines) (N T F W : Fault → Type 0) (result : Result Answer Fault) → MayHaveLeft left_n (λ n. IsNetworkDocument n network) → MayHaveLeft left_t (λ t. IsTraffic network t classes)
     → IfErr result (λ e. (e ≡ fault_at 900 places.None) ⊎ (F e ⊎ (W e ⊎ IsRefusedCertificate network classes lines e)))
     → IfErr result (λ e. (e ≡ fault_at 900 places.None) ⊎ (N e ⊎ (T e ⊎ (F e ⊎ (W e ⊎ MayHaveLeft left_n (λ n. MayHaveLeft left_t (λ t. IsRefusedCheck n t lines e)))))))
 check_refused left_n left_t network classes lines N T F W (Ok a) n t h = cc
@@ -81,7 +81,7 @@ from_write lines e is = inr (subst IsNoAnswer (sym is) write_failed)
 -- ---- the answer to a refusal
 
 -- why a certificate is refused
-abbrev IsRefusedWhy : Network → List Class → Lines → Lines → Fault → Type 0
+abbrev IsRefusedWhy : NetworkDocument → List Class → Lines → Lines → Fault → Type 0
 IsRefusedWhy network classes old new fault =
     ((fault ≡ fault_at 900 places.None) × (new ≡ old)) ⊎ (Fails old new fault ⊎ MayBeRefused (net_of network) (targets_of classes) old new fault)
 
@@ -93,16 +93,16 @@ is_fault_of : (first : Option Refusal) (new : Lines) (fault : Fault) → IsRefus
 is_fault_of None new fault h = absurd h
 is_fault_of (Some r) new fault h = h.0
 
-refused_text : (network : Network) (classes : List Class) (old new : Lines) (fault : Fault) → MayBeRefused (net_of network) (targets_of classes) old new fault → IsRefusedText network classes old fault
+refused_text : (network : NetworkDocument) (classes : List Class) (old new : Lines) (fault : Fault) → MayBeRefused (net_of network) (targets_of classes) old new fault → IsRefusedText network classes old fault
 refused_text network classes old new fault (text, left, h) = (text, left, is_fault_of (first_refusal (judge_of (net_of network)) old.number 0 (whole (targets_of classes)) (text_lines text)) new fault h)
 
-refused_by : (network : Network) (classes : List Class) (old new : Lines) (fault : Fault) → IsRefusedWhy network classes old new fault → MeansNo fault.number → (old.stopped ≡ Some fault) ⊎ IsRefusedText network classes old fault
+refused_by : (network : NetworkDocument) (classes : List Class) (old new : Lines) (fault : Fault) → IsRefusedWhy network classes old new fault → MeansNo fault.number → (old.stopped ≡ Some fault) ⊎ IsRefusedText network classes old fault
 refused_by network classes old new fault (inl m) means = absurd (omega (arith, ap (λ (f : Fault). f.number) m.0, means.1))
 refused_by network classes old new fault (inr (inl (inl stopped))) means = inl stopped
 refused_by network classes old new fault (inr (inl (inr d))) means = absurd (omega (arith, ap (λ (f : Fault). f.number) d.0, means.1))
 refused_by network classes old new fault (inr (inr r)) means = inr (refused_text network classes old new fault r)
 
-pub answered_no : (network : Network) (classes : List Class) (old new : Lines) (fault : Fault) (W : List ℕ → Type 0) (result : Result Answer Fault) → IsRefusedWhy network classes old new fault → IsToldBy old fault
+pub answered_no : (network : NetworkDocument) (classes : List Class) (old new : Lines) (fault : Fault) (W : List ℕ → Type 0) (result : Result Answer Fault) → IsRefusedWhy network classes old new fault → IsToldBy old fault
     → IfOk result (λ a. (a ≡ No) × MeansNo fault.number × W (no_line fault)) → IfOk result (λ a. (text : List ℕ) × IsAnswered network classes old a text × W text)
 answered_no network classes old new fault W (Err e) why told h = tt
 answered_no network classes old new fault W (Ok a) why told h =
@@ -115,7 +115,7 @@ answered_no network classes old new fault W (Ok a) why told h =
     } in
     (no_line fault, subst (λ (x : Answer). IsAnswered network classes old x (no_line fault)) (sym h.0) answer, h.2)
 
-pub refused_otherwise : (network : Network) (classes : List Class) (old new : Lines) (fault : Fault) (W : Type 0) (result : Result Answer Fault) → IsRefusedWhy network classes old new fault → IfErr result (IsPassedOn fault W)
+pub refused_otherwise : (network : NetworkDocument) (classes : List Class) (old new : Lines) (fault : Fault) (W : Type 0) (result : Result Answer Fault) → IsRefusedWhy network classes old new fault → IfErr result (IsPassedOn fault W)
     → IfErr result (λ e. (e ≡ fault_at 900 places.None) ⊎ (Fails old new e ⊎ (((e ≡ fault_at 902 places.None) × W) ⊎ IsRefusedCertificate network classes old e)))
 refused_otherwise network classes old new fault W (Ok a) why h = tt
 refused_otherwise network classes old new fault W (Err e) why (inr w) = inr (inr (inl w))

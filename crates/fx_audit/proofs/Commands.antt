@@ -6,12 +6,12 @@ use Rattle.fx_base.specs.declared.fault.Place.TheVariants as places
 use Rattle.fx_base.specs.Fault.{fault_at}
 use Rattle.fx_base.specs.Device.{MayBeLeft, MayHaveLeft}
 use Rattle.fx_base.specs.Lines.{Lines, lines_in, new_lines, Fails}
-use Rattle.fx_check.specs.Verdict.{line_limit}
+use Rattle.fx_check.specs.FirstRefusal.{line_limit}
 use Rattle.fx_tables.specs.Network.{Net}
 use Rattle.fx_tables.specs.Classes.{Class}
 use Rattle.fx_run_text.specs.RunText.{Run}
-use Rattle.fx_run_text.specs.RunReading.{MayRead}
-use Rattle.fx_topology.specs.declared.network.Network.{Network}
+use Rattle.fx_run_text.specs.RunReading.{MayReadRun}
+use Rattle.fx_topology.specs.declared.network.NetworkDocument.{NetworkDocument}
 use Rattle.fx_plan.specs.Tables.{net_of}
 use Rattle.fx_audit.specs.declared.answer.Answer.{Answer}
 use Rattle.fx_audit.specs.declared.answer.Answer.TheVariants.{Yes}
@@ -25,10 +25,10 @@ use Rattle.fx_audit.proofs.Documents.{both_mapped, both_told, told}
 
 -- ---- a run in a network and traffic
 
-pub lines_refused : (network : Network) (classes known : List Class) (lines : Lines) (r : Run) (net : Net) (F W : Fault → Type 0) (result : Result Answer Fault) → net ≡ net_of network → known ≡ classes → MayRead known lines (Ok r) → IfErr result (λ e. IsRefused net known r e ⊎ ((e ≡ fault_at 900 places.None) ⊎ W e)) → IfErr result (λ e. (e ≡ fault_at 900 places.None) ⊎ (F e ⊎ (W e ⊎ IsRefusedRun network classes lines e)))
+pub lines_refused : (network : NetworkDocument) (classes known : List Class) (lines : Lines) (r : Run) (net : Net) (F W : Fault → Type 0) (result : Result Answer Fault) → net ≡ net_of network → known ≡ classes → MayReadRun known lines (Ok r) → IfErr result (λ e. IsRefused net known r e ⊎ ((e ≡ fault_at 900 places.None) ⊎ W e)) → IfErr result (λ e. (e ≡ fault_at 900 places.None) ⊎ (F e ⊎ (W e ⊎ IsRefusedRun network classes lines e)))
 lines_refused network classes known lines r net F W (Ok a) same of read h = cc
 lines_refused network classes known lines r net F W (Err e) same of read h =
-    let mine : MayRead classes lines (Ok r) = subst (λ (cs : List Class). MayRead cs lines (Ok r)) of read in
+    let mine : MayReadRun classes lines (Ok r) = subst (λ (cs : List Class). MayReadRun cs lines (Ok r)) of read in
     elim h [
       | inl refused ↦ inr (inr (inr (inr (r, mine, subst (λ (cs : List Class). IsRefused (net_of network) cs r e) of (subst (λ (n : Net). IsRefused n known r e) same refused)))))
       | inr (inl m) ↦ inl m
@@ -37,7 +37,7 @@ lines_refused network classes known lines r net F W (Err e) same of read h =
 
 -- ---- two documents and a run
 
-pub replay_done : (left_n left_t : Option (List ℕ)) (network : Network) (classes : List Class) (lines : Lines) (W : List ℕ → Type 0) (result : Result Answer Fault) → MayHaveLeft left_n (λ n. IsNetworkDocument n network) → MayHaveLeft left_t (λ t. IsTraffic network t classes) → IfOk result (λ a. (a ≡ Yes) × ((text : List ℕ) × IsReplayedIn network classes lines text × W text)) → IfOk result (λ a. (a ≡ Yes) × MayHaveLeft left_n (λ n. MayHaveLeft left_t (λ t. (text : List ℕ) × IsReplayed n t lines text × W text)))
+pub replay_done : (left_n left_t : Option (List ℕ)) (network : NetworkDocument) (classes : List Class) (lines : Lines) (W : List ℕ → Type 0) (result : Result Answer Fault) → MayHaveLeft left_n (λ n. IsNetworkDocument n network) → MayHaveLeft left_t (λ t. IsTraffic network t classes) → IfOk result (λ a. (a ≡ Yes) × ((text : List ℕ) × IsReplayedIn network classes lines text × W text)) → IfOk result (λ a. (a ≡ Yes) × MayHaveLeft left_n (λ n. MayHaveLeft left_t (λ t. (text : List ℕ) × IsReplayed n t lines text × W text)))
 replay_done left_n left_t network classes lines W (Err e) n t h = cc
 replay_done left_n left_t network classes lines W (Ok a) n t h =
     let text = h.1.0 in
@@ -45,11 +45,11 @@ replay_done left_n left_t network classes lines W (Ok a) n t h =
     let written : W text = h.1.2 in
     (h.0, both_told left_n left_t (λ o. IsNetworkDocument o network) (λ o. IsTraffic network o classes) (λ x y. (text' : List ℕ) × IsReplayed x y lines text' × W text') n t (λ x y p q. (text, record { network = network; classes = classes; network_is = p; traffic_is = q; replayed = replayed }, written)))
 
-run_refused : (left_n left_t : Option (List ℕ)) (network : Network) (classes : List Class) (lines : Lines) (e : Fault) → MayHaveLeft left_n (λ n. IsNetworkDocument n network) → MayHaveLeft left_t (λ t. IsTraffic network t classes) → IsRefusedRun network classes lines e → MayHaveLeft left_n (λ n. MayHaveLeft left_t (λ t. IsRefusedReplay n t lines e))
+run_refused : (left_n left_t : Option (List ℕ)) (network : NetworkDocument) (classes : List Class) (lines : Lines) (e : Fault) → MayHaveLeft left_n (λ n. IsNetworkDocument n network) → MayHaveLeft left_t (λ t. IsTraffic network t classes) → IsRefusedRun network classes lines e → MayHaveLeft left_n (λ n. MayHaveLeft left_t (λ t. IsRefusedReplay n t lines e))
 run_refused left_n left_t network classes lines e n t h =
     both_told left_n left_t (λ o. IsNetworkDocument o network) (λ o. IsTraffic network o classes) (λ x y. IsRefusedReplay x y lines e) n t (λ x y p q. inr (network, classes, p, q, h))
 
-pub replay_refused : (left_n left_t : Option (List ℕ)) (network : Network) (classes : List Class) (lines : Lines) (N T F W : Fault → Type 0) (result : Result Answer Fault) → MayHaveLeft left_n (λ n. IsNetworkDocument n network) → MayHaveLeft left_t (λ t. IsTraffic network t classes) → IfErr result (λ e. (e ≡ fault_at 900 places.None) ⊎ (F e ⊎ (W e ⊎ IsRefusedRun network classes lines e))) → IfErr result (λ e. (e ≡ fault_at 900 places.None) ⊎ (N e ⊎ (T e ⊎ (F e ⊎ (W e ⊎ MayHaveLeft left_n (λ n. MayHaveLeft left_t (λ t. IsRefusedReplay n t lines e)))))))
+pub replay_refused : (left_n left_t : Option (List ℕ)) (network : NetworkDocument) (classes : List Class) (lines : Lines) (N T F W : Fault → Type 0) (result : Result Answer Fault) → MayHaveLeft left_n (λ n. IsNetworkDocument n network) → MayHaveLeft left_t (λ t. IsTraffic network t classes) → IfErr result (λ e. (e ≡ fault_at 900 places.None) ⊎ (F e ⊎ (W e ⊎ IsRefusedRun network classes lines e))) → IfErr result (λ e. (e ≡ fault_at 900 places.None) ⊎ (N e ⊎ (T e ⊎ (F e ⊎ (W e ⊎ MayHaveLeft left_n (λ n. MayHaveLeft left_t (λ t. IsRefusedReplay n t lines e)))))))
 replay_refused left_n left_t network classes lines N T F W (Ok a) n t h = cc
 replay_refused left_n left_t network classes lines N T F W (Err e) n t h =
     elim h [

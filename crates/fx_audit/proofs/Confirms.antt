@@ -7,7 +7,7 @@ use Rattle.fx_base.specs.Fault.{fault_at}
 use Rattle.fx_base.specs.Lines.{Lines, Fails}
 use Rattle.fx_collect.specs.Totals.{Totals}
 use Rattle.fx_tables.specs.Classes.{Class}
-use Rattle.fx_topology.specs.declared.network.Network.{Network}
+use Rattle.fx_topology.specs.declared.network.NetworkDocument.{NetworkDocument}
 use Rattle.fx_audit.specs.declared.answer.Answer.{Answer}
 use Rattle.fx_audit.specs.declared.answer.Answer.TheVariants.{Yes, No, Unknown}
 use Rattle.fx_audit.specs.Checks.{no_line}
@@ -19,7 +19,7 @@ use Rattle.fx_audit.proofs.Documents.{both_mapped, both_told}
 
 -- ---- two documents and a refutation
 
-pub confirm_done : (left_n left_t : Option (List ℕ)) (network : Network) (classes : List Class) (lines : Lines) (W : List ℕ → Type 0) (result : Result Answer Fault) → MayHaveLeft left_n (λ n. IsNetworkDocument n network) → MayHaveLeft left_t (λ t. IsTraffic network t classes)
+pub confirm_done : (left_n left_t : Option (List ℕ)) (network : NetworkDocument) (classes : List Class) (lines : Lines) (W : List ℕ → Type 0) (result : Result Answer Fault) → MayHaveLeft left_n (λ n. IsNetworkDocument n network) → MayHaveLeft left_t (λ t. IsTraffic network t classes)
     → IfOk result (λ a. (text : List ℕ) × IsConfirmedIn network classes lines a text × W text) → IfOk result (λ a. MayHaveLeft left_n (λ n. MayHaveLeft left_t (λ t. (text : List ℕ) × IsConfirmed n t lines a text × W text)))
 confirm_done left_n left_t network classes lines W (Err e) n t h = tt
 confirm_done left_n left_t network classes lines W (Ok a) n t h =
@@ -28,7 +28,7 @@ confirm_done left_n left_t network classes lines W (Ok a) n t h =
     let written : W text = h.2 in
     both_told left_n left_t (λ o. IsNetworkDocument o network) (λ o. IsTraffic network o classes) (λ x y. (text' : List ℕ) × IsConfirmed x y lines a text' × W text') n t (λ x y p q. (text, record { network = network; classes = classes; network_is = p; traffic_is = q; answered = answered }, written))
 
-pub confirm_refused : (left_n left_t : Option (List ℕ)) (network : Network) (classes : List Class) (lines : Lines) (N T F W : Fault → Type 0) (result : Result Answer Fault) → MayHaveLeft left_n (λ n. IsNetworkDocument n network) → MayHaveLeft left_t (λ t. IsTraffic network t classes)
+pub confirm_refused : (left_n left_t : Option (List ℕ)) (network : NetworkDocument) (classes : List Class) (lines : Lines) (N T F W : Fault → Type 0) (result : Result Answer Fault) → MayHaveLeft left_n (λ n. IsNetworkDocument n network) → MayHaveLeft left_t (λ t. IsTraffic network t classes)
     → IfErr result (λ e. (e ≡ fault_at 900 places.None) ⊎ (F e ⊎ (W e ⊎ IsRefusedOtherwise network classes lines e)))
     → IfErr result (λ e. (e ≡ fault_at 900 places.None) ⊎ (N e ⊎ (T e ⊎ (F e ⊎ (W e ⊎ MayHaveLeft left_n (λ n. MayHaveLeft left_t (λ t. IsRefusedConfirm n t lines e)))))))
 confirm_refused left_n left_t network classes lines N T F W (Ok a) n t h = tt
@@ -52,13 +52,13 @@ confirm_unread left_n left_t lines e M N T F W h =
 
 -- ---- the answer
 
-pub answered_yes : {A E : Type 0} (result : Result A E) (network : Network) (classes : List Class) (lines : Lines) (ran plain : Totals) (W : List ℕ → Type 0) → IsRefuted network classes lines ran plain → W (refuted_text ran plain) → (text : List ℕ) × IsConfirmedIn network classes lines Yes text × W text
+pub answered_yes : {A E : Type 0} (result : Result A E) (network : NetworkDocument) (classes : List Class) (lines : Lines) (ran plain : Totals) (W : List ℕ → Type 0) → IsRefuted network classes lines ran plain → W (refuted_text ran plain) → (text : List ℕ) × IsConfirmedIn network classes lines Yes text × W text
 answered_yes result network classes lines ran plain W refuted written =
     let yes : IsYes network classes lines (refuted_text ran plain) = record { ran = ran; plain = plain; refuted = refuted; text_is = refl } in
     (refuted_text ran plain, yes, written)
 
 -- why a refutation is refused
-abbrev IsRefusedWhy : Network → List Class → Lines → Lines → Fault → Type 0
+abbrev IsRefusedWhy : NetworkDocument → List Class → Lines → Lines → Fault → Type 0
 IsRefusedWhy network classes old new fault =
     (fault ≡ fault_at 900 places.None) ⊎ (Fails old new fault ⊎ IsRefusedRefutation network classes old fault)
 
@@ -66,13 +66,13 @@ IsRefusedWhy network classes old new fault =
 abbrev IsPassedOn : Fault → Type 0 → Fault → Type 0
 IsPassedOn fault W e = ((e ≡ fault) × (RefutesNothing fault.number → ⊥)) ⊎ ((e ≡ fault_at 902 places.None) × W)
 
-refused_by : (network : Network) (classes : List Class) (old new : Lines) (fault : Fault) → IsRefusedWhy network classes old new fault → RefutesNothing fault.number → (old.stopped ≡ Some fault) ⊎ IsRefusedRefutation network classes old fault
+refused_by : (network : NetworkDocument) (classes : List Class) (old new : Lines) (fault : Fault) → IsRefusedWhy network classes old new fault → RefutesNothing fault.number → (old.stopped ≡ Some fault) ⊎ IsRefusedRefutation network classes old fault
 refused_by network classes old new fault (inl m) means = absurd (omega (arith, ap (λ (f : Fault). f.number) m, means.1))
 refused_by network classes old new fault (inr (inl (inl stopped))) means = inl stopped
 refused_by network classes old new fault (inr (inl (inr d))) means = absurd (omega (arith, ap (λ (f : Fault). f.number) d.0, means.1))
 refused_by network classes old new fault (inr (inr r)) means = inr r
 
-pub answered_no : (network : Network) (classes : List Class) (old new : Lines) (fault : Fault) (W : List ℕ → Type 0) (result : Result Answer Fault) → IsRefusedWhy network classes old new fault
+pub answered_no : (network : NetworkDocument) (classes : List Class) (old new : Lines) (fault : Fault) (W : List ℕ → Type 0) (result : Result Answer Fault) → IsRefusedWhy network classes old new fault
     → IfOk result (λ a. (a ≡ No) × RefutesNothing fault.number × W (no_line fault)) → IfOk result (λ a. (text : List ℕ) × IsConfirmedIn network classes old a text × W text)
 answered_no network classes old new fault W (Err e) why h = tt
 answered_no network classes old new fault W (Ok a) why h =
@@ -84,7 +84,7 @@ answered_no network classes old new fault W (Ok a) why h =
     } in
     (no_line fault, subst (λ (x : Answer). IsConfirmedIn network classes old x (no_line fault)) (sym h.0) answer, h.2)
 
-pub refused_otherwise : (network : Network) (classes : List Class) (old new : Lines) (fault : Fault) (W : Type 0) (result : Result Answer Fault) → IsRefusedWhy network classes old new fault → IfErr result (IsPassedOn fault W)
+pub refused_otherwise : (network : NetworkDocument) (classes : List Class) (old new : Lines) (fault : Fault) (W : Type 0) (result : Result Answer Fault) → IsRefusedWhy network classes old new fault → IfErr result (IsPassedOn fault W)
     → IfErr result (λ e. (e ≡ fault_at 900 places.None) ⊎ (Fails old new e ⊎ (((e ≡ fault_at 902 places.None) × W) ⊎ IsRefusedOtherwise network classes old e)))
 refused_otherwise network classes old new fault W (Ok a) why h = tt
 refused_otherwise network classes old new fault W (Err e) why (inr w) = inr (inr (inl w))
@@ -97,11 +97,11 @@ refused_otherwise network classes old new fault W (Err e) why (inl k) =
 
 -- ---- the text
 
-pub confirm_text : (network : Network) (classes : List Class) (lines : Lines) (answer : Answer) (text : List ℕ) → IsConfirmedIn network classes lines answer text → IsConfirmText answer text
+pub confirm_text : (network : NetworkDocument) (classes : List Class) (lines : Lines) (answer : Answer) (text : List ℕ) → IsConfirmedIn network classes lines answer text → IsConfirmText answer text
 confirm_text network classes lines Yes text h = (h.ran, h.plain, h.text_is)
 confirm_text network classes lines No text h = (h.fault, h.means_no, h.text_is)
 confirm_text network classes lines Unknown text h = absurd h
 
-pub confirm_told : (network : Network) (classes : List Class) (lines : Lines) (W : List ℕ → Type 0) (result : Result Answer Fault) → IfOk result (λ a. (text : List ℕ) × IsConfirmedIn network classes lines a text × W text) → IfOk result (λ a. (text : List ℕ) × IsConfirmText a text × W text)
+pub confirm_told : (network : NetworkDocument) (classes : List Class) (lines : Lines) (W : List ℕ → Type 0) (result : Result Answer Fault) → IfOk result (λ a. (text : List ℕ) × IsConfirmedIn network classes lines a text × W text) → IfOk result (λ a. (text : List ℕ) × IsConfirmText a text × W text)
 confirm_told network classes lines W (Err e) h = tt
 confirm_told network classes lines W (Ok a) h = (h.0, confirm_text network classes lines a h.0 h.1, h.2)

@@ -8,8 +8,8 @@ use Rattle.fx_base.specs.declared.fault.Place.TheVariants as places
 use Rattle.fx_base.specs.Device.{MayBeLeft, MayHaveLeft}
 use Rattle.fx_base.specs.Fault.{fault_at}
 use Rattle.fx_base.proofs.GoingOn.{something_left}
-use Rattle.fx_walk.specs.Walk.{Found, Reads, refuses}
-use Rattle.fx_topology.specs.declared.network.Network.{Network}
+use Rattle.fx_walk.specs.Walk.{FoundFault, Reads, refuses}
+use Rattle.fx_topology.specs.declared.network.NetworkDocument.{NetworkDocument}
 use Rattle.fx_topology.specs.Networks.{device_names, network_faults, network_of}
 use Rattle.fx_plan.specs.Plans.{ReadsPlan}
 use Rattle.fx_traffic.specs.Classes.{traffic_faults}
@@ -19,7 +19,7 @@ use Rattle.fx_audit.specs.Documents.{IsDocument, IsFirstFault, IsJson, IsNetwork
 pub told : (left : Option (List ℕ)) (octets : List ℕ) (P : List ℕ → Type 0) → MayBeLeft left octets → P octets → MayHaveLeft left P
 told left octets P h p = (octets, h, p)
 
-found_or_memory : (n : ℕ) (p : Place) (fs : List Found) → refuses n p fs → (fault_at n p ≡ fault_at 900 places.None) ⊎ is_found n p fs
+found_or_memory : (n : ℕ) (p : Place) (fs : List FoundFault) → refuses n p fs → (fault_at n p ≡ fault_at 900 places.None) ⊎ is_found n p fs
 found_or_memory n places.None fs h = inl (ap (λ (k : ℕ). fault_at k places.None) h)
 found_or_memory n (places.Text s) fs h = inr h
 found_or_memory n (places.Line l) fs h = absurd h
@@ -27,20 +27,20 @@ found_or_memory n (places.Octet o) fs h = absurd h
 
 -- a source whose octets are a document that is read, and one whose octets are refused, for the first fault or for
 -- want of memory
-pub source_read : {X : Type 0} (faults : Data → List Found) (meaning : Data → X) (left : Option (List ℕ)) (octets text : List ℕ) (d : Data) → MayBeLeft left octets → text ≡ octets → IsJson text d → (r : Result X Fault) → Reads (faults d) (meaning d) r → IfOk r (λ x. MayHaveLeft left (λ l. IsDocument faults meaning l x))
+pub source_read : {X : Type 0} (faults : Data → List FoundFault) (meaning : Data → X) (left : Option (List ℕ)) (octets text : List ℕ) (d : Data) → MayBeLeft left octets → text ≡ octets → IsJson text d → (r : Result X Fault) → Reads (faults d) (meaning d) r → IfOk r (λ x. MayHaveLeft left (λ l. IsDocument faults meaning l x))
 source_read faults meaning left octets text d same is json (Ok x) h = told left octets (λ l. IsDocument faults meaning l x) same (record { value = d; json = subst (λ (o : List ℕ). IsJson o d) is json; faultless = h.0; means = h.1 })
 source_read faults meaning left octets text d same is json (Err e) h = cc
 
-refused_first : (faults : Data → List Found) (left : Option (List ℕ)) (octets : List ℕ) (e : Fault) → MayBeLeft left octets → IsFirstFault faults octets e → MayHaveLeft left (λ l. IsFirstFault faults l e)
+refused_first : (faults : Data → List FoundFault) (left : Option (List ℕ)) (octets : List ℕ) (e : Fault) → MayBeLeft left octets → IsFirstFault faults octets e → MayHaveLeft left (λ l. IsFirstFault faults l e)
 refused_first faults left octets e same f = told left octets (λ l. IsFirstFault faults l e) same f
 
-pub source_refused : {X : Type 0} (faults : Data → List Found) (meaning : Data → X) (left : Option (List ℕ)) (octets text : List ℕ) (d : Data) (Q : Fault → Type 0) → MayBeLeft left octets → text ≡ octets → IsJson text d → (r : Result X Fault) → Reads (faults d) (meaning d) r → IfErr r (λ e. (e ≡ fault_at 900 places.None) ⊎ (Q e ⊎ MayHaveLeft left (λ l. IsFirstFault faults l e)))
+pub source_refused : {X : Type 0} (faults : Data → List FoundFault) (meaning : Data → X) (left : Option (List ℕ)) (octets text : List ℕ) (d : Data) (Q : Fault → Type 0) → MayBeLeft left octets → text ≡ octets → IsJson text d → (r : Result X Fault) → Reads (faults d) (meaning d) r → IfErr r (λ e. (e ≡ fault_at 900 places.None) ⊎ (Q e ⊎ MayHaveLeft left (λ l. IsFirstFault faults l e)))
 source_refused faults meaning left octets text d Q same is json (Ok x) h = cc
 source_refused faults meaning left octets text d Q same is json (Err e) h =
     elim (found_or_memory e.number e.place (faults d) h) [ inl m ↦ inl m | inr f ↦ inr (inr (refused_first faults left octets e same (inr (d, subst (λ (o : List ℕ). IsJson o d) is json, f)))) ]
 
 -- the same for the document of a network, which can be planned or is refused
-pub network_read : (left : Option (List ℕ)) (octets text : List ℕ) (d : Data) → MayBeLeft left octets → text ≡ octets → IsJson text d → (r : Result Network Fault) → ReadsPlan d r → IfOk r (λ x. MayHaveLeft left (λ l. IsNetworkDocument l x))
+pub network_read : (left : Option (List ℕ)) (octets text : List ℕ) (d : Data) → MayBeLeft left octets → text ≡ octets → IsJson text d → (r : Result NetworkDocument Fault) → ReadsPlan d r → IfOk r (λ x. MayHaveLeft left (λ l. IsNetworkDocument l x))
 network_read left octets text d same is json (Ok x) h =
     told left octets (λ l. IsNetworkDocument l x) same (record {
       document = record { value = d; json = subst (λ (o : List ℕ). IsJson o d) is json; faultless = h.0; means = h.1 };
@@ -48,7 +48,7 @@ network_read left octets text d same is json (Ok x) h =
     })
 network_read left octets text d same is json (Err e) h = cc
 
-pub network_refused : (left : Option (List ℕ)) (octets text : List ℕ) (d : Data) (Q : Fault → Type 0) → MayBeLeft left octets → text ≡ octets → IsJson text d → (r : Result Network Fault) → ReadsPlan d r → IfErr r (λ e. (e ≡ fault_at 900 places.None) ⊎ (Q e ⊎ MayHaveLeft left (λ l. IsRefusedNetwork l e)))
+pub network_refused : (left : Option (List ℕ)) (octets text : List ℕ) (d : Data) (Q : Fault → Type 0) → MayBeLeft left octets → text ≡ octets → IsJson text d → (r : Result NetworkDocument Fault) → ReadsPlan d r → IfErr r (λ e. (e ≡ fault_at 900 places.None) ⊎ (Q e ⊎ MayHaveLeft left (λ l. IsRefusedNetwork l e)))
 network_refused left octets text d Q same is json (Ok x) h = cc
 network_refused left octets text d Q same is json (Err e) h =
     let own : IsJson octets d = subst (λ (o : List ℕ). IsJson o d) is json in
@@ -61,7 +61,7 @@ network_refused left octets text d Q same is json (Err e) h =
     ]
 
 -- octets that are no JSON text
-pub no_json : (faults : Data → List Found) (left : Option (List ℕ)) (octets text : List ℕ) (e : Fault) (Q : Type 0) → MayBeLeft left octets → text ≡ octets → (e ≡ fault_at 900 places.None) ⊎ ((e ≡ fault_at 101 places.None) × ((d : Data) → IsJson text d → ⊥)) → (e ≡ fault_at 900 places.None) ⊎ (Q ⊎ MayHaveLeft left (λ l. IsFirstFault faults l e))
+pub no_json : (faults : Data → List FoundFault) (left : Option (List ℕ)) (octets text : List ℕ) (e : Fault) (Q : Type 0) → MayBeLeft left octets → text ≡ octets → (e ≡ fault_at 900 places.None) ⊎ ((e ≡ fault_at 101 places.None) × ((d : Data) → IsJson text d → ⊥)) → (e ≡ fault_at 900 places.None) ⊎ (Q ⊎ MayHaveLeft left (λ l. IsFirstFault faults l e))
 no_json faults left octets text e Q same is h =
     elim h [ inl m ↦ inl m | inr n ↦ inr (inr (refused_first faults left octets e same (inl (n.0, λ d j. n.1 d (subst (λ (o : List ℕ). IsJson o d) (sym is) j))))) ]
 
@@ -94,7 +94,7 @@ first_refused left_n left_t e M N T h =
       | inr (inr f) ↦ inr (inr (inr (first_told left_n left_t (λ n. IsRefusedNetwork n e) (λ n t. IsRefusedByDocuments n t e) (λ n t p. inl p) f)))
     ]
 
-pub traffic_refused : (left_n left_t : Option (List ℕ)) (network : Network) (e : Fault) (M N T : Type 0) → MayHaveLeft left_n (λ n. IsNetworkDocument n network) → M ⊎ (T ⊎ MayHaveLeft left_t (λ t. IsFirstFault (traffic_faults (device_names network) []) t e)) → M ⊎ (N ⊎ (T ⊎ MayHaveLeft left_n (λ n. MayHaveLeft left_t (λ t. IsRefusedByDocuments n t e))))
+pub traffic_refused : (left_n left_t : Option (List ℕ)) (network : NetworkDocument) (e : Fault) (M N T : Type 0) → MayHaveLeft left_n (λ n. IsNetworkDocument n network) → M ⊎ (T ⊎ MayHaveLeft left_t (λ t. IsFirstFault (traffic_faults (device_names network) []) t e)) → M ⊎ (N ⊎ (T ⊎ MayHaveLeft left_n (λ n. MayHaveLeft left_t (λ t. IsRefusedByDocuments n t e))))
 traffic_refused left_n left_t network e M N T is h =
     elim h [
       | inl m ↦ inl m

@@ -7,10 +7,10 @@ use Rattle.fx_base.specs.Fault.{fault_at}
 use Rattle.fx_base.specs.Lines.{Lines}
 use Rattle.fx_tables.specs.Classes.{Class}
 use Rattle.fx_link.specs.Links.{Put}
-use Rattle.fx_pcap.specs.Captures.{IsOpened, Reading}
+use Rattle.fx_pcap.specs.Captures.{IsOpened, CaptureState}
 use Rattle.fx_pcap.specs.Records.{format_of}
 use Rattle.fx_pcap.specs.declared.header.Format.{Format}
-use Rattle.fx_topology.specs.declared.network.Network.{Network}
+use Rattle.fx_topology.specs.declared.network.NetworkDocument.{NetworkDocument}
 use Rattle.fx_net.specs.Running.{FailsOutside, RefusesRun, begun}
 use Rattle.fx_topology.specs.Networks.{device_names}
 use Rattle.fx_plan.specs.Tables.{net_of}
@@ -30,7 +30,7 @@ one_format : (r : Result Format Fault) (format : Format) (e : Fault) → r ≡ O
 one_format r format e ok err = absurd cc
 
 -- has a file header, so what holds of one whose header is refused holds of it
-pub header_faultless : (left : Option (List ℕ)) (asked : ℕ) (at : Reading) (A : Type 0) → IsOpened left asked at → IfSome left (λ c. (e : Fault) → format_of c ≡ Err e → A)
+pub header_faultless : (left : Option (List ℕ)) (asked : ℕ) (at : CaptureState) (A : Type 0) → IsOpened left asked at → IfSome left (λ c. (e : Fault) → format_of c ≡ Err e → A)
 header_faultless None asked at A h = tt
 header_faultless (Some c) asked at A h = λ e refused.
     let behind : MayBeLeft at.left (drop 24 c) = subst (λ (o : Option (List ℕ)). MayBeLeft o (drop 24 c)) (sym h.rest) refl in
@@ -38,7 +38,7 @@ header_faultless (Some c) asked at A h = λ e refused.
     absurd (one_format (format_of c) at.format e (subst (λ (o : List ℕ). format_of o ≡ Ok at.format) there.1 there.2.0) refused)
 
 -- a run over it is refused
-pub refused_behind : (network : Network) (classes : List Class) (left : Option (List ℕ)) (asked : ℕ) (unread : Type 0) (at to : Reading) (from last : Lines) (before : Put) (failed : Bool) (e : Fault) → IsOpened left asked at
+pub refused_behind : (network : NetworkDocument) (classes : List Class) (left : Option (List ℕ)) (asked : ℕ) (unread : Type 0) (at to : CaptureState) (from last : Lines) (before : Put) (failed : Bool) (e : Fault) → IsOpened left asked at
     → FailsOutside failed e ⊎ RefusesRun (begun network classes) at to from last before e → FailsOutside failed e ⊎ IsRefusedIn network classes left asked unread from last before e
 refused_behind network classes left asked unread at to from last before failed e opened (inl outside) = inl outside
 refused_behind network classes left asked unread at to from last before failed e opened (inr refused) = inr (inr (at, to, opened, refused))
@@ -51,14 +51,14 @@ unmetered O W R (inr refused) = inr (inr refused)
 -- ---- two documents and a run
 
 -- it is a complete run of the abstract network
-run_complete : (network : Network) (classes : List Class) (left : Option (List ℕ)) (asked : ℕ) (from last : Lines) (before after : Put) (text traffic_octets : List ℕ)
+run_complete : (network : NetworkDocument) (classes : List Class) (left : Option (List ℕ)) (asked : ℕ) (from last : Lines) (before after : Put) (text traffic_octets : List ℕ)
     → IsSound (net_of network) → IsTraffic network traffic_octets classes → (metered : IsMeteredIn network classes left asked from last before after text)
     → IsRunOf (net_of network) classes metered.ran.at metered.ran.to from last before after metered.totals
 run_complete network classes left asked from last before after text traffic_octets sound traffic metered =
     let paths : HavePaths classes = subst HavePaths (sym traffic.means) (declarations_have_paths (device_names network) [] traffic.value traffic.faultless) in
     runs_are_complete network classes metered.ran.at metered.ran.to from last before after metered.totals sound paths metered.ran.runs
 
-pub run_done : (left_n left_t left : Option (List ℕ)) (asked : ℕ) (network : Network) (classes : List Class) (from last : Lines) (before after : Put) (W : List ℕ → Type 0) (result : Result Answer Fault)
+pub run_done : (left_n left_t left : Option (List ℕ)) (asked : ℕ) (network : NetworkDocument) (classes : List Class) (from last : Lines) (before after : Put) (W : List ℕ → Type 0) (result : Result Answer Fault)
     → IsSound (net_of network) → MayHaveLeft left_n (λ n. IsNetworkDocument n network) → MayHaveLeft left_t (λ t. IsTraffic network t classes)
     → IfOk result (λ a. (a ≡ Yes) × ((text : List ℕ) × IsMeteredIn network classes left asked from last before after text × W text))
     → IfOk result (λ a. (a ≡ Yes) × MayHaveLeft left_n (λ n. MayHaveLeft left_t (λ t. (text : List ℕ) × IsMetered n t left asked from last before after text × W text)))
@@ -70,7 +70,7 @@ run_done left_n left_t left asked network classes from last before after W (Ok a
     (h.0, both_told left_n left_t (λ o. IsNetworkDocument o network) (λ o. IsTraffic network o classes) (λ x y. (text' : List ℕ) × IsMetered x y left asked from last before after text' × W text') n t (λ x y p q. (text, record { network = network; classes = classes; network_is = p; traffic_is = q; metered = metered; complete = run_complete network classes left asked from last before after text y sound q metered }, written)))
 
 -- the run is refused, in the network and traffic that were read
-pub run_refused : (left_n left_t left : Option (List ℕ)) (asked : ℕ) (unread : Type 0) (network : Network) (classes : List Class) (from last : Lines) (before : Put) (M N T W : Fault → Type 0) (result : Result Answer Fault)
+pub run_refused : (left_n left_t left : Option (List ℕ)) (asked : ℕ) (unread : Type 0) (network : NetworkDocument) (classes : List Class) (from last : Lines) (before : Put) (M N T W : Fault → Type 0) (result : Result Answer Fault)
     → MayHaveLeft left_n (λ n. IsNetworkDocument n network) → MayHaveLeft left_t (λ t. IsTraffic network t classes)
     → IfErr result (λ e. M e ⊎ (W e ⊎ IsRefusedIn network classes left asked unread from last before e))
     → IfErr result (λ e. M e ⊎ (N e ⊎ (T e ⊎ (W e ⊎ MayHaveLeft left_n (λ n. MayHaveLeft left_t (λ t. IsRefusedMetering n t left asked unread from last before e))))))

@@ -4,7 +4,7 @@ use Rattle.fx_base.specs.Lines.{text_lines}
 use Rattle.fx_cert.specs.declared.item.Item.{Item}
 use Rattle.fx_machine.specs.Claim.{ExactlyOnce, OnceModulo}
 use Rattle.fx_tables.specs.Classes.{Class}
-use Rattle.fx_topology.specs.declared.network.Network.{Network}
+use Rattle.fx_topology.specs.declared.network.NetworkDocument.{NetworkDocument}
 use Rattle.fx_plan.specs.Tables.{net_of}
 use Rattle.fx_check.specs.Certificates.{IsCertificate}
 use Rattle.fx_run_text.specs.declared.text_version.TextVersion.TheVariants.{Two}
@@ -23,7 +23,7 @@ unknown_line = codes "unknown 601" ++ 10 ∷ []
 
 -- the text is a certificate's, of at most so many split and leaf lines: each packet is counted once, modulo 2 to the 64
 -- however large the sums are
-pub record IsCertified (network : Network) (classes : List Class) (limit : ℕ) (text : List ℕ) : Type 0 where
+pub record IsCertified (network : NetworkDocument) (classes : List Class) (limit : ℕ) (text : List ℕ) : Type 0 where
   pub once : ExactlyOnce (net_of network) classes
   pub modulo : OnceModulo (net_of network) classes
   pub certificate : IsCertificate (net_of network) classes (text_lines text)
@@ -32,19 +32,19 @@ pub record IsCertified (network : Network) (classes : List Class) (limit : ℕ) 
   pub text_is : text ≡ certificate_text items
 
 -- the text is that of a refutation: not every complete run counts each packet once
-pub record IsRefutedBy (network : Network) (classes : List Class) (text : List ℕ) : Type 0 where
+pub record IsRefutedBy (network : NetworkDocument) (classes : List Class) (text : List ℕ) : Type 0 where
   pub not_once : ExactlyOnce (net_of network) classes → ⊥
   pub refutation : Refutation
   pub refutes : Refutes (net_of network) classes refutation
   pub text_is : text ≡ refutation_text Two refutation
 
 -- a certificate within the limit and a refutation need too much
-pub record IsUnsettled (network : Network) (classes : List Class) (limit : ℕ) (text : List ℕ) : Type 0 where
+pub record IsUnsettled (network : NetworkDocument) (classes : List Class) (limit : ℕ) (text : List ℕ) : Type 0 where
   pub too_large : IsTooLarge (net_of network) (targets_of classes) (most_lines limit)
   pub text_is : text ≡ unknown_line
 
 -- the answer of an audit in this network and traffic, and the text that it prints
-abbrev pub IsAuditedIn : Network → List Class → ℕ → Answer → List ℕ → Type 0
+abbrev pub IsAuditedIn : NetworkDocument → List Class → ℕ → Answer → List ℕ → Type 0
 IsAuditedIn network classes limit Yes text = IsCertified network classes limit text
 IsAuditedIn network classes limit No text = IsRefutedBy network classes text
 IsAuditedIn network classes limit Unknown text = IsUnsettled network classes limit text

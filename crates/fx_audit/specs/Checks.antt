@@ -7,12 +7,12 @@ use Rattle.fx_base.specs.Fault.{fault_at, fault_text}
 use Rattle.fx_base.specs.Lines.{Lines, text_lines}
 use Rattle.fx_machine.specs.Claim.{ExactlyOnce, OnceModulo}
 use Rattle.fx_tables.specs.Classes.{Class}
-use Rattle.fx_topology.specs.declared.network.Network.{Network}
+use Rattle.fx_topology.specs.declared.network.NetworkDocument.{NetworkDocument}
 use Rattle.fx_plan.specs.Tables.{net_of}
 use Rattle.fx_check.specs.Judging.{judge_of}
 use Rattle.fx_check.specs.Outcomes.{MayBeAccepted, MayBeCertificate}
 use Rattle.fx_traffic.specs.Targets.{targets_of}
-use Rattle.fx_check.specs.Verdict.{Refusal, first_refusal, whole}
+use Rattle.fx_check.specs.FirstRefusal.{Refusal, first_refusal, whole}
 use Rattle.fx_audit.specs.declared.answer.Answer.{Answer}
 use Rattle.fx_audit.specs.declared.answer.Answer.TheVariants.{Yes, No, Unknown}
 
@@ -35,13 +35,13 @@ IsFaultOf e None = ⊥
 IsFaultOf e (Some r) = e ≡ r.fault
 
 -- the first refusal of a certificate for these classes in a network, by a text that the reader may have left
-abbrev pub IsRefusedText : Network → List Class → Lines → Fault → Type 0
+abbrev pub IsRefusedText : NetworkDocument → List Class → Lines → Fault → Type 0
 IsRefusedText network classes lines e =
     MayHaveLeft lines.left (λ text. IsFaultOf e (first_refusal (judge_of (net_of network)) lines.number 0 (whole (targets_of classes)) (text_lines text)))
 
 -- each packet is counted once, modulo 2 to the 64 however large the sums are; the certificate shows it, and nothing in
 -- it is refused
-pub record IsYes (network : Network) (classes : List Class) (lines : Lines) (text : List ℕ) : Type 0 where
+pub record IsYes (network : NetworkDocument) (classes : List Class) (lines : Lines) (text : List ℕ) : Type 0 where
   pub once : ExactlyOnce (net_of network) classes
   pub modulo : OnceModulo (net_of network) classes
   pub certificate : MayBeCertificate (net_of network) classes lines
@@ -49,7 +49,7 @@ pub record IsYes (network : Network) (classes : List Class) (lines : Lines) (tex
   pub text_is : text ≡ yes_line
 
 -- the certificate is refused at a line, by a number that makes the answer no; or so was what the reader had read before
-pub record IsNo (network : Network) (classes : List Class) (lines : Lines) (text : List ℕ) : Type 0 where
+pub record IsNo (network : NetworkDocument) (classes : List Class) (lines : Lines) (text : List ℕ) : Type 0 where
   pub fault : Fault
   pub means_no : MeansNo fault.number
   pub place : (lines.stopped ≡ Some fault) ⊎ ((line : ℕ) × (fault.place ≡ places.Line line))
@@ -57,13 +57,13 @@ pub record IsNo (network : Network) (classes : List Class) (lines : Lines) (text
   pub text_is : text ≡ no_line fault
 
 -- the answer to a certificate, in this network and traffic, and the text that it prints
-abbrev pub IsAnswered : Network → List Class → Lines → Answer → List ℕ → Type 0
+abbrev pub IsAnswered : NetworkDocument → List Class → Lines → Answer → List ℕ → Type 0
 IsAnswered network classes lines Yes text = IsYes network classes lines text
 IsAnswered network classes lines No text = IsNo network classes lines text
 IsAnswered network classes lines Unknown text = ⊥
 
 -- the certificate is refused otherwise
-abbrev pub IsRefusedCertificate : Network → List Class → Lines → Fault → Type 0
+abbrev pub IsRefusedCertificate : NetworkDocument → List Class → Lines → Fault → Type 0
 IsRefusedCertificate network classes lines e = IsRefusedText network classes lines e × (MeansNo e.number → ⊥)
 
 -- what a check ends with that isn't answered, once a line of the certificate is asked for: want of memory, a read or a

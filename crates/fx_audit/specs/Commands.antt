@@ -6,11 +6,11 @@ use Rattle.fx_base.specs.Fault.{fault_at}
 use Rattle.fx_base.specs.Lines.{Lines, lines_in}
 use Rattle.fx_tables.specs.Classes.{Class}
 use Rattle.fx_run_text.specs.RunText.{Run}
-use Rattle.fx_run_text.specs.RunReading.{MayRead}
-use Rattle.fx_machine.specs.States.{State, opening, told}
+use Rattle.fx_run_text.specs.RunReading.{MayReadRun}
+use Rattle.fx_machine.specs.States.{State, opening, told_state}
 use Rattle.fx_machine.specs.Steps.{run}
-use Rattle.fx_check.specs.Verdict.{line_limit}
-use Rattle.fx_topology.specs.declared.network.Network.{Network}
+use Rattle.fx_check.specs.FirstRefusal.{line_limit}
+use Rattle.fx_topology.specs.declared.network.NetworkDocument.{NetworkDocument}
 use Rattle.fx_plan.specs.Tables.{net_of}
 use Rattle.fx_audit.specs.declared.answer.Answer.{Answer}
 use Rattle.fx_audit.specs.declared.answer.Answer.TheVariants.{Yes}
@@ -27,38 +27,38 @@ use Rattle.fx_audit.specs.Streams.{IsRefusedStream, IsStreamText, EndsWithMessag
 -- ---- a run that is replayed
 
 -- the text that a replay in this network and traffic prints: that of the run's last state
-pub record IsReplayedIn (network : Network) (classes : List Class) (lines : Lines) (text : List ℕ) : Type 0 where
+pub record IsReplayedIn (network : NetworkDocument) (classes : List Class) (lines : Lines) (text : List ℕ) : Type 0 where
   pub run_read : Run
   pub last : State
-  pub run_is : MayRead classes lines (Ok run_read)
+  pub run_is : MayReadRun classes lines (Ok run_read)
   pub steps : run (net_of network) classes run_read.packets run_read.steps (opening (net_of network) classes run_read.packets) ≡ Ok last
-  pub text_is : IsTextOf (net_of network).report_layout (told last) text
+  pub text_is : IsTextOf (net_of network).report_layout (told_state last) text
 
 -- the same in the network and traffic that two documents say
 pub record IsReplayed (network_octets traffic_octets : List ℕ) (lines : Lines) (text : List ℕ) : Type 0 where
-  pub network : Network
+  pub network : NetworkDocument
   pub classes : List Class
   pub network_is : IsNetworkDocument network_octets network
   pub traffic_is : IsTraffic network traffic_octets classes
   pub replayed : IsReplayedIn network classes lines text
 
 -- the run's text is refused, in this network and traffic, or the run
-abbrev pub IsRefusedRun : Network → List Class → Lines → Fault → Type 0
+abbrev pub IsRefusedRun : NetworkDocument → List Class → Lines → Fault → Type 0
 IsRefusedRun network classes lines e =
-    MayRead classes lines (Err e) ⊎ ((r : Run) × MayRead classes lines (Ok r) × IsRefused (net_of network) classes r e)
+    MayReadRun classes lines (Err e) ⊎ ((r : Run) × MayReadRun classes lines (Ok r) × IsRefused (net_of network) classes r e)
 
 -- the first refusal of a replay: that of the documents, then the run's
 abbrev pub IsRefusedReplay : List ℕ → List ℕ → Lines → Fault → Type 0
 IsRefusedReplay network_octets traffic_octets lines e =
     IsRefusedByDocuments network_octets traffic_octets e
-    ⊎ ((network : Network) × (classes : List Class) × IsNetworkDocument network_octets network × IsTraffic network traffic_octets classes
+    ⊎ ((network : NetworkDocument) × (classes : List Class) × IsNetworkDocument network_octets network × IsTraffic network traffic_octets classes
     × IsRefusedRun network classes lines e)
 
 -- ---- a stream that is collected
 
 -- the text that a stream comes to at the report of the network that a document says; the stream is whole
 pub record IsCollected (network_octets stream_octets text : List ℕ) : Type 0 where
-  pub network : Network
+  pub network : NetworkDocument
   pub network_is : IsNetworkDocument network_octets network
   pub whole : EndsWithMessage (stream_read stream_octets)
   pub text_is : IsStreamText (net_of network).report_layout (stream_read stream_octets).known text
@@ -67,13 +67,13 @@ pub record IsCollected (network_octets stream_octets text : List ℕ) : Type 0 w
 abbrev pub IsRefusedCollect : List ℕ → List ℕ → Fault → Type 0
 IsRefusedCollect network_octets stream_octets e =
     IsRefusedNetwork network_octets e
-    ⊎ ((network : Network) × IsNetworkDocument network_octets network × IsRefusedStream (stream_read stream_octets) e)
+    ⊎ ((network : NetworkDocument) × IsNetworkDocument network_octets network × IsRefusedStream (stream_read stream_octets) e)
 
 -- ---- a certificate that is checked
 
 -- the answer to a certificate in the network and traffic that two documents say
 pub record IsChecked (network_octets traffic_octets : List ℕ) (lines : Lines) (answer : Answer) (text : List ℕ) : Type 0 where
-  pub network : Network
+  pub network : NetworkDocument
   pub classes : List Class
   pub network_is : IsNetworkDocument network_octets network
   pub traffic_is : IsTraffic network traffic_octets classes
@@ -83,14 +83,14 @@ pub record IsChecked (network_octets traffic_octets : List ℕ) (lines : Lines) 
 abbrev pub IsRefusedCheck : List ℕ → List ℕ → Lines → Fault → Type 0
 IsRefusedCheck network_octets traffic_octets lines e =
     IsRefusedByDocuments network_octets traffic_octets e
-    ⊎ ((network : Network) × (classes : List Class) × IsNetworkDocument network_octets network × IsTraffic network traffic_octets classes
+    ⊎ ((network : NetworkDocument) × (classes : List Class) × IsNetworkDocument network_octets network × IsTraffic network traffic_octets classes
     × IsRefusedCertificate network classes lines e)
 
 -- ---- a refutation that is confirmed
 
 -- the answer to a refutation in the network and traffic that two documents say
 pub record IsConfirmed (network_octets traffic_octets : List ℕ) (lines : Lines) (answer : Answer) (text : List ℕ) : Type 0 where
-  pub network : Network
+  pub network : NetworkDocument
   pub classes : List Class
   pub network_is : IsNetworkDocument network_octets network
   pub traffic_is : IsTraffic network traffic_octets classes
@@ -100,14 +100,14 @@ pub record IsConfirmed (network_octets traffic_octets : List ℕ) (lines : Lines
 abbrev pub IsRefusedConfirm : List ℕ → List ℕ → Lines → Fault → Type 0
 IsRefusedConfirm network_octets traffic_octets lines e =
     IsRefusedByDocuments network_octets traffic_octets e
-    ⊎ ((network : Network) × (classes : List Class) × IsNetworkDocument network_octets network × IsTraffic network traffic_octets classes
+    ⊎ ((network : NetworkDocument) × (classes : List Class) × IsNetworkDocument network_octets network × IsTraffic network traffic_octets classes
     × IsRefusedOtherwise network classes lines e)
 
 -- ---- an audit
 
 -- the answer of an audit of the network and traffic that two documents say
 pub record IsAudited (network_octets traffic_octets : List ℕ) (limit : ℕ) (answer : Answer) (text : List ℕ) : Type 0 where
-  pub network : Network
+  pub network : NetworkDocument
   pub classes : List Class
   pub network_is : IsNetworkDocument network_octets network
   pub traffic_is : IsTraffic network traffic_octets classes

@@ -3,12 +3,12 @@ use Rattle.std.specs.Prelude.{◌≡◌, ◌⊎◌, ℕ, ◌≤◌, List, ◌++�
 use Rattle.fx_base.specs.declared.fault.Fault.{Fault}
 use Rattle.fx_base.specs.Lines.{Lines}
 use Rattle.fx_tables.specs.Classes.{Class}
-use Rattle.fx_topology.specs.declared.network.Network.{Network}
+use Rattle.fx_topology.specs.declared.network.NetworkDocument.{NetworkDocument}
 use Rattle.fx_plan.specs.Tables.{net_of}
 use Rattle.fx_collect.specs.Totals.{Totals}
-use Rattle.fx_collect.specs.Report.{Ascends, totals_text}
-use Rattle.fx_refute.specs.RefutationReading.{MayRead}
-use Rattle.fx_refute.specs.Refutations.{AreTotals, IsRefused, Refutation, Refutes}
+use Rattle.fx_collect.specs.Report.{KeysAscend, totals_text}
+use Rattle.fx_refute.specs.RefutationReading.{MayReadRefutation}
+use Rattle.fx_refute.specs.Refutations.{AreTotals, IsNoRefutation, Refutation, Refutes}
 use Rattle.fx_audit.specs.declared.answer.Answer.{Answer}
 use Rattle.fx_audit.specs.declared.answer.Answer.TheVariants.{Yes, No, Unknown}
 use Rattle.fx_audit.specs.Checks.{no_line}
@@ -29,14 +29,14 @@ RefutesNothing number = (501 ≤ number) × (number ≤ 505)
 -- the same totals, with their keys in ascending order
 pub record IsInOrder (t sorted : Totals) : Type 0 where
   pub entries : IsPermutation t.entries sorted.entries
-  pub ascending : Ascends sorted.entries
+  pub ascending : KeysAscend sorted.entries
   pub layout_is : sorted.layout ≡ t.layout
   pub unassigned : sorted.unassigned ≡ t.unassigned
 
 -- the text is a refutation, which refutes; these are the totals of its run and the plain sums over its packet, in order
-pub record IsRefuted (network : Network) (classes : List Class) (lines : Lines) (ran plain : Totals) : Type 0 where
+pub record IsRefuted (network : NetworkDocument) (classes : List Class) (lines : Lines) (ran plain : Totals) : Type 0 where
   pub refutation : Refutation
-  pub said : MayRead lines (Ok refutation)
+  pub said : MayReadRefutation lines (Ok refutation)
   pub refutes : Refutes (net_of network) classes refutation
   pub ran_found : Totals
   pub plain_found : Totals
@@ -45,32 +45,32 @@ pub record IsRefuted (network : Network) (classes : List Class) (lines : Lines) 
   pub plain_in_order : IsInOrder plain_found plain
 
 -- both are printed
-pub record IsYes (network : Network) (classes : List Class) (lines : Lines) (text : List ℕ) : Type 0 where
+pub record IsYes (network : NetworkDocument) (classes : List Class) (lines : Lines) (text : List ℕ) : Type 0 where
   pub ran : Totals
   pub plain : Totals
   pub refuted : IsRefuted network classes lines ran plain
   pub text_is : text ≡ refuted_text ran plain
 
 -- the text isn't that of a refutation, or it refutes nothing
-abbrev pub IsRefusedRefutation : Network → List Class → Lines → Fault → Type 0
+abbrev pub IsRefusedRefutation : NetworkDocument → List Class → Lines → Fault → Type 0
 IsRefusedRefutation network classes lines e =
-    MayRead lines (Err e)
-    ⊎ ((r : Refutation) × MayRead lines (Ok r) × IsRefused (net_of network) classes r e)
+    MayReadRefutation lines (Err e)
+    ⊎ ((r : Refutation) × MayReadRefutation lines (Ok r) × IsNoRefutation (net_of network) classes r e)
 
 -- by a number that makes the answer no; or so was what the reader had read before
-pub record IsNo (network : Network) (classes : List Class) (lines : Lines) (text : List ℕ) : Type 0 where
+pub record IsNo (network : NetworkDocument) (classes : List Class) (lines : Lines) (text : List ℕ) : Type 0 where
   pub fault : Fault
   pub means_no : RefutesNothing fault.number
   pub refused : (lines.stopped ≡ Some fault) ⊎ IsRefusedRefutation network classes lines fault
   pub text_is : text ≡ no_line fault
 
 -- the answer to a refutation, in this network and traffic, and the text that it prints
-abbrev pub IsConfirmedIn : Network → List Class → Lines → Answer → List ℕ → Type 0
+abbrev pub IsConfirmedIn : NetworkDocument → List Class → Lines → Answer → List ℕ → Type 0
 IsConfirmedIn network classes lines Yes text = IsYes network classes lines text
 IsConfirmedIn network classes lines No text = IsNo network classes lines text
 IsConfirmedIn network classes lines Unknown text = ⊥
 
 -- the text is refused otherwise
-abbrev pub IsRefusedOtherwise : Network → List Class → Lines → Fault → Type 0
+abbrev pub IsRefusedOtherwise : NetworkDocument → List Class → Lines → Fault → Type 0
 IsRefusedOtherwise network classes lines e =
     IsRefusedRefutation network classes lines e × (RefutesNothing e.number → ⊥)

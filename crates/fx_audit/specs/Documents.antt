@@ -7,10 +7,10 @@ use Rattle.fx_base.specs.declared.fault.Place.{Place}
 use Rattle.fx_base.specs.declared.fault.Place.TheVariants as places
 use Rattle.fx_base.specs.Device.{IsUnread}
 use Rattle.fx_base.specs.Fault.{fault_at}
-use Rattle.fx_walk.specs.Walk.{Found, first}
+use Rattle.fx_walk.specs.Walk.{FoundFault, first}
 use Rattle.fx_tables.specs.Classes.{Class}
 use Rattle.fx_tables.specs.Limits.{layout_limit}
-use Rattle.fx_topology.specs.declared.network.Network.{Network}
+use Rattle.fx_topology.specs.declared.network.NetworkDocument.{NetworkDocument}
 use Rattle.fx_plan.specs.Layouts.{layouts_of}
 use Rattle.fx_topology.specs.Networks.{device_names, network_faults, network_of}
 use Rattle.fx_plan.specs.Plans.{RefusesNetwork}
@@ -27,42 +27,42 @@ abbrev pub IsJson : List ℕ → Data → Type 0
 IsJson octets d = IsUtf8 octets × (read octets ≡ Some d)
 
 -- the octets are a document with this meaning, and without a fault
-pub record IsDocument {X : Type 0} (faults : Data → List Found) (meaning : Data → X) (octets : List ℕ) (x : X) : Type 0 where
+pub record IsDocument {X : Type 0} (faults : Data → List FoundFault) (meaning : Data → X) (octets : List ℕ) (x : X) : Type 0 where
   pub value : Data
   pub json : IsJson octets value
   pub faultless : faults value ≡ []
   pub means : x ≡ meaning value
 
-abbrev pub is_found : ℕ → Place → List Found → Type 0
+abbrev pub is_found : ℕ → Place → List FoundFault → Type 0
 is_found n (places.Text s) fs = first fs ≡ Some (n, string_bytes s)
 is_found n _ fs = ⊥
 
 -- the first fault of a document: 101 where the octets are no JSON text
-abbrev pub IsFirstFault : (Data → List Found) → List ℕ → Fault → Type 0
+abbrev pub IsFirstFault : (Data → List FoundFault) → List ℕ → Fault → Type 0
 IsFirstFault faults octets e =
     ((e ≡ fault_at 101 places.None) × ((d : Data) → IsJson octets d → ⊥))
     ⊎ ((d : Data) × IsJson octets d × is_found e.number e.place (faults d))
 
 -- a network has few enough layouts, and its links form no cycle
-abbrev pub IsPlannable : Network → Type 0
+abbrev pub IsPlannable : NetworkDocument → Type 0
 IsPlannable network = (length (layouts_of (net_of network)) ≤ layout_limit) × ((process : ℕ) → IsStuck (net_of network) process → ⊥)
 
 -- the octets are the document of a network
-pub record IsNetworkDocument (octets : List ℕ) (network : Network) : Type 0 where
+pub record IsNetworkDocument (octets : List ℕ) (network : NetworkDocument) : Type 0 where
   pub document : IsDocument (network_faults []) network_of octets network
   pub plannable : IsPlannable network
 
 -- the first fault of the document itself, or else what refuses the network that it means
 pub data IsRefusedNetwork (octets : List ℕ) (e : Fault) : Type 0 where
   by_walk : IsFirstFault (network_faults []) octets e → IsRefusedNetwork octets e
-  by_plan : (network : Network) → IsDocument (network_faults []) network_of octets network → RefusesNetwork network e → IsRefusedNetwork octets e
+  by_plan : (network : NetworkDocument) → IsDocument (network_faults []) network_of octets network → RefusesNetwork network e → IsRefusedNetwork octets e
 
 -- a declaration of the traffic that crosses this network
-abbrev pub IsTraffic : Network → List ℕ → List Class → Type 0
+abbrev pub IsTraffic : NetworkDocument → List ℕ → List Class → Type 0
 IsTraffic network octets classes = IsDocument (traffic_faults (device_names network) []) (traffic_of (device_names network)) octets classes
 
 -- the first fault of a command's two documents, of which the network's is read first
 abbrev pub IsRefusedByDocuments : List ℕ → List ℕ → Fault → Type 0
 IsRefusedByDocuments network_octets traffic_octets e =
     IsRefusedNetwork network_octets e
-    ⊎ ((network : Network) × IsNetworkDocument network_octets network × IsFirstFault (traffic_faults (device_names network) []) traffic_octets e)
+    ⊎ ((network : NetworkDocument) × IsNetworkDocument network_octets network × IsFirstFault (traffic_faults (device_names network) []) traffic_octets e)

@@ -6,10 +6,10 @@ use Rattle.fx_base.specs.Lines.{Lines}
 use Rattle.fx_tables.specs.Classes.{Class}
 use Rattle.fx_link.specs.Links.{Put}
 use Rattle.fx_collect.specs.Totals.{Totals}
-use Rattle.fx_collect.specs.Report.{Ascends, number_line, totals_text}
+use Rattle.fx_collect.specs.Report.{KeysAscend, number_line, totals_text}
 use Rattle.fx_pcap.specs.declared.skipped.Skipped.{Skipped}
-use Rattle.fx_pcap.specs.Captures.{IsOpened, IsRefused, Reading}
-use Rattle.fx_topology.specs.declared.network.Network.{Network}
+use Rattle.fx_pcap.specs.Captures.{IsOpened, IsRefusedCapture, CaptureState}
+use Rattle.fx_topology.specs.declared.network.NetworkDocument.{NetworkDocument}
 use Rattle.fx_plan.specs.Tables.{net_of}
 use Rattle.fx_net.specs.Running.{RefusesRun, RunsTo, begun}
 use Rattle.fx_conform.specs.Whole.{IsRunOf}
@@ -25,7 +25,7 @@ skipped_line other malformed = codes "skipped other " ++ (decimal other ++ numbe
 pub record IsMeteredText (tallied : Totals) (other malformed : ℕ) (text : List ℕ) : Type 0 where
   pub totals : Totals
   pub entries : IsPermutation tallied.entries totals.entries
-  pub ascending : Ascends totals.entries
+  pub ascending : KeysAscend totals.entries
   pub layout_is : totals.layout ≡ tallied.layout
   pub unassigned : totals.unassigned ≡ tallied.unassigned
   pub text_is : text ≡ totals_text totals ++ skipped_line other malformed
@@ -34,31 +34,31 @@ pub record IsMeteredText (tallied : Totals) (other malformed : ℕ) (text : List
 -- many calls were made
 
 -- the reader of the capture begins behind the file header; the run comes to these totals, and skips so many frames
-pub record IsRun (network : Network) (classes : List Class) (left : Option (List ℕ)) (asked : ℕ) (from last : Lines) (before after : Put) (totals : Totals) (skipped : Skipped) : Type 0 where
-  pub at : Reading
-  pub to : Reading
+pub record IsRun (network : NetworkDocument) (classes : List Class) (left : Option (List ℕ)) (asked : ℕ) (from last : Lines) (before after : Put) (totals : Totals) (skipped : Skipped) : Type 0 where
+  pub at : CaptureState
+  pub to : CaptureState
   pub opened : IsOpened left asked at
   pub runs : RunsTo (begun network classes) at to from last before after totals
   pub skipped_is : skipped ≡ to.skipped
 
 -- the text that it prints
-pub record IsMeteredIn (network : Network) (classes : List Class) (left : Option (List ℕ)) (asked : ℕ) (from last : Lines) (before after : Put) (text : List ℕ) : Type 0 where
+pub record IsMeteredIn (network : NetworkDocument) (classes : List Class) (left : Option (List ℕ)) (asked : ℕ) (from last : Lines) (before after : Put) (text : List ℕ) : Type 0 where
   pub totals : Totals
   pub skipped : Skipped
   pub ran : IsRun network classes left asked from last before after totals skipped
   pub text_is : IsMeteredText totals skipped.other skipped.malformed text
 
 -- the capture isn't opened, since its source can't be read or for its header, or the run over it is refused
-abbrev pub IsRefusedIn : Network → List Class → Option (List ℕ) → ℕ → Type 0 → Lines → Lines → Put → Fault → Type 0
+abbrev pub IsRefusedIn : NetworkDocument → List Class → Option (List ℕ) → ℕ → Type 0 → Lines → Lines → Put → Fault → Type 0
 IsRefusedIn network classes left asked unread from last before e =
-    IsRefused left unread e
-    ⊎ ((at : Reading) × (to : Reading) × IsOpened left asked at × RefusesRun (begun network classes) at to from last before e)
+    IsRefusedCapture left unread e
+    ⊎ ((at : CaptureState) × (to : CaptureState) × IsOpened left asked at × RefusesRun (begun network classes) at to from last before e)
 
 -- ---- the same in the network and traffic that two documents say
 
 -- The text that the run prints there. The run is a complete run of the abstract network over the capture's packets.
 pub record IsMetered (network_octets traffic_octets : List ℕ) (left : Option (List ℕ)) (asked : ℕ) (from last : Lines) (before after : Put) (text : List ℕ) : Type 0 where
-  pub network : Network
+  pub network : NetworkDocument
   pub classes : List Class
   pub network_is : IsNetworkDocument network_octets network
   pub traffic_is : IsTraffic network traffic_octets classes
@@ -69,5 +69,5 @@ pub record IsMetered (network_octets traffic_octets : List ℕ) (left : Option (
 abbrev pub IsRefusedMetering : List ℕ → List ℕ → Option (List ℕ) → ℕ → Type 0 → Lines → Lines → Put → Fault → Type 0
 IsRefusedMetering network_octets traffic_octets left asked unread from last before e =
     IsRefusedByDocuments network_octets traffic_octets e
-    ⊎ ((network : Network) × (classes : List Class) × IsNetworkDocument network_octets network × IsTraffic network traffic_octets classes
+    ⊎ ((network : NetworkDocument) × (classes : List Class) × IsNetworkDocument network_octets network × IsTraffic network traffic_octets classes
     × IsRefusedIn network classes left asked unread from last before e)

@@ -5,13 +5,13 @@ use Rattle.fx_base.specs.declared.fault.Fault.{Fault}
 use Rattle.fx_base.specs.declared.fault.Place.TheVariants as places
 use Rattle.fx_base.specs.Fault.{fault_at}
 use Rattle.fx_tables.specs.Network.{Net}
-use Rattle.fx_base.specs.Entries.{numbered}
+use Rattle.fx_base.specs.Entries.{entry_numbered}
 use Rattle.fx_tables.specs.Classes.{Class, IsOf}
 use Rattle.fx_machine.specs.States.{State, Complete, opening}
 use Rattle.fx_machine.specs.Steps.{run}
 use Rattle.fx_run_text.specs.RunText.{Run}
 use Rattle.fx_collect.specs.Totals.{Totals}
-use Rattle.fx_collect.specs.Report.{Ascends, totals_text}
+use Rattle.fx_collect.specs.Report.{KeysAscend, totals_text}
 
 abbrev pub complete_line : Bool → List ℕ
 complete_line true = codes "complete yes" ++ 10 ∷ []
@@ -21,7 +21,7 @@ complete_line false = codes "complete no" ++ 10 ∷ []
 pub record IsTextOf (layout : Layout) (s : State) (text : List ℕ) : Type 0 where
   pub totals : Totals
   pub entries : IsPermutation s.totals totals.entries
-  pub ascending : Ascends totals.entries
+  pub ascending : KeysAscend totals.entries
   pub layout_is : totals.layout ≡ layout
   pub unassigned : totals.unassigned ≡ s.unassigned
   pub complete : Bool
@@ -31,5 +31,5 @@ pub record IsTextOf (layout : Layout) (s : State) (text : List ℕ) : Type 0 whe
 -- why a run can't be replayed: a packet isn't in its class, or a step is refused, the first with this number
 abbrev pub IsRefused : Net → List Class → Run → Fault → Type 0
 IsRefused net classes r e =
-    ((e ≡ fault_at 856 places.None) × (All (λ packet. IsOf packet (numbered classes packet.class)) r.packets → ⊥))
+    ((e ≡ fault_at 856 places.None) × (All (λ packet. IsOf packet (entry_numbered classes packet.class)) r.packets → ⊥))
     ⊎ ((e.place ≡ places.None) × (run net classes r.packets r.steps (opening net classes r.packets) ≡ Err e.number))

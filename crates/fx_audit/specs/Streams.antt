@@ -4,7 +4,7 @@ use Rattle.fx_base.specs.declared.fault.Fault.{Fault}
 use Rattle.fx_base.specs.declared.fault.Place.TheVariants as places
 use Rattle.fx_base.specs.Fault.{fault_at}
 use Rattle.fx_collect.specs.Totals.{Totals, nothing, with_records}
-use Rattle.fx_collect.specs.Report.{Ascends, number_line, totals_text}
+use Rattle.fx_collect.specs.Report.{KeysAscend, number_line, totals_text}
 use Rattle.fx_layout.specs.Keys.{Layout}
 use Rattle.fx_session.specs.Messages.{Known}
 use Rattle.fx_session.specs.Streams.{SessionState, answer_of, fed, start}
@@ -27,7 +27,7 @@ IsRefusedStream st e =
 pub record IsTotalsText (tallied : Totals) (gaps skipped : ℕ) (text : List ℕ) : Type 0 where
   pub totals : Totals
   pub entries : IsPermutation tallied.entries totals.entries
-  pub ascending : Ascends totals.entries
+  pub ascending : KeysAscend totals.entries
   pub layout_is : totals.layout ≡ tallied.layout
   pub unassigned : totals.unassigned ≡ tallied.unassigned
   pub text_is : text ≡ totals_text totals ++ (number_line (codes "gaps ") gaps ++ number_line (codes "skipped ") skipped)

@@ -4,7 +4,7 @@ ghost use Rattle.fx_base.specs.Device.{MayHaveLeft, Writes};
 ghost use Rattle.fx_base.specs.Fault.{fault_at};
 ghost use Rattle.fx_base.specs.declared.fault.Fault.{Fault};
 ghost use Rattle.fx_base.specs.declared.fault.Place.TheVariants as places;
-ghost use Rattle.fx_collect.specs.Report.{Ascends};
+ghost use Rattle.fx_collect.specs.Report.{KeysAscend};
 ghost use Rattle.fx_base.specs.Lines.{Fails};
 ghost use Rattle.fx_audit.specs.Checks.{no_line};
 ghost use Rattle.fx_audit.specs.Commands.{IsConfirmed, IsRefusedConfirm};
@@ -43,8 +43,8 @@ fn refuted<C: Source>(
 
 /// Writes the totals of a refuting run, and the plain sums.
 fn put_refuted<S: Sink>(sink: &mut S, ran: &Totals, plain: &Totals) -> Result<(), Fault>
-    requires ran { Ascends ran.now.entries }
-    requires plain { Ascends plain.now.entries }
+    requires ran { KeysAscend ran.now.entries }
+    requires plain { KeysAscend plain.now.entries }
     ensures ok { OnOk result (Writes (S.taken sink.old) (S.taken sink.new)
         (refuted_text ran.now plain.now)) }
     ensures going { OnOk result (S.failed sink.old ≡ false → S.failed sink.new ≡ false) }

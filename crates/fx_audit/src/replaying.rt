@@ -6,7 +6,7 @@ ghost use Rattle.fx_base.specs.declared.fault.Place.TheVariants as places;
 ghost use Rattle.fx_machine.specs.States as states;
 ghost use Rattle.fx_machine.specs.Steps as stepping;
 ghost use Rattle.fx_collect.specs.Totals.{totals_of, totals_in};
-ghost use Rattle.fx_collect.specs.Report.{totals_text, Ascends};
+ghost use Rattle.fx_collect.specs.Report.{totals_text, KeysAscend};
 ghost use Rattle.fx_audit.specs.Replay.{complete_line, IsRefused, IsTextOf};
 ghost use Rattle.fx_audit.specs.declared.answer.Answer.TheVariants.{Yes};
 
@@ -21,13 +21,13 @@ use std::alloc::Global;
 
 /// Makes one step after another, up to the first that is refused.
 fn make_steps(state: &mut State<'_>, steps: &[Step]) -> Result<(), Fault>
-    ensures ok { OnOk result ((s : states.State) → state.old.state ≡ states.told s
+    ensures ok { OnOk result ((s : states.State) → state.old.state ≡ states.told_state s
         → (last : states.State)
         × (stepping.run state.old.net state.old.classes state.old.packets steps.now s ≡ Ok last)
-        × (state.new.state ≡ states.told last)) }
+        × (state.new.state ≡ states.told_state last)) }
     ensures net { state.new.net ≡ state.old.net }
     ensures err { IfErr result (λ e. (e.place ≡ places.None)
-        × ((e.number ≡ 900) ⊎ ((s : states.State) → state.old.state ≡ states.told s
+        × ((e.number ≡ 900) ⊎ ((s : states.State) → state.old.state ≡ states.told_state s
         → stepping.run state.old.net state.old.classes state.old.packets steps.now s
         ≡ Err e.number))) }
 {
@@ -95,7 +95,7 @@ pub fn replay<S: Sink>(
     ensures ok { IfOk result (λ answer. (answer ≡ Yes) × ((last : states.State) × (text : List ℕ)
         × (stepping.run net.now classes.now run.packets run.steps
         (states.opening net.now classes.now run.packets) ≡ Ok last)
-        × IsTextOf net.now.report_layout (states.told last) text
+        × IsTextOf net.now.report_layout (states.told_state last) text
         × Writes (S.taken sink.old) (S.taken sink.new) text)) }
     ensures going { OnOk result (S.failed sink.old ≡ false → S.failed sink.new ≡ false) }
     ensures err { IfErr result (λ e. IsRefused net.now classes.now run e

@@ -2,7 +2,7 @@
 use Rattle.std.proofs.Common.{◌≡◌, ℕ, zero, suc, ◌+◌, ◌-◌, ◌%◌, ◌^◌, ◌≤◌, refl, sym, ap, ◌∙◌, subst, arith}
 use Rattle.std.proofs.Math.Nat.{mod-add-mod}
 use Rattle.fx_base.specs.Device.{IsAsked}
-use Rattle.fx_base.specs.Lines.{Lines, Asks}
+use Rattle.fx_base.specs.Lines.{Lines, CallsForLines}
 
 -- after some calls, and then more
 pub asked_then : (a b c m n : ℕ) → IsAsked a m b → IsAsked b n c → IsAsked a (m + n) c
@@ -31,7 +31,7 @@ asked_further a b c k m n first next before after =
     subst (λ x. IsAsked a x c) more (asked_then a b c (m - k) (n - m) before after)
 
 -- a reader's calls, and then more
-pub asks_then : (k l m : Lines) → Asks k l → Asks l m → Asks k m
+pub asks_then : (k l m : Lines) → CallsForLines k l → CallsForLines l m → CallsForLines k m
 asks_then k l m first next = record {
   calls = omega (arith, first.calls, next.calls);
   asked = asked_further k.asked l.asked m.asked k.calls l.calls m.calls first.calls next.calls first.asked next.asked;

@@ -9,7 +9,7 @@ use Rattle.std.specs.Io.KnownBytes.{prepend_known}
 use Rattle.fx_base.specs.Device.{MayHaveLeft}
 use Rattle.fx_base.specs.Lines.{line_len, first_line, after_line, line_ends}
 use Rattle.fx_base.specs.Part.{HasFeed, IsLast, IsPart}
-use Rattle.fx_base.specs.declared.part.Part.{Part}
+use Rattle.fx_base.specs.declared.part.LinePart.{LinePart}
 
 pub position_found : (p : ℕ → Bool) (xs : List ℕ) (o : Option ℕ) → o ≡ position p xs → IfSome o (λ n. (n ≡ position_or_len p xs) × (n < length xs)) × IfNone o (position_or_len p xs ≡ length xs)
 position_found p xs o e =
@@ -50,7 +50,7 @@ line_within held n n-is within =
     ]
 
 -- the line has no line feed in it
-pub one_line : (part : Part) (held : List ℕ) (left : Option (List ℕ)) → IsPart part held left → line_len (take part.line held) ≡ length (take part.line held)
+pub one_line : (part : LinePart) (held : List ℕ) (left : Option (List ℕ)) → IsPart part held left → line_len (take part.line held) ≡ length (take part.line held)
 one_line part held left is = by is.first where
   size : length (take part.line held) ≡ part.line
   size = length-take-le part.line held (omega (arith, is.line, is.taken))
@@ -62,11 +62,11 @@ one_line part held left is = by is.first where
       ap line_len all ∙ last.0 ∙ sym (ap length all)
 
 -- the line at the front of what is held, whether a line feed ends it, and what is behind it
-abbrev IsFirst : Part → List ℕ → Option (List ℕ) → List ℕ → Type 0
+abbrev IsFirst : LinePart → List ℕ → Option (List ℕ) → List ℕ → Type 0
 IsFirst part held left text =
     (take part.line held ≡ first_line text) × (nat_lt part.line part.taken ≡ line_ends text) × (prepend_known (drop part.taken held) left ≡ Some (after_line text)) × ((0 < part.taken) ↔ (0 < length text))
 
-with_feed : (part : Part) (held rest : List ℕ) → HasFeed part held → IsFirst part held (Some rest) (held ++ rest)
+with_feed : (part : LinePart) (held rest : List ℕ) → HasFeed part held → IsFirst part held (Some rest) (held ++ rest)
 with_feed part held rest feed =
     let first : line_len (held ++ rest) ≡ part.line = first_within held rest (omega (arith, feed.0, feed.1)) ∙ sym feed.0 in
     let long : part.line < length (held ++ rest) = omega (arith, length-append held rest, feed.1) in (
@@ -76,7 +76,7 @@ with_feed part held rest feed =
       (λ _. omega (arith, long), λ _. omega (arith, feed.2)),
     )
 
-without_feed : (part : Part) (held rest : List ℕ) → IsLast part held (Some rest) → IsFirst part held (Some rest) (held ++ rest)
+without_feed : (part : LinePart) (held rest : List ℕ) → IsLast part held (Some rest) → IsFirst part held (Some rest) (held ++ rest)
 without_feed part held rest last =
     rw (last.3, append-nil held) (
       rw (last.1, last.0) refl,
@@ -85,7 +85,7 @@ without_feed part held rest last =
       (λ h. omega (arith, h, last.2), λ h. omega (arith, h, last.2)),
     )
 
-pub first_of : (part : Part) (held : List ℕ) (left : Option (List ℕ)) → IsPart part held left → IfSome (prepend_known held left) (IsFirst part held left)
+pub first_of : (part : LinePart) (held : List ℕ) (left : Option (List ℕ)) → IsPart part held left → IfSome (prepend_known held left) (IsFirst part held left)
 first_of part held None is = tt
 first_of part held (Some rest) is = by is.first where
   by : HasFeed part held ⊎ IsLast part held (Some rest) → IsFirst part held (Some rest) (held ++ rest)

@@ -5,9 +5,9 @@ use Rattle.std.proofs.lemmas.List.{drop_all}
 use Rattle.fx_base.proofs.Asked.{asks_then, none_since}
 use Rattle.fx_base.specs.Device.{MayBeLeft}
 use Rattle.fx_base.specs.Limits.{call_limit}
-use Rattle.fx_base.specs.Lines.{Lines, AtLine, Gains, GoesOn, IsCutOff, MayFollow, line_len, first_line, line_ends, after_line}
+use Rattle.fx_base.specs.Lines.{Lines, AtLine, GainsLines, GoesOnToLines, IsTextCutOff, MayFollow, line_len, first_line, line_ends, after_line}
 
-pub at_once : (l : Lines) → GoesOn l l
+pub at_once : (l : Lines) → GoesOnToLines l l
 at_once l = record {
   asks = record {
     calls = omega arith;
@@ -20,12 +20,12 @@ at_once l = record {
   same (Some text) = (text, refl, omega arith)
 
 -- to a line that a line feed ended
-pub to_line : (old new : Lines) → AtLine old new → new.ended ≡ true → GoesOn old new
+pub to_line : (old new : Lines) → AtLine old new → new.ended ≡ true → GoesOnToLines old new
 to_line old new at ended = record {
   asks = at.asks;
   gains = gained old.left refl;
 } where
-  all : (text rest : List ℕ) → old.left ≡ Some text → new.left ≡ Some rest → Gains old new → new.calls + (length rest - new.held) ≤ old.calls + (length text - old.held)
+  all : (text rest : List ℕ) → old.left ≡ Some text → new.left ≡ Some rest → GainsLines old new → new.calls + (length rest - new.held) ≤ old.calls + (length text - old.held)
   all text rest is left gains =
       let le : new.calls + (length rest - new.held) ≤ old.calls + (length text - old.held) + (if new.ended then 0 else 1) = rw (is, left) at gains in
       omega (arith, rw ended at le)
@@ -36,7 +36,7 @@ to_line old new at ended = record {
       let told : (0 < length text) × (new.line ≡ first_line text) × (new.ended ≡ line_ends text) × (new.left ≡ Some (after_line text)) = rw is at at.text in
       (after_line text, told.3, all text (after_line text) is told.3 at.gains)
 
-pub goes_then : (k l m : Lines) → GoesOn k l → GoesOn l m → GoesOn k m
+pub goes_then : (k l m : Lines) → GoesOnToLines k l → GoesOnToLines l m → GoesOnToLines k m
 goes_then k l m first next = record {
   asks = asks_then k l m first.asks next.asks;
   gains = gained k.left first.gains;
@@ -50,7 +50,7 @@ goes_then k l m first next = record {
   gained None h = tt
   gained (Some text) h = behind text h.0 h.1 h.2
 
-pub cut_off_behind : (k l m : Lines) → GoesOn k l → IsCutOff l m → IsCutOff k m
+pub cut_off_behind : (k l m : Lines) → GoesOnToLines k l → IsTextCutOff l m → IsTextCutOff k m
 cut_off_behind k l m first (inl failed) = inl failed
 cut_off_behind k l m first (inr (all, asks, endless)) = inr (all, asks_then k l m first.asks asks, gained k.left first.gains) where
   behind : (text rest : List ℕ) → l.left ≡ Some rest → l.calls + (length rest - l.held) ≤ k.calls + (length text - k.held) → call_limit ≤ k.calls + (length text - k.held)

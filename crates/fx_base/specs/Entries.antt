@@ -3,9 +3,9 @@ use Rattle.std.specs.Prelude.{ℕ, zero, suc, List, Option, Some, None, slice_ge
 use denote.Ref.{Bor}
 
 -- the entry with this number, where the first is 1
-abbrev pub numbered : {A : Type 0} → List A → ℕ → Option A
-numbered entries zero = None
-numbered entries (suc n) = slice_get entries n
+abbrev pub entry_numbered : {A : Type 0} → List A → ℕ → Option A
+entry_numbered entries zero = None
+entry_numbered entries (suc n) = slice_get entries n
 
 -- what it points to
 abbrev pub now_of : {A : Type 0} → Option (Bor A) → Option A

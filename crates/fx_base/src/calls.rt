@@ -1,7 +1,7 @@
 //! Calls of a source, counted.
 ghost use Rattle.std.specs.Prelude.{◌≡◌, ◌⊎◌, ◌+◌, ◌-◌, ◌≤◌, length, take, true, OnOk, OnErr, IfOk, IfErr};
 ghost use Rattle.fx_base.specs.Limits.{call_limit};
-ghost use Rattle.fx_base.specs.Device.{Reads, IsAsked};
+ghost use Rattle.fx_base.specs.Device.{ReadsInto, IsAsked};
 ghost use Rattle.fx_base.specs.Fault.{fault_at};
 ghost use Rattle.fx_base.specs.declared.fault.Place.TheVariants as places;
 
@@ -17,7 +17,7 @@ pub(crate) fn read_next<R: Source>(
     requires { calls.old ≤ call_limit }
     ensures count { IfOk result (λ n. n ≤ length buffer.old) }
     ensures octets { IfOk result (λ n.
-        Reads (R.left source.old) (R.left source.new) (length buffer.old) (take n buffer.new) n) }
+        ReadsInto (R.left source.old) (R.left source.new) (length buffer.old) (take n buffer.new) n) }
     ensures counted { OnOk result (calls.new ≡ calls.old + 1) }
     ensures calls { (calls.old ≤ calls.new) × (calls.new ≤ call_limit)
         × (calls.new ≤ calls.old + 1) }

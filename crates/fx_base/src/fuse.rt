@@ -1,6 +1,6 @@
 //! A device that fails at a call named beforehand.
 ghost use Rattle.std.specs.Prelude.{◌≡◌, ◌≢◌, ◌↔◌, ◌+◌, ◌-◌, ◌%◌, ◌^◌, ◌≤◌, [], length, take, true, false, OnOk, OnErr, IfOk, IfErr, IsErr, IsTrue};
-ghost use Rattle.fx_base.specs.Device.{Reads, Writes};
+ghost use Rattle.fx_base.specs.Device.{ReadsInto, Writes};
 ghost use Rattle.fx_base.specs.Fault.{fault_at};
 ghost use Rattle.fx_base.specs.declared.fault.Place.TheVariants as places;
 
@@ -72,7 +72,7 @@ impl<D: Source> Source for Fuse<D> {
     fn read(&mut self, buffer: &mut [u8]) -> Result<usize, Fault>
         ensures count { IfOk result (λ n. n ≤ length buffer.old) }
         ensures ok { OnOk result (self.new.failed ≡ false) }
-        ensures octets { IfOk result (λ n. Reads (D.left self.old.device) (D.left self.new.device)
+        ensures octets { IfOk result (λ n. ReadsInto (D.left self.old.device) (D.left self.new.device)
             (length buffer.old) (take n buffer.new) n) }
         ensures err { IfErr result (λ e. (e ≡ fault_at 901 places.None) × (self.new.failed ≡ true)
             × (D.left self.new.device ≡ D.left self.old.device)) }

@@ -4,7 +4,7 @@ ghost use Rattle.std.specs.List.{position};
 ghost use Rattle.fx_base.specs.Limits.{call_limit};
 ghost use Rattle.fx_base.specs.Device.{IsAsked};
 ghost use Rattle.fx_base.specs.Lines.{line_len};
-ghost use Rattle.fx_base.specs.Part.{IsPart, IsStop, calls_of_part};
+ghost use Rattle.fx_base.specs.Part.{IsPart, IsWhyNoLine, calls_of_part};
 ghost use Rattle.fx_base.specs.Window.{octets_of};
 
 use crate::source::Source;
@@ -18,14 +18,14 @@ pub(crate) const ROOM: usize = 8192;
 
 /// Why a reader stops.
 #[derive(Clone, Copy, Debug, PartialEq, Eq)]
-pub(crate) enum Stop {
+pub(crate) enum LineStop {
     Device,
     TooLong,
 }
 
 /// The number of bytes of the line at the front of what is held, without its line feed and with it.
 #[derive(Clone, Copy, Debug, PartialEq, Eq)]
-pub(crate) struct Part {
+pub(crate) struct LinePart {
     pub(crate) line: usize,
     pub(crate) taken: usize,
 }
@@ -46,7 +46,7 @@ fn line_feed(bytes: &[u8]) -> Option<usize>
 }
 
 /// Has the next line held, and answers how much of what is held it is; nothing at the end.
-pub(crate) fn find_line<R: Source>(window: &mut Window<R>) -> Result<Part, Stop>
+pub(crate) fn find_line<R: Source>(window: &mut Window<R>) -> Result<LinePart, LineStop>
     requires { window.old.room ≡ ROOM }
     ensures octets { octets_of window.new ≡ octets_of window.old }
     ensures room { window.new.room ≡ ROOM }
@@ -59,28 +59,28 @@ pub(crate) fn find_line<R: Source>(window: &mut Window<R>) -> Result<Part, Stop>
     ensures calls { window.old.calls ≤ window.new.calls }
     ensures asked { IsAsked window.old.asked (window.new.calls - window.old.calls)
         window.new.asked }
-    ensures stop { IfErr result (λ stop. IsStop stop window.old window.new) }
+    ensures stop { IfErr result (λ stop. IsWhyNoLine stop window.old window.new) }
 {
     'reading: loop {
         let bytes = window.octets();
         let held = bytes.len();
         if let Some(n) = line_feed(bytes) {
             if n > LONGEST {
-                return Err(Stop::TooLong);
+                return Err(LineStop::TooLong);
             }
-            return Ok(Part {
+            return Ok(LinePart {
                 line: n,
                 taken: n + 1,
             });
         }
         if held > LONGEST {
-            return Err(Stop::TooLong);
+            return Err(LineStop::TooLong);
         }
         let Ok(()) = window.fill(held + 1) else {
-            return Err(Stop::Device);
+            return Err(LineStop::Device);
         };
         if window.octets().len() == held {
-            return Ok(Part {
+            return Ok(LinePart {
                 line: held,
                 taken: held,
             });

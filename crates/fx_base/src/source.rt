@@ -1,6 +1,6 @@
 //! What octets come from.
 ghost use Rattle.std.specs.Prelude.{◌≡◌, ℕ, ◌+◌, ◌%◌, ◌^◌, ◌≤◌, List, length, take, Bool, true, false, Option, OnOk, IfOk, IfErr};
-ghost use Rattle.fx_base.specs.Device.{Reads};
+ghost use Rattle.fx_base.specs.Device.{ReadsInto};
 ghost use Rattle.fx_base.specs.Fault.{fault_at};
 ghost use Rattle.fx_base.specs.declared.fault.Place.TheVariants as places;
 
@@ -28,7 +28,7 @@ pub trait Source: Drop {
     fn read(&mut self, buffer: &mut [u8]) -> Result<usize, Fault>
         ensures count { IfOk result (λ n. n ≤ length buffer.old) }
         ensures ok { OnOk result (failed self.new ≡ false) }
-        ensures octets { IfOk result (λ n. Reads (left self.old) (left self.new) (length buffer.old)
+        ensures octets { IfOk result (λ n. ReadsInto (left self.old) (left self.new) (length buffer.old)
             (take n buffer.new) n) }
         ensures err { IfErr result (λ e. (e ≡ fault_at 901 places.None) × (failed self.new ≡ true)
             × (left self.new ≡ left self.old)) }

@@ -2,7 +2,7 @@
 ghost use Rattle.fx_callers.specs.Sites.{site_faults, site_of};
 
 use fx_base::{Fault, Name};
-use fx_walk::{FromValue, Path, Sequence, items_member, object_of, required_member};
+use fx_walk::{FromValue, DocumentPath, Sequence, items_member, object_of, required_member};
 use serde_json::Value;
 use std::alloc::Global;
 
@@ -19,7 +19,7 @@ impl FromValue for Site {
 
     ghost meaning = { site_of };
 
-    fn from_value(alloc: Global, path: &Path<'_>, value: &Value) -> Result<Site, Fault> {
+    fn from_value(alloc: Global, path: &DocumentPath<'_>, value: &Value) -> Result<Site, Fault> {
         object_of(alloc, path, value, &["name", "rack"])?;
         let name = required_member::<Name>(alloc, path, value, "name")?;
         let racks = items_member::<Name>(alloc, path, value, "rack", 0, 64)?;

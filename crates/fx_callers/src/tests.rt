@@ -8,7 +8,7 @@ use fx_boxes::Region;
 use fx_layout::{Layout, Seed};
 use fx_plan::read_plan;
 use fx_traffic::read_traffic;
-use fx_walk::{FromValue, Path};
+use fx_walk::{FromValue, DocumentPath};
 use serde_json::Value;
 use std::alloc::Global;
 use std::test::Fail;
@@ -34,7 +34,7 @@ const TRAFFIC: &str =
 /// Whether a site's racks are read.
 fn is_read(alloc: Global) -> Result<bool, Fail> {
     let value = Value::from_str(alloc, r#"{"name":"s1","rack":["r1","r2"]}"#)?;
-    let site = Site::from_value(alloc, &Path::Root, &value)?;
+    let site = Site::from_value(alloc, &DocumentPath::Root, &value)?;
     Ok(site.racks.as_slice().len() == 2)
 }
 

@@ -16,7 +16,7 @@ use Rattle.fx_elements.proofs.Addresses.{decimal_avoids, by_some, some_is}
 use Rattle.fx_cert.specs.declared.item.Item.{Item}
 use Rattle.fx_cert.specs.declared.item.Item.TheVariants as item
 use Rattle.fx_cert.specs.declared.item.Version.TheVariants as version
-use Rattle.fx_cert.specs.ItemText.{axis_word, item_text, IsItem, IsText}
+use Rattle.fx_cert.specs.ItemText.{axis_word, item_text, IsItem, IsItemText}
 use Rattle.fx_cert.specs.ItemReading.{axis_of, class_of, split_of, leaf_of, item_of}
 
 same_is : (a b : List ℕ) → bytes_eq a b ≡ true → a ≡ b
@@ -72,10 +72,10 @@ text_read item.End fits = refl
 -- ---- back
 
 leaf_parts : (a b c rest more : List ℕ) (x y z : ℕ) (i : Item) → rest ≡ a ++ 32 ∷ more → more ≡ b ++ 32 ∷ c → (a ≡ decimal x) × (x ≤ largest) → (b ≡ decimal y) × (y ≤ largest) → (c ≡ decimal z) × (z ≤ largest)
-    → item.Leaf x y z ≡ i → IsText (codes "L" ++ 32 ∷ rest) i
-leaf_parts a b c rest more x y z i p q l m n e = subst (λ (j : Item). IsText (codes "L" ++ 32 ∷ rest) j) e ((l.1, m.1, n.1), rw (p, q, l.0, m.0, n.0) refl)
+    → item.Leaf x y z ≡ i → IsItemText (codes "L" ++ 32 ∷ rest) i
+leaf_parts a b c rest more x y z i p q l m n e = subst (λ (j : Item). IsItemText (codes "L" ++ 32 ∷ rest) j) e ((l.1, m.1, n.1), rw (p, q, l.0, m.0, n.0) refl)
 
-leaf_found : (rest : List ℕ) (i : Item) → leaf_of rest ≡ Some i → IsText (codes "L" ++ 32 ∷ rest) i
+leaf_found : (rest : List ℕ) (i : Item) → leaf_of rest ≡ Some i → IsItemText (codes "L" ++ 32 ∷ rest) i
 unfolding leaf_of
 leaf_found rest i e =
     by_some (cut_at 32 rest) _ i e (λ a pa ea.
@@ -85,10 +85,10 @@ leaf_found rest i e =
     by_some (number_of largest b.1) _ i ey (λ z pz ez.
     leaf_parts a.0 b.0 b.1 rest a.1 x y z i (cut_parts 32 rest a pa) (cut_parts 32 a.1 b pb) (number_found largest x a.0 (omega arith) px) (number_found largest y b.0 (omega arith) py) (number_found largest z b.1 (omega arith) pz) (some_is ez))))))
 
-class_parts : (a b c rest more : List ℕ) (x y : ℕ) (i : Item) → rest ≡ a ++ 32 ∷ more → more ≡ b ++ 32 ∷ c → b ≡ codes "path" → (a ≡ decimal x) × (x ≤ largest) → (c ≡ decimal y) × (y ≤ largest) → item.Class x y ≡ i → IsText (codes "class" ++ 32 ∷ rest) i
-class_parts a b c rest more x y i p q w m n e = subst (λ (j : Item). IsText (codes "class" ++ 32 ∷ rest) j) e ((m.1, n.1), rw (p, q, w, m.0, n.0) refl)
+class_parts : (a b c rest more : List ℕ) (x y : ℕ) (i : Item) → rest ≡ a ++ 32 ∷ more → more ≡ b ++ 32 ∷ c → b ≡ codes "path" → (a ≡ decimal x) × (x ≤ largest) → (c ≡ decimal y) × (y ≤ largest) → item.Class x y ≡ i → IsItemText (codes "class" ++ 32 ∷ rest) i
+class_parts a b c rest more x y i p q w m n e = subst (λ (j : Item). IsItemText (codes "class" ++ 32 ∷ rest) j) e ((m.1, n.1), rw (p, q, w, m.0, n.0) refl)
 
-class_found : (rest : List ℕ) (i : Item) → class_of rest ≡ Some i → IsText (codes "class" ++ 32 ∷ rest) i
+class_found : (rest : List ℕ) (i : Item) → class_of rest ≡ Some i → IsItemText (codes "class" ++ 32 ∷ rest) i
 unfolding class_of
 class_found rest i e =
     by_some (cut_at 32 rest) _ i e (λ a pa ea.
@@ -112,30 +112,30 @@ passes p (y ∷ ys) x e = elim (chosen (p y) (Some y) (find p ys) (Some x) e) [
 axis_found : (name : List ℕ) (a : Axis) → axis_of name ≡ Some a → name ≡ axis_word a
 axis_found name a e = same_is name (axis_word a) (passes (λ axis. bytes_eq name (axis_word axis)) axes a e)
 
-split_found : (rest : List ℕ) (i : Item) → split_of rest ≡ Some i → IsText (codes "S" ++ 32 ∷ rest) i
+split_found : (rest : List ℕ) (i : Item) → split_of rest ≡ Some i → IsItemText (codes "S" ++ 32 ∷ rest) i
 unfolding split_of
 split_found rest i e =
     by_some (cut_at 32 rest) _ i e (λ a pa ea.
     by_some (axis_of a.0) _ i ea (λ x px ex.
     by_some (number_of (slice_index tops (axis_index x)) a.1) _ i ex (λ n pn en.
     split_parts a.0 a.1 rest x n i (cut_parts 32 rest a pa) (axis_found a.0 x px) (number_found (slice_index tops (axis_index x)) n a.1 (top_small x) pn) (some_is en)))) where
-      split_parts : (name num rest : List ℕ) (x : Axis) (n : ℕ) (i : Item) → rest ≡ name ++ 32 ∷ num → name ≡ axis_word x → (num ≡ decimal n) × (n ≤ slice_index tops (axis_index x)) → item.Split x n ≡ i → IsText (codes "S" ++ 32 ∷ rest) i
-      split_parts name num rest x n i p w m e = subst (λ (j : Item). IsText (codes "S" ++ 32 ∷ rest) j) e (m.1, rw (p, w, m.0) refl)
+      split_parts : (name num rest : List ℕ) (x : Axis) (n : ℕ) (i : Item) → rest ≡ name ++ 32 ∷ num → name ≡ axis_word x → (num ≡ decimal n) × (n ≤ slice_index tops (axis_index x)) → item.Split x n ≡ i → IsItemText (codes "S" ++ 32 ∷ rest) i
+      split_parts name num rest x n i p w m e = subst (λ (j : Item). IsItemText (codes "S" ++ 32 ∷ rest) j) e (m.1, rw (p, w, m.0) refl)
 
-after_word : (line kind rest known : List ℕ) (i : Item) → line ≡ kind ++ 32 ∷ rest → kind ≡ known → IsText (known ++ 32 ∷ rest) i → IsText line i
+after_word : (line kind rest known : List ℕ) (i : Item) → line ≡ kind ++ 32 ∷ rest → kind ≡ known → IsItemText (known ++ 32 ∷ rest) i → IsItemText line i
 after_word line kind rest known i p w t = (t.0, rw (p, w) t.1)
 
-pub item_found : (line : List ℕ) (i : Item) → item_of line ≡ Some i → IsText line i
+pub item_found : (line : List ℕ) (i : Item) → item_of line ≡ Some i → IsItemText line i
 unfolding item_of
 item_found line i e =
     elim (chosen (bytes_eq line (codes "once-certificate 1")) _ _ (Some i) e) [
-      | inl h ↦ subst (λ (j : Item). IsText line j) (some_is h.1) (tt, same_is line (codes "once-certificate 1") h.0)
+      | inl h ↦ subst (λ (j : Item). IsItemText line j) (some_is h.1) (tt, same_is line (codes "once-certificate 1") h.0)
       | inr h1 ↦ elim (chosen (bytes_eq line (codes "once-certificate 2")) _ _ (Some i) h1.1) [
-        | inl h ↦ subst (λ (j : Item). IsText line j) (some_is h.1) (tt, same_is line (codes "once-certificate 2") h.0)
+        | inl h ↦ subst (λ (j : Item). IsItemText line j) (some_is h.1) (tt, same_is line (codes "once-certificate 2") h.0)
         | inr h6 ↦ elim (chosen (bytes_eq line (codes "N")) _ _ (Some i) h6.1) [
-          | inl h ↦ subst (λ (j : Item). IsText line j) (some_is h.1) (tt, same_is line (codes "N") h.0)
+          | inl h ↦ subst (λ (j : Item). IsItemText line j) (some_is h.1) (tt, same_is line (codes "N") h.0)
           | inr h7 ↦ elim (chosen (bytes_eq line (codes "end")) _ _ (Some i) h7.1) [
-            | inl h ↦ subst (λ (j : Item). IsText line j) (some_is h.1) (tt, same_is line (codes "end") h.0)
+            | inl h ↦ subst (λ (j : Item). IsItemText line j) (some_is h.1) (tt, same_is line (codes "end") h.0)
             | inr h2 ↦ by_some (cut_at 32 line) _ i h2.1 (λ p pp ep.
                 elim (chosen (bytes_eq p.0 (codes "class")) _ _ (Some i) ep) [
                   | inl h ↦ after_word line p.0 p.1 (codes "class") i (cut_parts 32 line p pp) (same_is p.0 (codes "class") h.0) (class_found p.1 i h.1)
@@ -152,7 +152,7 @@ item_found line i e =
       ]
     ]
 
-pub reads : (line : List ℕ) (i : Item) (r : Option Item) → r ≡ item_of line → IsText line i → r ≡ Some i
+pub reads : (line : List ℕ) (i : Item) (r : Option Item) → r ≡ item_of line → IsItemText line i → r ≡ Some i
 reads line i r e t = e ∙ ap item_of t.1 ∙ text_read i t.0
 
 -- a text has one item

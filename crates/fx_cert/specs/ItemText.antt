@@ -45,5 +45,5 @@ IsItem Never = Unit {0}
 IsItem End = Unit {0}
 
 -- the text of this item, whose numbers are within their bounds
-abbrev pub IsText : List ℕ → Item → Type 0
-IsText text item = IsItem item × (text ≡ item_text item)
+abbrev pub IsItemText : List ℕ → Item → Type 0
+IsItemText text item = IsItem item × (text ≡ item_text item)

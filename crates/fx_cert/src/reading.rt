@@ -3,13 +3,13 @@ ghost use Rattle.std.specs.Prelude.{◌≡◌, IfOk, IfErr};
 ghost use Rattle.fx_base.specs.Fault.{fault_at};
 ghost use Rattle.fx_base.specs.declared.fault.Place.TheVariants as places;
 ghost use Rattle.fx_cert.specs.declared.item.Item as of_item;
-ghost use Rattle.fx_cert.specs.ItemText.{IsText};
+ghost use Rattle.fx_cert.specs.ItemText.{IsItemText};
 ghost use Rattle.fx_cert.specs.ItemReading.{axis_of, class_of, split_of, leaf_of, item_of};
 
 use crate::item::{Item, Version};
 use crate::put::word;
 use fx_base::{Fault, Line};
-use fx_elements::{Axis, EVERY_AXIS, cut, is_word, read_number, read_u64, top};
+use fx_elements::{Axis, EVERY_AXIS, split_at_byte, is_word, read_number, read_u64, top};
 
 /// The axis with this word.
 fn read_axis(text: &[u8]) -> Option<Axis>
@@ -28,8 +28,8 @@ fn read_axis(text: &[u8]) -> Option<Axis>
 fn read_class(text: &[u8]) -> Option<Item>
     ensures { result ≡ class_of text.now }
 {
-    let (class, rest) = cut(text, b' ')?;
-    let (word, path) = cut(rest, b' ')?;
+    let (class, rest) = split_at_byte(text, b' ')?;
+    let (word, path) = split_at_byte(rest, b' ')?;
     if !is_word(word, b"path") {
         return None;
     }
@@ -43,7 +43,7 @@ fn read_class(text: &[u8]) -> Option<Item>
 fn read_split(text: &[u8]) -> Option<Item>
     ensures { result ≡ split_of text.now }
 {
-    let (word, at) = cut(text, b' ')?;
+    let (word, at) = split_at_byte(text, b' ')?;
     let axis = read_axis(word)?;
     let at = read_number(at, top(axis))?;
     Some(Item::Split { axis, at })
@@ -54,8 +54,8 @@ fn read_split(text: &[u8]) -> Option<Item>
 fn read_leaf(text: &[u8]) -> Option<Item>
     ensures { result ≡ leaf_of text.now }
 {
-    let (crossing, rest) = cut(text, b' ')?;
-    let (point, process) = cut(rest, b' ')?;
+    let (crossing, rest) = split_at_byte(text, b' ')?;
+    let (point, process) = split_at_byte(rest, b' ')?;
     let crossing = read_u64(crossing)?;
     let point = read_u64(point)?;
     let process = read_u64(process)?;
@@ -83,7 +83,7 @@ fn read_text(text: &[u8]) -> Option<Item>
     if is_word(text, b"end") {
         return Some(Item::End);
     }
-    let (word, rest) = cut(text, b' ')?;
+    let (word, rest) = split_at_byte(text, b' ')?;
     if is_word(word, b"class") {
         read_class(rest)
     } else if is_word(word, b"S") {
@@ -102,9 +102,9 @@ fn read_text(text: &[u8]) -> Option<Item>
 ///
 /// Fails with 402, at the line, where the bytes are no item's text.
 pub fn read_item(line: &Line<'_>) -> Result<Item, Fault>
-    ensures ok { IfOk result (λ item. IsText line.now.bytes.now item) }
+    ensures ok { IfOk result (λ item. IsItemText line.now.bytes.now item) }
     ensures err { IfErr result (λ e. (e ≡ fault_at 402 (places.Line line.now.number))
-        × ((item : of_item.Item) → IsText line.now.bytes.now item → ⊥)) }
+        × ((item : of_item.Item) → IsItemText line.now.bytes.now item → ⊥)) }
 {
     match read_text(line.bytes) {
         Some(item) => Ok(item),

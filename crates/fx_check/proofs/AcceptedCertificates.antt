@@ -5,7 +5,7 @@ use Rattle.std.specs.List.{AllByRecursion}
 use Rattle.fx_base.specs.Lines.{next_number}
 use Rattle.fx_cert.specs.declared.item.Item.{Item}
 use Rattle.fx_cert.specs.declared.item.Version.TheVariants.{One}
-use Rattle.fx_cert.specs.ItemText.{IsText, item_text}
+use Rattle.fx_cert.specs.ItemText.{IsItemText, item_text}
 use Rattle.fx_cert.specs.ItemReading.{item_of}
 use Rattle.fx_cert.proofs.Texts.{item_found}
 use Rattle.fx_tables.specs.Classes.{Class}
@@ -15,7 +15,7 @@ use Rattle.fx_tables.specs.Ranks.{IsNetwork}
 use Rattle.fx_leaf.proofs.Headline as headline
 use Rattle.fx_check.specs.Judging.{Judge, judge_of}
 use Rattle.fx_traffic.specs.Targets.{targets_of, AreRegions}
-use Rattle.fx_check.specs.Verdict.{Goal, Line, Reading, long, cut, says, said, reading_of, after_reading, made_after, goes_on, first_refusal, whole, line_limit}
+use Rattle.fx_check.specs.FirstRefusal.{Goal, Line, LineReading, long, cut, says, said, reading_of, after_reading, made_after, goes_on, first_refusal, whole, line_limit}
 use Rattle.fx_check.specs.Certificates.{IsCertificate, IsShallow, AllCounted, IsWritable, item_line, certificate_items, sizes, in_a_row}
 use Rattle.fx_check.proofs.ItemsRead.{line_says}
 use Rattle.fx_check.proofs.SoundLeaves.{all_sound, all_right, sound_of, sound_back}
@@ -25,7 +25,7 @@ use Rattle.fx_check.proofs.Trees.{on, verdict, right_only, right_all}
 
 is_line : (l : Line) (i : Item) → reading_of l ≡ says i → (l ≡ item_line i) × IsWritable i
 is_line l i e = by_length (nat_lt 4096 (length l.0)) refl l.1 refl e where
-  is_text : l.1 ≡ true → length l.0 ≤ 4096 → IsText l.0 i → (l ≡ item_line i) × IsWritable i
+  is_text : l.1 ≡ true → length l.0 ≤ 4096 → IsItemText l.0 i → (l ≡ item_line i) × IsWritable i
   is_text ended short text = (ap₂ (λ (a : List ℕ) (b : Bool). let l : Line = (a, b) in l) text.1 ended, (text.0, rw (← text.1) short))
 
   by_text : (o : Option Item) → item_of l.0 ≡ o → said o ≡ says i → l.1 ≡ true → length l.0 ≤ 4096 → (l ≡ item_line i) × IsWritable i
@@ -50,7 +50,7 @@ are_lines (l ∷ ls) (i ∷ is) e =
 
 say_items : (is : List Item) → AllByRecursion IsWritable is → map reading_of (map item_line is) ≡ map says is
 say_items [] h = refl
-say_items (i ∷ is) h = ap₂ (λ (x : Reading) (xs : List Reading). x ∷ xs) (line_says (item_text i) true i refl h.0.1 (h.0.0, refl)) (say_items is h.1)
+say_items (i ∷ is) h = ap₂ (λ (x : LineReading) (xs : List LineReading). x ∷ xs) (line_says (item_text i) true i refl h.0.1 (h.0.0, refl)) (say_items is h.1)
 
 -- ---- no refusal is no fault
 

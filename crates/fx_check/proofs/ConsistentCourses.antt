@@ -10,10 +10,10 @@ use Rattle.fx_cert.specs.declared.item.Item.{Item}
 use Rattle.fx_cert.specs.declared.item.Item.TheVariants as item
 use Rattle.fx_cert.specs.declared.item.Version.{Version}
 use Rattle.fx_traffic.specs.Targets.{Target}
-use Rattle.fx_check.specs.declared.stack.Waiting.{Waiting}
+use Rattle.fx_check.specs.declared.stack.WaitingRegion.{WaitingRegion}
 use Rattle.fx_check.specs.declared.course.Stage.{Stage}
 use Rattle.fx_check.specs.declared.course.Stage.TheVariants as stage
-use Rattle.fx_check.specs.Verdict.{Goal, tree, ahead, may_say_never, after, leaf_answer, split_answer, form_fault, at_end, at_line, Refusal}
+use Rattle.fx_check.specs.FirstRefusal.{Goal, tree, ahead, may_say_never, after, leaf_answer, split_answer, form_fault, at_end, at_line, Refusal}
 use Rattle.fx_base.specs.Lines.{next_number}
 use Rattle.fx_check.specs.Remaining.{below_waits, above_waits, waiting_goals, tree_goals, goals_at, rest_of_tree, AreDeepFrom, AreDeep, IsConsistentAt, IsInTree}
 
@@ -30,12 +30,12 @@ IsNoTree (item.Split a v) = ⊥
 IsNoTree item.Never = ⊥
 IsNoTree item.End = Unit {0}
 
-waiting_push : (z : Version) (t : Target) (ws : List Waiting) (w : Waiting) (gs : List Goal) → waiting_goals z t (ws ++ w ∷ []) gs ≡ tree z t w.region w.depth ∷ waiting_goals z t ws gs
+waiting_push : (z : Version) (t : Target) (ws : List WaitingRegion) (w : WaitingRegion) (gs : List Goal) → waiting_goals z t (ws ++ w ∷ []) gs ≡ tree z t w.region w.depth ∷ waiting_goals z t ws gs
 waiting_push z t [] w gs = refl
 waiting_push z t (x ∷ ws) w gs = waiting_push z t ws w (tree z t x.region x.depth ∷ gs)
 
 -- the region on top comes next
-pub top_next : (z : Version) (ts : List Target) (ws : List Waiting) (w : Waiting) → tree_goals z ts w ws ≡ rest_of_tree z ts (ws ++ w ∷ [])
+pub top_next : (z : Version) (ts : List Target) (ws : List WaitingRegion) (w : WaitingRegion) → tree_goals z ts w ws ≡ rest_of_tree z ts (ws ++ w ∷ [])
 top_next z [] ws w = refl
 top_next z (t ∷ ts) ws w = sym (waiting_push z t ws w (ahead z ts))
 
@@ -47,79 +47,79 @@ target_next z ts at lt = rw add-one (go ts at lt) where
   go (t ∷ ts) zero lt = refl
   go (t ∷ ts) (suc at) lt = go ts at (omega arith)
 
-pub leaf_is : (z : Version) (judge : Judge) (made : ℕ) (ts : List Target) (at : ℕ) (ws : List Waiting) (s : Stage) (w : Waiting) (l : Counted) (t : Target) → s ≡ stage.Tree w → IsConsistentAt ts at ws s → t ≡ get_or ts at t
-    → after judge made (goals_at z ts at ws s) (item.Leaf l.crossing l.point l.process) ≡ cond t.exempt (Err 403) (leaf_answer made (judge t w.region (Some l)) (rest_of_tree z (drop at ts) ws))
+pub leaf_is : (z : Version) (judge : Judge) (made : ℕ) (ts : List Target) (at : ℕ) (ws : List WaitingRegion) (s : Stage) (w : WaitingRegion) (l : Counted) (t : Target) → s ≡ stage.Tree w → IsConsistentAt ts at ws s → t ≡ get_or ts at t
+    → after judge made (goals_at z ts at ws s) (item.Leaf l.crossing l.point l.process) ≡ cond t.exempt (Err faults.Place) (leaf_answer made (judge t w.region (Some l)) (rest_of_tree z (drop at ts) ws))
 leaf_is z judge made ts at ws s w l t e h is =
     let k : IsConsistentAt ts at ws (stage.Tree w) = subst (λ (x : Stage). IsConsistentAt ts at ws x) e h in
     rw (e, drop-cons ts at t k.0, ← is) refl
 
-pub never_is : (z : Version) (judge : Judge) (made : ℕ) (ts : List Target) (at : ℕ) (ws : List Waiting) (s : Stage) (w : Waiting) (t : Target) → s ≡ stage.Tree w → IsConsistentAt ts at ws s → t ≡ get_or ts at t
-    → after judge made (goals_at z ts at ws s) item.Never ≡ cond (may_say_never z t) (leaf_answer made (judge t w.region None) (rest_of_tree z (drop at ts) ws)) (Err 403)
+pub never_is : (z : Version) (judge : Judge) (made : ℕ) (ts : List Target) (at : ℕ) (ws : List WaitingRegion) (s : Stage) (w : WaitingRegion) (t : Target) → s ≡ stage.Tree w → IsConsistentAt ts at ws s → t ≡ get_or ts at t
+    → after judge made (goals_at z ts at ws s) item.Never ≡ cond (may_say_never z t) (leaf_answer made (judge t w.region None) (rest_of_tree z (drop at ts) ws)) (Err faults.Place)
 never_is z judge made ts at ws s w t e h is =
     let k : IsConsistentAt ts at ws (stage.Tree w) = subst (λ (x : Stage). IsConsistentAt ts at ws x) e h in
     rw (e, drop-cons ts at t k.0, ← is) refl
 
-split_on : (z : Version) (judge : Judge) (made : ℕ) (ts : List Target) (ws : List Waiting) (w : Waiting) (a : Axis) (v : ℕ) → 0 < length ts
+split_on : (z : Version) (judge : Judge) (made : ℕ) (ts : List Target) (ws : List WaitingRegion) (w : WaitingRegion) (a : Axis) (v : ℕ) → 0 < length ts
     → after judge made (tree_goals z ts w ws) (item.Split a v) ≡ split_answer made w.region w.depth (axis_index a) v (tree_goals z ts (below_waits w (axis_index a) v) (ws ++ above_waits w (axis_index a) v ∷ []))
 split_on z judge made [] ws w a v some = absurd (omega arith)
 split_on z judge made (t ∷ ts) ws w a v some = rw (waiting_push z t ws (above_waits w (axis_index a) v) (ahead z ts)) refl
 
-deep_more : (k : ℕ) (ws : List Waiting) (w : Waiting) → AreDeepFrom k ws → k + length ws < w.depth → w.depth ≤ 512 → AreDeepFrom k (ws ++ w ∷ [])
+deep_more : (k : ℕ) (ws : List WaitingRegion) (w : WaitingRegion) → AreDeepFrom k ws → k + length ws < w.depth → w.depth ≤ 512 → AreDeepFrom k (ws ++ w ∷ [])
 deep_more k [] w h lt le = (omega arith, le, tt)
 deep_more k (x ∷ ws) w h lt le = (h.0, h.1, deep_more (k + 1) ws w h.2 (omega arith) le)
 
-deep_less : (k : ℕ) (ws : List Waiting) (w : Waiting) → AreDeepFrom k (ws ++ w ∷ []) → AreDeepFrom k ws × (k + length ws < w.depth) × (w.depth ≤ 512)
+deep_less : (k : ℕ) (ws : List WaitingRegion) (w : WaitingRegion) → AreDeepFrom k (ws ++ w ∷ []) → AreDeepFrom k ws × (k + length ws < w.depth) × (w.depth ≤ 512)
 deep_less k [] w h = (tt, omega (arith, h.0), h.1)
 deep_less k (x ∷ ws) w h = let r = deep_less (k + 1) ws w h.2 in ((h.0, h.1, r.0), omega (arith, r.1), r.2)
 
-pub deep_push : (ws : List Waiting) (d : ℕ) (w : Waiting) → AreDeep ws d → d < 512 → w.depth ≡ d + 1 → AreDeep (ws ++ w ∷ []) (d + 1)
+pub deep_push : (ws : List WaitingRegion) (d : ℕ) (w : WaitingRegion) → AreDeep ws d → d < 512 → w.depth ≡ d + 1 → AreDeep (ws ++ w ∷ []) (d + 1)
 deep_push ws d w h lt e = (omega arith, omega (arith, length-append ws (w ∷ []), h.1), deep_more 0 ws w h.2 (omega (arith, h.1)) (omega arith))
 
-pub deep_pop : (ws : List Waiting) (w : Waiting) (d : ℕ) → AreDeep (ws ++ w ∷ []) d → AreDeep ws w.depth
+pub deep_pop : (ws : List WaitingRegion) (w : WaitingRegion) (d : ℕ) → AreDeep (ws ++ w ∷ []) d → AreDeep ws w.depth
 deep_pop ws w d h = let r = deep_less 0 ws w h.2 in (r.2, omega (arith, r.1), r.0)
 
-pub stands : (ts : List Target) (at : ℕ) (ws : List Waiting) (s : Stage) → IsConsistentAt ts at ws s → IsInTree s → (at < length ts) × ((d : ℕ) × AreDeep ws d)
+pub stands : (ts : List Target) (at : ℕ) (ws : List WaitingRegion) (s : Stage) → IsConsistentAt ts at ws s → IsInTree s → (at < length ts) × ((d : ℕ) × AreDeep ws d)
 stands ts at ws stage.Header h i = absurd i
 stands ts at ws stage.Between h i = absurd i
 stands ts at ws (stage.Tree w) h i = (h.0, (w.depth, h.1))
 stands ts at ws stage.Ended h i = absurd i
 
-pub is_in_tree : (s : Stage) (w : Waiting) → s ≡ stage.Tree w → IsInTree s
+pub is_in_tree : (s : Stage) (w : WaitingRegion) → s ≡ stage.Tree w → IsInTree s
 is_in_tree s w e = subst IsInTree (sym e) tt
 
 -- consistent after a region was taken from the top
-pub stands_pop : (ts : List Target) (at : ℕ) (ws rest : List Waiting) (w : Waiting) (s : Stage) → IsConsistentAt ts at ws s → IsInTree s → ws ≡ rest ++ w ∷ [] → (at < length ts) × AreDeep rest w.depth
+pub stands_pop : (ts : List Target) (at : ℕ) (ws rest : List WaitingRegion) (w : WaitingRegion) (s : Stage) → IsConsistentAt ts at ws s → IsInTree s → ws ≡ rest ++ w ∷ [] → (at < length ts) × AreDeep rest w.depth
 stands_pop ts at ws rest w s h i e =
     let k = stands ts at ws s h i in
-    let f : AreDeep (rest ++ w ∷ []) k.1.0 = subst (λ (x : List Waiting). AreDeep x k.1.0) e k.1.1 in
+    let f : AreDeep (rest ++ w ∷ []) k.1.0 = subst (λ (x : List WaitingRegion). AreDeep x k.1.0) e k.1.1 in
     (k.0, deep_pop rest w k.1.0 f)
 
-pub split_goal : (z : Version) (judge : Judge) (made : ℕ) (ts : List Target) (at : ℕ) (ws : List Waiting) (s : Stage) (w : Waiting) (a : Axis) (v : ℕ) → IsConsistentAt ts at ws s → s ≡ stage.Tree w
+pub split_goal : (z : Version) (judge : Judge) (made : ℕ) (ts : List Target) (at : ℕ) (ws : List WaitingRegion) (s : Stage) (w : WaitingRegion) (a : Axis) (v : ℕ) → IsConsistentAt ts at ws s → s ≡ stage.Tree w
     → after judge made (goals_at z ts at ws s) (item.Split a v) ≡ split_answer made w.region w.depth (axis_index a) v (tree_goals z (drop at ts) (below_waits w (axis_index a) v) (ws ++ above_waits w (axis_index a) v ∷ []))
 split_goal z judge made ts at ws s w a v h e =
     let k : IsConsistentAt ts at ws (stage.Tree w) = subst (λ (x : Stage). IsConsistentAt ts at ws x) e h in
     rw e (split_on z judge made (drop at ts) ws w a v (omega (arith, length-drop at ts, k.0)))
 
-pub split_end : (z : Version) (judge : Judge) (made : ℕ) (ts : List Target) (at : ℕ) (ws after_push : List Waiting) (s : Stage) (w below above : Waiting) (a : Axis) (v : ℕ) (r : Result (List Goal) ℕ) → IsConsistentAt ts at ws s → s ≡ stage.Tree w
+pub split_end : (z : Version) (judge : Judge) (made : ℕ) (ts : List Target) (at : ℕ) (ws after_push : List WaitingRegion) (s : Stage) (w below above : WaitingRegion) (a : Axis) (v : ℕ) (r : Result (List Goal) LineFault) → IsConsistentAt ts at ws s → s ≡ stage.Tree w
     → below ≡ below_waits w (axis_index a) v → above ≡ above_waits w (axis_index a) v → after_push ≡ ws ++ above ∷ []
     → split_answer made w.region w.depth (axis_index a) v (tree_goals z (drop at ts) below after_push) ≡ r → after judge made (goals_at z ts at ws s) (item.Split a v) ≡ r
 split_end z judge made ts at ws after_push s w below above a v r h e lower upper pushed is =
     split_goal z judge made ts at ws s w a v h e ∙ (rw (← upper, ← lower, ← pushed) is)
 
-pub stands_push : (ts : List Target) (at : ℕ) (ws after_push : List Waiting) (s : Stage) (w below above : Waiting) (k v : ℕ) → IsConsistentAt ts at ws s → s ≡ stage.Tree w → w.depth < 512
+pub stands_push : (ts : List Target) (at : ℕ) (ws after_push : List WaitingRegion) (s : Stage) (w below above : WaitingRegion) (k v : ℕ) → IsConsistentAt ts at ws s → s ≡ stage.Tree w → w.depth < 512
     → below ≡ below_waits w k v → above ≡ above_waits w k v → after_push ≡ ws ++ above ∷ [] → (at < length ts) × AreDeep after_push below.depth
 stands_push ts at ws after_push s w below above k v h e lt lower upper pushed =
     let in_tree : IsConsistentAt ts at ws (stage.Tree w) = subst (λ (x : Stage). IsConsistentAt ts at ws x) e h in
     rw (pushed, upper, lower) (in_tree.0, deep_push ws w.depth (above_waits w k v) in_tree.1 lt refl)
 
 -- in a tree there is a region
-pub region_of : (s : Stage) → IsInTree s → (w : Waiting) × (s ≡ stage.Tree w)
+pub region_of : (s : Stage) → IsInTree s → (w : WaitingRegion) × (s ≡ stage.Tree w)
 region_of stage.Header h = absurd h
 region_of stage.Between h = absurd h
 region_of (stage.Tree w) h = (w, refl)
 region_of stage.Ended h = absurd h
 
-pub refuses_tree : (z : Version) (judge : Judge) (made : ℕ) (ts : List Target) (at : ℕ) (ws : List Waiting) (s : Stage) (w : Waiting) (i : Item) → IsConsistentAt ts at ws s → s ≡ stage.Tree w → IsNoTree i → after judge made (goals_at z ts at ws s) i ≡ Err 403
+pub refuses_tree : (z : Version) (judge : Judge) (made : ℕ) (ts : List Target) (at : ℕ) (ws : List WaitingRegion) (s : Stage) (w : WaitingRegion) (i : Item) → IsConsistentAt ts at ws s → s ≡ stage.Tree w → IsNoTree i → after judge made (goals_at z ts at ws s) i ≡ Err faults.Place
 refuses_tree z judge made ts at ws s w i h e other =
     let k : IsConsistentAt ts at ws (stage.Tree w) = subst (λ (x : Stage). IsConsistentAt ts at ws x) e h in
     rw e (go (drop at ts) i (omega (arith, length-drop at ts, k.0)) other) where
@@ -136,11 +136,11 @@ pub between_402 : (z : Version) (xs : List Target) → form_fault (ahead z xs) �
 between_402 z [] = refl
 between_402 z (t ∷ ts) = refl
 
-pub tree_402 : (z : Version) (xs : List Target) (w : Waiting) (ws : List Waiting) → 0 < length xs → form_fault (tree_goals z xs w ws) ≡ 402
-tree_402 z [] w ws some = absurd (omega arith)
-tree_402 z (t ∷ ts) w ws some = refl
+pub form_fault-tree_goals : (z : Version) (xs : List Target) (w : WaitingRegion) (ws : List WaitingRegion) → 0 < length xs → form_fault (tree_goals z xs w ws) ≡ faults.Form
+form_fault-tree_goals z [] w ws some = absurd (omega arith)
+form_fault-tree_goals z (t ∷ ts) w ws some = refl
 
-pub not_ended : (z : Version) (ts : List Target) (at : ℕ) (ws : List Waiting) (s : Stage) (n : ℕ) → IsConsistentAt ts at ws s → s ≢ stage.Ended → at_end n (goals_at z ts at ws s) ≡ Some (ended_early n)
+pub not_ended : (z : Version) (ts : List Target) (at : ℕ) (ws : List WaitingRegion) (s : Stage) (n : ℕ) → IsConsistentAt ts at ws s → s ≢ stage.Ended → at_end n (goals_at z ts at ws s) ≡ Some (ended_early n)
 not_ended z ts at ws stage.Header n h ne = refl
 not_ended z ts at ws stage.Between n h ne = go (drop at ts) where
   go : (xs : List Target) → at_end n (ahead z xs) ≡ Some (ended_early n)
@@ -152,10 +152,10 @@ not_ended z ts at ws (stage.Tree w) n h ne = go (drop at ts) (omega (arith, leng
   go (t ∷ ts) some = refl
 not_ended z ts at ws stage.Ended n h ne = absurd (ne refl)
 
-pub form_fault_between : (z : Version) (ts : List Target) (at : ℕ) (ws : List Waiting) (s : Stage) → s ≡ stage.Between → 402 ≡ form_fault (goals_at z ts at ws s)
-form_fault_between z ts at ws s e = rw e (sym (between_402 z (drop at ts)))
+pub form_fault_between : (z : Version) (ts : List Target) (at : ℕ) (ws : List WaitingRegion) (s : Stage) → s ≡ stage.Between → faults.Form ≡ form_fault (goals_at z ts at ws s)
+form_fault_between z ts at ws s e = rw e (sym (form_fault-ahead z (drop at ts)))
 
-pub form_fault_tree : (z : Version) (ts : List Target) (at : ℕ) (ws : List Waiting) (s : Stage) (w : Waiting) → IsConsistentAt ts at ws s → s ≡ stage.Tree w → 402 ≡ form_fault (goals_at z ts at ws s)
+pub form_fault_tree : (z : Version) (ts : List Target) (at : ℕ) (ws : List WaitingRegion) (s : Stage) (w : WaitingRegion) → IsConsistentAt ts at ws s → s ≡ stage.Tree w → faults.Form ≡ form_fault (goals_at z ts at ws s)
 form_fault_tree z ts at ws s w h e =
     let k : IsConsistentAt ts at ws (stage.Tree w) = subst (λ (x : Stage). IsConsistentAt ts at ws x) e h in
     rw e (sym (tree_402 z (drop at ts) w ws (omega (arith, length-drop at ts, k.0))))

@@ -4,13 +4,13 @@ use Rattle.fx_base.specs.declared.fault.Fault.{Fault}
 use Rattle.fx_base.specs.declared.fault.Place.TheVariants as places
 use Rattle.fx_base.specs.Fault.{fault_at}
 use Rattle.fx_base.specs.Device.{MayBeLeft}
-use Rattle.fx_base.specs.Lines.{Lines, AtLine, AtEnd, GoesOn, Refuses, Stops, text_lines, next_number, line_len, Advances, Fails}
+use Rattle.fx_base.specs.Lines.{Lines, AtLine, AtTextEnd, GoesOnToLines, RefusesText, StopsText, text_lines, next_number, line_len, AdvancesToLine, Fails}
 use Rattle.fx_base.proofs.GoingOn.{cut_off_behind, may_follow, nothing_left, something_follows}
 use Rattle.fx_run_text.proofs.RunLines.{long_first}
 use Rattle.fx_check.specs.Judging.{Judge}
 use Rattle.fx_check.specs.Outcomes.{Continues, IsRefusal, StandsBehind}
-use Rattle.fx_check.specs.Verdict as verdict
-use Rattle.fx_check.specs.Verdict.{Goal, Line, Refusal, at_line, refused, at_end, goes_on, first_refusal, reading_of, after_reading, made_after}
+use Rattle.fx_check.specs.FirstRefusal as verdict
+use Rattle.fx_check.specs.FirstRefusal.{Goal, Line, Refusal, at_line, refusal_at, at_end, goes_on, first_refusal, reading_of, after_reading, made_after}
 
 one_on : (judge : Judge) (n m made : ℕ) (gs left : List Goal) (l : Line) (ls : List Line) → m ≡ next_number n → after_reading judge made gs (reading_of l) ≡ Ok left
     → first_refusal judge n made gs (l ∷ ls) ≡ first_refusal judge m (made_after made (reading_of l)) left ls
@@ -53,20 +53,20 @@ refuses_line judge first old new all gs made k e before at after fault =
 -- ---- the end
 
 -- the text has ended, and nothing is left to say
-pub ends_well : (judge : Judge) (first old new : Lines) (all gs : List Goal) (made : ℕ) → Continues judge first all old made gs → AtEnd old new → at_end old.number gs ≡ None → Comes judge first all (λ r. r ≡ None)
+pub ends_well : (judge : Judge) (first old new : Lines) (all gs : List Goal) (made : ℕ) → Continues judge first all old made gs → AtTextEnd old new → at_end old.number gs ≡ None → Comes judge first all (λ r. r ≡ None)
 ends_well judge first old new all gs made before at none =
     let whole = before [] (nothing_left old.left new.left at.text) in
     (whole.0, whole.1, whole.2 ∙ none)
 
 -- and nothing is left
-none_behind : (old new : Lines) → AtEnd old new → MayBeLeft new.left []
+none_behind : (old new : Lines) → AtTextEnd old new → MayBeLeft new.left []
 none_behind old new at = told old.left refl at.text where
   told : (o : Option (List ℕ)) → old.left ≡ o → IfSome o (λ text. (text ≡ []) × (new.left ≡ Some [])) → MayBeLeft new.left []
   told None is h = rw (at.untold is) tt
   told (Some text) is h = rw h.1 refl
 
 -- the text has ended too early
-pub ends_early : (judge : Judge) (first old new : Lines) (all gs : List Goal) (made : ℕ) (e : Fault) → Continues judge first all old made gs → AtEnd old new → at_end new.number gs ≡ Some (record { fault = e; last = new.number; behind = [] }) → Comes judge first all (IsRefusal e new)
+pub ends_early : (judge : Judge) (first old new : Lines) (all gs : List Goal) (made : ℕ) (e : Fault) → Continues judge first all old made gs → AtTextEnd old new → at_end new.number gs ≡ Some (record { fault = e; last = new.number; behind = [] }) → Comes judge first all (IsRefusal e new)
 ends_early judge first old new all gs made e before at early =
     let whole = before [] (nothing_left old.left new.left at.text) in
     let stands : StandsBehind new (record { fault = e; last = new.number; behind = [] }) = inr (at.going.1, refl, ([], none_behind old new at, refl)) in
@@ -81,14 +81,14 @@ too_long judge first old new all gs made e before stopped fault text left long =
     let is : first_refusal judge old.number made gs (text_lines text) ≡ Some (refused 903 (next_number old.number) f.1) = rw (f.2, f.3) refl in
     (whole.0, whole.1, subst (IsRefusal e new) (sym (whole.2 ∙ is)) (fault, inl (refl, stopped ∙ ap (λ (x : Fault). Some x) fault)))
 
-pub reader_refuses : (judge : Judge) (first old new : Lines) (all gs : List Goal) (made : ℕ) (e : Fault) → Continues judge first all old made gs → GoesOn first old → ((f : Fault) → old.stopped ≡ Some f → first.stopped ≡ Some f) → Refuses old new e
+pub reader_refuses : (judge : Judge) (first old new : Lines) (all gs : List Goal) (made : ℕ) (e : Fault) → Continues judge first all old made gs → GoesOnToLines first old → ((f : Fault) → old.stopped ≡ Some f → first.stopped ≡ Some f) → RefusesText old new e
     → Fails first new e ⊎ Comes judge first all (IsRefusal e new)
 reader_refuses judge first old new all gs made e reads on before h = by_stopped old.stopped refl h.again h.first where
-  by_stops : Stops old new e → Fails first new e ⊎ Comes judge first all (IsRefusal e new)
+  by_stops : StopsText old new e → Fails first new e ⊎ Comes judge first all (IsRefusal e new)
   by_stops (inl (is, cut)) = inl (inr (is, cut_off_behind first old new on cut))
   by_stops (inr (is, (text, left, long))) = inr (too_long judge first old new all gs made e reads h.from_now_on is text left long)
 
-  by_stopped : (s : Option Fault) → old.stopped ≡ s → IfSome s (λ f. e ≡ f) → (s ≡ None → Stops old new e) → Fails first new e ⊎ Comes judge first all (IsRefusal e new)
+  by_stopped : (s : Option Fault) → old.stopped ≡ s → IfSome s (λ f. e ≡ f) → (s ≡ None → StopsText old new e) → Fails first new e ⊎ Comes judge first all (IsRefusal e new)
   by_stopped (Some f) is again stops = inl (inl (before e (is ∙ ap (λ (x : Fault). Some x) (sym again))))
   by_stopped None is again stops = by_stops (stops refl)
 
@@ -98,11 +98,11 @@ pub ok_gives : {X E A B : Type 0} (r : Result X E) → OnOk r A → (A → B) �
 ok_gives (Ok x) h f = f h
 ok_gives (Err e) h f = tt
 
-pub at_line_of : (old new : Lines) (going : Bool) → Advances old new (Ok going) → going ≡ true → AtLine old new
-at_line_of old new going h e = subst (λ b. Advances old new (Ok b)) e h
+pub at_line_of : (old new : Lines) (going : Bool) → AdvancesToLine old new (Ok going) → going ≡ true → AtLine old new
+at_line_of old new going h e = subst (λ b. AdvancesToLine old new (Ok b)) e h
 
-pub at_end_of : (old new : Lines) (going : Bool) → Advances old new (Ok going) → going ≡ false → AtEnd old new
-at_end_of old new going h e = subst (λ b. Advances old new (Ok b)) e h
+pub at_end_of : (old new : Lines) (going : Bool) → AdvancesToLine old new (Ok going) → going ≡ false → AtTextEnd old new
+at_end_of old new going h e = subst (λ b. AdvancesToLine old new (Ok b)) e h
 
 -- the line that was lent is the reader's
 pub lent_line : {A : Type 0} (f : Line → A) (new : Lines) (bytes : List ℕ) (ended : Bool) → bytes ≡ new.line → ended ≡ new.ended → f (new.line, new.ended) ≡ f (bytes, ended)

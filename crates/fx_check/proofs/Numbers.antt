@@ -3,7 +3,7 @@ use Rattle.std.proofs.Common.{◌≡◌, ℕ, Bool, true, false, List, [], ◌�
 use Rattle.fx_base.specs.declared.fault.Fault.{Fault}
 use Rattle.fx_base.specs.declared.fault.Place.TheVariants as places
 use Rattle.fx_base.specs.Fault.{fault_at}
-use Rattle.fx_base.specs.Lines.{Lines, Refuses, Stops, next_number}
+use Rattle.fx_base.specs.Lines.{Lines, RefusesText, StopsText, next_number}
 use Rattle.fx_boxes.specs.Boxes.{Bounds}
 use Rattle.fx_cert.specs.declared.item.Item.{Item}
 use Rattle.fx_cert.specs.declared.item.Item.TheVariants as item
@@ -16,7 +16,10 @@ use Rattle.fx_leaf.specs.Verdicts.{Verdict, path_verdict, counter}
 use Rattle.fx_check.specs.Judging.{judge_of, same_leaf, unless_same, unless_never}
 use Rattle.fx_check.specs.Outcomes.{IsCertificateNumber, IsCheckFault, memory, device, too_long, wrong, IsToldBy}
 use Rattle.fx_traffic.specs.Targets.{Target}
-use Rattle.fx_check.specs.Verdict.{Goal, header, opening, tree, close, Reading, long, cut, malformed, says, Refusal, at_line, at_end, after, after_reading, form_fault, leaf_answer, split_answer, unless_wrong, parts, may_say_never}
+use Rattle.fx_check.specs.FirstRefusal.{Goal, header, opening, tree, close, LineReading, long, cut, malformed, says, Refusal, at_line, at_end, after, after_reading, form_fault, leaf_answer, split_answer, unless_wrong, parts, may_say_never, by_number}
+use Rattle.fx_check.specs.LineFaults.{number_of}
+use Rattle.fx_check.specs.declared.line_fault.LineFault.{LineFault}
+use Rattle.fx_check.specs.declared.line_fault.LineFault.TheVariants as faults
 
 -- the number of a fault, if there is one
 abbrev number_or : ℕ → Result (List Goal) ℕ → ℕ
@@ -132,7 +135,7 @@ form_number (tree z t b d ∷ gs) = (omega arith, omega arith)
 form_number (close ∷ gs) = (omega arith, omega arith)
 
 -- a line was refused
-pub line_fault : (net : Net) (made : ℕ) (gs : List Goal) (r : Reading) (k n : ℕ) → after_reading (judge_of net) made gs r ≡ Err k → IsCheckFault (at_line k n)
+pub line_fault : (net : Net) (made : ℕ) (gs : List Goal) (r : LineReading) (k n : ℕ) → after_reading (judge_of net) made gs r ≡ Err k → IsCheckFault (at_line k n)
 line_fault net made gs long k n e = subst (λ m. IsCheckFault (at_line m n)) (ap (number_or 0) e) (too_long n)
 line_fault net made gs cut k n e = wrong k n (is_number 405 k (omega arith, omega arith) e)
 line_fault net made gs malformed k n e = wrong k n (is_number (form_fault gs) k (form_number gs) e)
@@ -147,13 +150,13 @@ end_fault n (g ∷ gs) e last h = subst IsCheckFault (ap fault_or h) (wrong 405 
   fault_or (Some r) = r.fault
 
 -- the reader itself has refused, which it hadn't before unless it had at first
-pub reader_fault : (first old new : Lines) (e : Fault) → ((f : Fault) → old.stopped ≡ Some f → first.stopped ≡ Some f) → Refuses old new e → IsToldBy first e
+pub reader_fault : (first old new : Lines) (e : Fault) → ((f : Fault) → old.stopped ≡ Some f → first.stopped ≡ Some f) → RefusesText old new e → IsToldBy first e
 reader_fault first old new e before h = by_stopped old.stopped refl h.again h.first where
-  by_stops : Stops old new e → IsToldBy first e
+  by_stops : StopsText old new e → IsToldBy first e
   by_stops (inl k) = inr (subst IsCheckFault (sym k.0) device)
   by_stops (inr k) = inr (subst IsCheckFault (sym k.0) (too_long (next_number old.number)))
 
-  by_stopped : (s : Option Fault) → old.stopped ≡ s → IfSome s (λ f. e ≡ f) → (s ≡ None → Stops old new e) → IsToldBy first e
+  by_stopped : (s : Option Fault) → old.stopped ≡ s → IfSome s (λ f. e ≡ f) → (s ≡ None → StopsText old new e) → IsToldBy first e
   by_stopped (Some f) is again stops = inl (before e (is ∙ ap (λ (x : Fault). Some x) (sym again)))
   by_stopped None is again stops = by_stops (stops refl)
 

@@ -11,7 +11,7 @@ use Rattle.fx_tables.specs.Ranks.{IsNetwork}
 use Rattle.fx_check.specs.Judging.{judge_of}
 use Rattle.fx_check.specs.Outcomes.{IsRefusal, Accepts, MayBeAccepted, MayBeCertificate, MayBeRefused}
 use Rattle.fx_traffic.specs.Targets.{Target, targets_of, AreRegions}
-use Rattle.fx_check.specs.Verdict.{Refusal, whole, first_refusal}
+use Rattle.fx_check.specs.FirstRefusal.{Refusal, whole, first_refusal}
 use Rattle.fx_check.proofs.AcceptedCertificates.{certificate_only, certificate_all, certified_once, certified_modulo}
 
 abbrev IsFault : Net → List Class → Lines → Lines → Fault → Type 0

@@ -11,10 +11,10 @@ use Rattle.fx_leaf.specs.declared.leaf.Counted.{Counted}
 use Rattle.fx_leaf.specs.Certificates.{Tree, Leaf, Uncounted, Split}
 use Rattle.fx_check.specs.Judging.{Judge}
 use Rattle.fx_traffic.specs.Targets.{Target}
-use Rattle.fx_check.specs.Verdict.{Goal, header, opening, tree, close, ahead, whole, line_limit, depth_limit, may_say_never, leaf_answer, split_answer, parts, after, made_by, Reading, long, cut, malformed, says, after_reading, made_after}
+use Rattle.fx_check.specs.FirstRefusal.{Goal, header, opening, tree, close, ahead, whole, line_limit, depth_limit, may_say_never, leaf_answer, split_answer, parts, after, made_by, LineReading, long, cut, malformed, says, after_reading, made_after, by_number}
 use Rattle.fx_check.specs.Certificates.{tree_items, size, sizes, body_items, certificate_items}
 
-abbrev lines : List Item → List Reading
+abbrev lines : List Item → List LineReading
 lines is = map says is
 
 abbrev leaf_named : ℕ → ℕ → ℕ → Counted
@@ -44,17 +44,17 @@ abbrev pub on : (List Goal → Option ℕ) → Result (List Goal) ℕ → Option
 on next (Ok left) = next left
 on next (Err n) = Some n
 
-abbrev pub verdict : Judge → ℕ → List Goal → List Reading → Option ℕ
+abbrev pub verdict : Judge → ℕ → List Goal → List LineReading → Option ℕ
 verdict judge made gs [] = at_the_end gs
 verdict judge made gs (r ∷ rs) = on (λ left. verdict judge (made_after made r) left rs) (after_reading judge made gs r)
 
 -- the readings say what the goals behind the first line want, in n split and leaf lines
-abbrev Fulfils : Judge → List Goal → List Reading → ℕ → Type 0
+abbrev Fulfils : Judge → List Goal → List LineReading → ℕ → Type 0
 Fulfils judge [] rs n = (rs ≡ []) × (n ≡ 0)
 Fulfils judge (header ts ∷ gs) rs n = Unit {0}
-Fulfils judge (opening t ∷ gs) rs n = (rest : List Reading) × (rs ≡ says (item.Class t.class t.path) ∷ rest) × Fulfils judge gs rest n
-Fulfils judge (tree z t b d ∷ gs) rs n = (x : Tree) × (rest : List Reading) × (m : ℕ) × (rs ≡ lines (tree_items x) ++ rest) × IsRight judge z t b d x × (n ≡ size x + m) × Fulfils judge gs rest m
-Fulfils judge (close ∷ gs) rs n = (rest : List Reading) × (rs ≡ says item.End ∷ rest) × Fulfils judge gs rest n
+Fulfils judge (opening t ∷ gs) rs n = (rest : List LineReading) × (rs ≡ says (item.Class t.class t.path) ∷ rest) × Fulfils judge gs rest n
+Fulfils judge (tree z t b d ∷ gs) rs n = (x : Tree) × (rest : List LineReading) × (m : ℕ) × (rs ≡ lines (tree_items x) ++ rest) × IsRight judge z t b d x × (n ≡ size x + m) × Fulfils judge gs rest m
+Fulfils judge (close ∷ gs) rs n = (rest : List LineReading) × (rs ≡ says item.End ∷ rest) × Fulfils judge gs rest n
 
 bounded : (a n l : ℕ) → a ≤ l → (0 < n → a + n ≤ l) → a + n ≤ l
 bounded a zero l h f = omega arith
@@ -103,22 +103,22 @@ split_ok made b d k at gs left e =
 abbrev count : Item → ℕ
 count i = made_by 0 i
 
-regroup : (xs ys : List Item) (rest : List Reading) → lines xs ++ (lines ys ++ rest) ≡ lines (xs ++ ys) ++ rest
+regroup : (xs ys : List Item) (rest : List LineReading) → lines xs ++ (lines ys ++ rest) ≡ lines (xs ++ ys) ++ rest
 regroup [] ys rest = refl
-regroup (i ∷ xs) ys rest = ap (λ (w : List Reading). says i ∷ w) (regroup xs ys rest)
+regroup (i ∷ xs) ys rest = ap (λ (w : List LineReading). says i ∷ w) (regroup xs ys rest)
 
 joined : (xs ys : List Item) → lines xs ++ lines ys ≡ lines (xs ++ ys)
 joined [] ys = refl
-joined (i ∷ xs) ys = ap (λ (w : List Reading). says i ∷ w) (joined xs ys)
+joined (i ∷ xs) ys = ap (λ (w : List LineReading). says i ∷ w) (joined xs ys)
 
-split_fulfils : (judge : Judge) (z : Version) (t : Target) (b : Bounds) (d : ℕ) (a : Axis) (at : ℕ) (gs : List Goal) (rs : List Reading) (n : ℕ) → d < depth_limit → IsStrictlyInside b (axis_index a) at
+split_fulfils : (judge : Judge) (z : Version) (t : Target) (b : Bounds) (d : ℕ) (a : Axis) (at : ℕ) (gs : List Goal) (rs : List LineReading) (n : ℕ) → d < depth_limit → IsStrictlyInside b (axis_index a) at
     → Fulfils judge (parts z t b d (axis_index a) at gs) rs n → Fulfils judge (tree z t b d ∷ gs) (says (item.Split a at) ∷ rs) (1 + n)
 split_fulfils judge z t b d a at gs rs n lt inside f =
     let x = f.0 in let y = f.6.0 in
-    let e : rs ≡ lines (tree_items x) ++ (lines (tree_items y) ++ f.6.1) = f.3 ∙ ap (λ (w : List Reading). lines (tree_items x) ++ w) f.6.3 in
-    (Split a at x y, f.6.1, f.6.2, rw e (ap (λ (w : List Reading). says (item.Split a at) ∷ w) (regroup (tree_items x) (tree_items y) f.6.1)), (lt, inside, f.4, f.6.4), omega (arith, f.5, f.6.5), f.6.6)
+    let e : rs ≡ lines (tree_items x) ++ (lines (tree_items y) ++ f.6.1) = f.3 ∙ ap (λ (w : List LineReading). lines (tree_items x) ++ w) f.6.3 in
+    (Split a at x y, f.6.1, f.6.2, rw e (ap (λ (w : List LineReading). says (item.Split a at) ∷ w) (regroup (tree_items x) (tree_items y) f.6.1)), (lt, inside, f.4, f.6.4), omega (arith, f.5, f.6.5), f.6.6)
 
-fulfils_more : (judge : Judge) (made : ℕ) (gs left : List Goal) (i : Item) (rs : List Reading) (n : ℕ) → after judge made gs i ≡ Ok left → (0 < n → made_by made i + n ≤ line_limit) → Fulfils judge left rs n
+fulfils_more : (judge : Judge) (made : ℕ) (gs left : List Goal) (i : Item) (rs : List LineReading) (n : ℕ) → after judge made gs i ≡ Ok left → (0 < n → made_by made i + n ≤ line_limit) → Fulfils judge left rs n
     → (m : ℕ) × (0 < m → made + m ≤ line_limit) × Fulfils judge gs (says i ∷ rs) m
 fulfils_more judge made [] left i rs n e le f = absurd cc
 fulfils_more judge made (header ts ∷ gs) left (item.Header z) rs n e le f = (0, λ h. absurd (omega arith), tt)
@@ -172,7 +172,7 @@ ended [] e = refl
 ended (g ∷ gs) e = absurd cc
 
 -- readings without a fault say what is wanted
-pub fulfils : (judge : Judge) (made : ℕ) (gs : List Goal) (rs : List Reading) → verdict judge made gs rs ≡ None → (n : ℕ) × (0 < n → made + n ≤ line_limit) × Fulfils judge gs rs n
+pub fulfils : (judge : Judge) (made : ℕ) (gs : List Goal) (rs : List LineReading) → verdict judge made gs rs ≡ None → (n : ℕ) × (0 < n → made + n ≤ line_limit) × Fulfils judge gs rs n
 fulfils judge made gs [] e = rw (ended gs e) (0, λ h. absurd (omega arith), (refl, refl))
 fulfils judge made gs (long ∷ rs) e = absurd cc
 fulfils judge made gs (cut ∷ rs) e = absurd cc
@@ -184,14 +184,14 @@ fulfils judge made gs (says i ∷ rs) e = go (λ left h. fulfils judge (made_by 
   go more (Err n) is e = absurd cc
 
 -- what the targets want is a certificate's body
-body_only : (judge : Judge) (z : Version) (ts : List Target) (rs : List Reading) (n : ℕ) → Fulfils judge (ahead z ts) rs n → (xs : List Tree) × (rs ≡ lines (body_items ts xs)) × AllRight judge z ts xs × (n ≡ sizes xs)
-body_only judge z [] rs n f = ([], f.1 ∙ ap (λ (w : List Reading). says item.End ∷ w) f.2.0, tt, f.2.1)
+body_only : (judge : Judge) (z : Version) (ts : List Target) (rs : List LineReading) (n : ℕ) → Fulfils judge (ahead z ts) rs n → (xs : List Tree) × (rs ≡ lines (body_items ts xs)) × AllRight judge z ts xs × (n ≡ sizes xs)
+body_only judge z [] rs n f = ([], f.1 ∙ ap (λ (w : List LineReading). says item.End ∷ w) f.2.0, tt, f.2.1)
 body_only judge z (t ∷ ts) rs n f =
     let k = f.2 in
     let b = body_only judge z ts k.1 k.2 k.6 in
-    (k.0 ∷ b.0, f.1 ∙ ap (λ (w : List Reading). says (item.Class t.class t.path) ∷ w) (k.3 ∙ ap (λ (w : List Reading). lines (tree_items k.0) ++ w) b.1 ∙ joined (tree_items k.0) (body_items ts b.0)), (k.4, b.2), k.5 ∙ ap (λ (m : ℕ). size k.0 + m) b.3)
+    (k.0 ∷ b.0, f.1 ∙ ap (λ (w : List LineReading). says (item.Class t.class t.path) ∷ w) (k.3 ∙ ap (λ (w : List LineReading). lines (tree_items k.0) ++ w) b.1 ∙ joined (tree_items k.0) (body_items ts b.0)), (k.4, b.2), k.5 ∙ ap (λ (m : ℕ). size k.0 + m) b.3)
 
-pub right_only : (judge : Judge) (ts : List Target) (rs : List Reading) → verdict judge 0 (whole ts) rs ≡ None → (z : Version) × (xs : List Tree) × (rs ≡ lines (certificate_items z ts xs)) × AllRight judge z ts xs × (sizes xs ≤ line_limit)
+pub right_only : (judge : Judge) (ts : List Target) (rs : List LineReading) → verdict judge 0 (whole ts) rs ≡ None → (z : Version) × (xs : List Tree) × (rs ≡ lines (certificate_items z ts xs)) × AllRight judge z ts xs × (sizes xs ≤ line_limit)
 right_only judge ts [] e = absurd cc
 right_only judge ts (long ∷ rs) e = absurd cc
 right_only judge ts (cut ∷ rs) e = absurd cc
@@ -200,7 +200,7 @@ right_only judge ts (says (item.Header z) ∷ rs) e =
     let h : verdict judge 0 (ahead z ts) rs ≡ None = subst (λ (g : List Goal). verdict judge 0 g rs ≡ None) (append-nil (ahead z ts)) e in
     let f = fulfils judge 0 (ahead z ts) rs h in
     let b = body_only judge z ts rs f.0 f.2 in
-    (z, b.0, ap (λ (w : List Reading). says (item.Header z) ∷ w) b.1, b.2, omega (arith, bounded 0 f.0 line_limit (omega arith) f.1, b.3))
+    (z, b.0, ap (λ (w : List LineReading). says (item.Header z) ∷ w) b.1, b.2, omega (arith, bounded 0 f.0 line_limit (omega arith) f.1, b.3))
 right_only judge ts (says (item.Class c m) ∷ rs) e = absurd cc
 right_only judge ts (says (item.Leaf crossing point process) ∷ rs) e = absurd cc
 right_only judge ts (says item.Never ∷ rs) e = absurd cc
@@ -209,8 +209,8 @@ right_only judge ts (says item.End ∷ rs) e = absurd cc
 
 -- ---- back
 
-goes : (judge : Judge) (made : ℕ) (gs left : List Goal) (i : Item) (rs : List Reading) → after judge made gs i ≡ Ok left → verdict judge (made_by made i) left rs ≡ None → verdict judge made gs (says i ∷ rs) ≡ None
-goes judge made gs left i rs e h = ap (on (λ left. verdict judge (made_by made i) left rs)) e ∙ h
+goes : (judge : Judge) (made : ℕ) (gs left : List Goal) (i : Item) (rs : List LineReading) → after judge made gs i ≡ Ok left → verdict judge (made_by made i) left rs ≡ None → verdict judge made gs (says i ∷ rs) ≡ None
+goes judge made gs left i rs e h = ap (λ (r : Result (List Goal) LineFault). on (λ left. verdict judge (made_by made i) left rs) (by_number r)) e ∙ h
 
 first : {A : Type 0} (b : Bool) (x z : A) → b ≡ true → cond b x z ≡ x
 first true x z e = refl
@@ -223,7 +223,7 @@ second false x y e = refl
 leaf_goes : (made : ℕ) (wrong : Option ℕ) (gs : List Goal) → made < line_limit → wrong ≡ None → leaf_answer made wrong gs ≡ Ok gs
 leaf_goes made wrong gs lt right = rw (lt-leb line_limit made lt, right) refl
 
-tree_all : (judge : Judge) (z : Version) (t : Target) (x : Tree) (b : Bounds) (d made : ℕ) (gs : List Goal) (rest : List Reading) → IsRight judge z t b d x → made + size x ≤ line_limit
+tree_all : (judge : Judge) (z : Version) (t : Target) (x : Tree) (b : Bounds) (d made : ℕ) (gs : List Goal) (rest : List LineReading) → IsRight judge z t b d x → made + size x ≤ line_limit
     → verdict judge (made + size x) gs rest ≡ None → verdict judge made (tree z t b d ∷ gs) (lines (tree_items x) ++ rest) ≡ None
 tree_all judge z t (Leaf crossing point process) b d made gs rest right le then =
     let answer = leaf_answer made (judge t b (Some (leaf_named crossing point process))) gs in

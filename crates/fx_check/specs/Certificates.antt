@@ -10,7 +10,7 @@ use Rattle.fx_tables.specs.Classes.{Class}
 use Rattle.fx_tables.specs.Network.{Net}
 use Rattle.fx_leaf.specs.Certificates.{Tree, Leaf, Uncounted, Split, Sound}
 use Rattle.fx_traffic.specs.Targets.{Target, targets_of}
-use Rattle.fx_check.specs.Verdict.{Line, line_limit, depth_limit}
+use Rattle.fx_check.specs.FirstRefusal.{Line, line_limit, depth_limit}
 
 -- a split, then the tree of its lower part, then that of its upper part
 abbrev pub tree_items : Tree → List Item

@@ -1,5 +1,5 @@
 pub mod Judging
-pub mod Verdict
+pub mod FirstRefusal
 pub mod Certificates
 pub mod Remaining
 pub mod Outcomes

@@ -10,7 +10,7 @@ use Rattle.fx_tables.specs.Network.{Net}
 use Rattle.fx_traffic.specs.Targets.{Target}
 use Rattle.fx_check.specs.Certificates.{IsCertificate}
 use Rattle.fx_check.specs.Judging.{Judge, judge_of}
-use Rattle.fx_check.specs.Verdict.{Goal, Refusal, whole, first_refusal}
+use Rattle.fx_check.specs.FirstRefusal.{Goal, Refusal, whole, first_refusal}
 
 -- the reader goes on behind the refused line, unless it was the reader that refused a line that is too long
 abbrev pub StandsBehind : Lines → Refusal → Type 0

@@ -3,30 +3,31 @@ use Rattle.std.specs.Prelude.{◌≡◌, ℕ, ◌+◌, ◌<◌, ◌≤◌, List,
 use Rattle.fx_boxes.specs.Boxes.{below_part, above_part}
 use Rattle.fx_cert.specs.declared.item.Version.{Version}
 use Rattle.fx_traffic.specs.Targets.{Target}
-use Rattle.fx_check.specs.declared.stack.Waiting.{Waiting}
+use Rattle.fx_check.specs.declared.stack.WaitingRegion.{WaitingRegion}
 use Rattle.fx_check.specs.declared.course.Course.{Course}
 use Rattle.fx_check.specs.declared.course.Stage.{Stage}
 use Rattle.fx_check.specs.declared.course.Stage.TheVariants as stage
-use Rattle.fx_check.specs.Verdict.{Goal, header, tree, ahead}
+use Rattle.fx_check.specs.FirstRefusal.{Goal, header, tree, ahead}
+use Rattle.fx_check.specs.declared.line_fault.LineFault.{LineFault}
 
 -- the two parts of a region that waits, a step deeper
-abbrev pub below_waits : Waiting → ℕ → ℕ → Waiting
+abbrev pub below_waits : WaitingRegion → ℕ → ℕ → WaitingRegion
 below_waits w k v = record { region = below_part w.region k v; depth = w.depth + 1 }
 
-abbrev pub above_waits : Waiting → ℕ → ℕ → Waiting
+abbrev pub above_waits : WaitingRegion → ℕ → ℕ → WaitingRegion
 above_waits w k v = record { region = above_part w.region k v; depth = w.depth + 1 }
 
 -- the regions that wait, the last of them first, and then gs
-abbrev pub waiting_goals : Version → Target → List Waiting → List Goal → List Goal
+abbrev pub waiting_goals : Version → Target → List WaitingRegion → List Goal → List Goal
 waiting_goals v t [] gs = gs
 waiting_goals v t (w ∷ ws) gs = waiting_goals v t ws (tree v t w.region w.depth ∷ gs)
 
 -- within the tree of the first of the targets
-abbrev pub tree_goals : Version → List Target → Waiting → List Waiting → List Goal
+abbrev pub tree_goals : Version → List Target → WaitingRegion → List WaitingRegion → List Goal
 tree_goals v [] w ws = []
 tree_goals v (t ∷ ts) w ws = tree v t w.region w.depth ∷ waiting_goals v t ws (ahead v ts)
 
-abbrev pub goals_at : Version → List Target → ℕ → List Waiting → Stage → List Goal
+abbrev pub goals_at : Version → List Target → ℕ → List WaitingRegion → Stage → List Goal
 goals_at v ts at ws stage.Header = header (drop at ts) ∷ []
 goals_at v ts at ws stage.Between = ahead v (drop at ts)
 goals_at v ts at ws (stage.Tree w) = tree_goals v (drop at ts) w ws
@@ -36,14 +37,14 @@ abbrev pub goals : List Target → Course → List Goal
 goals ts c = goals_at c.version ts c.current c.waiting c.stage
 
 -- each region that waits is deeper than its place, which counts from k
-abbrev pub AreDeepFrom : ℕ → List Waiting → Type 0
+abbrev pub AreDeepFrom : ℕ → List WaitingRegion → Type 0
 AreDeepFrom k [] = Unit {0}
 AreDeepFrom k (w ∷ ws) = (k < w.depth) × (w.depth ≤ 512) × AreDeepFrom (k + 1) ws
 
-abbrev pub AreDeep : List Waiting → ℕ → Type 0
+abbrev pub AreDeep : List WaitingRegion → ℕ → Type 0
 AreDeep ws depth = (depth ≤ 512) × (length ws ≤ depth) × AreDeepFrom 0 ws
 
-abbrev pub IsConsistentAt : List Target → ℕ → List Waiting → Stage → Type 0
+abbrev pub IsConsistentAt : List Target → ℕ → List WaitingRegion → Stage → Type 0
 IsConsistentAt ts at ws stage.Header = ws ≡ []
 IsConsistentAt ts at ws stage.Between = ws ≡ []
 IsConsistentAt ts at ws (stage.Tree w) = (at < length ts) × AreDeep ws w.depth
@@ -59,7 +60,7 @@ IsInTree stage.Between = ⊥
 IsInTree (stage.Tree w) = Unit {0}
 IsInTree stage.Ended = ⊥
 
-abbrev pub rest_of_tree : Version → List Target → List Waiting → List Goal
+abbrev pub rest_of_tree : Version → List Target → List WaitingRegion → List Goal
 rest_of_tree v [] ws = []
 rest_of_tree v (t ∷ ts) ws = waiting_goals v t ws (ahead v ts)
 

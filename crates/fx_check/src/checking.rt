@@ -9,7 +9,7 @@ ghost use Rattle.fx_plan.specs.Tables.{net_of};
 ghost use Rattle.fx_check.specs.Outcomes.{IsToldBy, Accepts, MayBeAccepted, MayBeCertificate, MayBeRefused};
 ghost use Rattle.fx_check.specs.Remaining.{goals, IsConsistent};
 ghost use Rattle.fx_traffic.specs.Targets.{AreRegions, targets_of};
-ghost use Rattle.fx_check.specs.Verdict.{whole};
+ghost use Rattle.fx_check.specs.FirstRefusal.{whole};
 
 use crate::course::Course;
 use crate::tables::tables_of;

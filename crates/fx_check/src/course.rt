@@ -5,10 +5,11 @@ ghost use Rattle.fx_elements.specs.Axes.{axis_index};
 ghost use Rattle.fx_leaf.specs.Tables.{AreTables};
 ghost use Rattle.fx_check.specs.Judging.{Judge, judge_of};
 ghost use Rattle.fx_check.specs.Remaining.{goals, rest_goals, IsConsistent, IsInTree, map_result, below_waits, above_waits};
-ghost use Rattle.fx_check.specs.Verdict.{Goal, after, after_reading, split_answer, made_by, made_after, form_fault, reading_of, at_end};
+ghost use Rattle.fx_check.specs.FirstRefusal.{Goal, after, after_reading, split_answer, made_by, made_after, form_fault, reading_of, at_end, by_number};
 
 use crate::judging::{leaf_fault, never_fault};
-use crate::stack::{Stack, Waiting};
+use crate::line_fault::LineFault;
+use crate::stack::{Stack, WaitingRegion};
 use fx_base::{Fault, Line};
 use fx_cert::{Item, Version, read_item};
 use fx_elements::Axis;
@@ -27,7 +28,7 @@ pub(crate) enum Stage {
     /// The line of the current target, or the last line behind all targets.
     Between,
     /// The tree of a region of the current target.
-    Tree(Waiting),
+    Tree(WaitingRegion),
     /// Nothing: the last line was read.
     Ended,
 }
@@ -74,7 +75,7 @@ impl Course {
             let target = &targets[self.current];
             if let Item::Class { class, path } = item {
                 if *class == target.class && *path == target.path {
-                    self.stage = Stage::Tree(Waiting {
+                    self.stage = Stage::Tree(WaitingRegion {
                         region: target.region,
                         depth: 0,
                     });
@@ -330,7 +331,7 @@ impl Course {
 }
 
 /// Where a split may stand, keeps the lower part of a region and answers the upper one, each a step deeper.
-fn split_waiting(made: u32, here: &mut Waiting, axis: Axis, at: u128) -> Result<Waiting, u16>
+fn split_waiting(made: u32, here: &mut WaitingRegion, axis: Axis, at: u128) -> Result<WaitingRegion, LineFault>
     ensures answer { (gs : List Goal)
         → split_answer made here.old.region here.old.depth (axis_index axis) at gs
         ≡ map_result result gs }
@@ -349,7 +350,7 @@ fn split_waiting(made: u32, here: &mut Waiting, axis: Axis, at: u128) -> Result<
     }
     let above = here.region.split_off(axis, at);
     here.depth += 1;
-    Ok(Waiting {
+    Ok(WaitingRegion {
         region: above,
         depth: here.depth,
     })

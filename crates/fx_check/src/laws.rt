@@ -12,7 +12,7 @@ ghost use Rattle.fx_tables.specs.Ranks.{IsNetwork};
 ghost use Rattle.fx_check.specs.Certificates.{IsCertificate};
 ghost use Rattle.fx_check.specs.Judging.{judge_of, IsWrong};
 ghost use Rattle.fx_traffic.specs.Targets.{AreRegions, Target, targets_of};
-ghost use Rattle.fx_check.specs.Verdict.{Line, first_refusal, whole};
+ghost use Rattle.fx_check.specs.FirstRefusal.{Line, first_refusal, whole};
 
 /// Lines have no refusal exactly where they are those of a certificate: a sound tree for each path of each class,
 /// within the limits.

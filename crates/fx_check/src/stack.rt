@@ -10,7 +10,7 @@ pub(crate) const DEPTHS: usize = 512;
 
 /// A region that waits for its tree, and the depth of that tree's root.
 #[derive(Clone, Copy, Debug, PartialEq, Eq)]
-pub(crate) struct Waiting {
+pub(crate) struct WaitingRegion {
     pub(crate) region: Region,
     pub(crate) depth: u32,
 }
@@ -18,14 +18,14 @@ pub(crate) struct Waiting {
 /// Up to 512 regions, the last of which comes next. All its room is made at the start.
 #[derive(Drop)]
 pub(crate) struct Stack {
-    items: Vec<Waiting>,
+    items: Vec<WaitingRegion>,
 }
 
 impl Model for Stack {
     ghost use Rattle.std.specs.Prelude.{List, length, vec_capacity, ◌≤◌};
-    ghost use Rattle.fx_check.specs.declared.stack.Waiting.{Waiting};
+    ghost use Rattle.fx_check.specs.declared.stack.WaitingRegion.{WaitingRegion};
 
-    ghost Value = { List Waiting };
+    ghost Value = { List WaitingRegion };
 
     ghost view = { λ s. s.items.items };
 
@@ -43,7 +43,7 @@ impl Stack {
     }
 
     /// Puts a region on top.
-    pub(crate) fn push(&mut self, waiting: Waiting)
+    pub(crate) fn push(&mut self, waiting: WaitingRegion)
         requires { length self.old < 512 }
         ensures { self.new ≡ self.old ++ waiting ∷ [] }
     {
@@ -54,7 +54,7 @@ impl Stack {
     }
 
     /// Takes the region on top.
-    pub(crate) fn pop(&mut self) -> Option<Waiting>
+    pub(crate) fn pop(&mut self) -> Option<WaitingRegion>
         ensures items { self.old ≡ self.new ++ option_to_list result }
         ensures none { IfNone result (self.old ≡ []) }
     {

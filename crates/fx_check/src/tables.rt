@@ -14,7 +14,7 @@ pub fn tables_of(plan: &Plan) -> Tables<'_>
 {
     Tables::new(
         plan.net(),
-        plan.order(),
+        plan.downwards(),
         plan.layouts(),
         plan.layout_numbers(),
     )

@@ -24,7 +24,7 @@ use Rattle.clap.proofs.WalkLemmas.{first_value-rows, one_text-rows}
 use Rattle.std.proofs.lemmas.Slice.Eq.{bytes_eq-Decides}
 use Rattle.fx_cli.specs.Words.{IsLimit, Names, NamesAudit, NamesFiles, NamesNoCall, NamesRun}
 use Rattle.fx_cli.specs.CommandLine.{AreMatchesOf, file_rule, limit_rule, links_rule, once_app, over_capture, over_documents, over_network, wants_command}
-use Rattle.fx_cli.specs.Matches.{HoldsLimit, HasFile, IsAuditOf, IsCheckOf, IsCollectOf, IsConfirmOf, IsReplayOf, IsRunOf}
+use Rattle.fx_cli.specs.Matches.{HoldsLimit, HasFile, IsAuditOf, IsCheckOf, IsCollectOf, IsConfirmOf, IsReplayOf, IsRunCall}
 use Rattle.fx_cli.proofs.SingleWords.{Fails}
 use Rattle.fx_cli.proofs.AcceptedWords.{Refuses, Takes, TakesAudit, TakesRun, decide_words}
 use Rattle.fx_cli.proofs.CheckWords.{check_rows}
@@ -536,7 +536,7 @@ names_audit words found f (Audit a b n) h =
     ))
     f.named
 
-pub names_run : (words : List Text) (found : Found) → HasRun words found → (call : Call) → IsRunOf found call → Names words call
+pub names_run : (words : List Text) (found : Found) → HasRun words found → (call : Call) → IsRunCall found call → Names words call
 names_run words found f (Replay a b c) h = absurd h
 names_run words found f (Collect a b) h = absurd h
 names_run words found f (Check a b c) h = absurd h

@@ -46,8 +46,8 @@ IsAuditOf found _ = ⊥
 abbrev pub HoldsOption : Found → Text → Option Text → Type 0
 HoldsOption found name text = first_value found name ≡ text
 
-abbrev pub IsRunOf : Found → Call → Type 0
-IsRunOf found (Run network traffic capture schedule links) =
+abbrev pub IsRunCall : Found → Call → Type 0
+IsRunCall found (Run network traffic capture schedule links) =
     HoldsFile found (codes "NETWORK") (string_bytes network) × HoldsFile found (codes "TRAFFIC") (string_bytes traffic) × HoldsFile found (codes "CAPTURE") (string_bytes capture)
     × HoldsFile found (codes "SCHEDULE") (string_bytes schedule) × HoldsOption found (codes "links") (option_map string_bytes links)
-IsRunOf found _ = ⊥
+IsRunCall found _ = ⊥

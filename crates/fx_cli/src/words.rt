@@ -4,7 +4,7 @@ ghost use Rattle.clap.specs.Simple.{on_top};
 ghost use Rattle.clap.specs.Words.{app_of, fault_of, found_of, HasKind, kind_of, new_app, rule_of, Text, with_rule};
 ghost use Rattle.clap.specs.declared.builder.command.Command.TheViews.{out-Command};
 ghost use Rattle.fx_cli.specs.CommandLine.{AreMatchesOf, file_rule, limit_rule, links_rule, once_app, over_capture, over_documents, over_network, wants_command};
-ghost use Rattle.fx_cli.specs.Matches.{HoldsFile, HoldsLimit, HoldsOption, IsAuditOf, IsCheckOf, IsCollectOf, IsConfirmOf, HasFile, IsReplayOf, IsRunOf};
+ghost use Rattle.fx_cli.specs.Matches.{HoldsFile, HoldsLimit, HoldsOption, IsAuditOf, IsCheckOf, IsCollectOf, IsConfirmOf, HasFile, IsReplayOf, IsRunCall};
 ghost use Rattle.fx_cli.specs.Words.{Names, NamesNoCall};
 
 use clap::error::ErrorKind;
@@ -373,7 +373,7 @@ fn run_call(alloc: Global, matches: &ArgMatches<'_>) -> Result<Call, AllocError>
         × HasFile (found_of matches.now) (codes "TRAFFIC")
         × HasFile (found_of matches.now) (codes "CAPTURE")
         × HasFile (found_of matches.now) (codes "SCHEDULE") }
-    ensures { IfOk result (IsRunOf (found_of matches.now)) }
+    ensures { IfOk result (IsRunCall (found_of matches.now)) }
 {
     Ok(Call::Run {
         network: file_name(alloc, matches, "NETWORK")?,

@@ -14,7 +14,7 @@ use Rattle.fx_layout.proofs.Projections.{layout_same}
 use Rattle.fx_tables.specs.declared.record.Record.{Record}
 use Rattle.fx_machine.specs.States.{add_at}
 use Rattle.fx_machine.specs.Sums.{total_at}
-use Rattle.fx_collect.specs.Totals.{added, record_of, records_of, AllHaveBits}
+use Rattle.fx_collect.specs.Totals.{counts_with, record_of, records_of, AllHaveBits}
 
 from_iff : (a b : Bool) → (a ≡ true → b ≡ true) → (b ≡ true → a ≡ true) → a ≡ b
 from_iff true true f g = refl
@@ -30,13 +30,13 @@ bytes_swap a b =
 same_values : (layout : Layout) (v k : List ℕ) → same_key (record { layout = layout; values = v }) (record { layout = layout; values = k }) ≡ bytes_eq k v
 same_values layout v k = ap (λ t. t && bytes_eq v k) (layout_same layout) ∙ bytes_swap v k
 
-pub insert_adds : (layout : Layout) (es : List (List ℕ × Counts)) (k : List ℕ) (c : Counts) → records_of layout (insert_entry bytes_eq es k (added (lookup (bytes_eq k) es) c)) ≡ add_at (records_of layout es) (record { layout = layout; values = k }) c
+pub insert_adds : (layout : Layout) (es : List (List ℕ × Counts)) (k : List ℕ) (c : Counts) → records_of layout (insert_entry bytes_eq es k (counts_with (lookup (bytes_eq k) es) c)) ≡ add_at (records_of layout es) (record { layout = layout; values = k }) c
 insert_adds layout [] k c = refl
 insert_adds layout (e ∷ es) k c =
     let rest = insert_adds layout es k c in
     let test = same_values layout e.0 k in
     rw (test) (
-    elim (bytes_eq k e.0) as (λ t. records_of layout (cond t ((e.0, added (cond t (Some e.1) (lookup (bytes_eq k) es)) c) ∷ es) (e ∷ insert_entry bytes_eq es k (added (cond t (Some e.1) (lookup (bytes_eq k) es)) c))) ≡ cond t (record { key = record { layout = layout; values = e.0 }; counts = add_counts e.1 c } ∷ records_of layout es) (record_of layout e ∷ add_at (records_of layout es) (record { layout = layout; values = k }) c)) [
+    elim (bytes_eq k e.0) as (λ t. records_of layout (cond t ((e.0, counts_with (cond t (Some e.1) (lookup (bytes_eq k) es)) c) ∷ es) (e ∷ insert_entry bytes_eq es k (counts_with (cond t (Some e.1) (lookup (bytes_eq k) es)) c))) ≡ cond t (record { key = record { layout = layout; values = e.0 }; counts = add_counts e.1 c } ∷ records_of layout es) (record_of layout e ∷ add_at (records_of layout es) (record { layout = layout; values = k }) c)) [
       | true ↦ refl
       | false ↦ ap (λ rs. record_of layout e ∷ rs) rest
     ]
@@ -89,13 +89,13 @@ behind_has_bits layout e es h = all_tail (λ (p : List ℕ × Counts). HasBits l
 -- ---- a write at the place of a key
 
 pub put_at : (es : List (List ℕ × Counts)) (k : List ℕ) (i : ℕ) (total c n : Counts) → position (bytes_eq k) (keys_of es) ≡ Some i → lookup (bytes_eq k) es ≡ Some total → n ≡ add_counts total c
-    → set_value_at es i n ≡ insert_entry bytes_eq es k (added (lookup (bytes_eq k) es) c)
+    → set_value_at es i n ≡ insert_entry bytes_eq es k (counts_with (lookup (bytes_eq k) es) c)
 put_at es k i total c n p at is =
     sym (insert_entry-first bytes_eq k n es i (Found-position (bytes_eq k) es i p).first)
-    ∙ ap (λ (m : Counts). insert_entry bytes_eq es k m) (is ∙ ap (λ (o : Option Counts). added o c) (sym at))
+    ∙ ap (λ (m : Counts). insert_entry bytes_eq es k m) (is ∙ ap (λ (o : Option Counts). counts_with o c) (sym at))
 
-pub put_new : (es : List (List ℕ × Counts)) (k : List ℕ) (c : Counts) → is_some (lookup (bytes_eq k) es) ≡ false → insert_entry bytes_eq es k c ≡ insert_entry bytes_eq es k (added (lookup (bytes_eq k) es) c)
+pub put_new : (es : List (List ℕ × Counts)) (k : List ℕ) (c : Counts) → is_some (lookup (bytes_eq k) es) ≡ false → insert_entry bytes_eq es k c ≡ insert_entry bytes_eq es k (counts_with (lookup (bytes_eq k) es) c)
 put_new es k c h = by (lookup (bytes_eq k) es) h where
-  by : (o : Option Counts) → is_some o ≡ false → insert_entry bytes_eq es k c ≡ insert_entry bytes_eq es k (added o c)
+  by : (o : Option Counts) → is_some o ≡ false → insert_entry bytes_eq es k c ≡ insert_entry bytes_eq es k (counts_with o c)
   by None h = refl
   by (Some m) h = absurd cc

@@ -4,7 +4,7 @@ use Rattle.std.proofs.Math.Nat.{div-one}
 use Rattle.fx_elements.specs.declared.axis.Axis.{Axis}
 use Rattle.fx_elements.specs.Axes.{axis_index, same_axis}
 use Rattle.fx_layout.specs.declared.layout.Part.{Part}
-use Rattle.fx_layout.specs.Keys.{Layout, Key, Ascends, IsLayout, reads, refines, leading, cut_in, project}
+use Rattle.fx_layout.specs.Keys.{Layout, Key, AxesAscend, IsLayout, reads, refines, leading_bits, cut_in, project}
 use Rattle.fx_layout.proofs.Projections.{and_both}
 use Rattle.fx_collect.specs.Totals.{IsUnder}
 
@@ -20,14 +20,14 @@ own_axis : (a : Axis) → same_axis a a ≡ true
 own_axis a = eq-eqb (axis_index a) (axis_index a) refl
 
 -- the first part says nothing of later axes
-reads_behind : (p : Part) (ps qs : Layout) (from : ℕ) → axis_index p.axis < from → Ascends from qs → refines (p ∷ ps) qs ≡ refines ps qs
+reads_behind : (p : Part) (ps qs : Layout) (from : ℕ) → axis_index p.axis < from → AxesAscend from qs → refines (p ∷ ps) qs ≡ refines ps qs
 reads_behind p ps [] from lt h = refl
 reads_behind p ps (q ∷ qs) from lt h =
     let other : same_axis p.axis q.axis ≡ false = other_axis p.axis q.axis (let le : from ≤ axis_index q.axis = h.0 in omega arith) in
     let rest = reads_behind p ps qs (suc (axis_index q.axis)) (let le : from ≤ axis_index q.axis = h.0 in omega arith) h.1 in
     rw other (ap (λ t. reads ps q.axis q.bits && t) rest)
 
-refines_own_from : (layout : Layout) (from : ℕ) → Ascends from layout → refines layout layout ≡ true
+refines_own_from : (layout : Layout) (from : ℕ) → AxesAscend from layout → refines layout layout ≡ true
 refines_own_from [] from h = refl
 refines_own_from (p ∷ ps) from h =
     let rest = refines_own_from ps (suc (axis_index p.axis)) h.1 in
@@ -40,7 +40,7 @@ refines_own layout h = refines_own_from layout 0 h.ascends
 abbrev cuts : Layout → List ℕ → Layout → List ℕ
 cuts layout values qs = map (λ part. cut_in layout values part.axis part.bits) qs
 
-cuts_behind : (p : Part) (ps : Layout) (v : ℕ) (vs : List ℕ) (qs : Layout) (from : ℕ) → axis_index p.axis < from → Ascends from qs → cuts (p ∷ ps) (v ∷ vs) qs ≡ cuts ps vs qs
+cuts_behind : (p : Part) (ps : Layout) (v : ℕ) (vs : List ℕ) (qs : Layout) (from : ℕ) → axis_index p.axis < from → AxesAscend from qs → cuts (p ∷ ps) (v ∷ vs) qs ≡ cuts ps vs qs
 cuts_behind p ps v vs [] from lt h = refl
 cuts_behind p ps v vs (q ∷ qs) from lt h =
     let other : same_axis p.axis q.axis ≡ false = other_axis p.axis q.axis (let le : from ≤ axis_index q.axis = h.0 in omega arith) in
@@ -48,12 +48,12 @@ cuts_behind p ps v vs (q ∷ qs) from lt h =
     rw other (ap (λ xs. cut_in ps vs q.axis q.bits ∷ xs) rest)
 
 -- all bits of a value
-all_bits : (bits value : ℕ) → leading bits bits value ≡ value
+all_bits : (bits value : ℕ) → leading_bits bits bits value ≡ value
 all_bits bits value =
     let none : bits - bits ≡ 0 = omega arith in
     ap (λ n. value / 2 ^ n) none ∙ div-one value
 
-cuts_own : (layout : Layout) (values : List ℕ) (from : ℕ) → Ascends from layout → length values ≡ length layout → cuts layout values layout ≡ values
+cuts_own : (layout : Layout) (values : List ℕ) (from : ℕ) → AxesAscend from layout → length values ≡ length layout → cuts layout values layout ≡ values
 cuts_own [] [] from h e = refl
 cuts_own [] (v ∷ vs) from h e = absurd (cc)
 cuts_own (p ∷ ps) [] from h e = absurd (cc)

@@ -2,17 +2,17 @@
 use Rattle.std.proofs.Common.{◌≡◌, ℕ, ◌+◌, true, false, cond, List, [], ◌∷◌, Option, Some, None, Ok, Err, refl, ap, subst, slice_get, slice_set, remove}
 use Rattle.std.proofs.lemmas.List.{length-map}
 use Rattle.fx_base.specs.declared.counts.Counts.{Counts}
-use Rattle.fx_layout.specs.Keys.{Key, IsLayout, refines, project, cut}
+use Rattle.fx_layout.specs.Keys.{Key, IsLayout, refines, project, bits_on}
 use Rattle.fx_tables.specs.declared.record.Record.{Record}
 use Rattle.fx_tables.specs.declared.packet.Packet.{Packet}
 use Rattle.fx_run_text.specs.declared.step.Step.{Step}
 use Rattle.fx_run_text.specs.declared.step.Step.TheVariants.{Cross, Expire, Arrive}
 use Rattle.fx_tables.specs.Network.{Net, Exporter, holder_place}
-use Rattle.fx_base.specs.Entries.{numbered}
+use Rattle.fx_base.specs.Entries.{entry_numbered}
 use Rattle.fx_tables.specs.Classes.{Class, path}
-use Rattle.fx_machine.specs.States.{State, opening, told, tallied, sent_to, sent_to_all, add_at, without}
+use Rattle.fx_machine.specs.States.{State, opening, told_state, after_tally, sent_to, sent_to_all, add_at, without}
 use Rattle.fx_machine.specs.Acts.{Choices, Act, Tally, Send, Hold, Made, Outcome, sent_to_chosen, send_by_choice, taken_in, with_held, hold_in, hold, act, act_all, all_acts, all_used}
-use Rattle.fx_machine.specs.Steps.{one_packet, crossing_acts, leaving, arriving, place, link_place, after_cross, after_expire, expire_from, expire_at, after_arrive, arrive_from, arrive_at, after, then_run, run}
+use Rattle.fx_machine.specs.Steps.{one_packet, crossing_acts, acts_of_leaving, acts_of_arrival, place, link_place, after_cross, after_expire, expire_from, expire_at, after_arrive, arrive_from, arrive_at, after, then_run, run}
 use Rattle.fx_collect.specs.Totals.{Totals, IsUnder, IsTable, totals_of, totals_in}
 use Rattle.fx_collect.proofs.TotalsOfTotals.{table_added, retold}
 
@@ -30,11 +30,11 @@ module _ (net : Net) where
 
   -- ---- acts
 
-  tally_keeps : (key : Key) (counts : Counts) (s : State) → Kept s → Kept (tallied net key counts s)
+  tally_keeps : (key : Key) (counts : Counts) (s : State) → Kept s → Kept (after_tally net key counts s)
   unfolding Kept
   tally_keeps key counts s h =
       let layout = net.report_layout in
-      let under : IsUnder layout (project key layout) = (refl, length-map layout (λ part. cut key part.axis part.bits)) in
+      let under : IsUnder layout (project key layout) = (refl, length-map layout (λ part. bits_on key part.axis part.bits)) in
       let yes : State = record s { totals = add_at s.totals (project key layout) counts } in
       let no : State = record s { unassigned = s.unassigned + 1 } in
       elim (refines key.layout layout) as (λ t. IsTable layout (cond t yes no).totals) [
@@ -60,7 +60,7 @@ module _ (net : Net) where
   unfolding KeptBy
   choice_keeps ds r s [] h = tt
   choice_keeps ds r s (None ∷ choices) h = tt
-  choice_keeps ds r s (Some n ∷ choices) h = chosen_keeps (numbered ds n) r s choices h
+  choice_keeps ds r s (Some n ∷ choices) h = chosen_keeps (entry_numbered ds n) r s choices h
 
   with_held_keeps : (s : State) (holder : ℕ) (o : Option (List Record)) (choices : Choices) → Kept s → KeptBy (with_held s holder o choices)
   unfolding Kept KeptBy
@@ -115,18 +115,18 @@ module _ (net : Net) where
   cross_keeps classes p None crossing s choices h = tt
   cross_keeps classes None (Some n) crossing s choices h = tt
   cross_keeps classes (Some p) (Some n) crossing s choices h =
-      all_acts_keep (one_packet p) (crossing_acts net p.fields (numbered (path classes p) crossing)) (record s { coming = remove s.coming n }) choices h
+      all_acts_keep (one_packet p) (crossing_acts net p.fields (entry_numbered (path classes p) crossing)) (record s { coming = remove s.coming n }) choices h
 
   expire_keeps : (holder : ℕ) (rs : List Record) (number : ℕ) (o : Option Record) (s : State) (choices : Choices) → Kept s → KeptAfter (after_expire net holder rs number o s choices)
   unfolding Kept KeptAfter
   expire_keeps holder rs number None s choices h = tt
   expire_keeps holder rs number (Some r) s choices h =
-      all_acts_keep r.counts (leaving net holder r.key) (record s { held = slice_set s.held holder (without rs number) }) choices h
+      all_acts_keep r.counts (acts_of_leaving net holder r.key) (record s { held = slice_set s.held holder (without rs number) }) choices h
 
   expire_from_keeps : (holder : ℕ) (o : Option (List Record)) (number : ℕ) (s : State) (choices : Choices) → Kept s → KeptAfter (expire_from net holder o number s choices)
   unfolding KeptAfter
   expire_from_keeps holder None number s choices h = tt
-  expire_from_keeps holder (Some rs) number s choices h = expire_keeps holder rs number (numbered rs number) s choices h
+  expire_from_keeps holder (Some rs) number s choices h = expire_keeps holder rs number (entry_numbered rs number) s choices h
 
   expire_at_keeps : (o : Option ℕ) (number : ℕ) (s : State) (choices : Choices) → Kept s → KeptAfter (expire_at net o number s choices)
   unfolding KeptAfter
@@ -137,12 +137,12 @@ module _ (net : Net) where
   unfolding Kept KeptAfter
   arrive_keeps link rs number None s choices h = tt
   arrive_keeps link rs number (Some r) s choices h =
-      all_acts_keep r.counts (arriving net r.key (slice_get net.links link)) (record s { carried = slice_set s.carried link (without rs number) }) choices h
+      all_acts_keep r.counts (acts_of_arrival net r.key (slice_get net.links link)) (record s { carried = slice_set s.carried link (without rs number) }) choices h
 
   arrive_from_keeps : (link : ℕ) (o : Option (List Record)) (number : ℕ) (s : State) (choices : Choices) → Kept s → KeptAfter (arrive_from net link o number s choices)
   unfolding KeptAfter
   arrive_from_keeps link None number s choices h = tt
-  arrive_from_keeps link (Some rs) number s choices h = arrive_keeps link rs number (numbered rs number) s choices h
+  arrive_from_keeps link (Some rs) number s choices h = arrive_keeps link rs number (entry_numbered rs number) s choices h
 
   arrive_at_keeps : (o : Option ℕ) (number : ℕ) (s : State) (choices : Choices) → Kept s → KeptAfter (arrive_at net o number s choices)
   unfolding KeptAfter
@@ -150,7 +150,7 @@ module _ (net : Net) where
   arrive_at_keeps (Some link) number s choices h = arrive_from_keeps link (slice_get s.carried link) number s choices h
 
   step_keeps : (classes : List Class) (packets : List Packet) (step : Step) (s : State) → Kept s → KeptAfter (after net classes packets step s)
-  step_keeps classes packets (Cross packet crossing choices) s h = cross_keeps classes (numbered packets packet) (place s.coming packet crossing) crossing s choices h
+  step_keeps classes packets (Cross packet crossing choices) s h = cross_keeps classes (entry_numbered packets packet) (place s.coming packet crossing) crossing s choices h
   step_keeps classes packets (Expire holder number choices) s h = expire_at_keeps (holder_place net holder) number s choices h
   step_keeps classes packets (Arrive link number choices) s h = arrive_at_keeps (link_place link) number s choices h
 
@@ -180,6 +180,6 @@ module _ (net : Net) where
       last_kept (run net classes packets steps (opening net classes packets)) last e (run_keeps classes packets steps (opening net classes packets) (opened classes packets))
 
 -- what is told of a run's last state are its own totals
-pub run_retold : (net : Net) (classes : List Class) (packets : List Packet) (steps : List Step) (last : State) → IsLayout net.report_layout → run net classes packets steps (opening net classes packets) ≡ Ok last → totals_of net.report_layout (told last) ≡ totals_in net.report_layout (told last)
+pub run_retold : (net : Net) (classes : List Class) (packets : List Packet) (steps : List Step) (last : State) → IsLayout net.report_layout → run net classes packets steps (opening net classes packets) ≡ Ok last → totals_of net.report_layout (told_state last) ≡ totals_in net.report_layout (told_state last)
 run_retold net classes packets steps last l e =
-    ap (λ (t : Totals). record t { unassigned = (told last).unassigned }) (retold net.report_layout last.totals l (run_table net classes packets steps last e))
+    ap (λ (t : Totals). record t { unassigned = (told_state last).unassigned }) (retold net.report_layout last.totals l (run_table net classes packets steps last e))

@@ -40,5 +40,5 @@ abbrev pub totals_text : Totals → List ℕ
 totals_text t = number_line (codes "keys ") (length t.entries) ++ (record_lines t.entries ++ number_line (codes "unassigned ") t.unassigned)
 
 -- the keys ascend: by the first value that differs
-abbrev pub Ascends : List Record → Type 0
-Ascends rs = IsSorted (slice_cmp nat_cmp) (map (λ r. r.key.values) rs)
+abbrev pub KeysAscend : List Record → Type 0
+KeysAscend rs = IsSorted (slice_cmp nat_cmp) (map (λ r. r.key.values) rs)

@@ -55,9 +55,9 @@ pub record IsTable (layout : Layout) (rs : List Record) : Type 0 where
 -- ---- what is kept: values and counts
 
 -- what was counted before, with more
-abbrev pub added : Option Counts → Counts → Counts
-added None more = more
-added (Some counts) more = add_counts counts more
+abbrev pub counts_with : Option Counts → Counts → Counts
+counts_with None more = more
+counts_with (Some counts) more = add_counts counts more
 
 -- the record of one layout that has these values and counts
 abbrev pub record_of : Layout → List ℕ × Counts → Record

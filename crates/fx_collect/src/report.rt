@@ -4,7 +4,7 @@ ghost use Rattle.fx_base.specs.Device.{Writes};
 ghost use Rattle.fx_base.specs.Fault.{fault_at};
 ghost use Rattle.fx_base.specs.declared.fault.Place.TheVariants as places;
 ghost use Rattle.fx_layout.specs.Keys.{HasBits, Fits, IsLayout};
-ghost use Rattle.fx_collect.specs.Report.{parts_text, fields_text, number_line, record_line, record_lines, totals_text, Ascends};
+ghost use Rattle.fx_collect.specs.Report.{parts_text, fields_text, number_line, record_line, record_lines, totals_text, KeysAscend};
 
 use crate::totals::Totals;
 use fx_base::{Counts, Fault, Sink, put_number, put_text};
@@ -112,7 +112,7 @@ impl Totals {
     /// The keys are to ascend, as after [`Totals::sort`]. Fails with 902, at no place, where a write fails; how
     /// much the sink has taken then is open.
     pub fn put_report<S: Sink>(&self, sink: &mut S) -> Result<(), Fault>
-        requires { Ascends self.now.entries }
+        requires { KeysAscend self.now.entries }
         ensures ok { OnOk result (Writes (S.taken sink.old) (S.taken sink.new)
             (totals_text self.now)) }
         ensures going { OnOk result (S.failed sink.old ≡ false → S.failed sink.new ≡ false) }

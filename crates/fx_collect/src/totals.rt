@@ -6,7 +6,7 @@ ghost use Rattle.fx_layout.specs.Keys.{HasBits};
 ghost use Rattle.fx_machine.specs.States.{add_at};
 ghost use Rattle.fx_machine.specs.Sums.{total_at};
 ghost use Rattle.fx_collect.specs.Totals.{nothing, with_record, with_records, totals_of};
-ghost use Rattle.fx_collect.specs.Report.{Ascends};
+ghost use Rattle.fx_collect.specs.Report.{KeysAscend};
 
 use fx_base::{Counts, Fault};
 use fx_layout::{Key, Layout, Seed, Values};
@@ -146,7 +146,7 @@ impl Totals {
     ///
     /// Fails with 900, at no place, for want of memory; the totals are as before then.
     pub fn sort(&mut self) -> Result<(), Fault>
-        ensures sorted { OnOk result (Ascends self.new.entries) }
+        ensures sorted { OnOk result (KeysAscend self.new.entries) }
         ensures same { OnOk result (IsPermutation self.old.entries self.new.entries
             × (self.new.layout ≡ self.old.layout) × (self.new.unassigned ≡ self.old.unassigned)) }
         ensures err { IfErr result (λ e. (e ≡ fault_at 900 places.None) × (self.new ≡ self.old)) }

@@ -9,7 +9,7 @@ use Rattle.serde_json.specs.Data.{Data, null, Members}
 use Rattle.serde_json.specs.Find.{get, as_object}
 use Rattle.fx_base.specs.declared.fault.Fault.{Fault}
 use Rattle.fx_walk.specs.Pointer.{below, nth}
-use Rattle.fx_walk.specs.Walk.{Found, Row, Reads, fault_if, row_faults, of_kind, others, faults_or_missing}
+use Rattle.fx_walk.specs.Walk.{FoundFault, Row, Reads, fault_if, row_faults, of_kind, others, faults_or_missing}
 use Rattle.fx_config.specs.Devices.{ipfix_rows, ipfix_faults, lists_of, device_rows, device_faults, device_of}
 use Rattle.fx_walk.specs.Lists.{items_faults, is_among}
 use Rattle.fx_walk.specs.KnownNames.{unknown, unknown_if_there, IsKnown}
@@ -18,7 +18,7 @@ use Rattle.fx_walk.proofs.Faults.{none_before, none_behind}
 use Rattle.fx_config.specs.declared.ipfix.Device.{Device}
 
 -- what each item has that has no fault, all items have
-items_all : {X : Type 0} (faults : List ℕ → X → List Found) (P : X → Type 0) → ((up : List ℕ) (x : X) → faults up x ≡ [] → P x) → (up : List ℕ) (i : ℕ) (xs : List X) → items_faults faults up i xs ≡ [] → All P xs
+items_all : {X : Type 0} (faults : List ℕ → X → List FoundFault) (P : X → Type 0) → ((up : List ℕ) (x : X) → faults up x ≡ [] → P x) → (up : List ℕ) (i : ℕ) (xs : List X) → items_faults faults up i xs ≡ [] → All P xs
 items_all faults P each up i [] h k d lt = absurd (omega arith)
 items_all faults P each up i (x ∷ xs) h zero d lt = each (nth up i) x (none_before _ _ h)
 items_all faults P each up i (x ∷ xs) h (suc k) d lt = items_all faults P each up (i + 1) xs (none_behind _ _ h) k d (omega arith)

@@ -1,7 +1,7 @@
 -- Aggregations of collecting processes (RFC 7015): an augmentation of the module.
 use Rattle.std.specs.Prelude.{ℕ, List, [], ◌∷◌, codes, map}
 use Rattle.serde_json.specs.Data.{Data}
-use Rattle.fx_walk.specs.Walk.{Found, Row, object_faults, required, member_of}
+use Rattle.fx_walk.specs.Walk.{FoundFault, Row, object_faults, required_row, member_of}
 use Rattle.fx_walk.specs.Lists.{entries, items, items_of, name_once}
 use Rattle.fx_walk.specs.Scalars.{text_of}
 use Rattle.fx_config.specs.PropertyMatches.{property_match_faults, property_match_of}
@@ -11,13 +11,13 @@ use Rattle.fx_config.specs.declared.aggregation.Aggregation.{Aggregation}
 
 abbrev pub aggregation_rows : List (List ℕ) → List Row
 aggregation_rows earlier =
-    required (codes "name") (name_once earlier)
+    required_row (codes "name") (name_once earlier)
     ∷ key_row
     ∷ items 0 entry_limit (codes "match") property_match_faults
     ∷ entries 0 entry_limit (codes "exportingProcess") name_once text_of
     ∷ []
 
-abbrev pub aggregation_faults : List (List ℕ) → List ℕ → Data → List Found
+abbrev pub aggregation_faults : List (List ℕ) → List ℕ → Data → List FoundFault
 aggregation_faults earlier = object_faults (aggregation_rows earlier)
 
 abbrev pub aggregation_of : Data → Aggregation

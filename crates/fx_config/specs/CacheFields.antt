@@ -3,7 +3,7 @@ use Rattle.std.specs.Prelude.{ℕ, ◌==◌, ◌/◌, if◌then◌else◌, List,
 use Rattle.serde_json.specs.Data.{Data}
 use Rattle.serde_json.specs.Find.{get}
 use Rattle.fx_walk.specs.Pointer.{below}
-use Rattle.fx_walk.specs.Walk.{Found, Row, object_faults, required, optional, then_check, member_of, fault_if}
+use Rattle.fx_walk.specs.Walk.{FoundFault, Row, object_faults, required_row, optional, then_check, member_of, fault_if}
 use Rattle.fx_walk.specs.Choice.{one_of}
 use Rattle.fx_walk.specs.Lists.{entries, name_once}
 use Rattle.fx_walk.specs.Scalars.{text_of, number_of, text_faults, whole_faults, empty_faults}
@@ -40,17 +40,17 @@ abbrev pub is_key : Bool → Element → Bool → Bool
 is_key immediate element marked = if immediate then is_on_axis element else marked
 
 -- a total counter, and a key that is no axis
-abbrev pub element_faults : Element → Bool → List ℕ → List Found
+abbrev pub element_faults : Element → Bool → List ℕ → List FoundFault
 element_faults element key up = fault_if (is_total_count element) 111 up ++ fault_if (key && not (is_on_axis element)) 112 up
 
 -- a counter that isn't 8 octets long, and a key that hasn't its octets
-abbrev pub length_faults : Element → Bool → Option ℕ → List ℕ → List Found
+abbrev pub length_faults : Element → Bool → Option ℕ → List ℕ → List FoundFault
 length_faults element key None up = []
 length_faults element key (Some octets) up =
     fault_if (is_delta_count element && not (octets == 8)) 110 (below up (codes "ieLength"))
     ++ fault_if (key && has_other_octets element octets) 105 (below up (codes "ieLength"))
 
-abbrev pub field_check : Element → Bool → Option ℕ → List ℕ → List Found
+abbrev pub field_check : Element → Bool → Option ℕ → List ℕ → List FoundFault
 field_check element key octets up = element_faults element key up ++ length_faults element key octets up
 
 -- ---- the field
@@ -63,7 +63,7 @@ is_key_in immediate d = is_key immediate (element_in d) (is_some (get (codes "is
 
 abbrev pub cache_field_rows : Bool → List (List ℕ) → List Row
 cache_field_rows immediate earlier =
-    required (codes "name") (name_once earlier)
+    required_row (codes "name") (name_once earlier)
     ∷ one_of (codes "ieName" ∷ codes "ieId" ∷ [])
     ∷ optional (codes "ieName") text_faults
     ∷ optional (codes "ieId") (whole_faults 1 32767)
@@ -73,7 +73,7 @@ cache_field_rows immediate earlier =
     ∷ then_check (λ up d. field_check (element_in d) (is_key_in immediate d) (length_in d) up)
     ∷ []
 
-abbrev pub cache_field_faults : Bool → List (List ℕ) → List ℕ → Data → List Found
+abbrev pub cache_field_faults : Bool → List (List ℕ) → List ℕ → Data → List FoundFault
 cache_field_faults immediate earlier = object_faults (cache_field_rows immediate earlier)
 
 abbrev pub cache_field_of : Bool → Data → CacheField

@@ -2,7 +2,7 @@
 use Rattle.std.specs.Prelude.{ℕ, List, [], ◌∷◌, codes, map, Bool, true, false, not, ◌&&◌, is_some, if◌then◌else◌}
 use Rattle.std.specs.List.{list_any, fold}
 use Rattle.serde_json.specs.Data.{Data}
-use Rattle.fx_walk.specs.Walk.{Found, Row, object_faults, then_check, member_of, fault_if}
+use Rattle.fx_walk.specs.Walk.{FoundFault, Row, object_faults, then_check, member_of, fault_if}
 use Rattle.fx_walk.specs.Lists.{items_of}
 use Rattle.fx_config.specs.CacheFields.{cache_field_of, fields_row}
 use Rattle.fx_config.specs.declared.cache_field.CacheField.{CacheField}
@@ -26,7 +26,7 @@ abbrev pub counts_packets : List CacheField → Bool
 counts_packets fields = list_any (λ field. is_packet_count field.element) fields
 
 -- both counters must be among the fields
-abbrev pub counter_faults : List CacheField → List ℕ → List Found
+abbrev pub counter_faults : List CacheField → List ℕ → List FoundFault
 counter_faults fields up = fault_if (not (counts_octets fields && counts_packets fields)) 114 up
 
 -- all bits of an axis, once
@@ -51,7 +51,7 @@ cache_layout_rows immediate =
     ∷ then_check (λ up d. counter_faults (fields_in immediate d) up)
     ∷ []
 
-abbrev pub cache_layout_faults : Bool → List ℕ → Data → List Found
+abbrev pub cache_layout_faults : Bool → List ℕ → Data → List FoundFault
 cache_layout_faults immediate = object_faults (cache_layout_rows immediate)
 
 abbrev pub cache_layout_of : Bool → Data → Layout

@@ -3,7 +3,7 @@ use Rattle.std.specs.Prelude.{ℕ, List, [], ◌∷◌, codes, map, Bool, true, 
 use Rattle.std.specs.Option.{unwrap_or}
 use Rattle.serde_json.specs.Data.{Data}
 use Rattle.serde_json.specs.Find.{get}
-use Rattle.fx_walk.specs.Walk.{Found, Row, object_faults, required, optional, member_of}
+use Rattle.fx_walk.specs.Walk.{FoundFault, Row, object_faults, required_row, optional, member_of}
 use Rattle.fx_walk.specs.Choice.{one_of}
 use Rattle.fx_walk.specs.Lists.{entries, items_of, name_once}
 use Rattle.fx_walk.specs.Scalars.{text_of, number_of, whole_faults}
@@ -23,10 +23,10 @@ settings_rows immediate =
     ∷ optional (codes "activeTimeout") (whole_faults 0 0xffff_ffff)
     ∷ optional (codes "idleTimeout") (whole_faults 0 0xffff_ffff)
     ∷ optional (codes "exportInterval") (whole_faults 0 0xffff_ffff)
-    ∷ required (codes "cacheLayout") (cache_layout_faults immediate)
+    ∷ required_row (codes "cacheLayout") (cache_layout_faults immediate)
     ∷ []
 
-abbrev pub settings_faults : Bool → List ℕ → Data → List Found
+abbrev pub settings_faults : Bool → List ℕ → Data → List FoundFault
 settings_faults immediate = object_faults (settings_rows immediate)
 
 -- 0 is no bound
@@ -61,7 +61,7 @@ kind_in d = kind_given
 
 abbrev pub cache_rows : List (List ℕ) → List Row
 cache_rows earlier =
-    required (codes "name") (name_once earlier)
+    required_row (codes "name") (name_once earlier)
     ∷ one_of (codes "immediateCache" ∷ codes "timeoutCache" ∷ codes "naturalCache" ∷ codes "permanentCache" ∷ [])
     ∷ optional (codes "immediateCache") (settings_faults true)
     ∷ optional (codes "timeoutCache") (settings_faults false)
@@ -70,7 +70,7 @@ cache_rows earlier =
     ∷ entries 0 entry_limit (codes "exportingProcess") name_once text_of
     ∷ []
 
-abbrev pub cache_faults : List (List ℕ) → List ℕ → Data → List Found
+abbrev pub cache_faults : List (List ℕ) → List ℕ → Data → List FoundFault
 cache_faults earlier = object_faults (cache_rows earlier)
 
 abbrev pub cache_of : Data → Cache

@@ -1,7 +1,7 @@
 -- Collecting processes (RFC 6728, section 4.5).
 use Rattle.std.specs.Prelude.{ℕ, List, [], ◌∷◌, codes, map}
 use Rattle.serde_json.specs.Data.{Data}
-use Rattle.fx_walk.specs.Walk.{Found, Row, object_faults, required, unread, member_of}
+use Rattle.fx_walk.specs.Walk.{FoundFault, Row, object_faults, required_row, unread, member_of}
 use Rattle.fx_walk.specs.Choice.{none_of}
 use Rattle.fx_walk.specs.Lists.{entries, items_of, name_once}
 use Rattle.fx_walk.specs.Scalars.{text_of}
@@ -12,14 +12,14 @@ use Rattle.fx_config.specs.declared.collecting_process.CollectingProcess.{Collec
 -- files are refused, and the collectors left unread
 abbrev pub collecting_process_rows : List (List ℕ) → List Row
 collecting_process_rows earlier =
-    required (codes "name") (name_once earlier)
+    required_row (codes "name") (name_once earlier)
     ∷ none_of ((codes "fileReader", 113) ∷ [])
     ∷ unread (codes "tcpCollector" ∷ codes "sctpCollector" ∷ codes "udpCollector" ∷ [])
     ∷ entries 0 entry_limit (codes "exportingProcess") name_once text_of
     ∷ entries 0 entry_limit (codes "once-audit:aggregation") aggregation_faults (λ d. (aggregation_of d).name)
     ∷ []
 
-abbrev pub collecting_process_faults : List (List ℕ) → List ℕ → Data → List Found
+abbrev pub collecting_process_faults : List (List ℕ) → List ℕ → Data → List FoundFault
 collecting_process_faults earlier = object_faults (collecting_process_rows earlier)
 
 abbrev pub collecting_process_of : Data → CollectingProcess

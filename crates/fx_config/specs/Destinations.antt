@@ -2,7 +2,7 @@
 use Rattle.std.specs.Prelude.{ℕ, List, [], ◌∷◌, codes, is_some, if◌then◌else◌}
 use Rattle.serde_json.specs.Data.{Data}
 use Rattle.serde_json.specs.Find.{get}
-use Rattle.fx_walk.specs.Walk.{Found, Row, object_faults, required, unread, member_of}
+use Rattle.fx_walk.specs.Walk.{FoundFault, Row, object_faults, required_row, unread, member_of}
 use Rattle.fx_walk.specs.Choice.{none_of, one_of}
 use Rattle.fx_walk.specs.Lists.{name_once}
 use Rattle.fx_walk.specs.Scalars.{text_of}
@@ -16,13 +16,13 @@ exporters = codes "tcpExporter" ∷ codes "sctpExporter" ∷ codes "udpExporter"
 -- one exporter, which is left unread; files are none
 abbrev pub destination_rows : List (List ℕ) → List Row
 destination_rows earlier =
-    required (codes "name") (name_once earlier)
+    required_row (codes "name") (name_once earlier)
     ∷ none_of ((codes "fileWriter", 113) ∷ [])
     ∷ one_of exporters
     ∷ unread exporters
     ∷ []
 
-abbrev pub destination_faults : List (List ℕ) → List ℕ → Data → List Found
+abbrev pub destination_faults : List (List ℕ) → List ℕ → Data → List FoundFault
 destination_faults earlier = object_faults (destination_rows earlier)
 
 abbrev pub transport_of : Data → Transport

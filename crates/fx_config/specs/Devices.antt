@@ -1,7 +1,7 @@
 -- A device's configuration document (RFC 6728, section 6, in the JSON of RFC 7951).
 use Rattle.std.specs.Prelude.{ℕ, List, [], ◌∷◌, codes, map}
 use Rattle.serde_json.specs.Data.{Data}
-use Rattle.fx_walk.specs.Walk.{Found, Row, object_faults, open_object_faults, required, then_check, member_of}
+use Rattle.fx_walk.specs.Walk.{FoundFault, Row, object_faults, open_object_faults, required_row, then_check, member_of}
 use Rattle.fx_walk.specs.Lists.{entries, items_of}
 use Rattle.fx_config.specs.ObservationPoints.{observation_point_faults, observation_point_of}
 use Rattle.fx_config.specs.SelectionProcesses.{selection_process_faults, selection_process_of}
@@ -34,7 +34,7 @@ ipfix_rows =
     ∷ then_check (λ up d. reference_faults up (lists_of d))
     ∷ []
 
-abbrev pub ipfix_faults : List ℕ → Data → List Found
+abbrev pub ipfix_faults : List ℕ → Data → List FoundFault
 ipfix_faults = object_faults ipfix_rows
 
 abbrev pub ipfix_of : Data → Ipfix
@@ -44,10 +44,10 @@ ipfix_of d = record { device = lists_of d }
 
 abbrev pub device_rows : List Row
 device_rows =
-    required (codes "ietf-ipfix-psamp:ipfix") ipfix_faults
+    required_row (codes "ietf-ipfix-psamp:ipfix") ipfix_faults
     ∷ []
 
-unfoldable pub device_faults : List ℕ → Data → List Found
+unfoldable pub device_faults : List ℕ → Data → List FoundFault
 device_faults up d = open_object_faults (codes "ietf-ipfix-psamp") device_rows up d
 
 unfoldable pub device_of : Data → Device

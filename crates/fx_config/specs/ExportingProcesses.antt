@@ -3,7 +3,7 @@ use Rattle.std.specs.Prelude.{ℕ, List, [], ◌∷◌, codes, map, ◌||◌, Op
 use Rattle.std.specs.Str.{bytes_eq}
 use Rattle.serde_json.specs.Data.{Data}
 use Rattle.serde_json.specs.Find.{get}
-use Rattle.fx_walk.specs.Walk.{Found, Row, object_faults, required, optional, unread, member_of}
+use Rattle.fx_walk.specs.Walk.{FoundFault, Row, object_faults, required_row, optional, unread, member_of}
 use Rattle.fx_walk.specs.Lists.{entries, items_of, name_once}
 use Rattle.fx_walk.specs.Scalars.{text_of, word_faults, word_given}
 use Rattle.fx_config.specs.Destinations.{destination_faults, destination_of}
@@ -24,13 +24,13 @@ export_mode_named name =
 
 abbrev pub exporting_process_rows : List (List ℕ) → List Row
 exporting_process_rows earlier =
-    required (codes "name") (name_once earlier)
+    required_row (codes "name") (name_once earlier)
     ∷ optional (codes "exportMode") (word_faults export_mode_named)
     ∷ entries 1 entry_limit (codes "destination") destination_faults (λ d. (destination_of d).name)
     ∷ unread (codes "options" ∷ [])
     ∷ []
 
-abbrev pub exporting_process_faults : List (List ℕ) → List ℕ → Data → List Found
+abbrev pub exporting_process_faults : List (List ℕ) → List ℕ → Data → List FoundFault
 exporting_process_faults earlier = object_faults (exporting_process_rows earlier)
 
 abbrev pub exporting_process_of : Data → ExportingProcess

@@ -3,7 +3,7 @@ use Rattle.std.specs.Prelude.{ℕ, List, [], ◌∷◌, codes, Bool, true, false
 use Rattle.serde_json.specs.Data.{Data}
 use Rattle.serde_json.specs.Find.{get}
 use Rattle.fx_walk.specs.Pointer.{below}
-use Rattle.fx_walk.specs.Walk.{Found, Row, object_faults, optional, then_check, fault_if}
+use Rattle.fx_walk.specs.Walk.{FoundFault, Row, object_faults, optional, then_check, fault_if}
 use Rattle.fx_walk.specs.Choice.{one_of}
 use Rattle.fx_walk.specs.Scalars.{number_of, text_faults, whole_faults}
 use Rattle.fx_config.specs.GivenElements.{element_given, name_in, number_in}
@@ -25,7 +25,7 @@ longest_prefix (Prefix axis) = axis_width axis
 longest_prefix _ = 32
 
 -- a prefix without its length, and a length that is longer than the addresses
-abbrev pub prefix_check : Element → Option ℕ → List ℕ → List Found
+abbrev pub prefix_check : Element → Option ℕ → List ℕ → List FoundFault
 prefix_check element None up = fault_if (is_prefix element) 103 up
 prefix_check element (Some bits) up = fault_if (nat_lt (longest_prefix element) bits) 105 (below up (codes "prefixLength"))
 
@@ -44,7 +44,7 @@ key_field_rows =
     ∷ then_check (λ up d. prefix_check (key_element_in d) (prefix_length_in d) up)
     ∷ []
 
-abbrev pub key_field_faults : List ℕ → Data → List Found
+abbrev pub key_field_faults : List ℕ → Data → List FoundFault
 key_field_faults = object_faults key_field_rows
 
 abbrev pub key_field_of : Data → KeyField

@@ -3,7 +3,7 @@ use Rattle.std.specs.Prelude.{ℕ, ◌+◌, List, [], ◌∷◌, ◌++◌, codes
 use Rattle.std.specs.Option.{unwrap_or}
 use Rattle.serde_json.specs.Data.{Data}
 use Rattle.fx_walk.specs.Pointer.{nth}
-use Rattle.fx_walk.specs.Walk.{Found, Row, fault_if}
+use Rattle.fx_walk.specs.Walk.{FoundFault, Row, fault_if}
 use Rattle.fx_walk.specs.Lists.{list_row}
 use Rattle.fx_config.specs.KeyFields.{key_field_faults, key_field_of, part_of}
 use Rattle.fx_config.specs.Limits.{field_limit}
@@ -20,14 +20,14 @@ abbrev pub with_field : Layout → KeyField → Option Layout
 with_field layout field = option_and_then (with_new layout) (part_of field)
 
 -- a field that stands for nothing, or whose axis is there
-abbrev pub field_check : Layout → KeyField → List ℕ → List Found
+abbrev pub field_check : Layout → KeyField → List ℕ → List FoundFault
 field_check layout field up = fault_if (not (is_some (with_field layout field))) 105 up
 
 abbrev pub add_field : Layout → KeyField → Layout
 add_field layout field = unwrap_or (with_field layout field) layout
 
 -- the faults of the fields from the i-th on, behind those that make this layout
-abbrev pub fields_faults : Layout → List ℕ → ℕ → List Data → List Found
+abbrev pub fields_faults : Layout → List ℕ → ℕ → List Data → List FoundFault
 fields_faults layout up i [] = []
 fields_faults layout up i (d ∷ ds) =
     key_field_faults (nth up i) d

@@ -3,7 +3,7 @@ use Rattle.std.specs.Prelude.{ℕ, List, [], ◌∷◌, codes, map, Option, Some
 use Rattle.std.specs.Str.{bytes_eq}
 use Rattle.serde_json.specs.Data.{Data}
 use Rattle.serde_json.specs.Find.{get}
-use Rattle.fx_walk.specs.Walk.{Found, Row, object_faults, required, optional, member_of}
+use Rattle.fx_walk.specs.Walk.{FoundFault, Row, object_faults, required_row, optional, member_of}
 use Rattle.fx_walk.specs.Lists.{entries, items_of, name_once}
 use Rattle.fx_walk.specs.Scalars.{text_of, number_of, whole_faults, word_faults, word_given}
 use Rattle.fx_config.specs.Limits.{entry_limit}
@@ -23,14 +23,14 @@ direction_named name =
 
 abbrev pub observation_point_rows : List (List ℕ) → List Row
 observation_point_rows earlier =
-    required (codes "name") (name_once earlier)
-    ∷ required (codes "observationDomainId") (whole_faults 0 0xffff_ffff)
+    required_row (codes "name") (name_once earlier)
+    ∷ required_row (codes "observationDomainId") (whole_faults 0 0xffff_ffff)
     ∷ entries 1 entry_limit (codes "ifName") name_once text_of
     ∷ optional (codes "direction") (word_faults direction_named)
     ∷ entries 0 entry_limit (codes "selectionProcess") name_once text_of
     ∷ []
 
-abbrev pub observation_point_faults : List (List ℕ) → List ℕ → Data → List Found
+abbrev pub observation_point_faults : List (List ℕ) → List ℕ → Data → List FoundFault
 observation_point_faults earlier = object_faults (observation_point_rows earlier)
 
 abbrev pub observation_point_of : Data → ObservationPoint

@@ -2,7 +2,7 @@
 use Rattle.std.specs.Prelude.{ℕ, List, [], ◌∷◌, codes, not, Option, Some, None, is_some, option_map, option_and_then}
 use Rattle.std.specs.Option.{unwrap_or}
 use Rattle.serde_json.specs.Data.{Data}
-use Rattle.fx_walk.specs.Walk.{Found, Row, object_faults, required, optional, then_check, member_of, fault_if}
+use Rattle.fx_walk.specs.Walk.{FoundFault, Row, object_faults, required_row, optional, then_check, member_of, fault_if}
 use Rattle.fx_walk.specs.Choice.{one_of}
 use Rattle.fx_walk.specs.Scalars.{text_of, text_faults, whole_faults}
 use Rattle.fx_config.specs.GivenElements.{element_in}
@@ -25,7 +25,7 @@ property_given element text =
     option_and_then (λ axis. option_map (λ range. record { axis = axis; range = range }) (values_of element text)) (axis_matched element)
 
 -- an element that nothing can be matched on, or a text that spells no value of it
-abbrev pub property_check : Element → List ℕ → List ℕ → List Found
+abbrev pub property_check : Element → List ℕ → List ℕ → List FoundFault
 property_check element text up = fault_if (not (is_some (property_given element text))) 105 up
 
 abbrev pub property_meant : Element → List ℕ → PropertyMatch
@@ -37,11 +37,11 @@ property_match_rows =
     ∷ optional (codes "ieName") text_faults
     ∷ optional (codes "ieId") (whole_faults 1 32767)
     ∷ optional (codes "ieEnterpriseNumber") (whole_faults 0 0xffff_ffff)
-    ∷ required (codes "value") text_faults
+    ∷ required_row (codes "value") text_faults
     ∷ then_check (λ up d. property_check (element_in d) (text_of (member_of (codes "value") d)) up)
     ∷ []
 
-abbrev pub property_match_faults : List ℕ → Data → List Found
+abbrev pub property_match_faults : List ℕ → Data → List FoundFault
 property_match_faults = object_faults property_match_rows
 
 abbrev pub property_match_of : Data → PropertyMatch

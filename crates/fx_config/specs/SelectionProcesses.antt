@@ -2,7 +2,7 @@
 use Rattle.std.specs.Prelude.{ℕ, List, [], ◌∷◌, codes, map, option_map}
 use Rattle.serde_json.specs.Data.{Data}
 use Rattle.serde_json.specs.Find.{get}
-use Rattle.fx_walk.specs.Walk.{Found, Row, object_faults, required, optional, member_of}
+use Rattle.fx_walk.specs.Walk.{FoundFault, Row, object_faults, required_row, optional, member_of}
 use Rattle.fx_walk.specs.Lists.{entries, items_of, name_once}
 use Rattle.fx_walk.specs.Scalars.{text_of, name_faults}
 use Rattle.fx_config.specs.Selectors.{selector_faults, selector_of}
@@ -11,12 +11,12 @@ use Rattle.fx_config.specs.declared.selection_process.SelectionProcess.{Selectio
 
 abbrev pub selection_process_rows : List (List ℕ) → List Row
 selection_process_rows earlier =
-    required (codes "name") (name_once earlier)
+    required_row (codes "name") (name_once earlier)
     ∷ entries 1 selector_limit (codes "selector") selector_faults (λ d. (selector_of d).name)
     ∷ optional (codes "cache") name_faults
     ∷ []
 
-abbrev pub selection_process_faults : List (List ℕ) → List ℕ → Data → List Found
+abbrev pub selection_process_faults : List (List ℕ) → List ℕ → Data → List FoundFault
 selection_process_faults earlier = object_faults (selection_process_rows earlier)
 
 abbrev pub selection_process_of : Data → SelectionProcess

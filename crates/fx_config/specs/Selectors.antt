@@ -2,7 +2,7 @@
 use Rattle.std.specs.Prelude.{ℕ, List, [], ◌∷◌, codes, Bool, true, false, not, Option, Some, None, option_map}
 use Rattle.serde_json.specs.Data.{Data, object, Members, no_members, member}
 use Rattle.serde_json.specs.Find.{get}
-use Rattle.fx_walk.specs.Walk.{Found, Row, object_faults, required, optional, member_of, fault_if}
+use Rattle.fx_walk.specs.Walk.{FoundFault, Row, object_faults, required_row, optional, member_of, fault_if}
 use Rattle.fx_walk.specs.Choice.{none_of, one_of}
 use Rattle.fx_walk.specs.Lists.{name_once}
 use Rattle.fx_walk.specs.Scalars.{text_of, is_empty_type}
@@ -21,7 +21,7 @@ abbrev pub is_all : Data → Bool
 is_all (object ms) = has_no_member ms
 is_all d = is_empty_type d
 
-abbrev pub all_faults : List ℕ → Data → List Found
+abbrev pub all_faults : List ℕ → Data → List FoundFault
 all_faults up d = fault_if (not (is_all d)) 104 up
 
 -- methods by which a count can't be exact: sampling, and filtering by a hash
@@ -36,14 +36,14 @@ inexact =
 
 abbrev pub selector_rows : List (List ℕ) → List Row
 selector_rows earlier =
-    required (codes "name") (name_once earlier)
+    required_row (codes "name") (name_once earlier)
     ∷ none_of inexact
     ∷ one_of (codes "selectAll" ∷ codes "filterMatch" ∷ [])
     ∷ optional (codes "selectAll") all_faults
     ∷ optional (codes "filterMatch") property_match_faults
     ∷ []
 
-abbrev pub selector_faults : List (List ℕ) → List ℕ → Data → List Found
+abbrev pub selector_faults : List (List ℕ) → List ℕ → Data → List FoundFault
 selector_faults earlier = object_faults (selector_rows earlier)
 
 abbrev pub method_given : Option PropertyMatch → Method

@@ -7,7 +7,7 @@ use crate::property_match::PropertyMatch;
 use fx_base::{Fault, Name};
 use fx_layout::Layout;
 use fx_walk::{
-    Entry, Named, Names, Path, Sequence, entries_member, items_member, name_member, object_of,
+    Entry, Named, Names, DocumentPath, Sequence, entries_member, items_member, name_member, object_of,
 };
 use serde_json::Value;
 use std::alloc::Global;
@@ -40,7 +40,7 @@ impl Entry for Aggregation {
 
     fn from_entry(
         alloc: Global,
-        path: &Path<'_>,
+        path: &DocumentPath<'_>,
         value: &Value,
         earlier: &mut Names,
     ) -> Result<Aggregation, Fault> {

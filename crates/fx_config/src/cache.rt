@@ -11,7 +11,7 @@ use crate::limits::ENTRIES;
 use fx_base::{Fault, Name};
 use fx_layout::Layout;
 use fx_walk::{
-    Entry, Named, Names, Path, Sequence, Whole, entries_member, name_member, object_of, one_of,
+    Entry, Named, Names, DocumentPath, Sequence, Whole, entries_member, name_member, object_of, one_of,
     optional_member,
 };
 use serde_json::Value;
@@ -53,7 +53,7 @@ fn max_flows_given(number: Option<Number>) -> u32
 /// The settings of a kind of cache that is immediate, or isn't.
 fn read_settings(
     alloc: Global,
-    path: &Path<'_>,
+    path: &DocumentPath<'_>,
     value: &Value,
     immediate: bool,
 ) -> Result<Settings, Fault>
@@ -86,7 +86,7 @@ fn read_settings(
 /// The member of this name, which may be there: a kind of cache that is immediate, or isn't.
 fn settings_member(
     alloc: Global,
-    path: &Path<'_>,
+    path: &DocumentPath<'_>,
     object: &Value,
     name: &str,
     immediate: bool,
@@ -97,7 +97,7 @@ fn settings_member(
 {
     match object.get(name) {
         Some(value) => {
-            let settings = read_settings(alloc, &Path::Member(path, name), value, immediate)?;
+            let settings = read_settings(alloc, &DocumentPath::Member(path, name), value, immediate)?;
             Ok(Some(settings))
         }
         None => Ok(None),
@@ -183,7 +183,7 @@ impl Entry for Cache {
 
     fn from_entry(
         alloc: Global,
-        path: &Path<'_>,
+        path: &DocumentPath<'_>,
         value: &Value,
         earlier: &mut Names,
     ) -> Result<Cache, Fault> {

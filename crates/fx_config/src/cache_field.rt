@@ -11,14 +11,14 @@ use crate::limits::FIELDS;
 use fx_base::{Fault, Name};
 use fx_elements::{Element, width};
 use fx_walk::{
-    Empty, Named, Names, Path, Sequence, Whole, items_in, name_member, object_of, one_of,
+    Empty, Named, Names, DocumentPath, Sequence, Whole, items_in, name_member, object_of, one_of,
     optional_member, refusal,
 };
 use serde_json::Value;
 use std::alloc::Global;
 
 /// A length in octets.
-type Octets = Whole<1, 65535>;
+type OctetCount = Whole<1, 65535>;
 
 /// Whether a field tells records apart: one that is marked as a flow key, and in an immediate cache any field
 /// on an axis.
@@ -33,7 +33,7 @@ fn is_key(immediate: bool, element: Element, marked: bool) -> bool
 }
 
 /// Refuses a total counter (111) and a flow key by which packets can't be told apart (112).
-fn known_use(alloc: Global, path: &Path<'_>, element: Element, key: bool) -> Result<(), Fault>
+fn known_use(alloc: Global, path: &DocumentPath<'_>, element: Element, key: bool) -> Result<(), Fault>
     ensures { Reads (element_faults element key (pointer path.now)) tt result }
 {
     match element {
@@ -68,10 +68,10 @@ fn has_other_octets(element: Element, octets: u32) -> bool
 /// member `ieLength` of the field at the path.
 fn known_length(
     alloc: Global,
-    path: &Path<'_>,
+    path: &DocumentPath<'_>,
     element: Element,
     key: bool,
-    length: Option<Octets>,
+    length: Option<OctetCount>,
 ) -> Result<(), Fault>
     ensures { Reads (length_faults element key length (pointer path.now)) tt result }
 {
@@ -79,7 +79,7 @@ fn known_length(
         return Ok(());
     };
     let octets = length.number();
-    let place = Path::Member(path, "ieLength");
+    let place = DocumentPath::Member(path, "ieLength");
     if is_delta_count(element) && octets != 8 {
         return Err(refusal(alloc, 110, &place));
     }
@@ -92,10 +92,10 @@ fn known_length(
 /// What a field's members must come to together.
 fn known_field(
     alloc: Global,
-    path: &Path<'_>,
+    path: &DocumentPath<'_>,
     element: Element,
     key: bool,
-    length: Option<Octets>,
+    length: Option<OctetCount>,
 ) -> Result<(), Fault>
     ensures { Reads (field_check element key length (pointer path.now)) tt result }
 {
@@ -126,7 +126,7 @@ impl Named for CacheField {
 /// once, all fields on an axis tell records apart.
 fn read_field(
     alloc: Global,
-    path: &Path<'_>,
+    path: &DocumentPath<'_>,
     value: &Value,
     earlier: &mut Names,
     immediate: bool,
@@ -153,7 +153,7 @@ fn read_field(
     one_of(alloc, path, value, &["ieName", "ieId"])?;
     let named = optional_member::<NamedElement>(alloc, path, value, "ieName")?;
     let numbered = optional_member::<ElementNumber>(alloc, path, value, "ieId")?;
-    let length = optional_member::<Octets>(alloc, path, value, "ieLength")?;
+    let length = optional_member::<OctetCount>(alloc, path, value, "ieLength")?;
     let enterprise = optional_member::<Enterprise>(alloc, path, value, "ieEnterpriseNumber")?;
     let marked = optional_member::<Empty>(alloc, path, value, "isFlowKey")?;
     let element = element_given(named, numbered, enterprise);
@@ -169,7 +169,7 @@ fn read_field(
 /// The fields of the list at the path, in order.
 fn fields_of(
     alloc: Global,
-    path: &Path<'_>,
+    path: &DocumentPath<'_>,
     items: &[Value],
     immediate: bool,
 ) -> Result<Sequence<CacheField>, Fault>
@@ -181,7 +181,7 @@ fn fields_of(
     let mut names = Names::new(alloc);
     let mut place = 0;
     for item in items {
-        let path = Path::Item(&*path, place);
+        let path = DocumentPath::Item(&*path, place);
         fields.push(read_field(alloc, &path, item, &mut names, immediate)?)?;
         place += 1;
     }
@@ -191,7 +191,7 @@ fn fields_of(
 /// The member `cacheField` of a layout: at least one field.
 pub fn fields_member(
     alloc: Global,
-    path: &Path<'_>,
+    path: &DocumentPath<'_>,
     object: &Value,
     immediate: bool,
 ) -> Result<Sequence<CacheField>, Fault>
@@ -201,7 +201,7 @@ pub fn fields_member(
 {
     match object.get("cacheField") {
         Some(value) => {
-            let path = Path::Member(path, "cacheField");
+            let path = DocumentPath::Member(path, "cacheField");
             let items = items_in(alloc, &path, value, 1, FIELDS)?;
             fields_of(alloc, &path, items, immediate)
         }

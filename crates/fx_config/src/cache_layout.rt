@@ -2,14 +2,14 @@
 ghost use Rattle.std.specs.Prelude.{◌≡◌, ℕ, codes};
 ghost use Rattle.serde_json.specs.View.{view};
 ghost use Rattle.fx_walk.specs.Pointer.{pointer};
-ghost use Rattle.fx_walk.specs.Walk.{Reads, member_of, required};
+ghost use Rattle.fx_walk.specs.Walk.{Reads, member_of, required_row};
 ghost use Rattle.fx_config.specs.CacheLayouts.{add_axis, add_key, cache_layout_faults, cache_layout_of, counter_faults, counts_octets, counts_packets, layout_of};
 
 use crate::cache_field::{CacheField, fields_member};
 use fx_base::Fault;
 use fx_elements::{Element, width};
 use fx_layout::Layout;
-use fx_walk::{Path, object_of, refusal};
+use fx_walk::{DocumentPath, object_of, refusal};
 use serde_json::Value;
 use std::alloc::Global;
 
@@ -30,7 +30,7 @@ fn counts_packets(fields: &[CacheField]) -> bool
 }
 
 /// Refuses records that don't count octets and packets (114).
-fn has_counters(alloc: Global, path: &Path<'_>, fields: &[CacheField]) -> Result<(), Fault>
+fn has_counters(alloc: Global, path: &DocumentPath<'_>, fields: &[CacheField]) -> Result<(), Fault>
     ensures { Reads (counter_faults fields.now (pointer path.now)) tt result }
 {
     if counts_octets(fields) && counts_packets(fields) {
@@ -67,7 +67,7 @@ fn layout_of(fields: &[CacheField]) -> Layout
 /// The flow keys of a cache's records, from the container `cacheLayout` at the path (RFC 6728, section 4.3.3).
 fn read_layout(
     alloc: Global,
-    path: &Path<'_>,
+    path: &DocumentPath<'_>,
     value: &Value,
     immediate: bool,
 ) -> Result<Layout, Fault>
@@ -84,16 +84,16 @@ fn read_layout(
 /// The member `cacheLayout`, which must be there.
 pub fn layout_member(
     alloc: Global,
-    path: &Path<'_>,
+    path: &DocumentPath<'_>,
     object: &Value,
     immediate: bool,
 ) -> Result<Layout, Fault>
-    ensures { Reads ((required (codes "cacheLayout") (cache_layout_faults immediate)).faults
+    ensures { Reads ((required_row (codes "cacheLayout") (cache_layout_faults immediate)).faults
         (pointer path.now) (view object.now))
         (cache_layout_of immediate (member_of (codes "cacheLayout") (view object.now))) result }
 {
     match object.get("cacheLayout") {
-        Some(value) => read_layout(alloc, &Path::Member(path, "cacheLayout"), value, immediate),
+        Some(value) => read_layout(alloc, &DocumentPath::Member(path, "cacheLayout"), value, immediate),
         None => Err(refusal(alloc, 103, path)),
     }
 }

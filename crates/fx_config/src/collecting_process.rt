@@ -5,7 +5,7 @@ use crate::aggregation::Aggregation;
 use crate::limits::ENTRIES;
 use fx_base::{Fault, Name};
 use fx_walk::{
-    Entry, Named, Names, Path, Refused, Sequence, entries_member, name_member, none_of, object_of,
+    Entry, Named, Names, DocumentPath, Refused, Sequence, entries_member, name_member, none_of, object_of,
 };
 use serde_json::Value;
 use std::alloc::Global;
@@ -36,7 +36,7 @@ impl Entry for CollectingProcess {
 
     fn from_entry(
         alloc: Global,
-        path: &Path<'_>,
+        path: &DocumentPath<'_>,
         value: &Value,
         earlier: &mut Names,
     ) -> Result<CollectingProcess, Fault> {

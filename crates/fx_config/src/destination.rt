@@ -4,7 +4,7 @@ ghost use Rattle.serde_json.specs.View.{view};
 ghost use Rattle.fx_config.specs.Destinations.{destination_faults, destination_of, transport_of};
 
 use fx_base::{Fault, Name};
-use fx_walk::{Entry, Named, Names, Path, Refused, name_member, none_of, object_of, one_of};
+use fx_walk::{Entry, Named, Names, DocumentPath, Refused, name_member, none_of, object_of, one_of};
 use serde_json::Value;
 use std::alloc::Global;
 
@@ -56,7 +56,7 @@ impl Entry for Destination {
 
     fn from_entry(
         alloc: Global,
-        path: &Path<'_>,
+        path: &DocumentPath<'_>,
         value: &Value,
         earlier: &mut Names,
     ) -> Result<Destination, Fault> {

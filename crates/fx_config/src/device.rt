@@ -7,7 +7,7 @@ ghost use Rattle.fx_config.specs.Devices.{device_faults, device_of};
 
 use crate::ipfix::{Device, Ipfix};
 use fx_base::Fault;
-use fx_walk::{FromValue, Path, document_of, required_member};
+use fx_walk::{FromValue, DocumentPath, document_of, required_member};
 use serde_json::Value;
 use std::alloc::Global;
 
@@ -18,7 +18,7 @@ impl FromValue for Device {
 
     ghost meaning = { device_of };
 
-    fn from_value(alloc: Global, path: &Path<'_>, value: &Value) -> Result<Device, Fault> {
+    fn from_value(alloc: Global, path: &DocumentPath<'_>, value: &Value) -> Result<Device, Fault> {
         document_of(
             alloc,
             path,
@@ -43,5 +43,5 @@ pub fn read_device(alloc: Global, value: &Value) -> Result<Device, Fault>
     ensures answer { Reads (device_faults [] (view value.now)) (device_of (view value.now)) result }
     ensures resolved { IfOk result Resolves }
 {
-    Device::from_value(alloc, &Path::Root, value)
+    Device::from_value(alloc, &DocumentPath::Root, value)
 }

@@ -6,7 +6,7 @@ use crate::destination::Destination;
 use crate::limits::ENTRIES;
 use fx_base::{Fault, Name};
 use fx_walk::{
-    Entry, Named, Names, Path, Sequence, Word, entries_member, name_member, object_of, word_member,
+    Entry, Named, Names, DocumentPath, Sequence, Word, entries_member, name_member, object_of, word_member,
 };
 use serde_json::Value;
 use std::alloc::Global;
@@ -68,7 +68,7 @@ impl Entry for ExportingProcess {
 
     fn from_entry(
         alloc: Global,
-        path: &Path<'_>,
+        path: &DocumentPath<'_>,
         value: &Value,
         earlier: &mut Names,
     ) -> Result<ExportingProcess, Fault> {

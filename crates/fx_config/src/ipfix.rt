@@ -12,7 +12,7 @@ use crate::observation_point::ObservationPoint;
 use crate::selection_process::SelectionProcess;
 use fx_base::Fault;
 use fx_walk::{
-    EntryNames, FromValue, Path, Sequence, entries_member, items_refer, named_member, object_of,
+    EntryNames, FromValue, DocumentPath, Sequence, entries_member, items_refer, named_member, object_of,
 };
 use serde_json::Value;
 use std::alloc::Global;
@@ -34,14 +34,19 @@ pub struct Device {
 
 /// The names of a device's things to which others refer.
 #[derive(Drop)]
-struct Known {
+struct KnownNames {
     selecting: EntryNames,
     caches: EntryNames,
     exporting: EntryNames,
 }
 
 /// Refuses a name that stands for nothing of the device, whose container `ipfix` is at the path (107).
-fn refers(alloc: Global, path: &Path<'_>, device: &Device, known: &Known) -> Result<(), Fault>
+fn refers(
+    alloc: Global,
+    path: &DocumentPath<'_>,
+    device: &Device,
+    known: &KnownNames,
+) -> Result<(), Fault>
     ensures { let names = known.now in
         let faults = references_among names.selecting names.caches names.exporting in
         Reads (faults (pointer path.now) device.now) tt result }
@@ -70,7 +75,7 @@ impl FromValue for Ipfix {
 
     ghost meaning = { ipfix_of };
 
-    fn from_value(alloc: Global, path: &Path<'_>, value: &Value) -> Result<Ipfix, Fault> {
+    fn from_value(alloc: Global, path: &DocumentPath<'_>, value: &Value) -> Result<Ipfix, Fault> {
         object_of(
             alloc,
             path,
@@ -95,7 +100,7 @@ impl FromValue for Ipfix {
             exporting_processes: exporting.items,
             collecting_processes: collecting,
         };
-        let known = Known {
+        let known = KnownNames {
             selecting: selecting.names,
             caches: caches.names,
             exporting: exporting.names,

@@ -11,7 +11,7 @@ use crate::key_field::{KeyField, part_of};
 use crate::limits::FIELDS;
 use fx_base::Fault;
 use fx_layout::Layout;
-use fx_walk::{FromValue, Path, items_in, refusal};
+use fx_walk::{FromValue, DocumentPath, items_in, refusal};
 use serde_json::Value;
 use std::alloc::Global;
 
@@ -26,7 +26,7 @@ fn with_field(layout: &Layout, field: &KeyField) -> Option<Layout>
 /// The layout with what the field at the path stands for: 105 where that can't be.
 fn add_field(
     alloc: Global,
-    path: &Path<'_>,
+    path: &DocumentPath<'_>,
     layout: &Layout,
     field: &KeyField,
 ) -> Result<Layout, Fault>
@@ -40,14 +40,14 @@ fn add_field(
 }
 
 /// The layout of the fields of the list at the path.
-fn fields_of(alloc: Global, path: &Path<'_>, items: &[Value]) -> Result<Layout, Fault>
+fn fields_of(alloc: Global, path: &DocumentPath<'_>, items: &[Value]) -> Result<Layout, Fault>
     ensures { Reads (fields_faults [] (pointer path.now) 0 (map view items.now))
         (with_fields [] (map view items.now)) result }
 {
     let mut layout = Layout::new();
     let mut place = 0;
     for item in items {
-        let path = Path::Item(&*path, place);
+        let path = DocumentPath::Item(&*path, place);
         let field = KeyField::from_value(alloc, &path, item)?;
         layout = add_field(alloc, &path, &layout, &field)?;
         place += 1;
@@ -56,13 +56,13 @@ fn fields_of(alloc: Global, path: &Path<'_>, items: &[Value]) -> Result<Layout, 
 }
 
 /// The member `key`, a list of fields; without it the key has none.
-pub fn key_member(alloc: Global, path: &Path<'_>, object: &Value) -> Result<Layout, Fault>
+pub fn key_member(alloc: Global, path: &DocumentPath<'_>, object: &Value) -> Result<Layout, Fault>
     ensures { Reads (key_row.faults (pointer path.now) (view object.now))
         (with_fields [] (items_of (member_of (codes "key") (view object.now)))) result }
 {
     match object.get("key") {
         Some(value) => {
-            let path = Path::Member(path, "key");
+            let path = DocumentPath::Member(path, "key");
             let items = items_in(alloc, &path, value, 0, FIELDS)?;
             fields_of(alloc, &path, items)
         }

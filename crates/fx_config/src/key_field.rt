@@ -8,7 +8,7 @@ use crate::element::{ElementNumber, NamedElement, element_given};
 use fx_base::Fault;
 use fx_elements::{Axis, Element, width};
 use fx_layout::Part;
-use fx_walk::{FromValue, Path, Whole, object_of, one_of, optional_member, refusal};
+use fx_walk::{FromValue, DocumentPath, Whole, object_of, one_of, optional_member, refusal};
 use serde_json::Value;
 use std::alloc::Global;
 
@@ -46,7 +46,7 @@ fn longest_prefix(element: Element) -> u32
 /// `prefixLength`).
 fn known_prefix(
     alloc: Global,
-    path: &Path<'_>,
+    path: &DocumentPath<'_>,
     element: Element,
     prefix_length: Option<u32>,
 ) -> Result<(), Fault>
@@ -58,7 +58,7 @@ fn known_prefix(
         }
         return Ok(());
     };
-    let place = Path::Member(path, "prefixLength");
+    let place = DocumentPath::Member(path, "prefixLength");
     if bits > longest_prefix(element) {
         return Err(refusal(alloc, 105, &place));
     }
@@ -82,7 +82,7 @@ impl FromValue for KeyField {
 
     ghost meaning = { key_field_of };
 
-    fn from_value(alloc: Global, path: &Path<'_>, value: &Value) -> Result<KeyField, Fault> {
+    fn from_value(alloc: Global, path: &DocumentPath<'_>, value: &Value) -> Result<KeyField, Fault> {
         object_of(alloc, path, value, &["ieName", "ieId", "prefixLength"])?;
         one_of(alloc, path, value, &["ieName", "ieId"])?;
         let named = optional_member::<NamedElement>(alloc, path, value, "ieName")?;

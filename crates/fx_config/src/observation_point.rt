@@ -5,7 +5,7 @@ ghost use Rattle.fx_config.specs.declared.observation_point.Direction.TheVariant
 use crate::limits::ENTRIES;
 use fx_base::{Fault, Name};
 use fx_walk::{
-    Entry, Named, Names, Path, Sequence, Whole, Word, entries_member, name_member, object_of,
+    Entry, Named, Names, DocumentPath, Sequence, Whole, Word, entries_member, name_member, object_of,
     required_member, word_member,
 };
 use serde_json::Value;
@@ -72,7 +72,7 @@ impl Entry for ObservationPoint {
 
     fn from_entry(
         alloc: Global,
-        path: &Path<'_>,
+        path: &DocumentPath<'_>,
         value: &Value,
         earlier: &mut Names,
     ) -> Result<ObservationPoint, Fault> {

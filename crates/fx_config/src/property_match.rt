@@ -8,7 +8,7 @@ use crate::element::{ElementNumber, Enterprise, NamedElement, element_given};
 use fx_base::Fault;
 use fx_elements::{Axis, Element, Range, read_value};
 use fx_walk::{
-    FromValue, Path, Text, object_of, one_of, optional_member, refusal, required_member,
+    FromValue, DocumentPath, Text, object_of, one_of, optional_member, refusal, required_member,
 };
 use serde_json::Value;
 use std::alloc::Global;
@@ -44,7 +44,7 @@ fn property_given(element: Element, text: &str) -> Option<PropertyMatch>
 /// The match that an element and the text of its value stand for: 105 where they stand for none.
 fn known_property(
     alloc: Global,
-    path: &Path<'_>,
+    path: &DocumentPath<'_>,
     element: Element,
     text: &str,
 ) -> Result<PropertyMatch, Fault>
@@ -63,7 +63,7 @@ impl FromValue for PropertyMatch {
 
     ghost meaning = { property_match_of };
 
-    fn from_value(alloc: Global, path: &Path<'_>, value: &Value) -> Result<PropertyMatch, Fault> {
+    fn from_value(alloc: Global, path: &DocumentPath<'_>, value: &Value) -> Result<PropertyMatch, Fault> {
         object_of(
             alloc,
             path,

@@ -9,14 +9,14 @@ use crate::collecting_process::CollectingProcess;
 use crate::observation_point::ObservationPoint;
 use crate::selection_process::SelectionProcess;
 use fx_base::{Fault, Name};
-use fx_walk::{Names, Path, Refers, Sequence, items_refer};
+use fx_walk::{Names, DocumentPath, Refers, Sequence, items_refer};
 use std::alloc::Global;
 
 /// A point names selection processes.
 impl Refers for ObservationPoint {
     ghost faults = { point_references };
 
-    fn refers(&self, alloc: Global, path: &Path<'_>, processes: &Names) -> Result<(), Fault> {
+    fn refers(&self, alloc: Global, path: &DocumentPath<'_>, processes: &Names) -> Result<(), Fault> {
         let names = &self.selection_processes;
         items_refer(alloc, path, "selectionProcess", names, processes)
     }
@@ -26,9 +26,9 @@ impl Refers for ObservationPoint {
 impl Refers for SelectionProcess {
     ghost faults = { process_references };
 
-    fn refers(&self, alloc: Global, path: &Path<'_>, caches: &Names) -> Result<(), Fault> {
+    fn refers(&self, alloc: Global, path: &DocumentPath<'_>, caches: &Names) -> Result<(), Fault> {
         match &self.cache {
-            Some(cache) => cache.refers(alloc, &Path::Member(path, "cache"), caches),
+            Some(cache) => cache.refers(alloc, &DocumentPath::Member(path, "cache"), caches),
             None => Ok(()),
         }
     }
@@ -37,7 +37,7 @@ impl Refers for SelectionProcess {
 /// Refuses the first exporting process that the object at the path names and that isn't there (107).
 fn exporting_refer(
     alloc: Global,
-    path: &Path<'_>,
+    path: &DocumentPath<'_>,
     names: &Sequence<Name>,
     exporters: &Names,
 ) -> Result<(), Fault>
@@ -50,7 +50,7 @@ fn exporting_refer(
 impl Refers for Cache {
     ghost faults = { cache_references };
 
-    fn refers(&self, alloc: Global, path: &Path<'_>, exporters: &Names) -> Result<(), Fault> {
+    fn refers(&self, alloc: Global, path: &DocumentPath<'_>, exporters: &Names) -> Result<(), Fault> {
         exporting_refer(alloc, path, &self.exporting_processes, exporters)
     }
 }
@@ -59,7 +59,7 @@ impl Refers for Cache {
 impl Refers for Aggregation {
     ghost faults = { aggregation_references };
 
-    fn refers(&self, alloc: Global, path: &Path<'_>, exporters: &Names) -> Result<(), Fault> {
+    fn refers(&self, alloc: Global, path: &DocumentPath<'_>, exporters: &Names) -> Result<(), Fault> {
         exporting_refer(alloc, path, &self.exporting_processes, exporters)
     }
 }
@@ -68,7 +68,7 @@ impl Refers for Aggregation {
 impl Refers for CollectingProcess {
     ghost faults = { collecting_references };
 
-    fn refers(&self, alloc: Global, path: &Path<'_>, exporters: &Names) -> Result<(), Fault> {
+    fn refers(&self, alloc: Global, path: &DocumentPath<'_>, exporters: &Names) -> Result<(), Fault> {
         exporting_refer(alloc, path, &self.exporting_processes, exporters)?;
         let items = &self.aggregations;
         items_refer(alloc, path, "once-audit:aggregation", items, exporters)

@@ -5,7 +5,7 @@ use crate::limits::SELECTORS;
 use crate::selector::Selector;
 use fx_base::{Fault, Name};
 use fx_walk::{
-    Entry, Named, Names, Path, Sequence, entries_member, name_member, object_of, optional_member,
+    Entry, Named, Names, DocumentPath, Sequence, entries_member, name_member, object_of, optional_member,
 };
 use serde_json::Value;
 use std::alloc::Global;
@@ -36,7 +36,7 @@ impl Entry for SelectionProcess {
 
     fn from_entry(
         alloc: Global,
-        path: &Path<'_>,
+        path: &DocumentPath<'_>,
         value: &Value,
         earlier: &mut Names,
     ) -> Result<SelectionProcess, Fault> {

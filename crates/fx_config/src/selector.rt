@@ -6,7 +6,7 @@ ghost use Rattle.fx_config.specs.Selectors.{all_faults, is_all, method_given, se
 use crate::property_match::PropertyMatch;
 use fx_base::{Fault, Name};
 use fx_walk::{
-    Entry, FromValue, Named, Names, Path, Refused, is_empty_type, name_member, none_of, object_of,
+    Entry, FromValue, Named, Names, DocumentPath, Refused, is_empty_type, name_member, none_of, object_of,
     one_of, optional_member, refusal,
 };
 use serde_json::Value;
@@ -30,7 +30,7 @@ impl FromValue for SelectAll {
 
     ghost meaning = { λ _. record {} };
 
-    fn from_value(alloc: Global, path: &Path<'_>, value: &Value) -> Result<SelectAll, Fault> {
+    fn from_value(alloc: Global, path: &DocumentPath<'_>, value: &Value) -> Result<SelectAll, Fault> {
         if is_all(value) {
             Ok(SelectAll)
         } else {
@@ -106,7 +106,7 @@ impl Entry for Selector {
 
     fn from_entry(
         alloc: Global,
-        path: &Path<'_>,
+        path: &DocumentPath<'_>,
         value: &Value,
         earlier: &mut Names,
     ) -> Result<Selector, Fault> {

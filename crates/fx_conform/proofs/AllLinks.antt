@@ -10,13 +10,13 @@ use Rattle.fx_link.specs.Sending.{IsSent}
 use Rattle.fx_link.specs.Wires.{new_wire}
 use Rattle.fx_link.specs.Ongoing.{Ongoing, at_rest, after_finish, after_carry}
 use Rattle.fx_net.specs.Arriving.{waiting_on, with_left}
-use Rattle.fx_net.specs.Contents.{changed}
+use Rattle.fx_net.specs.Contents.{with_changed}
 use Rattle.fx_net.specs.Exporting.{put_each}
 use Rattle.fx_net.specs.Finishing.{HasRoom, to_put_on}
 use Rattle.fx_net.specs.Opening.{new_links}
-use Rattle.fx_runs.specs.Given.{given}
+use Rattle.fx_runs.specs.Given.{records_given}
 use Rattle.fx_runs.proofs.RecordsGiven.{gives_all}
-use Rattle.fx_conform.specs.OnLinks.{AreRead, IsStill, IsCarried, AreStill, AreCarried, none_pending, pending_from, with_octets_carried, arrived, NoOctets}
+use Rattle.fx_conform.specs.OnLinks.{AreRead, IsStill, IsCarried, AreStill, AreCarried, none_pending, pending_from, with_octets_carried, arrivals, NoOctets}
 use Rattle.fx_conform.proofs.Places.{at_set, at_other, changed_other}
 use Rattle.fx_conform.proofs.LinkPlaces.{same_some, made_of, map_at, changed_here, mapped_many, changed_many, set_many, put_all_many, put_each_many, given_sent, putting, put_each_at}
 use Rattle.fx_conform.proofs.OneLink.{new_is_still, still_is_carried, puts_are_carried, finishing_stills, octets_arrive, arrived_leaves, nothing_carried}
@@ -46,11 +46,11 @@ module _ (time : ℕ) (history : ℕ → List ℕ) (all : ℕ → List Record) (
   }
 
   pub all_puts_are_carried : (pending : ℕ → List Record) (r : Record) (places : List ℕ) → AreCarried time pending history all links carried → IsSent r
-      → AreCarried time pending history (λ link. all link ++ given places r link) (put_each time r places links) (put_all places r carried)
+      → AreCarried time pending history (λ link. all link ++ records_given places r link) (put_each time r places links) (put_all places r carried)
   all_puts_are_carried pending r places c s = record {
     as_many = put_all_many places r carried ∙ c.as_many ∙ sym (put_each_many time r places links);
     each = λ link o rs a b.
-        let more : List Record = given places r link in
+        let more : List Record = records_given places r link in
         let before = made_of (putting time more) (slice_get links link) o (sym (put_each_at time r places links link) ∙ a) in
         let held = made_of (λ (l : List Record). l ++ more) (slice_get carried link) rs (sym (gives_all places r carried link) ∙ b) in
         let one = puts_are_carried time (history link) (all link) before.0 held.0 (pending link) more (c.each link before.0 held.0 before.1 held.1) (given_sent places r link s) in
@@ -82,18 +82,18 @@ both_made n (Some o) = refl
 module _ (link n : ℕ) (links : List Ongoing) where
   carried_here : slice_get (with_octets_carried link n links) link ≡ option_map (after_reading n) (slice_get links link)
   carried_here =
-      changed_here (with_left []) (changed (after_carry n) links link) link ∙ ap (option_map (with_left [])) (changed_here (after_carry n) links link)
+      changed_here (with_left []) (with_changed (after_carry n) links link) link ∙ ap (option_map (with_left [])) (changed_here (after_carry n) links link)
       ∙ both_made n (slice_get links link)
 
   carried_other : (k : ℕ) → (k ≡ link → ⊥) → slice_get (with_octets_carried link n links) k ≡ slice_get links k
-  carried_other k ne = changed_other (with_left []) (changed (after_carry n) links link) link k ne ∙ changed_other (after_carry n) links link k ne
+  carried_other k ne = changed_other (with_left []) (with_changed (after_carry n) links link) link k ne ∙ changed_other (after_carry n) links link k ne
 
-  arrived_is : (o : Ongoing) → slice_get links link ≡ Some o → waiting_on (Some (after_carry n o)) ≡ arrived link n links
+  arrived_is : (o : Ongoing) → slice_get links link ≡ Some o → waiting_on (Some (after_carry n o)) ≡ arrivals link n links
   arrived_is o at = sym (ap waiting_on (changed_here (after_carry n) links link) ∙ ap (λ (x : Option Ongoing). waiting_on (option_map (after_carry n) x)) at)
 
 module _ (time link n : ℕ) (history : ℕ → List ℕ) (all : ℕ → List Record) (links : List Ongoing) (carried : List (List Record)) (s : AreStill history all links carried) where
   arrive_at : (k : ℕ) (o : Ongoing) (rs : List Record) → slice_get (with_octets_carried link n links) k ≡ Some o → slice_get carried k ≡ Some rs → (b : Bool) → (k == link) ≡ b
-      → IsCarried time (cond b (arrived link n links) []) (history k) (all k) o rs
+      → IsCarried time (cond b (arrivals link n links) []) (history k) (all k) o rs
   arrive_at k o rs a b false e =
       let at : slice_get links k ≡ Some o = sym (carried_other link n links k (eqb-false k link e)) ∙ a in
       still_is_carried time (history k) (all k) o rs (s.each k o rs at b)
@@ -102,13 +102,13 @@ module _ (time link n : ℕ) (history : ℕ → List ℕ) (all : ℕ → List Re
       let here : slice_get (with_octets_carried link n links) k ≡ option_map (after_reading n) (slice_get links k) = subst (λ (m : ℕ). slice_get (with_octets_carried link n links) m ≡ option_map (after_reading n) (slice_get links m)) (sym same) (carried_here link n links) in
       let before = made_of (after_reading n) (slice_get links k) o (sym here ∙ a) in
       let one = octets_arrive time n (history k) (all k) before.0 rs (s.each k before.0 rs before.1 b) in
-      let come : waiting_on (Some (after_carry n before.0)) ≡ arrived link n links = arrived_is link n links before.0 (sym (ap (slice_get links) same) ∙ before.1) in
+      let come : waiting_on (Some (after_carry n before.0)) ≡ arrivals link n links = arrived_is link n links before.0 (sym (ap (slice_get links) same) ∙ before.1) in
       subst (λ (l : List Record). IsCarried time l (history k) (all k) o rs) come
       (subst (λ (x : Ongoing). IsCarried time (waiting_on (Some (after_carry n before.0))) (history k) (all k) x rs) before.2 one)
 
-  pub all_octets_arrive : link < length links → AreCarried time (pending_from link (arrived link n links)) history all (with_octets_carried link n links) carried
+  pub all_octets_arrive : link < length links → AreCarried time (pending_from link (arrivals link n links)) history all (with_octets_carried link n links) carried
   all_octets_arrive within = record {
-    as_many = s.as_many ∙ sym (changed_many (with_left []) (changed (after_carry n) links link) link ∙ changed_many (after_carry n) links link);
+    as_many = s.as_many ∙ sym (changed_many (with_left []) (with_changed (after_carry n) links link) link ∙ changed_many (after_carry n) links link);
     each = λ k o rs a b. arrive_at k o rs a b (k == link) refl;
   }
 

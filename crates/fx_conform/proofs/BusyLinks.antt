@@ -8,7 +8,7 @@ use Rattle.fx_link.specs.Outgoing.{after_flush}
 use Rattle.fx_link.specs.Sending.{Sender}
 use Rattle.fx_link.specs.Ongoing.{Ongoing, after_carry, after_finish}
 use Rattle.fx_net.specs.Arriving.{queued_on, with_left}
-use Rattle.fx_net.specs.Contents.{changed}
+use Rattle.fx_net.specs.Contents.{with_changed}
 use Rattle.fx_net.specs.Exporting.{put_each, with_waiting}
 use Rattle.fx_conform.specs.Closing.{NothingWaits}
 use Rattle.fx_conform.proofs.LinkPlaces.{made_of, map_at, changed_here}
@@ -29,7 +29,7 @@ busy_in_more busy more links f h link o at = elim (h link o at) [ inl here ↦ i
 
 -- ---- records are put on links
 
-busy_where_changed : (busy : ℕ → Type 0) (f : Ongoing → Ongoing) (links : List Ongoing) (n : ℕ) → busy n → OnlyBusy busy links → OnlyBusy busy (changed f links n)
+busy_where_changed : (busy : ℕ → Type 0) (f : Ongoing → Ongoing) (links : List Ongoing) (n : ℕ) → busy n → OnlyBusy busy links → OnlyBusy busy (with_changed f links n)
 busy_where_changed busy f links n there h link o at = by (cases_eq link n) where
   by : (link ≡ n) ⊎ (link ≡ n → ⊥) → busy link ⊎ IsIdle o
   by (inl e) = inl (subst busy (sym e) there)
@@ -38,7 +38,7 @@ busy_where_changed busy f links n there h link o at = by (cases_eq link n) where
 pub busy_where_put : (busy : ℕ → Type 0) (time : ℕ) (r : Record) (places : List ℕ) (links : List Ongoing) → AllByRecursion busy places → OnlyBusy busy links → OnlyBusy busy (put_each time r places links)
 busy_where_put busy time r [] links there h = h
 busy_where_put busy time r (l ∷ ls) links there h =
-    busy_where_put busy time r ls (changed (with_waiting time r) links l) there.1 (busy_where_changed busy (with_waiting time r) links l there.0 h)
+    busy_where_put busy time r ls (with_changed (with_waiting time r) links l) there.1 (busy_where_changed busy (with_waiting time r) links l there.0 h)
 
 -- ---- what waits is put out
 
@@ -77,14 +77,14 @@ waits_none (p ∷ links) zero o still at = let e : p ≡ o = cc in subst (λ (x 
 waits_none (p ∷ links) (suc link) o still at = waits_none links link o still.1 at
 
 pub busy_but_carried : (busy : ℕ → Type 0) (links : List Ongoing) (n : ℕ) → NothingWaits links → OnlyBusy busy links
-    → OnlyBusy (λ link. busy link × (link ≡ n → ⊥)) (changed (after_carry (queued_on (slice_get links n))) links n)
+    → OnlyBusy (λ link. busy link × (link ≡ n → ⊥)) (with_changed (after_carry (queued_on (slice_get links n))) links n)
 busy_but_carried busy links n still h link o at = by (cases_eq link n) where
   many : ℕ
   many = queued_on (slice_get links n)
 
   by : (link ≡ n) ⊎ (link ≡ n → ⊥) → (busy link × (link ≡ n → ⊥)) ⊎ IsIdle o
   by (inl e) =
-      let here : option_map (after_carry many) (slice_get links n) ≡ Some o = sym (changed_here (after_carry many) links n) ∙ ap (slice_get (changed (after_carry many) links n)) (sym e) ∙ at in
+      let here : option_map (after_carry many) (slice_get links n) ≡ Some o = sym (changed_here (after_carry many) links n) ∙ ap (slice_get (with_changed (after_carry many) links n)) (sym e) ∙ at in
       let m = made_of (after_carry many) (slice_get links n) o here in
       let none = waits_none links n m.0 still m.1 in
       let all : drop many m.0.queue ≡ [] = ap (λ (p : Option Ongoing). drop (queued_on p) m.0.queue) m.1 ∙ drop-length m.0.queue in
@@ -93,11 +93,11 @@ busy_but_carried busy links n still h link o at = by (cases_eq link n) where
   by (inr ne) = elim (h link o (sym (changed_other (after_carry many) links n link ne) ∙ at)) [ inl here ↦ inl (here, ne) | inr idle ↦ inr idle ]
 
 -- records that have arrived leave the link as busy as it is
-pub busy_once_left : (busy : ℕ → Type 0) (links : List Ongoing) (n : ℕ) → OnlyBusy busy links → OnlyBusy busy (changed (with_left []) links n)
+pub busy_once_left : (busy : ℕ → Type 0) (links : List Ongoing) (n : ℕ) → OnlyBusy busy links → OnlyBusy busy (with_changed (with_left []) links n)
 busy_once_left busy links n h link o at = by (cases_eq link n) where
   by : (link ≡ n) ⊎ (link ≡ n → ⊥) → busy link ⊎ IsIdle o
   by (inl e) =
-      let m = made_of (with_left []) (slice_get links link) o (sym (ap (λ (k : ℕ). slice_get (changed (with_left []) links k) link) (sym e) ∙ changed_here (with_left []) links link) ∙ at) in
+      let m = made_of (with_left []) (slice_get links link) o (sym (ap (λ (k : ℕ). slice_get (with_changed (with_left []) links k) link) (sym e) ∙ changed_here (with_left []) links link) ∙ at) in
       elim (h link m.0 m.1) [
         | inl here ↦ inl here
         | inr idle ↦ (let same : IsIdle (with_left [] m.0) = record { queue = idle.queue; batch = idle.batch; octets = idle.octets } in inr (subst IsIdle m.2 same))

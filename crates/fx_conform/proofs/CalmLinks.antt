@@ -7,21 +7,21 @@ use Rattle.fx_collect.specs.Totals.{with_record}
 use Rattle.fx_layout.specs.Keys.{Key, project}
 use Rattle.fx_tables.specs.declared.holding.Holding.{Holding}
 use Rattle.fx_tables.specs.declared.record.Record.{Record}
-use Rattle.fx_tables.specs.Takers.{aggregated}
-use Rattle.fx_tables.specs.Network.{Net, Holder, Aggregation, Process, aggregations_of, layout_of, named_by, takes_with}
+use Rattle.fx_tables.specs.Takers.{intakes}
+use Rattle.fx_tables.specs.Network.{Net, Holder, AggregationEntry, Process, aggregations_of, layout_of, named_by, takes_with}
 use Rattle.fx_link.specs.Links.{Put}
 use Rattle.fx_link.specs.Ongoing.{after_carry, after_finish}
 use Rattle.fx_ranks.specs.Ranks.{is_in}
 use Rattle.fx_runs.specs.Destinations.{links_used}
 use Rattle.fx_store.specs.Flows.{Entry}
 use Rattle.fx_net.specs.Arriving.{process_behind, leads_to_report, exporters_named, takers, after_tally, after_arrive, after_arrivals, after_carrying, waiting_on, with_left, queued_on}
-use Rattle.fx_net.specs.Contents.{Contents, changed, stored_at, is_immediate}
+use Rattle.fx_net.specs.Contents.{Contents, with_changed, stored_at, is_immediate}
 use Rattle.fx_net.specs.Doings.{Ended, Empties, EmptiesAll, CarriesWhole}
 use Rattle.fx_net.specs.Exporting.{after_send}
 use Rattle.fx_net.specs.Finishing.{after_finishing}
 use Rattle.fx_net.specs.Leaving.{leaver, least_of, without_least, count_at, after_leave, after_leaves}
 use Rattle.fx_net.specs.Stores.{Stored, makes_room}
-use Rattle.fx_net.specs.Taking.{adding, left_by, leaves_at_once, all_leave_at_once, after_adding, after_taking, with_stores}
+use Rattle.fx_net.specs.Taking.{stores_and_leavers, left_by, leaves_at_once, all_leave_at_once, after_adding, after_taking, with_stores}
 use Rattle.fx_conform.specs.Closing.{NothingWaits}
 use Rattle.fx_conform.specs.Held.{Leaver}
 use Rattle.fx_conform.specs.Emptying.{leasts, without_leasts}
@@ -40,7 +40,7 @@ module _ (P : ℕ → Type 0) where
   one_so holder None h = tt
   one_so holder (Some e) h = (h, tt)
 
-  left_so : (counts : Counts) (hs : List Holding) (stores : List (Option Stored)) → AllByRecursion (λ (h : Holding). P h.holder) hs → AllByRecursion (λ (l : Leaver). P l.holder) (adding stores counts hs).left
+  left_so : (counts : Counts) (hs : List Holding) (stores : List (Option Stored)) → AllByRecursion (λ (h : Holding). P h.holder) hs → AllByRecursion (λ (l : Leaver). P l.holder) (stores_and_leavers stores counts hs).left
   left_so counts [] stores h = tt
   left_so counts (x ∷ hs) stores h =
       subst (AllByRecursion (λ (l : Leaver). P l.holder)) (sym (left_then counts x hs stores))
@@ -57,10 +57,10 @@ module _ (P : ℕ → Type 0) where
   leasts_so place zero stores h = tt
   leasts_so place (suc n) stores h = all_join (λ (l : Leaver). P l.holder) (left_by place (least_of (stored_at stores place))) _ (one_so place (least_of (stored_at stores place)) h) (leasts_so place n (without_least stores place) h)
 
-  takers_so : (holders : List Holder) (key : Key) (xs : List Aggregation) → AllByRecursion (λ (a : Aggregation). P a.holder) xs → AllByRecursion (λ (h : Holding). P h.holder) (aggregated holders key xs)
+  takers_so : (holders : List Holder) (key : Key) (xs : List AggregationEntry) → AllByRecursion (λ (a : AggregationEntry). P a.holder) xs → AllByRecursion (λ (h : Holding). P h.holder) (intakes holders key xs)
   takers_so holders key [] h = tt
   takers_so holders key (a ∷ xs) h = by (takers_so holders key xs h.1) (takes_with holders key a) where
-    by : AllByRecursion (λ (h : Holding). P h.holder) (aggregated holders key xs) → (b : Bool) → AllByRecursion (λ (h : Holding). P h.holder) (cond b (record { holder = a.holder; key = project key (layout_of (slice_get holders a.holder)) } ∷ []) [] ++ aggregated holders key xs)
+    by : AllByRecursion (λ (h : Holding). P h.holder) (intakes holders key xs) → (b : Bool) → AllByRecursion (λ (h : Holding). P h.holder) (cond b (record { holder = a.holder; key = project key (layout_of (slice_get holders a.holder)) } ∷ []) [] ++ intakes holders key xs)
     by ih true = (h.0, ih)
     by ih false = ih
 
@@ -83,8 +83,8 @@ module _ (net : Net) where
   -- a process that sends on such links, and whose aggregations are such holders
   pub record IsOfThese (busy filled : ℕ → Type 0) (process : Option Process) : Type 0 where
     pub sends : SendsOn busy (exporters_named process)
-    pub leaves : AllByRecursion (λ (a : Aggregation). LeavesOn busy a.holder) (aggregations_of process)
-    pub holds : AllByRecursion (λ (a : Aggregation). filled a.holder) (aggregations_of process)
+    pub leaves : AllByRecursion (λ (a : AggregationEntry). LeavesOn busy a.holder) (aggregations_of process)
+    pub holds : AllByRecursion (λ (a : AggregationEntry). filled a.holder) (aggregations_of process)
 
   module _ (busy filled : ℕ → Type 0) where
     -- ---- records leave, and are taken in
@@ -104,7 +104,7 @@ module _ (net : Net) where
     calm_by_taking : (counts : Counts) (hs : List Holding) (c : Contents) → AllByRecursion (λ (h : Holding). LeavesOn busy h.holder) hs → AllByRecursion (λ (h : Holding). filled h.holder) hs
         → IsCalm busy filled c → IsCalm busy filled (after_taking net counts hs c)
     calm_by_taking counts hs c on there h =
-        let stores : List (Option Stored) = (adding c.stores counts hs).stores in
+        let stores : List (Option Stored) = (stores_and_leavers c.stores counts hs).stores in
         let kept : IsCalm busy filled (with_stores c stores) = record {
           links = h.links;
           stores = filled_by_adding filled counts hs c.stores there h.stores;
@@ -112,7 +112,7 @@ module _ (net : Net) where
           as_many = h.as_many;
         } in
         calm_by_leaving (all_leave_at_once stores counts hs) (after_adding net counts hs c) (at_once_so (LeavesOn busy) counts hs stores on)
-        (calm_by_leaving (adding c.stores counts hs).left (with_stores c stores) (left_so (LeavesOn busy) counts hs c.stores on) kept)
+        (calm_by_leaving (stores_and_leavers c.stores counts hs).left (with_stores c stores) (left_so (LeavesOn busy) counts hs c.stores on) kept)
 
     -- ---- records arrive
 
@@ -125,7 +125,7 @@ module _ (net : Net) where
     calm_by_arriving : (link : ℕ) (rs : List Record) (c : Contents) → IsOfThese busy filled (process_behind net link) → IsCalm busy filled c → IsCalm busy filled (after_arrivals net link rs c)
     calm_by_arriving link [] c these h = h
     calm_by_arriving link (r ∷ rs) c these h =
-        let aggregations : List Aggregation = aggregations_of (process_behind net link) in
+        let aggregations : List AggregationEntry = aggregations_of (process_behind net link) in
         calm_by_arriving link rs (after_arrive net link r c) these
         (calm_by_taking r.counts (takers net link r.key) _ (takers_so (LeavesOn busy) net.holders r.key aggregations these.leaves) (takers_so filled net.holders r.key aggregations these.holds)
         (calm_by_sending (exporters_named (process_behind net link)) r (after_tally net link r c) these.sends (calm_by_tally link r c h)))
@@ -152,8 +152,8 @@ module _ (net : Net) where
   rests_once_carried busy filled link before old after new these h e =
       let less : ℕ → Type 0 = λ n. busy n × (n ≡ link → ⊥) in
       let many : ℕ = queued_on (slice_get old.links link) in
-      let on : Contents = record old { links = changed (after_carry many) old.links link } in
-      let came : Contents = record on { links = changed (with_left []) on.links link } in
+      let on : Contents = record old { links = with_changed (after_carry many) old.links link } in
+      let came : Contents = record on { links = with_changed (with_left []) on.links link } in
       let calm : IsCalm less filled came = record {
         links = busy_once_left less on.links link (busy_but_carried busy old.links link h.1 h.0.links);
         stores = h.0.stores;

@@ -11,9 +11,9 @@ use Rattle.fx_run_text.specs.declared.step.Step.{Step}
 use Rattle.fx_run_text.specs.declared.step.Step.TheVariants.{Cross, Expire, Arrive}
 use Rattle.fx_tables.specs.declared.traffic.Crossing.{Crossing}
 use Rattle.fx_tables.specs.Network.{Net, holder_place}
-use Rattle.fx_base.specs.Entries.{numbered}
+use Rattle.fx_base.specs.Entries.{entry_numbered}
 use Rattle.fx_tables.specs.Classes.{Class, path}
-use Rattle.fx_machine.specs.States.{State, Coming, opening, crossings_from, told}
+use Rattle.fx_machine.specs.States.{State, Coming, opening, crossings_from, told_state}
 use Rattle.fx_machine.specs.Steps.{run, one_packet}
 use Rattle.fx_link.specs.Links.{Put}
 use Rattle.fx_link.specs.Ongoing.{after_finish}
@@ -24,7 +24,7 @@ use Rattle.fx_runs.proofs.RunsGoOn.{runs_extend, opening_push}
 use Rattle.fx_runs.proofs.PutOn.{put_extends}
 use Rattle.fx_net.specs.declared.action.Action.{Action}
 use Rattle.fx_net.specs.Contents.{Contents}
-use Rattle.fx_net.specs.Doings.{Making, Doing, Ended, Reads, Nothing, Then, Each, after_packet}
+use Rattle.fx_net.specs.Doings.{Making, Doing, Ended, ReadsFrame, Nothing, Then, Each, after_packet}
 use Rattle.fx_net.specs.Finishing.{PutsAll, after_finishing, to_put_on}
 use Rattle.fx_conform.specs.OnLinks.{none_pending}
 use Rattle.fx_conform.specs.Conforming.{Conforms, StoresConform, put_by_run}
@@ -145,6 +145,6 @@ module _ (net : Net) (classes : List Class) (begin : Put) where
     second = lt;
   }
 
-  pub last_numbered : (packets : List Packet) (p : Packet) → numbered (packets ++ p ∷ []) (suc (length packets)) ≡ Some p
+  pub last_numbered : (packets : List Packet) (p : Packet) → entry_numbered (packets ++ p ∷ []) (suc (length packets)) ≡ Some p
   last_numbered [] p = refl
   last_numbered (q ∷ packets) p = last_numbered packets p

@@ -10,13 +10,13 @@ use Rattle.fx_layout.proofs.Layouts.{key_has_bits, cut_has_bits}
 use Rattle.fx_tables.specs.declared.holding.Holding.{Holding}
 use Rattle.fx_tables.specs.declared.observation.Occurrence.{Occurrence}
 use Rattle.fx_tables.specs.declared.record.Record.{Record}
-use Rattle.fx_tables.specs.Network.{Holder, Aggregation, layout_of, takes_with}
-use Rattle.fx_base.specs.Entries.{numbered}
-use Rattle.fx_machine.specs.States.{without, replaced}
-use Rattle.fx_machine.specs.Acts.{Choices, taken_in, joined}
+use Rattle.fx_tables.specs.Network.{Holder, AggregationEntry, layout_of, takes_with}
+use Rattle.fx_base.specs.Entries.{entry_numbered}
+use Rattle.fx_machine.specs.States.{without, with_entry}
+use Rattle.fx_machine.specs.Acts.{Choices, taken_in, records_joining}
 use Rattle.fx_machine.specs.Holds.{hold_all, held_with, take_in_at, put_in}
 use Rattle.fx_tables.specs.Holdings.{met_holdings}
-use Rattle.fx_tables.specs.Takers.{aggregated}
+use Rattle.fx_tables.specs.Takers.{intakes}
 use Rattle.fx_link.specs.Sending.{IsSent}
 use Rattle.fx_conform.specs.Held.{Leaver, Leave}
 use Rattle.fx_conform.specs.Sendable.{IsKey, AreCounts, HaveLayouts, AreSent, HaveRightKeys}
@@ -37,11 +37,11 @@ projected holders key holder have is = record {
   bits = cut_has_bits key.layout key.values (layout_of (slice_get holders holder)) is.bits (have holder).stands;
 }
 
-pub aggregated_can_be_sent : (holders : List Holder) (key : Key) (aggregations : List Aggregation) → HaveLayouts holders → IsKey key → HaveRightKeys (aggregated holders key aggregations)
+pub aggregated_can_be_sent : (holders : List Holder) (key : Key) (aggregations : List AggregationEntry) → HaveLayouts holders → IsKey key → HaveRightKeys (intakes holders key aggregations)
 aggregated_can_be_sent holders key [] have is = tt
 aggregated_can_be_sent holders key (a ∷ rest) have is = by (aggregated_can_be_sent holders key rest have is) (takes_with holders key a) where
-  by : HaveRightKeys (aggregated holders key rest) → (b : Bool)
-      → HaveRightKeys (cond b (record { holder = a.holder; key = project key (layout_of (slice_get holders a.holder)) } ∷ []) [] ++ aggregated holders key rest)
+  by : HaveRightKeys (intakes holders key rest) → (b : Bool)
+      → HaveRightKeys (cond b (record { holder = a.holder; key = project key (layout_of (slice_get holders a.holder)) } ∷ []) [] ++ intakes holders key rest)
   by ih true = (projected holders key a.holder have is, ih)
   by ih false = ih
 
@@ -67,11 +67,11 @@ all_without : {A : Type 0} (P : A → Type 0) (xs : List A) (number : ℕ) → A
 all_without P xs zero h = h
 all_without P xs (suc n) h = all_removed P xs n h
 
-all_replaced : {A : Type 0} (P : A → Type 0) (xs : List A) (number : ℕ) (y : A) → AllByRecursion P xs → P y → AllByRecursion P (replaced xs number y)
+all_replaced : {A : Type 0} (P : A → Type 0) (xs : List A) (number : ℕ) (y : A) → AllByRecursion P xs → P y → AllByRecursion P (with_entry xs number y)
 all_replaced P xs zero y h k = h
 all_replaced P xs (suc n) y h k = all_set P xs n y h k
 
-numbered_at : {A : Type 0} (P : A → Type 0) (xs : List A) (number : ℕ) (x : A) → AllByRecursion P xs → numbered xs number ≡ Some x → P x
+numbered_at : {A : Type 0} (P : A → Type 0) (xs : List A) (number : ℕ) (x : A) → AllByRecursion P xs → entry_numbered xs number ≡ Some x → P x
 numbered_at P xs zero x h e = absurd (cc)
 numbered_at P xs (suc n) x h e = all_at P xs n x h e
 
@@ -93,19 +93,19 @@ right_is_sent key counts k c = (k.layout, record { layout_is = refl; bits = k.bi
 more_is_sent : (old : Record) (counts : Counts) → IsSent old → IsSent (record { key = old.key; counts = add_counts old.counts counts })
 more_is_sent old counts s = (s.0, record { layout_is = refl; bits = s.1.bits; packets = omega arith; octets = omega arith })
 
-joined_is_sent : (o : Option Record) (rs : List Record) (number : ℕ) (r : Record) → ((old : Record) → o ≡ Some old → IsSent old) → AllByRecursion IsSent rs → IfSome (joined o rs number r) (AllByRecursion IsSent)
+joined_is_sent : (o : Option Record) (rs : List Record) (number : ℕ) (r : Record) → ((old : Record) → o ≡ Some old → IsSent old) → AllByRecursion IsSent rs → IfSome (records_joining o rs number r) (AllByRecursion IsSent)
 joined_is_sent None rs number r f h = tt
 joined_is_sent (Some old) rs number r f h = by (same_key old.key r.key) where
   new : Record
   new = record { key = old.key; counts = add_counts old.counts r.counts }
 
-  by : (t : Bool) → IfSome (cond t (Some (replaced rs number new)) None) (AllByRecursion IsSent)
+  by : (t : Bool) → IfSome (cond t (Some (with_entry rs number new)) None) (AllByRecursion IsSent)
   by true = all_replaced IsSent rs number new h (more_is_sent old r.counts (f old refl))
   by false = tt
 
 taken_is_sent : (rs : List Record) (choice : Option ℕ) (r : Record) → AllByRecursion IsSent rs → IsSent r → IfSome (taken_in rs choice r) (AllByRecursion IsSent)
 taken_is_sent rs None r h s = all_both IsSent rs (r ∷ []) h (s, tt)
-taken_is_sent rs (Some number) r h s = joined_is_sent (numbered rs number) rs number r (λ old e. numbered_at IsSent rs number old h e) h
+taken_is_sent rs (Some number) r h s = joined_is_sent (entry_numbered rs number) rs number r (λ old e. numbered_at IsSent rs number old h e) h
 
 put_is_sent : (held : List (List Record)) (holder : ℕ) (o : Option (List Record)) → AreSent held → IfSome o (AllByRecursion IsSent) → IfSome (put_in held holder o) AreSent
 put_is_sent held holder None h s = tt

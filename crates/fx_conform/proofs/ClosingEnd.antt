@@ -10,7 +10,7 @@ use Rattle.fx_ranks.specs.Ranks.{IsWhole, is_in}
 use Rattle.fx_runs.specs.Destinations.{links_used}
 use Rattle.fx_net.specs.Contents.{Contents}
 use Rattle.fx_net.specs.Doings.{EmptiesNetwork, caches_of_all, holders_of}
-use Rattle.fx_conform.specs.Closing.{IsNamed, NothingIsStored, NothingWaits, OnlyNamedHold}
+use Rattle.fx_conform.specs.Closing.{CanBeNamed, NothingIsStored, NothingWaits, OnlyNamedHold}
 use Rattle.fx_conform.specs.OnLinks.{NoOctets}
 use Rattle.fx_conform.specs.Usable.{AreUsable}
 use Rattle.fx_conform.proofs.NetworkMidway.{there_is_below}
@@ -30,7 +30,7 @@ module _ (net : Net) where
   -- ---- at the beginning no process is finished
 
   -- what is named and no cache is an aggregation's
-  to_come : (place : ℕ) → IsNamed net place → is_in (caches_of_all net) place ≡ false → IsToCome net [] place
+  to_come : (place : ℕ) → CanBeNamed net place → is_in (caches_of_all net) place ≡ false → IsToCome net [] place
   to_come place named no_cache =
       elim (cache_or_aggregation net named.0 place named.1) [
         | inl cache ↦ absurd (both_ways (is_in (caches_of_all net) place) no_cache cache)
@@ -44,9 +44,9 @@ module _ (net : Net) where
       let any : (link : ℕ) → LeadsOn net [] link = λ link to at. refl in
       let leave : AllByRecursion (LeavesOn net (LeadsOn net [])) caches =
       all_so (LeavesOn net (LeadsOn net [])) caches (λ place chosen. all_so (LeadsOn net []) (links_used net chosen (named_by (slice_get net.holders place))) any) in
-      let first : Rests net (LeadsOn net []) (IsNamed net) old = (record { links = λ link o at. inl (any link); stores = named; usable = usable; as_many = many }, still) in
-      holds_in_more net (LeadsOn net []) (λ n. IsNamed net n × (is_in caches n ≡ false)) (IsToCome net []) e.1 (λ place h. to_come place h.0 h.1)
-      (rests_once_all_emptied net (LeadsOn net []) (IsNamed net) caches before old e.0 e.1 leave first e.2)
+      let first : Rests net (LeadsOn net []) (CanBeNamed net) old = (record { links = λ link o at. inl (any link); stores = named; usable = usable; as_many = many }, still) in
+      holds_in_more net (LeadsOn net []) (λ n. CanBeNamed net n × (is_in caches n ≡ false)) (IsToCome net []) e.1 (λ place h. to_come place h.0 h.1)
+      (rests_once_all_emptied net (LeadsOn net []) (CanBeNamed net) caches before old e.0 e.1 leave first e.2)
 
   -- ---- at the end all processes are
 

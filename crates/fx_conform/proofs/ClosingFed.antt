@@ -2,7 +2,7 @@
 use Rattle.std.proofs.Common.{◌≡◌, ℕ, zero, suc, Bool, true, false, cond, List, [], ◌∷◌, ◌++◌, Option, Some, None, refl, ap, ◌∙◌, slice_get}
 use Rattle.std.specs.List.{AllByRecursion, list_any}
 use Rattle.std.proofs.lemmas.Bool.{or_left, or_right, eq-eqb}
-use Rattle.fx_tables.specs.Network.{Net, Exporter, Aggregation, Process, aggregations_of, at_places, before, exporters_of, named_by}
+use Rattle.fx_tables.specs.Network.{Net, Exporter, AggregationEntry, Process, aggregations_of, at_places, before, exporters_of, named_by}
 use Rattle.fx_machine.specs.Sends.{links_of}
 use Rattle.fx_ranks.specs.Feeding.{feeds_by, is_place, lead_to, leads_to}
 use Rattle.fx_runs.specs.Destinations.{number_in_use, link_of, link_numbered, links_of_exporter, used_by, links_used}
@@ -85,17 +85,17 @@ module _ (net : Net) where
   -- ---- collecting processes
 
   -- an aggregation leads to the process
-  abbrev by_one_held : List Aggregation → ℕ → Bool
+  abbrev by_one_held : List AggregationEntry → ℕ → Bool
   by_one_held aggregations to = list_any (λ a. lead_to net to (exporters_of net (slice_get net.holders a.holder))) aggregations
 
   -- what leaves an aggregation goes only to these
-  abbrev pub LeavesOnlyTo : (ℕ → Bool) → Aggregation → Type 0
+  abbrev pub LeavesOnlyTo : (ℕ → Bool) → AggregationEntry → Type 0
   LeavesOnlyTo test a = (chosen : List ℕ) → AllByRecursion (LeadsOnlyTo test) (links_used net chosen (named_by (slice_get net.holders a.holder)))
 
-  leaves_to_more : (test more : ℕ → Bool) (xs : List Aggregation) → ((to : ℕ) → test to ≡ true → more to ≡ true) → AllByRecursion (LeavesOnlyTo test) xs → AllByRecursion (LeavesOnlyTo more) xs
+  leaves_to_more : (test more : ℕ → Bool) (xs : List AggregationEntry) → ((to : ℕ) → test to ≡ true → more to ≡ true) → AllByRecursion (LeavesOnlyTo test) xs → AllByRecursion (LeavesOnlyTo more) xs
   leaves_to_more test more xs f h = all_more (LeavesOnlyTo test) (LeavesOnlyTo more) xs (λ a led chosen. to_more test more _ f (led chosen)) h
 
-  held_lead : (xs : List Aggregation) → AllByRecursion (LeavesOnlyTo (by_one_held xs)) xs
+  held_lead : (xs : List AggregationEntry) → AllByRecursion (LeavesOnlyTo (by_one_held xs)) xs
   held_lead [] = tt
   held_lead (a ∷ xs) =
       let here : ℕ → Bool = λ to. lead_to net to (exporters_of net (slice_get net.holders a.holder)) in (

@@ -8,10 +8,10 @@ use Rattle.fx_base.specs.declared.counts.Counts.{Counts}
 use Rattle.fx_tables.specs.declared.holding.Holding.{Holding}
 use Rattle.fx_store.specs.KeyOrder.{key_cmp_total}
 use Rattle.fx_store.specs.Flows.{Flows, Entry, least}
-use Rattle.fx_net.specs.Contents.{changed, stored_at}
+use Rattle.fx_net.specs.Contents.{with_changed, stored_at}
 use Rattle.fx_net.specs.Leaving.{least_of, taken_out, without_least, count_of}
 use Rattle.fx_net.specs.Stores.{Stored, flows_in, with_counts}
-use Rattle.fx_net.specs.Taking.{adding}
+use Rattle.fx_net.specs.Taking.{stores_and_leavers}
 use Rattle.fx_conform.specs.Emptying.{without_leasts, count_in}
 use Rattle.fx_conform.specs.Usable.{UsableAt, AreUsable}
 use Rattle.fx_conform.proofs.RecordsOfOneKey.{usable_at, usable_changed}
@@ -29,22 +29,22 @@ filled_in_more filled more stores f h place = elim (h place) [ inl here ↦ inl 
 
 -- ---- counts are added
 
-count_elsewhere : (f : Option Stored → Option Stored) (stores : List (Option Stored)) (n m : ℕ) → (m ≡ n → ⊥) → count_in (changed f stores n) m ≡ count_in stores m
+count_elsewhere : (f : Option Stored → Option Stored) (stores : List (Option Stored)) (n m : ℕ) → (m ≡ n → ⊥) → count_in (with_changed f stores n) m ≡ count_in stores m
 count_elsewhere f stores n m ne = ap count_of (stored_other f stores n m ne)
 
-filled_where_changed : (filled : ℕ → Type 0) (f : Option Stored → Option Stored) (stores : List (Option Stored)) (n : ℕ) → filled n → OnlyFilled filled stores → OnlyFilled filled (changed f stores n)
+filled_where_changed : (filled : ℕ → Type 0) (f : Option Stored → Option Stored) (stores : List (Option Stored)) (n : ℕ) → filled n → OnlyFilled filled stores → OnlyFilled filled (with_changed f stores n)
 filled_where_changed filled f stores n there h place = by (cases_eq place n) where
-  by : (place ≡ n) ⊎ (place ≡ n → ⊥) → filled place ⊎ (count_in (changed f stores n) place ≡ 0)
+  by : (place ≡ n) ⊎ (place ≡ n → ⊥) → filled place ⊎ (count_in (with_changed f stores n) place ≡ 0)
   by (inl e) = inl (subst filled (sym e) there)
   by (inr ne) = elim (h place) [ inl here ↦ inl here | inr none ↦ inr (count_elsewhere f stores n place ne ∙ none) ]
 
-pub filled_by_adding : (filled : ℕ → Type 0) (counts : Counts) (hs : List Holding) (stores : List (Option Stored)) → AllByRecursion (λ (h : Holding). filled h.holder) hs → OnlyFilled filled stores → OnlyFilled filled (adding stores counts hs).stores
+pub filled_by_adding : (filled : ℕ → Type 0) (counts : Counts) (hs : List Holding) (stores : List (Option Stored)) → AllByRecursion (λ (h : Holding). filled h.holder) hs → OnlyFilled filled stores → OnlyFilled filled (stores_and_leavers stores counts hs).stores
 filled_by_adding filled counts [] stores there h = h
 filled_by_adding filled counts (x ∷ hs) stores there h =
     subst (OnlyFilled filled) (sym (stores_then counts x hs stores))
     (filled_by_adding filled counts hs (after_one counts x stores) there.1 (filled_where_changed filled (option_map (λ s. with_counts s x.key counts)) stores x.holder there.0 h))
 
-pub usable_by_adding : (counts : Counts) (hs : List Holding) (stores : List (Option Stored)) → AreUsable stores → AreUsable (adding stores counts hs).stores
+pub usable_by_adding : (counts : Counts) (hs : List Holding) (stores : List (Option Stored)) → AreUsable stores → AreUsable (stores_and_leavers stores counts hs).stores
 usable_by_adding counts [] stores u = u
 usable_by_adding counts (x ∷ hs) stores u =
     subst AreUsable (sym (stores_then counts x hs stores))

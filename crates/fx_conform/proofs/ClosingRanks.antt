@@ -2,7 +2,7 @@
 use Rattle.std.proofs.Common.{◌≡◌, ◌⊎◌, inl, inr, ℕ, zero, suc, ◌+◌, ◌≤◌, ◌==◌, Bool, true, false, List, [], ◌∷◌, ◌++◌, length, map, Option, Some, None, refl, sym, ap, ◌∙◌, subst, arith, slice_get, append_assoc, append-nil, eqb-true}
 use Rattle.std.specs.List.{AllByRecursion, range_with_len}
 use Rattle.std.proofs.lemmas.Bool.{both_ways, cases_eq, eq-eqb, false_from_ne_true, or_left, or_right}
-use Rattle.fx_tables.specs.Network.{Net, Aggregation, Process, aggregations_of, process_at, named_by}
+use Rattle.fx_tables.specs.Network.{Net, AggregationEntry, Process, aggregations_of, process_at, named_by}
 use Rattle.fx_link.specs.Links.{Put}
 use Rattle.fx_ranks.specs.Feeding.{feeds, feeds_by}
 use Rattle.fx_ranks.specs.Ranks.{ComesNext, is_in}
@@ -53,15 +53,15 @@ IsToCome net done holder =
 pub busy_more : (net : Net) (busy more filled : ℕ → Type 0) (c : Contents) → ((link : ℕ) → busy link → more link) → Rests net busy filled c → Rests net more filled c
 busy_more net busy more filled c f h = (record { links = busy_in_more busy more c.links f h.0.links; stores = h.0.stores; usable = h.0.usable; as_many = h.0.as_many }, h.1)
 
-all_own : (xs : List Aggregation) → AllByRecursion (λ (a : Aggregation). is_in (map (λ (b : Aggregation). b.holder) xs) a.holder ≡ true) xs
+all_own : (xs : List AggregationEntry) → AllByRecursion (λ (a : AggregationEntry). is_in (map (λ (b : AggregationEntry). b.holder) xs) a.holder ≡ true) xs
 all_own [] = tt
 all_own (a ∷ xs) =
-    let places : List ℕ = map (λ (b : Aggregation). b.holder) xs in (
+    let places : List ℕ = map (λ (b : AggregationEntry). b.holder) xs in (
       or_left (a.holder == a.holder) (is_in places a.holder) (eq-eqb a.holder a.holder refl),
-      all_more (λ (b : Aggregation). is_in places b.holder ≡ true) (λ (b : Aggregation). is_in (a.holder ∷ places) b.holder ≡ true) xs (λ b own. or_right (a.holder == b.holder) (is_in places b.holder) own) (all_own xs),
+      all_more (λ (b : AggregationEntry). is_in places b.holder ≡ true) (λ (b : AggregationEntry). is_in (a.holder ∷ places) b.holder ≡ true) xs (λ b own. or_right (a.holder == b.holder) (is_in places b.holder) own) (all_own xs),
     )
 
-all_mapped : (P : ℕ → Type 0) (xs : List Aggregation) → AllByRecursion (λ (a : Aggregation). P a.holder) xs → AllByRecursion P (map (λ (a : Aggregation). a.holder) xs)
+all_mapped : (P : ℕ → Type 0) (xs : List AggregationEntry) → AllByRecursion (λ (a : AggregationEntry). P a.holder) xs → AllByRecursion P (map (λ (a : AggregationEntry). a.holder) xs)
 all_mapped P [] h = tt
 all_mapped P (a ∷ xs) h = (h.0, all_mapped P xs h.1)
 
@@ -88,12 +88,12 @@ module _ (net : Net) (done : List ℕ) (process : ℕ) (ready : IsReady net done
       let o : Option Process = slice_get net.processes process in
       let Feeds : ℕ → Type 0 = LeadsOnlyTo net (λ to. feeds_by net to o) in
       let goes : (link : ℕ) → Feeds link → busy link = λ link led. f link (on_later link led) in
-      let Own : Aggregation → Type 0 = λ (a : Aggregation). is_in (holders_of o) a.holder ≡ true in
+      let Own : AggregationEntry → Type 0 = λ (a : AggregationEntry). is_in (holders_of o) a.holder ≡ true in
       record {
         sends = λ chosen. all_more Feeds busy (links_used net chosen (exporters_named o)) goes (sends_where_it_feeds net o chosen);
-        leaves = all_more _ (λ (a : Aggregation). LeavesOn net busy a.holder) (aggregations_of o)
+        leaves = all_more _ (λ (a : AggregationEntry). LeavesOn net busy a.holder) (aggregations_of o)
             (λ a led chosen. all_more Feeds busy (links_used net chosen (named_by (slice_get net.holders a.holder))) goes (led chosen)) (leaves_where_it_feeds net o);
-        holds = all_more Own (λ (a : Aggregation). IsToCome net done a.holder) (aggregations_of o) (λ a own. (process, ready.new, own)) (all_own (aggregations_of o));
+        holds = all_more Own (λ (a : AggregationEntry). IsToCome net done a.holder) (aggregations_of o) (λ a own. (process, ready.new, own)) (all_own (aggregations_of o));
       }
 
   -- ---- its links are carried

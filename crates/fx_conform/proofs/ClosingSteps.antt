@@ -6,8 +6,8 @@ use Rattle.fx_tables.specs.declared.packet.Packet.{Packet}
 use Rattle.fx_tables.specs.declared.record.Record.{Record}
 use Rattle.fx_tables.specs.declared.holder_name.HolderName.TheVariants as holder
 use Rattle.fx_run_text.specs.declared.step.Step.{Step}
-use Rattle.fx_tables.specs.Network.{Net, Device, Aggregation, Process, caches_of}
-use Rattle.fx_base.specs.Entries.{numbered}
+use Rattle.fx_tables.specs.Network.{Net, DeviceEntry, AggregationEntry, Process, caches_of}
+use Rattle.fx_base.specs.Entries.{entry_numbered}
 use Rattle.fx_tables.specs.Classes.{Class}
 use Rattle.fx_tables.specs.Runnable.{IsHolder}
 use Rattle.fx_machine.specs.States.{State}
@@ -15,7 +15,7 @@ use Rattle.fx_link.specs.Links.{Put}
 use Rattle.fx_net.specs.Arriving.{queued_on}
 use Rattle.fx_net.specs.Contents.{Contents}
 use Rattle.fx_net.specs.Doings.{Ended, Empties, EmptiesAll, EmptiesNetwork, CarriesWhole, CarriesInto, Where, Finishes, leads_to, link_places, holders_of, caches_of_all}
-use Rattle.fx_conform.specs.Closing.{IsNamed}
+use Rattle.fx_conform.specs.Closing.{CanBeNamed}
 use Rattle.fx_conform.specs.Conforming.{IsSound, Conforms}
 use Rattle.fx_conform.specs.Rows.{AreExpiries, AreArrivals, ArriveIf, AllExpire, IsFinished, InTurn, Followed}
 use Rattle.fx_conform.proofs.PacketsCross.{all_join}
@@ -35,31 +35,31 @@ all_flat P f [] h = tt
 all_flat P f (x ∷ xs) h = all_join P (f x) (flat_map f xs) h.0 (all_flat P f xs h.1)
 
 module _ (net : Net) where
-  pub caches_named : AllByRecursion (IsNamed net) (caches_of_all net)
-  caches_named = all_flat (IsNamed net) (λ (d : Device). d.caches) net.devices
-      (all_by_index (λ (d : Device). AllByRecursion (IsNamed net) d.caches) net.devices
-      (λ n d is. all_by_index (IsNamed net) d.caches (λ k place at. (holder.Cache (suc n) (suc k), ap (λ (o : Option Device). slice_get (caches_of o) k) is ∙ at))))
+  pub caches_named : AllByRecursion (CanBeNamed net) (caches_of_all net)
+  caches_named = all_flat (CanBeNamed net) (λ (d : DeviceEntry). d.caches) net.devices
+      (all_by_index (λ (d : DeviceEntry). AllByRecursion (CanBeNamed net) d.caches) net.devices
+      (λ n d is. all_by_index (CanBeNamed net) d.caches (λ k place at. (holder.Cache (suc n) (suc k), ap (λ (o : Option DeviceEntry). slice_get (caches_of o) k) is ∙ at))))
 
-  each_named : (xs : List Aggregation) → AllByRecursion (λ (a : Aggregation). IsHolder net a.holder) xs → AllByRecursion (IsNamed net) (map (λ (a : Aggregation). a.holder) xs)
+  each_named : (xs : List AggregationEntry) → AllByRecursion (λ (a : AggregationEntry). IsHolder net a.holder) xs → AllByRecursion (CanBeNamed net) (map (λ (a : AggregationEntry). a.holder) xs)
   each_named [] h = tt
   each_named (a ∷ xs) h = ((h.0.name, h.0.named), each_named xs h.1)
 
-  pub holders_named : IsSound net → (process : ℕ) → AllByRecursion (IsNamed net) (holders_of (slice_get net.processes process))
+  pub holders_named : IsSound net → (process : ℕ) → AllByRecursion (CanBeNamed net) (holders_of (slice_get net.processes process))
   holders_named sound process = by (slice_get net.processes process) refl where
-    by : (o : Option Process) → slice_get net.processes process ≡ o → AllByRecursion (IsNamed net) (holders_of o)
+    by : (o : Option Process) → slice_get net.processes process ≡ o → AllByRecursion (CanBeNamed net) (holders_of o)
     by None is = tt
     by (Some p) is = each_named p.aggregations (aggregations_held net sound.runnable process p is)
 
 -- ---- what is done
 
 module _ (net : Net) (sound : IsSound net) (classes : List Class) (begin : Put) (packets : List Packet) where
-  empties_goes : (place : ℕ) → IsNamed net place → Goes net classes begin packets AreExpiries (Ended (Empties net place))
+  empties_goes : (place : ℕ) → CanBeNamed net place → Goes net classes begin packets AreExpiries (Ended (Empties net place))
   empties_goes place named before old after new steps s h e =
       ended net classes begin packets AreExpiries (Empties net place) before after old new steps h.history h.written e (emptied net sound classes begin packets place named before old e.done steps s h e.made)
 
-  empties_all_goes : (places : List ℕ) → AllByRecursion (IsNamed net) places → Goes net classes begin packets (AllExpire places) (EmptiesAll net places)
+  empties_all_goes : (places : List ℕ) → AllByRecursion (CanBeNamed net) places → Goes net classes begin packets (AllExpire places) (EmptiesAll net places)
   empties_all_goes places named =
-      goes_each net classes begin packets (IsNamed net) (λ (_ : ℕ). AreExpiries) (λ place. Ended (Empties net place)) empties_goes places named
+      goes_each net classes begin packets (CanBeNamed net) (λ (_ : ℕ). AreExpiries) (λ place. Ended (Empties net place)) empties_goes places named
 
   carries_goes : (link to : ℕ) (process : Process) → slice_get net.links link ≡ Some to → slice_get net.processes to ≡ Some process
       → Goes net classes begin packets (AreArrivals (suc link)) (Ended (CarriesWhole net link))

@@ -10,8 +10,8 @@ use Rattle.fx_machine.specs.Holds.{take_in_at, put_in, held_with, hold_all}
 use Rattle.fx_machine.specs.States.{without}
 use Rattle.fx_store.specs.Flows.{Flows, Entry, Adds}
 use Rattle.fx_net.specs.Stores.{Stored, flows_in, with_counts, makes_room}
-use Rattle.fx_net.specs.Contents.{changed, joined, stored_at}
-use Rattle.fx_net.specs.Taking.{Adding, left_by, with_holdings, adding}
+use Rattle.fx_net.specs.Contents.{with_changed, inner_option, stored_at}
+use Rattle.fx_net.specs.Taking.{Adding, left_by, with_holdings, stores_and_leavers}
 use Rattle.fx_conform.specs.Held.{Leaver, IsHeld, AllLeave}
 use Rattle.fx_conform.specs.TakingIn.{AreThere}
 use Rattle.fx_conform.proofs.Places.{at_set, set_same, set_twice, changed_is}
@@ -25,28 +25,28 @@ use Rattle.fx_conform.proofs.LeavingCommutes.{leave_join, NoneAt, leave_before}
 
 -- the stores once a holding was added to
 abbrev pub after_one : Counts → Holding → List (Option Stored) → List (Option Stored)
-after_one counts h stores = changed (option_map (λ s. with_counts s h.key counts)) stores h.holder
+after_one counts h stores = with_changed (option_map (λ s. with_counts s h.key counts)) stores h.holder
 
 -- what it pushes out
 abbrev pub out_by : Counts → Holding → List (Option Stored) → List Leaver
 out_by counts h stores = left_by h.holder (option_and_then (λ s. makes_room s h.key counts) (stored_at stores h.holder))
 
-stores_more : (counts : Counts) (hs : List Holding) (stores : List (Option Stored)) (left : List Leaver) → (with_holdings counts hs (record { stores = stores; left = left })).stores ≡ (adding stores counts hs).stores
+stores_more : (counts : Counts) (hs : List Holding) (stores : List (Option Stored)) (left : List Leaver) → (with_holdings counts hs (record { stores = stores; left = left })).stores ≡ (stores_and_leavers stores counts hs).stores
 stores_more counts [] stores left = refl
 stores_more counts (h ∷ hs) stores left =
     stores_more counts hs (after_one counts h stores) (left ++ out_by counts h stores) ∙ sym (stores_more counts hs (after_one counts h stores) (out_by counts h stores))
 
-left_more : (counts : Counts) (hs : List Holding) (stores : List (Option Stored)) (left : List Leaver) → (with_holdings counts hs (record { stores = stores; left = left })).left ≡ left ++ (adding stores counts hs).left
+left_more : (counts : Counts) (hs : List Holding) (stores : List (Option Stored)) (left : List Leaver) → (with_holdings counts hs (record { stores = stores; left = left })).left ≡ left ++ (stores_and_leavers stores counts hs).left
 left_more counts [] stores left = sym (append-nil left)
 left_more counts (h ∷ hs) stores left =
     left_more counts hs (after_one counts h stores) (left ++ out_by counts h stores)
-    ∙ append_assoc left (out_by counts h stores) (adding (after_one counts h stores) counts hs).left
+    ∙ append_assoc left (out_by counts h stores) (stores_and_leavers (after_one counts h stores) counts hs).left
     ∙ ap (λ (ls : List Leaver). left ++ ls) (sym (left_more counts hs (after_one counts h stores) (out_by counts h stores)))
 
-pub stores_then : (counts : Counts) (h : Holding) (hs : List Holding) (stores : List (Option Stored)) → (adding stores counts (h ∷ hs)).stores ≡ (adding (after_one counts h stores) counts hs).stores
+pub stores_then : (counts : Counts) (h : Holding) (hs : List Holding) (stores : List (Option Stored)) → (stores_and_leavers stores counts (h ∷ hs)).stores ≡ (stores_and_leavers (after_one counts h stores) counts hs).stores
 stores_then counts h hs stores = stores_more counts hs (after_one counts h stores) (out_by counts h stores)
 
-pub left_then : (counts : Counts) (h : Holding) (hs : List Holding) (stores : List (Option Stored)) → (adding stores counts (h ∷ hs)).left ≡ out_by counts h stores ++ (adding (after_one counts h stores) counts hs).left
+pub left_then : (counts : Counts) (h : Holding) (hs : List Holding) (stores : List (Option Stored)) → (stores_and_leavers stores counts (h ∷ hs)).left ≡ out_by counts h stores ++ (stores_and_leavers (after_one counts h stores) counts hs).left
 left_then counts h hs stores = left_more counts hs (after_one counts h stores) (out_by counts h stores)
 
 -- ---- one holder
@@ -111,7 +111,7 @@ comes_in n key counts waiting (Some s) rs h =
 abbrev pub AreApart : Counts → List Holding → List (Option Stored) → Type 0
 AreApart counts [] stores = Unit {0}
 AreApart counts (h ∷ hs) stores =
-    NoneAt h.holder (adding (after_one counts h stores) counts hs).left × AreApart counts hs (after_one counts h stores)
+    NoneAt h.holder (stores_and_leavers (after_one counts h stores) counts hs).left × AreApart counts hs (after_one counts h stores)
 
 pub record Takes (waiting : ℕ → List Record) (stores : List (Option Stored)) (counts : Counts) (hs : List Holding) (held : List (List Record)) (a : Adding) : Type 0 where
   pub room : List (List Record)
@@ -156,13 +156,13 @@ hold_more : (room held now : List (List Record)) (counts : Counts) (h : Holding)
 hold_more room held now counts h hs choice choices first rest =
     ap (option_and_then (λ (rss : List (List Record)). hold_all counts hs rss choices)) first ∙ rest
 
-pub changed_length : (f : Option Stored → Option Stored) (stores : List (Option Stored)) (n : ℕ) → length (changed f stores n) ≡ length stores
+pub changed_length : (f : Option Stored → Option Stored) (stores : List (Option Stored)) (n : ℕ) → length (with_changed f stores n) ≡ length stores
 changed_length f [] n = refl
 changed_length f (s ∷ stores) zero = refl
 changed_length f (s ∷ stores) (suc n) = ap suc (changed_length f stores n)
 
 pub takes_in : (counts : Counts) (hs : List Holding) (waiting : ℕ → List Record) (stores : List (Option Stored)) (held : List (List Record)) → AreThere (length stores) hs → AreApart counts hs stores → Stand (λ n. Holds (waiting n)) stores held
-    → Takes waiting stores counts hs held (adding stores counts hs)
+    → Takes waiting stores counts hs held (stores_and_leavers stores counts hs)
 takes_in counts [] waiting stores held there apart st = record {
   room = held;
   now = held;
@@ -182,11 +182,11 @@ takes_in counts (h ∷ hs) waiting stores held there apart st =
     let st3 : Stand (λ m. Holds (waiting2 m)) stores2 (slice_set held1 n one.new) = subst (λ (rss : List (List Record)). Stand (λ m. Holds (waiting2 m)) stores2 rss) (sym (set_twice held n one.ready one.new)) st2 in
     let there2 : AreThere (length stores2) hs = subst (λ (k : ℕ). AreThere k hs) (sym (changed_length _ stores n)) there.1 in
     let rest = takes_in counts hs waiting2 stores2 (slice_set held1 n one.new) there2 apart.1 st3 in
-    let before = leave_before n one.new (adding stores2 counts hs).left held1 rest.room apart.0 rest.leave in
+    let before = leave_before n one.new (stores_and_leavers stores2 counts hs).left held1 rest.room apart.0 rest.leave in
     let ready_there : slice_get before.room n ≡ Some one.ready = before.same ∙ at_set held n at.rs one.ready at.records_are in
-    let stored_is : at.s ≡ stored_at stores n = sym (ap joined at.store_is) in
+    let stored_is : at.s ≡ stored_at stores n = sym (ap inner_option at.store_is) in
     let out : AllLeave (out_by counts h stores) held held1 = subst (λ (s : Option Stored). AllLeave (left_by n (option_and_then (λ s. makes_room s h.key counts) s)) held held1) stored_is (one.leaves held at.records_are) in
-    let both : AllLeave (out_by counts h stores ++ (adding stores2 counts hs).left) held before.room = leave_join (out_by counts h stores) (adding stores2 counts hs).left held held1 before.room out before.leave in
+    let both : AllLeave (out_by counts h stores ++ (stores_and_leavers stores2 counts hs).left) held before.room = leave_join (out_by counts h stores) (stores_and_leavers stores2 counts hs).left held held1 before.room out before.leave in
     record {
       room = before.room;
       now = rest.now;
@@ -194,6 +194,6 @@ takes_in counts (h ∷ hs) waiting stores held there apart st =
       leave = subst (λ (ls : List Leaver). AllLeave ls held before.room) (sym (left_then counts h hs stores)) both;
       taken = hold_more before.room rest.room rest.now counts h hs one.choice rest.choices (held_with_is before.room rest.room counts h one.choice one.ready one.new ready_there one.taken before.now_is) rest.taken;
       stands = subst (λ (ss : List (Option Stored)). Stand (λ m. Holds (waiting m ++ waiting_at counts (h ∷ hs) m)) ss rest.now) (sym (stores_then counts h hs stores))
-          (stand_map (λ m. Holds (waiting2 m ++ waiting_at counts hs m)) (λ m. Holds (waiting m ++ waiting_at counts (h ∷ hs) m)) (adding stores2 counts hs).stores rest.now rest.stands
+          (stand_map (λ m. Holds (waiting2 m ++ waiting_at counts hs m)) (λ m. Holds (waiting m ++ waiting_at counts (h ∷ hs) m)) (stores_and_leavers stores2 counts hs).stores rest.now rest.stands
           (λ m s rs q. subst (λ (ts : List Record). Holds ts s rs) (append_assoc (waiting m) (one_at counts h m) (waiting_at counts hs m)) q));
     }

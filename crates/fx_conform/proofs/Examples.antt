@@ -9,7 +9,7 @@ use Rattle.fx_store.proofs.Recency.{counted}
 use Rattle.std.specs.List.{IsDistinct}
 use Rattle.fx_net.specs.Stores.{Stored, bounded}
 use Rattle.fx_net.specs.Leaving.{leaver}
-use Rattle.fx_net.specs.Taking.{adding, all_leave_at_once}
+use Rattle.fx_net.specs.Taking.{stores_and_leavers, all_leave_at_once}
 use Rattle.fx_conform.specs.Held.{AreHeld, AllLeave}
 use Rattle.fx_conform.specs.Usable.{AreUsable}
 use Rattle.fx_conform.specs.TakingIn.{TakesIn}
@@ -33,7 +33,7 @@ emptied most = Some (bounded (record { entries = []; capacity = most }))
 -- ---- a record that makes room
 
 -- a full cache's record leaves
-pushed_out : (adding (filled 1 ∷ []) one (met ∷ [])).left ≡ leaver 0 (first.key, first.counts) ∷ []
+pushed_out : (stores_and_leavers (filled 1 ∷ []) one (met ∷ [])).left ≡ leaver 0 (first.key, first.counts) ∷ []
 unfolding met one
 pushed_out = refl
 
@@ -46,7 +46,7 @@ unfolding met
 then_taken_in = refl
 
 -- where there is room nothing leaves
-no_room_needed : (adding (filled 2 ∷ []) one (met ∷ [])).left ≡ []
+no_room_needed : (stores_and_leavers (filled 2 ∷ []) one (met ∷ [])).left ≡ []
 unfolding met one
 no_room_needed = refl
 
@@ -75,7 +75,7 @@ takes_in = taking_in (filled 1 ∷ []) ((first ∷ []) ∷ []) one (λ place. se
 abbrev twice : Record
 twice = record { key = second.key; counts = record { packets = 2; octets = 120 } }
 
-counted_twice : (adding (emptied 2 ∷ []) one (met ∷ met ∷ [])).stores ≡ Some (bounded (record { entries = (second.key, twice.counts) ∷ []; capacity = 2 })) ∷ []
+counted_twice : (stores_and_leavers (emptied 2 ∷ []) one (met ∷ met ∷ [])).stores ≡ Some (bounded (record { entries = (second.key, twice.counts) ∷ []; capacity = 2 })) ∷ []
 unfolding met one
 counted_twice = refl
 

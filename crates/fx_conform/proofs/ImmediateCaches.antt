@@ -6,13 +6,13 @@ use Rattle.fx_elements.specs.Axes.{Fields}
 use Rattle.fx_tables.specs.declared.holding.Holding.{Holding}
 use Rattle.fx_tables.specs.declared.observation.Occurrence.{Occurrence}
 use Rattle.fx_tables.specs.declared.record.Record.{Record}
-use Rattle.fx_tables.specs.Network.{Holder, Aggregation, takes_with}
-use Rattle.fx_tables.specs.Takers.{aggregated}
+use Rattle.fx_tables.specs.Network.{Holder, AggregationEntry, takes_with}
+use Rattle.fx_tables.specs.Takers.{intakes}
 use Rattle.fx_tables.specs.Holdings.{met_holdings}
 use Rattle.fx_net.specs.Stores.{Stored}
-use Rattle.fx_net.specs.Contents.{joined, is_immediate}
+use Rattle.fx_net.specs.Contents.{inner_option, is_immediate}
 use Rattle.fx_net.specs.Leaving.{leaver}
-use Rattle.fx_net.specs.Taking.{Adding, with_holdings, with_holding, adding, leaves_at_once, all_leave_at_once}
+use Rattle.fx_net.specs.Taking.{Adding, with_holdings, with_holding, stores_and_leavers, leaves_at_once, all_leave_at_once}
 use Rattle.fx_conform.specs.Held.{Leaver, AreHeld, Leave, AllLeave}
 use Rattle.fx_conform.specs.Usable.{AreUsable}
 use Rattle.fx_conform.specs.TakingIn.{AreThere, HaveKeys, TakesIn, packet_key, record_key}
@@ -34,7 +34,7 @@ module _ (counts : Counts) (h : Holding) (hs : List Holding) (stores : List (Opt
   others m t ts ne q = subst (λ (rs : List Record). Holds rs t ts) (ap (λ (rs : List Record). rs ++ waiting_at counts hs m) (one_other counts h m ne)) q
 
   leaves_is : (s : Option Stored) → slice_get stores h.holder ≡ Some s → cond (is_immediate s) (leaver h.holder (h.key, counts) ∷ []) [] ≡ leaves_at_once stores counts h
-  leaves_is s at = ap (λ (o : Option Stored). cond (is_immediate o) (leaver h.holder (h.key, counts) ∷ []) []) (sym (ap joined at))
+  leaves_is s at = ap (λ (o : Option Stored). cond (is_immediate o) (leaver h.holder (h.key, counts) ∷ []) []) (sym (ap inner_option at))
 
   turn : (s : Option Stored) (rs : List Record) → slice_get stores h.holder ≡ Some s → slice_get now h.holder ≡ Some rs → Holds (waiting_at counts (h ∷ hs) h.holder) s rs → Stand (λ n. Holds (waiting_at counts (h ∷ hs) n)) stores now → Turn counts h hs stores now
   turn None rs at records_are q st =
@@ -85,7 +85,7 @@ as_many counts (h ∷ hs) a = as_many counts hs (with_holding counts h a) ∙ ch
 
 pub taking_in : (stores : List (Option Stored)) (held : List (List Record)) (counts : Counts) (keys : ℕ → Key) (hs : List Holding) → AreHeld stores held → AreUsable stores → AreThere (length stores) hs → HaveKeys keys hs → TakesIn stores counts hs held
 taking_in stores held counts keys hs h u there have =
-    let a : Adding = adding stores counts hs in
+    let a : Adding = stores_and_leavers stores counts hs in
     let t = takes_in counts hs (λ n. []) stores held there (apart_by_keys counts keys hs stores have u) (held_stand stores held h u) in
     let there2 : AreThere (length a.stores) hs = subst (λ (n : ℕ). AreThere n hs) (sym (as_many counts hs (record { stores = stores; left = [] }))) there in
     let d = all_leave counts hs a.stores t.now there2 t.stands in
@@ -107,9 +107,9 @@ pub met_have_keys : (holders : List Holder) (fields : Fields) (os : List Occurre
 met_have_keys holders fields [] = tt
 met_have_keys holders fields (o ∷ os) = (refl, met_have_keys holders fields os)
 
-pub aggregated_have_keys : (holders : List Holder) (key : Key) (aggregations : List Aggregation) → HaveKeys (record_key holders key) (aggregated holders key aggregations)
+pub aggregated_have_keys : (holders : List Holder) (key : Key) (aggregations : List AggregationEntry) → HaveKeys (record_key holders key) (intakes holders key aggregations)
 aggregated_have_keys holders key [] = tt
 aggregated_have_keys holders key (a ∷ rest) = by (aggregated_have_keys holders key rest) (takes_with holders key a) where
-  by : HaveKeys (record_key holders key) (aggregated holders key rest) → (b : Bool) → HaveKeys (record_key holders key) (cond b (record { holder = a.holder; key = record_key holders key a.holder } ∷ []) [] ++ aggregated holders key rest)
+  by : HaveKeys (record_key holders key) (intakes holders key rest) → (b : Bool) → HaveKeys (record_key holders key) (cond b (record { holder = a.holder; key = record_key holders key a.holder } ∷ []) [] ++ intakes holders key rest)
   by ih true = (refl, ih)
   by ih false = ih

@@ -8,10 +8,10 @@ use Rattle.fx_base.specs.Counts.{add_counts}
 use Rattle.fx_layout.specs.Keys.{Key, same_key}
 use Rattle.fx_layout.proofs.Projections.{same_key_is, key_same}
 use Rattle.fx_tables.specs.declared.record.Record.{Record}
-use Rattle.fx_machine.specs.Acts.{joined, taken_in}
-use Rattle.fx_machine.specs.States.{add_at, replaced}
+use Rattle.fx_machine.specs.Acts.{records_joining, taken_in}
+use Rattle.fx_machine.specs.States.{add_at, with_entry}
 use Rattle.fx_machine.specs.Sums.{total_at}
-use Rattle.fx_store.specs.Flows.{Flows, with_more, added}
+use Rattle.fx_store.specs.Flows.{Flows, with_more, with_added}
 use Rattle.fx_store.specs.KeyOrder.{key_cmp_total, same_key_ties, same_key_equiv}
 use Rattle.fx_collect.specs.Totals.{Differ}
 use Rattle.fx_conform.specs.Held.{IsHeld}
@@ -95,7 +95,7 @@ one_held key counts (t ∷ ts) c e = by (λ h. one_held key counts ts c h) (same
 
 -- ---- the store
 
-held_add : (held : Flows) (rs : List Record) (key : Key) (counts : Counts) → IsHeld held rs → IsHeld (added held key counts) (add_at rs key counts)
+held_add : (held : Flows) (rs : List Record) (key : Key) (counts : Counts) → IsHeld held rs → IsHeld (with_added held key counts) (add_at rs key counts)
 held_add held rs key counts h = record {
   differ = differ_add key counts rs h.differ;
   same = λ q. total_add key counts rs q
@@ -106,18 +106,18 @@ held_add held rs key counts h = record {
 }
 
 pub joins_are_made : (held : Flows) (rs : List Record) (key : Key) (counts : Counts) → IsHeld held rs
-    → (choice : Option ℕ) × (new : List Record) × Chooses rs key choice × (taken_in rs choice (record { key = key; counts = counts }) ≡ Some new) × IsHeld (added held key counts) new
+    → (choice : Option ℕ) × (new : List Record) × Chooses rs key choice × (taken_in rs choice (record { key = key; counts = counts }) ≡ Some new) × IsHeld (with_added held key counts) new
 joins_are_made held rs key counts h = by (total_at rs key) refl where
   by : (o : Option Counts) → total_at rs key ≡ o
-      → (choice : Option ℕ) × (new : List Record) × Chooses rs key choice × (taken_in rs choice (record { key = key; counts = counts }) ≡ Some new) × IsHeld (added held key counts) new
+      → (choice : Option ℕ) × (new : List Record) × Chooses rs key choice × (taken_in rs choice (record { key = key; counts = counts }) ≡ Some new) × IsHeld (with_added held key counts) new
   by None e = (None, add_at rs key counts, e, ap (λ (l : List Record). Some l) (none_held key counts rs e), held_add held rs key counts h)
   by (Some c) e =
       let one = one_held key counts rs c e in
-      let new : List Record = replaced rs (suc one.place) (record { key = one.old.key; counts = add_counts one.old.counts counts }) in (
+      let new : List Record = with_entry rs (suc one.place) (record { key = one.old.key; counts = add_counts one.old.counts counts }) in (
         Some (suc one.place),
         add_at rs key counts,
         (one.old, one.there, one.same),
-        ap (λ (o : Option Record). joined o rs (suc one.place) (record { key = key; counts = counts })) one.there
+        ap (λ (o : Option Record). records_joining o rs (suc one.place) (record { key = key; counts = counts })) one.there
             ∙ ap (λ (b : Bool). cond b (Some new) None) one.same ∙ ap (λ (l : List Record). Some l) one.new_is,
         held_add held rs key counts h,
       )

@@ -11,7 +11,7 @@ use Rattle.fx_store.specs.KeyOrder.{key_cmp_total}
 use Rattle.fx_store.specs.Flows.{Flows, Entry, least}
 use Rattle.fx_store.proofs.Recency.{without_is}
 use Rattle.fx_net.specs.Stores.{Stored, unbounded, bounded, flows_in, without_entry}
-use Rattle.fx_net.specs.Contents.{changed, stored_at}
+use Rattle.fx_net.specs.Contents.{with_changed, stored_at}
 use Rattle.fx_net.specs.Leaving.{leaver, least_of, taken_out, without_least}
 use Rattle.fx_net.specs.Taking.{left_by}
 use Rattle.fx_conform.specs.Held.{IsHeld, AreHeld, Leave, AllLeave}
@@ -59,7 +59,7 @@ one_leaves stores held place s e st is low =
     let least_is : least_of (stored_at stores place) ≡ Some e = ap least_of is ∙ low in
     let then_held : IsHeld (flows_in (without_entry s e.0)) (without at.rs l.0) = subst (λ (m : Flows). IsHeld m (without at.rs l.0)) (sym (without_flows s e.0 fact.1)) l.2 in
     let set_is : without_least stores place ≡ slice_set stores place (Some (without_entry s e.0)) =
-    ap (λ (o : Option Entry). changed (option_map (taken_out o)) stores place) least_is ∙ changed_is (option_map (taken_out (Some e))) stores place (Some s) there in
+    ap (λ (o : Option Entry). with_changed (option_map (taken_out o)) stores place) least_is ∙ changed_is (option_map (taken_out (Some e))) stores place (Some s) there in
     record {
       now = now;
       leave = record { number = l.0; rs = at.rs; there = at.records_are; flow_is = l.1; now_is = refl };
@@ -92,7 +92,7 @@ record SomeLeave (stores : List (Option Stored)) (held : List (List Record)) (pl
   all_held : AllHeld (without_leasts place stores n) now
 
 -- where there is none, nothing is taken out
-none_out : (stores : List (Option Stored)) (place : ℕ) → changed (option_map (taken_out None)) stores place ≡ stores
+none_out : (stores : List (Option Stored)) (place : ℕ) → with_changed (option_map (taken_out None)) stores place ≡ stores
 none_out [] place = refl
 none_out (None ∷ stores) zero = refl
 none_out (Some s ∷ stores) zero = refl
@@ -101,7 +101,7 @@ none_out (s ∷ stores) (suc n) = ap (λ ss. s ∷ ss) (none_out stores n)
 first_leaves : (stores : List (Option Stored)) (held : List (List Record)) (place : ℕ) (o : Option Entry) → AllHeld stores held → least_of (stored_at stores place) ≡ o
     → (now : List (List Record)) × AllLeave (left_by place o) held now × AllHeld (without_least stores place) now
 first_leaves stores held place None st low =
-    let same : without_least stores place ≡ stores = ap (λ (o : Option Entry). changed (option_map (taken_out o)) stores place) low ∙ none_out stores place in
+    let same : without_least stores place ≡ stores = ap (λ (o : Option Entry). with_changed (option_map (taken_out o)) stores place) low ∙ none_out stores place in
     (held, refl, subst (λ (ss : List (Option Stored)). AllHeld ss held) (sym same) st)
 first_leaves stores held place (Some e) st low = let o = one_or_none stores held place e st low in (o.now, (o.now, o.leave, refl), o.all_held)
 

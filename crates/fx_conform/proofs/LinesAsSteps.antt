@@ -9,8 +9,8 @@ use Rattle.fx_tables.specs.declared.record.Record.{Record}
 use Rattle.fx_tables.specs.declared.holder_name.HolderName.{HolderName}
 use Rattle.fx_run_text.specs.declared.step.Step.{Step}
 use Rattle.fx_run_text.specs.declared.step.Step.TheVariants.{Cross, Expire, Arrive}
-use Rattle.fx_tables.specs.Network.{Net, Exporter, Aggregation, Process, holder_place, named_by, aggregations_of}
-use Rattle.fx_base.specs.Entries.{numbered}
+use Rattle.fx_tables.specs.Network.{Net, Exporter, AggregationEntry, Process, holder_place, named_by, aggregations_of}
+use Rattle.fx_base.specs.Entries.{entry_numbered}
 use Rattle.fx_tables.specs.Classes.{Class, path}
 use Rattle.fx_machine.specs.States.{State}
 use Rattle.fx_link.specs.Links.{Put}
@@ -21,18 +21,18 @@ use Rattle.fx_elements.specs.Axes.{Fields}
 use Rattle.fx_runs.specs.Extending.{with_packet}
 use Rattle.fx_runs.specs.Destinations.{AllUsable, number_in_use}
 use Rattle.fx_net.specs.declared.action.Action.{Action}
-use Rattle.fx_net.specs.Contents.{Contents, changed, stored_at}
+use Rattle.fx_net.specs.Contents.{Contents, with_changed, stored_at}
 use Rattle.fx_net.specs.Stores.{Stored, unbounded, bounded}
 use Rattle.fx_net.specs.Arriving.{after_carrying}
-use Rattle.fx_net.specs.Doings.{Ended, Empties, Carries, LeastLeaves, Reads, IsFrame, after_packet}
+use Rattle.fx_net.specs.Doings.{Ended, Empties, Carries, LeastLeaves, ReadsFrame, IsFrame, after_packet}
 use Rattle.fx_net.specs.Leaving.{leaver, taken_out, least_of, least_at, without_least, count_at, after_leave, after_leaves, after_expire, after_least, after_emptying}
 use Rattle.fx_net.specs.Taking.{with_stores, left_by}
 use Rattle.fx_conform.specs.Held.{Leaver, Leave, AllLeave}
 use Rattle.fx_conform.specs.Emptying.{leasts, without_leasts}
 use Rattle.fx_conform.specs.TakingIn.{IsUnbounded}
-use Rattle.fx_conform.specs.OnLinks.{none_pending, pending_from, arrived, with_octets_carried}
+use Rattle.fx_conform.specs.OnLinks.{none_pending, pending_from, arrivals, with_octets_carried}
 use Rattle.fx_conform.specs.Sendable.{AreSent}
-use Rattle.fx_conform.specs.Closing.{IsNamed}
+use Rattle.fx_conform.specs.Closing.{CanBeNamed}
 use Rattle.fx_conform.specs.Conforming.{IsSound, AreBoundless, Conforms, StoresConform, put_by_run}
 use Rattle.fx_conform.specs.Rows.{AreExpiries, AreArrivals, AreCrossings, IsExpiry}
 use Rattle.fx_conform.proofs.LinkLaws.{octets_arrive}
@@ -68,7 +68,7 @@ least_unbounded stores place n u = by (cases_eq n place) where
 
 pub boundless_least : (net : Net) (stores : List (Option Stored)) (place : ℕ) → AreBoundless net stores → AreBoundless net (without_least stores place)
 boundless_least net stores place h process = each (aggregations_of (slice_get net.processes process)) (h process) where
-  each : (xs : List Aggregation) → AllByRecursion (λ (a : Aggregation). IsUnbounded (stored_at stores a.holder)) xs → AllByRecursion (λ (a : Aggregation). IsUnbounded (stored_at (without_least stores place) a.holder)) xs
+  each : (xs : List AggregationEntry) → AllByRecursion (λ (a : AggregationEntry). IsUnbounded (stored_at stores a.holder)) xs → AllByRecursion (λ (a : AggregationEntry). IsUnbounded (stored_at (without_least stores place) a.holder)) xs
   each [] g = tt
   each (a ∷ xs) g = (least_unbounded stores place a.holder g.0, each xs g.1)
 
@@ -89,7 +89,7 @@ module _ (net : Net) (sound : IsSound net) (classes : List Class) (begin : Put) 
 
   -- These leave once they were taken out of the stores.
   leave_then : (ls : List Leaver) (stores : List (Option Stored)) (now : List (List Record)) (put : Put) (c : Contents) (steps : List Step) (s : State) (h : Conforms net classes begin put c packets steps s)
-      → AllByRecursion (λ (l : Leaver). IsNamed net l.holder) ls → AllLeave ls s.held now → StoresConform net stores now
+      → AllByRecursion (λ (l : Leaver). CanBeNamed net l.holder) ls → AllLeave ls s.held now → StoresConform net stores now
       → Made net classes packets AreExpiries (after_leaves net ls (with_stores c stores)) none_pending h.history [] steps
   leave_then ls stores now put c steps s h named leave st =
       let a = amid_of net classes begin put c packets steps s h in
@@ -105,13 +105,13 @@ module _ (net : Net) (sound : IsSound net) (classes : List Class) (begin : Put) 
         stores = subst (λ (ss : List (Option Stored)). StoresConform net ss out.state.held) (sym (stores_stay net ls kept)) (subst (StoresConform net stores) (sym out.held_is) st);
       }
 
-  leasts_named : (place n : ℕ) (stores : List (Option Stored)) → IsNamed net place → AllByRecursion (λ (l : Leaver). IsNamed net l.holder) (leasts place stores n)
+  leasts_named : (place n : ℕ) (stores : List (Option Stored)) → CanBeNamed net place → AllByRecursion (λ (l : Leaver). CanBeNamed net l.holder) (leasts place stores n)
   leasts_named place zero stores h = tt
   leasts_named place (suc n) stores h =
-      all_join (λ (l : Leaver). IsNamed net l.holder) (left_by place (least_of (stored_at stores place))) _ (left_named net place (least_of (stored_at stores place)) h) (leasts_named place n (without_least stores place) h)
+      all_join (λ (l : Leaver). CanBeNamed net l.holder) (left_by place (least_of (stored_at stores place))) _ (left_named net place (least_of (stored_at stores place)) h) (leasts_named place n (without_least stores place) h)
 
   -- a holder is emptied
-  pub emptied : (place : ℕ) → IsNamed net place → (put : Put) (c done : Contents) (steps : List Step) (s : State) (h : Conforms net classes begin put c packets steps s)
+  pub emptied : (place : ℕ) → CanBeNamed net place → (put : Put) (c done : Contents) (steps : List Step) (s : State) (h : Conforms net classes begin put c packets steps s)
       → Empties net place c done → Made net classes packets AreExpiries done none_pending h.history [] steps
   emptied place named put c done steps s h e =
       let n : ℕ = count_at c place in
@@ -172,7 +172,7 @@ module _ (net : Net) (sound : IsSound net) (classes : List Class) (begin : Put) 
       let below : link < length c.links = omega (arith, there_is_below net.links link to leads, h.as_many, h.links.as_many) in
       let a = amid_of net classes begin put c packets steps s h in
       let on : Contents = record c { links = with_octets_carried link n c.links } in
-      let amid : IsAmid net classes packets on (pending_from link (arrived link n c.links)) h.history [] steps s = record {
+      let amid : IsAmid net classes packets on (pending_from link (arrivals link n c.links)) h.history [] steps s = record {
         run_is = a.run_is;
         coming_is = a.coming_is;
         as_many = a.as_many;
@@ -182,7 +182,7 @@ module _ (net : Net) (sound : IsSound net) (classes : List Class) (begin : Put) 
         second = a.second;
       } in
       subst (λ (d : Contents). Made net classes packets (AreArrivals (suc link)) d none_pending h.history [] steps) (sym e)
-      (arrive_all net sound classes packets h.history link to process leads there (arrived link n c.links) on steps s amid h.stores)
+      (arrive_all net sound classes packets h.history link to process leads there (arrivals link n c.links) on steps s amid h.stores)
 
 -- ---- a packet is read
 
@@ -201,7 +201,7 @@ module _ (net : Net) (sound : IsSound net) (classes : List Class) (begin : Put) 
 
 -- ---- another destination is used
 
-chosen_at : (chosen : List ℕ) (n place destination : ℕ) → (n ≡ place → ⊥) → slice_get (changed (λ (_ : ℕ). destination) chosen place) n ≡ slice_get chosen n
+chosen_at : (chosen : List ℕ) (n place destination : ℕ) → (n ≡ place → ⊥) → slice_get (with_changed (λ (_ : ℕ). destination) chosen place) n ≡ slice_get chosen n
 chosen_at [] n place destination ne = refl
 chosen_at (x ∷ xs) zero zero destination ne = absurd (ne refl)
 chosen_at (x ∷ xs) (suc n) zero destination ne = refl
@@ -209,19 +209,19 @@ chosen_at (x ∷ xs) zero (suc place) destination ne = refl
 chosen_at (x ∷ xs) (suc n) (suc place) destination ne = chosen_at xs n place destination (λ e. ne (ap suc e))
 
 chosen_here : (chosen : List ℕ) (place destination : ℕ)
-    → (slice_get (changed (λ (_ : ℕ). destination) chosen place) place ≡ Some destination) ⊎ (slice_get (changed (λ (_ : ℕ). destination) chosen place) place ≡ slice_get chosen place)
+    → (slice_get (with_changed (λ (_ : ℕ). destination) chosen place) place ≡ Some destination) ⊎ (slice_get (with_changed (λ (_ : ℕ). destination) chosen place) place ≡ slice_get chosen place)
 chosen_here [] place destination = inr refl
 chosen_here (x ∷ xs) zero destination = inl refl
 chosen_here (x ∷ xs) (suc place) destination = chosen_here xs place destination
 
-pub uses_so : (net : Net) (chosen : List ℕ) (place destination : ℕ) (names : Exporter) → slice_get net.exporters place ≡ Some names → numbered names.destinations destination ≢ None
-    → AllUsable net chosen → AllUsable net (changed (λ (_ : ℕ). destination) chosen place)
+pub uses_so : (net : Net) (chosen : List ℕ) (place destination : ℕ) (names : Exporter) → slice_get net.exporters place ≡ Some names → entry_numbered names.destinations destination ≢ None
+    → AllUsable net chosen → AllUsable net (with_changed (λ (_ : ℕ). destination) chosen place)
 uses_so net chosen place destination names is there h n e at chooses = by (cases_eq n place) where
   new : List ℕ
-  new = changed (λ (_ : ℕ). destination) chosen place
+  new = with_changed (λ (_ : ℕ). destination) chosen place
 
-  by : (n ≡ place) ⊎ (n ≡ place → ⊥) → numbered e.destinations (number_in_use new n) ≢ None
-  by (inr ne) = subst (λ (o : Option ℕ). numbered e.destinations (unwrap_or o 0) ≢ None) (sym (chosen_at chosen n place destination ne)) (h n e at chooses)
+  by : (n ≡ place) ⊎ (n ≡ place → ⊥) → entry_numbered e.destinations (number_in_use new n) ≢ None
+  by (inr ne) = subst (λ (o : Option ℕ). entry_numbered e.destinations (unwrap_or o 0) ≢ None) (sym (chosen_at chosen n place destination ne)) (h n e at chooses)
   by (inl same) = here (chosen_here chosen place destination) where
     own : ◌≡◌ {A = Option Exporter} (Some names) (Some e)
     own = sym is ∙ ap (slice_get net.exporters) (sym same) ∙ at
@@ -229,7 +229,7 @@ uses_so net chosen place destination names is there h n e at chooses = by (cases
     names_is : names ≡ e
     names_is = let x = own in cc
 
-    here : (slice_get new place ≡ Some destination) ⊎ (slice_get new place ≡ slice_get chosen place) → numbered e.destinations (number_in_use new n) ≢ None
-    here (inl now) = subst (λ (m : ℕ). numbered e.destinations (number_in_use new m) ≢ None) (sym same) (subst (λ (o : Option ℕ). numbered e.destinations (unwrap_or o 0) ≢ None) (sym now) (subst (λ (x : Exporter). numbered x.destinations destination ≢ None) names_is there))
-    here (inr as_was) = subst (λ (m : ℕ). numbered e.destinations (number_in_use new m) ≢ None) (sym same)
-        (subst (λ (o : Option ℕ). numbered e.destinations (unwrap_or o 0) ≢ None) (sym as_was) (subst (λ (m : ℕ). numbered e.destinations (number_in_use chosen m) ≢ None) same (h n e at chooses)))
+    here : (slice_get new place ≡ Some destination) ⊎ (slice_get new place ≡ slice_get chosen place) → entry_numbered e.destinations (number_in_use new n) ≢ None
+    here (inl now) = subst (λ (m : ℕ). entry_numbered e.destinations (number_in_use new m) ≢ None) (sym same) (subst (λ (o : Option ℕ). entry_numbered e.destinations (unwrap_or o 0) ≢ None) (sym now) (subst (λ (x : Exporter). entry_numbered x.destinations destination ≢ None) names_is there))
+    here (inr as_was) = subst (λ (m : ℕ). entry_numbered e.destinations (number_in_use new m) ≢ None) (sym same)
+        (subst (λ (o : Option ℕ). entry_numbered e.destinations (unwrap_or o 0) ≢ None) (sym as_was) (subst (λ (m : ℕ). entry_numbered e.destinations (number_in_use chosen m) ≢ None) same (h n e at chooses)))

@@ -9,8 +9,8 @@ use Rattle.fx_link.specs.Sending.{IsSent}
 use Rattle.fx_link.specs.Wires.{new_wire}
 use Rattle.fx_link.specs.Ongoing.{Ongoing, at_rest, to_put, after_finish}
 use Rattle.fx_net.specs.Exporting.{put_each}
-use Rattle.fx_runs.specs.Given.{given}
-use Rattle.fx_conform.specs.OnLinks.{IsStill, IsCarried, AreStill, pending_from, with_octets_carried, arrived, NoOctets}
+use Rattle.fx_runs.specs.Given.{records_given}
+use Rattle.fx_conform.specs.OnLinks.{IsStill, IsCarried, AreStill, pending_from, with_octets_carried, arrivals, NoOctets}
 use Rattle.fx_conform.specs.Sendable.{IsKey, AreCounts}
 use Rattle.fx_conform.proofs.LinkPlaces.{putting}
 use Rattle.fx_conform.proofs.OneLink.{new_is_still, still_is_carried, puts_are_carried, finishing_stills}
@@ -19,10 +19,10 @@ use Rattle.fx_conform.proofs.AllLinks.{links_begin}
 -- ---- records that are put on links
 
 -- a link that is named twice gets the record twice
-given_twice : given (1 ∷ 0 ∷ 1 ∷ []) first 1 ≡ first ∷ first ∷ []
+given_twice : records_given (1 ∷ 0 ∷ 1 ∷ []) first 1 ≡ first ∷ first ∷ []
 given_twice = refl
 
-given_none : given (1 ∷ 0 ∷ 1 ∷ []) first 2 ≡ []
+given_none : records_given (1 ∷ 0 ∷ 1 ∷ []) first 2 ≡ []
 given_none = refl
 
 -- the first of two links has it once, and it waits there
@@ -60,11 +60,11 @@ holding = record { known = record { domains = []; waiting = first ∷ []; gaps =
 abbrev busy : Ongoing
 busy = record { outgoing = (at_rest new_wire).outgoing; queue = 0 ∷ 10 ∷ []; receiver = holding }
 
-arrived_there : arrived 1 0 (at_rest new_wire ∷ busy ∷ []) ≡ first ∷ []
+arrived_there : arrivals 1 0 (at_rest new_wire ∷ busy ∷ []) ≡ first ∷ []
 arrived_there = ap (λ (x : SessionState). x.known.waiting) (fed_on holding [] refl ∙ all_none holding.known holding.place)
 
 -- no link has this number
-arrived_nowhere : arrived 2 0 (at_rest new_wire ∷ busy ∷ []) ≡ []
+arrived_nowhere : arrivals 2 0 (at_rest new_wire ∷ busy ∷ []) ≡ []
 arrived_nowhere = refl
 
 -- one octet is carried, and one stays

@@ -9,9 +9,9 @@ use Rattle.fx_machine.specs.Sends.{put_all}
 use Rattle.fx_link.specs.Sending.{IsSent}
 use Rattle.fx_link.specs.Outgoing.{Outgoing, with_one, with_all}
 use Rattle.fx_link.specs.Ongoing.{Ongoing}
-use Rattle.fx_net.specs.Contents.{changed}
+use Rattle.fx_net.specs.Contents.{with_changed}
 use Rattle.fx_net.specs.Exporting.{with_waiting, put_each}
-use Rattle.fx_runs.specs.Given.{given}
+use Rattle.fx_runs.specs.Given.{records_given}
 use Rattle.fx_conform.proofs.Places.{changed_other}
 
 -- ---- entries
@@ -29,7 +29,7 @@ map_at f [] n = refl
 map_at f (x ∷ xs) zero = refl
 map_at f (x ∷ xs) (suc n) = map_at f xs n
 
-pub changed_here : {A : Type 0} (f : A → A) (xs : List A) (n : ℕ) → slice_get (changed f xs n) n ≡ option_map f (slice_get xs n)
+pub changed_here : {A : Type 0} (f : A → A) (xs : List A) (n : ℕ) → slice_get (with_changed f xs n) n ≡ option_map f (slice_get xs n)
 changed_here f [] n = refl
 changed_here f (x ∷ xs) zero = refl
 changed_here f (x ∷ xs) (suc n) = changed_here f xs n
@@ -40,7 +40,7 @@ pub mapped_many : {A : Type 0} {B : Type 0} (f : A → B) (xs : List A) → leng
 mapped_many f [] = refl
 mapped_many f (x ∷ xs) = ap suc (mapped_many f xs)
 
-pub changed_many : {A : Type 0} (f : A → A) (xs : List A) (n : ℕ) → length (changed f xs n) ≡ length xs
+pub changed_many : {A : Type 0} (f : A → A) (xs : List A) (n : ℕ) → length (with_changed f xs n) ≡ length xs
 changed_many f [] n = refl
 changed_many f (x ∷ xs) zero = refl
 changed_many f (x ∷ xs) (suc n) = ap suc (changed_many f xs n)
@@ -61,7 +61,7 @@ put_all_many (l ∷ ls) r rss = put_all_many ls r (put_last rss l r) ∙ last_ma
 
 pub put_each_many : (time : ℕ) (r : Record) (places : List ℕ) (links : List Ongoing) → length (put_each time r places links) ≡ length links
 put_each_many time r [] links = refl
-put_each_many time r (l ∷ ls) links = put_each_many time r ls (changed (with_waiting time r) links l) ∙ changed_many (with_waiting time r) links l
+put_each_many time r (l ∷ ls) links = put_each_many time r ls (with_changed (with_waiting time r) links l) ∙ changed_many (with_waiting time r) links l
 
 -- ---- records that all are so
 
@@ -73,10 +73,10 @@ pub all_later : {A : Type 0} (P : A → Type 0) (xs ys : List A) → AllByRecurs
 all_later P [] ys h = h
 all_later P (x ∷ xs) ys h = all_later P xs ys h.1
 
-pub given_sent : (places : List ℕ) (r : Record) (link : ℕ) → IsSent r → AllByRecursion IsSent (given places r link)
+pub given_sent : (places : List ℕ) (r : Record) (link : ℕ) → IsSent r → AllByRecursion IsSent (records_given places r link)
 given_sent [] r link s = tt
 given_sent (l ∷ ls) r link s = by (given_sent ls r link s) (l == link) where
-  by : AllByRecursion IsSent (given ls r link) → (b : Bool) → AllByRecursion IsSent (cond b (r ∷ []) [] ++ given ls r link)
+  by : AllByRecursion IsSent (records_given ls r link) → (b : Bool) → AllByRecursion IsSent (cond b (r ∷ []) [] ++ records_given ls r link)
   by ih true = (s, ih)
   by ih false = ih
 
@@ -98,16 +98,16 @@ both_put : (time : ℕ) (xs ys : List Record) (o : Option Ongoing) → option_ma
 both_put time xs ys None = refl
 both_put time xs ys (Some o) = ap (λ (x : Outgoing). let p : Option Ongoing = Some (record o { outgoing = x }) in p) (sym (with_more time xs ys o.outgoing))
 
-one_put : (time : ℕ) (r : Record) (links : List Ongoing) (l link : ℕ) (b : Bool) → (l == link) ≡ b → slice_get (changed (with_waiting time r) links l) link ≡ option_map (putting time (cond b (r ∷ []) [])) (slice_get links link)
+one_put : (time : ℕ) (r : Record) (links : List Ongoing) (l link : ℕ) (b : Bool) → (l == link) ≡ b → slice_get (with_changed (with_waiting time r) links l) link ≡ option_map (putting time (cond b (r ∷ []) [])) (slice_get links link)
 one_put time r links l link true e =
-    ap (λ (n : ℕ). slice_get (changed (with_waiting time r) links n) link) (eqb-true l link e) ∙ changed_here (with_waiting time r) links link
+    ap (λ (n : ℕ). slice_get (with_changed (with_waiting time r) links n) link) (eqb-true l link e) ∙ changed_here (with_waiting time r) links link
 one_put time r links l link false e =
     changed_other (with_waiting time r) links l link (λ same. eqb-false l link e (sym same)) ∙ none_put time (slice_get links link)
 
 -- a record that is put on some links waits on each as often as the link is one of them
-pub put_each_at : (time : ℕ) (r : Record) (places : List ℕ) (links : List Ongoing) (link : ℕ) → slice_get (put_each time r places links) link ≡ option_map (putting time (given places r link)) (slice_get links link)
+pub put_each_at : (time : ℕ) (r : Record) (places : List ℕ) (links : List Ongoing) (link : ℕ) → slice_get (put_each time r places links) link ≡ option_map (putting time (records_given places r link)) (slice_get links link)
 put_each_at time r [] links link = none_put time (slice_get links link)
 put_each_at time r (l ∷ ls) links link =
-    put_each_at time r ls (changed (with_waiting time r) links l) link
-    ∙ ap (option_map (putting time (given ls r link))) (one_put time r links l link (l == link) refl)
-    ∙ both_put time (cond (l == link) (r ∷ []) []) (given ls r link) (slice_get links link)
+    put_each_at time r ls (with_changed (with_waiting time r) links l) link
+    ∙ ap (option_map (putting time (records_given ls r link))) (one_put time r links l link (l == link) refl)
+    ∙ both_put time (cond (l == link) (r ∷ []) []) (records_given ls r link) (slice_get links link)

@@ -11,9 +11,9 @@ use Rattle.fx_run_text.specs.declared.step.Step.{Step}
 use Rattle.fx_run_text.specs.declared.step.Step.TheVariants.{Cross, Expire, Arrive}
 use Rattle.fx_tables.specs.declared.traffic.Crossing.{Crossing}
 use Rattle.fx_tables.specs.Network.{Net, named_by, holder_place}
-use Rattle.fx_base.specs.Entries.{numbered}
+use Rattle.fx_base.specs.Entries.{entry_numbered}
 use Rattle.fx_tables.specs.Classes.{Class, path}
-use Rattle.fx_machine.specs.States.{State, Coming, opening, told, put_last}
+use Rattle.fx_machine.specs.States.{State, Coming, opening, told_state, put_last}
 use Rattle.fx_machine.specs.Acts.{Choices, Outcome}
 use Rattle.fx_machine.specs.Sends.{put_all}
 use Rattle.fx_machine.specs.Holds.{hold_all}
@@ -22,8 +22,8 @@ use Rattle.fx_collect.specs.Totals.{Totals, totals_in}
 use Rattle.fx_link.specs.Sending.{IsSent}
 use Rattle.fx_link.specs.Ongoing.{Ongoing}
 use Rattle.fx_runs.specs.Destinations.{AllUsable, links_used, sent_by}
-use Rattle.fx_runs.specs.Given.{given}
-use Rattle.fx_runs.specs.Making.{metered}
+use Rattle.fx_runs.specs.Given.{records_given}
+use Rattle.fx_runs.specs.Making.{intakes_at}
 use Rattle.fx_runs.specs.PutOn.{put_by, put_on}
 use Rattle.fx_runs.proofs.RunsGoOn.{runs_join}
 use Rattle.fx_runs.proofs.RecordsGiven.{expire_puts, cross_puts}
@@ -34,7 +34,7 @@ use Rattle.fx_net.specs.Leaving.{after_leave, after_leaves}
 use Rattle.fx_conform.specs.Held.{Leaver, Leave, AllLeave}
 use Rattle.fx_conform.specs.OnLinks.{AreCarried, IsCarried}
 use Rattle.fx_conform.specs.Sendable.{AreSent}
-use Rattle.fx_conform.specs.Closing.{IsNamed}
+use Rattle.fx_conform.specs.Closing.{CanBeNamed}
 use Rattle.fx_conform.specs.Conforming.{put_by_run}
 use Rattle.fx_conform.specs.Rows.{AreExpiries, IsExpiry}
 use Rattle.fx_conform.proofs.LinkLaws.{puts_carry}
@@ -47,7 +47,7 @@ pub record IsAmid (net : Net) (classes : List Class) (packets : List Packet) (c 
   pub as_many : length s.carried ≡ length net.links
   pub links : AreCarried c.second pending history (put_by_run net classes packets steps) c.links s.carried
   pub chosen : AllUsable net c.chosen
-  pub totals : c.totals ≡ totals_in net.report_layout (told s)
+  pub totals : c.totals ≡ totals_in net.report_layout (told_state s)
   pub second : c.second < 2 ^ 32
 
 -- ---- lists of what is carried
@@ -116,7 +116,7 @@ module _ (net : Net) (classes : List Class) (packets : List Packet) where
     pub held_is : state.held ≡ held
 
   module _ (pending : ℕ → List Record) (history : ℕ → List ℕ) (coming : List Coming) where
-    pub one_leaves : (l : Leaver) (c : Contents) (steps : List Step) (s : State) (now : List (List Record)) (named : IsNamed net l.holder)
+    pub one_leaves : (l : Leaver) (c : Contents) (steps : List Step) (s : State) (now : List (List Record)) (named : CanBeNamed net l.holder)
         → IsAmid net classes packets c pending history coming steps s → AreSent s.held → Leave l s.held now
         → Follows (IsExpiry named.0) (after_leave net l c) pending history coming steps now
     one_leaves l c steps s now named a sent leave =
@@ -136,7 +136,7 @@ module _ (net : Net) (classes : List Class) (packets : List Packet) where
             run_is = run_one steps step s t a.run_is made;
             coming_is = a.coming_is;
             as_many = all_length links l.flow s.carried ∙ a.as_many;
-            links = links_then c.second pending history (given links l.flow) _ steps step s t a.run_is made
+            links = links_then c.second pending history (records_given links l.flow) _ steps step s t a.run_is made
                 (λ link lt. expire_puts name leave.number (sent_by net c.chosen places) s t links l.flow link refl (subst (λ (n : ℕ). link < n) (all_length links l.flow s.carried) lt))
                 (puts_carry c.second pending history (put_by_run net classes packets steps) c.links s.carried l.flow links a.links (leavings_can_be_sent l s.held now leave sent).0);
             chosen = a.chosen;
@@ -156,7 +156,7 @@ module _ (net : Net) (classes : List Class) (packets : List Packet) where
     expires_one name steps h = subst AreExpiries (sym h.steps_are) tt
 
     -- one after another
-    pub all_leave_so : (ls : List Leaver) (c : Contents) (steps : List Step) (s : State) (held now : List (List Record)) → AllByRecursion (λ (l : Leaver). IsNamed net l.holder) ls
+    pub all_leave_so : (ls : List Leaver) (c : Contents) (steps : List Step) (s : State) (held now : List (List Record)) → AllByRecursion (λ (l : Leaver). CanBeNamed net l.holder) ls
         → IsAmid net classes packets c pending history coming steps s → s.held ≡ held → AreSent held → AllLeave ls held now
         → Follows AreExpiries (after_leaves net ls c) pending history coming steps now
     all_leave_so [] c steps s held now named a is sent leave = record {
@@ -186,9 +186,9 @@ module _ (net : Net) (classes : List Class) (packets : List Packet) where
         let here : (i == i && j == j) ≡ true = grind (arith, nat_tests) in
         ap (λ (cs : List Coming). place cs i j) e ∙ ap (λ b. cond b (Some 0) (later (place rest i j))) here
 
-    pub crosses : (c : Contents) (steps : List Step) (s : State) (choices : Choices) (now : List (List Record)) → numbered packets i ≡ Some p → numbered (path classes p) j ≡ Some crossing
+    pub crosses : (c : Contents) (steps : List Step) (s : State) (choices : Choices) (now : List (List Record)) → entry_numbered packets i ≡ Some p → entry_numbered (path classes p) j ≡ Some crossing
         → IsAmid net classes packets c pending history (record { packet = i; crossing = j } ∷ rest) steps s
-        → hold_all (one_packet p) (metered net p.fields crossing) s.held choices ≡ Some now
+        → hold_all (one_packet p) (intakes_at net p.fields crossing) s.held choices ≡ Some now
         → Follows (λ more. more ≡ Cross i j choices ∷ []) c pending history rest steps now
     crosses c steps s choices now is on a taken =
         let step : Step = Cross i j choices in

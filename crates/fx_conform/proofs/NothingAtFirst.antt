@@ -7,7 +7,7 @@ use Rattle.fx_config.specs.declared.cache.CacheKind.{CacheKind}
 use Rattle.fx_config.specs.declared.cache.CacheKind.TheVariants as kind
 use Rattle.fx_tables.specs.Network.{Holder}
 use Rattle.fx_machine.specs.States.{nothing_at}
-use Rattle.fx_topology.specs.declared.network.Network.{Network}
+use Rattle.fx_topology.specs.declared.network.NetworkDocument.{NetworkDocument}
 use Rattle.fx_plan.specs.Tables.{net_of}
 use Rattle.fx_store.specs.Flows.{flows_of}
 use Rattle.fx_store.proofs.Recency.{counted}
@@ -56,7 +56,7 @@ new_held (x ∷ xs) [] e h = absurd (omega arith)
 new_held (x ∷ xs) (None ∷ stores) e h = let rest = new_held xs stores (omega arith) h.1 in ((refl, rest.0), (tt, rest.1))
 new_held (x ∷ xs) (Some s ∷ stores) e h = let rest = new_held xs stores (omega arith) h.1 in ((h.0.0, rest.0), (h.0.1, rest.1))
 
-as_many : (network : Network) → length (net_of network).holders ≡ length (stores_of network)
+as_many : (network : NetworkDocument) → length (net_of network).holders ≡ length (stores_of network)
 as_many network =
     let holders : List Holder = (net_of network).holders in
     let caches : List (Option Stored) = map store_of (caches_in network) in
@@ -67,5 +67,5 @@ as_many network =
     let more = length-map (aggregations_in network) (λ (_ : Holder). Some (new_store 0)) in
     omega (arith, behind, few, less, all, more)
 
-pub begins : (network : Network) → AreHeld (stores_of network) (nothing_at (net_of network).holders) × AreUsable (stores_of network)
+pub begins : (network : NetworkDocument) → AreHeld (stores_of network) (nothing_at (net_of network).holders) × AreUsable (stores_of network)
 begins network = new_held (net_of network).holders (stores_of network) (as_many network) (all_new (caches_in network) (aggregations_in network))

@@ -14,7 +14,7 @@ use Rattle.fx_link.proofs.FlushedMessages.{flushes_are_sent}
 use Rattle.fx_link.proofs.StreamTrip.{records_back}
 use Rattle.fx_link.proofs.WireTrip.{sending_adds, putting_sends, new_in_step}
 use Rattle.fx_net.specs.Arriving.{waiting_on, with_left}
-use Rattle.fx_conform.specs.OnLinks.{AreRead, IsKept, IsStill, IsCarried}
+use Rattle.fx_conform.specs.OnLinks.{AreRead, IsLinkAtRest, IsStill, IsCarried}
 use Rattle.fx_conform.proofs.LinkPlaces.{all_both, all_later, putting, with_more}
 
 -- ---- at the beginning
@@ -112,8 +112,8 @@ few_sent time wire (r ∷ rs) step room =
     (few_flushed time (with_all time o (r ∷ rs)) (still_waits time rs (with_one time o r) (one_waits time o r)) room)
 
 -- records that are sent are read behind those that were read
-kept_sent : (time : ℕ) (wire : Wire) (history : List ℕ) (before put : List Record) → time < 2 ^ 32 → IsKept wire history before → AllByRecursion IsSent put → 256 + length (after_sent wire.sender put).layouts < 2 ^ 16
-    → IsKept (sent_on time put wire) (history ++ sent_octets time wire.sender put) (before ++ put)
+kept_sent : (time : ℕ) (wire : Wire) (history : List ℕ) (before put : List Record) → time < 2 ^ 32 → IsLinkAtRest wire history before → AllByRecursion IsSent put → 256 + length (after_sent wire.sender put).layouts < 2 ^ 16
+    → IsLinkAtRest (sent_on time put wire) (history ++ sent_octets time wire.sender put) (before ++ put)
 kept_sent time wire history before put h k s few =
     let octets : List ℕ = sent_octets time wire.sender put in
     let back = records_back time wire.sender (fed start history) put h k.in_step.sender s few k.keeps_up in
@@ -141,8 +141,8 @@ finishing_stills time history all o rs h c room =
     let kept = kept_sent time c.wire history c.before c.put h c.kept sent few in
     record {
       wire = sent_on time c.put c.wire;
-      kept = subst (λ (l : List Record). IsKept (sent_on time c.put c.wire) (history ++ to_put time o) l) (sym c.all_are)
-          (subst (λ (l : List ℕ). IsKept (sent_on time c.put c.wire) (history ++ l) (c.before ++ c.put)) octets kept);
+      kept = subst (λ (l : List Record). IsLinkAtRest (sent_on time c.put c.wire) (history ++ to_put time o) l) (sym c.all_are)
+          (subst (λ (l : List ℕ). IsLinkAtRest (sent_on time c.put c.wire) (history ++ l) (c.before ++ c.put)) octets kept);
       ongoing_is = ap (after_finish time) c.ongoing_is ∙ putting_sends time c.put c.wire;
       records_are = c.records_are ∙ sym (sending_adds time c.put c.wire h c.kept.in_step sent few).1;
       sent = c.sent;

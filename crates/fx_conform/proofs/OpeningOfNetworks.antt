@@ -15,7 +15,7 @@ use Rattle.fx_tables.specs.Classes.{Class}
 use Rattle.fx_tables.specs.Runnable.{IsRunnable, HasDestinations}
 use Rattle.fx_machine.specs.States.{nothing_at, opening}
 use Rattle.fx_link.specs.Links.{Put}
-use Rattle.fx_topology.specs.declared.network.Network.{Network}
+use Rattle.fx_topology.specs.declared.network.NetworkDocument.{NetworkDocument}
 use Rattle.fx_topology.specs.declared.network_device.NetworkDevice.{NetworkDevice}
 use Rattle.fx_plan.specs.Labels.{Label, exporting_labels}
 use Rattle.fx_plan.specs.Tables.{net_of, aggregations_from, processes_from, processes_in, held_by, cache_holders, aggregation_holders, aggregation_holder, cache_holder}
@@ -24,10 +24,10 @@ use Rattle.fx_base.specs.declared.counts.Counts.{Counts}
 use Rattle.fx_store.specs.Order.{key_cmp}
 use Rattle.fx_store.specs.Flows.{flows_of}
 use Rattle.fx_runs.specs.Destinations.{AllUsable, number_in_use}
-use Rattle.fx_net.specs.Contents.{joined, stored_at}
+use Rattle.fx_net.specs.Contents.{inner_option, stored_at}
 use Rattle.fx_net.specs.Stores.{Stored, unbounded, bounded, new_store}
 use Rattle.fx_net.specs.Leaving.{count_of}
-use Rattle.fx_net.specs.Opening.{store_of_kind, store_of, caches_in, aggregations_in, aggregation_stores, stores_of, first_chosen, opened}
+use Rattle.fx_net.specs.Opening.{store_of_kind, store_of, caches_in, aggregations_in, aggregation_stores, stores_of, first_chosen, opening_contents}
 use Rattle.fx_net.proofs.HoldersInOrder.{behind_caches, caches_are_holders}
 use Rattle.fx_net.proofs.LinksPutOut.{writes_nothing}
 use Rattle.fx_conform.specs.Held.{AreHeld}
@@ -65,13 +65,13 @@ nothing_sent (x ∷ xs) = (tt, nothing_sent xs)
 
 -- ---- aggregations are held behind the caches
 
-abbrev Within : ℕ → ℕ → machine.Aggregation → Type 0
+abbrev Within : ℕ → ℕ → machine.AggregationEntry → Type 0
 Within low high a = (low ≤ a.holder) × (a.holder < high)
 
 abbrev HasWithin : ℕ → ℕ → machine.Process → Type 0
 HasWithin low high p = AllByRecursion (Within low high) p.aggregations
 
-wider : (low high less more : ℕ) → less ≤ low → high ≤ more → (xs : List machine.Aggregation) → AllByRecursion (Within low high) xs → AllByRecursion (Within less more) xs
+wider : (low high less more : ℕ) → less ≤ low → high ≤ more → (xs : List machine.AggregationEntry) → AllByRecursion (Within low high) xs → AllByRecursion (Within less more) xs
 wider low high less more a b [] h = tt
 wider low high less more a b (x ∷ xs) h = ((omega (arith, a, h.0.0), omega (arith, b, h.0.1)), wider low high less more a b xs h.1)
 
@@ -125,7 +125,7 @@ aggregation_unbounded [] n lt = absurd (omega (arith, lt))
 aggregation_unbounded (h ∷ hs) zero lt = tt
 aggregation_unbounded (h ∷ hs) (suc n) lt = aggregation_unbounded hs n (omega (arith, lt))
 
-module _ (network : Network) where
+module _ (network : NetworkDocument) where
   abbrev devices : List NetworkDevice
   devices = network.devices
 
@@ -155,15 +155,15 @@ module _ (network : Network) where
       let long = caches_length in
       let r = behind_all caches (aggregation_stores (aggregations_in network)) n (omega (arith, long, low)) in
       let below : r.0 < length (aggregations_in network) = (let e = r.1 in omega (arith, e, long, high)) in
-      subst (λ (o : Option (Option Stored)). IsUnbounded (joined o)) (sym r.2) (aggregation_unbounded (aggregations_in network) r.0 below)
+      subst (λ (o : Option (Option Stored)). IsUnbounded (inner_option o)) (sym r.2) (aggregation_unbounded (aggregations_in network) r.0 below)
 
-  within_all : (xs : List machine.Aggregation) → AllByRecursion (Within first_aggregation (first_aggregation + length (aggregations_in network))) xs
-      → AllByRecursion (λ (a : machine.Aggregation). IsUnbounded (stored_at (stores_of network) a.holder)) xs
+  within_all : (xs : List machine.AggregationEntry) → AllByRecursion (Within first_aggregation (first_aggregation + length (aggregations_in network))) xs
+      → AllByRecursion (λ (a : machine.AggregationEntry). IsUnbounded (stored_at (stores_of network) a.holder)) xs
   within_all [] h = tt
   within_all (a ∷ xs) h = (unbounded_behind a.holder h.0.0 h.0.1, within_all xs h.1)
 
   within_process : (o : Option machine.Process) → IfSome o (HasWithin first_aggregation (first_aggregation + length (aggregations_in network)))
-      → AllByRecursion (λ (a : machine.Aggregation). IsUnbounded (stored_at (stores_of network) a.holder)) (machine.aggregations_of o)
+      → AllByRecursion (λ (a : machine.AggregationEntry). IsUnbounded (stored_at (stores_of network) a.holder)) (machine.aggregations_of o)
   within_process None h = tt
   within_process (Some p) h = within_all p.aggregations h
 
@@ -198,11 +198,11 @@ all_counted : (caches : List Cache) (hs : List machine.Holder) → AllByRecursio
 all_counted [] hs = aggregations_counted hs
 all_counted (c ∷ caches) hs = (kind_counted c.kind c.max_flows, all_counted caches hs)
 
-none_at : (o : Option (Option Stored)) → IfSome o IsNone → count_of (joined o) ≡ 0
+none_at : (o : Option (Option Stored)) → IfSome o IsNone → count_of (inner_option o) ≡ 0
 none_at None h = refl
 none_at (Some s) h = h
 
-pub nothing_counted : (network : Network) (place : ℕ) → count_in (stores_of network) place ≡ 0
+pub nothing_counted : (network : NetworkDocument) (place : ℕ) → count_in (stores_of network) place ≡ 0
 nothing_counted network place = none_at (slice_get (stores_of network) place) (all_at IsNone (stores_of network) place (all_counted (caches_in network) (aggregations_in network)))
 
 first_used : (es : List machine.Exporter) (place : ℕ) (e : machine.Exporter) → slice_get es place ≡ Some e → number_in_use (first_chosen es) place ≡ 1
@@ -210,7 +210,7 @@ first_used [] place e is = absurd cc
 first_used (x ∷ es) zero e is = refl
 first_used (x ∷ es) (suc place) e is = first_used es place e is
 
-some_first : (e : machine.Exporter) → 0 < length e.destinations → machine.numbered e.destinations 1 ≢ None
+some_first : (e : machine.Exporter) → 0 < length e.destinations → machine.entry_numbered e.destinations 1 ≢ None
 some_first e lt = by e.destinations lt where
   by : (xs : List (Option ℕ)) → 0 < length xs → slice_get xs 0 ≢ None
   by [] l n = omega (arith, l)
@@ -219,9 +219,9 @@ some_first e lt = by e.destinations lt where
 usable_first : (net : machine.Net) → IsRunnable net → AllUsable net (first_chosen net.exporters)
 usable_first net runnable place e is chooses =
     let has : HasDestinations net e = subst (λ (o : Option machine.Exporter). IfSome o (HasDestinations net)) is (all_at (HasDestinations net) net.exporters place (all_to_list (HasDestinations net) net.exporters runnable.destinations)) in
-    subst (λ (n : ℕ). machine.numbered e.destinations n ≢ None) (sym (first_used net.exporters place e is)) (some_first e (has.some chooses))
+    subst (λ (n : ℕ). machine.entry_numbered e.destinations n ≢ None) (sym (first_used net.exporters place e is)) (some_first e (has.some chooses))
 
-pub starts : (network : Network) (classes : List Class) (begin : Put) → IsSound (net_of network) → Conforms (net_of network) classes begin begin (opened network) [] [] (opening (net_of network) classes [])
+pub starts : (network : NetworkDocument) (classes : List Class) (begin : Put) → IsSound (net_of network) → Conforms (net_of network) classes begin begin (opening_contents network) [] [] (opening (net_of network) classes [])
 starts network classes begin sound =
     let net : machine.Net = net_of network in
     let b = begins network in

@@ -9,7 +9,7 @@ use Rattle.serde_json.specs.Data.{Data, Members, null}
 use Rattle.serde_json.specs.Find.{get, as_object}
 use Rattle.fx_walk.specs.Lists.{by_length, entries_faults, items_faults, items_in, items_of}
 use Rattle.fx_walk.specs.Pointer.{below, nth}
-use Rattle.fx_walk.specs.Walk.{Found, Row, faults_or_missing, member_of, of_kind, others, row_faults}
+use Rattle.fx_walk.specs.Walk.{FoundFault, Row, faults_or_missing, member_of, of_kind, others, row_faults}
 use Rattle.fx_walk.proofs.Faults.{none_before, none_behind}
 use Rattle.fx_tables.specs.Classes.{Class}
 use Rattle.fx_traffic.specs.Classes.{class_faults, class_name, class_of, class_rows, list_of_classes_faults, paths_faults, traffic_faults, traffic_of, traffic_rows}
@@ -29,14 +29,14 @@ rows_behind (suc n) (row ∷ rows) up d h = rows_behind n rows up d (none_behind
 
 -- ---- a list of at least one item
 
-long_enough : (least most n : ℕ) (up : List ℕ) (rest : List Found) → by_length 304 305 least most up n rest ≡ [] → (least ≤ n) × (rest ≡ [])
+long_enough : (least most n : ℕ) (up : List ℕ) (rest : List FoundFault) → by_length 304 305 least most up n rest ≡ [] → (least ≤ n) × (rest ≡ [])
 long_enough least most n up rest h = by (nat_lt most n) (nat_lt n least) refl h where
   by : (many few : Bool) → nat_lt n least ≡ few → cond many ((305, up) ∷ []) (cond few ((304, up) ∷ []) rest) ≡ [] → (least ≤ n) × (rest ≡ [])
   by true few e g = absurd cc
   by false true e g = absurd cc
   by false false e g = (grind (arith, nat_tests), g)
 
-some_items : (least most : ℕ) (faults : List ℕ → List Data → List Found) (up : List ℕ) (d : Data) → list_faults least most faults up d ≡ [] → (least ≤ length (items_of d)) × (faults up (items_of d) ≡ [])
+some_items : (least most : ℕ) (faults : List ℕ → List Data → List FoundFault) (up : List ℕ) (d : Data) → list_faults least most faults up d ≡ [] → (least ≤ length (items_of d)) × (faults up (items_of d) ≡ [])
 some_items least most faults up d h = by (items_in d) h where
   by : (o : Option (List Data)) → of_kind o (λ ds. by_length 304 305 least most up (length ds) (faults up ds)) up ≡ [] → (least ≤ length (unwrap_or o [])) × (faults up (unwrap_or o []) ≡ [])
   by None g = absurd cc

@@ -1,6 +1,6 @@
 -- Lists that are set or changed at a place.
 use Rattle.std.proofs.Common.{◌≡◌, ℕ, zero, suc, List, [], ◌∷◌, Option, Some, option_map, refl, ap, slice_get, slice_set}
-use Rattle.fx_net.specs.Contents.{changed, joined, stored_at}
+use Rattle.fx_net.specs.Contents.{with_changed, inner_option, stored_at}
 use Rattle.fx_net.specs.Stores.{Stored}
 
 -- ---- set
@@ -29,12 +29,12 @@ set_twice (z ∷ zs) (suc n) x y = ap (λ ys. z ∷ ys) (set_twice zs n x y)
 
 -- ---- changed
 
-pub changed_is : {A : Type 0} (f : A → A) (xs : List A) (n : ℕ) (x : A) → slice_get xs n ≡ Some x → changed f xs n ≡ slice_set xs n (f x)
+pub changed_is : {A : Type 0} (f : A → A) (xs : List A) (n : ℕ) (x : A) → slice_get xs n ≡ Some x → with_changed f xs n ≡ slice_set xs n (f x)
 changed_is f [] n x h = absurd (cc)
 changed_is f (z ∷ zs) zero x h = let e : z ≡ x = cc in ap (λ y. f y ∷ zs) e
 changed_is f (z ∷ zs) (suc n) x h = ap (λ ys. z ∷ ys) (changed_is f zs n x h)
 
-pub changed_other : {A : Type 0} (f : A → A) (xs : List A) (n m : ℕ) → (m ≡ n → ⊥) → slice_get (changed f xs n) m ≡ slice_get xs m
+pub changed_other : {A : Type 0} (f : A → A) (xs : List A) (n m : ℕ) → (m ≡ n → ⊥) → slice_get (with_changed f xs n) m ≡ slice_get xs m
 changed_other f [] n m ne = refl
 changed_other f (z ∷ zs) zero zero ne = absurd (ne refl)
 changed_other f (z ∷ zs) zero (suc m) ne = refl
@@ -43,10 +43,10 @@ changed_other f (z ∷ zs) (suc n) (suc m) ne = changed_other f zs n m (λ e. ne
 
 -- ---- stores
 
-pub stored_other : (f : Option Stored → Option Stored) (stores : List (Option Stored)) (n m : ℕ) → (m ≡ n → ⊥) → stored_at (changed f stores n) m ≡ stored_at stores m
-stored_other f stores n m ne = ap joined (changed_other f stores n m ne)
+pub stored_other : (f : Option Stored → Option Stored) (stores : List (Option Stored)) (n m : ℕ) → (m ≡ n → ⊥) → stored_at (with_changed f stores n) m ≡ stored_at stores m
+stored_other f stores n m ne = ap inner_option (changed_other f stores n m ne)
 
-pub stored_here : (f : Stored → Stored) (stores : List (Option Stored)) (n : ℕ) → stored_at (changed (option_map f) stores n) n ≡ option_map f (stored_at stores n)
+pub stored_here : (f : Stored → Stored) (stores : List (Option Stored)) (n : ℕ) → stored_at (with_changed (option_map f) stores n) n ≡ option_map f (stored_at stores n)
 stored_here f [] n = refl
 stored_here f (s ∷ stores) zero = refl
 stored_here f (s ∷ stores) (suc n) = stored_here f stores n

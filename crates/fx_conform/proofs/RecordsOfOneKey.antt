@@ -10,8 +10,8 @@ use Rattle.fx_store.specs.Flows.{Entry, with_more}
 use Rattle.fx_store.specs.Recent.{counts_at, without_key, with_latest}
 use Rattle.fx_store.proofs.Recency.{entry_at}
 use Rattle.fx_net.specs.Stores.{Stored, unbounded, bounded, with_counts, makes_room}
-use Rattle.fx_net.specs.Contents.{changed, stored_at}
-use Rattle.fx_net.specs.Taking.{left_by, adding}
+use Rattle.fx_net.specs.Contents.{with_changed, stored_at}
+use Rattle.fx_net.specs.Taking.{left_by, stores_and_leavers}
 use Rattle.fx_conform.specs.Held.{Leaver}
 use Rattle.fx_conform.specs.Usable.{IsRecent, IsUsable, UsableAt, AreUsable}
 use Rattle.fx_conform.specs.TakingIn.{HaveKeys}
@@ -61,7 +61,7 @@ usable_at [] n u = tt
 usable_at (s ∷ stores) zero u = u.0
 usable_at (s ∷ stores) (suc n) u = usable_at stores n u.1
 
-pub usable_changed : (f : Stored → Stored) → ((s : Stored) → IsUsable s → IsUsable (f s)) → (stores : List (Option Stored)) (n : ℕ) → AreUsable stores → AreUsable (changed (option_map f) stores n)
+pub usable_changed : (f : Stored → Stored) → ((s : Stored) → IsUsable s → IsUsable (f s)) → (stores : List (Option Stored)) (n : ℕ) → AreUsable stores → AreUsable (with_changed (option_map f) stores n)
 usable_changed f keeps [] n u = tt
 usable_changed f keeps (None ∷ stores) zero u = u
 usable_changed f keeps (Some s ∷ stores) zero u = (keeps s u.0, u.1)
@@ -73,13 +73,13 @@ none_of : (n holder : ℕ) (out : Option Entry) → (holder ≡ n → ⊥) → N
 none_of n holder None ne = tt
 none_of n holder (Some e) ne = (λ same. ne (sym same), tt)
 
-none_at : (counts : Counts) (keys : ℕ → Key) (hs : List Holding) (n : ℕ) (stores : List (Option Stored)) → HaveKeys keys hs → HasKey (keys n) (stored_at stores n) → NoneAt n (adding stores counts hs).left
+none_at : (counts : Counts) (keys : ℕ → Key) (hs : List Holding) (n : ℕ) (stores : List (Option Stored)) → HaveKeys keys hs → HasKey (keys n) (stored_at stores n) → NoneAt n (stores_and_leavers stores counts hs).left
 none_at counts keys [] n stores have has = tt
 none_at counts keys (h ∷ hs) n stores have has =
     subst (NoneAt n) (sym (left_then counts h hs stores)) (by (λ g. none_at counts keys hs n (after_one counts h stores) have.1 g) (cases_eq h.holder n))
   where
     later : List Leaver
-    later = (adding (after_one counts h stores) counts hs).left
+    later = (stores_and_leavers (after_one counts h stores) counts hs).left
 
     by : (HasKey (keys n) (stored_at (after_one counts h stores) n) → NoneAt n later) → (h.holder ≡ n) ⊎ (h.holder ≡ n → ⊥) → NoneAt n (out_by counts h stores ++ later)
     by rest (inl e) =

@@ -8,7 +8,7 @@ use Rattle.fx_base.specs.declared.counts.Counts.{Counts}
 use Rattle.fx_layout.specs.Keys.{Key, same_key}
 use Rattle.fx_layout.proofs.Projections.{same_key_is}
 use Rattle.fx_tables.specs.declared.record.Record.{Record}
-use Rattle.fx_base.specs.Entries.{numbered}
+use Rattle.fx_base.specs.Entries.{entry_numbered}
 use Rattle.fx_machine.specs.States.{without}
 use Rattle.fx_machine.specs.Sums.{total_at}
 use Rattle.fx_store.specs.Flows.{Flows}
@@ -59,7 +59,7 @@ total_left (t ∷ ts) (suc n) r q h g = by (total_left ts n r q h.1 g) (same_key
   by ih true false e f = rw (e, f) refl
   by ih false c e f = ap (λ (b : Bool). cond b (Some t.counts) (total_at (left ts n) q)) e ∙ ih ∙ sym (ap (λ (b : Bool). cond (same_key r.key q) None (cond b (Some t.counts) (total_at ts q))) e)
 
-pub held_left : (held : Flows) (rs : List Record) (number : ℕ) (r : Record) → IsHeld held rs → numbered rs number ≡ Some r → IsHeld (remove held r.key) (without rs number)
+pub held_left : (held : Flows) (rs : List Record) (number : ℕ) (r : Record) → IsHeld held rs → entry_numbered rs number ≡ Some r → IsHeld (remove held r.key) (without rs number)
 held_left held rs zero r h g = absurd cc
 held_left held rs (suc n) r h g = record {
   differ = differ_left rs n h.differ;
@@ -86,11 +86,11 @@ stands (t ∷ ts) key counts e = by (λ f. stands ts key counts f) (same_key t.k
       let h = ih (sym (ap (λ (b : Bool). cond b (Some t.counts) (total_at ts key)) s) ∙ e) in
       record { place = suc h.place; there = h.there }
 
-pub entry_is_held : (held : Flows) (rs : List Record) (key : Key) (counts : Counts) → IsHeld held rs → get held key ≡ Some counts → (number : ℕ) × (numbered rs number ≡ Some (record { key = key; counts = counts }))
+pub entry_is_held : (held : Flows) (rs : List Record) (key : Key) (counts : Counts) → IsHeld held rs → get held key ≡ Some counts → (number : ℕ) × (entry_numbered rs number ≡ Some (record { key = key; counts = counts }))
 entry_is_held held rs key counts h g = let s = stands rs key counts (h.same key ∙ g) in (suc s.place, s.there)
 
 pub leavings_are_made : (held : Flows) (rs : List Record) (key : Key) (counts : Counts) → IsHeld held rs → get held key ≡ Some counts
-    → (number : ℕ) × (numbered rs number ≡ Some (record { key = key; counts = counts })) × IsHeld (remove held key) (without rs number)
+    → (number : ℕ) × (entry_numbered rs number ≡ Some (record { key = key; counts = counts })) × IsHeld (remove held key) (without rs number)
 leavings_are_made held rs key counts h g =
     let e = entry_is_held held rs key counts h g in
     (e.0, e.1, held_left held rs e.0 (record { key = key; counts = counts }) h e.1)

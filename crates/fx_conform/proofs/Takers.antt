@@ -9,7 +9,7 @@ use Rattle.fx_machine.specs.Holds.{hold_all}
 use Rattle.fx_net.specs.Stores.{Stored, unbounded, bounded, with_counts, makes_room}
 use Rattle.fx_net.specs.Contents.{stored_at, is_immediate}
 use Rattle.fx_net.specs.Leaving.{leaver}
-use Rattle.fx_net.specs.Taking.{Adding, left_by, adding, all_leave_at_once}
+use Rattle.fx_net.specs.Taking.{Adding, left_by, stores_and_leavers, all_leave_at_once}
 use Rattle.fx_conform.specs.Held.{Leaver, AreHeld, AllLeave}
 use Rattle.fx_conform.specs.Usable.{AreUsable}
 use Rattle.fx_conform.specs.TakingIn.{AreThere, IsUnbounded, AreUnbounded, Join}
@@ -60,22 +60,22 @@ all_unbounded : (counts : Counts) (h : Holding) (hs : List Holding) (stores : Li
 all_unbounded counts h [] stores u = tt
 all_unbounded counts h (g ∷ hs) stores u = (unbounded_then counts h stores g.holder u.0, all_unbounded counts h hs stores u.1)
 
-pub stay_unbounded : (counts : Counts) (hs : List Holding) (stores : List (Option Stored)) (n : ℕ) → IsUnbounded (stored_at stores n) → IsUnbounded (stored_at (adding stores counts hs).stores n)
+pub stay_unbounded : (counts : Counts) (hs : List Holding) (stores : List (Option Stored)) (n : ℕ) → IsUnbounded (stored_at stores n) → IsUnbounded (stored_at (stores_and_leavers stores counts hs).stores n)
 stay_unbounded counts [] stores n u = u
 stay_unbounded counts (h ∷ hs) stores n u =
     subst (λ (ss : List (Option Stored)). IsUnbounded (stored_at ss n)) (sym (stores_then counts h hs stores)) (stay_unbounded counts hs (after_one counts h stores) n (unbounded_then counts h stores n u))
 
-all_stay : (counts : Counts) (gs hs : List Holding) (stores : List (Option Stored)) → AreUnbounded stores hs → AreUnbounded (adding stores counts gs).stores hs
+all_stay : (counts : Counts) (gs hs : List Holding) (stores : List (Option Stored)) → AreUnbounded stores hs → AreUnbounded (stores_and_leavers stores counts gs).stores hs
 all_stay counts gs [] stores u = tt
 all_stay counts gs (h ∷ hs) stores u = (stay_unbounded counts gs stores h.holder u.0, all_stay counts gs hs stores u.1)
 
 -- ---- nothing leaves
 
-none_left : (counts : Counts) (hs : List Holding) (stores : List (Option Stored)) → AreUnbounded stores hs → (adding stores counts hs).left ≡ []
+none_left : (counts : Counts) (hs : List Holding) (stores : List (Option Stored)) → AreUnbounded stores hs → (stores_and_leavers stores counts hs).left ≡ []
 none_left counts [] stores u = refl
 none_left counts (h ∷ hs) stores u =
     left_then counts h hs stores
-    ∙ ap (λ (o : Option _). left_by h.holder o ++ (adding (after_one counts h stores) counts hs).left) (pushes_none h.key counts (stored_at stores h.holder) u.0)
+    ∙ ap (λ (o : Option _). left_by h.holder o ++ (stores_and_leavers (after_one counts h stores) counts hs).left) (pushes_none h.key counts (stored_at stores h.holder) u.0)
     ∙ none_left counts hs (after_one counts h stores) (all_unbounded counts h hs stores u.1)
 
 none_at_once : (counts : Counts) (hs : List Holding) (stores : List (Option Stored)) → AreUnbounded stores hs → all_leave_at_once stores counts hs ≡ []
@@ -93,7 +93,7 @@ apart_unbounded counts (h ∷ hs) stores u =
 
 pub takers_join : (stores : List (Option Stored)) (held : List (List Record)) (counts : Counts) (hs : List Holding) → AreHeld stores held → AreUsable stores → AreUnbounded stores hs → Join stores counts hs held
 takers_join stores held counts hs h u all =
-    let a : Adding = adding stores counts hs in
+    let a : Adding = stores_and_leavers stores counts hs in
     let there = are_there stores hs all in
     let t = takes_in counts hs (λ n. []) stores held there (apart_unbounded counts hs stores all) (held_stand stores held h u) in
     let there2 : AreThere (length a.stores) hs = subst (λ (n : ℕ). AreThere n hs) (sym (as_many counts hs (record { stores = stores; left = [] }))) there in

@@ -11,18 +11,18 @@ use Rattle.fx_ranks.specs.Ranks.{IsWhole}
 use Rattle.fx_net.specs.Contents.{Contents}
 use Rattle.fx_net.specs.Doings.{EmptiesNetwork}
 use Rattle.fx_net.specs.Stores.{Stored}
-use Rattle.fx_net.specs.Taking.{adding}
+use Rattle.fx_net.specs.Taking.{stores_and_leavers}
 use Rattle.fx_conform.specs.Emptying.{count_in, without_leasts}
 use Rattle.fx_conform.specs.OnLinks.{NoOctets}
 use Rattle.fx_conform.specs.Usable.{AreUsable}
 
 -- a step can name the holder
-abbrev pub IsNamed : Net → ℕ → Type 0
-IsNamed net holder = (name : HolderName) × (holder_place net name ≡ Some holder)
+abbrev pub CanBeNamed : Net → ℕ → Type 0
+CanBeNamed net holder = (name : HolderName) × (holder_place net name ≡ Some holder)
 
 -- what holds records can be named
 abbrev pub OnlyNamedHold : Net → List (Option Stored) → Type 0
-OnlyNamedHold net stores = (place : ℕ) → IsNamed net place ⊎ (count_in stores place ≡ 0)
+OnlyNamedHold net stores = (place : ℕ) → CanBeNamed net place ⊎ (count_in stores place ≡ 0)
 
 -- no record waits for its message, and no octets to be put out
 abbrev pub NothingWaits : List Ongoing → Type 0
@@ -37,8 +37,8 @@ NothingIsStored stores = (place : ℕ) → count_in stores place ≡ 0
 abbrev pub TakingStaysNamed : Type 0
 TakingStaysNamed =
     (net : Net) (stores : List (Option Stored)) (counts : Counts) (hs : List Holding)
-    → OnlyNamedHold net stores → AllByRecursion (λ (h : Holding). IsNamed net h.holder) hs
-    → OnlyNamedHold net (adding stores counts hs).stores
+    → OnlyNamedHold net stores → AllByRecursion (λ (h : Holding). CanBeNamed net h.holder) hs
+    → OnlyNamedHold net (stores_and_leavers stores counts hs).stores
 
 -- What leaves leaves no more than there was.
 abbrev pub LeavingStaysNamed : Type 0

@@ -5,11 +5,11 @@ use Rattle.fx_base.specs.Device.{Writes}
 use Rattle.fx_tables.specs.declared.packet.Packet.{Packet}
 use Rattle.fx_tables.specs.declared.record.Record.{Record}
 use Rattle.fx_run_text.specs.declared.step.Step.{Step}
-use Rattle.fx_tables.specs.Network.{Net, Aggregation, aggregations_of}
+use Rattle.fx_tables.specs.Network.{Net, AggregationEntry, aggregations_of}
 use Rattle.fx_tables.specs.Classes.{Class}
 use Rattle.fx_tables.specs.Ranks.{IsNetwork}
 use Rattle.fx_tables.specs.Runnable.{IsRunnable}
-use Rattle.fx_machine.specs.States.{State, opening, told}
+use Rattle.fx_machine.specs.States.{State, opening, told_state}
 use Rattle.fx_machine.specs.Steps.{run}
 use Rattle.fx_collect.specs.Totals.{totals_in}
 use Rattle.fx_link.specs.Links.{Put}
@@ -36,7 +36,7 @@ pub record IsSound (net : Net) : Type 0 where
 abbrev pub AreBoundless : Net → List (Option Stored) → Type 0
 AreBoundless net stores =
     (process : ℕ)
-    → AllByRecursion (λ (a : Aggregation). IsUnbounded (stored_at stores a.holder)) (aggregations_of (slice_get net.processes process))
+    → AllByRecursion (λ (a : AggregationEntry). IsUnbounded (stored_at stores a.holder)) (aggregations_of (slice_get net.processes process))
 
 -- each holder holds one record for each flow of its store
 pub record StoresConform (net : Net) (stores : List (Option Stored)) (holding : List (List Record)) : Type 0 where
@@ -62,5 +62,5 @@ pub record Conforms (net : Net) (classes : List Class) (begin put : Put) (c : Co
   pub stores : StoresConform net c.stores s.held
   pub links : AreStill history (put_by_run net classes packets steps) c.links s.carried
   pub chosen : AllUsable net c.chosen
-  pub totals : c.totals ≡ totals_in net.report_layout (told s)
+  pub totals : c.totals ≡ totals_in net.report_layout (told_state s)
   pub second : c.second < 2 ^ 32

@@ -28,8 +28,8 @@ count_in stores place = count_of (stored_at stores place)
 -- ---- the laws
 
 -- The record of the least key leaves, and the stores are what is held.
-abbrev pub LeastLeaves : Type 0
-LeastLeaves =
+abbrev pub LeastRecordsLeave : Type 0
+LeastRecordsLeave =
     (stores : List (Option Stored)) (held : List (List Record)) (place : ℕ) (e : Entry)
     → AreHeld stores held → AreUsable stores → least_of (stored_at stores place) ≡ Some e
     → (now : List (List Record)) × Leave (leaver place e) held now

@@ -3,7 +3,7 @@ use Rattle.std.specs.Prelude.{◌≡◌, ℕ, List, [], ◌∷◌, Option, Some,
 use Rattle.std.specs.FinMap.{get}
 use Rattle.fx_layout.specs.Keys.{Key}
 use Rattle.fx_tables.specs.declared.record.Record.{Record}
-use Rattle.fx_base.specs.Entries.{numbered}
+use Rattle.fx_base.specs.Entries.{entry_numbered}
 use Rattle.fx_machine.specs.States.{without}
 use Rattle.fx_machine.specs.Sums.{total_at}
 use Rattle.fx_store.specs.Flows.{Flows}
@@ -31,19 +31,19 @@ AreHeld _ _ = ⊥
 
 -- ---- what leaves
 
-abbrev pub Made : {A : Type 0} {B : Type 0} → (A → B) → Type 0
-Made {A} {B} make = B
+abbrev pub ResultOf : {A : Type 0} {B : Type 0} → (A → B) → Type 0
+ResultOf {A} {B} make = B
 
 -- a record that leaves a holder: what `leaver` makes, which has no name outside of its crate
 abbrev pub Leaver : Type 0
-Leaver = Made (leaver 0)
+Leaver = ResultOf (leaver 0)
 
 -- the record is held by its holder, and is taken out
 pub record Leave (l : Leaver) (held now : List (List Record)) : Type 0 where
   pub number : ℕ
   pub rs : List Record
   pub there : slice_get held l.holder ≡ Some rs
-  pub flow_is : numbered rs number ≡ Some l.flow
+  pub flow_is : entry_numbered rs number ≡ Some l.flow
   pub now_is : now ≡ slice_set held l.holder (without rs number)
 
 -- one after another

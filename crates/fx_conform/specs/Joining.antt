@@ -4,17 +4,17 @@ use Rattle.std.specs.FinMap.{get, remove}
 use Rattle.fx_base.specs.declared.counts.Counts.{Counts}
 use Rattle.fx_layout.specs.Keys.{Key, same_key}
 use Rattle.fx_tables.specs.declared.record.Record.{Record}
-use Rattle.fx_base.specs.Entries.{numbered}
+use Rattle.fx_base.specs.Entries.{entry_numbered}
 use Rattle.fx_machine.specs.Acts.{taken_in}
 use Rattle.fx_machine.specs.States.{without}
 use Rattle.fx_machine.specs.Sums.{total_at}
-use Rattle.fx_store.specs.Flows.{Flows, added}
+use Rattle.fx_store.specs.Flows.{Flows, with_added}
 use Rattle.fx_conform.specs.Held.{IsHeld}
 
 -- the choice is the number of the held record of the key, and a new record where there is none
 abbrev pub Chooses : List Record → Key → Option ℕ → Type 0
 Chooses rs key None = total_at rs key ≡ None
-Chooses rs key (Some number) = (r : Record) × (numbered rs number ≡ Some r) × (same_key r.key key ≡ true)
+Chooses rs key (Some number) = (r : Record) × (entry_numbered rs number ≡ Some r) × (same_key r.key key ≡ true)
 
 -- ---- the laws
 
@@ -25,12 +25,12 @@ JoinsAreMade =
     (held : Flows) (rs : List Record) (key : Key) (counts : Counts) → IsHeld held rs
     → (choice : Option ℕ) × (new : List Record) × Chooses rs key choice
     × (taken_in rs choice (record { key = key; counts = counts }) ≡ Some new)
-    × IsHeld (added held key counts) new
+    × IsHeld (with_added held key counts) new
 
 -- A flow is held by one record; when it leaves, there is one for each other flow.
 abbrev pub LeavingsAreMade : Type 0
 LeavingsAreMade =
     (held : Flows) (rs : List Record) (key : Key) (counts : Counts) → IsHeld held rs
     → get held key ≡ Some counts
-    → (number : ℕ) × (numbered rs number ≡ Some (record { key = key; counts = counts }))
+    → (number : ℕ) × (entry_numbered rs number ≡ Some (record { key = key; counts = counts }))
     × IsHeld (remove held key) (without rs number)

@@ -9,9 +9,9 @@ use Rattle.fx_link.specs.Ongoing.{Ongoing, at_rest, after_finish, after_carry}
 use Rattle.fx_link.specs.Outgoing.{with_all}
 use Rattle.fx_link.specs.Sending.{IsSent, KeepsUp}
 use Rattle.fx_link.specs.Wires.{Wire, on_link, InStep}
-use Rattle.fx_runs.specs.Given.{given}
+use Rattle.fx_runs.specs.Given.{records_given}
 use Rattle.fx_net.specs.Arriving.{waiting_on, with_left}
-use Rattle.fx_net.specs.Contents.{changed}
+use Rattle.fx_net.specs.Contents.{with_changed}
 use Rattle.fx_net.specs.Exporting.{put_each}
 use Rattle.fx_net.specs.Finishing.{HasRoom, to_put_on}
 use Rattle.fx_net.specs.Opening.{new_links}
@@ -26,7 +26,7 @@ pub record AreRead (octets : List ℕ) (rs : List Record) : Type 0 where
   pub fault : (fed start octets).fault ≡ None
 
 -- A link between two times at which nothing is on its way, on which all these octets were put since the start.
-pub record IsKept (wire : Wire) (history : List ℕ) (before : List Record) : Type 0 where
+pub record IsLinkAtRest (wire : Wire) (history : List ℕ) (before : List Record) : Type 0 where
   pub in_step : InStep wire
   -- no octet that has reached the receiver completes anything more
   pub settled : fed wire.receiver [] ≡ wire.receiver
@@ -38,7 +38,7 @@ pub record IsKept (wire : Wire) (history : List ℕ) (before : List Record) : Ty
 -- Nothing waits on the link: the records on it are in its octets. All these octets and records were put on it.
 pub record IsStill (history : List ℕ) (all : List Record) (o : Ongoing) (rs : List Record) : Type 0 where
   pub wire : Wire
-  pub kept : IsKept wire history all
+  pub kept : IsLinkAtRest wire history all
   pub ongoing_is : o ≡ at_rest wire
   pub records_are : rs ≡ on_link wire
   pub sent : AllByRecursion IsSent rs
@@ -49,7 +49,7 @@ pub record IsCarried (time : ℕ) (pending : List Record) (history : List ℕ) (
   pub wire : Wire
   pub before : List Record
   pub put : List Record
-  pub kept : IsKept wire history before
+  pub kept : IsLinkAtRest wire history before
   pub ongoing_is : o ≡ record (at_rest wire) { outgoing = with_all time (at_rest wire).outgoing put }
   pub records_are : rs ≡ pending ++ (on_link wire ++ put)
   pub all_are : all ≡ before ++ put
@@ -93,7 +93,7 @@ PutsAreCarried =
     (time : ℕ) (pending : ℕ → List Record) (history : ℕ → List ℕ) (all : ℕ → List Record)
     (links : List Ongoing) (carried : List (List Record)) (r : Record) (places : List ℕ)
     → AreCarried time pending history all links carried → IsSent r
-    → AreCarried time pending history (λ link. all link ++ given places r link)
+    → AreCarried time pending history (λ link. all link ++ records_given places r link)
     (put_each time r places links) (put_all places r carried)
 
 -- Once what waits is put out, nothing waits.
@@ -106,17 +106,17 @@ FinishingStills =
 
 -- the links once so many octets have reached the receiver of one, which has given its records out
 abbrev pub with_octets_carried : ℕ → ℕ → List Ongoing → List Ongoing
-with_octets_carried link n links = changed (with_left []) (changed (after_carry n) links link) link
+with_octets_carried link n links = with_changed (with_left []) (with_changed (after_carry n) links link) link
 
-abbrev pub arrived : ℕ → ℕ → List Ongoing → List Record
-arrived link n links = waiting_on (slice_get (changed (after_carry n) links link) link)
+abbrev pub arrivals : ℕ → ℕ → List Ongoing → List Record
+arrivals link n links = waiting_on (slice_get (with_changed (after_carry n) links link) link)
 
 -- Octets that are carried complete the first records on the link, which have arrived then.
 abbrev pub CarriedArrive : Type 0
 CarriedArrive =
     (time link n : ℕ) (history : ℕ → List ℕ) (all : ℕ → List Record) (links : List Ongoing) (carried : List (List Record))
     → link < length links → AreStill history all links carried
-    → AreCarried time (pending_from link (arrived link n links)) history all (with_octets_carried link n links) carried
+    → AreCarried time (pending_from link (arrivals link n links)) history all (with_octets_carried link n links) carried
 
 -- The first record that has arrived is the first on its link, and leaves it.
 abbrev pub ArrivedLeave : Type 0

@@ -11,7 +11,7 @@ use Rattle.fx_tables.specs.Network.{Net}
 use Rattle.fx_net.specs.declared.action.Action.{Action}
 use Rattle.fx_net.specs.declared.action.Action.TheVariants as action
 use Rattle.fx_net.specs.Doings.{caches_of_all, holders_of, leads_to, link_places, reads_packet}
-use Rattle.fx_net.specs.Schedule.{Asks}
+use Rattle.fx_net.specs.Schedule.{AsksFor}
 
 -- records leave holders
 abbrev pub AreExpiries : List Step → Type 0
@@ -73,7 +73,7 @@ AreRowsThen classes then_ false asked n packets steps =
 abbrev pub AreRows : List Class → List (List ℕ) → ℕ → List Packet → List Step → Type 0
 AreRows classes [] n packets steps = (packets ≡ []) × (steps ≡ [])
 AreRows classes (line ∷ lines) n packets steps =
-    (asked : Action) × Asks line asked × AreRowsThen classes (AreRows classes lines) (reads_packet asked) asked n packets steps
+    (asked : Action) × AsksFor line asked × AreRowsThen classes (AreRows classes lines) (reads_packet asked) asked n packets steps
 
 -- ---- the closing phase
 

@@ -8,11 +8,11 @@ use Rattle.fx_layout.specs.Keys.{Key, IsLayout, HasBits}
 use Rattle.fx_tables.specs.declared.holding.Holding.{Holding}
 use Rattle.fx_tables.specs.declared.observation.Occurrence.{Occurrence}
 use Rattle.fx_tables.specs.declared.record.Record.{Record}
-use Rattle.fx_tables.specs.Network.{Holder, Aggregation, layout_of}
+use Rattle.fx_tables.specs.Network.{Holder, AggregationEntry, layout_of}
 use Rattle.fx_machine.specs.Acts.{Choices}
 use Rattle.fx_machine.specs.Holds.{hold_all}
 use Rattle.fx_tables.specs.Holdings.{met_holdings}
-use Rattle.fx_tables.specs.Takers.{aggregated}
+use Rattle.fx_tables.specs.Takers.{intakes}
 use Rattle.fx_link.specs.Sending.{IsSent}
 use Rattle.fx_conform.specs.Held.{Leaver, Leave}
 
@@ -46,8 +46,8 @@ MetCanBeSent =
 -- So have keys that aggregations project.
 abbrev pub AggregatedCanBeSent : Type 0
 AggregatedCanBeSent =
-    (holders : List Holder) (key : Key) (aggregations : List Aggregation)
-    → HaveLayouts holders → IsKey key → HaveRightKeys (aggregated holders key aggregations)
+    (holders : List Holder) (key : Key) (aggregations : List AggregationEntry)
+    → HaveLayouts holders → IsKey key → HaveRightKeys (intakes holders key aggregations)
 
 -- What leaves can be sent, and what stays.
 abbrev pub LeavingsCanBeSent : Type 0

@@ -7,14 +7,14 @@ use Rattle.fx_layout.specs.Keys.{Key, key_of, project}
 use Rattle.fx_tables.specs.declared.holding.Holding.{Holding}
 use Rattle.fx_tables.specs.declared.observation.Occurrence.{Occurrence}
 use Rattle.fx_tables.specs.declared.record.Record.{Record}
-use Rattle.fx_tables.specs.Network.{Holder, Aggregation, layout_of}
+use Rattle.fx_tables.specs.Network.{Holder, AggregationEntry, layout_of}
 use Rattle.fx_machine.specs.Acts.{Choices}
 use Rattle.fx_machine.specs.Holds.{hold_all}
 use Rattle.fx_tables.specs.Holdings.{met_holdings}
-use Rattle.fx_tables.specs.Takers.{aggregated}
+use Rattle.fx_tables.specs.Takers.{intakes}
 use Rattle.fx_net.specs.Stores.{Stored, unbounded, bounded}
 use Rattle.fx_net.specs.Contents.{stored_at}
-use Rattle.fx_net.specs.Taking.{adding, all_leave_at_once}
+use Rattle.fx_net.specs.Taking.{stores_and_leavers, all_leave_at_once}
 use Rattle.fx_conform.specs.Held.{AreHeld, AllLeave}
 use Rattle.fx_conform.specs.Usable.{AreUsable}
 
@@ -39,11 +39,11 @@ pub record TakesIn (stores : List (Option Stored)) (counts : Counts) (hs : List 
   pub now : List (List Record)
   pub final : List (List Record)
   pub choices : Choices
-  pub makes_room : AllLeave (adding stores counts hs).left held room
+  pub makes_room : AllLeave (stores_and_leavers stores counts hs).left held room
   pub taken_in : hold_all counts hs room choices ≡ Some now
-  pub at_once : AllLeave (all_leave_at_once (adding stores counts hs).stores counts hs) now final
-  pub held_then : AreHeld (adding stores counts hs).stores final
-  pub usable_then : AreUsable (adding stores counts hs).stores
+  pub at_once : AllLeave (all_leave_at_once (stores_and_leavers stores counts hs).stores counts hs) now final
+  pub held_then : AreHeld (stores_and_leavers stores counts hs).stores final
+  pub usable_then : AreUsable (stores_and_leavers stores counts hs).stores
 
 abbrev pub IsUnbounded : Option Stored → Type 0
 IsUnbounded None = ⊥
@@ -57,12 +57,12 @@ AreUnbounded stores hs = AllByRecursion (λ (h : Holding). IsUnbounded (stored_a
 pub record Join (stores : List (Option Stored)) (counts : Counts) (hs : List Holding) (held : List (List Record)) : Type 0 where
   pub now : List (List Record)
   pub choices : Choices
-  pub none_left : (adding stores counts hs).left ≡ []
+  pub none_left : (stores_and_leavers stores counts hs).left ≡ []
   pub taken_in : hold_all counts hs held choices ≡ Some now
-  pub none_at_once : all_leave_at_once (adding stores counts hs).stores counts hs ≡ []
-  pub held_then : AreHeld (adding stores counts hs).stores now
-  pub usable_then : AreUsable (adding stores counts hs).stores
-  pub unbounded_then : AreUnbounded (adding stores counts hs).stores hs
+  pub none_at_once : all_leave_at_once (stores_and_leavers stores counts hs).stores counts hs ≡ []
+  pub held_then : AreHeld (stores_and_leavers stores counts hs).stores now
+  pub usable_then : AreUsable (stores_and_leavers stores counts hs).stores
+  pub unbounded_then : AreUnbounded (stores_and_leavers stores counts hs).stores hs
 
 -- ---- the laws
 
@@ -73,8 +73,8 @@ MetHaveKeys =
 
 abbrev pub AggregatedHaveKeys : Type 0
 AggregatedHaveKeys =
-    (holders : List Holder) (key : Key) (aggregations : List Aggregation)
-    → HaveKeys (record_key holders key) (aggregated holders key aggregations)
+    (holders : List Holder) (key : Key) (aggregations : List AggregationEntry)
+    → HaveKeys (record_key holders key) (intakes holders key aggregations)
 
 -- Holders take counts in, where two records at one holder have one key.
 abbrev pub TakingIn : Type 0

@@ -2,26 +2,26 @@
 use Rattle.std.specs.Prelude.{◌≡◌, ℕ, suc, ◌<◌, List, [], ◌∷◌, ◌++◌, length, Ok, All}
 use Rattle.serde_json.specs.Data.{Data}
 use Rattle.fx_base.specs.Device.{Writes}
-use Rattle.fx_base.specs.Lines.{Lines, AtLine, AtEnd as LinesEnd}
+use Rattle.fx_base.specs.Lines.{Lines, AtLine, AtTextEnd as LinesEnd}
 use Rattle.fx_layout.specs.Keys.{Key}
 use Rattle.fx_tables.specs.declared.packet.Packet.{Packet}
 use Rattle.fx_run_text.specs.declared.step.Step.{Step}
 use Rattle.fx_tables.specs.Network.{Net}
-use Rattle.fx_base.specs.Entries.{numbered}
+use Rattle.fx_base.specs.Entries.{entry_numbered}
 use Rattle.fx_tables.specs.Classes.{Class, IsOf, to_count}
 use Rattle.fx_machine.specs.Claim.{ExactlyOnce}
-use Rattle.fx_machine.specs.States.{State, Complete, opening, told}
+use Rattle.fx_machine.specs.States.{State, Complete, opening, told_state}
 use Rattle.fx_machine.specs.Steps.{run}
 use Rattle.fx_machine.specs.Sums.{SumsFit, plain_sum, total_at}
 use Rattle.fx_collect.specs.Totals.{Totals, totals_in}
 use Rattle.fx_link.specs.Links.{Put}
 use Rattle.fx_pcap.specs.Captures as captures
-use Rattle.fx_topology.specs.declared.network.Network.{Network}
+use Rattle.fx_topology.specs.declared.network.NetworkDocument.{NetworkDocument}
 use Rattle.fx_ranks.specs.Ranks.{IsWhole}
 use Rattle.fx_plan.specs.Tables.{net_of}
 use Rattle.fx_traffic.specs.Classes.{traffic_faults, traffic_of}
 use Rattle.fx_net.specs.Doings.{IsFrame}
-use Rattle.fx_net.specs.Running.{RunsTo, begun, GoesOn}
+use Rattle.fx_net.specs.Running.{RunsTo, begun, GoesOnToFrames}
 use Rattle.fx_conform.specs.Conforming.{IsSound, put_by_run}
 use Rattle.fx_conform.specs.OnLinks.{AreRead}
 use Rattle.fx_conform.specs.Rows.{AreRows, IsClosing}
@@ -29,7 +29,7 @@ use Rattle.fx_conform.specs.Rows.{AreRows, IsClosing}
 -- each frame has its packet, in a class that holds it and with one of its paths
 abbrev pub AreOf : List Class → List captures.Seen → List Packet → Type 0
 AreOf classes [] [] = Unit {0}
-AreOf classes (frame ∷ frames) (p ∷ packets) = IsFrame p frame × IsOf p (numbered classes p.class) × AreOf classes frames packets
+AreOf classes (frame ∷ frames) (p ∷ packets) = IsFrame p frame × IsOf p (entry_numbered classes p.class) × AreOf classes frames packets
 AreOf classes [] (p ∷ packets) = ⊥
 AreOf classes (frame ∷ frames) [] = ⊥
 
@@ -62,11 +62,11 @@ pub record AreInOrder (net : Net) (classes : List Class) (from to : Lines) (pack
 
 -- The capture's frames in order are the packets of a complete run, whose steps are those of the schedule's lines and
 -- then of the closing phase. The totals are that run's, and the octets on each link are its records.
-pub record IsRunOf (net : Net) (classes : List Class) (at to : captures.Reading) (from_line to_line : Lines) (before after : Put) (totals : Totals) : Type 0 where
+pub record IsRunOf (net : Net) (classes : List Class) (at to : captures.CaptureState) (from_line to_line : Lines) (before after : Put) (totals : Totals) : Type 0 where
   pub frames : List captures.Seen
-  pub last : captures.Reading
-  pub goes_on : GoesOn at last frames
-  pub end : captures.AtEnd last to
+  pub last : captures.CaptureState
+  pub goes_on : GoesOnToFrames at last frames
+  pub end : captures.AtCaptureEnd last to
   pub packets : List Packet
   pub are_of : AreOf classes frames packets
   pub steps : List Step
@@ -74,7 +74,7 @@ pub record IsRunOf (net : Net) (classes : List Class) (at to : captures.Reading)
   pub run_is : run net classes packets steps (opening net classes packets) ≡ Ok final
   pub complete : Complete final
   pub in_order : AreInOrder net classes from_line to_line packets steps
-  pub totals_are : totals ≡ totals_in net.report_layout (told final)
+  pub totals_are : totals ≡ totals_in net.report_layout (told_state final)
   pub read : (link : ℕ) → link < length net.links → IsReadOn net classes packets steps before after link
 
 -- each class has a path
@@ -91,7 +91,7 @@ DeclarationsHavePaths =
 -- Where a running network comes to totals, there is such a run.
 abbrev pub RunsAreComplete : Type 0
 RunsAreComplete =
-    (network : Network) (classes : List Class) (at to : captures.Reading) (from last : Lines) (before after : Put) (totals : Totals)
+    (network : NetworkDocument) (classes : List Class) (at to : captures.CaptureState) (from last : Lines) (before after : Put) (totals : Totals)
     → IsSound (net_of network) → HavePaths classes
     → RunsTo (begun network classes) at to from last before after totals
     → IsRunOf (net_of network) classes at to from last before after totals
@@ -105,7 +105,7 @@ pub record ArePlainSums (net : Net) (packets : List Packet) (totals : Totals) : 
 -- 64 bits.
 abbrev pub TotalsArePlainSums : Type 0
 TotalsArePlainSums =
-    (net : Net) (classes : List Class) (at to : captures.Reading) (from last : Lines) (before after : Put) (totals : Totals)
+    (net : Net) (classes : List Class) (at to : captures.CaptureState) (from last : Lines) (before after : Put) (totals : Totals)
     (of_run : IsRunOf net classes at to from last before after totals)
     → ExactlyOnce net classes → SumsFit net.report_layout (to_count classes of_run.packets)
     → ArePlainSums net (to_count classes of_run.packets) totals

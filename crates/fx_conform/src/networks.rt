@@ -21,6 +21,6 @@ pub fn plans_are_sound(plan: &Plan)
     ensures { IsSound (net_of plan.now) }
 {
     let net = plan.net();
-    let _ranked = plan.ranked();
+    let _ranked = plan.upwards();
     have_layouts(net.holders());
 }

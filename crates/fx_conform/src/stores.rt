@@ -1,7 +1,7 @@
 //! Laws of stores and of the records that holders of the abstract network hold.
 ghost use Rattle.fx_conform.specs.Beginning.{Begins};
 ghost use Rattle.fx_conform.specs.Joining.{JoinsAreMade, LeavingsAreMade};
-ghost use Rattle.fx_conform.specs.Emptying.{EmptiedHoldsNothing, EmptyingIsLeaving, LeastLeaves, LeastsLeave};
+ghost use Rattle.fx_conform.specs.Emptying.{EmptiedHoldsNothing, EmptyingIsLeaving, LeastRecordsLeave, LeastsLeave};
 ghost use Rattle.fx_conform.specs.TakingIn.{AggregatedHaveKeys, MetHaveKeys, TakersJoin, TakingIn};
 ghost use Rattle.fx_conform.specs.Usable.{AdditionsStayUsable, NewStoresAreUsable, RemovalsStayUsable};
 
@@ -23,7 +23,7 @@ pub fn stores_stay_usable()
 /// The record of a holder's least key leaves it, and the stores still are what is held. A holder from which it leaves
 /// as often as the holder has records holds nothing any more; that is how it is emptied.
 pub fn holders_are_emptied()
-    ensures least { LeastLeaves }
+    ensures least { LeastRecordsLeave }
     ensures leasts { LeastsLeave }
     ensures nothing { EmptiedHoldsNothing }
     ensures emptying { EmptyingIsLeaving }

@@ -7,7 +7,7 @@ use Rattle.std.proofs.lemmas.List.{length-replicate}
 use Rattle.std.proofs.lemmas.List.Sums.{fold-append}
 use Rattle.fx_elements.specs.declared.address6.Side.{Side}
 use Rattle.fx_elements.specs.Spelling.{◌>>=◌}
-use Rattle.fx_elements.specs.Address6.{groups_in, side_of, number_behind, cut_at_zeros, uncompressed_of, compressed_of, address6_of, no_groups, joined}
+use Rattle.fx_elements.specs.Address6.{groups_in, side_of, number_behind, cut_at_zeros, uncompressed_of, compressed_of, address6_of, no_groups, side_with}
 use Rattle.fx_elements.proofs.Cuts.{chosen}
 use Rattle.fx_elements.proofs.Addresses.{by_some, some_is}
 use Rattle.fx_elements.proofs.Sizes.{AreGroups, number_fits, all_both, all_zeros, groups_in_fit}
@@ -52,8 +52,8 @@ record Counted (o : Option (List ℕ)) (s : Side) : Type 0 where
   few : length groups ≤ 8
   value : s.value ≡ number_behind 0 groups
 
-counted : (o : Option (List ℕ)) (s : Side) → joined no_groups o ≡ Some s → Counted o s
-unfolding joined
+counted : (o : Option (List ℕ)) (s : Side) → side_with no_groups o ≡ Some s → Counted o s
+unfolding side_with
 counted None s e = absurd cc
 counted (Some gs) s e = elim (chosen (nat_le (0 + length gs) 8) _ None (Some s) e) [
   | inl h ↦
@@ -65,8 +65,8 @@ counted (Some gs) s e = elim (chosen (nat_le (0 + length gs) 8) _ None (Some s) 
   | inr h ↦ absurd cc
 ]
 
-too_many : (o : Option (List ℕ)) (gs : List ℕ) → joined no_groups o ≡ None → o ≡ Some gs → 8 < length gs
-unfolding joined
+too_many : (o : Option (List ℕ)) (gs : List ℕ) → side_with no_groups o ≡ None → o ≡ Some gs → 8 < length gs
+unfolding side_with
 too_many None gs e is = absurd cc
 too_many (Some hs) gs e is = elim (cases_lt 8 (length hs)) [
   | inl h ↦ let same : hs ≡ gs = some_is is in rw same at h
@@ -98,15 +98,15 @@ pub whole_is : (text : List ℕ) → cut_at_zeros text ≡ None → address6_of 
 unfolding address6_of
 whole_is text cut = rw (cut, address6_of) refl
 
-pub whole_none : (text : List ℕ) → cut_at_zeros text ≡ None → joined no_groups (side_of true text) ≡ None → address6_of text ≡ None
+pub whole_none : (text : List ℕ) → cut_at_zeros text ≡ None → side_with no_groups (side_of true text) ≡ None → address6_of text ≡ None
 whole_none text cut none = whole_is text cut ∙ bind_none (side_of true text) uncompressed_of (λ gs is. eight_not gs (λ e. let n = too_many (side_of true text) gs none is in omega (arith, n, e)))
 
-pub whole_other : (text : List ℕ) (s : Side) → cut_at_zeros text ≡ None → joined no_groups (side_of true text) ≡ Some s → s.count ≢ 8 → address6_of text ≡ None
+pub whole_other : (text : List ℕ) (s : Side) → cut_at_zeros text ≡ None → side_with no_groups (side_of true text) ≡ Some s → s.count ≢ 8 → address6_of text ≡ None
 whole_other text s cut is ne =
     let c = counted (side_of true text) s is in
     whole_is text cut ∙ ap (λ (o : Option (List ℕ)). o >>= uncompressed_of) c.are ∙ eight_not c.groups (λ e. ne (c.count ∙ e))
 
-pub whole_some : (text : List ℕ) (s : Side) → cut_at_zeros text ≡ None → joined no_groups (side_of true text) ≡ Some s → s.count ≡ 8 → address6_of text ≡ Some s.value
+pub whole_some : (text : List ℕ) (s : Side) → cut_at_zeros text ≡ None → side_with no_groups (side_of true text) ≡ Some s → s.count ≡ 8 → address6_of text ≡ Some s.value
 whole_some text s cut is all =
     let c = counted (side_of true text) s is in
     whole_is text cut ∙ ap (λ (o : Option (List ℕ)). o >>= uncompressed_of) c.are ∙ eight_is c.groups (sym c.count ∙ all) ∙ ap (λ (v : ℕ). Some v) (sym c.value)
@@ -133,17 +133,17 @@ parted_none : (text : List ℕ) (p : List ℕ × List ℕ) → cut_at_zeros text
 parted_none text p cut many =
     parted_is text p cut ∙ bind_none (side_of false p.0) _ (λ x hx. bind_none (side_of true p.1) _ (λ y hy. round_not x y (many x y hx hy)))
 
-pub before_none : (text : List ℕ) (p : List ℕ × List ℕ) → cut_at_zeros text ≡ Some p → joined no_groups (side_of false p.0) ≡ None → address6_of text ≡ None
+pub before_none : (text : List ℕ) (p : List ℕ × List ℕ) → cut_at_zeros text ≡ Some p → side_with no_groups (side_of false p.0) ≡ None → address6_of text ≡ None
 before_none text p cut none = parted_none text p cut (λ x y hx hy. let n = too_many (side_of false p.0) x none hx in omega (arith, n))
 
-pub after_none : (text : List ℕ) (p : List ℕ × List ℕ) → cut_at_zeros text ≡ Some p → joined no_groups (side_of true p.1) ≡ None → address6_of text ≡ None
+pub after_none : (text : List ℕ) (p : List ℕ × List ℕ) → cut_at_zeros text ≡ Some p → side_with no_groups (side_of true p.1) ≡ None → address6_of text ≡ None
 after_none text p cut none = parted_none text p cut (λ x y hx hy. let n = too_many (side_of true p.1) y none hy in omega (arith, n))
 
 same_sum : {a b c x y n : ℕ} → a ≡ x → b ≡ y → c ≡ n → x * 65536 * 65536 ^ (7 - n) + y ≡ a * 65536 * 65536 ^ (7 - c) + b
 same_sum p q r = rw (p, q, r) refl
 
 -- both sides are counted
-module _ (text : List ℕ) (p : List ℕ × List ℕ) (s t : Side) (cut : cut_at_zeros text ≡ Some p) (hs : joined no_groups (side_of false p.0) ≡ Some s) (ht : joined no_groups (side_of true p.1) ≡ Some t) where
+module _ (text : List ℕ) (p : List ℕ × List ℕ) (s t : Side) (cut : cut_at_zeros text ≡ Some p) (hs : side_with no_groups (side_of false p.0) ≡ Some s) (ht : side_with no_groups (side_of true p.1) ≡ Some t) where
   before : Counted (side_of false p.0) s
   before = counted (side_of false p.0) s hs
 

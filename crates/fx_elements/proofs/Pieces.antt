@@ -3,7 +3,7 @@ use Rattle.std.proofs.Common.{◌≡◌, ℕ, suc, ◌+◌, ◌*◌, ◌<◌, Bo
 use Rattle.std.proofs.lemmas.Bool.{lt-leb}
 use Rattle.fx_elements.specs.declared.address6.Side.{Side}
 use Rattle.fx_elements.specs.Spelling.{◌>>=◌, cut_at, put_before}
-use Rattle.fx_elements.specs.Address6.{any_group_of, put_first, pieces, last_of, groups_in, side_of, no_groups, joined}
+use Rattle.fx_elements.specs.Address6.{any_group_of, put_first, pieces, last_of, groups_in, side_of, no_groups, side_with}
 use Rattle.fx_elements.proofs.Cuts.{put_parts, chosen}
 use Rattle.fx_elements.proofs.Addresses.{some_is}
 use Rattle.fx_elements.proofs.Sizes.{groups_in_fit}
@@ -49,37 +49,37 @@ groups_more ends p text = let q = pieces_some text in rw q.2 refl
 abbrev pub with_group : Side → ℕ → Side
 with_group side g = record { count = side.count + 1; value = side.value * 65536 + g }
 
-joined_more : (side : Side) (g : ℕ) (o : Option (List ℕ)) → joined side (o >>= λ gs. Some (g ∷ gs)) ≡ joined (with_group side g) o
-unfolding joined
+joined_more : (side : Side) (g : ℕ) (o : Option (List ℕ)) → side_with side (o >>= λ gs. Some (g ∷ gs)) ≡ side_with (with_group side g) o
+unfolding side_with
 joined_more side g None = refl
 joined_more side g (Some gs) = let e : side.count + suc (length gs) ≡ side.count + 1 + length gs = omega arith in rw e refl
 
-pub side_more : (ends : Bool) (side : Side) (rest : List ℕ) (p : List ℕ × List ℕ) (g : ℕ) → cut_at 58 rest ≡ Some p → any_group_of p.0 ≡ Some g → joined side (groups_in ends (pieces rest)) ≡ joined (with_group side g) (groups_in ends (pieces p.1))
+pub side_more : (ends : Bool) (side : Side) (rest : List ℕ) (p : List ℕ × List ℕ) (g : ℕ) → cut_at 58 rest ≡ Some p → any_group_of p.0 ≡ Some g → side_with side (groups_in ends (pieces rest)) ≡ side_with (with_group side g) (groups_in ends (pieces p.1))
 side_more ends side rest p g cut is = rw (pieces_cut rest p cut, groups_more ends p.0 p.1, is) (joined_more side g (groups_in ends (pieces p.1)))
 
-pub side_stuck : (ends : Bool) (side : Side) (rest : List ℕ) (p : List ℕ × List ℕ) → cut_at 58 rest ≡ Some p → any_group_of p.0 ≡ None → joined side (groups_in ends (pieces rest)) ≡ None
-unfolding joined
+pub side_stuck : (ends : Bool) (side : Side) (rest : List ℕ) (p : List ℕ × List ℕ) → cut_at 58 rest ≡ Some p → any_group_of p.0 ≡ None → side_with side (groups_in ends (pieces rest)) ≡ None
+unfolding side_with
 side_stuck ends side rest p cut is = rw (pieces_cut rest p cut, groups_more ends p.0 p.1, is) refl
 
-pub side_last : (ends : Bool) (side : Side) (rest : List ℕ) → cut_at 58 rest ≡ None → joined side (groups_in ends (pieces rest)) ≡ joined side (last_of ends rest)
+pub side_last : (ends : Bool) (side : Side) (rest : List ℕ) → cut_at 58 rest ≡ None → side_with side (groups_in ends (pieces rest)) ≡ side_with side (last_of ends rest)
 unfolding groups_in
 side_last ends side rest cut = rw (pieces_whole rest cut) refl
 
 -- a ninth group is one too many
-past_eight : (side : Side) (o : Option (List ℕ)) → side.count ≡ 8 → ((gs : List ℕ) → o ≡ Some gs → 0 < length gs) → joined side o ≡ None
-unfolding joined
+past_eight : (side : Side) (o : Option (List ℕ)) → side.count ≡ 8 → ((gs : List ℕ) → o ≡ Some gs → 0 < length gs) → side_with side o ≡ None
+unfolding side_with
 past_eight side None full h = refl
 past_eight side (Some gs) full h = let some = h gs refl in rw (lt-leb (side.count + length gs) 8 (omega (arith, full, some))) refl
 
-pub side_full : (ends : Bool) (side : Side) (rest : List ℕ) → side.count ≡ 8 → joined side (groups_in ends (pieces rest)) ≡ None
+pub side_full : (ends : Bool) (side : Side) (rest : List ℕ) → side.count ≡ 8 → side_with side (groups_in ends (pieces rest)) ≡ None
 side_full ends side rest full =
     let q = pieces_some rest in
     rw q.2 (past_eight side (groups_in ends (q.0 ∷ q.1)) full (λ gs e. (groups_in_fit ends q.0 q.1 gs e).1))
 
 -- ---- where a side begins
 
-pub side_empty : (ends : Bool) (text : List ℕ) → eqb (length text) 0 ≡ true → joined no_groups (side_of ends text) ≡ Some no_groups
-unfolding side_of joined
+pub side_empty : (ends : Bool) (text : List ℕ) → eqb (length text) 0 ≡ true → side_with no_groups (side_of ends text) ≡ Some no_groups
+unfolding side_of side_with
 side_empty ends [] e = refl
 side_empty ends (b ∷ bs) e = let no = eqb-true (suc (length bs)) 0 e in absurd (omega (arith, no))
 

@@ -114,7 +114,7 @@ abbrev pub no_groups : Side
 no_groups = record { count = 0; value = 0 }
 
 -- a side with more groups behind it, where they are eight at most
-unfoldable pub joined : Side → Option (List ℕ) → Option Side
-joined side None = None
-joined side (Some gs) =
+unfoldable pub side_with : Side → Option (List ℕ) → Option Side
+side_with side None = None
+side_with side (Some gs) =
     if nat_le (side.count + length gs) 8 then Some (record { count = side.count + length gs; value = number_behind side.value gs }) else None

@@ -1,10 +1,10 @@
 //! Addresses of IPv6 in all of their spellings (RFC 4291, section 2.2).
 ghost use Rattle.std.specs.Prelude.{◌≡◌, ◌<◌, ◌≤◌, ◌^◌, ◌⊎◌, ℕ, List, Some, IfSome, option_map};
 ghost use Rattle.fx_elements.specs.Groups.{groups};
-ghost use Rattle.fx_elements.specs.Address6.{any_hex_of, any_group_of, last_of, side_of, cut_at_zeros, address6_of, prefix6_of, IsUncompressed, IsCompressed, no_groups, joined};
+ghost use Rattle.fx_elements.specs.Address6.{any_hex_of, any_group_of, last_of, side_of, cut_at_zeros, address6_of, prefix6_of, IsUncompressed, IsCompressed, no_groups, side_with};
 
 use crate::groups::read_hex;
-use crate::spelling::{cut, read_number, read_quad};
+use crate::spelling::{split_at_byte, read_number, read_quad};
 
 /// The value of a hexadecimal digit of either case.
 #[tactic(auto, unfolding(crate::specs::Address6::any_hex_of, crate::specs::Groups::hex_of))]
@@ -44,12 +44,12 @@ struct Side {
 }
 
 /// The side with the last piece behind it: a group, or at the end of the address a dotted quad, which is two.
-#[tactic(auto, unfolding(crate::specs::Address6::last_of, crate::specs::Address6::joined))]
+#[tactic(auto, unfolding(crate::specs::Address6::last_of, crate::specs::Address6::side_with))]
 fn read_last(side: Side, ends: bool, text: &[u8]) -> Option<Side>
     requires few { side.count ≤ 7 }
     requires fits { side.value < 2 ^ 112 }
     requires short { side.count < 7 → side.value < 2 ^ 96 }
-    ensures { result ≡ joined side (last_of ends text.now) }
+    ensures { result ≡ side_with side (last_of ends text.now) }
 {
     if let Some(group) = read_any_group(text) {
         return Some(Side {
@@ -72,7 +72,7 @@ fn read_last(side: Side, ends: bool, text: &[u8]) -> Option<Side>
 
 /// The groups of one side of `::`, or of an address without it; None where the text spells none or more than eight.
 fn read_side(text: &[u8], ends: bool) -> Option<Side>
-    ensures { result ≡ joined no_groups (side_of ends text.now) }
+    ensures { result ≡ side_with no_groups (side_of ends text.now) }
 {
     let mut side = Side { count: 0, value: 0 };
     if text.is_empty() {
@@ -80,7 +80,7 @@ fn read_side(text: &[u8], ends: bool) -> Option<Side>
     }
     let mut rest = text;
     while side.count < 8 {
-        let Some((piece, behind)) = cut(rest, b':') else {
+        let Some((piece, behind)) = split_at_byte(rest, b':') else {
             return read_last(side, ends, rest);
         };
         let group = read_any_group(piece)?;
@@ -133,7 +133,7 @@ pub fn read_prefix6(text: &[u8]) -> Option<(u128, u128)>
     ensures value { result ≡ prefix6_of text.now }
     ensures bound { IfSome result (λ p. (p.0 < 2 ^ 128) × (0 < p.1) × (p.1 ≤ 128)) }
 {
-    let (address, bits) = cut(text, b'/')?;
+    let (address, bits) = split_at_byte(text, b'/')?;
     let address = read_address6(address)?;
     let bits = read_number(bits, 128)?;
     if bits == 0 {

@@ -2,7 +2,7 @@
 ghost use Rattle.std.specs.Prelude.{◌≡◌, ◌<◌, ◌^◌, IfSome};
 ghost use Rattle.fx_elements.specs.Groups.{hex_of, group_of, groups_of};
 
-use crate::spelling::cut;
+use crate::spelling::split_at_byte;
 
 /// The value of a hexadecimal digit in lower case.
 #[tactic(auto, unfolding(crate::specs::Groups::hex_of))]
@@ -41,13 +41,13 @@ pub fn read_groups(text: &[u8]) -> Option<u128>
     ensures value { result ≡ groups_of text.now }
     ensures bound { IfSome result (λ v. v < 2 ^ 128) }
 {
-    let (a, rest) = cut(text, b':')?;
-    let (b, rest) = cut(rest, b':')?;
-    let (c, rest) = cut(rest, b':')?;
-    let (d, rest) = cut(rest, b':')?;
-    let (e, rest) = cut(rest, b':')?;
-    let (f, rest) = cut(rest, b':')?;
-    let (g, h) = cut(rest, b':')?;
+    let (a, rest) = split_at_byte(text, b':')?;
+    let (b, rest) = split_at_byte(rest, b':')?;
+    let (c, rest) = split_at_byte(rest, b':')?;
+    let (d, rest) = split_at_byte(rest, b':')?;
+    let (e, rest) = split_at_byte(rest, b':')?;
+    let (f, rest) = split_at_byte(rest, b':')?;
+    let (g, h) = split_at_byte(rest, b':')?;
     let s = read_group(a)?;
     let t = read_group(b)?;
     let u = read_group(c)?;

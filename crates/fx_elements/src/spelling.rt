@@ -8,7 +8,7 @@ ghost use Rattle.fx_elements.specs.Values.{written_on, value_text};
 ghost use Rattle.fx_elements.specs.declared.axis.Axis.{Axis};
 
 /// The parts before and after the first byte that is `at`.
-pub fn cut(text: &[u8], at: u8) -> Option<(&[u8], &[u8])>
+pub fn split_at_byte(text: &[u8], at: u8) -> Option<(&[u8], &[u8])>
     ensures { option_map (λ p. (p.0.now, p.1.now)) result ≡ cut_at at text.now }
 {
     for (i, b) in text.iter().enumerate() {
@@ -64,9 +64,9 @@ pub fn read_quad(text: &[u8]) -> Option<u128>
     ensures value { result ≡ quad_of text.now }
     ensures bound { IfSome result (λ v. v < 2 ^ 32) }
 {
-    let (a, rest) = cut(text, b'.')?;
-    let (b, rest) = cut(rest, b'.')?;
-    let (c, d) = cut(rest, b'.')?;
+    let (a, rest) = split_at_byte(text, b'.')?;
+    let (b, rest) = split_at_byte(rest, b'.')?;
+    let (c, d) = split_at_byte(rest, b'.')?;
     let a = read_number(a, 255)?;
     let b = read_number(b, 255)?;
     let c = read_number(c, 255)?;
@@ -80,7 +80,7 @@ pub fn read_prefix(text: &[u8]) -> Option<(u128, u128)>
     ensures value { result ≡ prefix_of text.now }
     ensures bound { IfSome result (λ p. (p.0 < 2 ^ 32) × (0 < p.1) × (p.1 ≤ 32)) }
 {
-    let (address, bits) = cut(text, b'/')?;
+    let (address, bits) = split_at_byte(text, b'/')?;
     let address = read_quad(address)?;
     let bits = read_number(bits, 32)?;
     if bits == 0 {

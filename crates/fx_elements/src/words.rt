@@ -5,7 +5,7 @@ ghost use Rattle.fx_elements.specs.Axes.{axis_index, tops};
 ghost use Rattle.fx_elements.specs.Words.{words, none_left, first_word, number_first, value_first};
 
 use crate::axis::Axis;
-use crate::spelling::{cut, read_u64};
+use crate::spelling::{split_at_byte, read_u64};
 use crate::values::read_written;
 use std::marker::Model;
 
@@ -37,7 +37,7 @@ impl<'a> Words<'a> {
         ensures { option_map (λ p. (p.0.now, p.1)) result ≡ first_word self.entry }
     {
         let text = self.rest?;
-        match cut(text, b' ') {
+        match split_at_byte(text, b' ') {
             Some((word, rest)) => Some((word, Words { rest: Some(rest) })),
             None => Some((text, Words { rest: None })),
         }

@@ -4,7 +4,7 @@ use Rattle.std.specs.List.{list_all}
 use Rattle.fx_elements.specs.declared.axis.Axis.TheVariants.{Source, Destination, Protocol, DestinationPort}
 use Rattle.fx_elements.specs.Axes.{Fields}
 use Rattle.fx_layout.specs.declared.layout.Part.{Part}
-use Rattle.fx_layout.specs.Keys.{Key, reads, refines, can_stand, with_part, key_of, cut, project, same_key, comes_before}
+use Rattle.fx_layout.specs.Keys.{Key, reads, refines, can_stand, with_part, key_of, bits_on, project, same_key, comes_before}
 
 -- from 10.1.2.3 to 192.0.2.1, by TCP from port 1000 to port 80
 abbrev a_packet : Fields
@@ -52,18 +52,18 @@ key_of_nothing = refl
 -- ---- coarser keys
 
 -- of 10.1.2.0/24 the leading 16 bits are 10.1, and the leading 8 are 10
-cut_to_16 : cut (source_key 24 655618) Source 16 ≡ 2561
+cut_to_16 : bits_on (source_key 24 655618) Source 16 ≡ 2561
 cut_to_16 = refl
 
-cut_to_8 : cut (source_key 24 655618) Source 8 ≡ 10
+cut_to_8 : bits_on (source_key 24 655618) Source 8 ≡ 10
 cut_to_8 = refl
 
 -- as many bits as it has are all of them
-cut_to_24 : cut (source_key 24 655618) Source 24 ≡ 655618
+cut_to_24 : bits_on (source_key 24 655618) Source 24 ≡ 655618
 cut_to_24 = refl
 
 -- of the source and the destination, the leading bits of the one that is asked for
-cut_destination : cut (record { layout = source 24 ∷ destination 32 ∷ []; values = 655618 ∷ 3221225985 ∷ [] }) Destination 24 ≡ 12582914
+cut_destination : bits_on (record { layout = source 24 ∷ destination 32 ∷ []; values = 655618 ∷ 3221225985 ∷ [] }) Destination 24 ≡ 12582914
 cut_destination = refl
 
 -- 10.1.2.0/24 is in 10.1.0.0/16

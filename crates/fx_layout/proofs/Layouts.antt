@@ -10,7 +10,7 @@ use Rattle.fx_elements.specs.Axes.{Fields, field, axis_count, axis_index, axis_w
 use Rattle.fx_elements.proofs.EveryAxis.{index_below, top_below}
 use Rattle.fx_boxes.specs.Boxes.{IsFields}
 use Rattle.fx_layout.specs.declared.layout.Part.{Part}
-use Rattle.fx_layout.specs.Keys.{Layout, part_at, has_bits, reads, can_stand, with_part, Fits, Ascends, IsLayout, HasBits, leading, cut_in}
+use Rattle.fx_layout.specs.Keys.{Layout, part_at, has_bits, reads, can_stand, with_part, Fits, AxesAscend, IsLayout, HasBits, leading_bits, cut_in}
 use Rattle.fx_layout.proofs.Projections.{and_true, and_both}
 
 -- ---- bits
@@ -35,7 +35,7 @@ fits_if (part ∷ parts) h =
 
 -- ---- order
 
-room_from : (from : ℕ) (layout : Layout) → from ≤ axis_count → Ascends from layout → from + length layout ≤ axis_count
+room_from : (from : ℕ) (layout : Layout) → from ≤ axis_count → AxesAscend from layout → from + length layout ≤ axis_count
 room_from from [] le h = omega arith
 room_from from (part ∷ parts) le h =
     let below = index_below part.axis in
@@ -44,10 +44,10 @@ room_from from (part ∷ parts) le h =
     omega arith
 
 -- there are no more parts than axes
-pub room : (layout : Layout) → Ascends 0 layout → length layout ≤ axis_count
+pub room : (layout : Layout) → AxesAscend 0 layout → length layout ≤ axis_count
 room layout h = let all = room_from 0 layout (omega arith) h in omega arith
 
-lower : (from less : ℕ) (layout : Layout) → less ≤ from → Ascends from layout → Ascends less layout
+lower : (from less : ℕ) (layout : Layout) → less ≤ from → AxesAscend from layout → AxesAscend less layout
 lower from less [] le h = tt
 lower from less (part ∷ parts) le h = let here : from ≤ axis_index part.axis = h.0 in (omega arith, h.1)
 
@@ -87,12 +87,12 @@ not_same a b h e = let yes : (a == b) ≡ true = subst (λ n. (a == n) ≡ true)
     same : (n : ℕ) → (n == n) ≡ true
     same n = grind arith
 
-pub with_part_ascends : (from : ℕ) (layout : Layout) (new : Part) → from ≤ axis_index new.axis → Ascends from layout → part_at layout new.axis ≡ None → Ascends from (with_part layout new)
+pub with_part_ascends : (from : ℕ) (layout : Layout) (new : Part) → from ≤ axis_index new.axis → AxesAscend from layout → part_at layout new.axis ≡ None → AxesAscend from (with_part layout new)
 with_part_ascends from [] new le h none = (le, tt)
 with_part_ascends from (part ∷ parts) new le h none =
     let apart = absent part parts new.axis none in
     let differ : axis_index part.axis ≢ axis_index new.axis = not_same _ _ apart.0 in
-    elim (nat_lt (axis_index new.axis) (axis_index part.axis)) as (λ t. nat_lt (axis_index new.axis) (axis_index part.axis) ≡ t → Ascends from (cond t (new ∷ part ∷ parts) (part ∷ with_part parts new))) [
+    elim (nat_lt (axis_index new.axis) (axis_index part.axis)) as (λ t. nat_lt (axis_index new.axis) (axis_index part.axis) ≡ t → AxesAscend from (cond t (new ∷ part ∷ parts) (part ∷ with_part parts new))) [
       | true ↦ λ e. let before : axis_index new.axis < axis_index part.axis = ltb-true _ _ e in (le, (omega arith, h.1))
       | false ↦ λ e.
           let behind : axis_index part.axis ≤ axis_index new.axis = grind (arith, e) in
@@ -101,7 +101,7 @@ with_part_ascends from (part ∷ parts) new le h none =
 
 -- ---- values
 
-leading_below : (width bits value : ℕ) → bits ≤ width → value < 2 ^ width → leading width bits value < 2 ^ bits
+leading_below : (width bits value : ℕ) → bits ≤ width → value < 2 ^ width → leading_bits width bits value < 2 ^ bits
 leading_below width bits value le lt =
     let whole : 2 ^ width ≡ 2 ^ bits * 2 ^ (width - bits) = ap (λ n. 2 ^ n) (let e : width ≡ bits + (width - bits) = omega arith in e) ∙ pow-add 2 bits (width - bits) in
     (div-lt_iff_lt-mul {k = 2 ^ (width - bits)} {x = value} {y = 2 ^ bits} (pow_pos (width - bits))).1 (subst (λ n. value < n) whole lt)
@@ -118,16 +118,16 @@ map_has_bits g (part ∷ parts) h s =
     let two = and_true (can_stand part) (list_all can_stand parts) s in
     (h part two.0, map_has_bits g parts h two.1)
 
-pub key_has_bits : (layout : Layout) (fields : Fields) → list_all can_stand layout ≡ true → IsFields fields → HasBits layout (map (λ part. leading (axis_width part.axis) part.bits (field fields part.axis)) layout)
+pub key_has_bits : (layout : Layout) (fields : Fields) → list_all can_stand layout ≡ true → IsFields fields → HasBits layout (map (λ part. leading_bits (axis_width part.axis) part.bits (field fields part.axis)) layout)
 key_has_bits layout fields s f =
-    map_has_bits (λ part. leading (axis_width part.axis) part.bits (field fields part.axis)) layout (λ part k. leading_below (axis_width part.axis) part.bits (field fields part.axis) (stands_within part k).1 (field_below fields part.axis f)) s
+    map_has_bits (λ part. leading_bits (axis_width part.axis) part.bits (field fields part.axis)) layout (λ part k. leading_below (axis_width part.axis) part.bits (field fields part.axis) (stands_within part k).1 (field_below fields part.axis f)) s
 
 cut_below : (layout : Layout) (values : List ℕ) (axis : Axis) (bits : ℕ) → HasBits layout values → cut_in layout values axis bits < 2 ^ bits
 cut_below [] values axis bits h = pow_pos bits
 cut_below (part ∷ parts) [] axis bits h = pow_pos bits
 cut_below (part ∷ parts) (value ∷ values) axis bits h =
     let rest = cut_below parts values axis bits h.1 in
-    elim (same_axis part.axis axis) as (λ t. cond t (leading part.bits bits value) (cut_in parts values axis bits) < 2 ^ bits) [
+    elim (same_axis part.axis axis) as (λ t. cond t (leading_bits part.bits bits value) (cut_in parts values axis bits) < 2 ^ bits) [
       | true ↦ cut_here (cases_le bits part.bits)
       | false ↦ rest
     ]
@@ -135,19 +135,19 @@ cut_below (part ∷ parts) (value ∷ values) axis bits h =
     cases_le : (a b : ℕ) → (a ≤ b) ⊎ (b < a)
     cases_le a b = grind arith
 
-    cut_here : (bits ≤ part.bits) ⊎ (part.bits < bits) → leading part.bits bits value < 2 ^ bits
+    cut_here : (bits ≤ part.bits) ⊎ (part.bits < bits) → leading_bits part.bits bits value < 2 ^ bits
     cut_here (inl le) = leading_below part.bits bits value le h.0
     cut_here (inr lt) =
         let none : part.bits - bits ≡ 0 = omega arith in
         let grown : 2 ^ part.bits ≤ 2 ^ bits = pow-le-pow_right {n = 2} (omega arith) (let le : part.bits ≤ bits = omega arith in le) in
-        let same : leading part.bits bits value ≡ value = ap (λ n. value / 2 ^ n) none ∙ grind arith in
+        let same : leading_bits part.bits bits value ≡ value = ap (λ n. value / 2 ^ n) none ∙ grind arith in
         let here : value < 2 ^ part.bits = h.0 in
         omega (arith, same)
 
 pub cut_has_bits : (from : Layout) (values : List ℕ) (layout : Layout) → HasBits from values → list_all can_stand layout ≡ true → HasBits layout (map (λ part. cut_in from values part.axis part.bits) layout)
 cut_has_bits from values layout h s = map_has_bits (λ part. cut_in from values part.axis part.bits) layout (λ part k. cut_below from values part.axis part.bits h) s
 
-pub so_many : (g : Part → ℕ) (parts : Layout) (values : List ℕ) (i : ℕ) → values ≡ map g (take i parts) → i < length parts → Ascends 0 parts → length values < axis_count
+pub so_many : (g : Part → ℕ) (parts : Layout) (values : List ℕ) (i : ℕ) → values ≡ map g (take i parts) → i < length parts → AxesAscend 0 parts → length values < axis_count
 so_many g parts values i e lt h =
     let most = room parts h in
     let many : length values ≡ i = ap length e ∙ length-map (take i parts) g ∙ length-take-le i parts (omega arith) in
@@ -174,7 +174,7 @@ nothing_at (Some part) h = let yes : nat_le 0 part.bits ≡ true = le-leb 0 part
 pub not_there : (layout : Layout) (axis : Axis) → reads layout axis 0 ≡ false → part_at layout axis ≡ None
 not_there layout axis h = nothing_at (part_at layout axis) h
 
-pub room_for : (layout : Layout) (new : Part) → Ascends 0 layout → part_at layout new.axis ≡ None → length layout < axis_count
+pub room_for : (layout : Layout) (new : Part) → AxesAscend 0 layout → part_at layout new.axis ≡ None → length layout < axis_count
 room_for layout new h none =
     let more = room (with_part layout new) (with_part_ascends 0 layout new (omega arith) h none) in
     let one = one_more layout new in

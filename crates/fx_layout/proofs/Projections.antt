@@ -7,7 +7,7 @@ use Rattle.fx_elements.specs.declared.axis.Axis.{Axis}
 use Rattle.fx_elements.proofs.EveryAxis.{axis_is}
 use Rattle.fx_elements.specs.Axes.{Fields, field, axis_width, axis_index, same_axis}
 use Rattle.fx_layout.specs.declared.layout.Part.{Part}
-use Rattle.fx_layout.specs.Keys.{Layout, Key, part_at, has_bits, reads, refines, leading, key_of, cut_in, cut, project, same_layout, same_key, Fits}
+use Rattle.fx_layout.specs.Keys.{Layout, Key, part_at, has_bits, reads, refines, leading_bits, key_of, cut_in, bits_on, project, same_layout, same_key, Fits}
 
 -- both halves of a test
 pub and_true : (a b : Bool) → (a && b) ≡ true → (a ≡ true) × (b ≡ true)
@@ -36,17 +36,17 @@ part_has_axis (p ∷ ps) axis q h =
     ] refl h
 
 -- what stands at an axis of a key whose values are those of its parts
-cut_of_map : (g : Part → ℕ) (layout : Layout) (axis : Axis) (bits : ℕ) (q : Part) → part_at layout axis ≡ Some q → cut_in layout (map g layout) axis bits ≡ leading q.bits bits (g q)
+cut_of_map : (g : Part → ℕ) (layout : Layout) (axis : Axis) (bits : ℕ) (q : Part) → part_at layout axis ≡ Some q → cut_in layout (map g layout) axis bits ≡ leading_bits q.bits bits (g q)
 cut_of_map g [] axis bits q h = absurd (cc)
 cut_of_map g (p ∷ ps) axis bits q h =
     let rest = cut_of_map g ps axis bits q in
-    elim (same_axis p.axis axis) as (λ t. cond t (Some p) (part_at ps axis) ≡ Some q → cond t (leading p.bits bits (g p)) (cut_in ps (map g ps) axis bits) ≡ leading q.bits bits (g q)) [
-      | true ↦ λ k. let same : p ≡ q = cc in ap (λ (x : Part). leading x.bits bits (g x)) same
+    elim (same_axis p.axis axis) as (λ t. cond t (Some p) (part_at ps axis) ≡ Some q → cond t (leading_bits p.bits bits (g p)) (cut_in ps (map g ps) axis bits) ≡ leading_bits q.bits bits (g q)) [
+      | true ↦ λ k. let same : p ≡ q = cc in ap (λ (x : Part). leading_bits x.bits bits (g x)) same
       | false ↦ λ k. rest k
     ] h
 
 abbrev CutsOf : Layout → List ℕ → Axis → Part → Type 0
-CutsOf layout values axis q = (value : ℕ) × ((bits : ℕ) → cut_in layout values axis bits ≡ leading q.bits bits value)
+CutsOf layout values axis q = (value : ℕ) × ((bits : ℕ) → cut_in layout values axis bits ≡ leading_bits q.bits bits value)
 
 -- what stands at an axis of any key
 cuts_of : (layout : Layout) (values : List ℕ) (axis : Axis) (q : Part) → part_at layout axis ≡ Some q → CutsOf layout values axis q
@@ -54,12 +54,12 @@ cuts_of [] values axis q h = absurd (cc)
 cuts_of (p ∷ ps) [] axis q h = (0, λ bits. sym (zero-div (2 ^ (q.bits - bits))))
 cuts_of (p ∷ ps) (v ∷ vs) axis q h =
     let rest = cuts_of ps vs axis q in
-    elim (same_axis p.axis axis) as (λ t. cond t (Some p) (part_at ps axis) ≡ Some q → (value : ℕ) × ((bits : ℕ) → cond t (leading p.bits bits v) (cut_in ps vs axis bits) ≡ leading q.bits bits value)) [
-      | true ↦ λ k. let same : p ≡ q = cc in (v, λ bits. ap (λ (x : Part). leading x.bits bits v) same)
+    elim (same_axis p.axis axis) as (λ t. cond t (Some p) (part_at ps axis) ≡ Some q → (value : ℕ) × ((bits : ℕ) → cond t (leading_bits p.bits bits v) (cut_in ps vs axis bits) ≡ leading_bits q.bits bits value)) [
+      | true ↦ λ k. let same : p ≡ q = cc in (v, λ bits. ap (λ (x : Part). leading_bits x.bits bits v) same)
       | false ↦ λ k. rest k
     ] h
 
-pub leading_again : (width more fewer value : ℕ) → fewer ≤ more → more ≤ width → leading more fewer (leading width more value) ≡ leading width fewer value
+pub leading_again : (width more fewer value : ℕ) → fewer ≤ more → more ≤ width → leading_bits more fewer (leading_bits width more value) ≡ leading_bits width fewer value
 leading_again width more fewer value h k =
     let e : width - more + (more - fewer) ≡ width - fewer = omega arith in
     div-div-eq-div-mul value (2 ^ (width - more)) (2 ^ (more - fewer)) ∙ ap (λ n. value / n) (sym (pow-add 2 (width - more) (more - fewer)) ∙ ap (λ n. 2 ^ n) e)
@@ -98,17 +98,17 @@ refines_through a b (p ∷ ps) r s =
     and_both _ _ (reads_through a b p.axis p.bits r both.0) (refines_through a b ps r both.1)
 
 -- a cut of a cut
-cut_again : (key : Key) (layout : Layout) (axis : Axis) (bits : ℕ) → refines key.layout layout ≡ true → reads layout axis bits ≡ true → cut (project key layout) axis bits ≡ cut key axis bits
+cut_again : (key : Key) (layout : Layout) (axis : Axis) (bits : ℕ) → refines key.layout layout ≡ true → reads layout axis bits ≡ true → bits_on (project key layout) axis bits ≡ bits_on key axis bits
 cut_again key layout axis bits r h =
     let found = read_part (part_at layout axis) bits h in
     let q = found.0 in
     let below = read_part (part_at key.layout axis) q.bits (reads_part key.layout layout axis q r found.1) in
     let cuts = cuts_of key.layout key.values axis below.0 below.1 in
-    let here = cut_of_map (λ part. cut key part.axis part.bits) layout axis bits q found.1 in
+    let here = cut_of_map (λ part. bits_on key part.axis part.bits) layout axis bits q found.1 in
     let at : q.axis ≡ axis = part_has_axis layout axis q found.1 in
-    here ∙ ap (λ a. leading q.bits bits (cut key a q.bits)) at ∙ ap (leading q.bits bits) (cuts.1 q.bits) ∙ leading_again below.0.bits q.bits bits cuts.0 found.2 below.2 ∙ sym (cuts.1 bits)
+    here ∙ ap (λ a. leading_bits q.bits bits (bits_on key a q.bits)) at ∙ ap (leading_bits q.bits bits) (cuts.1 q.bits) ∙ leading_again below.0.bits q.bits bits cuts.0 found.2 below.2 ∙ sym (cuts.1 bits)
 
-cuts_again : (key : Key) (layout other : Layout) → refines key.layout layout ≡ true → refines layout other ≡ true → map (λ part. cut (project key layout) part.axis part.bits) other ≡ map (λ part. cut key part.axis part.bits) other
+cuts_again : (key : Key) (layout other : Layout) → refines key.layout layout ≡ true → refines layout other ≡ true → map (λ part. bits_on (project key layout) part.axis part.bits) other ≡ map (λ part. bits_on key part.axis part.bits) other
 cuts_again key layout [] r s = refl
 cuts_again key layout (p ∷ ps) r s =
     let both = and_true (reads layout p.axis p.bits) (refines layout ps) s in
@@ -130,14 +130,14 @@ fits_at (p ∷ ps) axis q f h =
     ] refl h
 
 -- a cut of a packet's key
-pub cut_of_key : (layout : Layout) (fields : Fields) (axis : Axis) (bits : ℕ) → Fits layout → reads layout axis bits ≡ true → cut (key_of layout fields) axis bits ≡ leading (axis_width axis) bits (field fields axis)
+pub cut_of_key : (layout : Layout) (fields : Fields) (axis : Axis) (bits : ℕ) → Fits layout → reads layout axis bits ≡ true → bits_on (key_of layout fields) axis bits ≡ leading_bits (axis_width axis) bits (field fields axis)
 cut_of_key layout fields axis bits f h =
     let found = read_part (part_at layout axis) bits h in
     let q = found.0 in
     let at : q.axis ≡ axis = part_has_axis layout axis q found.1 in
-    cut_of_map (λ part. leading (axis_width part.axis) part.bits (field fields part.axis)) layout axis bits q found.1 ∙ ap (λ a. leading q.bits bits (leading (axis_width a) q.bits (field fields a))) at ∙ leading_again (axis_width axis) q.bits bits (field fields axis) found.2 (fits_at layout axis q f found.1)
+    cut_of_map (λ part. leading_bits (axis_width part.axis) part.bits (field fields part.axis)) layout axis bits q found.1 ∙ ap (λ a. leading_bits q.bits bits (leading_bits (axis_width a) q.bits (field fields a))) at ∙ leading_again (axis_width axis) q.bits bits (field fields axis) found.2 (fits_at layout axis q f found.1)
 
-cuts_of_key : (layout other : Layout) (fields : Fields) → Fits layout → refines layout other ≡ true → map (λ part. cut (key_of layout fields) part.axis part.bits) other ≡ map (λ part. leading (axis_width part.axis) part.bits (field fields part.axis)) other
+cuts_of_key : (layout other : Layout) (fields : Fields) → Fits layout → refines layout other ≡ true → map (λ part. bits_on (key_of layout fields) part.axis part.bits) other ≡ map (λ part. leading_bits (axis_width part.axis) part.bits (field fields part.axis)) other
 cuts_of_key layout [] fields f r = refl
 cuts_of_key layout (p ∷ ps) fields f r =
     let both = and_true (reads layout p.axis p.bits) (refines layout ps) r in

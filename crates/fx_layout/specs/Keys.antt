@@ -47,14 +47,14 @@ Fits [] = Unit {0}
 Fits (part ∷ parts) = (part.bits ≤ axis_width part.axis) × Fits parts
 
 -- the axes come in order, each at most once, from this place on
-abbrev pub Ascends : ℕ → Layout → Type 0
-Ascends from [] = Unit {0}
-Ascends from (part ∷ parts) = (from ≤ axis_index part.axis) × Ascends (suc (axis_index part.axis)) parts
+abbrev pub AxesAscend : ℕ → Layout → Type 0
+AxesAscend from [] = Unit {0}
+AxesAscend from (part ∷ parts) = (from ≤ axis_index part.axis) × AxesAscend (suc (axis_index part.axis)) parts
 
 -- what a layout keeps
 pub record IsLayout (layout : Layout) : Type 0 where
   pub stands : list_all can_stand layout ≡ true
-  pub ascends : Ascends 0 layout
+  pub ascends : AxesAscend 0 layout
 
 -- ---- keys
 
@@ -66,27 +66,27 @@ HasBits [] (value ∷ values) = ⊥
 HasBits (part ∷ parts) [] = ⊥
 
 -- the leading bits of a value that has so many
-abbrev pub leading : ℕ → ℕ → ℕ → ℕ
-leading width bits value = value / 2 ^ (width - bits)
+abbrev pub leading_bits : ℕ → ℕ → ℕ → ℕ
+leading_bits width bits value = value / 2 ^ (width - bits)
 
 abbrev pub key_of : Layout → Fields → Key
 key_of layout fields = record {
   layout = layout;
-  values = map (λ part. leading (axis_width part.axis) part.bits (field fields part.axis)) layout;
+  values = map (λ part. leading_bits (axis_width part.axis) part.bits (field fields part.axis)) layout;
 }
 
 -- the leading bits of what stands for an axis
 abbrev pub cut_in : Layout → List ℕ → Axis → ℕ → ℕ
 cut_in (part ∷ parts) (value ∷ values) axis bits =
-    if same_axis part.axis axis then leading part.bits bits value else cut_in parts values axis bits
+    if same_axis part.axis axis then leading_bits part.bits bits value else cut_in parts values axis bits
 cut_in _ _ axis bits = 0
 
-abbrev pub cut : Key → Axis → ℕ → ℕ
-cut key axis bits = cut_in key.layout key.values axis bits
+abbrev pub bits_on : Key → Axis → ℕ → ℕ
+bits_on key axis bits = cut_in key.layout key.values axis bits
 
 -- the key under a layout that its own refines
 abbrev pub project : Key → Layout → Key
-project key layout = record { layout = layout; values = map (λ part. cut key part.axis part.bits) layout }
+project key layout = record { layout = layout; values = map (λ part. bits_on key part.axis part.bits) layout }
 
 abbrev pub same_layout : Layout → Layout → Bool
 same_layout [] [] = true

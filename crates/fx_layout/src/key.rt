@@ -27,9 +27,9 @@ impl Model for Key {
 }
 
 /// The leading `bits` of a value that has `width` bits.
-pub fn leading(width: u32, bits: u32, value: u128) -> u128
+pub fn leading_bits(width: u32, bits: u32, value: u128) -> u128
     requires { width ≤ 128 }
-    ensures { result ≡ keys.leading width bits value }
+    ensures { result ≡ keys.leading_bits width bits value }
 {
     let cut = width.saturating_sub(bits);
     if cut >= 128 {
@@ -49,7 +49,7 @@ fn cut_part(parts: &[Part], values: &[u128], axis: Axis, bits: u32) -> u128
             [] => 0,
             [value, values @ ..] => {
                 if part.axis.index() == axis.index() {
-                    leading(part.bits, bits, *value)
+                    leading_bits(part.bits, bits, *value)
                 } else {
                     cut_part(parts, values, axis, bits)
                 }
@@ -89,7 +89,7 @@ impl Key {
         let numbers = fields.values();
         let mut values: ArrayVec<u128, AXES> = ArrayVec::new();
         for part in layout.parts() {
-            values.push(leading(width(part.axis), part.bits, numbers[part.axis.index()]));
+            values.push(leading_bits(width(part.axis), part.bits, numbers[part.axis.index()]));
         }
         Key {
             layout: layout.copy(),
@@ -129,8 +129,8 @@ impl Key {
     }
 
     /// The leading bits of what the key has for an axis, 0 where it has none.
-    pub fn cut(&self, axis: Axis, bits: u32) -> u128
-        ensures { result ≡ keys.cut self.now axis bits }
+    pub fn bits_on(&self, axis: Axis, bits: u32) -> u128
+        ensures { result ≡ keys.bits_on self.now axis bits }
     {
         cut_part(self.layout.parts(), self.values.as_slice(), axis, bits)
     }
@@ -159,7 +159,7 @@ impl Key {
         }
         let mut values: ArrayVec<u128, AXES> = ArrayVec::new();
         for part in layout.parts() {
-            values.push(self.cut(part.axis, part.bits));
+            values.push(self.bits_on(part.axis, part.bits));
         }
         Some(Key {
             layout: layout.copy(),

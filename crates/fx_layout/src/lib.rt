@@ -7,7 +7,7 @@ mod layout;
 mod seed;
 mod values;
 
-pub use key::{Key, leading};
+pub use key::{Key, leading_bits};
 pub use layout::{Layout, Part};
 pub use seed::{Seed, SeededHasher};
 pub use values::Values;

@@ -9,11 +9,11 @@ use Rattle.fx_layout.proofs.Projections.{same_key_is}
 use Rattle.fx_machine.proofs.Lists.{put_last_past, length_put_last}
 use Rattle.fx_tables.specs.declared.record.Record.{Record}
 use Rattle.fx_tables.specs.declared.packet.Packet.{Packet}
-use Rattle.fx_base.specs.Entries.{numbered}
+use Rattle.fx_base.specs.Entries.{entry_numbered}
 use Rattle.fx_tables.specs.Network.{Exporter, Net}
 use Rattle.fx_tables.specs.Classes.{Class}
-use Rattle.fx_machine.specs.States.{State, tallied, put_last, sent_to, sent_to_all, add_at, replaced, Coming}
-use Rattle.fx_machine.specs.Acts.{Choices, Act, Tally, Send, Hold, Made, sent_to_chosen, send_by_choice, joined, taken_in, with_held, hold_in, hold, act, act_all, all_used}
+use Rattle.fx_machine.specs.States.{State, after_tally, put_last, sent_to, sent_to_all, add_at, with_entry, Coming}
+use Rattle.fx_machine.specs.Acts.{Choices, Act, Tally, Send, Hold, Made, sent_to_chosen, send_by_choice, records_joining, taken_in, with_held, hold_in, hold, act, act_all, all_used}
 use Rattle.fx_machine.specs.Sums.{total_at}
 use Rattle.fx_leaf.specs.declared.verdict.Fate.{Fate}
 use Rattle.fx_leaf.specs.declared.verdict.Fate.TheVariants.{Never, Once, Many, Differing, Unassigned}
@@ -99,7 +99,7 @@ module _ (at : FateAt) (net : Net) (classes : List Class) (packets : List Packet
       let one = sent_gains d r s z in
       gains_on s (sent_to d r s) (sent_to_all ds r (sent_to d r s)) _ _ _ refl one (sent_all_gains ds r (sent_to d r s) one.sized)
 
-  chosen_gains : (ds : List (Option ℕ)) (n : ℕ) (key : Key) (counts : Counts) (s : State) (choices : Choices) (made : Made) (o : Option (Option ℕ)) → numbered ds n ≡ o → IsSized net s → IsGood (one_happens (map (destination_fate at net key) ds)) → sent_to_chosen o (record { key = key; counts = counts }) s choices ≡ Some made → Gains s (by_fate (one_happens (map (destination_fate at net key) ds)) (part_of net total key counts)) made.state
+  chosen_gains : (ds : List (Option ℕ)) (n : ℕ) (key : Key) (counts : Counts) (s : State) (choices : Choices) (made : Made) (o : Option (Option ℕ)) → entry_numbered ds n ≡ o → IsSized net s → IsGood (one_happens (map (destination_fate at net key) ds)) → sent_to_chosen o (record { key = key; counts = counts }) s choices ≡ Some made → Gains s (by_fate (one_happens (map (destination_fate at net key) ds)) (part_of net total key counts)) made.state
   chosen_gains ds n key counts s choices made None is z good h = absurd (cc)
   chosen_gains ds zero key counts s choices made (Some d) is z good h = absurd (cc)
   chosen_gains ds (suc n) key counts s choices made (Some d) is z good h =
@@ -111,7 +111,7 @@ module _ (at : FateAt) (net : Net) (classes : List Class) (packets : List Packet
   choice_gains : (ds : List (Option ℕ)) (key : Key) (counts : Counts) (s : State) (choices : Choices) (made : Made) → IsSized net s → IsGood (one_happens (map (destination_fate at net key) ds)) → send_by_choice ds (record { key = key; counts = counts }) s choices ≡ Some made → Gains s (by_fate (one_happens (map (destination_fate at net key) ds)) (part_of net total key counts)) made.state
   choice_gains ds key counts s [] made z good h = absurd (cc)
   choice_gains ds key counts s (None ∷ choices) made z good h = absurd (cc)
-  choice_gains ds key counts s (Some n ∷ choices) made z good h = chosen_gains ds n key counts s choices made (numbered ds n) refl z good h
+  choice_gains ds key counts s (Some n ∷ choices) made z good h = chosen_gains ds n key counts s choices made (entry_numbered ds n) refl z good h
 
   -- an exporting process sends a record
   send_gains : (e : Exporter) (key : Key) (counts : Counts) (s : State) (choices : Choices) (made : Made) → IsSized net s → IsGood (send_fate at net key e) → act net counts (Send e key) s choices ≡ Some made → Gains s (by_fate (send_fate at net key e) (part_of net total key counts)) made.state
@@ -146,13 +146,13 @@ module _ (at : FateAt) (net : Net) (classes : List Class) (packets : List Packet
   join_weight holder old r e =
       fate_adds (held_fate at net old.key (slice_get net.holders holder)) (part_of net total old.key old.counts) (part_of net total old.key r.counts) (part_of net total old.key (add_counts old.counts r.counts)) (part_adds old.key old.counts r.counts) ∙ ap (λ k. plus (record_weight holder old) (by_fate (held_fate at net k (slice_get net.holders holder)) (part_of net total k r.counts))) e
 
-  joined_weight : (holder : ℕ) (rs : List Record) (n : ℕ) (r : Record) (o : Option Record) (new : List Record) → numbered rs n ≡ o → joined o rs n r ≡ Some new → held_weight at net total holder new ≡ plus (held_weight at net total holder rs) (record_weight holder r)
+  joined_weight : (holder : ℕ) (rs : List Record) (n : ℕ) (r : Record) (o : Option Record) (new : List Record) → entry_numbered rs n ≡ o → records_joining o rs n r ≡ Some new → held_weight at net total holder new ≡ plus (held_weight at net total holder rs) (record_weight holder r)
   joined_weight holder rs n r None new is h = absurd (cc)
   joined_weight holder rs n r (Some old) new is h =
       let sum : Record = record { key = old.key; counts = add_counts old.counts r.counts } in
-      elim (same_key old.key r.key) as (λ b. same_key old.key r.key ≡ b → cond b (Some (replaced rs n sum)) None ≡ Some new → held_weight at net total holder new ≡ plus (held_weight at net total holder rs) (record_weight holder r)) [
+      elim (same_key old.key r.key) as (λ b. same_key old.key r.key ≡ b → cond b (Some (with_entry rs n sum)) None ≡ Some new → held_weight at net total holder new ≡ plus (held_weight at net total holder rs) (record_weight holder r)) [
         | true ↦ λ e k.
-            let same : replaced rs n sum ≡ new = cc in
+            let same : with_entry rs n sum ≡ new = cc in
             ap (held_weight at net total holder) (sym same) ∙ weigh_replaced (record_weight holder) rs n old sum (record_weight holder r) is (join_weight holder old r (same_key_is old.key r.key e))
         | false ↦ λ e k. absurd (cc)
       ] refl h
@@ -161,7 +161,7 @@ module _ (at : FateAt) (net : Net) (classes : List Class) (packets : List Packet
   taken_weight holder rs None r new h =
       let same : rs ++ r ∷ [] ≡ new = cc in
       ap (held_weight at net total holder) (sym same) ∙ weigh_last (record_weight holder) rs r
-  taken_weight holder rs (Some n) r new h = joined_weight holder rs n r (numbered rs n) new refl h
+  taken_weight holder rs (Some n) r new h = joined_weight holder rs n r (entry_numbered rs n) new refl h
 
   -- a holder takes a record in
   held_gains : (holder : ℕ) (r : Record) (s : State) (rs : List Record) (choice : Option ℕ) (choices : Choices) (made : Made) (o : Option (List Record)) → slice_get s.held holder ≡ Some rs → taken_in rs choice r ≡ o → IsSized net s → with_held s holder o choices ≡ Some made → Gains s (record_weight holder r) made.state
@@ -185,7 +185,7 @@ module _ (at : FateAt) (net : Net) (classes : List Class) (packets : List Packet
       hold_in_gains holder r s (slice_get s.held holder) choice choices made refl z h
 
   -- a record is tallied
-  tally_gains : (key : Key) (counts : Counts) (s : State) → IsSized net s → IsGood (act_fate at net (Tally key)) → Gains s (act_weight at net total counts (Tally key)) (tallied net key counts s)
+  tally_gains : (key : Key) (counts : Counts) (s : State) → IsSized net s → IsGood (act_fate at net (Tally key)) → Gains s (act_weight at net total counts (Tally key)) (after_tally net key counts s)
   tally_gains key counts s z good =
       let yes : State = record s { totals = add_at s.totals (project key net.report_layout) counts } in
       let no : State = record s { unassigned = s.unassigned + 1 } in
@@ -200,7 +200,7 @@ module _ (at : FateAt) (net : Net) (classes : List Class) (packets : List Packet
   -- each act
   pub act_gains : (counts : Counts) (a : Act) (s : State) (choices : Choices) (made : Made) → IsSized net s → IsGood (act_fate at net a) → act net counts a s choices ≡ Some made → Gains s (act_weight at net total counts a) made.state
   act_gains counts (Tally key) s choices made z good h =
-      let same : tallied net key counts s ≡ made.state = cc in
+      let same : after_tally net key counts s ≡ made.state = cc in
       subst (λ n. Gains s (act_weight at net total counts (Tally key)) n) same (tally_gains key counts s z good)
   act_gains counts (Send e key) s choices made z good h = send_gains e key counts s choices made z good h
   act_gains counts (Hold holder key) s choices made z good h =

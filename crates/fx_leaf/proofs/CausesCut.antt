@@ -9,7 +9,7 @@ use Rattle.fx_boxes.specs.Boxes.{Bounds, IsRegion}
 use Rattle.fx_layout.specs.Keys.{Layout, Key, key_of, refines, reads}
 use Rattle.fx_layout.proofs.Projections.{and_true, project_key}
 use Rattle.fx_tables.specs.declared.traffic.Crossing.{Crossing}
-use Rattle.fx_tables.specs.Network.{Net, Exporter, Holder, Aggregation, Process, at_places, exporters_of, layout_of, aggregations_of, takes}
+use Rattle.fx_tables.specs.Network.{Net, Exporter, Holder, AggregationEntry, Process, at_places, exporters_of, layout_of, aggregations_of, takes}
 use Rattle.fx_machine.specs.Acts.{Act, Tally, Send}
 use Rattle.fx_machine.specs.Steps.{take_in, acts_of, coming_to}
 use Rattle.fx_tables.specs.Ranks.{RisesTo, Rises, AllRise, ProcessRises, IsRanked}
@@ -54,7 +54,7 @@ module _ (t : Tables) (are : AreTables t) (region : Bounds) (r : IsRegion region
     is_sent e at =
         inside (Send e key) (in_front (map (λ e. Send e key) (at_places net.exporters p.exporters)) (map (take_in net key) (filter (takes net key) p.aggregations)) (Send e key) (mapped (λ e. Send e key) (at_places net.exporters p.exporters) e at))
 
-    is_taken : (a : Aggregation) → Contains p.aggregations a → takes net key a ≡ true → Contains (coming_to net key from) (take_in net key a)
+    is_taken : (a : AggregationEntry) → Contains p.aggregations a → takes net key a ≡ true → Contains (coming_to net key from) (take_in net key a)
     is_taken a at on =
         inside (take_in net key a) (behind (map (λ e. Send e key) (at_places net.exporters p.exporters)) (map (take_in net key) (filter (takes net key) p.aggregations)) (take_in net key a) (mapped (take_in net key) (filter (takes net key) p.aggregations) a (filtered (takes net key) p.aggregations a at on)))
 
@@ -143,7 +143,7 @@ module _ (t : Tables) (are : AreTables t) (region : Bounds) (r : IsRegion region
       by rises (inl sent) = rises_by ranked from number process (at_places net.exporters l.at.exporters) rises.0 sent.1
       by rises (inr among) =
           let a = among.aggregation in
-          let P : Aggregation → Type 0 = λ a. AllRise ranked.rank net from (exporters_of net (slice_get net.holders a.holder)) in
+          let P : AggregationEntry → Type 0 = λ a. AllRise ranked.rank net from (exporters_of net (slice_get net.holders a.holder)) in
           rises_by ranked from next' process (exporters_of net (slice_get net.holders a.holder)) (every_at P l.at.aggregations a (every_of_all P l.at.aggregations rises.1) among.among) among.is_cause.2.1
 
   -- ---- what has none further on is marked

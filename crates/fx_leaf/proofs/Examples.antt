@@ -7,7 +7,7 @@ use Rattle.fx_boxes.specs.Boxes.{Bounds}
 use Rattle.fx_layout.specs.Keys.{Layout}
 use Rattle.fx_tables.specs.declared.aggregation.MatchEntry.{MatchEntry}
 use Rattle.fx_tables.specs.declared.traffic.Crossing.{Crossing}
-use Rattle.fx_tables.specs.Network.{Net, Device, Exporter}
+use Rattle.fx_tables.specs.Network.{Net, DeviceEntry, Exporter}
 use Rattle.fx_leaf.specs.Verdicts.{path_verdict, counter}
 use Rattle.fx_leaf.specs.declared.verdict.Fate.TheVariants.{Never, Once, Many, Differing, Unassigned}
 use Rattle.fx_leaf.specs.Fates.{packet_fate}
@@ -23,14 +23,14 @@ abbrev a_packet : Fields
 a_packet = 167838211 ∷ 3221225985 ∷ 6 ∷ 1000 ∷ 80 ∷ 0 ∷ 4 ∷ 0 ∷ 0 ∷ []
 
 -- a device with two interfaces at one point, all of whose packets go to one cache
-abbrev meter : Device
+abbrev meter : DeviceEntry
 meter = record {
   points = record { interfaces = codes "eth0" ∷ codes "eth1" ∷ []; ingress = true; egress = true; selections = record { region = Some all_fields; holder = Some 0 } ∷ [] } ∷ [];
   caches = 0 ∷ [];
   processes = [];
 }
 
-abbrev collector : ℕ → Device
+abbrev collector : ℕ → DeviceEntry
 collector process = record { points = []; caches = []; processes = process ∷ [] }
 
 abbrev inwards : Crossing

@@ -6,7 +6,7 @@ use Rattle.fx_layout.specs.Keys.{Key}
 use Rattle.fx_tables.specs.declared.traffic.Crossing.{Crossing}
 use Rattle.fx_tables.specs.declared.packet.Packet.{Packet}
 use Rattle.fx_run_text.specs.declared.step.Step.{Step}
-use Rattle.fx_base.specs.Entries.{numbered}
+use Rattle.fx_base.specs.Entries.{entry_numbered}
 use Rattle.fx_tables.specs.Network.{entries, Net}
 use Rattle.fx_tables.specs.Classes.{paths_of, path, exempts, to_count, IsOf, Class}
 use Rattle.fx_machine.specs.States.{State, opening, Complete}
@@ -14,7 +14,7 @@ use Rattle.fx_machine.specs.Steps.{run}
 use Rattle.fx_machine.specs.Sums.{plain_sum, total_at, SumsFit}
 use Rattle.fx_machine.proofs.Lists.{length_nothing}
 use Rattle.fx_machine.proofs.RunsAreMoves.{steps_of}
-use Rattle.fx_machine.specs.Claim.{CountsEachOnce, wrapped, CountsEachModulo}
+use Rattle.fx_machine.specs.Claim.{CountsEachOnce, counts_modulo, CountsEachModulo}
 use Rattle.fx_tables.specs.Ranks.{IsNetwork}
 use Rattle.fx_leaf.specs.Fates.{fate, packet_fate, wanted_fate}
 use Rattle.fx_leaf.specs.Certificates.{AllAsWanted}
@@ -28,18 +28,18 @@ use Rattle.fx_leaf.proofs.Ranks.{is_fate}
 use Rattle.fx_leaf.proofs.Trees.{sound_wanted}
 use Rattle.fx_leaf.proofs.OpeningQuantity.{opens, empty_weighs, plain_weight, plain_weighs, plain_modulo, total_modulo, plain_not_wrong}
 
-all_wanted : (net : Net) (classes : List Class) (packets : List Packet) → AllAsWanted net classes → All (λ p. IsOf p (numbered classes p.class)) packets → Every (λ p. packet_fate net p.fields (path classes p) ≡ wanted_fate (exempts (numbered classes p.class))) packets
+all_wanted : (net : Net) (classes : List Class) (packets : List Packet) → AllAsWanted net classes → All (λ p. IsOf p (entry_numbered classes p.class)) packets → Every (λ p. packet_fate net p.fields (path classes p) ≡ wanted_fate (exempts (entry_numbered classes p.class))) packets
 all_wanted net classes [] sound h = tt
 all_wanted net classes (p ∷ ps) sound h =
-    (by_class (numbered classes p.class) refl (h 0 p (omega arith)), all_wanted net classes ps sound (λ k. λ d. λ lt. h (suc k) d (omega arith)))
+    (by_class (entry_numbered classes p.class) refl (h 0 p (omega arith)), all_wanted net classes ps sound (λ k. λ d. λ lt. h (suc k) d (omega arith)))
   where
-    by_path : (class : Class) (o : Option (List Crossing)) → numbered classes p.class ≡ Some class → numbered class.paths p.path ≡ o → holds class.region p.fields ≡ true → o ≢ None → packet_fate net p.fields (entries o) ≡ wanted_fate class.exempt
+    by_path : (class : Class) (o : Option (List Crossing)) → entry_numbered classes p.class ≡ Some class → entry_numbered class.paths p.path ≡ o → holds class.region p.fields ≡ true → o ≢ None → packet_fate net p.fields (entries o) ≡ wanted_fate class.exempt
     by_path class None c m r some = absurd (some refl)
     by_path class (Some crossings) c m r some = sound p.class p.path class crossings p.fields c m r
 
-    by_class : (o : Option Class) → numbered classes p.class ≡ o → IsOf p o → packet_fate net p.fields (entries (numbered (paths_of o) p.path)) ≡ wanted_fate (exempts o)
+    by_class : (o : Option Class) → entry_numbered classes p.class ≡ o → IsOf p o → packet_fate net p.fields (entries (entry_numbered (paths_of o) p.path)) ≡ wanted_fate (exempts o)
     by_class None c of = absurd of
-    by_class (Some class) c of = by_path class (numbered class.paths p.path) c refl of.0 of.1
+    by_class (Some class) c of = by_path class (entry_numbered class.paths p.path) c refl of.0 of.1
 
 same_total : (a b : Option Counts) → total_weight a ≡ total_weight b → a ≡ b
 same_total None None h = refl
@@ -76,7 +76,7 @@ ends_law net classes packets total s complete =
     let t = total_weight (total_at s.totals total) in
     ap (plus (unassigned_weight s.unassigned)) (ap (plus t) (ap₂ plus h (ap₂ plus c k)) ∙ plus_nothing t)
 
-module _ (net : Net) (is_net : IsNetwork net) (classes : List Class) (sound : AllAsWanted net classes) (packets : List Packet) (of : All (λ p. IsOf p (numbered classes p.class)) packets) (steps : List Step) (final : State) (ran : run net classes packets steps (opening net classes packets) ≡ Ok final) (complete : Complete final) where
+module _ (net : Net) (is_net : IsNetwork net) (classes : List Class) (sound : AllAsWanted net classes) (packets : List Packet) (of : All (λ p. IsOf p (entry_numbered classes p.class)) packets) (steps : List Step) (final : State) (ran : run net classes packets steps (opening net classes packets) ≡ Ok final) (complete : Complete final) where
   opening_is : (total : Key) → quantity net classes packets total (opening net classes packets) ≡ plain_weight net.report_layout total (to_count classes packets)
   opening_is total = opens net is_net classes packets total (all_wanted net classes packets sound of)
 
@@ -103,7 +103,7 @@ module _ (net : Net) (is_net : IsNetwork net) (classes : List Class) (sound : Al
 
   pub counts_each_modulo : CountsEachModulo net (to_count classes packets) final
   counts_each_modulo = record {
-    totals = λ key. same_total (option_map wrapped (total_at final.totals key)) (option_map wrapped (plain_sum net.report_layout key (to_count classes packets))) (total_modulo (total_at final.totals key) ∙ ap wrapped_weight (totals_weigh key) ∙ plain_modulo net.report_layout key (to_count classes packets));
+    totals = λ key. same_total (option_map counts_modulo (total_at final.totals key)) (option_map counts_modulo (plain_sum net.report_layout key (to_count classes packets))) (total_modulo (total_at final.totals key) ∙ ap wrapped_weight (totals_weigh key) ∙ plain_modulo net.report_layout key (to_count classes packets));
     assigned = assigned;
   }
 

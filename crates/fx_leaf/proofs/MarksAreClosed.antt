@@ -7,8 +7,8 @@ use Rattle.std.specs.Int.{bit_at}
 use Rattle.std.specs.Prelude.{Contains, bit_or}
 use Rattle.fx_tables.specs.declared.observation.Selection.{Selection}
 use Rattle.fx_tables.specs.declared.traffic.Crossing.{Crossing}
-use Rattle.fx_tables.specs.Network.{Net, Point, Exporter, Aggregation, Process, before, points_of, at_places, exporters_of}
-use Rattle.fx_base.specs.Entries.{numbered}
+use Rattle.fx_tables.specs.Network.{Net, Point, Exporter, AggregationEntry, Process, before, points_of, at_places, exporters_of}
+use Rattle.fx_base.specs.Entries.{entry_numbered}
 use Rattle.fx_tables.specs.Occurrences.{watches}
 use Rattle.fx_tables.specs.Orders.{Descends}
 use Rattle.fx_tables.specs.Ranks.{RisesTo, Rises, AllRise, ProcessRises, IsRanked}
@@ -175,22 +175,22 @@ module _ (net : Net) (n : Numbering) where
   on_marked layouts marks i bit size (Some p) =
       let es = at_places net.exporters p.exporters in
       let sent = marks_by net layouts marks es in
-      let hs = map (λ (a : Aggregation). a.holder) p.aggregations in (
+      let hs = map (λ (a : AggregationEntry). a.holder) p.aggregations in (
         λ q. λ f. grown_holders hs sent q i (sent_marked net layouts es marks i bit size q f),
-        λ a. λ at. holders_marked hs sent a.holder (length_by net layouts es marks ∙ size) (mapped (λ (a : Aggregation). a.holder) p.aggregations a at),
+        λ a. λ at. holders_marked hs sent a.holder (length_by net layouts es marks ∙ size) (mapped (λ (a : AggregationEntry). a.holder) p.aggregations a at),
       )
 
   grown_on : (layouts : ℕ) (marks : List ℕ) (o : Option Process) → KeepsMarks marks (marks_on net n layouts marks o)
   grown_on layouts marks None q i h = h
   grown_on layouts marks (Some p) q i h =
       let es = at_places net.exporters p.exporters in
-      grown_holders (map (λ (a : Aggregation). a.holder) p.aggregations) (marks_by net layouts marks es) q i (grown_by net layouts es marks q i h)
+      grown_holders (map (λ (a : AggregationEntry). a.holder) p.aggregations) (marks_by net layouts marks es) q i (grown_by net layouts es marks q i h)
 
   length_on : (layouts : ℕ) (marks : List ℕ) (o : Option Process) → length (marks_on net n layouts marks o) ≡ length marks
   length_on layouts marks None = refl
   length_on layouts marks (Some p) =
       let es = at_places net.exporters p.exporters in
-      length_holders (map (λ (a : Aggregation). a.holder) p.aggregations) (marks_by net layouts marks es) ∙ length_by net layouts es marks
+      length_holders (map (λ (a : AggregationEntry). a.holder) p.aggregations) (marks_by net layouts marks es) ∙ length_by net layouts es marks
 
   from_marked : (marks : List ℕ) (p i : ℕ) → length marks ≡ length net.processes → IsMarked marks p i → HoldsBehind net n (IsMarked (marks_from net n marks p)) i (slice_get net.processes p)
   from_marked marks p i size h = by (slice_index marks p == 0) refl
@@ -231,7 +231,7 @@ module _ (net : Net) (n : Numbering) where
         let up : rank from < rank q = subst (RisesTo rank from) leads to in
         absurd (omega (arith, within, up))
 
-    same_taken : (as' : List Aggregation) (marks : List ℕ) → Every (λ a. AllRise rank net from (exporters_of net (slice_get net.holders a.holder))) as' → slice_index (marks_by_holders net n marks (map (λ a. a.holder) as')) q ≡ slice_index marks q
+    same_taken : (as' : List AggregationEntry) (marks : List ℕ) → Every (λ a. AllRise rank net from (exporters_of net (slice_get net.holders a.holder))) as' → slice_index (marks_by_holders net n marks (map (λ a. a.holder) as')) q ≡ slice_index marks q
     same_taken [] marks h = refl
     same_taken (a ∷ as') marks h =
         let es = exporters_of net (slice_get net.holders a.holder) in
@@ -323,12 +323,12 @@ module _ (s : Selection) (holder : ℕ) (cached : s.holder ≡ Some holder) wher
   in_at c p watched among (x ∷ xs) (suc k, within, e) =
       behind (if watches x c then holders_by x.selections else []) (holders_at xs c) holder (in_at c p watched among xs (k, le_of_suc-le-suc within, e))
 
-  in_along : (net : Net) (c : Crossing) (p : Point) → watches p c ≡ true → Contains p.selections s → Contains (points_of (numbered net.devices c.device)) p → (cs : List Crossing) → Contains cs c → Contains (holders_along net cs) holder
+  in_along : (net : Net) (c : Crossing) (p : Point) → watches p c ≡ true → Contains p.selections s → Contains (points_of (entry_numbered net.devices c.device)) p → (cs : List Crossing) → Contains cs c → Contains (holders_along net cs) holder
   in_along net c p watched among seen [] at = absurd (let within = at.1 in omega (arith, within))
   in_along net c p watched among seen (x ∷ xs) (zero, within, e) =
-      in_front (holders_at (points_of (numbered net.devices x.device)) x) (holders_along net xs) holder (subst (λ (y : Crossing). Contains (holders_at (points_of (numbered net.devices y.device)) y) holder) (sym e) (in_at c p watched among (points_of (numbered net.devices c.device)) seen))
+      in_front (holders_at (points_of (entry_numbered net.devices x.device)) x) (holders_along net xs) holder (subst (λ (y : Crossing). Contains (holders_at (points_of (entry_numbered net.devices y.device)) y) holder) (sym e) (in_at c p watched among (points_of (entry_numbered net.devices c.device)) seen))
   in_along net c p watched among seen (x ∷ xs) (suc k, within, e) =
-      behind (holders_at (points_of (numbered net.devices x.device)) x) (holders_along net xs) holder (in_along net c p watched among seen xs (k, le_of_suc-le-suc within, e))
+      behind (holders_at (points_of (entry_numbered net.devices x.device)) x) (holders_along net xs) holder (in_along net c p watched among seen xs (k, le_of_suc-le-suc within, e))
 
 pub along_marked : (t : Tables) (path : List Crossing) (marks : List ℕ) → length marks ≡ length t.net.processes → HoldsAlongPath t.net t.numbering (IsMarked (spread t.net t.numbering t.order (marks_by_holders t.net t.numbering marks (holders_along t.net path)))) path
 along_marked t path marks size s m holder cached q f =
@@ -343,7 +343,7 @@ module _ (net : Net) (n : Numbering) where
       let here : drop k ps ≡ p ∷ drop (k + 1) ps = drop_here ps k p lt ∙ ap (λ (x : Point). x ∷ drop (k + 1) ps) (sym is) in
       ap (λ m. marks_by_holders net n m (holders_at (drop (k + 1) ps) crossing)) e ∙ sym (after_both net n (if watches p crossing then holders_by p.selections else []) (holders_at (drop (k + 1) ps) crossing) marks) ∙ ap (λ (xs : List Point). marks_by_holders net n marks (holders_at xs crossing)) (sym here)
 
-  pub crossings_more : (marks now : List ℕ) (k : ℕ) (cs : List Crossing) (c : Crossing) → k < length cs → c ≡ get_or cs k c → now ≡ marks_by_holders net n marks (holders_at (points_of (numbered net.devices c.device)) c) → marks_by_holders net n now (holders_along net (drop (k + 1) cs)) ≡ marks_by_holders net n marks (holders_along net (drop k cs))
+  pub crossings_more : (marks now : List ℕ) (k : ℕ) (cs : List Crossing) (c : Crossing) → k < length cs → c ≡ get_or cs k c → now ≡ marks_by_holders net n marks (holders_at (points_of (entry_numbered net.devices c.device)) c) → marks_by_holders net n now (holders_along net (drop (k + 1) cs)) ≡ marks_by_holders net n marks (holders_along net (drop k cs))
   crossings_more marks now k cs c lt is e =
       let here : drop k cs ≡ c ∷ drop (k + 1) cs = drop_here cs k c lt ∙ ap (λ (x : Crossing). x ∷ drop (k + 1) cs) (sym is) in
-      ap (λ m. marks_by_holders net n m (holders_along net (drop (k + 1) cs))) e ∙ sym (after_both net n (holders_at (points_of (numbered net.devices c.device)) c) (holders_along net (drop (k + 1) cs)) marks) ∙ ap (λ (xs : List Crossing). marks_by_holders net n marks (holders_along net xs)) (sym here)
+      ap (λ m. marks_by_holders net n m (holders_along net (drop (k + 1) cs))) e ∙ sym (after_both net n (holders_at (points_of (entry_numbered net.devices c.device)) c) (holders_along net (drop (k + 1) cs)) marks) ∙ ap (λ (xs : List Crossing). marks_by_holders net n marks (holders_along net xs)) (sym here)

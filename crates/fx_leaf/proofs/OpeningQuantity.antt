@@ -8,7 +8,7 @@ use Rattle.fx_tables.specs.declared.record.Record.{Record}
 use Rattle.fx_tables.specs.declared.traffic.Crossing.{Crossing}
 use Rattle.fx_tables.specs.declared.observation.Occurrence.{Occurrence}
 use Rattle.fx_tables.specs.declared.packet.Packet.{Packet}
-use Rattle.fx_base.specs.Entries.{numbered}
+use Rattle.fx_base.specs.Entries.{entry_numbered}
 use Rattle.fx_tables.specs.Network.{Net, layout_of}
 use Rattle.fx_tables.specs.Classes.{path, exempts, to_count, Class}
 use Rattle.fx_tables.specs.Occurrences.{occurrences}
@@ -16,7 +16,7 @@ use Rattle.fx_machine.specs.States.{crossings_from, coming_from, nothing_at, ope
 use Rattle.fx_machine.specs.Acts.{Act}
 use Rattle.fx_machine.specs.Steps.{crossing_acts, one_packet, meet}
 use Rattle.fx_machine.specs.Sums.{plain_sum, one_more, IsBelow}
-use Rattle.fx_machine.specs.Claim.{wrapped}
+use Rattle.fx_machine.specs.Claim.{counts_modulo}
 use Rattle.fx_tables.specs.Ranks.{IsNetwork}
 use Rattle.fx_machine.proofs.Lists.{nothing_empty}
 use Rattle.fx_leaf.specs.declared.verdict.Fate.TheVariants.{Once}
@@ -91,12 +91,12 @@ module _ (net : Net) (is_net : IsNetwork net) (classes : List Class) (packets : 
       all_weighed (act_fate at net) (λ a. part_of net total (key_of_act a) (one_packet p)) (part p) (acts_along net p.fields cs) (along_part p cs) (subst IsGood (sym is) (wanted_good exempt)) ∙ ap (λ f. by_fate f (part p)) is
 
   abbrev exempted : Packet → Bool
-  exempted p = exempts (numbered classes p.class)
+  exempted p = exempts (entry_numbered classes p.class)
 
   abbrev weight : Coming → Weight
   weight = coming_weight at net classes packets total
 
-  crossings_weigh : (p : Packet) (i n : ℕ) (cs : List Crossing) → numbered packets i ≡ Some p → StandsAt (path classes p) n cs → weigh_all weight (crossings_from i (suc n) cs) ≡ weigh_all (act_weight at net total (one_packet p)) (acts_along net p.fields cs)
+  crossings_weigh : (p : Packet) (i n : ℕ) (cs : List Crossing) → entry_numbered packets i ≡ Some p → StandsAt (path classes p) n cs → weigh_all weight (crossings_from i (suc n) cs) ≡ weigh_all (act_weight at net total (one_packet p)) (acts_along net p.fields cs)
   crossings_weigh p i n [] is h = refl
   crossings_weigh p i n (c ∷ cs) is h =
       let here : weight (record { packet = i; crossing = suc n }) ≡ weigh_all (act_weight at net total (one_packet p)) (crossing_acts net p.fields (Some c)) = ap (λ q. packet_weight at net classes total q (suc n)) is ∙ ap (λ o. weigh_all (act_weight at net total (one_packet p)) (crossing_acts net p.fields o)) h.0 in
@@ -141,27 +141,27 @@ sum_modulo : (m n a b : ℕ) → a % m ≡ b % m → (n + a) % m % m ≡ (n + b)
 sum_modulo m n a b h =
     mod-mod (n + a) m ∙ sym (add-mod-mod n a m) ∙ ap (λ k. (n + k) % m) h ∙ add-mod-mod n b m
 
-add_modulo : (octets : ℕ) (w : Weight) (o : Option Counts) → wrapped_weight w ≡ total_weight (option_map wrapped o) → wrapped_weight (plus (Counted (record { packets = 1; octets = octets })) w) ≡ Counted (wrapped (one_more octets o))
+add_modulo : (octets : ℕ) (w : Weight) (o : Option Counts) → wrapped_weight w ≡ total_weight (option_map counts_modulo o) → wrapped_weight (plus (Counted (record { packets = 1; octets = octets })) w) ≡ Counted (counts_modulo (one_more octets o))
 add_modulo octets Wrong None h = absurd (cc)
 add_modulo octets Wrong (Some c) h = absurd (cc)
 add_modulo octets Nothing None h = refl
 add_modulo octets Nothing (Some c) h = absurd (cc)
 add_modulo octets (Counted b) None h = absurd (cc)
 add_modulo octets (Counted b) (Some c) h =
-    let same : wrapped b ≡ wrapped c = cc in
+    let same : counts_modulo b ≡ counts_modulo c = cc in
     ap Counted (ap₂ (λ (p q : ℕ). record { packets = p; octets = q }) (sum_modulo (2 ^ 64) 1 b.packets c.packets (ap (λ x. x.packets) same)) (sum_modulo (2 ^ 64) octets b.octets c.octets (ap (λ x. x.octets) same)))
 
 -- modulo 2 to the 64 the packets weigh their plain sum, however large it is
-pub plain_modulo : (layout : Layout) (total : Key) (packets : List Packet) → wrapped_weight (plain_weight layout total packets) ≡ total_weight (option_map wrapped (plain_sum layout total packets))
+pub plain_modulo : (layout : Layout) (total : Key) (packets : List Packet) → wrapped_weight (plain_weight layout total packets) ≡ total_weight (option_map counts_modulo (plain_sum layout total packets))
 plain_modulo layout total [] = refl
 plain_modulo layout total (p ∷ ps) =
     let rest = plain_sum layout total ps in
-    elim (same_key (key_of layout p.fields) total) as (λ b. wrapped_weight (plus (cond b (Counted (one_packet p)) Nothing) (plain_weight layout total ps)) ≡ total_weight (option_map wrapped (cond b (Some (one_more p.octets rest)) rest))) [
+    elim (same_key (key_of layout p.fields) total) as (λ b. wrapped_weight (plus (cond b (Counted (one_packet p)) Nothing) (plain_weight layout total ps)) ≡ total_weight (option_map counts_modulo (cond b (Some (one_more p.octets rest)) rest))) [
       | true ↦ add_modulo p.octets (plain_weight layout total ps) rest (plain_modulo layout total ps)
       | false ↦ plain_modulo layout total ps
     ]
 
-pub total_modulo : (o : Option Counts) → total_weight (option_map wrapped o) ≡ wrapped_weight (total_weight o)
+pub total_modulo : (o : Option Counts) → total_weight (option_map counts_modulo o) ≡ wrapped_weight (total_weight o)
 total_modulo None = refl
 total_modulo (Some c) = refl
 
@@ -171,4 +171,4 @@ total_not_wrong (Some c) e = absurd (cc)
 
 pub plain_not_wrong : (layout : Layout) (total : Key) (packets : List Packet) → plain_weight layout total packets ≢ Wrong
 plain_not_wrong layout total packets e =
-    total_not_wrong (option_map wrapped (plain_sum layout total packets)) (sym (plain_modulo layout total packets) ∙ ap wrapped_weight e)
+    total_not_wrong (option_map counts_modulo (plain_sum layout total packets)) (sym (plain_modulo layout total packets) ∙ ap wrapped_weight e)

@@ -4,7 +4,7 @@ use Rattle.fx_boxes.specs.Boxes.{Bounds}
 use Rattle.fx_tables.specs.declared.observation.Selection.{Selection}
 use Rattle.fx_tables.specs.declared.traffic.Crossing.{Crossing}
 use Rattle.fx_tables.specs.Network.{Net, Point, points_of}
-use Rattle.fx_base.specs.Entries.{numbered}
+use Rattle.fx_base.specs.Entries.{entry_numbered}
 use Rattle.fx_tables.specs.Occurrences.{watches}
 use Rattle.fx_leaf.specs.declared.path.PathFate.{PathFate}
 use Rattle.fx_leaf.specs.Leaves.{AddsVerdicts, numbers_of}
@@ -85,7 +85,7 @@ module _ (at : VerdictAt) (net : Net) (region : Bounds) where
       subst (λ (xs : List SelectionVerdict). AddsVerdicts a c xs) (sym (at_next number k crossing ps p lt is)) (adds_append a b c _ _ so new)
 
   abbrev pub at_crossing : ℕ → Crossing → List SelectionVerdict
-  at_crossing n c = crossing_verdicts at net region n 1 (points_of (numbered net.devices c.device)) c
+  at_crossing n c = crossing_verdicts at net region n 1 (points_of (entry_numbered net.devices c.device)) c
 
   along_more : (n k : ℕ) (cs : List Crossing) (d : Crossing) → k < length cs → path_verdicts at net region n (take (suc k) cs) ≡ path_verdicts at net region n (take k cs) ++ at_crossing (n + k) (get_or cs k d)
   along_more n k [] d lt = absurd (omega arith)

@@ -13,7 +13,7 @@ use Rattle.fx_tables.specs.declared.observation.Occurrence.{Occurrence}
 use Rattle.fx_tables.specs.declared.observation.Selection.{Selection}
 use Rattle.fx_tables.specs.declared.traffic.Crossing.{Crossing}
 use Rattle.fx_tables.specs.Network.{Net, Point, points_of, exporters_of, layout_of}
-use Rattle.fx_base.specs.Entries.{numbered}
+use Rattle.fx_base.specs.Entries.{entry_numbered}
 use Rattle.fx_tables.specs.Occurrences.{selects, occurrence, met_by, watches, met_at, occurrences}
 use Rattle.fx_machine.specs.Acts.{Act, Hold}
 use Rattle.fx_machine.specs.Steps.{meet, crossing_acts}
@@ -130,12 +130,12 @@ module _ (net : Net) (fields : Fields) (s : Selection) (holder : ℕ) (cached : 
     abbrev held : Act
     held = Hold holder (key_of (layout_of (slice_get net.holders holder)) fields)
 
-    held_there : Contains (points_of (numbered net.devices crossing.device)) point → Contains (crossing_acts net fields (Some crossing)) held
+    held_there : Contains (points_of (entry_numbered net.devices crossing.device)) point → Contains (crossing_acts net fields (Some crossing)) held
     held_there seen =
-        let m = met_among 1 (points_of (numbered net.devices crossing.device)) seen in
+        let m = met_among 1 (points_of (entry_numbered net.devices crossing.device)) seen in
         subst (λ h. Contains (crossing_acts net fields (Some crossing)) (Hold h (key_of (layout_of (slice_get net.holders h)) fields))) m.2 (mapped (meet net fields) (occurrences net crossing fields) m.0 m.1)
 
-    held_along : (path : List Crossing) → Contains path crossing → Contains (points_of (numbered net.devices crossing.device)) point → Contains (acts_along net fields path) held
+    held_along : (path : List Crossing) → Contains path crossing → Contains (points_of (entry_numbered net.devices crossing.device)) point → Contains (acts_along net fields path) held
     held_along [] at seen = absurd (let lt = at.1 in omega (arith, lt))
     held_along (c ∷ cs) (zero, lt, e) seen =
         in_front (crossing_acts net fields (Some c)) (acts_along net fields cs) held (subst (λ (x : Crossing). Contains (crossing_acts net fields (Some x)) held) (sym e) (held_there seen))

@@ -7,7 +7,7 @@ use Rattle.fx_tables.specs.declared.observation.Occurrence.{Occurrence}
 use Rattle.fx_tables.specs.declared.observation.Selection.{Selection}
 use Rattle.fx_tables.specs.declared.traffic.Crossing.{Crossing}
 use Rattle.fx_tables.specs.Network.{Net, Point, points_of, layout_of}
-use Rattle.fx_base.specs.Entries.{numbered}
+use Rattle.fx_base.specs.Entries.{entry_numbered}
 use Rattle.fx_tables.specs.Occurrences.{selects, occurrence, met_by, watches, met_at, occurrences}
 use Rattle.fx_leaf.specs.declared.regions.Overlap.{Overlap}
 use Rattle.fx_leaf.specs.declared.regions.Overlap.TheVariants.{Whole, Part, Nothing}
@@ -246,10 +246,10 @@ module _ (net : Net) (fits : (holder : ℕ) → Fits (layout_of (slice_get net.h
   pub along_followed : (c : ℕ) (path : List Crossing) → Sure (verdict_of_all (map (λ s. s.verdict) (path_verdicts (verdict net region) net region c path))) → F (met_along net fields c path) (path_verdicts (verdict net region) net region c path)
   along_followed c [] sure = refl
   along_followed c (crossing ∷ path) sure =
-      let seen = crossing_verdicts (verdict net region) net region c 1 (points_of (numbered net.devices crossing.device)) crossing in
+      let seen = crossing_verdicts (verdict net region) net region c 1 (points_of (entry_numbered net.devices crossing.device)) crossing in
       let more = path_verdicts (verdict net region) net region (c + 1) path in
       let two = sure_append seen more sure in
-      follow_append (met_fate net fields) (map (at_crossing c) (occurrences net crossing fields)) (met_along net fields (c + 1) path) seen more (at_followed c 1 (points_of (numbered net.devices crossing.device)) crossing two.0) (along_followed (c + 1) path two.1)
+      follow_append (met_fate net fields) (map (at_crossing c) (occurrences net crossing fields)) (met_along net fields (c + 1) path) seen more (at_followed c 1 (points_of (entry_numbered net.devices crossing.device)) crossing two.0) (along_followed (c + 1) path two.1)
 
   -- the verdict is the fate of the packet
   pub packet_said : (path : List Crossing) (f : Fate) → path_verdict net region path ≡ Some f → packet_fate net fields path ≡ f

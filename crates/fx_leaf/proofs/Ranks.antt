@@ -1,9 +1,9 @@
 -- Along the ranks, a fate is the one that its own equation gives.
 use Rattle.std.proofs.Common.{◌≡◌, ℕ, zero, suc, ◌+◌, ◌<◌, ◌≤◌, Bool, true, false, cond, ◌&&◌, ◌==◌, List, [], ◌∷◌, ◌++◌, map, filter, length, All, Option, Some, None, refl, ap, ap₂, ◌∙◌, arith, slice_get}
 use Rattle.std.specs.List.{list_all}
-use Rattle.fx_layout.specs.Keys.{Key, refines, project, reads, cut}
+use Rattle.fx_layout.specs.Keys.{Key, refines, project, reads, bits_on}
 use Rattle.fx_layout.proofs.Projections.{and_true, refines_through}
-use Rattle.fx_tables.specs.Network.{at_places, Exporter, Holder, Aggregation, Process, Net, exporters_of, layout_of, takes}
+use Rattle.fx_tables.specs.Network.{at_places, Exporter, Holder, AggregationEntry, Process, Net, exporters_of, layout_of, takes}
 use Rattle.fx_machine.specs.Acts.{Act, Tally, Send}
 use Rattle.fx_machine.specs.Steps.{take_in, acts_of, coming_to}
 use Rattle.fx_tables.specs.Ranks.{RisesTo, Rises, AllRise, ProcessRises, IsRanked}
@@ -62,7 +62,7 @@ module _ (net : Net) (rank : ℕ → ℕ) (from : ℕ) (f g : FateAt) (agree : (
   acts_same : (key : Key) (o : Option Process) → ProcessRises rank net from o → Every SameFate (acts_of net key o)
   acts_same key None h = tt
   acts_same key (Some process) h =
-      let P : Aggregation → Type 0 = λ a. AllRise rank net from (exporters_of net (slice_get net.holders a.holder)) in
+      let P : AggregationEntry → Type 0 = λ a. AllRise rank net from (exporters_of net (slice_get net.holders a.holder)) in
       let taken = every_filter P (takes net key) process.aggregations (every_of_all P process.aggregations h.1) in
       every_append SameFate (map (λ e. Send e key) (at_places net.exporters process.exporters)) (map (take_in net key) (filter (takes net key) process.aggregations)) (every_map_on SameFate (λ e. send_fate f net key e ≡ send_fate g net key e) (λ e. Send e key) (at_places net.exporters process.exporters) (λ e. λ same. same) (sends_same key (at_places net.exporters process.exporters) h.0)) (every_map_on SameFate P (take_in net key) (filter (takes net key) process.aggregations) (λ a. λ rises. held_same (project key (layout_of (slice_get net.holders a.holder))) (slice_get net.holders a.holder) rises) taken)
 
@@ -79,10 +79,10 @@ module _ (net : Net) (at : FateAt) (on : (q : ℕ) (k : Key) → at q k ≡ Once
   abbrev Refined : Key → Act → Type 0
   Refined key a = act_fate at net a ≡ Once → refines key.layout net.report_layout ≡ true
 
-  taken_refined : (key : Key) (a : Aggregation) → takes net key a ≡ true → Refined key (take_in net key a)
+  taken_refined : (key : Key) (a : AggregationEntry) → takes net key a ≡ true → Refined key (take_in net key a)
   taken_refined key a t once =
       let layout = layout_of (slice_get net.holders a.holder) in
-      let reads' = and_true (refines key.layout layout) (list_all (λ e. reads key.layout e.axis e.bits && cut key e.axis e.bits == e.value) a.matches) t in
+      let reads' = and_true (refines key.layout layout) (list_all (λ e. reads key.layout e.axis e.bits && bits_on key e.axis e.bits == e.value) a.matches) t in
       refines_through key.layout layout net.report_layout reads'.0 (held_once at net on (project key layout) (slice_get net.holders a.holder) once)
 
   tally_refined : (key : Key) → Refined key (Tally key)

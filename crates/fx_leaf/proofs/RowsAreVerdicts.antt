@@ -5,7 +5,7 @@ use Rattle.std.proofs.lemmas.Option.{slice_get_past}
 use Rattle.std.specs.Prelude.{Contains}
 use Rattle.fx_boxes.specs.Boxes.{Bounds}
 use Rattle.fx_layout.specs.Keys.{Layout, refines}
-use Rattle.fx_tables.specs.Network.{Net, Exporter, Holder, Aggregation, Process, at_places, exporters_of, layout_of}
+use Rattle.fx_tables.specs.Network.{Net, Exporter, Holder, AggregationEntry, Process, at_places, exporters_of, layout_of}
 use Rattle.fx_tables.specs.Ranks.{RisesTo, Rises, AllRise, ProcessRises, IsRanked}
 use Rattle.fx_tables.specs.Orders.{Descends}
 use Rattle.fx_leaf.specs.declared.verdict.Fate.TheVariants.{Never, Once, Unassigned}
@@ -33,7 +33,7 @@ module _ (net : Net) (n : Numbering) (rank : ℕ → ℕ) (from : ℕ) (P Q : �
   pub on_higher : (i : ℕ) (o : Option Process) → ProcessRises rank net from o → HoldsBehind net n P i o → HoldsBehind net n Q i o
   on_higher i None up h = tt
   on_higher i (Some p) up h =
-      let R : Aggregation → Type 0 = λ a. AllRise rank net from (exporters_of net (slice_get net.holders a.holder)) in (
+      let R : AggregationEntry → Type 0 = λ a. AllRise rank net from (exporters_of net (slice_get net.holders a.holder)) in (
         sent_on_higher i (at_places net.exporters p.exporters) up.0 h.0,
         λ a. λ at. sent_on_higher (number_of_layout n a.holder) (exporters_of net (slice_get net.holders a.holder)) (every_at R p.aggregations a (every_of_all R p.aggregations up.1) at) (h.1 a at),
       )
@@ -106,11 +106,11 @@ module _ (net : Net) (n : Numbering) (region : Bounds) (ranked : IsRanked net) (
       by None e h = refl
       by (Some x) e h = sent_same (number_of_layout n holder) x.layout (numbers holder x e) (exporters_of net (Some x)) h
 
-  taken_same : (layout : Layout) (a : Aggregation) → HoldsBehindHolder net n Right a.holder → taken_entry table net n region layout a ≡ taken_verdict (verdict net region) net region layout a
+  taken_same : (layout : Layout) (a : AggregationEntry) → HoldsBehindHolder net n Right a.holder → taken_entry table net n region layout a ≡ taken_verdict (verdict net region) net region layout a
   taken_same layout a h =
       ap (λ v. cond (layout_reads net layout a) (overlap_verdict (region_overlap region (match_fields a.matches)) v) (Some Never)) (holder_same a.holder h)
 
-  all_taken_same : (layout : Layout) (as' : List Aggregation) → ((a : Aggregation) → Contains as' a → HoldsBehindHolder net n Right a.holder) → map (taken_entry table net n region layout) as' ≡ map (taken_verdict (verdict net region) net region layout) as'
+  all_taken_same : (layout : Layout) (as' : List AggregationEntry) → ((a : AggregationEntry) → Contains as' a → HoldsBehindHolder net n Right a.holder) → map (taken_entry table net n region layout) as' ≡ map (taken_verdict (verdict net region) net region layout) as'
   all_taken_same layout [] h = refl
   all_taken_same layout (a ∷ as') h =
       ap₂ (λ (v : Verdict) (vs : List Verdict). v ∷ vs) (taken_same layout a (h a (zero, omega arith, refl))) (all_taken_same layout as' (λ x. λ at. h x (further x a as' at)))

@@ -2,18 +2,18 @@
 use Rattle.std.proofs.Common.{◌≡◌, ◌≢◌, ℕ, suc, Bool, true, false, cond, if◌then◌else◌, ◌&&◌, ◌==◌, List, [], ◌∷◌, ◌++◌, map, filter, Option, Some, None, Ok, Err, refl, sym, ap, ap₂, ◌∙◌, subst, slice_get, slice_set, remove, length-set, eqb-true}
 use Rattle.std.specs.List.{list_all}
 use Rattle.fx_base.specs.declared.counts.Counts.{Counts}
-use Rattle.fx_layout.specs.Keys.{Key, refines, project, same_key, reads, cut}
+use Rattle.fx_layout.specs.Keys.{Key, refines, project, same_key, reads, bits_on}
 use Rattle.fx_layout.proofs.Projections.{and_true, project_again}
 use Rattle.fx_tables.specs.declared.record.Record.{Record}
 use Rattle.fx_tables.specs.declared.packet.Packet.{Packet}
 use Rattle.fx_run_text.specs.declared.step.Step.{Step}
 use Rattle.fx_run_text.specs.declared.step.Step.TheVariants.{Cross, Expire, Arrive}
-use Rattle.fx_tables.specs.Network.{at_places, holder_place, Exporter, Holder, Aggregation, Process, Net, exporters_of, layout_of, takes}
-use Rattle.fx_base.specs.Entries.{numbered}
+use Rattle.fx_tables.specs.Network.{at_places, holder_place, Exporter, Holder, AggregationEntry, Process, Net, exporters_of, layout_of, takes}
+use Rattle.fx_base.specs.Entries.{entry_numbered}
 use Rattle.fx_tables.specs.Classes.{Class, path}
 use Rattle.fx_machine.specs.States.{State, without, Coming}
 use Rattle.fx_machine.specs.Acts.{Choices, Act, Tally, Send, Outcome, all_acts}
-use Rattle.fx_machine.specs.Steps.{leaving, take_in, acts_of, coming_to, arriving, crossing_acts, one_packet, later, place, after_cross, after_expire, after_arrive, expire_from, expire_at, arrive_from, arrive_at, link_place, after, then_run, run}
+use Rattle.fx_machine.specs.Steps.{acts_of_leaving, take_in, acts_of, coming_to, acts_of_arrival, crossing_acts, one_packet, later, place, after_cross, after_expire, after_arrive, expire_from, expire_at, arrive_from, arrive_at, link_place, after, then_run, run}
 use Rattle.fx_leaf.specs.declared.verdict.Fate.TheVariants.{Once}
 use Rattle.fx_leaf.specs.Fates.{FateAt, all_happen, one_happens, process_fate, destination_fate, send_fate, held_fate, act_fate}
 use Rattle.fx_leaf.specs.Quantity.{Weight, Wrong, Nothing, Counted, plus, weigh_all, part_of, by_fate, key_of_act, act_weight, held_weight, carried_weight, coming_weight, packet_weight, quantity_by}
@@ -98,11 +98,11 @@ module _ (at : FateAt) (net : Net) (known : IsFate at net) (classes : List Class
   SameShare : Key → Counts → Act → Type 0
   SameShare key counts a = act_fate at net a ≡ Once → part_of net total (key_of_act a) counts ≡ part_of net total key counts
 
-  taken_share : (key : Key) (counts : Counts) (a : Aggregation) → takes net key a ≡ true → SameShare key counts (take_in net key a)
+  taken_share : (key : Key) (counts : Counts) (a : AggregationEntry) → takes net key a ≡ true → SameShare key counts (take_in net key a)
   unfolding SameShare
   taken_share key counts a t once =
       let layout = layout_of (slice_get net.holders a.holder) in
-      let reads' = and_true (refines key.layout layout) (list_all (λ e. reads key.layout e.axis e.bits && cut key e.axis e.bits == e.value) a.matches) t in
+      let reads' = and_true (refines key.layout layout) (list_all (λ e. reads key.layout e.axis e.bits && bits_on key e.axis e.bits == e.value) a.matches) t in
       let on = held_once at net known.refined (project key layout) (slice_get net.holders a.holder) once in
       ap (λ k. if same_key k total then Counted counts else Nothing) (project_again key layout net.report_layout reads'.0 on)
 
@@ -128,11 +128,11 @@ module _ (at : FateAt) (net : Net) (known : IsFate at net) (classes : List Class
       let good' = subst IsGood (known.unfolds process key) good in
       all_weighed (act_fate at net) (λ a. part_of net total (key_of_act a) counts) (part_of net total key counts) (coming_to net key process) (coming_share key counts process) good' ∙ ap (λ f. by_fate f (part_of net total key counts)) (sym (known.unfolds process key))
 
-  arriving_weighs : (key : Key) (counts : Counts) (o : Option ℕ) → IsGood (process_fate at key o) → weigh_all (act_weight at net total counts) (arriving net key o) ≡ by_fate (process_fate at key o) (part_of net total key counts)
+  arriving_weighs : (key : Key) (counts : Counts) (o : Option ℕ) → IsGood (process_fate at key o) → weigh_all (act_weight at net total counts) (acts_of_arrival net key o) ≡ by_fate (process_fate at key o) (part_of net total key counts)
   arriving_weighs key counts None good = refl
   arriving_weighs key counts (Some process) good = coming_weighs key counts process good
 
-  leaving_weighs : (holder : ℕ) (key : Key) (counts : Counts) → IsGood (held_fate at net key (slice_get net.holders holder)) → weigh_all (act_weight at net total counts) (leaving net holder key) ≡ by_fate (held_fate at net key (slice_get net.holders holder)) (part_of net total key counts)
+  leaving_weighs : (holder : ℕ) (key : Key) (counts : Counts) → IsGood (held_fate at net key (slice_get net.holders holder)) → weigh_all (act_weight at net total counts) (acts_of_leaving net holder key) ≡ by_fate (held_fate at net key (slice_get net.holders holder)) (part_of net total key counts)
   leaving_weighs holder key counts good =
       let w = part_of net total key counts in
       let es = exporters_of net (slice_get net.holders holder) in
@@ -151,31 +151,31 @@ module _ (at : FateAt) (net : Net) (known : IsFate at net) (classes : List Class
       let gain = Acts.acts_gain at net classes packets total counts acts (record { state = mid; choices = choices }) new z (subst (λ v. v ≢ Wrong) (sym e) w_good) h in
       record { kept = gain.gained ∙ ap (plus (Q mid)) e ∙ sym left; sized = gain.sized }
 
-  expire_keeps : (holder number : ℕ) (rs : List Record) (o : Option Record) (s new : State) (choices : Choices) → slice_get s.held holder ≡ Some rs → numbered rs number ≡ o → Q s ≢ Wrong → Acts.IsSized net s → after_expire net holder rs number o s choices ≡ Ok new → Keeps s new
+  expire_keeps : (holder number : ℕ) (rs : List Record) (o : Option Record) (s new : State) (choices : Choices) → slice_get s.held holder ≡ Some rs → entry_numbered rs number ≡ o → Q s ≢ Wrong → Acts.IsSized net s → after_expire net holder rs number o s choices ≡ Ok new → Keeps s new
   expire_keeps holder number rs None s new choices at_holder is good z h = absurd (cc)
   expire_keeps holder number rs (Some r) s new choices at_holder is good z h =
       let less = slice_set s.held holder (without rs number) in
       let w = by_fate (held_fate at net r.key (slice_get net.holders holder)) (part_of net total r.key r.counts) in
       let mid : State = record s { held = less } in
       let shrinks = weigh_each_less (held_weight at net total) s.held holder rs (without rs number) w at_holder (weigh_without (λ x. by_fate (held_fate at net x.key (slice_get net.holders holder)) (part_of net total x.key x.counts)) rs number r is) in
-      comes_back s mid new w (leaving net holder r.key) r.counts choices (Acts.held_more at net classes packets total mid s.held w shrinks) good (record { held = length-set s.held holder (without rs number) ∙ z.held; carried = z.carried }) (λ g. leaving_weighs holder r.key r.counts (good_of_weight (held_fate at net r.key (slice_get net.holders holder)) (part_of net total r.key r.counts) g)) h
+      comes_back s mid new w (acts_of_leaving net holder r.key) r.counts choices (Acts.held_more at net classes packets total mid s.held w shrinks) good (record { held = length-set s.held holder (without rs number) ∙ z.held; carried = z.carried }) (λ g. leaving_weighs holder r.key r.counts (good_of_weight (held_fate at net r.key (slice_get net.holders holder)) (part_of net total r.key r.counts) g)) h
 
-  arrive_keeps : (link number : ℕ) (rs : List Record) (o : Option Record) (s new : State) (choices : Choices) → slice_get s.carried link ≡ Some rs → numbered rs number ≡ o → Q s ≢ Wrong → Acts.IsSized net s → after_arrive net link rs number o s choices ≡ Ok new → Keeps s new
+  arrive_keeps : (link number : ℕ) (rs : List Record) (o : Option Record) (s new : State) (choices : Choices) → slice_get s.carried link ≡ Some rs → entry_numbered rs number ≡ o → Q s ≢ Wrong → Acts.IsSized net s → after_arrive net link rs number o s choices ≡ Ok new → Keeps s new
   arrive_keeps link number rs None s new choices at_link is good z h = absurd (cc)
   arrive_keeps link number rs (Some r) s new choices at_link is good z h =
       let less = slice_set s.carried link (without rs number) in
       let w = by_fate (process_fate at r.key (slice_get net.links link)) (part_of net total r.key r.counts) in
       let mid : State = record s { carried = less } in
       let shrinks = weigh_each_less (carried_weight at net total) s.carried link rs (without rs number) w at_link (weigh_without (λ x. by_fate (process_fate at x.key (slice_get net.links link)) (part_of net total x.key x.counts)) rs number r is) in
-      comes_back s mid new w (arriving net r.key (slice_get net.links link)) r.counts choices (Acts.carried_more at net classes packets total mid s.carried w shrinks) good (record { held = z.held; carried = length-set s.carried link (without rs number) ∙ z.carried }) (λ g. arriving_weighs r.key r.counts (slice_get net.links link) (good_of_weight (process_fate at r.key (slice_get net.links link)) (part_of net total r.key r.counts) g)) h
+      comes_back s mid new w (acts_of_arrival net r.key (slice_get net.links link)) r.counts choices (Acts.carried_more at net classes packets total mid s.carried w shrinks) good (record { held = z.held; carried = length-set s.carried link (without rs number) ∙ z.carried }) (λ g. arriving_weighs r.key r.counts (slice_get net.links link) (good_of_weight (process_fate at r.key (slice_get net.links link)) (part_of net total r.key r.counts) g)) h
 
-  cross_keeps : (crossing n packet : ℕ) (p : Option Packet) (o : Option ℕ) (s new : State) (choices : Choices) → numbered packets packet ≡ p → place s.coming packet crossing ≡ o → Q s ≢ Wrong → Acts.IsSized net s → after_cross net classes p o crossing s choices ≡ Ok new → Keeps s new
+  cross_keeps : (crossing n packet : ℕ) (p : Option Packet) (o : Option ℕ) (s new : State) (choices : Choices) → entry_numbered packets packet ≡ p → place s.coming packet crossing ≡ o → Q s ≢ Wrong → Acts.IsSized net s → after_cross net classes p o crossing s choices ≡ Ok new → Keeps s new
   cross_keeps crossing n packet p None s new choices is at_place good z h = absurd (cc)
   cross_keeps crossing n packet None (Some m) s new choices is at_place good z h = absurd (cc)
   cross_keeps crossing n packet (Some p) (Some m) s new choices is at_place good z h =
       let mid : State = record s { coming = remove s.coming m } in
       let here : Coming = record { packet = packet; crossing = crossing } in
-      let acts = crossing_acts net p.fields (numbered (path classes p) crossing) in
+      let acts = crossing_acts net p.fields (entry_numbered (path classes p) crossing) in
       let w = weigh_all (act_weight at net total (one_packet p)) acts in
       let less = weigh_remove (coming_weight at net classes packets total) s.coming m here (placed s.coming packet crossing m at_place) in
       let same : coming_weight at net classes packets total here ≡ w = ap (λ q. packet_weight at net classes total q crossing) is in
@@ -184,11 +184,11 @@ module _ (at : FateAt) (net : Net) (known : IsFate at net) (classes : List Class
 
   expire_from_keeps : (holder number : ℕ) (o : Option (List Record)) (s new : State) (choices : Choices) → slice_get s.held holder ≡ o → Q s ≢ Wrong → Acts.IsSized net s → expire_from net holder o number s choices ≡ Ok new → Keeps s new
   expire_from_keeps holder number None s new choices is good z h = absurd (cc)
-  expire_from_keeps holder number (Some rs) s new choices is good z h = expire_keeps holder number rs (numbered rs number) s new choices is refl good z h
+  expire_from_keeps holder number (Some rs) s new choices is good z h = expire_keeps holder number rs (entry_numbered rs number) s new choices is refl good z h
 
   arrive_from_keeps : (link number : ℕ) (o : Option (List Record)) (s new : State) (choices : Choices) → slice_get s.carried link ≡ o → Q s ≢ Wrong → Acts.IsSized net s → arrive_from net link o number s choices ≡ Ok new → Keeps s new
   arrive_from_keeps link number None s new choices is good z h = absurd (cc)
-  arrive_from_keeps link number (Some rs) s new choices is good z h = arrive_keeps link number rs (numbered rs number) s new choices is refl good z h
+  arrive_from_keeps link number (Some rs) s new choices is good z h = arrive_keeps link number rs (entry_numbered rs number) s new choices is refl good z h
 
   expire_at_keeps : (number : ℕ) (o : Option ℕ) (s new : State) (choices : Choices) → Q s ≢ Wrong → Acts.IsSized net s → expire_at net o number s choices ≡ Ok new → Keeps s new
   expire_at_keeps number None s new choices good z h = absurd (cc)
@@ -201,7 +201,7 @@ module _ (at : FateAt) (net : Net) (known : IsFate at net) (classes : List Class
   -- each step
   pub step_keeps : (step : Step) (s new : State) → Q s ≢ Wrong → Acts.IsSized net s → after net classes packets step s ≡ Ok new → Keeps s new
   step_keeps (Cross packet crossing choices) s new good z h =
-      cross_keeps crossing 0 packet (numbered packets packet) (place s.coming packet crossing) s new choices refl refl good z h
+      cross_keeps crossing 0 packet (entry_numbered packets packet) (place s.coming packet crossing) s new choices refl refl good z h
   step_keeps (Expire holder number choices) s new good z h = expire_at_keeps number (holder_place net holder) s new choices good z h
   step_keeps (Arrive link number choices) s new good z h = arrive_at_keeps number (link_place link) s new choices good z h
 

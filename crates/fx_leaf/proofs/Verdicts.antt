@@ -3,10 +3,10 @@ use Rattle.std.proofs.Common.{◌≡◌, ℕ, zero, suc, Bool, true, false, cond
 use Rattle.std.specs.List.{list_all}
 use Rattle.fx_elements.specs.Axes.{Fields}
 use Rattle.fx_boxes.specs.Boxes.{Bounds, IsRegion, holds}
-use Rattle.fx_layout.specs.Keys.{Layout, Key, Fits, key_of, refines, reads, cut}
+use Rattle.fx_layout.specs.Keys.{Layout, Key, Fits, key_of, refines, reads, bits_on}
 use Rattle.fx_layout.proofs.Projections.{and_true, cut_of_key, project_key}
 use Rattle.fx_tables.specs.declared.aggregation.MatchEntry.{MatchEntry}
-use Rattle.fx_tables.specs.Network.{Net, Exporter, Aggregation, Process, at_places, exporters_of, layout_of, takes}
+use Rattle.fx_tables.specs.Network.{Net, Exporter, AggregationEntry, Process, at_places, exporters_of, layout_of, takes}
 use Rattle.fx_machine.specs.Acts.{Tally, Send}
 use Rattle.fx_machine.specs.Steps.{take_in, acts_of}
 use Rattle.fx_leaf.specs.declared.regions.Overlap.{Overlap}
@@ -243,19 +243,19 @@ module _ (net : Net) (at : VerdictAt) (fates : FateAt) (layout : Layout) (key : 
 -- ---- aggregations
 
 -- what a packet's key is compared with is what the packet is compared with
-reads_same : (layout : Layout) (fields : Fields) (es : List MatchEntry) → Fits layout → list_all (λ e. reads layout e.axis e.bits) es ≡ true → list_all (λ e. reads layout e.axis e.bits && cut (key_of layout fields) e.axis e.bits == e.value) es ≡ matches_packet es fields
+reads_same : (layout : Layout) (fields : Fields) (es : List MatchEntry) → Fits layout → list_all (λ e. reads layout e.axis e.bits) es ≡ true → list_all (λ e. reads layout e.axis e.bits && bits_on (key_of layout fields) e.axis e.bits == e.value) es ≡ matches_packet es fields
 reads_same layout fields [] fits h = refl
 reads_same layout fields (e ∷ es) fits h =
     let two = and_true (reads layout e.axis e.bits) (list_all (λ e. reads layout e.axis e.bits) es) h in
     let same = cut_of_key layout fields e.axis e.bits fits two.0 in
     ap₂ (λ (a b : Bool). a && b) (ap₂ (λ (t : Bool) (n : ℕ). t && (n == e.value)) two.0 same) (reads_same layout fields es fits two.1)
 
-unread : (layout : Layout) (fields : Fields) (es : List MatchEntry) → list_all (λ e. reads layout e.axis e.bits) es ≡ false → list_all (λ e. reads layout e.axis e.bits && cut (key_of layout fields) e.axis e.bits == e.value) es ≡ false
+unread : (layout : Layout) (fields : Fields) (es : List MatchEntry) → list_all (λ e. reads layout e.axis e.bits) es ≡ false → list_all (λ e. reads layout e.axis e.bits && bits_on (key_of layout fields) e.axis e.bits == e.value) es ≡ false
 unread layout fields [] h = absurd (cc)
 unread layout fields (e ∷ es) h =
     let rest = unread layout fields es in
-    elim (reads layout e.axis e.bits) as (λ t. (t && list_all (λ e. reads layout e.axis e.bits) es) ≡ false → ((t && cut (key_of layout fields) e.axis e.bits == e.value) && list_all (λ e. reads layout e.axis e.bits && cut (key_of layout fields) e.axis e.bits == e.value) es) ≡ false) [
-      | true ↦ λ k. no_second (cut (key_of layout fields) e.axis e.bits == e.value) _ (rest k)
+    elim (reads layout e.axis e.bits) as (λ t. (t && list_all (λ e. reads layout e.axis e.bits) es) ≡ false → ((t && bits_on (key_of layout fields) e.axis e.bits == e.value) && list_all (λ e. reads layout e.axis e.bits && bits_on (key_of layout fields) e.axis e.bits == e.value) es) ≡ false) [
+      | true ↦ λ k. no_second (bits_on (key_of layout fields) e.axis e.bits == e.value) _ (rest k)
       | false ↦ λ k. refl
     ] h
   where
@@ -263,15 +263,15 @@ unread layout fields (e ∷ es) h =
     no_second true b e = e
     no_second false b e = refl
 
-pub takes_read : (net : Net) (layout : Layout) (fields : Fields) (a : Aggregation) → Fits layout → layout_reads net layout a ≡ true → takes net (key_of layout fields) a ≡ matches_packet a.matches fields
+pub takes_read : (net : Net) (layout : Layout) (fields : Fields) (a : AggregationEntry) → Fits layout → layout_reads net layout a ≡ true → takes net (key_of layout fields) a ≡ matches_packet a.matches fields
 takes_read net layout fields a fits h =
     let two = and_true (refines layout (layout_of (slice_get net.holders a.holder))) (list_all (λ e. reads layout e.axis e.bits) a.matches) h in
     ap₂ (λ (x y : Bool). x && y) two.0 (reads_same layout fields a.matches fits two.1)
 
-pub takes_unread : (net : Net) (layout : Layout) (fields : Fields) (a : Aggregation) → layout_reads net layout a ≡ false → takes net (key_of layout fields) a ≡ false
+pub takes_unread : (net : Net) (layout : Layout) (fields : Fields) (a : AggregationEntry) → layout_reads net layout a ≡ false → takes net (key_of layout fields) a ≡ false
 takes_unread net layout fields a h =
     let none = unread layout fields a.matches in
-    elim (refines layout (layout_of (slice_get net.holders a.holder))) as (λ t. (t && list_all (λ e. reads layout e.axis e.bits) a.matches) ≡ false → (t && list_all (λ e. reads layout e.axis e.bits && cut (key_of layout fields) e.axis e.bits == e.value) a.matches) ≡ false) [
+    elim (refines layout (layout_of (slice_get net.holders a.holder))) as (λ t. (t && list_all (λ e. reads layout e.axis e.bits) a.matches) ≡ false → (t && list_all (λ e. reads layout e.axis e.bits && bits_on (key_of layout fields) e.axis e.bits == e.value) a.matches) ≡ false) [
       | true ↦ λ k. none k
       | false ↦ λ k. refl
     ] h
@@ -289,10 +289,10 @@ module _ (net : Net) (fits : (holder : ℕ) → Fits (layout_of (slice_get net.h
         let layout = layout_of (slice_get net.holders holder) in
         sent_said net at fates layout (key_of layout fields) (λ q. λ g. says q layout g (fits holder)) (exporters_of net (slice_get net.holders holder)) f h
 
-    abbrev taken_fate : Layout → Aggregation → Fate
+    abbrev taken_fate : Layout → AggregationEntry → Fate
     taken_fate layout a = if takes net (key_of layout fields) a then act_fate fates net (take_in net (key_of layout fields) a) else Never
 
-    passed_said : (layout : Layout) (a : Aggregation) (f : Fate) → Fits layout → layout_reads net layout a ≡ true → (o : Overlap) → region_overlap region (match_fields a.matches) ≡ o → overlap_verdict o (holder_verdict at net a.holder) ≡ Some f → taken_fate layout a ≡ f
+    passed_said : (layout : Layout) (a : AggregationEntry) (f : Fate) → Fits layout → layout_reads net layout a ≡ true → (o : Overlap) → region_overlap region (match_fields a.matches) ≡ o → overlap_verdict o (holder_verdict at net a.holder) ≡ Some f → taken_fate layout a ≡ f
     passed_said layout a f l r Part e h = absurd (cc)
     passed_said layout a f l r Whole e h =
         let own = layout_of (slice_get net.holders a.holder) in
@@ -305,7 +305,7 @@ module _ (net : Net) (fits : (holder : ℕ) → Fits (layout_of (slice_get net.h
         let off : takes net (key_of layout fields) a ≡ false = takes_read net layout fields a l r ∙ fails in
         ap (λ t. cond t (act_fate fates net (take_in net (key_of layout fields) a)) Never) off ∙ some_same h
 
-    taken_said : (layout : Layout) → Fits layout → (a : Aggregation) (f : Fate) → taken_verdict at net region layout a ≡ Some f → taken_fate layout a ≡ f
+    taken_said : (layout : Layout) → Fits layout → (a : AggregationEntry) (f : Fate) → taken_verdict at net region layout a ≡ Some f → taken_fate layout a ≡ f
     taken_said layout l a f h =
         elim (layout_reads net layout a) as (λ t. layout_reads net layout a ≡ t → cond t (overlap_verdict (region_overlap region (match_fields a.matches)) (holder_verdict at net a.holder)) (Some Never) ≡ Some f → taken_fate layout a ≡ f) [
           | true ↦ λ r k. passed_said layout a f l r (region_overlap region (match_fields a.matches)) refl k

@@ -9,8 +9,8 @@ use Rattle.fx_layout.proofs.Projections.{and_true, project_key}
 use Rattle.fx_tables.specs.declared.observation.Occurrence.{Occurrence}
 use Rattle.fx_tables.specs.declared.observation.Selection.{Selection}
 use Rattle.fx_tables.specs.declared.traffic.Crossing.{Crossing}
-use Rattle.fx_tables.specs.Network.{Net, Point, Exporter, Aggregation, Process, points_of, at_places, exporters_of, layout_of, aggregations_of, takes}
-use Rattle.fx_base.specs.Entries.{numbered}
+use Rattle.fx_tables.specs.Network.{Net, Point, Exporter, AggregationEntry, Process, points_of, at_places, exporters_of, layout_of, aggregations_of, takes}
+use Rattle.fx_base.specs.Entries.{entry_numbered}
 use Rattle.fx_tables.specs.Occurrences.{selects, occurrence, met_by, watches, met_at, occurrences}
 use Rattle.fx_machine.specs.Acts.{Act, Tally, Send, Hold}
 use Rattle.fx_machine.specs.Steps.{meet, crossing_acts, take_in, acts_of, coming_to}
@@ -128,14 +128,14 @@ module _ (net : Net) (region : Bounds) (rank : ℕ → ℕ) (from : ℕ) (f g : 
   sent_same layout es h =
       ap verdict_of_all (map_same (send_verdict f net layout) (send_verdict g net layout) es (every_on (λ e. All (Rises rank net from) e.destinations) (λ e. send_verdict f net layout e ≡ send_verdict g net layout e) es (send_same layout) (every_of_all (λ e. All (Rises rank net from) e.destinations) es h)))
 
-  taken_same : (layout : Layout) (a : Aggregation) → AllRise rank net from (exporters_of net (slice_get net.holders a.holder)) → taken_verdict f net region layout a ≡ taken_verdict g net region layout a
+  taken_same : (layout : Layout) (a : AggregationEntry) → AllRise rank net from (exporters_of net (slice_get net.holders a.holder)) → taken_verdict f net region layout a ≡ taken_verdict g net region layout a
   taken_same layout a h =
       ap (λ v. cond (layout_reads net layout a) (overlap_verdict (region_overlap region (match_fields a.matches)) v) (Some Never)) (sent_same (layout_of (slice_get net.holders a.holder)) (exporters_of net (slice_get net.holders a.holder)) h)
 
   handled_same : (layout : Layout) (o : Option Process) → ProcessRises rank net from o → handled_verdict f net region layout o ≡ handled_verdict g net region layout o
   handled_same layout None h = refl
   handled_same layout (Some process) h =
-      let P : Aggregation → Type 0 = λ a. AllRise rank net from (exporters_of net (slice_get net.holders a.holder)) in
+      let P : AggregationEntry → Type 0 = λ a. AllRise rank net from (exporters_of net (slice_get net.holders a.holder)) in
       ap₂ verdict_of_both (sent_same layout (at_places net.exporters process.exporters) h.0) (ap verdict_of_all (map_same (taken_verdict f net region layout) (taken_verdict g net region layout) process.aggregations (every_on P (λ a. taken_verdict f net region layout a ≡ taken_verdict g net region layout a) process.aggregations (taken_same layout) (every_of_all P process.aggregations h.1))))
 
   pub coming_same : (layout : Layout) → ProcessRises rank net from (slice_get net.processes from) → coming_verdict f net region from layout ≡ coming_verdict g net region from layout
@@ -240,11 +240,11 @@ module _ (net : Net) (is_net : IsNetwork net) (region : Bounds) (is_region : IsR
     along_fine : (c : ℕ) (path : List Crossing) → Sure (verdict_of_all (map (λ s. s.verdict) (path_verdicts at net region c path))) → Every Leads (acts_along net fields path)
     along_fine c [] s = tt
     along_fine c (crossing ∷ path) s =
-        let two = sure_append (crossing_verdicts at net region c 1 (points_of (numbered net.devices crossing.device)) crossing) (path_verdicts at net region (c + 1) path) s in
-        every_append Leads (crossing_acts net fields (Some crossing)) (acts_along net fields path) (every_mapped Leads (meet net fields) (occurrences net crossing fields) (at_fine c 1 (points_of (numbered net.devices crossing.device)) crossing two.0)) (along_fine (c + 1) path two.1)
+        let two = sure_append (crossing_verdicts at net region c 1 (points_of (entry_numbered net.devices crossing.device)) crossing) (path_verdicts at net region (c + 1) path) s in
+        every_append Leads (crossing_acts net fields (Some crossing)) (acts_along net fields path) (every_mapped Leads (meet net fields) (occurrences net crossing fields) (at_fine c 1 (points_of (entry_numbered net.devices crossing.device)) crossing two.0)) (along_fine (c + 1) path two.1)
 
     -- aggregations
-    taken_fine : (layout : Layout) → Fits layout → (a : Aggregation) → Sure (taken_verdict at net region layout a) → takes net (key_of layout fields) a ≡ true → Leads (take_in net (key_of layout fields) a)
+    taken_fine : (layout : Layout) → Fits layout → (a : AggregationEntry) → Sure (taken_verdict at net region layout a) → takes net (key_of layout fields) a ≡ true → Leads (take_in net (key_of layout fields) a)
     taken_fine layout fits a s t =
         elim (layout_reads net layout a) as (λ b. layout_reads net layout a ≡ b → Sure (cond b (overlap_verdict (region_overlap region (match_fields a.matches)) (holder_verdict at net a.holder)) (Some Never)) → Leads (take_in net (key_of layout fields) a)) [
           | true ↦ λ r k. by_overlap (region_overlap region (match_fields a.matches)) refl r k
@@ -270,7 +270,7 @@ module _ (net : Net) (is_net : IsNetwork net) (region : Bounds) (is_region : IsR
         let takings = every_taken process.aggregations (each_sure (taken_verdict at net region layout) process.aggregations two.1) in
         every_append Leads (map (λ e. Send e key) es) (map (take_in net key) (filter (takes net key) process.aggregations)) sends takings
       where
-        every_taken : (as' : List Aggregation) → Every (λ a. Sure (taken_verdict at net region layout a)) as' → Every Leads (map (take_in net (key_of layout fields)) (filter (takes net (key_of layout fields)) as'))
+        every_taken : (as' : List AggregationEntry) → Every (λ a. Sure (taken_verdict at net region layout a)) as' → Every Leads (map (take_in net (key_of layout fields)) (filter (takes net (key_of layout fields)) as'))
         every_taken [] h = tt
         every_taken (a ∷ as') h =
             let rest = every_taken as' h.1 in
@@ -297,7 +297,7 @@ module _ (net : Net) (is_net : IsNetwork net) (region : Bounds) (is_region : IsR
         let was = reached_fine path s from earlier before in
         every_at Leads (coming_to net (key_of was.layout fields) from) a (coming_fine from was.layout was.fits was.sure) (subst (λ k. Contains (coming_to net k from) a) was.key_is in') process key to
 
-    aggregation_uncut : (layout : Layout) (o : Option Process) (a : Aggregation) → Sure (handled_verdict at net region layout o) → Contains (aggregations_of o) a → layout_reads net layout a ≡ true → Uncut region (matches_packet a.matches)
+    aggregation_uncut : (layout : Layout) (o : Option Process) (a : AggregationEntry) → Sure (handled_verdict at net region layout o) → Contains (aggregations_of o) a → layout_reads net layout a ≡ true → Uncut region (matches_packet a.matches)
     aggregation_uncut layout None a s in' r = absurd (let lt = in'.1 in omega (arith, lt))
     aggregation_uncut layout (Some process) a s in' r =
         let two = sure_parts (sent_verdict at net layout (at_places net.exporters process.exporters)) (verdict_of_all (map (taken_verdict at net region layout) process.aggregations)) s in
@@ -335,16 +335,16 @@ module _ (net : Net) (is_net : IsNetwork net) (region : Bounds) (is_region : IsR
       let two = sure_append (if watches point crossing then point_verdicts at net region c n 1 point.selections else []) (crossing_verdicts at net region c (n + 1) points crossing) s in
       (λ w. selection_uncut c n 1 point.selections (subst (λ t. Sure (verdict_of_all (map (λ s. s.verdict) (cond t (point_verdicts at net region c n 1 point.selections) [])))) w two.0), points_uncut c (n + 1) points crossing two.1)
 
-  crossings_uncut : (n : ℕ) (path : List Crossing) → Sure (verdict_of_all (map (λ s. s.verdict) (path_verdicts at net region n path))) → Every (λ c. Every (PointUncut c) (points_of (numbered net.devices c.device))) path
+  crossings_uncut : (n : ℕ) (path : List Crossing) → Sure (verdict_of_all (map (λ s. s.verdict) (path_verdicts at net region n path))) → Every (λ c. Every (PointUncut c) (points_of (entry_numbered net.devices c.device))) path
   crossings_uncut n [] s = tt
   crossings_uncut n (c ∷ path) s =
-      let two = sure_append (crossing_verdicts at net region n 1 (points_of (numbered net.devices c.device)) c) (path_verdicts at net region (n + 1) path) s in
-      (points_uncut n 1 (points_of (numbered net.devices c.device)) c two.0, crossings_uncut (n + 1) path two.1)
+      let two = sure_append (crossing_verdicts at net region n 1 (points_of (entry_numbered net.devices c.device)) c) (path_verdicts at net region (n + 1) path) s in
+      (points_uncut n 1 (points_of (entry_numbered net.devices c.device)) c two.0, crossings_uncut (n + 1) path two.1)
 
   pub selections_uncut : (path : List Crossing) → Sure (path_verdict net region path) → SelectionsUncut net path region
   selections_uncut path s c p x on at_point watched among some =
-      let points = every_at (λ c. Every (PointUncut c) (points_of (numbered net.devices c.device))) path c (crossings_uncut 1 path s) on in
-      let mine = every_at (PointUncut c) (points_of (numbered net.devices c.device)) p points at_point in
+      let points = every_at (λ c. Every (PointUncut c) (points_of (entry_numbered net.devices c.device))) path c (crossings_uncut 1 path s) on in
+      let mine = every_at (PointUncut c) (points_of (entry_numbered net.devices c.device)) p points at_point in
       every_at (λ s. s.holder ≢ None → Uncut region (selects s.region)) p.selections x (mine watched) among some
 
 -- ---- where there is none, something cuts the region
@@ -394,7 +394,7 @@ module _ (net : Net) (is_net : IsNetwork net) (region : Bounds) (is_region : IsR
         let on = none_behind_by at layout found.0 found.2 in
         later on.process layout (is_net.fits holder) on.none (reaches on.process (key_of layout fields) (found.0, found.1, (on.link, on.among, on.leads, sym is)))
 
-    taken_lost : (from : ℕ) (layout : Layout) → Fits layout → Reached net path fields from (key_of layout fields) → (a : Aggregation) → Contains (aggregations_of (slice_get net.processes from)) a → (takes net (key_of layout fields) a ≡ true → Contains (coming_to net (key_of layout fields) from) (take_in net (key_of layout fields) a)) → taken_verdict at net region layout a ≡ None → ⊥
+    taken_lost : (from : ℕ) (layout : Layout) → Fits layout → Reached net path fields from (key_of layout fields) → (a : AggregationEntry) → Contains (aggregations_of (slice_get net.processes from)) a → (takes net (key_of layout fields) a ≡ true → Contains (coming_to net (key_of layout fields) from) (take_in net (key_of layout fields) a)) → taken_verdict at net region layout a ≡ None → ⊥
     taken_lost from layout fits reached a among done h =
         elim (layout_reads net layout a) as (λ t. layout_reads net layout a ≡ t → cond t (overlap_verdict (region_overlap region (match_fields a.matches)) (holder_verdict at net a.holder)) (Some Never) ≡ None → ⊥) [
           | true ↦ λ r k. by_overlap (region_overlap region (match_fields a.matches)) refl r k
@@ -520,10 +520,10 @@ module _ (net : Net) (is_net : IsNetwork net) (region : Bounds) (is_region : IsR
         | inr k ↦ at_lost c (n + 1) points crossing uncut.1 (λ o. λ at'. inside o (behind met more o at')) k
       ]
 
-  along_lost : (c : ℕ) (cs : List Crossing) → Every (λ x. Every (PointUncut' x) (points_of (numbered net.devices x.device))) cs → ((a : Act) → Contains (acts_along net fields cs) a → InPath a) → verdict_of_all (map (λ s. s.verdict) (path_verdicts all net region c cs)) ≡ None → ⊥
+  along_lost : (c : ℕ) (cs : List Crossing) → Every (λ x. Every (PointUncut' x) (points_of (entry_numbered net.devices x.device))) cs → ((a : Act) → Contains (acts_along net fields cs) a → InPath a) → verdict_of_all (map (λ s. s.verdict) (path_verdicts all net region c cs)) ≡ None → ⊥
   along_lost c [] uncut inside h = absurd (cc)
   along_lost c (crossing ∷ cs) uncut inside h =
-      let points = points_of (numbered net.devices crossing.device) in
+      let points = points_of (entry_numbered net.devices crossing.device) in
       let acts = crossing_acts net fields (Some crossing) in
       elim (none_append (crossing_verdicts all net region c 1 points crossing) (path_verdicts all net region (c + 1) cs) h) [
         | inl k ↦ at_lost c 1 points crossing uncut.0 (λ o. λ at'. inside (meet net fields o) (in_front acts (acts_along net fields cs) (meet net fields o) (mapped (meet net fields) (occurrences net crossing fields) o at'))) k
@@ -532,4 +532,4 @@ module _ (net : Net) (is_net : IsNetwork net) (region : Bounds) (is_region : IsR
 
   pub path_lost : path_verdict net region path ≡ None → ⊥
   path_lost h =
-      along_lost 1 path (every_in (λ x. Every (PointUncut' x) (points_of (numbered net.devices x.device))) path (λ c. λ on. every_in (PointUncut' c) (points_of (numbered net.devices c.device)) (λ p. λ at_point. λ w. every_in (λ s. s.holder ≢ None → Uncut region (selects s.region)) p.selections (λ s. λ among. selections c p s on at_point w among)))) (λ a. λ at'. at') h
+      along_lost 1 path (every_in (λ x. Every (PointUncut' x) (points_of (entry_numbered net.devices x.device))) path (λ c. λ on. every_in (PointUncut' c) (points_of (entry_numbered net.devices c.device)) (λ p. λ at_point. λ w. every_in (λ s. s.holder ≢ None → Uncut region (selects s.region)) p.selections (λ s. λ among. selections c p s on at_point w among)))) (λ a. λ at'. at') h

@@ -4,8 +4,8 @@ use Rattle.std.proofs.Math.Nat.{mod-add-mod, add-mod-mod}
 use Rattle.fx_base.specs.declared.counts.Counts.{Counts}
 use Rattle.fx_base.specs.Counts.{add_counts}
 use Rattle.fx_tables.specs.declared.record.Record.{Record}
-use Rattle.fx_base.specs.Entries.{numbered}
-use Rattle.fx_machine.specs.States.{replaced, without, put_last}
+use Rattle.fx_base.specs.Entries.{entry_numbered}
+use Rattle.fx_machine.specs.States.{with_entry, without, put_last}
 use Rattle.fx_leaf.specs.Quantity.{Weight, Wrong, Nothing, Counted, plus, weigh_all, weigh_each}
 
 pub sum_mod_assoc : (m a b c : ℕ) → ((a + b) % m + c) % m ≡ (a + (b + c) % m) % m
@@ -77,7 +77,7 @@ module _ {A : Type 0} where
   weigh_remove f (y ∷ ys) (suc n) x h =
       ap (plus (f y)) (weigh_remove f ys n x h) ∙ behind (f y) (weigh_all f (remove ys n)) (f x)
 
-  pub weigh_without : (f : A → Weight) (xs : List A) (n : ℕ) (x : A) → numbered xs n ≡ Some x → weigh_all f xs ≡ plus (weigh_all f (without xs n)) (f x)
+  pub weigh_without : (f : A → Weight) (xs : List A) (n : ℕ) (x : A) → entry_numbered xs n ≡ Some x → weigh_all f xs ≡ plus (weigh_all f (without xs n)) (f x)
   weigh_without f xs zero x h = absurd (cc)
   weigh_without f xs (suc n) x h = weigh_remove f xs n x h
 
@@ -88,7 +88,7 @@ module _ {A : Type 0} where
       ap (λ v. plus v (weigh_all f zs)) (e ∙ ap (λ v. plus (f v) w) (sym same)) ∙ in_front (f z) (weigh_all f zs) w
   weigh_set f (z ∷ zs) (suc n) x y w h e = ap (plus (f z)) (weigh_set f zs n x y w h e) ∙ behind (f z) (weigh_all f zs) w
 
-  pub weigh_replaced : (f : A → Weight) (xs : List A) (n : ℕ) (x y : A) (w : Weight) → numbered xs n ≡ Some x → f y ≡ plus (f x) w → weigh_all f (replaced xs n y) ≡ plus (weigh_all f xs) w
+  pub weigh_replaced : (f : A → Weight) (xs : List A) (n : ℕ) (x y : A) (w : Weight) → entry_numbered xs n ≡ Some x → f y ≡ plus (f x) w → weigh_all f (with_entry xs n y) ≡ plus (weigh_all f xs) w
   weigh_replaced f xs zero x y w h e = absurd (cc)
   weigh_replaced f xs (suc n) x y w h e = weigh_set f xs n x y w h e
 

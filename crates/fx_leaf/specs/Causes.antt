@@ -4,7 +4,7 @@ use Rattle.fx_boxes.specs.Boxes.{Bounds, holds}
 use Rattle.fx_elements.specs.Axes.{Fields}
 use Rattle.fx_layout.specs.Keys.{Layout, key_of}
 use Rattle.fx_tables.specs.declared.traffic.Crossing.{Crossing}
-use Rattle.fx_tables.specs.Network.{Net, Exporter, Aggregation, Process, at_places, exporters_of, layout_of}
+use Rattle.fx_tables.specs.Network.{Net, Exporter, AggregationEntry, Process, at_places, exporters_of, layout_of}
 use Rattle.fx_leaf.specs.declared.regions.Overlap.TheVariants.{Whole, Part}
 use Rattle.fx_leaf.specs.declared.cause.Cause.{Cause}
 use Rattle.fx_leaf.specs.declared.cause.Cause.TheVariants.{Split, Behind}
@@ -34,14 +34,14 @@ IsCauseByHolder t table holder (Behind process number) =
     (number ≡ number_of_layout t.numbering holder) × SendsOn table t.net number (exporters_of t.net (slice_get t.net.holders holder)) process
 
 -- an aggregation that reads records of the layout: its match cuts the region, or it takes all and sends them on
-abbrev pub IsCauseInMatch : Tables → Bounds → Table → Layout → Aggregation → Cause → Type 0
+abbrev pub IsCauseInMatch : Tables → Bounds → Table → Layout → AggregationEntry → Cause → Type 0
 IsCauseInMatch t region table layout a (Split axis at) =
     (layout_reads t.net layout a ≡ true) × (region_overlap region (match_fields a.matches) ≡ Part) × IsSplitBy region (match_fields a.matches) axis at
 IsCauseInMatch t region table layout a (Behind process number) =
     (layout_reads t.net layout a ≡ true) × (region_overlap region (match_fields a.matches) ≡ Whole) × IsCauseByHolder t table a.holder (Behind process number)
 
-pub record IsCauseInMatches (t : Tables) (region : Bounds) (table : Table) (layout : Layout) (aggregations : List Aggregation) (cause : Cause) : Type 0 where
-  pub aggregation : Aggregation
+pub record IsCauseInMatches (t : Tables) (region : Bounds) (table : Table) (layout : Layout) (aggregations : List AggregationEntry) (cause : Cause) : Type 0 where
+  pub aggregation : AggregationEntry
   pub among : Contains aggregations aggregation
   pub is_cause : IsCauseInMatch t region table layout aggregation cause
 

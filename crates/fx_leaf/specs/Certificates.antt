@@ -5,7 +5,7 @@ use Rattle.fx_elements.specs.Axes.{Fields, axis_index}
 use Rattle.fx_boxes.specs.Boxes.{Bounds, holds, IsStrictlyInside, below_part, above_part}
 use Rattle.fx_tables.specs.declared.traffic.Crossing.{Crossing}
 use Rattle.fx_tables.specs.Network.{Net, entries}
-use Rattle.fx_base.specs.Entries.{numbered}
+use Rattle.fx_base.specs.Entries.{entry_numbered}
 use Rattle.fx_tables.specs.Classes.{Class}
 use Rattle.fx_leaf.specs.Fates.{packet_fate, wanted_fate}
 use Rattle.fx_leaf.specs.SoundLeaves.{SoundLeaf, SoundNever}
@@ -25,9 +25,9 @@ SoundTree net path exempt region (Split axis at below above) =
 -- a sound tree for each path of each class, over the class's region
 abbrev pub Sound : Net → List Class → List (List Tree) → Type 0
 Sound net classes trees =
-    (c m : ℕ) (class : Class) (path : List Crossing) → numbered classes c ≡ Some class → numbered class.paths m ≡ Some path → (tree : Tree) × (numbered (entries (numbered trees c)) m ≡ Some tree) × SoundTree net path class.exempt class.region tree
+    (c m : ℕ) (class : Class) (path : List Crossing) → entry_numbered classes c ≡ Some class → entry_numbered class.paths m ≡ Some path → (tree : Tree) × (entry_numbered (entries (entry_numbered trees c)) m ≡ Some tree) × SoundTree net path class.exempt class.region tree
 
 -- each packet of a class, on each of its paths, has the fate that the class wants
 abbrev pub AllAsWanted : Net → List Class → Type 0
 AllAsWanted net classes =
-    (c m : ℕ) (class : Class) (path : List Crossing) (fields : Fields) → numbered classes c ≡ Some class → numbered class.paths m ≡ Some path → holds class.region fields ≡ true → packet_fate net fields path ≡ wanted_fate class.exempt
+    (c m : ℕ) (class : Class) (path : List Crossing) (fields : Fields) → entry_numbered classes c ≡ Some class → entry_numbered class.paths m ≡ Some path → holds class.region fields ≡ true → packet_fate net fields path ≡ wanted_fate class.exempt

@@ -4,13 +4,13 @@ use Rattle.std.specs.Option.{option_map}
 use Rattle.fx_layout.specs.Keys.{Key}
 use Rattle.fx_tables.specs.declared.packet.Packet.{Packet}
 use Rattle.fx_run_text.specs.declared.step.Step.{Step}
-use Rattle.fx_base.specs.Entries.{numbered}
+use Rattle.fx_base.specs.Entries.{entry_numbered}
 use Rattle.fx_tables.specs.Network.{Net}
 use Rattle.fx_tables.specs.Classes.{IsOf, Class, to_count}
 use Rattle.fx_machine.specs.States.{State, opening, Complete}
 use Rattle.fx_machine.specs.Steps.{after}
 use Rattle.fx_machine.specs.Sums.{plain_sum, total_at, SumsFit}
-use Rattle.fx_machine.specs.Claim.{ExactlyOnce, OnceModulo, wrapped}
+use Rattle.fx_machine.specs.Claim.{ExactlyOnce, OnceModulo, counts_modulo}
 use Rattle.fx_tables.specs.Ranks.{IsNetwork}
 use Rattle.fx_leaf.specs.Certificates.{Tree, Sound}
 use Rattle.fx_leaf.specs.Quantity.{Wrong, quantity, total_weight, wrapped_weight, unassigned_weight, plus}
@@ -23,12 +23,12 @@ pub record IsSized (net : Net) (s : State) : Type 0 where
 -- in the opening state it is the plain sums over the packets to count
 abbrev pub Opens : Net → List Class → Type 0
 Opens net classes =
-    (packets : List Packet) → All (λ p. IsOf p (numbered classes p.class)) packets → SumsFit net.report_layout (to_count classes packets) → (total : Key) → quantity net classes packets total (opening net classes packets) ≡ total_weight (plain_sum net.report_layout total (to_count classes packets))
+    (packets : List Packet) → All (λ p. IsOf p (entry_numbered classes p.class)) packets → SumsFit net.report_layout (to_count classes packets) → (total : Key) → quantity net classes packets total (opening net classes packets) ≡ total_weight (plain_sum net.report_layout total (to_count classes packets))
 
 -- modulo 2 to the 64, however large they are
 abbrev pub OpensModulo : Net → List Class → Type 0
 OpensModulo net classes =
-    (packets : List Packet) → All (λ p. IsOf p (numbered classes p.class)) packets → (total : Key) → wrapped_weight (quantity net classes packets total (opening net classes packets)) ≡ total_weight (option_map wrapped (plain_sum net.report_layout total (to_count classes packets)))
+    (packets : List Packet) → All (λ p. IsOf p (entry_numbered classes p.class)) packets → (total : Key) → wrapped_weight (quantity net classes packets total (opening net classes packets)) ≡ total_weight (option_map counts_modulo (plain_sum net.report_layout total (to_count classes packets)))
 
 -- a step keeps it, where nothing has gone wrong before
 abbrev pub Keeps : Net → List Class → Step → Type 0

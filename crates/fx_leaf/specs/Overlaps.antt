@@ -4,7 +4,7 @@ use Rattle.std.specs.List.{list_all, list_any}
 use Rattle.fx_elements.specs.declared.axis.Axis.{Axis}
 use Rattle.fx_elements.specs.Axes.{Fields, axes, tops, axis_index, axis_width, same_axis, field}
 use Rattle.fx_boxes.specs.Boxes.{Bounds, holds}
-use Rattle.fx_layout.specs.Keys.{leading}
+use Rattle.fx_layout.specs.Keys.{leading_bits}
 use Rattle.fx_tables.specs.declared.aggregation.MatchEntry.{MatchEntry}
 use Rattle.fx_leaf.specs.declared.regions.Overlap.{Overlap}
 use Rattle.fx_leaf.specs.declared.regions.Overlap.TheVariants.{Whole, Part, Nothing}
@@ -42,7 +42,7 @@ abbrev pub all_fields : Bounds
 all_fields = record { low = map (λ axis. 0) axes; high = tops }
 
 abbrev pub begins_with : MatchEntry → Fields → Bool
-begins_with e fields = leading (axis_width e.axis) e.bits (field fields e.axis) == e.value
+begins_with e fields = leading_bits (axis_width e.axis) e.bits (field fields e.axis) == e.value
 
 -- the values of an axis that begin with the bits of an entry
 abbrev pub entry_low : MatchEntry → ℕ

@@ -5,8 +5,8 @@ use Rattle.fx_base.specs.Counts.{add_counts}
 use Rattle.fx_layout.specs.Keys.{Key, project, same_key}
 use Rattle.fx_tables.specs.declared.record.Record.{Record}
 use Rattle.fx_tables.specs.declared.packet.Packet.{Packet}
-use Rattle.fx_machine.specs.Claim.{wrapped}
-use Rattle.fx_base.specs.Entries.{numbered}
+use Rattle.fx_machine.specs.Claim.{counts_modulo}
+use Rattle.fx_base.specs.Entries.{entry_numbered}
 use Rattle.fx_tables.specs.Network.{Net}
 use Rattle.fx_tables.specs.Classes.{Class, path}
 use Rattle.fx_machine.specs.States.{State, Coming}
@@ -71,10 +71,10 @@ carried_weight at net total link records =
 abbrev pub packet_weight : FateAt → Net → List Class → Key → Option Packet → ℕ → Weight
 packet_weight at net classes total None crossing = Nothing
 packet_weight at net classes total (Some p) crossing =
-    weigh_all (act_weight at net total (one_packet p)) (crossing_acts net p.fields (numbered (path classes p) crossing))
+    weigh_all (act_weight at net total (one_packet p)) (crossing_acts net p.fields (entry_numbered (path classes p) crossing))
 
 abbrev pub coming_weight : FateAt → Net → List Class → List Packet → Key → Coming → Weight
-coming_weight at net classes packets total c = packet_weight at net classes total (numbered packets c.packet) c.crossing
+coming_weight at net classes packets total c = packet_weight at net classes total (entry_numbered packets c.packet) c.crossing
 
 abbrev pub total_weight : Option Counts → Weight
 total_weight None = Nothing
@@ -84,7 +84,7 @@ total_weight (Some counts) = Counted counts
 abbrev pub wrapped_weight : Weight → Weight
 wrapped_weight Wrong = Wrong
 wrapped_weight Nothing = Nothing
-wrapped_weight (Counted counts) = Counted (wrapped counts)
+wrapped_weight (Counted counts) = Counted (counts_modulo counts)
 
 abbrev pub unassigned_weight : ℕ → Weight
 unassigned_weight zero = Nothing

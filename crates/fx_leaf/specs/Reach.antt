@@ -6,8 +6,8 @@ use Rattle.fx_boxes.specs.Boxes.{Bounds}
 use Rattle.fx_layout.specs.Keys.{Layout}
 use Rattle.fx_tables.specs.declared.observation.Selection.{Selection}
 use Rattle.fx_tables.specs.declared.traffic.Crossing.{Crossing}
-use Rattle.fx_tables.specs.Network.{Net, Point, Exporter, Aggregation, Process, before, points_of, at_places, exporters_of}
-use Rattle.fx_base.specs.Entries.{numbered}
+use Rattle.fx_tables.specs.Network.{Net, Point, Exporter, AggregationEntry, Process, before, points_of, at_places, exporters_of}
+use Rattle.fx_base.specs.Entries.{entry_numbered}
 use Rattle.fx_tables.specs.Occurrences.{watches}
 use Rattle.fx_leaf.specs.Splits.{Meets}
 use Rattle.fx_leaf.specs.Tables.{Numbering, Table, number_of_layout, entry, entry_from}
@@ -43,7 +43,7 @@ HoldsBehindHolder net n holds holder = HoldsWhereSent net holds (number_of_layou
 -- wherever a collecting process sends records of the layout of this number, or its aggregations send theirs
 abbrev pub HoldsBehindProcess : Net → Numbering → (ℕ → ℕ → Type 0) → ℕ → Process → Type 0
 HoldsBehindProcess net n holds number process =
-    HoldsWhereSent net holds number (at_places net.exporters process.exporters) × ((a : Aggregation) → Contains process.aggregations a → HoldsBehindHolder net n holds a.holder)
+    HoldsWhereSent net holds number (at_places net.exporters process.exporters) × ((a : AggregationEntry) → Contains process.aggregations a → HoldsBehindHolder net n holds a.holder)
 
 abbrev pub HoldsBehind : Net → Numbering → (ℕ → ℕ → Type 0) → ℕ → Option Process → Type 0
 HoldsBehind net n holds number None = Unit {0}
@@ -144,4 +144,4 @@ holders_at (point ∷ points) crossing = (if watches point crossing then holders
 
 abbrev pub holders_along : Net → List Crossing → List ℕ
 holders_along net [] = []
-holders_along net (c ∷ cs) = holders_at (points_of (numbered net.devices c.device)) c ++ holders_along net cs
+holders_along net (c ∷ cs) = holders_at (points_of (entry_numbered net.devices c.device)) c ++ holders_along net cs

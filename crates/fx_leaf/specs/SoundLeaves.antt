@@ -3,13 +3,13 @@ use Rattle.std.specs.Prelude.{◌≡◌, ◌≢◌, ◌⊎◌, ◌&&◌, ◌==�
 use Rattle.std.specs.List.{list_all}
 use Rattle.fx_elements.specs.Axes.{Fields, field, axis_width}
 use Rattle.fx_boxes.specs.Boxes.{Bounds, holds}
-use Rattle.fx_layout.specs.Keys.{Key, reads, refines, leading}
+use Rattle.fx_layout.specs.Keys.{Key, reads, refines, leading_bits}
 use Rattle.fx_tables.specs.declared.aggregation.MatchEntry.{MatchEntry}
 use Rattle.fx_tables.specs.declared.traffic.Crossing.{Crossing}
 use Rattle.fx_tables.specs.declared.observation.Occurrence.{Occurrence}
 use Rattle.fx_tables.specs.declared.observation.Selection.{Selection}
-use Rattle.fx_tables.specs.Network.{Net, Point, Aggregation, Exporter, points_of, aggregations_of, exporters_of, layout_of}
-use Rattle.fx_base.specs.Entries.{numbered}
+use Rattle.fx_tables.specs.Network.{Net, Point, AggregationEntry, Exporter, points_of, aggregations_of, exporters_of, layout_of}
+use Rattle.fx_base.specs.Entries.{entry_numbered}
 use Rattle.fx_tables.specs.Occurrences.{occurrences, watches, selects}
 use Rattle.fx_machine.specs.Acts.{Act, Tally, Send, Hold}
 use Rattle.fx_machine.specs.Steps.{meet, coming_to}
@@ -40,23 +40,23 @@ pub data Reached (net : Net) (path : List Crossing) (fields : Fields) : ℕ → 
   next : (from : ℕ) (earlier : Key) (a : Act) (process : ℕ) (key : Key) → Reached net path fields from earlier → Contains (coming_to net earlier from) a → LeadsTo net a process key → Reached net path fields process key
 
 -- an aggregation's key and match can be read from a key
-abbrev pub can_read : Net → Key → Aggregation → Bool
+abbrev pub can_read : Net → Key → AggregationEntry → Bool
 can_read net key aggregation =
     refines key.layout (layout_of (slice_get net.holders aggregation.holder)) && list_all (λ e. reads key.layout e.axis e.bits) aggregation.matches
 
 -- the match, taken whole, holds of a packet
 abbrev pub matches_packet : List MatchEntry → Fields → Bool
-matches_packet entries fields = list_all (λ e. leading (axis_width e.axis) e.bits (field fields e.axis) == e.value) entries
+matches_packet entries fields = list_all (λ e. leading_bits (axis_width e.axis) e.bits (field fields e.axis) == e.value) entries
 
 -- each selection process that would meet the packets if it selected them
 abbrev pub SelectionsUncut : Net → List Crossing → Bounds → Type 0
 SelectionsUncut net path region =
-    (c : Crossing) (p : Point) (s : Selection) → Contains path c → Contains (points_of (numbered net.devices c.device)) p → watches p c ≡ true → Contains p.selections s → s.holder ≢ None → Uncut region (selects s.region)
+    (c : Crossing) (p : Point) (s : Selection) → Contains path c → Contains (points_of (entry_numbered net.devices c.device)) p → watches p c ≡ true → Contains p.selections s → s.holder ≢ None → Uncut region (selects s.region)
 
 -- the match of each aggregation that a record of the packets can reach, and that can be read from it
 abbrev pub MatchesUncut : Net → List Crossing → Bounds → Type 0
 MatchesUncut net path region =
-    (fields : Fields) (process : ℕ) (key : Key) (a : Aggregation) → holds region fields ≡ true → Reached net path fields process key → Contains (aggregations_of (slice_get net.processes process)) a → can_read net key a ≡ true → Uncut region (matches_packet a.matches)
+    (fields : Fields) (process : ℕ) (key : Key) (a : AggregationEntry) → holds region fields ≡ true → Reached net path fields process key → Contains (aggregations_of (slice_get net.processes process)) a → can_read net key a ≡ true → Uncut region (matches_packet a.matches)
 
 -- ---- one occurrence is counted
 

@@ -6,8 +6,8 @@ use Rattle.fx_boxes.specs.Boxes.{Bounds, holds, IsStrictlyInside}
 use Rattle.fx_layout.specs.Keys.{Key, key_of}
 use Rattle.fx_tables.specs.declared.traffic.Crossing.{Crossing}
 use Rattle.fx_tables.specs.declared.observation.Selection.{Selection}
-use Rattle.fx_tables.specs.Network.{Net, Point, Aggregation, points_of, aggregations_of, layout_of}
-use Rattle.fx_base.specs.Entries.{numbered}
+use Rattle.fx_tables.specs.Network.{Net, Point, AggregationEntry, points_of, aggregations_of, layout_of}
+use Rattle.fx_base.specs.Entries.{entry_numbered}
 use Rattle.fx_machine.specs.Acts.{Hold}
 use Rattle.fx_tables.specs.Occurrences.{watches}
 use Rattle.fx_leaf.specs.Fates.{acts_along}
@@ -29,12 +29,12 @@ pub record Meets (net : Net) (path : List Crossing) (s : Selection) : Type 0 whe
   pub crossing : Crossing
   pub point : Point
   pub crosses : Contains path crossing
-  pub there : Contains (points_of (numbered net.devices crossing.device)) point
+  pub there : Contains (points_of (entry_numbered net.devices crossing.device)) point
   pub watched : watches point crossing ≡ true
   pub among : Contains point.selections s
 
 -- an aggregation that records of a region's packets reach, and whose key and match are read there
-pub record Reaches (net : Net) (path : List Crossing) (region : Bounds) (a : Aggregation) : Type 0 where
+pub record Reaches (net : Net) (path : List Crossing) (region : Bounds) (a : AggregationEntry) : Type 0 where
   pub fields : Fields
   pub process : ℕ
   pub key : Key
@@ -46,7 +46,7 @@ pub record Reaches (net : Net) (path : List Crossing) (region : Bounds) (a : Agg
 -- a bound of what cuts the region, strictly inside it
 pub data IsSplit (net : Net) (path : List Crossing) (region : Bounds) (axis : Axis) (at : ℕ) : Type 0 where
   of_selection : (s : Selection) (other : Bounds) → Meets net path s → s.holder ≢ None → s.region ≡ Some other → (Uncut region (holds other) → ⊥) → IsSplitBy region other axis at → IsSplit net path region axis at
-  of_match : (a : Aggregation) → Reaches net path region a → (Uncut region (matches_packet a.matches) → ⊥) → IsSplitBy region (match_fields a.matches) axis at → IsSplit net path region axis at
+  of_match : (a : AggregationEntry) → Reaches net path region a → (Uncut region (matches_packet a.matches) → ⊥) → IsSplitBy region (match_fields a.matches) axis at → IsSplit net path region axis at
 
 -- ---- what its parts say
 

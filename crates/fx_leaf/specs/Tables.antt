@@ -4,7 +4,7 @@ use Rattle.std.specs.List.{AllByRecursion}
 use Rattle.fx_boxes.specs.Boxes.{Bounds}
 use Rattle.fx_layout.specs.Keys.{Layout}
 use Rattle.fx_tables.specs.Limits.{layout_limit}
-use Rattle.fx_tables.specs.Network.{Net, Holder, Aggregation, Process, at_places, exporters_of, aggregations_of}
+use Rattle.fx_tables.specs.Network.{Net, Holder, AggregationEntry, Process, at_places, exporters_of, aggregations_of}
 use Rattle.fx_tables.specs.Ranks.{IsNetwork}
 use Rattle.fx_tables.specs.Orders.{Descends}
 use Rattle.fx_tables.specs.Matches.{HasEntries}
@@ -50,7 +50,7 @@ entry table process layout = entry_in (slice_get table process) layout
 
 -- ---- what an entry is worked out from: the entries of the processes that this one feeds
 
-abbrev pub taken_entry : Table → Net → Numbering → Bounds → Layout → Aggregation → Verdict
+abbrev pub taken_entry : Table → Net → Numbering → Bounds → Layout → AggregationEntry → Verdict
 taken_entry table net n region layout a =
     if layout_reads net layout a
     then overlap_verdict (region_overlap region (match_fields a.matches)) (sent_verdict (entry table) net (number_of_layout n a.holder) (exporters_of net (slice_get net.holders a.holder)))

@@ -5,8 +5,8 @@ use Rattle.fx_boxes.specs.Boxes.{Bounds}
 use Rattle.fx_layout.specs.Keys.{Layout, reads, refines}
 use Rattle.fx_tables.specs.declared.observation.Selection.{Selection}
 use Rattle.fx_tables.specs.declared.traffic.Crossing.{Crossing}
-use Rattle.fx_tables.specs.Network.{Net, Point, Exporter, Aggregation, Process, points_of, at_places, exporters_of, layout_of}
-use Rattle.fx_base.specs.Entries.{numbered}
+use Rattle.fx_tables.specs.Network.{Net, Point, Exporter, AggregationEntry, Process, points_of, at_places, exporters_of, layout_of}
+use Rattle.fx_base.specs.Entries.{entry_numbered}
 use Rattle.fx_tables.specs.Occurrences.{watches}
 use Rattle.fx_leaf.specs.declared.regions.Overlap.{Overlap}
 use Rattle.fx_leaf.specs.declared.regions.Overlap.TheVariants.{Whole, Part, Nothing}
@@ -78,11 +78,11 @@ abbrev pub holder_verdict : VerdictAt → Net → ℕ → Verdict
 holder_verdict at net holder = sent_verdict at net (layout_of (slice_get net.holders holder)) (exporters_of net (slice_get net.holders holder))
 
 -- an aggregation's key and match can be read from a layout
-abbrev pub layout_reads : Net → Layout → Aggregation → Bool
+abbrev pub layout_reads : Net → Layout → AggregationEntry → Bool
 layout_reads net layout a =
     refines layout (layout_of (slice_get net.holders a.holder)) && list_all (λ e. reads layout e.axis e.bits) a.matches
 
-abbrev pub taken_verdict : VerdictAt → Net → Bounds → Layout → Aggregation → Verdict
+abbrev pub taken_verdict : VerdictAt → Net → Bounds → Layout → AggregationEntry → Verdict
 taken_verdict at net region layout a =
     if layout_reads net layout a then overlap_verdict (region_overlap region (match_fields a.matches)) (holder_verdict at net a.holder) else Some Never
 
@@ -137,7 +137,7 @@ crossing_verdicts at net region number n (point ∷ points) crossing =
 abbrev pub path_verdicts : VerdictAt → Net → Bounds → ℕ → List Crossing → List SelectionVerdict
 path_verdicts at net region n [] = []
 path_verdicts at net region n (c ∷ cs) =
-    crossing_verdicts at net region n 1 (points_of (numbered net.devices c.device)) c ++ path_verdicts at net region (n + 1) cs
+    crossing_verdicts at net region n 1 (points_of (entry_numbered net.devices c.device)) c ++ path_verdicts at net region (n + 1) cs
 
 abbrev pub path_verdict : Net → Bounds → List Crossing → Verdict
 path_verdict net region path = verdict_of_all (map (λ s. s.verdict) (path_verdicts (verdict net region) net region 1 path))

@@ -14,7 +14,7 @@ use crate::regions::{Overlap, match_overlap};
 use crate::table::Verdicts;
 use fx_elements::Axis;
 use fx_layout::Layout;
-use fx_tables::{Aggregation, Process};
+use fx_tables::{AggregationEntry, Process};
 
 /// Why there is no verdict.
 #[derive(Clone, Copy)]
@@ -126,7 +126,7 @@ impl Verdicts<'_, '_> {
     }
 
     /// Why there is no verdict on what an aggregation takes in of records of this layout.
-    fn cause_in_match(&self, layout: &Layout, aggregation: &Aggregation) -> Option<Cause>
+    fn cause_in_match(&self, layout: &Layout, aggregation: &AggregationEntry) -> Option<Cause>
         requires { HasEntries aggregation.now }
         ensures some { let t = self.now.tables.now in
             let table = self.now.rows.now in
@@ -153,7 +153,7 @@ impl Verdicts<'_, '_> {
     }
 
     /// The same for one of these aggregations.
-    fn cause_in_matches(&self, layout: &Layout, aggregations: &[Aggregation]) -> Option<Cause>
+    fn cause_in_matches(&self, layout: &Layout, aggregations: &[AggregationEntry]) -> Option<Cause>
         requires { AllByRecursion HasEntries aggregations.now }
         ensures some { let t = self.now.tables.now in
             let table = self.now.rows.now in

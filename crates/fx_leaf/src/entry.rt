@@ -11,7 +11,7 @@ use crate::regions::match_overlap;
 use crate::table::Verdicts;
 use crate::verdict::{Fate, overlap_verdict, verdict_of_both};
 use fx_layout::Layout;
-use fx_tables::{Aggregation, MatchEntry, Net, Process};
+use fx_tables::{AggregationEntry, MatchEntry, Net, Process};
 
 /// Whether all of these entries can be read from a layout.
 fn reads_entries(layout: &Layout, entries: &[MatchEntry]) -> bool
@@ -21,7 +21,7 @@ fn reads_entries(layout: &Layout, entries: &[MatchEntry]) -> bool
 }
 
 /// Whether an aggregation's key and match can be read from a layout.
-pub(crate) fn layout_reads(net: &Net, layout: &Layout, aggregation: &Aggregation) -> bool
+pub(crate) fn layout_reads(net: &Net, layout: &Layout, aggregation: &AggregationEntry) -> bool
     ensures { result ≡ verdicts.layout_reads net.now layout.now aggregation.now }
 {
     layout.refines(&net.layout_at(aggregation.holder()))
@@ -55,7 +55,7 @@ impl Verdicts<'_, '_> {
     }
 
     /// The verdict on what an aggregation takes in of records of this layout: never, where it can't read them.
-    fn taken_verdict(&self, layout: &Layout, aggregation: &Aggregation) -> Option<Fate>
+    fn taken_verdict(&self, layout: &Layout, aggregation: &AggregationEntry) -> Option<Fate>
         requires { HasEntries aggregation.now }
         ensures { let t = self.now.tables.now in
             let table = self.now.rows.now in
@@ -71,7 +71,7 @@ impl Verdicts<'_, '_> {
     }
 
     /// The verdict on what all of these aggregations take in.
-    fn all_taken_verdict(&self, layout: &Layout, aggregations: &[Aggregation]) -> Option<Fate>
+    fn all_taken_verdict(&self, layout: &Layout, aggregations: &[AggregationEntry]) -> Option<Fate>
         requires { AllByRecursion HasEntries aggregations.now }
         ensures { let t = self.now.tables.now in
             let table = self.now.rows.now in

@@ -9,7 +9,7 @@ ghost use Rattle.fx_leaf.specs.Verdicts as verdicts;
 use crate::path::{PathFate, PathReader};
 use crate::regions::bounds_hold;
 use crate::rows::prepare;
-use crate::table::{Row, Scratch, Verdicts};
+use crate::table::{VerdictRow, Scratch, Verdicts};
 use crate::tables::Tables;
 use crate::verdict::Fate;
 use fx_base::Fault;
@@ -73,7 +73,7 @@ fn never_of(known: Result<PathFate, (Axis, u128)>) -> Result<(), Fault>
 /// The verdict on the packets of a region that take a path, or a bound of what cuts the region, where there is room for
 /// the collecting processes of these tables and no more.
 fn path_verdict_in_room(
-    rows: &mut [Row],
+    rows: &mut [VerdictRow],
     marks: &mut [u64],
     tables: &Tables<'_>,
     path: &[Crossing],
@@ -99,7 +99,7 @@ fn path_verdict_in_room(
 
 /// The same in any room that is large enough.
 fn path_verdict_in_larger_room(
-    rows: &mut Vec<Row>,
+    rows: &mut Vec<VerdictRow>,
     marks: &mut Vec<u64>,
     tables: &Tables<'_>,
     path: &[Crossing],

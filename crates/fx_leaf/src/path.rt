@@ -216,13 +216,13 @@ impl PathReader<'_, '_> {
         requires tables { by_table.AreTables self.now.verdicts.tables.now }
         requires along { let t = self.now.verdicts.tables.now in
             reach.HoldsBehindPoints t.net t.numbering (reach.IsMarked self.now.marks.now)
-            (network.points_of (network.numbered t.net.devices crossing.now.device)) crossing.now }
+            (network.points_of (network.entry_numbered t.net.devices crossing.now.device)) crossing.now }
         ensures ok { let net = self.now.verdicts.tables.now.net in
             let region = self.now.verdicts.region.now in
             IfOk result (λ after.
             leaves.AddsVerdicts known after (verdicts.crossing_verdicts
             (verdicts.verdict net region) net region number 1 (network.points_of
-            (network.numbered net.devices crossing.now.device)) crossing.now)) }
+            (network.entry_numbered net.devices crossing.now.device)) crossing.now)) }
         ensures err { let net = self.now.verdicts.tables.now.net in
             let region = self.now.verdicts.region.now in
             IfErr result (λ s. (path : List of_crossing.Crossing) → Contains path crossing.now

@@ -7,7 +7,7 @@ ghost use Rattle.fx_leaf.specs.Tables as by_table;
 
 use crate::table::LAYOUTS;
 use crate::tables::Tables;
-use fx_tables::{Aggregation, Crossing, Net, Point, Process, Selection};
+use fx_tables::{AggregationEntry, Crossing, Net, Point, Process, Selection};
 
 /// These layouts too at the collecting process of this place, if there is one.
 fn mark_at(marks: &mut [u64], layouts: u64, process: usize)
@@ -73,7 +73,7 @@ fn mark_by_holder(marks: &mut [u64], tables: &Tables<'_>, holder: usize)
 }
 
 /// The same for the aggregations of a collecting process.
-fn mark_by_aggregations(marks: &mut [u64], tables: &Tables<'_>, aggregations: &[Aggregation])
+fn mark_by_aggregations(marks: &mut [u64], tables: &Tables<'_>, aggregations: &[AggregationEntry])
     requires { by_table.AreTables tables.now }
     ensures { let t = tables.now in
         let holders = map (λ a. a.holder) aggregations.now in

@@ -5,14 +5,14 @@ ghost use Rattle.fx_leaf.specs.Reach as reach;
 ghost use Rattle.fx_leaf.specs.Tables as by_table;
 
 use crate::reach::{mark, marks_at};
-use crate::table::{LAYOUTS, Row, Verdicts};
+use crate::table::{VerdictRow, Verdicts};
 use crate::tables::Tables;
 use crate::verdict::Fate;
 use fx_boxes::Region;
 use fx_tables::Crossing;
 
 /// Another entry for the collecting process at this place and the layout of this number.
-fn set_entry(rows: &mut [Row], process: usize, number: usize, verdict: Option<Fate>)
+fn set_entry(rows: &mut [VerdictRow], process: usize, number: usize, verdict: Option<Fate>)
     requires there { process < length rows.old }
     requires within { number < LAYOUTS }
     ensures set { by_table.entry rows.new process number ≡ verdict }
@@ -23,7 +23,7 @@ fn set_entry(rows: &mut [Row], process: usize, number: usize, verdict: Option<Fa
 }
 
 /// The entries for these layouts, from the rows of the processes that this one feeds.
-fn fill_row(rows: &mut [Row], layouts: u64, tables: &Tables<'_>, region: &Region, process: usize)
+fn fill_row(rows: &mut [VerdictRow], layouts: u64, tables: &Tables<'_>, region: &Region, process: usize)
     requires tables { by_table.AreTables tables.now }
     requires size { length rows.old ≡ length tables.now.net.processes }
     requires there { process < length rows.old }
@@ -52,7 +52,7 @@ fn fill_row(rows: &mut [Row], layouts: u64, tables: &Tables<'_>, region: &Region
 }
 
 /// Each marked entry is filled, behind those of the processes that its own feeds.
-fn fill(rows: &mut [Row], marks: &[u64], tables: &Tables<'_>, region: &Region)
+fn fill(rows: &mut [VerdictRow], marks: &[u64], tables: &Tables<'_>, region: &Region)
     requires tables { by_table.AreTables tables.now }
     requires size { length rows.old ≡ length tables.now.net.processes }
     requires marks { length marks.now ≡ length tables.now.net.processes }
@@ -70,7 +70,7 @@ fn fill(rows: &mut [Row], marks: &[u64], tables: &Tables<'_>, region: &Region)
 
 /// What the verdict on the packets that take a path is worked out from is marked, and filled.
 pub(crate) fn prepare(
-    rows: &mut [Row],
+    rows: &mut [VerdictRow],
     marks: &mut [u64],
     tables: &Tables<'_>,
     path: &[Crossing],

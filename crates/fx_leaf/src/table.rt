@@ -16,11 +16,11 @@ pub const LAYOUTS: usize = 64;
 
 /// The verdicts on records that come to a collecting process, by the number of their layout.
 #[derive(Debug, Drop)]
-pub(crate) struct Row {
+pub(crate) struct VerdictRow {
     entries: [Option<Fate>; LAYOUTS],
 }
 
-impl Model for Row {
+impl Model for VerdictRow {
     ghost use Rattle.std.specs.Prelude.{List};
     ghost use Rattle.fx_leaf.specs.Verdicts.{Verdict};
 
@@ -29,10 +29,10 @@ impl Model for Row {
     ghost view = { λ r. r.entries };
 }
 
-impl Row {
+impl VerdictRow {
     /// A row, each of whose entries is yet to be set.
-    pub(crate) fn new() -> Row {
-        Row {
+    pub(crate) fn new() -> VerdictRow {
+        VerdictRow {
             entries: [Some(Fate::Never); LAYOUTS],
         }
     }
@@ -62,7 +62,7 @@ impl Row {
 #[derive(Drop)]
 pub(crate) struct Verdicts<'a, 't> {
     pub(crate) tables: &'a Tables<'t>,
-    pub(crate) rows: &'a [Row],
+    pub(crate) rows: &'a [VerdictRow],
     pub(crate) region: &'a Region,
 }
 
@@ -82,7 +82,7 @@ impl Verdicts<'_, '_> {
 /// those that are needed.
 #[derive(Debug, Drop)]
 pub struct Scratch {
-    pub(crate) rows: Vec<Row>,
+    pub(crate) rows: Vec<VerdictRow>,
     pub(crate) marks: Vec<u64>,
     ghost sized: { length marks.items ≡ length rows.items },
 }
@@ -96,12 +96,12 @@ impl Model for Scratch {
 }
 
 /// So many rows without entries.
-fn empty_rows(alloc: Global, count: usize) -> Result<Vec<Row>, AllocError>
+fn empty_rows(alloc: Global, count: usize) -> Result<Vec<VerdictRow>, AllocError>
     ensures { IfOk result (λ rows. length rows.items ≡ count) }
 {
-    let mut rows: Vec<Row> = Vec::with_capacity(alloc, count)?;
+    let mut rows: Vec<VerdictRow> = Vec::with_capacity(alloc, count)?;
     for _process in 0..count {
-        rows.push(Row::new())?;
+        rows.push(VerdictRow::new())?;
     }
     Ok(rows)
 }

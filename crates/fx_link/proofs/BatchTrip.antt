@@ -8,7 +8,7 @@ use Rattle.fx_elements.specs.declared.axis.Axis.{Axis}
 use Rattle.fx_elements.specs.Axes.{axis_count, axis_index}
 use Rattle.fx_elements.proofs.EveryAxis.{on_axis, index_below}
 use Rattle.fx_layout.specs.declared.layout.Part.{Part}
-use Rattle.fx_layout.specs.Keys.{Layout, IsLayout, Ascends}
+use Rattle.fx_layout.specs.Keys.{Layout, IsLayout, AxesAscend}
 use Rattle.fx_tables.specs.declared.record.Record.{Record}
 use Rattle.fx_wire.specs.Sets.{SetParts, is_reserved}
 use Rattle.fx_wire.specs.Messages.{Message, front, complete}
@@ -26,7 +26,7 @@ use Rattle.fx_session.specs.declared.domain.Domain.{Domain}
 use Rattle.fx_session.proofs.MessageSteps.{sets_read-first, sets_read-end}
 use Rattle.fx_session.proofs.StreamSteps.{fed_on, all_goes, all_none}
 use Rattle.fx_link.specs.Records.{axis_octets, is_whole, whole_octets, prefix_of, fields_of, specifiers_octets, value_octets, key_octets, record_octets, records_octets, template_octets}
-use Rattle.fx_link.specs.Sending.{Sender, layout_of, knows, template_id, message_sets, header_at, batch_octets, layouts_with, after_batch, IsSendable, IsBatch, IsSender, template_of, templates_from, domain_of, domains_of, KeepsUp, ReadsOn}
+use Rattle.fx_link.specs.Sending.{Sender, layout_of, knows, template_id, message_sets, header_at, batch_octets, layouts_with, after_batch, IsSendable, IsBatch, IsSender, template_of, templates_from, domain_of, domains_of, KeepsUp, ReadsMore}
 use Rattle.fx_link.proofs.DataTrip.{with_flows, flows_back}
 use Rattle.fx_link.proofs.TemplateTrip.{template_back, few_fields}
 use Rattle.fx_link.proofs.RecordTrip.{length-bytes}
@@ -161,7 +161,7 @@ key_few (part ∷ parts) (v ∷ vs) =
     let rest : length (key_octets parts vs) ≤ 17 * length parts = key_few parts vs in
     omega (arith, length-append (value_octets part v) (key_octets parts vs), value_few part v)
 
-pub axes_few : (k : ℕ) (layout : Layout) → Ascends k layout → k ≤ axis_count → length layout + k ≤ axis_count
+pub axes_few : (k : ℕ) (layout : Layout) → AxesAscend k layout → k ≤ axis_count → length layout + k ≤ axis_count
 axes_few k [] a h = omega arith
 axes_few k (part ∷ parts) a h =
     let before : axis_index part.axis < axis_count = index_below part.axis in
@@ -225,7 +225,7 @@ waits_then st time s batch h is b up =
     )
 
 pub batch_back : (time : ℕ) (s : Sender) (st : SessionState) (batch : List Record) → time < 2 ^ 32 → IsSender s → IsBatch batch → KeepsUp s st
-    → KeepsUp (after_batch s batch) (fed st (batch_octets time s batch)) × ReadsOn st (fed st (batch_octets time s batch)) batch
+    → KeepsUp (after_batch s batch) (fed st (batch_octets time s batch)) × ReadsMore st (fed st (batch_octets time s batch)) batch
 batch_back time s st batch h is b up =
     let w = waits_then st time s batch h is b up in
     let known : (fed st (batch_octets time s batch)).known ≡ known_then st.known s batch = ap (λ (x : SessionState). x.known) w.1 in (

@@ -9,7 +9,7 @@ use Rattle.fx_elements.specs.declared.axis.Axis.{Axis}
 use Rattle.fx_elements.specs.Axes.{Fields, field, axes, axis_width, is_address}
 use Rattle.fx_elements.proofs.EveryAxis.{on_no_axis, value_at}
 use Rattle.fx_layout.specs.declared.layout.Part.{Part}
-use Rattle.fx_layout.specs.Keys.{Layout, Key, HasBits, IsLayout, leading, key_of, can_stand}
+use Rattle.fx_layout.specs.Keys.{Layout, Key, HasBits, IsLayout, leading_bits, key_of, can_stand}
 use Rattle.fx_tables.specs.declared.record.Record.{Record}
 use Rattle.fx_wire.specs.Values.{Value}
 use Rattle.fx_session.specs.Flows.{Found, prefix_part, part_on, found_in, part_of, value_of, layout_of, fields_of, key_along, known, is_refused, key_by, counted, flow_by, first_where, is_prefix, is_prefix_length, is_packets, flow_in}
@@ -65,25 +65,25 @@ part_found axis (Some q) s =
       bits true w = ap (λ (n : ℕ). let l : Layout = record { axis = axis; bits = n } ∷ [] in l) (ap axis_width (sym s.0) ∙ sym (eq-is w refl))
       bits false w = refl
 
-whole_leads : (w v : ℕ) → v < 2 ^ w → leading w w (v % 2 ^ w) ≡ v
+whole_leads : (w v : ℕ) → v < 2 ^ w → leading_bits w w (v % 2 ^ w) ≡ v
 whole_leads w v h =
     let none : w - w ≡ 0 = omega arith in
     ap (λ (n : ℕ). v % 2 ^ w / 2 ^ n) none ∙ ap (λ (n : ℕ). n / 1) (mod-eq_of_lt h) ∙ omega arith
 
-prefix_leads : (part : Part) (v : ℕ) → can_stand part ≡ true → v < 2 ^ part.bits → leading (axis_width part.axis) part.bits (prefix_of part v % 2 ^ axis_width part.axis) ≡ v
+prefix_leads : (part : Part) (v : ℕ) → can_stand part ≡ true → v < 2 ^ part.bits → leading_bits (axis_width part.axis) part.bits (prefix_of part v % 2 ^ axis_width part.axis) ≡ v
 prefix_leads part v c h =
     ap (λ (n : ℕ). n / 2 ^ (axis_width part.axis - part.bits)) (mod-eq_of_lt (prefix_fits part v c h)) ∙ mul-div_cancel v (pow_pos (axis_width part.axis - part.bits))
 
-value_led : (axis : Axis) (o : Held) (fields : Fields) → Stands axis o → field fields axis ≡ value_of axis (own axis o) → Gives (λ (part : Part). leading (axis_width part.axis) part.bits (field fields part.axis)) o
+value_led : (axis : Axis) (o : Held) (fields : Fields) → Stands axis o → field fields axis ≡ value_of axis (own axis o) → Gives (λ (part : Part). leading_bits (axis_width part.axis) part.bits (field fields part.axis)) o
 value_led axis None fields s e = tt
 value_led axis (Some q) fields s e =
-    ap (λ (x : Axis). leading (axis_width q.0.axis) q.0.bits (field fields x)) s.0
-    ∙ ap (leading (axis_width q.0.axis) q.0.bits) (e ∙ ap (λ (x : Axis). value_of x (own x (Some q))) (sym s.0)) ∙ by (is_whole q.0) refl where
+    ap (λ (x : Axis). leading_bits (axis_width q.0.axis) q.0.bits (field fields x)) s.0
+    ∙ ap (leading_bits (axis_width q.0.axis) q.0.bits) (e ∙ ap (λ (x : Axis). value_of x (own x (Some q))) (sym s.0)) ∙ by (is_whole q.0) refl where
       by : (t : Bool) → is_whole q.0 ≡ t
-          → leading (axis_width q.0.axis) q.0.bits (value_of q.0.axis (Some (cond t (record { bits = axis_width q.0.axis; value = q.1 }) (record { bits = q.0.bits; value = prefix_of q.0 q.1 })))) ≡ q.1
+          → leading_bits (axis_width q.0.axis) q.0.bits (value_of q.0.axis (Some (cond t (record { bits = axis_width q.0.axis; value = q.1 }) (record { bits = q.0.bits; value = prefix_of q.0 q.1 })))) ≡ q.1
       by true w =
           let is : q.0.bits ≡ axis_width q.0.axis = eq-is w refl in
-          ap (λ (n : ℕ). leading (axis_width q.0.axis) n (q.1 % 2 ^ axis_width q.0.axis)) is ∙ whole_leads (axis_width q.0.axis) q.1 (subst (λ (n : ℕ). q.1 < 2 ^ n) is s.2)
+          ap (λ (n : ℕ). leading_bits (axis_width q.0.axis) n (q.1 % 2 ^ axis_width q.0.axis)) is ∙ whole_leads (axis_width q.0.axis) q.1 (subst (λ (n : ℕ). q.1 < 2 ^ n) is s.2)
       by false w = prefix_leads q.0 q.1 s.1 s.2
 
 -- ---- the key
@@ -112,8 +112,8 @@ key_back layout values is h =
     let fields : Fields = fields_of (λ axis. own axis (held layout values axis)) in
     let parts : layout_of (λ axis. own axis (held layout values axis)) ≡ layout =
     parts_are layout values (λ axis. part_of axis (own axis (held layout values axis))) is.ascends h (λ axis. part_found axis (held layout values axis) (stands axis)) in
-    let led : map (λ (part : Part). leading (axis_width part.axis) part.bits (field fields part.axis)) layout ≡ values =
-    values_are layout values (λ (part : Part). leading (axis_width part.axis) part.bits (field fields part.axis)) is.ascends h
+    let led : map (λ (part : Part). leading_bits (axis_width part.axis) part.bits (field fields part.axis)) layout ≡ values =
+    values_are layout values (λ (part : Part). leading_bits (axis_width part.axis) part.bits (field fields part.axis)) is.ascends h
     (λ axis. value_led axis (held layout values axis) fields (stands axis) (value_at (λ axis. value_of axis (own axis (held layout values axis))) axis)) in
     ap (λ (l : Layout). key_of l fields) parts ∙ ap (λ (vs : List ℕ). let k : Key = record { layout = layout; values = vs } in k) led
 

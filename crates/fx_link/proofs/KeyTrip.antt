@@ -16,7 +16,7 @@ use Rattle.fx_elements.specs.Elements.{element_number, prefix_number, prefix_len
 use Rattle.fx_elements.proofs.EveryAxis.{on_axis, width_most}
 use Rattle.fx_elements.proofs.Numbering.{element_back, prefix_back, prefix_length_back}
 use Rattle.fx_layout.specs.declared.layout.Part.{Part}
-use Rattle.fx_layout.specs.Keys.{Layout, HasBits, Ascends, can_stand}
+use Rattle.fx_layout.specs.Keys.{Layout, HasBits, AxesAscend, can_stand}
 use Rattle.fx_wire.specs.Fields.{element_of}
 use Rattle.fx_wire.specs.Values.{Value}
 use Rattle.fx_session.specs.Flows.{number_in, first_where, is_value, is_prefix, is_prefix_length, is_octets, is_packets}
@@ -189,7 +189,7 @@ length_in None = None
 length_in (Some q) = cond (is_whole q.0) None (Some q.0.bits)
 
 -- the rest of the axes after its own have none of it
-behind_none : (part : Part) (parts : Layout) (vs : List ℕ) (axis : Axis) → Ascends (suc (axis_index part.axis)) parts → same_axis part.axis axis ≡ true → held parts vs axis ≡ None
+behind_none : (part : Part) (parts : Layout) (vs : List ℕ) (axis : Axis) → AxesAscend (suc (axis_index part.axis)) parts → same_axis part.axis axis ≡ true → held parts vs axis ≡ None
 behind_none part parts vs axis a e = none_before (suc (axis_index part.axis)) parts vs axis a (let is : axis_index part.axis ≡ axis_index axis = eqb-true _ _ e in omega arith)
 
 record OnAxisRead (axis : Axis) (layout : Layout) (values : List ℕ) : Type 0 where
@@ -197,7 +197,7 @@ record OnAxisRead (axis : Axis) (layout : Layout) (values : List ℕ) : Type 0 w
   prefix : first_in (is_prefix axis) layout values None ≡ prefix_in (held layout values axis)
   bits : first_in (is_prefix_length axis) layout values None ≡ length_in (held layout values axis)
 
-axis_read : (axis : Axis) (k : ℕ) (layout : Layout) (values : List ℕ) → Ascends k layout → HasBits layout values → OnAxisRead axis layout values
+axis_read : (axis : Axis) (k : ℕ) (layout : Layout) (values : List ℕ) → AxesAscend k layout → HasBits layout values → OnAxisRead axis layout values
 axis_read axis k [] values a h = record { whole = refl; prefix = refl; bits = refl }
 axis_read axis k (part ∷ parts) [] a h = absurd h
 axis_read axis k (part ∷ parts) (v ∷ vs) a h =
@@ -237,7 +237,7 @@ pub record NotedOn (axis : Axis) (layout : Layout) (values : List ℕ) (all : Li
   pub prefix : first_where (is_prefix axis) all ≡ prefix_in (held layout values axis)
   pub bits : first_where (is_prefix_length axis) all ≡ length_in (held layout values axis)
 
-pub axis_noted : (axis : Axis) (layout : Layout) (values : List ℕ) (counts : Counts) → list_all can_stand layout ≡ true → Ascends 0 layout → HasBits layout values → counts.octets < 2 ^ 64 → counts.packets < 2 ^ 64
+pub axis_noted : (axis : Axis) (layout : Layout) (values : List ℕ) (counts : Counts) → list_all can_stand layout ≡ true → AxesAscend 0 layout → HasBits layout values → counts.octets < 2 ^ 64 → counts.packets < 2 ^ 64
     → NotedOn axis layout values (key_values layout values ++ counts_values counts)
 axis_noted axis layout values counts s a h o p =
     let read : OnAxisRead axis layout values = axis_read axis 0 layout values a h in

@@ -6,7 +6,7 @@ use Rattle.fx_elements.specs.declared.axis.Axis.{Axis}
 use Rattle.fx_elements.specs.Axes.{axis_count, axes, axis_index, same_axis}
 use Rattle.fx_elements.proofs.EveryAxis.{axis_is, same_axis_refl, index_below}
 use Rattle.fx_layout.specs.declared.layout.Part.{Part}
-use Rattle.fx_layout.specs.Keys.{Layout, HasBits, Ascends, can_stand}
+use Rattle.fx_layout.specs.Keys.{Layout, HasBits, AxesAscend, can_stand}
 
 -- the part for an axis and its value, if there is one
 abbrev pub Held : Type 0
@@ -51,7 +51,7 @@ past part parts v vs axis h = ap (λ (t : Bool). cond t (Some (part, v)) (held p
   by false e = refl
 
 -- none before the first
-pub none_before : (k : ℕ) (layout : Layout) (values : List ℕ) (axis : Axis) → Ascends k layout → axis_index axis < k → held layout values axis ≡ None
+pub none_before : (k : ℕ) (layout : Layout) (values : List ℕ) (axis : Axis) → AxesAscend k layout → axis_index axis < k → held layout values axis ≡ None
 none_before k [] values axis a h = refl
 none_before k (part ∷ parts) [] axis a h = refl
 none_before k (part ∷ parts) (v ∷ vs) axis a h =
@@ -64,7 +64,7 @@ Runs k [] = axis_count ≤ k
 Runs k (axis ∷ rest) = (axis_index axis ≡ k) × Runs (suc k) rest
 
 -- the parts along the axes are the layout
-parts_from : (k : ℕ) (xs : List Axis) (layout : Layout) (values : List ℕ) (f : Axis → Layout) → Runs k xs → Ascends k layout → HasBits layout values
+parts_from : (k : ℕ) (xs : List Axis) (layout : Layout) (values : List ℕ) (f : Axis → Layout) → Runs k xs → AxesAscend k layout → HasBits layout values
     → ((axis : Axis) → k ≤ axis_index axis → f axis ≡ part_in (held layout values axis)) → flat_map f xs ≡ layout
 parts_from k [] [] values f r a h e = refl
 parts_from k [] (part ∷ parts) values f r a h e = absurd (omega (arith, r, a.0, index_below part.axis))
@@ -75,9 +75,9 @@ parts_from k (x ∷ xs) (part ∷ parts) (v ∷ vs) f r a h e =
     by (λ later. parts_from (suc k) xs (part ∷ parts) (v ∷ vs) f r.1 later h (λ axis b. e axis (omega arith)))
     (λ is behind. parts_from (suc k) xs parts vs f r.1 behind h.1 (λ axis b. e axis (omega arith) ∙ ap part_in (past part parts v vs axis (omega (arith, is)))))
     (ltb k (axis_index part.axis)) refl where
-      by : (Ascends (suc k) (part ∷ parts) → flat_map f xs ≡ part ∷ parts) → (axis_index part.axis ≡ k → Ascends (suc k) parts → flat_map f xs ≡ parts) → (t : Bool) → ltb k (axis_index part.axis) ≡ t → flat_map f (x ∷ xs) ≡ part ∷ parts
+      by : (AxesAscend (suc k) (part ∷ parts) → flat_map f xs ≡ part ∷ parts) → (axis_index part.axis ≡ k → AxesAscend (suc k) parts → flat_map f xs ≡ parts) → (t : Bool) → ltb k (axis_index part.axis) ≡ t → flat_map f (x ∷ xs) ≡ part ∷ parts
       by stays goes true l =
-          let later : Ascends (suc k) (part ∷ parts) = (ltb-true _ _ l, a.1) in
+          let later : AxesAscend (suc k) (part ∷ parts) = (ltb-true _ _ l, a.1) in
           let none : held (part ∷ parts) (v ∷ vs) x ≡ None = none_before (suc k) (part ∷ parts) (v ∷ vs) x later (omega (arith, r.0)) in
           ap (λ (l : Layout). l ++ flat_map f xs) (e x (omega (arith, r.0)) ∙ ap part_in none) ∙ stays later
       by stays goes false l =
@@ -85,9 +85,9 @@ parts_from k (x ∷ xs) (part ∷ parts) (v ∷ vs) f r a h e =
           let same : axis_index part.axis ≡ axis_index x = omega (arith, is, r.0) in
           let here : held (part ∷ parts) (v ∷ vs) x ≡ Some (part, v) = ap (λ (t : Bool). cond t (Some (part, v)) (held parts vs x)) (eq-eqb _ _ same) in
           ap (λ (l : Layout). l ++ flat_map f xs) (e x (omega (arith, r.0)) ∙ ap part_in here)
-          ∙ ap (λ (l : Layout). part ∷ l) (goes is (subst (λ (n : ℕ). Ascends (suc n) parts) is a.1))
+          ∙ ap (λ (l : Layout). part ∷ l) (goes is (subst (λ (n : ℕ). AxesAscend (suc n) parts) is a.1))
 
-pub parts_are : (layout : Layout) (values : List ℕ) (f : Axis → Layout) → Ascends 0 layout → HasBits layout values → ((axis : Axis) → f axis ≡ part_in (held layout values axis)) → flat_map f axes ≡ layout
+pub parts_are : (layout : Layout) (values : List ℕ) (f : Axis → Layout) → AxesAscend 0 layout → HasBits layout values → ((axis : Axis) → f axis ≡ part_in (held layout values axis)) → flat_map f axes ≡ layout
 parts_are layout values f a h e = parts_from 0 axes layout values f (refl, (refl, (refl, (refl, (refl, (refl, (refl, (refl, (refl, omega arith))))))))) a h (λ axis b. e axis)
 
 -- the values are what is held
@@ -95,7 +95,7 @@ abbrev pub Gives : (Part → ℕ) → Held → Type 0
 Gives g None = Unit {0}
 Gives g (Some q) = g q.0 ≡ q.1
 
-values_from : (k : ℕ) (layout : Layout) (values : List ℕ) (g : Part → ℕ) → Ascends k layout → HasBits layout values → ((axis : Axis) → k ≤ axis_index axis → Gives g (held layout values axis)) → map g layout ≡ values
+values_from : (k : ℕ) (layout : Layout) (values : List ℕ) (g : Part → ℕ) → AxesAscend k layout → HasBits layout values → ((axis : Axis) → k ≤ axis_index axis → Gives g (held layout values axis)) → map g layout ≡ values
 values_from k [] [] g a h e = refl
 values_from k [] (v ∷ vs) g a h e = absurd h
 values_from k (part ∷ parts) [] g a h e = absurd h
@@ -104,5 +104,5 @@ values_from k (part ∷ parts) (v ∷ vs) g a h e =
     let rest : map g parts ≡ vs = values_from (suc (axis_index part.axis)) parts vs g a.1 h.1 (λ axis b. subst (Gives g) (past part parts v vs axis (omega arith)) (e axis (omega (arith, a.0)))) in
     cc (first, rest)
 
-pub values_are : (layout : Layout) (values : List ℕ) (g : Part → ℕ) → Ascends 0 layout → HasBits layout values → ((axis : Axis) → Gives g (held layout values axis)) → map g layout ≡ values
+pub values_are : (layout : Layout) (values : List ℕ) (g : Part → ℕ) → AxesAscend 0 layout → HasBits layout values → ((axis : Axis) → Gives g (held layout values axis)) → map g layout ≡ values
 values_are layout values g a h e = values_from 0 layout values g a h (λ axis b. e axis)

@@ -9,7 +9,7 @@ use Rattle.fx_tables.specs.declared.record.Record.{Record}
 use Rattle.fx_session.specs.Messages.{Known}
 use Rattle.fx_session.specs.Streams.{SessionState, waits, read_all, fed}
 use Rattle.fx_session.proofs.StreamSteps.{pieces, fed_on, all_none}
-use Rattle.fx_link.specs.Sending.{Sender, layout_of, knows, batch_octets, after_batch, most, joins, one_batch, batches_from, batches_of, after_batches, stream_octets, IsSendable, IsBatch, IsSender, IsSent, Begun, KeepsUp, ReadsOn, sent_octets, after_sent}
+use Rattle.fx_link.specs.Sending.{Sender, layout_of, knows, batch_octets, after_batch, most, joins, one_batch, batches_from, batches_of, after_batches, stream_octets, IsSendable, IsBatch, IsSender, IsSent, Begun, KeepsUp, ReadsMore, sent_octets, after_sent}
 use Rattle.fx_link.proofs.BatchTrip.{batch_back}
 
 -- ---- senders after batches
@@ -43,7 +43,7 @@ joined [] = []
 joined (b ∷ bs) = b ++ joined bs
 
 -- nothing is read where nothing comes
-nothing_read : (s : Sender) (st : SessionState) → KeepsUp s st → KeepsUp s (fed st []) × ReadsOn st (fed st []) []
+nothing_read : (s : Sender) (st : SessionState) → KeepsUp s st → KeepsUp s (fed st []) × ReadsMore st (fed st []) []
 nothing_read s st up =
     let same : fed st [] ≡ waits st.known st.place [] = fed_on st [] up.fault ∙ ap (λ (r : List ℕ). read_all st.known st.place (r ++ [])) up.rest ∙ all_none st.known st.place in
     let known : (fed st []).known ≡ st.known = ap (λ (x : SessionState). x.known) same in (
@@ -51,7 +51,7 @@ nothing_read s st up =
       record { waiting = ap (λ (k : Known). k.waiting) known ∙ sym (append-nil st.known.waiting); gaps = ap (λ (k : Known). k.gaps) known; skipped = ap (λ (k : Known). k.skipped) known },
     )
 
-pub then_on : (a b c : SessionState) (xs ys : List Record) → ReadsOn a b xs → ReadsOn b c ys → ReadsOn a c (xs ++ ys)
+pub then_on : (a b c : SessionState) (xs ys : List Record) → ReadsMore a b xs → ReadsMore b c ys → ReadsMore a c (xs ++ ys)
 then_on a b c xs ys p q = record {
   waiting = q.waiting ∙ ap (λ (l : List Record). l ++ ys) p.waiting ∙ append_assoc a.known.waiting xs ys;
   gaps = q.gaps ∙ p.gaps;
@@ -59,7 +59,7 @@ then_on a b c xs ys p q = record {
 }
 
 batches_back : (time : ℕ) (s : Sender) (st : SessionState) (batches : List (List Record)) → time < 2 ^ 32 → IsSender s → AllByRecursion IsBatch batches → 256 + length (after_batches s batches).layouts < 2 ^ 16 → KeepsUp s st
-    → KeepsUp (after_batches s batches) (fed st (stream_octets time s batches)) × ReadsOn st (fed st (stream_octets time s batches)) (joined batches)
+    → KeepsUp (after_batches s batches) (fed st (stream_octets time s batches)) × ReadsMore st (fed st (stream_octets time s batches)) (joined batches)
 batches_back time s st [] h is bs few up = nothing_read s st up
 batches_back time s st (b ∷ bs) h is all few up =
     let first = batch_back time s st b h is all.0 up in
@@ -67,8 +67,8 @@ batches_back time s st (b ∷ bs) h is all few up =
     let grown : length (after_batch s b).layouts ≤ length (after_batches (after_batch s b) bs).layouts = layouts_grow_on (after_batch s b) bs in
     let rest = batches_back time (after_batch s b) mid bs h (after_is s b is all.0 (omega arith)) all.1 few first.0 in
     let last : SessionState = fed mid (stream_octets time (after_batch s b) bs) in
-    let both : KeepsUp (after_batches s (b ∷ bs)) last × ReadsOn st last (b ++ joined bs) = (rest.0, then_on st mid last b (joined bs) first.1 rest.1) in
-    subst (λ (x : SessionState). KeepsUp (after_batches s (b ∷ bs)) x × ReadsOn st x (b ++ joined bs)) (pieces st (batch_octets time s b) (stream_octets time (after_batch s b) bs)) both
+    let both : KeepsUp (after_batches s (b ∷ bs)) last × ReadsMore st last (b ++ joined bs) = (rest.0, then_on st mid last b (joined bs) first.1 rest.1) in
+    subst (λ (x : SessionState). KeepsUp (after_batches s (b ∷ bs)) x × ReadsMore st x (b ++ joined bs)) (pieces st (batch_octets time s b) (stream_octets time (after_batch s b) bs)) both
 
 -- ---- the batches of some records
 
@@ -121,10 +121,10 @@ batches_are batch (r ∷ rs) b h =
       by on new false e = closed_are batch (batches_from (r ∷ []) rs) b new
 
 pub records_back : (time : ℕ) (s : Sender) (st : SessionState) (rs : List Record) → time < 2 ^ 32 → IsSender s → AllByRecursion IsSent rs → 256 + length (after_sent s rs).layouts < 2 ^ 16 → KeepsUp s st
-    → KeepsUp (after_sent s rs) (fed st (sent_octets time s rs)) × ReadsOn st (fed st (sent_octets time s rs)) rs
+    → KeepsUp (after_sent s rs) (fed st (sent_octets time s rs)) × ReadsMore st (fed st (sent_octets time s rs)) rs
 records_back time s st rs h is all few up =
     let back = batches_back time s st (batches_of rs) h is (batches_are [] rs tt all) few up in
-    (back.0, subst (λ (l : List Record). ReadsOn st (fed st (sent_octets time s rs)) l) (batches-joined [] rs) back.1)
+    (back.0, subst (λ (l : List Record). ReadsMore st (fed st (sent_octets time s rs)) l) (batches-joined [] rs) back.1)
 
 -- ---- a sender stays one
 

@@ -14,7 +14,7 @@ use Rattle.fx_elements.specs.Elements.{element_number, prefix_number, prefix_len
 use Rattle.fx_elements.proofs.EveryAxis.{on_axis, index_below}
 use Rattle.fx_elements.proofs.Numbering.{element_small, prefix_small, prefix_length_small}
 use Rattle.fx_layout.specs.declared.layout.Part.{Part}
-use Rattle.fx_layout.specs.Keys.{Layout, IsLayout, Ascends, can_stand}
+use Rattle.fx_layout.specs.Keys.{Layout, IsLayout, AxesAscend, can_stand}
 use Rattle.fx_wire.specs.Numbers.{number_at}
 use Rattle.fx_wire.specs.Fields.{element_of, can_have, specifier_at, checked_field, stands, field_at, before_fields, fields_in}
 use Rattle.fx_wire.specs.Templates.{heading_at, declaration}
@@ -118,7 +118,7 @@ fields_are [] s = counts_are
 fields_are (part ∷ parts) s = let two = and_parts (can_stand part) (list_all can_stand parts) s in part_are part (fields_of parts) two.0 (fields_are parts two.1)
 
 -- two fields for each axis at most, and those of the counts
-pub few_fields : (k : ℕ) (layout : Layout) → Ascends k layout → k ≤ axis_count → length (fields_of layout) + 2 * k ≤ 20
+pub few_fields : (k : ℕ) (layout : Layout) → AxesAscend k layout → k ≤ axis_count → length (fields_of layout) + 2 * k ≤ 20
 few_fields k [] a h = omega arith
 few_fields k (part ∷ parts) a h =
     let before : axis_index part.axis < axis_count = index_below part.axis in

@@ -7,7 +7,7 @@ use Rattle.fx_session.specs.Streams.{SessionState, start, fed, behind}
 use Rattle.fx_session.proofs.StreamSteps.{pieces, fed_on, all_none}
 use Rattle.fx_session.proofs.InFront.{fed-behind}
 use Rattle.fx_link.specs.Sending.{IsSent, KeepsUp, after_sent, sent_octets}
-use Rattle.fx_link.specs.Wires.{Wire, new_wire, on_link, without_waiting, carried, sent_on, InStep}
+use Rattle.fx_link.specs.Wires.{Wire, new_wire, on_link, without_waiting, after_octets, sent_on, InStep}
 use Rattle.fx_link.specs.Outgoing.{Outgoing, with_all}
 use Rattle.fx_link.specs.Ongoing.{Ongoing, at_rest, after_finish}
 use Rattle.fx_link.proofs.FlushedMessages.{flushes_are_sent}
@@ -28,7 +28,7 @@ behind_emptied : (st : SessionState) → behind st.known.waiting (without_waitin
 behind_emptied st = ap (λ (w : List Record). let x : SessionState = record st { known = record st.known { waiting = w } } in x) (append-nil st.known.waiting)
 
 pub carrying_takes : (n : ℕ) (wire : Wire) → InStep wire
-    → InStep (carried (suc n) wire) × (on_link wire ≡ (fed wire.receiver (take (suc n) wire.queue)).known.waiting ++ on_link (carried (suc n) wire))
+    → InStep (after_octets (suc n) wire) × (on_link wire ≡ (fed wire.receiver (take (suc n) wire.queue)).known.waiting ++ on_link (after_octets (suc n) wire))
 carrying_takes n wire step =
     let front : List ℕ = take (suc n) wire.queue in
     let rest : List ℕ = drop (suc n) wire.queue in

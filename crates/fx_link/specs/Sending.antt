@@ -151,7 +151,7 @@ pub record KeepsUp (s : Sender) (st : SessionState) : Type 0 where
   pub fault : st.fault ≡ None
 
 -- with more records that wait, and nothing else told of them
-pub record ReadsOn (old new : SessionState) (rs : List Record) : Type 0 where
+pub record ReadsMore (old new : SessionState) (rs : List Record) : Type 0 where
   pub waiting : new.known.waiting ≡ old.known.waiting ++ rs
   pub gaps : new.known.gaps ≡ old.known.gaps
   pub skipped : new.known.skipped ≡ old.known.skipped
@@ -175,7 +175,7 @@ BatchesAreRead =
     (time : ℕ) (s : Sender) (st : SessionState) (batch : List Record)
     → time < 2 ^ 32 → IsSender s → IsBatch batch → KeepsUp s st
     → KeepsUp (after_batch s batch) (fed st (batch_octets time s batch))
-    × ReadsOn st (fed st (batch_octets time s batch)) batch
+    × ReadsMore st (fed st (batch_octets time s batch)) batch
 
 -- Whatever records are sent together, in messages of one layout and of 64 records at most, just they are read, in order.
 abbrev pub RecordsAreRead : Type 0
@@ -183,4 +183,4 @@ RecordsAreRead =
     (time : ℕ) (s : Sender) (st : SessionState) (rs : List Record)
     → time < 2 ^ 32 → IsSender s → AllByRecursion IsSent rs → 256 + length (after_sent s rs).layouts < 2 ^ 16 → KeepsUp s st
     → KeepsUp (after_sent s rs) (fed st (sent_octets time s rs))
-    × ReadsOn st (fed st (sent_octets time s rs)) rs
+    × ReadsMore st (fed st (sent_octets time s rs)) rs

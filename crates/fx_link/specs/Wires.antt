@@ -24,9 +24,9 @@ abbrev pub without_waiting : SessionState → SessionState
 without_waiting st = record st { known = record st.known { waiting = [] } }
 
 -- so many octets reach the receiver, and all records that were read are handled
-abbrev pub carried : ℕ → Wire → Wire
-carried zero wire = wire
-carried (suc n) wire = record wire {
+abbrev pub after_octets : ℕ → Wire → Wire
+after_octets zero wire = wire
+after_octets (suc n) wire = record wire {
   queue = drop (suc n) wire.queue;
   receiver = without_waiting (fed wire.receiver (take (suc n) wire.queue));
 }
@@ -57,5 +57,5 @@ SendingAdds =
 abbrev pub CarryingTakes : Type 0
 CarryingTakes =
     (n : ℕ) (wire : Wire) → InStep wire
-    → InStep (carried (suc n) wire)
-    × (on_link wire ≡ (fed wire.receiver (take (suc n) wire.queue)).known.waiting ++ on_link (carried (suc n) wire))
+    → InStep (after_octets (suc n) wire)
+    × (on_link wire ≡ (fed wire.receiver (take (suc n) wire.queue)).known.waiting ++ on_link (after_octets (suc n) wire))

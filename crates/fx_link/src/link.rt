@@ -145,7 +145,7 @@ impl Link {
     }
 
     /// How many octets were put out and weren't carried yet.
-    pub fn queued(&self) -> usize
+    pub fn queue_length(&self) -> usize
         ensures { result ≡ length self.now.queue }
     {
         self.queue.len()

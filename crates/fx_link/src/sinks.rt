@@ -39,10 +39,10 @@ impl<S: Sink> Sinks<S> {
 }
 
 impl<S: Sink> Links for Sinks<S> {
-    ghost use Rattle.fx_base.specs.Entries.{numbered};
-    ghost use Rattle.fx_link.specs.Links.{told};
+    ghost use Rattle.fx_base.specs.Entries.{entry_numbered};
+    ghost use Rattle.fx_link.specs.Links.{octets_told};
 
-    ghost put_on = { λ s link. told S.taken (numbered s.sinks.items link) };
+    ghost put_on = { λ s link. octets_told S.taken (entry_numbered s.sinks.items link) };
 
     ghost failed = { λ s. s.failed };
 

@@ -6,11 +6,11 @@ use Rattle.fx_base.specs.declared.counts.Counts.{Counts}
 use Rattle.fx_layout.specs.Keys.{Key, refines, project}
 use Rattle.fx_tables.specs.declared.packet.Packet.{Packet}
 use Rattle.fx_tables.specs.declared.record.Record.{Record}
-use Rattle.fx_tables.specs.Network.{Net, Exporter, Aggregation, Process, Holder, at_places, before, exporters_of, takes, layout_of}
+use Rattle.fx_tables.specs.Network.{Net, Exporter, AggregationEntry, Process, Holder, at_places, before, exporters_of, takes, layout_of}
 use Rattle.fx_tables.specs.Classes.{Class}
-use Rattle.fx_machine.specs.States.{State, tallied, add_at, put_last}
+use Rattle.fx_machine.specs.States.{State, after_tally, add_at, put_last}
 use Rattle.fx_machine.specs.Acts.{Act, Tally, Send, Hold}
-use Rattle.fx_machine.specs.Steps.{leaving, arriving, coming_to, acts_of, take_in}
+use Rattle.fx_machine.specs.Steps.{acts_of_leaving, acts_of_arrival, coming_to, acts_of, take_in}
 use Rattle.fx_machine.specs.Moves.{MayDoAll, Moves, Runs, ended, moved}
 use Rattle.fx_tables.specs.Ranks.{RisesTo, Rises, AllRise, ProcessRises, IsRanked}
 use Rattle.fx_tables.specs.Runnable.{IsHolder, HasDestinations, HasAggregations, IsRunnable}
@@ -74,7 +74,7 @@ module _ (net : Net) (classes : List Class) (packets : List Packet) (counts : Co
 
   -- ---- a tally
 
-  pub tally_tells : (key : Key) (s : State) → (totals : List Record) × (unassigned : ℕ) × (tallied net key counts s ≡ telling totals unassigned s)
+  pub tally_tells : (key : Key) (s : State) → (totals : List Record) × (unassigned : ℕ) × (after_tally net key counts s ≡ telling totals unassigned s)
   tally_tells key s =
       let totals = add_at s.totals (project key net.report_layout) counts in
       elim (refines key.layout net.report_layout) as (λ b. (ts : List Record) × (n : ℕ) × (cond b (record s { totals = totals }) (record s { unassigned = s.unassigned + 1 }) ≡ telling ts n s)) [
@@ -97,7 +97,7 @@ module _ (net : Net) (classes : List Class) (packets : List Packet) (counts : Co
 
   -- ---- a holder
 
-  hold_empties : (holder : ℕ) (key : Key) (acts : List Act) → IsHolder net holder → Empties (leaving net holder key) → Empties acts → Empties (Hold holder key ∷ acts)
+  hold_empties : (holder : ℕ) (key : Key) (acts : List Act) → IsHolder net holder → Empties (acts_of_leaving net holder key) → Empties acts → Empties (Hold holder key ∷ acts)
   hold_empties holder key acts h inner rest s held carried =
       let r : Record = record { key = key; counts = counts } in
       let here = there s.held holder (let lt = h.there in omega arith) in
@@ -105,7 +105,7 @@ module _ (net : Net) (classes : List Class) (packets : List Packet) (counts : Co
       let next : State = record s { held = put_last s.held holder r } in
       let later = rest next (length_put_last s.held holder r ∙ held) carried in
       let put : next ≡ record s { held = slice_set s.held holder (rs ++ r ∷ []) } = ap (λ (rss : List (List Record)). record s { held = rss }) (put_is_set s.held holder rs r here.1) in
-      leaves_behind (Hold holder key ∷ acts) acts (leaving net holder key) s next later (next, (rs, rs ++ r ∷ [], here.1, inl refl, put), later.done) (λ totals unassigned new may. leaves_holder net classes packets holder h rs r (telling totals unassigned s) new here.1 may) (inner (telling later.totals later.unassigned s) held carried)
+      leaves_behind (Hold holder key ∷ acts) acts (acts_of_leaving net holder key) s next later (next, (rs, rs ++ r ∷ [], here.1, inl refl, put), later.done) (λ totals unassigned new may. leaves_holder net classes packets holder h rs r (telling totals unassigned s) new here.1 may) (inner (telling later.totals later.unassigned s) held carried)
 
   -- ---- an exporting process
 
@@ -115,7 +115,7 @@ module _ (net : Net) (classes : List Class) (packets : List Packet) (counts : Co
   -- a record with the key that goes there can go on
   abbrev Goes : Key → Option ℕ → Type 0
   Goes key None = Unit {0}
-  Goes key (Some link) = (link < length net.links) × Empties (arriving net key (slice_get net.links link))
+  Goes key (Some link) = (link < length net.links) × Empties (acts_of_arrival net key (slice_get net.links link))
 
   link_empties : (link : ℕ) (ds : List (Option ℕ)) (key : Key) (acts : List Act) → Goes key (Some link) → Empties (Send (to_all ds) key ∷ acts) → Empties (Send (to_all (Some link ∷ ds)) key ∷ acts)
   link_empties link ds key acts goes rest s held carried =
@@ -123,7 +123,7 @@ module _ (net : Net) (classes : List Class) (packets : List Packet) (counts : Co
       let here = there s.carried link (let lt = goes.0 in omega arith) in
       let next : State = record s { carried = put_last s.carried link r } in
       let later = rest next held (length_put_last s.carried link r ∙ carried) in
-      leaves_behind (Send (to_all (Some link ∷ ds)) key ∷ acts) (Send (to_all ds) key ∷ acts) (arriving net key (slice_get net.links link)) s next later later.done (λ totals unassigned new may. leaves_link net classes packets link here.0 r (telling totals unassigned s) new here.1 may) (goes.1 (telling later.totals later.unassigned s) held carried)
+      leaves_behind (Send (to_all (Some link ∷ ds)) key ∷ acts) (Send (to_all ds) key ∷ acts) (acts_of_arrival net key (slice_get net.links link)) s next later later.done (λ totals unassigned new may. leaves_link net classes packets link here.0 r (telling totals unassigned s) new here.1 may) (goes.1 (telling later.totals later.unassigned s) held carried)
 
   all_empties : (ds : List (Option ℕ)) (key : Key) (acts : List Act) → All (Goes key) ds → Empties acts → Empties (Send (to_all ds) key ∷ acts)
   all_empties [] key acts goes rest s held carried =
@@ -159,7 +159,7 @@ module _ (net : Net) (classes : List Class) (packets : List Packet) (counts : Co
   sends_empty (e ∷ es) key acts can rest =
       send_empties e key (map (λ e. Send e key) es ++ acts) (All-head (CanSend key) e es can) (sends_empty es key acts (All-tail (CanSend key) e es can) rest)
 
-  leaving_empties : (holder : ℕ) (key : Key) → All (CanSend key) (exporters_of net (slice_get net.holders holder)) → Empties (leaving net holder key)
+  leaving_empties : (holder : ℕ) (key : Key) → All (CanSend key) (exporters_of net (slice_get net.holders holder)) → Empties (acts_of_leaving net holder key)
   leaving_empties holder key can =
       let es = exporters_of net (slice_get net.holders holder) in
       subst Empties (append-nil (map (λ e. Send e key) es)) (sends_empty es key [] can no_act)
@@ -167,7 +167,7 @@ module _ (net : Net) (classes : List Class) (packets : List Packet) (counts : Co
   -- records can be put in the holder
   pub record CanHold (holder : ℕ) : Type 0 where
     pub is : IsHolder net holder
-    pub leave : (key : Key) → Empties (leaving net holder key)
+    pub leave : (key : Key) → Empties (acts_of_leaving net holder key)
 
   -- one record in a holder for each of these
   pub holds_empty : {A : Type 0} (holder_of : A → ℕ) (key_of : A → Key) (xs : List A) → All (λ x. CanHold (holder_of x)) xs → Empties (map (λ x. Hold (holder_of x) (key_of x)) xs)
@@ -192,7 +192,7 @@ module _ (net : Net) (classes : List Class) (packets : List Packet) (counts : Co
 
     -- from a process to those of higher rank
     module _ (n from : ℕ) (near : length net.processes ≤ suc n + ranked.rank from) (comes_next : Comes n) where
-      up_empties : (key : Key) (o : Option ℕ) → RisesTo ranked.rank from o → Empties (arriving net key o)
+      up_empties : (key : Key) (o : Option ℕ) → RisesTo ranked.rank from o → Empties (acts_of_arrival net key o)
       up_empties key None rises = no_act
       up_empties key (Some process) rises = comes_next process key (omega (arith, rises, near))
 
@@ -213,10 +213,10 @@ module _ (net : Net) (classes : List Class) (packets : List Packet) (counts : Co
             leave = λ key. leaving_empties holder key (send_up key (exporters_of net o) (exporters_of_holder o) rises);
           }
 
-      takes_empty : (key : Key) (as' : List Aggregation) → All (λ a. CanHold a.holder) as' → Empties (map (take_in net key) (filter (takes net key) as'))
+      takes_empty : (key : Key) (as' : List AggregationEntry) → All (λ a. CanHold a.holder) as' → Empties (map (take_in net key) (filter (takes net key) as'))
       takes_empty key [] can = no_act
       takes_empty key (a ∷ as') can =
-          let P : Aggregation → Type 0 = λ a. CanHold a.holder in
+          let P : AggregationEntry → Type 0 = λ a. CanHold a.holder in
           let first = All-head P a as' can in
           let rest = takes_empty key as' (All-tail P a as' can) in
           let under = project key (layout_of (slice_get net.holders a.holder)) in
@@ -246,7 +246,7 @@ module _ (net : Net) (classes : List Class) (packets : List Packet) (counts : Co
 
     -- ---- a holder of any process or device
 
-    arriving_empties : (key : Key) (o : Option ℕ) → Empties (arriving net key o)
+    arriving_empties : (key : Key) (o : Option ℕ) → Empties (acts_of_arrival net key o)
     arriving_empties key None = no_act
     arriving_empties key (Some process) = comes (length net.processes) process key (omega arith)
 

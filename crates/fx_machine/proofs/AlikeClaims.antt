@@ -9,11 +9,11 @@ use Rattle.fx_boxes.specs.Boxes.{Bounds, IsFields, holds}
 use Rattle.fx_boxes.proofs.Holding.{holds_is}
 use Rattle.fx_tables.specs.declared.packet.Packet.{Packet}
 use Rattle.fx_tables.specs.Network.{Net}
-use Rattle.fx_base.specs.Entries.{numbered}
+use Rattle.fx_base.specs.Entries.{entry_numbered}
 use Rattle.fx_tables.specs.Classes.{Class, IsOf, to_count}
 use Rattle.fx_machine.specs.States.{State, opening}
 use Rattle.fx_machine.specs.Moves.{Runs}
-use Rattle.fx_machine.specs.Claim.{CountsEachOnce, CountsEachModulo, ExactlyOnce, OnceModulo, wrapped}
+use Rattle.fx_machine.specs.Claim.{CountsEachOnce, CountsEachModulo, ExactlyOnce, OnceModulo, counts_modulo}
 use Rattle.fx_machine.specs.ClaimsOfSome.{ExactlyOnceOf, OnceModuloOf}
 use Rattle.fx_tables.specs.NamedAxes.{FitsElsewhere, HasZerosElsewhere, IsAlike, AreAlike, RegionNamesOnly, NamesOnly, ClassesNameOnly, is_of_six, HasSixValues}
 use Rattle.fx_machine.proofs.AlikePackets.{all_head, all_tail, all_numbered, opening_same, runs_same, sum_same, to_count_alike, fit_same, of_class_same}
@@ -26,7 +26,7 @@ pub all_nil : {A : Type 0} (P : A → Type 0) → All P []
 all_nil P k d lt = absurd (omega (arith, lt))
 
 abbrev IsOfItsClass : List Class → Packet → Type 0
-IsOfItsClass classes p = IsOf p (numbered classes p.class)
+IsOfItsClass classes p = IsOf p (entry_numbered classes p.class)
 
 module _ (named : Axis → Bool) where
   -- ---- packets that fit
@@ -47,7 +47,7 @@ module _ (named : Axis → Bool) where
   all_fit classes only [] of_classes = all_nil (λ (p : Packet). FitsElsewhere named p.fields)
   all_fit classes only (p ∷ ps) of_classes =
       all_cons (λ (p : Packet). FitsElsewhere named p.fields) p ps
-      (class_fits (numbered classes p.class) p
+      (class_fits (entry_numbered classes p.class) p
       (all_numbered (λ (class : Class). RegionNamesOnly named class.region) classes p.class only)
       (all_head (IsOfItsClass classes) p ps of_classes))
       (all_fit classes only ps (all_tail (IsOfItsClass classes) p ps of_classes))
@@ -103,7 +103,7 @@ module _ (named : Axis → Bool) where
           final (run_of_others packets picked.0 picked.2 final runs) complete
           in
           record {
-            totals = λ key. each.totals key ∙ ap (λ (c : Option Counts). option_map wrapped c) (sym (sum_same named net.report_layout only.report key (to_count classes packets) (to_count classes picked.0) counted));
+            totals = λ key. each.totals key ∙ ap (λ (c : Option Counts). option_map counts_modulo c) (sym (sum_same named net.report_layout only.report key (to_count classes packets) (to_count classes picked.0) counted));
             assigned = each.assigned;
           }
 

@@ -10,14 +10,14 @@ use Rattle.fx_tables.specs.declared.observation.Selection.{Selection}
 use Rattle.fx_tables.specs.declared.packet.Packet.{Packet}
 use Rattle.fx_run_text.specs.declared.step.Step.TheVariants.{Cross}
 use Rattle.fx_tables.specs.declared.traffic.Crossing.{Crossing}
-use Rattle.fx_tables.specs.Network.{Net, Device, Holder, Point}
-use Rattle.fx_base.specs.Entries.{numbered}
+use Rattle.fx_tables.specs.Network.{Net, DeviceEntry, Holder, Point}
+use Rattle.fx_base.specs.Entries.{entry_numbered}
 use Rattle.fx_tables.specs.Classes.{Class, IsOf}
 use Rattle.fx_tables.specs.Occurrences.{occurrences}
 use Rattle.fx_machine.specs.States.{opening}
 use Rattle.fx_machine.specs.Acts.{Outcome}
 use Rattle.fx_machine.specs.Steps.{after}
-use Rattle.fx_tables.specs.NamedAxes.{Agree, FitsElsewhere, HasZerosElsewhere, HasSixValues, IsAlike, LayoutNamesOnly, RegionNamesOnly, PointNamesOnly, NamesOnly, ClassesNameOnly, is_of_six}
+use Rattle.fx_tables.specs.NamedAxes.{AgreeOnAxes, FitsElsewhere, HasZerosElsewhere, HasSixValues, IsAlike, LayoutNamesOnly, RegionNamesOnly, PointNamesOnly, NamesOnly, ClassesNameOnly, is_of_six}
 use Rattle.fx_machine.proofs.AlikePackets.{of_class_same}
 use Rattle.fx_machine.proofs.AlikeClaims.{all_cons, all_nil}
 
@@ -44,7 +44,7 @@ selection region = record { region = Some region; holder = Some 0 }
 abbrev point : Bounds → Point
 point region = record { interfaces = codes "eth0" ∷ []; ingress = true; egress = false; selections = selection region ∷ [] }
 
-abbrev device : Bounds → Device
+abbrev device : Bounds → DeviceEntry
 device region = record { points = point region ∷ []; caches = 0 ∷ []; processes = 0 ∷ [] }
 
 abbrev holder : Layout → Holder
@@ -96,7 +96,7 @@ meter_of_six region kept reported selects keeps reports = record {
   holders = all_of_one (λ (h : Holder). LayoutNamesOnly is_of_six h.layout) (holder kept) keeps;
   report = reports;
   selections =
-      all_of_one (λ (d : Device). All (PointNamesOnly is_of_six) d.points) (device region)
+      all_of_one (λ (d : DeviceEntry). All (PointNamesOnly is_of_six) d.points) (device region)
       (all_of_one (PointNamesOnly is_of_six) (point region)
       (all_of_one (λ (s : Selection). IfSome s.region (RegionNamesOnly is_of_six)) (selection region) selects));
 }
@@ -152,7 +152,7 @@ fits version lt Version is = omega (arith, lt)
 fits version lt Source6 is = omega arith
 fits version lt Destination6 is = omega arith
 
-agree : (v w : ℕ) → Agree is_of_six (packet v).fields (packet w).fields
+agree : (v w : ℕ) → AgreeOnAxes is_of_six (packet v).fields (packet w).fields
 agree v w Source is = refl
 agree v w Destination is = refl
 agree v w Protocol is = refl
@@ -188,7 +188,7 @@ six = refl
 abbrev customers : List Class
 customers = class to_port_443 ∷ []
 
-of_class : (version : ℕ) → version < 256 → IsOf (packet version) (numbered customers 1)
+of_class : (version : ℕ) → version < 256 → IsOf (packet version) (entry_numbered customers 1)
 of_class version lt = of_class_same is_of_six customers (packet 4) (packet version) classes_are_of_six (alike_to version lt) (refl, λ e. absurd (cc))
 
 abbrev net : Net

@@ -11,7 +11,7 @@ use Rattle.fx_run_text.specs.declared.step.Step.TheVariants.{Cross, Expire, Arri
 use Rattle.fx_tables.specs.declared.holder_name.HolderName.TheVariants.{Cache}
 use Rattle.fx_tables.specs.declared.traffic.Crossing.{Crossing}
 use Rattle.fx_tables.specs.Network.{Net, Exporter}
-use Rattle.fx_base.specs.Entries.{numbered}
+use Rattle.fx_base.specs.Entries.{entry_numbered}
 use Rattle.fx_tables.specs.Classes.{Class, IsOf}
 use Rattle.fx_machine.specs.States.{State, opening, Complete}
 use Rattle.fx_machine.specs.Steps.{run}
@@ -132,7 +132,7 @@ is_complete : Complete lost
 is_complete = record { crossed = refl; nothing_held = refl; nothing_carried = refl }
 
 -- over packets of the class
-are_customers : All (λ p. IsOf p (numbered customers p.class)) two
+are_customers : All (λ p. IsOf p (entry_numbered customers p.class)) two
 are_customers zero d h = (refl, λ e. absurd (cc))
 are_customers (suc zero) d h = (refl, λ e. absurd (cc))
 are_customers (suc (suc k)) d h = absurd (omega (arith, h))
@@ -170,7 +170,7 @@ counts_one = record { totals = λ key. refl; assigned = refl }
 
 -- ---- a packet that is counted twice, and one that isn't assigned
 
-of_class : (exempt : Bool) (path : List Crossing) → All (λ p. IsOf p (numbered (class_of exempt path) p.class)) one
+of_class : (exempt : Bool) (path : List Crossing) → All (λ p. IsOf p (entry_numbered (class_of exempt path) p.class)) one
 of_class exempt path zero d h = (refl, λ e. absurd (cc))
 of_class exempt path (suc k) d h = absurd (omega (arith, h))
 

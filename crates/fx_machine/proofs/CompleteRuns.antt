@@ -8,8 +8,8 @@ use Rattle.fx_tables.specs.declared.observation.Selection.{Selection}
 use Rattle.fx_tables.specs.declared.packet.Packet.{Packet}
 use Rattle.fx_tables.specs.declared.record.Record.{Record}
 use Rattle.fx_tables.specs.declared.traffic.Crossing.{Crossing}
-use Rattle.fx_tables.specs.Network.{Net, Point, Device, points_of, layout_of}
-use Rattle.fx_base.specs.Entries.{numbered}
+use Rattle.fx_tables.specs.Network.{Net, Point, DeviceEntry, points_of, layout_of}
+use Rattle.fx_base.specs.Entries.{entry_numbered}
 use Rattle.fx_tables.specs.Classes.{Class, path}
 use Rattle.fx_tables.specs.Occurrences.{selects, occurrence, met_by, watches, met_at, occurrences}
 use Rattle.fx_machine.specs.States.{State, Coming, crossings_from, coming_from, nothing_at}
@@ -23,7 +23,7 @@ use Rattle.fx_machine.proofs.RunsAreMoves.{runs_on}
 use Rattle.fx_machine.proofs.LastLeaves.{there}
 use Rattle.fx_machine.proofs.ActsCanLeave.{known_at, Empties, holds_empty, can_hold}
 
-known_numbered : {A : Type 0} (P : A → Type 0) (xs : List A) → All P xs → (n : ℕ) → IfSome (numbered xs n) P
+known_numbered : {A : Type 0} (P : A → Type 0) (xs : List A) → All P xs → (n : ℕ) → IfSome (entry_numbered xs n) P
 known_numbered P xs h zero = tt
 known_numbered P xs h (suc n) = known_at P xs h n
 
@@ -53,7 +53,7 @@ module _ (net : Net) where
       let here = elim (watches point crossing) as (λ b. All MetBy (cond b (met_by n 1 point.selections fields) [])) [ true ↦ selections_met n 1 point.selections fields (All-head PointHas point points h) | false ↦ All-nil MetBy ] in
       All-append MetBy _ _ here (points_met (n + 1) points crossing fields (All-tail PointHas point points h))
 
-  device_met : (o : Option Device) (crossing : Crossing) (fields : Fields) → IfSome o (HasCaches net) → All MetBy (met_at 1 (points_of o) crossing fields)
+  device_met : (o : Option DeviceEntry) (crossing : Crossing) (fields : Fields) → IfSome o (HasCaches net) → All MetBy (met_at 1 (points_of o) crossing fields)
   device_met None crossing fields h = All-nil MetBy
   device_met (Some device) crossing fields h = points_met 1 device.points crossing fields h
 
@@ -63,12 +63,12 @@ module _ (net : Net) (classes : List Class) (packets : List Packet) (ranked : Is
   crossing_empties : (p : Packet) (o : Option Crossing) → Empties net classes packets (one_packet p) (crossing_acts net p.fields o)
   crossing_empties p None = holds_empty net classes packets (one_packet p) (λ (n : ℕ). n) (λ n. key_of [] p.fields) [] (All-nil _)
   crossing_empties p (Some crossing) =
-      let met = device_met net (numbered net.devices crossing.device) crossing p.fields (known_numbered (HasCaches net) net.devices runnable.caches crossing.device) in
+      let met = device_met net (entry_numbered net.devices crossing.device) crossing p.fields (known_numbered (HasCaches net) net.devices runnable.caches crossing.device) in
       holds_empty net classes packets (one_packet p) (λ (o : Occurrence). o.holder) (λ o. key_of (layout_of (slice_get net.holders o.holder)) p.fields) (occurrences net crossing p.fields) (λ i o lt. can_hold net classes packets (one_packet p) ranked runnable _ (met i o lt))
 
   -- the packet of a crossing to come is there
   abbrev Known : Coming → Type 0
-  Known c = (p : Packet) × (numbered packets c.packet ≡ Some p)
+  Known c = (p : Packet) × (entry_numbered packets c.packet ≡ Some p)
 
   packet_known : (n crossing : ℕ) → n < length packets → Known (record { packet = suc n; crossing = crossing })
   packet_known n crossing lt = there packets n lt
@@ -95,7 +95,7 @@ module _ (net : Net) (classes : List Class) (packets : List Packet) (ranked : Is
   crossed [] totals unassigned known = (totals, unassigned, ended (between [] totals unassigned) (between [] totals unassigned) refl)
   crossed (c ∷ cs) totals unassigned known =
       let p = All-head Known c cs known in
-      let one = crossing_empties p.0 (numbered (path classes p.0) c.crossing) (between cs totals unassigned) (length_nothing net.holders) (length_nothing net.links) in
+      let one = crossing_empties p.0 (entry_numbered (path classes p.0) c.crossing) (between cs totals unassigned) (length_nothing net.holders) (length_nothing net.links) in
       let rest = crossed cs one.totals one.unassigned (All-tail Known c cs known) in
       let start = between (c ∷ cs) totals unassigned in
       let next = between cs one.totals one.unassigned in

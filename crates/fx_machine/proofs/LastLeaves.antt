@@ -5,7 +5,7 @@ use Rattle.fx_tables.specs.declared.record.Record.{Record}
 use Rattle.fx_tables.specs.Network.{Net}
 use Rattle.fx_tables.specs.Classes.{Class}
 use Rattle.fx_machine.specs.States.{State, put_last, without}
-use Rattle.fx_machine.specs.Steps.{leaving, arriving}
+use Rattle.fx_machine.specs.Steps.{acts_of_leaving, acts_of_arrival}
 use Rattle.fx_machine.specs.Moves.{MayDoAll, Moves, expires, arrives}
 use Rattle.fx_tables.specs.Runnable.{IsHolder}
 
@@ -42,10 +42,10 @@ put_back rss n rs r h = ap (slice_set (put_last rss n r) n) (last_removed rs r) 
     go (ss ∷ rss) (suc n) h = ap (λ vs. ss ∷ vs) (go rss n h)
 
 module _ (net : Net) (classes : List Class) (packets : List Packet) where
-  pub leaves_holder : (holder : ℕ) → IsHolder net holder → (rs : List Record) (r : Record) (s new : State) → slice_get s.held holder ≡ Some rs → MayDoAll net r.counts (leaving net holder r.key) s new → Moves net classes packets (record s { held = put_last s.held holder r }) new
+  pub leaves_holder : (holder : ℕ) → IsHolder net holder → (rs : List Record) (r : Record) (s new : State) → slice_get s.held holder ≡ Some rs → MayDoAll net r.counts (acts_of_leaving net holder r.key) s new → Moves net classes packets (record s { held = put_last s.held holder r }) new
   leaves_holder holder h rs r s new at may =
-      expires h.name holder (suc (length rs)) (rs ++ r ∷ []) r h.named (put_here s.held holder rs r at) (last_here rs r) (subst (λ (rss : List (List Record)). MayDoAll net r.counts (leaving net holder r.key) (record s { held = rss }) new) (sym (put_back s.held holder rs r at)) may)
+      expires h.name holder (suc (length rs)) (rs ++ r ∷ []) r h.named (put_here s.held holder rs r at) (last_here rs r) (subst (λ (rss : List (List Record)). MayDoAll net r.counts (acts_of_leaving net holder r.key) (record s { held = rss }) new) (sym (put_back s.held holder rs r at)) may)
 
-  pub leaves_link : (link : ℕ) (rs : List Record) (r : Record) (s new : State) → slice_get s.carried link ≡ Some rs → MayDoAll net r.counts (arriving net r.key (slice_get net.links link)) s new → Moves net classes packets (record s { carried = put_last s.carried link r }) new
+  pub leaves_link : (link : ℕ) (rs : List Record) (r : Record) (s new : State) → slice_get s.carried link ≡ Some rs → MayDoAll net r.counts (acts_of_arrival net r.key (slice_get net.links link)) s new → Moves net classes packets (record s { carried = put_last s.carried link r }) new
   leaves_link link rs r s new at may =
-      arrives link (suc (length rs)) (rs ++ r ∷ []) r (put_here s.carried link rs r at) (last_here rs r) (subst (λ (rss : List (List Record)). MayDoAll net r.counts (arriving net r.key (slice_get net.links link)) (record s { carried = rss }) new) (sym (put_back s.carried link rs r at)) may)
+      arrives link (suc (length rs)) (rs ++ r ∷ []) r (put_here s.carried link rs r at) (last_here rs r) (subst (λ (rss : List (List Record)). MayDoAll net r.counts (acts_of_arrival net r.key (slice_get net.links link)) (record s { carried = rss }) new) (sym (put_back s.carried link rs r at)) may)

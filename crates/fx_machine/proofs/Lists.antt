@@ -4,7 +4,7 @@ use Rattle.fx_base.specs.declared.counts.Counts.{Counts}
 use Rattle.fx_base.specs.Counts.{add_counts}
 use Rattle.fx_layout.specs.Keys.{Key, same_key}
 use Rattle.fx_tables.specs.declared.record.Record.{Record}
-use Rattle.fx_machine.specs.Sends.{put_all, linked, links_of}
+use Rattle.fx_machine.specs.Sends.{put_all, link_list, links_of}
 use Rattle.fx_machine.specs.Places.{NoneBefore, FirstAt}
 use Rattle.fx_machine.specs.States.{add_at, put_last, nothing_at, all_empty}
 
@@ -96,10 +96,10 @@ put_all_more links n r rss d lt = subst (λ m. put_last (put_all (take n links) 
     go (l ∷ ls) zero rss lt = refl
     go (l ∷ ls) (suc n) rss lt = go ls n (put_last rss l r) (le_of_suc-le-suc lt)
 
-pub links_more : (ds : List (Option ℕ)) (n : ℕ) (d : Option ℕ) → n < length ds → links_of (take (n + 1) ds) ≡ links_of (take n ds) ++ linked (get_or ds n d)
-links_more ds n d lt = subst (λ m. links_of (take m ds) ≡ links_of (take n ds) ++ linked (get_or ds n d)) (sym (add-one n)) (go ds n lt)
+pub links_more : (ds : List (Option ℕ)) (n : ℕ) (d : Option ℕ) → n < length ds → links_of (take (n + 1) ds) ≡ links_of (take n ds) ++ link_list (get_or ds n d)
+links_more ds n d lt = subst (λ m. links_of (take m ds) ≡ links_of (take n ds) ++ link_list (get_or ds n d)) (sym (add-one n)) (go ds n lt)
   where
-    go : (ds : List (Option ℕ)) (n : ℕ) → n < length ds → links_of (take (suc n) ds) ≡ links_of (take n ds) ++ linked (get_or ds n d)
+    go : (ds : List (Option ℕ)) (n : ℕ) → n < length ds → links_of (take (suc n) ds) ≡ links_of (take n ds) ++ link_list (get_or ds n d)
     go [] n lt = absurd (omega arith)
-    go (e ∷ es) zero lt = append-nil (linked e)
-    go (e ∷ es) (suc n) lt = ap (λ ls. linked e ++ ls) (go es n (le_of_suc-le-suc lt)) ∙ sym (append_assoc (linked e) (links_of (take n es)) (linked (get_or es n d)))
+    go (e ∷ es) zero lt = append-nil (link_list e)
+    go (e ∷ es) (suc n) lt = ap (λ ls. link_list e ++ ls) (go es n (le_of_suc-le-suc lt)) ∙ sym (append_assoc (link_list e) (links_of (take n es)) (link_list (get_or es n d)))

@@ -8,8 +8,8 @@ use Rattle.fx_tables.specs.declared.record.Record.{Record}
 use Rattle.fx_tables.specs.declared.holding.Holding.{Holding}
 use Rattle.fx_machine.specs.declared.holding.Joined.{Joined}
 use Rattle.fx_machine.specs.declared.holding.Taking.{Taking}
-use Rattle.fx_base.specs.Entries.{numbered}
-use Rattle.fx_machine.specs.Acts.{Choices, joined, taken_in}
+use Rattle.fx_base.specs.Entries.{entry_numbered}
+use Rattle.fx_machine.specs.Acts.{Choices, records_joining, taken_in}
 use Rattle.fx_machine.specs.Holds.{take_in_at, put_in, held_with, hold_all, with_counts, given_back, back_at, undone}
 
 -- ---- joining
@@ -28,7 +28,7 @@ set_same (r ∷ rs) zero old e = ap (λ (x : Record). x ∷ rs) e
 set_same (r ∷ rs) (suc k) old e = ap (λ (xs : List Record). r ∷ xs) (set_same rs k old e)
 
 abbrev Refused : List Record → ℕ → ℕ → Record → Record → Type 0
-Refused rs n k r old = (joined (numbered rs n) rs n r ≡ None) × (slice_set rs k (counted old old.counts) ≡ rs)
+Refused rs n k r old = (records_joining (entry_numbered rs n) rs n r ≡ None) × (slice_set rs k (counted old old.counts) ≡ rs)
 
 pub join_refused : (rs : List Record) (n : ℕ) (r old : Record) → n ≢ 0 → n ≤ length rs → old ≡ get_or rs (n - 1) old → same_key old.key r.key ≡ false → Refused rs n (n - 1) r old
 join_refused rs zero r old ne le e differ = absurd (ne refl)
@@ -36,12 +36,12 @@ join_refused rs (suc k) r old ne le e differ =
     let same : suc k - 1 ≡ k = omega arith in
     let at : old ≡ get_or rs k old = subst (λ m. old ≡ get_or rs m old) same e in
     let found : slice_get rs k ≡ Some old = slice_get-get_or rs k old le ∙ ap Some (sym at) in
-    let first : joined (slice_get rs k) rs (suc k) r ≡ None =
-    ap (λ o. joined o rs (suc k) r) found ∙ ap (λ b. cond b (Some (slice_set rs k (record { key = old.key; counts = add_counts old.counts r.counts }))) None) differ in
+    let first : records_joining (slice_get rs k) rs (suc k) r ≡ None =
+    ap (λ o. records_joining o rs (suc k) r) found ∙ ap (λ b. cond b (Some (slice_set rs k (record { key = old.key; counts = add_counts old.counts r.counts }))) None) differ in
     (first, subst (λ m. slice_set rs m old ≡ rs) (sym same) (set_same rs k old at))
 
 abbrev Made : List Record → ℕ → ℕ → Record → Record → Counts → Type 0
-Made rs n k r old new = (joined (numbered rs n) rs n r ≡ Some (slice_set rs k (counted old new))) × (with_counts (slice_set rs k (counted old new)) k old.counts ≡ rs)
+Made rs n k r old new = (records_joining (entry_numbered rs n) rs n r ≡ Some (slice_set rs k (counted old new))) × (with_counts (slice_set rs k (counted old new)) k old.counts ≡ rs)
 
 pub join_made : (rs : List Record) (n : ℕ) (r old : Record) (new : Counts) → n ≢ 0 → n ≤ length rs → old ≡ get_or rs (n - 1) old → same_key old.key r.key ≡ true → new ≡ add_counts old.counts r.counts → Made rs n (n - 1) r old new
 join_made rs zero r old new ne le e agree sum = absurd (ne refl)
@@ -49,8 +49,8 @@ join_made rs (suc k) r old new ne le e agree sum =
     let same : suc k - 1 ≡ k = omega arith in
     let at : old ≡ get_or rs k old = subst (λ m. old ≡ get_or rs m old) same e in
     let found : slice_get rs k ≡ Some old = slice_get-get_or rs k old le ∙ ap Some (sym at) in
-    let first : joined (slice_get rs k) rs (suc k) r ≡ Some (slice_set rs k (counted old new)) =
-    ap (λ o. joined o rs (suc k) r) found ∙ ap (λ b. cond b (Some (slice_set rs k (record { key = old.key; counts = add_counts old.counts r.counts }))) None) agree ∙ ap (λ (x : Counts). Some (slice_set rs k (counted old x))) (sym sum) in
+    let first : records_joining (slice_get rs k) rs (suc k) r ≡ Some (slice_set rs k (counted old new)) =
+    ap (λ o. records_joining o rs (suc k) r) found ∙ ap (λ b. cond b (Some (slice_set rs k (record { key = old.key; counts = add_counts old.counts r.counts }))) None) agree ∙ ap (λ (x : Counts). Some (slice_set rs k (counted old x))) (sym sum) in
     subst (λ m. Made rs (suc k) m r old new) (sym same) (first, set_back rs k old new le at)
 
 pub counts_set : (rs : List Record) (k : ℕ) (old : Record) (counts : Counts) → k < length rs → old ≡ get_or rs k old → slice_set rs k (counted old counts) ≡ with_counts rs k counts

@@ -10,7 +10,7 @@ use Rattle.fx_run_text.specs.declared.step.Step.{Step}
 use Rattle.fx_run_text.specs.declared.step.Step.TheVariants.{Cross, Expire, Arrive}
 use Rattle.fx_tables.specs.declared.holder_name.HolderName.TheVariants.{Cache, Aggregation as AggregationOf}
 use Rattle.fx_tables.specs.declared.traffic.Crossing.{Crossing}
-use Rattle.fx_tables.specs.Network.{Net, Device, Exporter}
+use Rattle.fx_tables.specs.Network.{Net, DeviceEntry, Exporter}
 use Rattle.fx_tables.specs.Classes.{Class}
 use Rattle.fx_machine.specs.States.{State, opening}
 use Rattle.fx_machine.specs.Acts.{Outcome}
@@ -31,14 +31,14 @@ abbrev packet : ℕ → ℕ → Packet
 packet address octets = record { fields = address ∷ 3221225985 ∷ 6 ∷ 1000 ∷ 80 ∷ 0 ∷ 4 ∷ 0 ∷ 0 ∷ []; octets = octets; class = 1; path = 1 }
 
 -- a device with a point at these interfaces, all of whose packets go to one cache
-abbrev meter : List (List ℕ) → Device
+abbrev meter : List (List ℕ) → DeviceEntry
 meter names = record {
   points = record { interfaces = names; ingress = true; egress = true; selections = record { region = Some all_fields; holder = Some 0 } ∷ [] } ∷ [];
   caches = 0 ∷ [];
   processes = [];
 }
 
-abbrev collector : ℕ → Device
+abbrev collector : ℕ → DeviceEntry
 collector process = record { points = []; caches = []; processes = process ∷ [] }
 
 abbrev to_link : ℕ → Exporter

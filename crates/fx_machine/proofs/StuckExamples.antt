@@ -6,7 +6,7 @@ use Rattle.fx_tables.specs.declared.packet.Packet.{Packet}
 use Rattle.fx_tables.specs.declared.record.Record.{Record}
 use Rattle.fx_tables.specs.declared.holder_name.HolderName.TheVariants.{Cache}
 use Rattle.fx_tables.specs.Network.{Net, Exporter}
-use Rattle.fx_base.specs.Entries.{numbered}
+use Rattle.fx_base.specs.Entries.{entry_numbered}
 use Rattle.fx_tables.specs.Classes.{path}
 use Rattle.fx_machine.specs.States.{State, opening, Complete, put_last, without}
 use Rattle.fx_machine.specs.Steps.{one_packet, crossing_acts}
@@ -26,19 +26,19 @@ sending_on e places = record (net e) { processes = record { exporters = places; 
 abbrev standing : List Record → List Record → List Record → ℕ → State
 standing held carried totals unassigned = record { coming = []; held = held ∷ []; carried = carried ∷ []; totals = totals; unassigned = unassigned }
 
-none_numbered : {A : Type 0} (n : ℕ) (x : A) → numbered [] n ≡ Some x → ⊥
+none_numbered : {A : Type 0} (n : ℕ) (x : A) → entry_numbered [] n ≡ Some x → ⊥
 none_numbered zero x h = absurd (cc)
 none_numbered (suc n) x h = absurd (cc)
 
 -- no record leaves where there is none
-none_leaves : (place number : ℕ) (rs : List Record) (r : Record) → slice_get ([] ∷ []) place ≡ Some rs → numbered rs number ≡ Some r → ⊥
+none_leaves : (place number : ℕ) (rs : List Record) (r : Record) → slice_get ([] ∷ []) place ≡ Some rs → entry_numbered rs number ≡ Some r → ⊥
 none_leaves zero number rs r h k =
     let e : rs ≡ [] = cc in
-    none_numbered number r (subst (λ (xs : List Record). numbered xs number ≡ Some r) e k)
+    none_numbered number r (subst (λ (xs : List Record). entry_numbered xs number ≡ Some r) e k)
 none_leaves (suc place) number rs r h k = absurd (cc)
 
 -- and none is left where the only one leaves
-one_leaves : (number : ℕ) (rs : List Record) (r q : Record) → Some (r ∷ []) ≡ Some rs → numbered rs number ≡ Some q → without rs number ≡ []
+one_leaves : (number : ℕ) (rs : List Record) (r q : Record) → Some (r ∷ []) ≡ Some rs → entry_numbered rs number ≡ Some q → without rs number ≡ []
 one_leaves zero rs r q h k = absurd (cc)
 one_leaves (suc zero) rs r q h k = let e : rs ≡ r ∷ [] = cc in ap (λ (xs : List Record). remove xs 0) e
 one_leaves (suc (suc n)) rs r q h k =
@@ -80,9 +80,9 @@ module _ (e : Exporter) (places : List ℕ) where
   }
 
   -- the crossing puts a record in the cache
-  crossed : (p : Packet) (n : ℕ) (new : State) → first_packet ≡ p → 0 ≡ n → MayDoAll network (one_packet p) (crossing_acts network p.fields (numbered (path customers p) 1)) (record start { coming = remove start.coming n }) new → (r : Record) × (new ≡ standing (r ∷ []) [] [] 0)
+  crossed : (p : Packet) (n : ℕ) (new : State) → first_packet ≡ p → 0 ≡ n → MayDoAll network (one_packet p) (crossing_acts network p.fields (entry_numbered (path customers p) 1)) (record start { coming = remove start.coming n }) new → (r : Record) × (new ≡ standing (r ∷ []) [] [] 0)
   crossed p n new is at may =
-      let Does : Packet → ℕ → Type 0 = λ q k. MayDoAll network (one_packet q) (crossing_acts network q.fields (numbered (path customers q) 1)) (record start { coming = remove start.coming k }) new in
+      let Does : Packet → ℕ → Type 0 = λ q k. MayDoAll network (one_packet q) (crossing_acts network q.fields (entry_numbered (path customers q) 1)) (record start { coming = remove start.coming k }) new in
       let m : Does first_packet 0 = subst (λ q. Does q 0) (sym is) (subst (λ k. Does p k) (sym at) may) in
       let r : Record = record { key = key_of (source 32) first_packet.fields; counts = one_packet first_packet } in
       (r, sym m.2 ∙ m.1.4 ∙ ap (λ (rs : List Record). standing rs [] [] 0) (first_taken_in m.1.0 r m.1.1 m.1.2 m.1.3))

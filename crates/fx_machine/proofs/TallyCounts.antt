@@ -4,10 +4,10 @@ use Rattle.fx_elements.specs.Axes.{Fields}
 use Rattle.fx_layout.specs.Keys.{Key}
 use Rattle.fx_tables.specs.declared.observation.Occurrence.{Occurrence}
 use Rattle.fx_tables.specs.declared.traffic.Crossing.{Crossing}
-use Rattle.fx_tables.specs.Network.{Net, Aggregation, Exporter, Process, at_places, exporters_of, takes}
+use Rattle.fx_tables.specs.Network.{Net, AggregationEntry, Exporter, Process, at_places, exporters_of, takes}
 use Rattle.fx_tables.specs.Occurrences.{occurrences}
 use Rattle.fx_machine.specs.Acts.{Act, Tally, Send, Hold}
-use Rattle.fx_machine.specs.Steps.{meet, crossing_acts, leaving, take_in, acts_of, coming_to, arriving}
+use Rattle.fx_machine.specs.Steps.{meet, crossing_acts, acts_of_leaving, take_in, acts_of, coming_to, acts_of_arrival}
 
 -- how many of the acts tally
 abbrev pub tally_count : List Act → ℕ
@@ -27,7 +27,7 @@ count_sends [] key = refl
 count_sends (e ∷ es) key = count_sends es key
 
 module _ (net : Net) where
-  count_takes : (key : Key) (as' : List Aggregation) → tally_count (map (take_in net key) as') ≡ 0
+  count_takes : (key : Key) (as' : List AggregationEntry) → tally_count (map (take_in net key) as') ≡ 0
   count_takes key [] = refl
   count_takes key (a ∷ as') = count_takes key as'
 
@@ -39,7 +39,7 @@ module _ (net : Net) where
   crossing_count fields None = refl
   crossing_count fields (Some c) = count_meets fields (occurrences net c fields)
 
-  pub leaving_count : (holder : ℕ) (key : Key) → tally_count (leaving net holder key) ≡ 0
+  pub leaving_count : (holder : ℕ) (key : Key) → tally_count (acts_of_leaving net holder key) ≡ 0
   leaving_count holder key = count_sends (exporters_of net (slice_get net.holders holder)) key
 
   handled_count : (key : Key) (o : Option Process) → tally_count (acts_of net key o) ≡ 0
@@ -58,6 +58,6 @@ module _ (net : Net) where
         | false ↦ omega arith
       ]
 
-  pub arriving_count : (key : Key) (o : Option ℕ) → tally_count (arriving net key o) ≤ 1
+  pub arriving_count : (key : Key) (o : Option ℕ) → tally_count (acts_of_arrival net key o) ≤ 1
   arriving_count key None = omega arith
   arriving_count key (Some process) = coming_count key process

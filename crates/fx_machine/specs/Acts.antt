@@ -5,8 +5,8 @@ use Rattle.fx_base.specs.Counts.{add_counts}
 use Rattle.fx_layout.specs.Keys.{Key, same_key}
 use Rattle.fx_tables.specs.declared.record.Record.{Record}
 use Rattle.fx_tables.specs.Network.{Net, Exporter}
-use Rattle.fx_base.specs.Entries.{numbered}
-use Rattle.fx_machine.specs.States.{State, replaced, tallied, sent_to, sent_to_all}
+use Rattle.fx_base.specs.Entries.{entry_numbered}
+use Rattle.fx_machine.specs.States.{State, with_entry, after_tally, sent_to, sent_to_all}
 
 -- a choice: a new record, or a number
 abbrev pub Choices : Type 0
@@ -31,18 +31,18 @@ sent_to_chosen (Some d) r s choices = Some (record { state = sent_to d r s; choi
 abbrev pub send_by_choice : List (Option ℕ) → Record → State → Choices → Option Made
 send_by_choice destinations r s [] = None
 send_by_choice destinations r s (None ∷ choices) = None
-send_by_choice destinations r s (Some n ∷ choices) = sent_to_chosen (numbered destinations n) r s choices
+send_by_choice destinations r s (Some n ∷ choices) = sent_to_chosen (entry_numbered destinations n) r s choices
 
 -- the held record of this number with the counts added, if it is there and has the key
-abbrev pub joined : Option Record → List Record → ℕ → Record → Option (List Record)
-joined None rs number r = None
-joined (Some old) rs number r =
-    if same_key old.key r.key then Some (replaced rs number (record { key = old.key; counts = add_counts old.counts r.counts })) else None
+abbrev pub records_joining : Option Record → List Record → ℕ → Record → Option (List Record)
+records_joining None rs number r = None
+records_joining (Some old) rs number r =
+    if same_key old.key r.key then Some (with_entry rs number (record { key = old.key; counts = add_counts old.counts r.counts })) else None
 
 -- a new record comes last; a number names the held record that it joins
 abbrev pub taken_in : List Record → Option ℕ → Record → Option (List Record)
 taken_in rs None r = Some (rs ++ r ∷ [])
-taken_in rs (Some number) r = joined (numbered rs number) rs number r
+taken_in rs (Some number) r = records_joining (entry_numbered rs number) rs number r
 
 abbrev pub with_held : State → ℕ → Option (List Record) → Choices → Option Made
 with_held s holder None choices = None
@@ -57,7 +57,7 @@ hold holder r s [] = None
 hold holder r s (choice ∷ choices) = hold_in (slice_get s.held holder) holder r s choice choices
 
 abbrev pub act : Net → Counts → Act → State → Choices → Option Made
-act net counts (Tally key) s choices = Some (record { state = tallied net key counts s; choices = choices })
+act net counts (Tally key) s choices = Some (record { state = after_tally net key counts s; choices = choices })
 act net counts (Send exporter key) s choices =
     if exporter.parallel
     then Some (record { state = sent_to_all exporter.destinations (record { key = key; counts = counts }) s; choices = choices })

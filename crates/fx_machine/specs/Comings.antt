@@ -1,20 +1,20 @@
 -- Crossings to come, by a mark for each.
 use Rattle.std.specs.Prelude.{ℕ, suc, replicate, map, length, Bool, true, false, List, [], ◌∷◌, ◌++◌, Option, Some, None, if◌then◌else◌}
-use Rattle.fx_base.specs.Entries.{numbered}
+use Rattle.fx_base.specs.Entries.{entry_numbered}
 use Rattle.fx_tables.specs.Network.{entries}
 use Rattle.fx_tables.specs.declared.packet.Packet.{Packet}
 use Rattle.fx_tables.specs.Classes.{Class, path}
-use Rattle.fx_machine.specs.States.{Coming, replaced}
+use Rattle.fx_machine.specs.States.{Coming, with_entry}
 
 -- the marked crossings of a packet, numbered from this one
-abbrev pub marked : ℕ → ℕ → List Bool → List Coming
-marked packet n [] = []
-marked packet n (b ∷ bs) = if b then record { packet = packet; crossing = n } ∷ marked packet (suc n) bs else marked packet (suc n) bs
+abbrev pub coming_by_marks : ℕ → ℕ → List Bool → List Coming
+coming_by_marks packet n [] = []
+coming_by_marks packet n (b ∷ bs) = if b then record { packet = packet; crossing = n } ∷ coming_by_marks packet (suc n) bs else coming_by_marks packet (suc n) bs
 
 -- those of all packets, numbered from this one
 abbrev pub coming_of : ℕ → List (List Bool) → List Coming
 coming_of n [] = []
-coming_of n (f ∷ fs) = marked n 1 f ++ coming_of (suc n) fs
+coming_of n (f ∷ fs) = coming_by_marks n 1 f ++ coming_of (suc n) fs
 
 abbrev pub is_marked : Option Bool → Bool
 is_marked None = false
@@ -22,15 +22,15 @@ is_marked (Some b) = b
 
 abbrev pub has_mark : Option (List Bool) → ℕ → Bool
 has_mark None crossing = false
-has_mark (Some bs) crossing = is_marked (numbered bs crossing)
+has_mark (Some bs) crossing = is_marked (entry_numbered bs crossing)
 
 -- whether a crossing of a packet is marked
-abbrev pub flagged : List (List Bool) → ℕ → ℕ → Bool
-flagged fs packet crossing = has_mark (numbered fs packet) crossing
+abbrev pub has_mark_at : List (List Bool) → ℕ → ℕ → Bool
+has_mark_at fs packet crossing = has_mark (entry_numbered fs packet) crossing
 
 -- without its mark
-abbrev pub cleared : List (List Bool) → ℕ → ℕ → List (List Bool)
-cleared fs packet crossing = replaced fs packet (replaced (entries (numbered fs packet)) crossing false)
+abbrev pub without_mark : List (List Bool) → ℕ → ℕ → List (List Bool)
+without_mark fs packet crossing = with_entry fs packet (with_entry (entries (entry_numbered fs packet)) crossing false)
 
 abbrev pub none_marked : List Bool → Bool
 none_marked [] = true

@@ -61,9 +61,9 @@ pub record Complete (s : State) : Type 0 where
 -- ---- changes
 
 -- the list with another entry of this number, and without it
-abbrev pub replaced : {A : Type 0} → List A → ℕ → A → List A
-replaced xs zero y = xs
-replaced xs (suc n) y = slice_set xs n y
+abbrev pub with_entry : {A : Type 0} → List A → ℕ → A → List A
+with_entry xs zero y = xs
+with_entry xs (suc n) y = slice_set xs n y
 
 abbrev pub without : {A : Type 0} → List A → ℕ → List A
 without xs zero = xs
@@ -76,8 +76,8 @@ add_at (t ∷ ts) key counts =
     if same_key t.key key then record { key = t.key; counts = add_counts t.counts counts } ∷ ts else t ∷ add_at ts key counts
 
 -- under the projected key, or unassigned
-abbrev pub tallied : Net → Key → Counts → State → State
-tallied net key counts s =
+abbrev pub after_tally : Net → Key → Counts → State → State
+after_tally net key counts s =
     if refines key.layout net.report_layout
     then record s { totals = add_at s.totals (project key net.report_layout) counts }
     else record s { unassigned = s.unassigned + 1 }
@@ -98,5 +98,5 @@ sent_to_all [] r s = s
 sent_to_all (d ∷ ds) r s = sent_to_all ds r (sent_to d r s)
 
 -- as a program tells it: the number of unassigned records modulo 2 to the 64
-abbrev pub told : State → State
-told s = record s { unassigned = s.unassigned % 2 ^ 64 }
+abbrev pub told_state : State → State
+told_state s = record s { unassigned = s.unassigned % 2 ^ 64 }

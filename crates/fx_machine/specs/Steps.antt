@@ -9,8 +9,8 @@ use Rattle.fx_tables.specs.declared.observation.Occurrence.{Occurrence}
 use Rattle.fx_tables.specs.declared.traffic.Crossing.{Crossing}
 use Rattle.fx_run_text.specs.declared.step.Step.{Step}
 use Rattle.fx_run_text.specs.declared.step.Step.TheVariants.{Cross, Expire, Arrive}
-use Rattle.fx_tables.specs.Network.{Net, Aggregation, Process, at_places, layout_of, exporters_of, takes, holder_place}
-use Rattle.fx_base.specs.Entries.{numbered}
+use Rattle.fx_tables.specs.Network.{Net, AggregationEntry, Process, at_places, layout_of, exporters_of, takes, holder_place}
+use Rattle.fx_base.specs.Entries.{entry_numbered}
 use Rattle.fx_tables.specs.Classes.{Class, path}
 use Rattle.fx_tables.specs.Occurrences.{occurrences}
 use Rattle.fx_machine.specs.States.{State, Coming, without}
@@ -43,7 +43,7 @@ place (c ∷ cs) packet crossing =
 abbrev pub cross_now : Net → List Class → Option Packet → ℕ → State → Choices → Outcome
 cross_now net classes None crossing s choices = Err 851
 cross_now net classes (Some packet) crossing s choices =
-    all_acts net (one_packet packet) (crossing_acts net packet.fields (numbered (path classes packet) crossing)) s choices
+    all_acts net (one_packet packet) (crossing_acts net packet.fields (entry_numbered (path classes packet) crossing)) s choices
 
 abbrev pub after_cross : Net → List Class → Option Packet → Option ℕ → ℕ → State → Choices → Outcome
 after_cross net classes packet None crossing s choices = Err 851
@@ -53,17 +53,17 @@ after_cross net classes packet (Some n) crossing s choices =
 -- ---- a record leaves a holder
 
 -- each exporting process that the holder names sends it
-abbrev pub leaving : Net → ℕ → Key → List Act
-leaving net holder key = map (λ e. Send e key) (exporters_of net (slice_get net.holders holder))
+abbrev pub acts_of_leaving : Net → ℕ → Key → List Act
+acts_of_leaving net holder key = map (λ e. Send e key) (exporters_of net (slice_get net.holders holder))
 
 abbrev pub after_expire : Net → ℕ → List Record → ℕ → Option Record → State → Choices → Outcome
 after_expire net holder rs number None s choices = Err 853
 after_expire net holder rs number (Some r) s choices =
-    all_acts net r.counts (leaving net holder r.key) (record s { held = slice_set s.held holder (without rs number) }) choices
+    all_acts net r.counts (acts_of_leaving net holder r.key) (record s { held = slice_set s.held holder (without rs number) }) choices
 
 abbrev pub expire_from : Net → ℕ → Option (List Record) → ℕ → State → Choices → Outcome
 expire_from net holder None number s choices = Err 851
-expire_from net holder (Some rs) number s choices = after_expire net holder rs number (numbered rs number) s choices
+expire_from net holder (Some rs) number s choices = after_expire net holder rs number (entry_numbered rs number) s choices
 
 abbrev pub expire_at : Net → Option ℕ → ℕ → State → Choices → Outcome
 expire_at net None number s choices = Err 851
@@ -71,7 +71,7 @@ expire_at net (Some holder) number s choices = expire_from net holder (slice_get
 
 -- ---- a record leaves a link
 
-abbrev pub take_in : Net → Key → Aggregation → Act
+abbrev pub take_in : Net → Key → AggregationEntry → Act
 take_in net key aggregation = Hold aggregation.holder (project key (layout_of (slice_get net.holders aggregation.holder)))
 
 -- each exporting process that the collecting process names sends it, and each aggregation that takes its key takes it in
@@ -85,18 +85,18 @@ abbrev pub coming_to : Net → Key → ℕ → List Act
 coming_to net key process =
     (if process == net.report then Tally key ∷ [] else []) ++ acts_of net key (slice_get net.processes process)
 
-abbrev pub arriving : Net → Key → Option ℕ → List Act
-arriving net key None = []
-arriving net key (Some process) = coming_to net key process
+abbrev pub acts_of_arrival : Net → Key → Option ℕ → List Act
+acts_of_arrival net key None = []
+acts_of_arrival net key (Some process) = coming_to net key process
 
 abbrev pub after_arrive : Net → ℕ → List Record → ℕ → Option Record → State → Choices → Outcome
 after_arrive net link rs number None s choices = Err 853
 after_arrive net link rs number (Some r) s choices =
-    all_acts net r.counts (arriving net r.key (slice_get net.links link)) (record s { carried = slice_set s.carried link (without rs number) }) choices
+    all_acts net r.counts (acts_of_arrival net r.key (slice_get net.links link)) (record s { carried = slice_set s.carried link (without rs number) }) choices
 
 abbrev pub arrive_from : Net → ℕ → Option (List Record) → ℕ → State → Choices → Outcome
 arrive_from net link None number s choices = Err 851
-arrive_from net link (Some rs) number s choices = after_arrive net link rs number (numbered rs number) s choices
+arrive_from net link (Some rs) number s choices = after_arrive net link rs number (entry_numbered rs number) s choices
 
 -- the place of the link of this number, where the first is 1
 abbrev pub link_place : ℕ → Option ℕ
@@ -113,7 +113,7 @@ arrive_at net (Some link) number s choices = arrive_from net link (slice_get s.c
 -- no record has that number, then 852 where the choices aren't as many as needed or one of them can't be made
 abbrev pub after : Net → List Class → List Packet → Step → State → Outcome
 after net classes packets (Cross packet crossing choices) s =
-    after_cross net classes (numbered packets packet) (place s.coming packet crossing) crossing s choices
+    after_cross net classes (entry_numbered packets packet) (place s.coming packet crossing) crossing s choices
 after net classes packets (Expire holder number choices) s = expire_at net (holder_place net holder) number s choices
 after net classes packets (Arrive link number choices) s = arrive_at net (link_place link) number s choices
 

@@ -11,7 +11,7 @@ abbrev pub taken_out : List (List Record) → ℕ → ℕ → List (List Record)
 taken_out rss place number = slice_set rss place (without (entries (slice_get rss place)) number)
 
 -- a network, its packets and what it holds
-pub record Running : Type 0 where
+pub record LoadedNetwork : Type 0 where
   pub net : Net
   pub classes : List Class
   pub packets : List Packet

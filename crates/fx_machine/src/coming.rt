@@ -3,7 +3,7 @@ ghost use Rattle.std.specs.Prelude.{◌≡◌, IfOk, Some, false};
 ghost use Rattle.fx_machine.specs.Comings as comings;
 ghost use Rattle.fx_machine.specs.States as states;
 
-use fx_base::numbered;
+use fx_base::entry_numbered;
 use std::alloc::{AllocError, Global};
 use std::marker::Model;
 
@@ -37,7 +37,7 @@ impl Marks {
     fn has(&self, crossing: u64) -> bool
         ensures { result ≡ comings.has_mark (Some self.now) crossing }
     {
-        match numbered(self.items.as_slice(), crossing) {
+        match entry_numbered(self.items.as_slice(), crossing) {
             None => false,
             Some(mark) => *mark,
         }
@@ -45,7 +45,7 @@ impl Marks {
 
     /// The crossing of this number isn't to come any more.
     fn clear(&mut self, crossing: u64)
-        ensures { self.new ≡ states.replaced self.old crossing false }
+        ensures { self.new ≡ states.with_entry self.old crossing false }
     {
         if crossing == 0 || crossing > self.items.len() as u64 {
             return;
@@ -69,9 +69,9 @@ impl Marks {
 
 /// Whether a crossing of a packet is to come, by their numbers.
 pub fn is_to_come(to_come: &[Marks], packet: u64, crossing: u64) -> bool
-    ensures { result ≡ comings.flagged to_come.now packet crossing }
+    ensures { result ≡ comings.has_mark_at to_come.now packet crossing }
 {
-    match numbered(to_come, packet) {
+    match entry_numbered(to_come, packet) {
         None => false,
         Some(marks) => marks.has(crossing),
     }
@@ -79,7 +79,7 @@ pub fn is_to_come(to_come: &[Marks], packet: u64, crossing: u64) -> bool
 
 /// A crossing of a packet isn't to come any more.
 pub fn clear(to_come: &mut Vec<Marks>, packet: u64, crossing: u64)
-    ensures { to_come.new.items ≡ comings.cleared to_come.old.items packet crossing }
+    ensures { to_come.new.items ≡ comings.without_mark to_come.old.items packet crossing }
 {
     if packet == 0 || packet > to_come.len() as u64 {
         return;

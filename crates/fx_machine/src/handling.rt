@@ -24,7 +24,7 @@ pub fn handling_at<'a>(
     link: usize,
     key: &Key,
 ) -> Result<Handling<'a>, AllocError>
-    ensures { IfOk result (λ h. steps.arriving net.now key.now (slice_get net.now.links link)
+    ensures { IfOk result (λ h. steps.acts_of_arrival net.now key.now (slice_get net.now.links link)
         ≡ handling.handling_acts net.now key.now h.tallies h.exporters.now h.holdings.items) }
 {
     let Some(place) = entry_at(net.links(), link) else {

@@ -62,8 +62,8 @@ pub fn unnamed_axes_mean_nothing()
     ensures of_class { (named : Axis → Bool) (classes : List traffic.Class)
         (p : of_packet.Packet) (q : of_packet.Packet)
         → axes.ClassesNameOnly named classes → axes.IsAlike named p q
-        → (traffic.IsOf p (network.numbered classes p.class)
-        ↔ traffic.IsOf q (network.numbered classes q.class)) }
+        → (traffic.IsOf p (network.entry_numbered classes p.class)
+        ↔ traffic.IsOf q (network.entry_numbered classes q.class)) }
     ensures opening { (named : Axis → Bool) (net : network.Net) (classes : List traffic.Class)
         (ps : List of_packet.Packet) (qs : List of_packet.Packet) → axes.AreAlike named ps qs
         → states.opening net classes ps ≡ states.opening net classes qs }

@@ -17,7 +17,7 @@ pub use fx_run_text::{
     read_run_line, run_lines_have_one_text, run_texts,
 };
 pub use fx_tables::{
-    Aggregation, Class, Classes, Crossing, Device, Exporter, Holder, HolderName, Holding,
+    AggregationEntry, Class, Classes, Crossing, DeviceEntry, Exporter, Holder, HolderName, Holding,
     MatchEntry, Net, Occurrence, Packet, Path, Point, Process, Record, Selection,
 };
 pub use laws::{

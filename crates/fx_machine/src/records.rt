@@ -1,9 +1,9 @@
 //! Lists of flow records.
 ghost use Rattle.std.specs.Prelude.{◌≡◌, ◌++◌, ◌-◌, ◌==◌, [], ◌∷◌, length, take, OnOk, OnErr};
-ghost use Rattle.fx_base.specs.Entries.{now_of, numbered};
+ghost use Rattle.fx_base.specs.Entries.{now_of, entry_numbered};
 ghost use Rattle.fx_machine.specs.States as states;
 
-use fx_base::numbered;
+use fx_base::entry_numbered;
 use fx_tables::Record;
 use std::alloc::{AllocError, Global};
 use std::marker::Model;
@@ -57,10 +57,10 @@ impl Records {
     }
 
     /// The record of this number, from 1.
-    pub fn numbered(&self, number: u64) -> Option<&Record>
-        ensures { now_of result ≡ numbered self.now number }
+    pub fn record_numbered(&self, number: u64) -> Option<&Record>
+        ensures { now_of result ≡ entry_numbered self.now number }
     {
-        numbered(self.items.as_slice(), number)
+        entry_numbered(self.items.as_slice(), number)
     }
 
     /// Whether there are none.

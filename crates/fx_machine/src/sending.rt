@@ -8,13 +8,13 @@ ghost use Rattle.fx_machine.specs.States as states;
 ghost use Rattle.fx_tables.specs.declared.record.Record as of_record;
 
 use crate::records::Records;
-use fx_base::{Fault, numbered};
+use fx_base::{Fault, entry_numbered};
 use fx_tables::{Exporter, Record};
 use std::alloc::{AllocError, Global};
 
 /// The link of a destination comes last, if it has one.
 fn push_link(links: &mut Vec<usize>, destination: Option<usize>) -> Result<(), AllocError>
-    ensures { OnOk result (links.new.items ≡ links.old.items ++ sends.linked destination) }
+    ensures { OnOk result (links.new.items ≡ links.old.items ++ sends.link_list destination) }
 {
     if let Some(link) = destination {
         links.push(link)?;
@@ -43,7 +43,7 @@ fn next_destination(
         [] => None,
         [choice, ..] => match choice {
             None => None,
-            Some(number) => numbered(destinations, *number).copied(),
+            Some(number) => entry_numbered(destinations, *number).copied(),
         },
     }
 }

@@ -28,7 +28,7 @@ pub struct State<'a> {
 impl<'a> Model for State<'a> {
     ghost use Rattle.fx_machine.specs.Stores as stores;
 
-    ghost Value = { stores.Running };
+    ghost Value = { stores.LoadedNetwork };
 
     ghost view = { λ s. record {
       net = s.net.now;
@@ -41,7 +41,7 @@ impl<'a> Model for State<'a> {
 /// Whether all packets are of their classes.
 fn all_of(classes: &Classes, packets: &[Packet]) -> bool
     ensures { IsTrue result ↔ All (λ packet. traffic.IsOf packet
-        (network.numbered classes.now packet.class)) packets.now }
+        (network.entry_numbered classes.now packet.class)) packets.now }
 {
     packets.iter().all(|packet| classes.contains(packet))
 }
@@ -66,13 +66,13 @@ impl<'a> State<'a> {
               state =
                   states.opening net.now classes.now packets.items;
             })
-            × All (λ packet. traffic.IsOf packet (network.numbered classes.now packet.class))
+            × All (λ packet. traffic.IsOf packet (network.entry_numbered classes.now packet.class))
             packets.items) }
         ensures err { IfErr result (λ e. ((e ≡ fault_at 856 faults.None)
-            × (All (λ packet. traffic.IsOf packet (network.numbered classes.now packet.class))
+            × (All (λ packet. traffic.IsOf packet (network.entry_numbered classes.now packet.class))
             packets.items → ⊥))
             ⊎ ((e ≡ fault_at 900 faults.None) × All
-            (λ packet. traffic.IsOf packet (network.numbered classes.now packet.class))
+            (λ packet. traffic.IsOf packet (network.entry_numbered classes.now packet.class))
             packets.items)) }
     {
         if !all_of(classes, packets.as_slice()) {
@@ -102,15 +102,15 @@ impl<'a> State<'a> {
     /// many as needed, or a chosen destination or held record isn't there or has another key; and with 900
     /// for want of memory. After a fault the state is what it was.
     pub fn step(&mut self, step: &Step) -> Result<(), Fault>
-        ensures ok { OnOk result ((s : states.State) → self.old.state ≡ states.told s
+        ensures ok { OnOk result ((s : states.State) → self.old.state ≡ states.told_state s
             → (next : states.State)
             × (steps.after self.old.net self.old.classes self.old.packets step.now s ≡ Ok next)
-            × (self.new.state ≡ states.told next)) }
+            × (self.new.state ≡ states.told_state next)) }
         ensures tables { (self.new.net ≡ self.old.net) × (self.new.classes ≡ self.old.classes)
             × (self.new.packets ≡ self.old.packets) }
         ensures same { OnErr result (self.new ≡ self.old) }
         ensures err { IfErr result (λ e. (e.place ≡ faults.None)
-            × ((e.number ≡ 900) ⊎ ((s : states.State) → self.old.state ≡ states.told s
+            × ((e.number ≡ 900) ⊎ ((s : states.State) → self.old.state ≡ states.told_state s
             → steps.after self.old.net self.old.classes self.old.packets step.now s
             ≡ Err e.number))) }
     {

@@ -15,7 +15,7 @@ use crate::holding::{give_all_back, hold_all};
 use crate::records::Records;
 use crate::sending::{choices_from, chosen_links, put_all};
 use crate::tallying::send_and_tally;
-use fx_base::{Counts, Fault, entry_at, numbered};
+use fx_base::{Counts, Fault, entry_at, entry_numbered};
 use fx_tables::{Classes, HolderName, Holding, Net, Packet, Record};
 use std::alloc::{AllocError, Global};
 use std::marker::Model;
@@ -123,9 +123,9 @@ fn crossing_holdings(
 ) -> Result<Vec<Holding>, AllocError>
     ensures { IfOk result (λ holdings. map holds.hold_act holdings.items
         ≡ steps.crossing_acts net.now packet.now.fields
-        (network.numbered (traffic.path classes.now packet.now) crossing)) }
+        (network.entry_numbered (traffic.path classes.now packet.now) crossing)) }
 {
-    let Some(found) = numbered(classes.path_of(packet), crossing) else {
+    let Some(found) = entry_numbered(classes.path_of(packet), crossing) else {
         return Ok(Vec::new(alloc));
     };
     let occurrences = net.occurrences(alloc, found, &packet.fields)?;
@@ -187,21 +187,21 @@ impl Store {
         crossing: u64,
         choices: &[Option<u64>],
     ) -> Result<(), Fault>
-        ensures ok { OnOk result ((s : states.State) → self.old ≡ states.told s
+        ensures ok { OnOk result ((s : states.State) → self.old ≡ states.told_state s
             → (next : states.State)
-            × (steps.after_cross net.now classes.now (network.numbered packets.now packet)
+            × (steps.after_cross net.now classes.now (network.entry_numbered packets.now packet)
             (steps.place s.coming packet crossing) crossing s choices.now ≡ Ok next)
-            × (self.new ≡ states.told next)) }
+            × (self.new ≡ states.told_state next)) }
         ensures same { OnErr result (self.new ≡ self.old) }
         ensures err { IfErr result (λ e. (e.place ≡ faults.None)
-            × ((e.number ≡ 900) ⊎ ((s : states.State) → self.old ≡ states.told s
-            → steps.after_cross net.now classes.now (network.numbered packets.now packet)
+            × ((e.number ≡ 900) ⊎ ((s : states.State) → self.old ≡ states.told_state s
+            → steps.after_cross net.now classes.now (network.entry_numbered packets.now packet)
             (steps.place s.coming packet crossing) crossing s choices.now ≡ Err e.number))) }
     {
         if !is_to_come(self.to_come.as_slice(), packet, crossing) {
             return Err(Fault::bare(851));
         }
-        let Some(found) = numbered(packets, packet) else {
+        let Some(found) = entry_numbered(packets, packet) else {
             return Err(Fault::bare(851));
         };
         let counts = Counts {
@@ -223,14 +223,14 @@ impl Store {
         number: u64,
         choices: &[Option<u64>],
     ) -> Result<(), Fault>
-        ensures ok { OnOk result ((s : states.State) → self.old ≡ states.told s
+        ensures ok { OnOk result ((s : states.State) → self.old ≡ states.told_state s
             → (next : states.State)
             × (steps.expire_at net.now (network.holder_place net.now holder) number s choices.now
             ≡ Ok next)
-            × (self.new ≡ states.told next)) }
+            × (self.new ≡ states.told_state next)) }
         ensures same { OnErr result (self.new ≡ self.old) }
         ensures err { IfErr result (λ e. (e.place ≡ faults.None)
-            × ((e.number ≡ 900) ⊎ ((s : states.State) → self.old ≡ states.told s
+            × ((e.number ≡ 900) ⊎ ((s : states.State) → self.old ≡ states.told_state s
             → steps.expire_at net.now (network.holder_place net.now holder) number s choices.now
             ≡ Err e.number))) }
     {
@@ -240,7 +240,7 @@ impl Store {
         let Some(records) = entry_at(self.held.as_slice(), place) else {
             return Err(Fault::bare(851));
         };
-        let Some(found) = records.numbered(number) else {
+        let Some(found) = records.record_numbered(number) else {
             return Err(Fault::bare(853));
         };
         let entry = found.copy();
@@ -265,13 +265,13 @@ impl Store {
         number: u64,
         choices: &[Option<u64>],
     ) -> Result<(), Fault>
-        ensures ok { OnOk result ((s : states.State) → self.old ≡ states.told s
+        ensures ok { OnOk result ((s : states.State) → self.old ≡ states.told_state s
             → (next : states.State)
             × (steps.arrive_at net.now (steps.link_place link) number s choices.now ≡ Ok next)
-            × (self.new ≡ states.told next)) }
+            × (self.new ≡ states.told_state next)) }
         ensures same { OnErr result (self.new ≡ self.old) }
         ensures err { IfErr result (λ e. (e.place ≡ faults.None)
-            × ((e.number ≡ 900) ⊎ ((s : states.State) → self.old ≡ states.told s
+            × ((e.number ≡ 900) ⊎ ((s : states.State) → self.old ≡ states.told_state s
             → steps.arrive_at net.now (steps.link_place link) number s choices.now
             ≡ Err e.number))) }
     {
@@ -281,7 +281,7 @@ impl Store {
         let Some(records) = entry_at(self.carried.as_slice(), place) else {
             return Err(Fault::bare(851));
         };
-        let Some(found) = records.numbered(number) else {
+        let Some(found) = records.record_numbered(number) else {
             return Err(Fault::bare(853));
         };
         let entry = found.copy();

@@ -8,11 +8,11 @@ use Rattle.fx_link.specs.Links.{Put}
 use Rattle.fx_pcap.specs.Captures as captures
 use Rattle.fx_net.specs.declared.stop.Stop.{Stop}
 use Rattle.fx_net.specs.declared.stop.Stop.TheVariants as stop
-use Rattle.fx_net.specs.Running.{Running, FailsOutside, HasGoneOn, IsOfNone, ObeysAll, RefusesClose, RefusesRun, none_holds, rest_refused, fault_of, stop_of}
+use Rattle.fx_net.specs.Running.{RunningNetwork, FailsOutside, HasGoneOn, IsOfNone, ObeysAll, RefusesClose, RefusesRun, none_holds, rest_refused, fault_of, stop_of}
 use Rattle.fx_net.proofs.Frames.{told_again}
 
 -- the exit of a `?` of a reader of a capture
-pub told_exit : {X : Type 0} (r : Result X Stop) (e : Fault) (Q : Fault → Type 0) → IsErr r × IsErrAnd r (λ s. s ≡ stop_of e) → captures.IsTold e → Q e → IfErr r (λ s. Q (fault_of s))
+pub told_exit : {X : Type 0} (r : Result X Stop) (e : Fault) (Q : Fault → Type 0) → IsErr r × IsErrAnd r (λ s. s ≡ stop_of e) → captures.IsToldByCapture e → Q e → IfErr r (λ s. Q (fault_of s))
 told_exit (Ok x) e Q h told q = absurd h.1
 told_exit (Err s) e Q h told q = subst (λ (t : Stop). Q (fault_of t)) (sym h.1) (subst Q (sym (told_again e told)) q)
 
@@ -26,15 +26,15 @@ err_weaker (Ok x) P Q f p = tt
 err_weaker (Err e) P Q f p = f e p
 
 -- a frame that is left is of no class
-pub close_refused : (old mid : Running) (at to : captures.Reading) (failed : Bool) (s : Stop)
+pub close_refused : (old mid : RunningNetwork) (at to : captures.CaptureState) (failed : Bool) (s : Stop)
     → FailsOutside failed (fault_of s) ⊎ ((s ≡ stop.Bare 804) × IsOfNone mid.classes to.seen) → HasGoneOn at to → mid ≡ record old { contents = mid.contents }
     → FailsOutside failed (fault_of s) ⊎ RefusesClose old at to (fault_of s)
 close_refused old mid at to failed s (inl outside) gone rest = inl outside
 close_refused old mid at to failed s (inr h) gone rest =
-    inr (none_holds (ap fault_of h.0) gone (subst (λ (r : Running). IsOfNone r.classes to.seen) rest h.1))
+    inr (none_holds (ap fault_of h.0) gone (subst (λ (r : RunningNetwork). IsOfNone r.classes to.seen) rest h.1))
 
 -- what is refused in the closing phase is refused behind all lines
-pub run_refused : (old mid : Running) (at on to : captures.Reading) (from last : Lines) (before put : Put) (failed : Bool) (e : Fault)
+pub run_refused : (old mid : RunningNetwork) (at on to : captures.CaptureState) (from last : Lines) (before put : Put) (failed : Bool) (e : Fault)
     → ObeysAll old mid at on from last before put → FailsOutside failed e ⊎ RefusesClose mid on to e → FailsOutside failed e ⊎ RefusesRun old at to from last before e
 run_refused old mid at on to from last before put failed e obeys (inl outside) = inl outside
 run_refused old mid at on to from last before put failed e obeys (inr h) = inr (rest_refused mid on obeys.behind put obeys.obeyed obeys.end h)

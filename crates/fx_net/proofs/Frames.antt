@@ -10,7 +10,7 @@ use Rattle.fx_tables.specs.Network.{Net}
 use Rattle.fx_pcap.specs.Captures as captures
 use Rattle.fx_net.specs.declared.action.Action.TheVariants as action
 use Rattle.fx_net.specs.Contents.{Contents}
-use Rattle.fx_net.specs.Doings.{Reads, IsFrame, after_packet}
+use Rattle.fx_net.specs.Doings.{ReadsFrame, IsFrame, after_packet}
 use Rattle.fx_net.specs.Running.{IsOfNone, packet_of, fault_of, stop_of}
 
 first_place : List Class → Fields → Option ℕ
@@ -36,7 +36,7 @@ pub reads_first : (net : Net) (classes : List Class) (frame seen : captures.Seen
     → frame.fields ≡ seen.fields → frame.octets ≡ seen.octets → frame.second ≡ seen.second → IsFrame (packet_of frame (k + 1) 1) frame → frame.second < 2 ^ 32
     → place ≡ position (λ (c : Class). holds c.region frame.fields) classes → place ≡ Some k
     → done ≡ after_packet net classes (packet_of frame (k + 1) 1) frame.second old
-    → Reads net classes action.Next seen old done
+    → ReadsFrame net classes action.Next seen old done
 reads_first net classes frame seen place k old done fields octets second of_frame soon is there made = record {
   packet = packet_of frame (k + 1) 1;
   is_frame = of_seen (packet_of frame (k + 1) 1) frame seen fields octets of_frame;
@@ -46,16 +46,16 @@ reads_first net classes frame seen place k old done fields octets second of_fram
 }
 
 -- a reader that answers that there is a frame is at it, and one that answers that there is none is at the end
-pub at_frame_of : (old new : captures.Reading) (there : Bool) → captures.Advances old new (Ok there) → there ≡ true → captures.AtFrame old new
+pub at_frame_of : (old new : captures.CaptureState) (there : Bool) → captures.AdvancesToFrame old new (Ok there) → there ≡ true → captures.AtFrame old new
 at_frame_of old new true h e = h
 at_frame_of old new false h e = absurd cc
 
-pub at_end_of : (old new : captures.Reading) (there : Bool) → captures.Advances old new (Ok there) → there ≡ false → captures.AtEnd old new
+pub at_end_of : (old new : captures.CaptureState) (there : Bool) → captures.AdvancesToFrame old new (Ok there) → there ≡ false → captures.AtCaptureEnd old new
 at_end_of old new true h e = absurd cc
 at_end_of old new false h e = h
 
 -- what a reader of a capture answers is kept as it is
-pub told_again : (e : Fault) → captures.IsTold e → fault_of (stop_of e) ≡ e
+pub told_again : (e : Fault) → captures.IsToldByCapture e → fault_of (stop_of e) ≡ e
 told_again e (captures.not_read is) = ap (λ (f : Fault). fault_of (stop_of f)) is ∙ sym is
 told_again e (captures.cut_off octet is) = ap (λ (f : Fault). fault_of (stop_of f)) is ∙ sym is
 told_again e (captures.too_long octet is) = ap (λ (f : Fault). fault_of (stop_of f)) is ∙ sym is

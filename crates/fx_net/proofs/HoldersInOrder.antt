@@ -8,7 +8,7 @@ use Rattle.fx_tables.specs.Network.{Holder}
 use Rattle.fx_base.specs.declared.fault.Fault.{Fault}
 use Rattle.fx_link.specs.Ongoing.{Ongoing, at_rest}
 use Rattle.fx_link.specs.Wires.{new_wire}
-use Rattle.fx_topology.specs.declared.network.Network.{Network}
+use Rattle.fx_topology.specs.declared.network.NetworkDocument.{NetworkDocument}
 use Rattle.fx_topology.specs.declared.network_device.NetworkDevice.{NetworkDevice}
 use Rattle.fx_plan.specs.Labels.{Label, exporting_labels}
 use Rattle.fx_plan.specs.Tables.{net_of, cache_holder, cache_holders}
@@ -23,14 +23,14 @@ as_many exporting (d ∷ ds) =
     ∙ ap (λ n. length d.config.caches + n) (as_many exporting ds)
     ∙ sym (length-append d.config.caches (flat_map (λ (d : NetworkDevice). d.config.caches) ds))
 
-pub behind_caches : (network : Network) → drop (length (map store_of (caches_in network))) (net_of network).holders ≡ aggregations_in network
+pub behind_caches : (network : NetworkDocument) → drop (length (map store_of (caches_in network))) (net_of network).holders ≡ aggregations_in network
 unfolding net_of
 behind_caches network =
     let exporting = exporting_labels network.devices in
     ap (λ n. drop n (cache_holders exporting network.devices ++ aggregations_in network)) (length-map (caches_in network) store_of ∙ sym (as_many exporting network.devices))
     ∙ drop-append_seam (cache_holders exporting network.devices) (aggregations_in network)
 
-pub caches_are_holders : (network : Network) → length (map store_of (caches_in network)) ≤ length (net_of network).holders
+pub caches_are_holders : (network : NetworkDocument) → length (map store_of (caches_in network)) ≤ length (net_of network).holders
 unfolding net_of
 caches_are_holders network =
     let exporting = exporting_labels network.devices in
@@ -44,7 +44,7 @@ new_links_more ps n lt = subst (λ m. new_links (take n ps) ++ at_rest new_wire 
     go (p ∷ ps) zero lt = refl
     go (p ∷ ps) (suc n) lt = ap (λ xs. at_rest new_wire ∷ xs) (go ps n (le_of_suc-le-suc lt))
 
-pub all_stores : (network : Network) (stores : List (Option Stored)) (n : ℕ) (hs : List Holder) → stores ≡ map store_of (caches_in network) → hs ≡ (net_of network).holders → n ≡ min (length stores) (length hs)
+pub all_stores : (network : NetworkDocument) (stores : List (Option Stored)) (n : ℕ) (hs : List Holder) → stores ≡ map store_of (caches_in network) → hs ≡ (net_of network).holders → n ≡ min (length stores) (length hs)
     → stores ++ aggregation_stores (take (length hs - n) (drop n hs)) ≡ stores_of network
 all_stores network stores n hs stores_are hs_are n_is =
     let few : length stores ≤ length hs = subst (λ m. m ≤ length hs) (sym (ap length stores_are)) (subst (λ m. length (map store_of (caches_in network)) ≤ m) (sym (ap length hs_are)) (caches_are_holders network)) in

@@ -9,11 +9,11 @@ use Rattle.fx_collect.specs.Totals.{with_record}
 use Rattle.fx_session.specs.Streams.{SessionState, IsNextRecord}
 use Rattle.fx_link.specs.Ongoing.{Ongoing}
 use Rattle.fx_net.specs.declared.leaving.Leaver.{Leaver}
-use Rattle.fx_net.specs.Contents.{Contents, changed}
+use Rattle.fx_net.specs.Contents.{Contents, with_changed}
 use Rattle.fx_runs.specs.Destinations.{links_used}
 use Rattle.fx_net.specs.Exporting.{with_waiting, put_each, after_send}
 use Rattle.fx_net.specs.Leaving.{after_leave, after_leaves}
-use Rattle.fx_net.specs.Taking.{adding, all_leave_at_once, with_stores, after_taking}
+use Rattle.fx_net.specs.Taking.{stores_and_leavers, all_leave_at_once, with_stores, after_taking}
 use Rattle.fx_net.specs.Arriving.{process_behind, leads_to_report, exporters_named, takers, after_tally, after_arrive, after_arrivals, after_handling, waiting_on, with_left, IsNext}
 use Rattle.fx_net.proofs.ChangedLists.{changed_set, set_same}
 
@@ -36,20 +36,20 @@ next_is xs n old new (Some r) lt is h rest =
 
 -- ---- nothing else is done to what waits at a receiver
 
-commutes : {A : Type 0} (f g : A → A) → ((x : A) → f (g x) ≡ g (f x)) → (xs : List A) (m n : ℕ) → changed f (changed g xs m) n ≡ changed g (changed f xs n) m
+commutes : {A : Type 0} (f g : A → A) → ((x : A) → f (g x) ≡ g (f x)) → (xs : List A) (m n : ℕ) → with_changed f (with_changed g xs m) n ≡ with_changed g (with_changed f xs n) m
 commutes f g h [] m n = refl
 commutes f g h (x ∷ xs) zero zero = ap (λ y. y ∷ xs) (h x)
 commutes f g h (x ∷ xs) zero (suc n) = refl
 commutes f g h (x ∷ xs) (suc m) zero = refl
 commutes f g h (x ∷ xs) (suc m) (suc n) = ap (λ ys. x ∷ ys) (commutes f g h xs m n)
 
-put_clears : (time : ℕ) (r : Record) (ls : List ℕ) (links : List Ongoing) (n : ℕ) → changed (with_left []) (put_each time r ls links) n ≡ put_each time r ls (changed (with_left []) links n)
+put_clears : (time : ℕ) (r : Record) (ls : List ℕ) (links : List Ongoing) (n : ℕ) → with_changed (with_left []) (put_each time r ls links) n ≡ put_each time r ls (with_changed (with_left []) links n)
 put_clears time r [] links n = refl
 put_clears time r (l ∷ ls) links n =
-    put_clears time r ls (changed (with_waiting time r) links l) n
+    put_clears time r ls (with_changed (with_waiting time r) links l) n
     ∙ ap (put_each time r ls) (commutes (with_left []) (with_waiting time r) (λ o. refl) links l n)
 
-same_waiting : (time : ℕ) (r : Record) (links : List Ongoing) (m n : ℕ) → waiting_on (slice_get (changed (with_waiting time r) links m) n) ≡ waiting_on (slice_get links n)
+same_waiting : (time : ℕ) (r : Record) (links : List Ongoing) (m n : ℕ) → waiting_on (slice_get (with_changed (with_waiting time r) links m) n) ≡ waiting_on (slice_get links n)
 same_waiting time r [] m n = refl
 same_waiting time r (x ∷ xs) zero zero = refl
 same_waiting time r (x ∷ xs) zero (suc n) = refl
@@ -58,11 +58,11 @@ same_waiting time r (x ∷ xs) (suc m) (suc n) = same_waiting time r xs m n
 
 put_waits : (time : ℕ) (r : Record) (ls : List ℕ) (links : List Ongoing) (n : ℕ) → waiting_on (slice_get (put_each time r ls links) n) ≡ waiting_on (slice_get links n)
 put_waits time r [] links n = refl
-put_waits time r (l ∷ ls) links n = put_waits time r ls (changed (with_waiting time r) links l) n ∙ same_waiting time r links l n
+put_waits time r (l ∷ ls) links n = put_waits time r ls (with_changed (with_waiting time r) links l) n ∙ same_waiting time r links l n
 
 -- with nothing that waits at a link's receiver
 abbrev pub cleared : ℕ → Contents → Contents
-cleared n c = record c { links = changed (with_left []) c.links n }
+cleared n c = record c { links = with_changed (with_left []) c.links n }
 
 abbrev pub waits : ℕ → Contents → List Record
 waits n c = waiting_on (slice_get c.links n)
@@ -82,16 +82,16 @@ leaves_wait net (l ∷ ls) c n =
 
 taking_clears : (net : Net) (counts : Counts) (hs : List Holding) (c : Contents) (n : ℕ) → cleared n (after_taking net counts hs c) ≡ after_taking net counts hs (cleared n c)
 taking_clears net counts hs c n =
-    let stores = (adding c.stores counts hs).stores in
-    let left = (adding c.stores counts hs).left in
+    let stores = (stores_and_leavers c.stores counts hs).stores in
+    let left = (stores_and_leavers c.stores counts hs).left in
     let at_once = all_leave_at_once stores counts hs in
     leaves_clear net at_once (after_leaves net left (with_stores c stores)) n
     ∙ ap (after_leaves net at_once) (leaves_clear net left (with_stores c stores) n)
 
 taking_waits : (net : Net) (counts : Counts) (hs : List Holding) (c : Contents) (n : ℕ) → waits n (after_taking net counts hs c) ≡ waits n c
 taking_waits net counts hs c n =
-    let stores = (adding c.stores counts hs).stores in
-    let left = (adding c.stores counts hs).left in
+    let stores = (stores_and_leavers c.stores counts hs).stores in
+    let left = (stores_and_leavers c.stores counts hs).left in
     leaves_wait net (all_leave_at_once stores counts hs) (after_leaves net left (with_stores c stores)) n ∙ leaves_wait net left (with_stores c stores) n
 
 abbrev if_tallied : Bool → Record → Contents → Contents
@@ -134,12 +134,12 @@ arrive_waits net link r c n =
 
 -- ---- one record after another
 
-cleared_again : (rs : List Record) (xs : List Ongoing) (n : ℕ) → changed (with_left []) (changed (with_left rs) xs n) n ≡ changed (with_left []) xs n
+cleared_again : (rs : List Record) (xs : List Ongoing) (n : ℕ) → with_changed (with_left []) (with_changed (with_left rs) xs n) n ≡ with_changed (with_left []) xs n
 cleared_again rs [] n = refl
 cleared_again rs (x ∷ xs) zero = refl
 cleared_again rs (x ∷ xs) (suc n) = ap (λ ys. x ∷ ys) (cleared_again rs xs n)
 
-waits_left : (rs : List Record) (xs : List Ongoing) (n : ℕ) (r : Record) → waiting_on (slice_get xs n) ≡ r ∷ rs → waiting_on (slice_get (changed (with_left rs) xs n) n) ≡ rs
+waits_left : (rs : List Record) (xs : List Ongoing) (n : ℕ) (r : Record) → waiting_on (slice_get xs n) ≡ r ∷ rs → waiting_on (slice_get (with_changed (with_left rs) xs n) n) ≡ rs
 waits_left rs [] n r e = absurd (none_waits r rs e)
   where
     none_waits : (r : Record) (rs : List Record) → ◌≡◌ {A = List Record} [] (r ∷ rs) → ⊥
@@ -155,7 +155,7 @@ handled_next net link r c links h =
     let left : waits link c1 ≡ rs = ap (λ xs. waiting_on (slice_get xs link)) h.2 ∙ waits_left rs c.links link r h.1 in
     ap (λ ws. after_arrivals net link ws (cleared link (after_arrive net link r c1))) (arrive_waits net link r c1 link ∙ left)
     ∙ ap (after_arrivals net link rs) (arrive_clears net link r c1 link
-    ∙ ap (λ (xs : List Ongoing). after_arrive net link r (record c { links = xs })) (ap (λ xs. changed (with_left []) xs link) h.2 ∙ cleared_again rs c.links link))
+    ∙ ap (λ (xs : List Ongoing). after_arrive net link r (record c { links = xs })) (ap (λ xs. with_changed (with_left []) xs link) h.2 ∙ cleared_again rs c.links link))
     ∙ sym (ap (λ ws. after_arrivals net link ws (cleared link c)) h.1)
 
 pub handled_fewer : (net : Net) (link : ℕ) (r : Record) (c : Contents) (links : List Ongoing) → IsNext link c.links links (Some r)
@@ -166,7 +166,7 @@ handled_fewer net link r c links h =
     ap (λ (ws : List Record). suc (length ws)) (arrive_waits net link r c1 link ∙ ap (λ xs. waiting_on (slice_get xs link)) h.2 ∙ waits_left rs c.links link r h.1)
     ∙ sym (ap length h.1)
 
-none_left : (xs : List Ongoing) (n : ℕ) → waiting_on (slice_get xs n) ≡ [] → changed (with_left []) xs n ≡ xs
+none_left : (xs : List Ongoing) (n : ℕ) → waiting_on (slice_get xs n) ≡ [] → with_changed (with_left []) xs n ≡ xs
 none_left [] n e = refl
 none_left (x ∷ xs) zero e = ap (λ y. y ∷ xs) (ap (λ ws. with_left ws x) (sym e))
 none_left (x ∷ xs) (suc n) e = ap (λ ys. x ∷ ys) (none_left xs n e)

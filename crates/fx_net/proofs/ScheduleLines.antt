@@ -16,7 +16,7 @@ use Rattle.fx_run_text.proofs.RunWordTexts.{word_found, number_word, same_word, 
 use Rattle.fx_run_text.proofs.RunTexts.{IsWord, AreWords, words_join, written}
 use Rattle.fx_net.specs.declared.action.Action.{Action}
 use Rattle.fx_net.specs.declared.action.Action.TheVariants.{Next, NextOf, Expire, Emit, Carry, Use}
-use Rattle.fx_net.specs.Schedule.{action_words, IsAction, is_piece, Asks, ReadsLine}
+use Rattle.fx_net.specs.Schedule.{action_words, IsAction, is_piece, AsksFor, ReadsLine}
 use Rattle.fx_net.specs.LineReading.{next_of, expire_of, emit_of, carry_of, use_of, kind_of, words_of, action_of}
 
 -- ---- what is read is an action's words
@@ -122,10 +122,10 @@ unfolding words_of
 words_found ws r is =
     by_some (first_word ws) _ r is (λ k pk ek. subst (Found r) (sym (word_found ws k pk)) (kind_found k.0 k.1 r ek))
 
-line_found : (line : List ℕ) (r : Action) → action_of line ≡ Some r → Asks line r
+line_found : (line : List ℕ) (r : Action) → action_of line ≡ Some r → AsksFor line r
 line_found line r is =
     elim (chosen (bytes_eq line (codes "next")) (Some Next) (words_of (words line)) (Some r) is) [
-      | inl h ↦ subst (λ (a : Action). Asks line a) (some_is h.1) (tt, same_word line (codes "next") h.0)
+      | inl h ↦ subst (λ (a : Action). AsksFor line a) (some_is h.1) (tt, same_word line (codes "next") h.0)
       | inr h ↦
           let f = words_found (words line) r h.1 in
           (f.1, sym (join_with_byte-slice_split 32 line) ∙ ap (join_with_byte 32) f.0)
@@ -182,7 +182,7 @@ words_are line w ws e h = ap words e ∙ words_join w ws h.0 h.1
 piece_number : (n : ℕ) → is_piece n ≡ true → IsNumber n
 piece_number n h = search rules
 
-line_said : (line : List ℕ) (a : Action) → Asks line a → action_of line ≡ Some a
+line_said : (line : List ℕ) (a : Action) → AsksFor line a → action_of line ≡ Some a
 line_said line Next h = ap action_of h.1
 line_said line (NextOf a b) h =
     said_in line _ _ _ _ (words_are line (codes "next") _ h.1 (written (codes "next") refl, (number_plain a h.0.0, (number_plain b h.0.1, tt)))) (next_said a b h.0.0 h.0.1)

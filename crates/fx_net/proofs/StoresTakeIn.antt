@@ -7,10 +7,10 @@ use Rattle.fx_tables.specs.Network.{Net}
 use Rattle.fx_store.specs.Flows.{Entry}
 use Rattle.fx_net.specs.declared.leaving.Leaver.{Leaver}
 use Rattle.fx_net.specs.Stores.{Stored, with_counts, makes_room}
-use Rattle.fx_net.specs.Contents.{Contents, changed, stored_at, is_immediate}
+use Rattle.fx_net.specs.Contents.{Contents, with_changed, stored_at, is_immediate}
 use Rattle.fx_layout.specs.Keys.{Key}
 use Rattle.fx_net.specs.Leaving.{leaver, after_leaves}
-use Rattle.fx_net.specs.Taking.{Adding, left_by, with_holding, with_holdings, adding, leaves_at_once, all_leave_at_once, with_stores, after_taking}
+use Rattle.fx_net.specs.Taking.{Adding, left_by, with_holding, with_holdings, stores_and_leavers, leaves_at_once, all_leave_at_once, with_stores, after_taking}
 use Rattle.fx_net.proofs.ChangedLists.{changed_past, changed_same, changed_set, stored_is, stored_past, set_same}
 
 adding_is : (stores stores2 : List (Option Stored)) (left left2 : List Leaver) → stores ≡ stores2 → left ≡ left2 → ◌≡◌ {A = Adding} (record { stores = stores; left = left }) (record { stores = stores2; left = left2 })
@@ -55,7 +55,7 @@ holding_some counts h stores left old new result lt e is leaves =
 -- ---- what leaves at once
 
 -- whether the holder at a place is an immediate cache doesn't change where something is added
-immediate_still : (f : Stored → Stored) (stores : List (Option Stored)) (n p : ℕ) → is_immediate (stored_at (changed (option_map f) stores n) p) ≡ is_immediate (stored_at stores p)
+immediate_still : (f : Stored → Stored) (stores : List (Option Stored)) (n p : ℕ) → is_immediate (stored_at (with_changed (option_map f) stores n) p) ≡ is_immediate (stored_at stores p)
 immediate_still f [] n p = refl
 immediate_still f (x ∷ xs) zero zero = elim x as (λ y. is_immediate (option_map f y) ≡ is_immediate y) [ None ↦ refl | Some s ↦ refl ]
 immediate_still f (x ∷ xs) zero (suc p) = refl
@@ -93,14 +93,14 @@ still_next counts h before stores stores2 left left2 e still p =
     ap (λ (a : Adding). is_immediate (stored_at a.stores p)) e ∙ immediate_still (λ s. with_counts s h.key counts) stores h.holder p ∙ still p
 
 pub taken_in_is : (net : Net) (counts : Counts) (hs : List Holding) (c mid : Contents) (stores : List (Option Stored)) (left passing : List Leaver)
-    → ◌≡◌ {A = Adding} (record { stores = stores; left = left }) (adding c.stores counts hs)
+    → ◌≡◌ {A = Adding} (record { stores = stores; left = left }) (stores_and_leavers c.stores counts hs)
     → passing ≡ all_leave_at_once c.stores counts hs
     → mid ≡ after_leaves net left (with_stores c stores)
     → after_leaves net passing mid ≡ after_taking net counts hs c
 taken_in_is net counts hs c mid stores left passing e is f =
     ap (after_leaves net passing) f
-    ∙ ap (λ ls. after_leaves net ls (after_leaves net left (with_stores c stores))) (is ∙ same_leave counts hs c.stores (adding c.stores counts hs).stores (immediate_after counts hs (record { stores = c.stores; left = [] })))
-    ∙ ap (λ (a : Adding). after_leaves net (all_leave_at_once (adding c.stores counts hs).stores counts hs) (after_leaves net a.left (with_stores c a.stores))) e
+    ∙ ap (λ ls. after_leaves net ls (after_leaves net left (with_stores c stores))) (is ∙ same_leave counts hs c.stores (stores_and_leavers c.stores counts hs).stores (immediate_after counts hs (record { stores = c.stores; left = [] })))
+    ∙ ap (λ (a : Adding). after_leaves net (all_leave_at_once (stores_and_leavers c.stores counts hs).stores counts hs) (after_leaves net a.left (with_stores c a.stores))) e
 
 -- the same of what was taken in from nothing on
 pub taken_in_by : (net : Net) (counts : Counts) (hs : List Holding) (c old : Contents) (stores : List (Option Stored)) (left0 passing0 left passing : List Leaver)

@@ -4,10 +4,10 @@ use Rattle.fx_layout.specs.Keys.{Key}
 use Rattle.fx_tables.specs.declared.holding.Holding.{Holding}
 use Rattle.fx_tables.specs.declared.record.Record.{Record}
 use Rattle.fx_tables.specs.Network.{Net, Process, process_at, aggregations_of}
-use Rattle.fx_tables.specs.Takers.{aggregated}
+use Rattle.fx_tables.specs.Takers.{intakes}
 use Rattle.fx_link.specs.Ongoing.{Ongoing, after_carry}
 use Rattle.fx_collect.specs.Totals.{with_record}
-use Rattle.fx_net.specs.Contents.{Contents, changed}
+use Rattle.fx_net.specs.Contents.{Contents, with_changed}
 use Rattle.fx_net.specs.Exporting.{after_send}
 use Rattle.fx_net.specs.Taking.{after_taking}
 
@@ -26,7 +26,7 @@ exporters_named (Some process) = process.exporters
 
 -- the aggregations that take a record with this key in
 abbrev pub takers : Net → ℕ → Key → List Holding
-takers net link key = aggregated net.holders key (aggregations_of (process_behind net link))
+takers net link key = intakes net.holders key (aggregations_of (process_behind net link))
 
 -- at the report it is tallied
 abbrev pub after_tally : Net → ℕ → Record → Contents → Contents
@@ -54,11 +54,11 @@ with_left rs o = record o { receiver = record o.receiver { known = record o.rece
 -- all of them are handled
 abbrev pub after_handling : Net → ℕ → Contents → Contents
 after_handling net link c =
-    after_arrivals net link (waiting_on (slice_get c.links link)) (record c { links = changed (with_left []) c.links link })
+    after_arrivals net link (waiting_on (slice_get c.links link)) (record c { links = with_changed (with_left []) c.links link })
 
 -- so many octets of a link reach its end, and every record that they complete is handled
 abbrev pub after_carrying : Net → ℕ → ℕ → Contents → Contents
-after_carrying net link n c = after_handling net link (record c { links = changed (after_carry n) c.links link })
+after_carrying net link n c = after_handling net link (record c { links = with_changed (after_carry n) c.links link })
 
 -- ---- what the links are seen as
 
@@ -66,7 +66,7 @@ after_carrying net link n c = after_handling net link (record c { links = change
 abbrev pub IsNext : ℕ → List Ongoing → List Ongoing → Option Record → Type 0
 IsNext link old new None = (new ≡ old) × (waiting_on (slice_get old link) ≡ [])
 IsNext link old new (Some r) =
-    (rs : List Record) × (waiting_on (slice_get old link) ≡ r ∷ rs) × (new ≡ changed (with_left rs) old link)
+    (rs : List Record) × (waiting_on (slice_get old link) ≡ r ∷ rs) × (new ≡ with_changed (with_left rs) old link)
 
 -- how many octets wait to be carried on a link, if it is there
 abbrev pub queued_at : List Ongoing → ℕ → Option ℕ

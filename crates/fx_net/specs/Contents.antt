@@ -18,18 +18,18 @@ pub record Contents : Type 0 where
 -- ---- places
 
 -- the list with another entry at this place
-abbrev pub changed : {A : Type 0} → (A → A) → List A → ℕ → List A
-changed f [] n = []
-changed f (x ∷ xs) zero = f x ∷ xs
-changed f (x ∷ xs) (suc n) = x ∷ changed f xs n
+abbrev pub with_changed : {A : Type 0} → (A → A) → List A → ℕ → List A
+with_changed f [] n = []
+with_changed f (x ∷ xs) zero = f x ∷ xs
+with_changed f (x ∷ xs) (suc n) = x ∷ with_changed f xs n
 
 -- what may stand at this place
-abbrev pub joined : {A : Type 0} → Option (Option A) → Option A
-joined None = None
-joined (Some x) = x
+abbrev pub inner_option : {A : Type 0} → Option (Option A) → Option A
+inner_option None = None
+inner_option (Some x) = x
 
 abbrev pub stored_at : List (Option Stored) → ℕ → Option Stored
-stored_at stores place = joined (slice_get stores place)
+stored_at stores place = inner_option (slice_get stores place)
 
 -- an immediate cache holds nothing
 abbrev pub is_immediate : Option Stored → Bool

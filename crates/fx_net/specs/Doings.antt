@@ -5,18 +5,18 @@ use Rattle.fx_boxes.specs.Boxes.{IsFields, holds}
 use Rattle.fx_tables.specs.declared.packet.Packet.{Packet}
 use Rattle.fx_tables.specs.declared.holder_name.HolderName.{HolderName}
 use Rattle.fx_tables.specs.declared.holder_name.HolderName.TheVariants as holder
-use Rattle.fx_tables.specs.Network.{Net, Device, Exporter, Process, Aggregation, aggregations_of, holder_place}
-use Rattle.fx_base.specs.Entries.{numbered}
+use Rattle.fx_tables.specs.Network.{Net, DeviceEntry, Exporter, Process, AggregationEntry, aggregations_of, holder_place}
+use Rattle.fx_base.specs.Entries.{entry_numbered}
 use Rattle.fx_tables.specs.Classes.{Class, path}
 use Rattle.fx_machine.specs.Steps.{one_packet}
 use Rattle.fx_link.specs.Links.{Put}
 use Rattle.fx_pcap.specs.Captures.{Seen}
-use Rattle.fx_topology.specs.declared.network.Network.{Network}
+use Rattle.fx_topology.specs.declared.network.NetworkDocument.{NetworkDocument}
 use Rattle.fx_plan.specs.Tables.{net_of}
 use Rattle.fx_plan.specs.ExporterPlaces.{exporter_place}
 use Rattle.fx_net.specs.declared.action.Action.{Action}
 use Rattle.fx_net.specs.declared.action.Action.TheVariants as action
-use Rattle.fx_net.specs.Contents.{Contents, changed}
+use Rattle.fx_net.specs.Contents.{Contents, with_changed}
 use Rattle.fx_net.specs.Leaving.{least_at, after_least, after_emptying}
 use Rattle.fx_net.specs.Metering.{after_path}
 use Rattle.fx_net.specs.Arriving.{after_carrying, queued_on}
@@ -53,7 +53,7 @@ abbrev pub IsGiven : List Class → Action → Packet → Type 0
 IsGiven classes action.Next p =
     (k : ℕ) × (position (λ (c : Class). holds c.region p.fields) classes ≡ Some k) × (p.class ≡ suc k) × (p.path ≡ 1)
 IsGiven classes (action.NextOf class path) p =
-    (c : Class) × (numbered classes class ≡ Some c) × (holds c.region p.fields ≡ true) × (p.class ≡ class) × (p.path ≡ path) × (numbered c.paths path ≢ None)
+    (c : Class) × (entry_numbered classes class ≡ Some c) × (holds c.region p.fields ≡ true) × (p.class ≡ class) × (p.path ≡ path) × (entry_numbered c.paths path ≢ None)
 IsGiven classes _ p = ⊥
 
 -- a packet of this second makes all of its crossings
@@ -62,7 +62,7 @@ after_packet net classes p second c =
     after_path net p.fields (one_packet p) (path classes p) (record c { second = second })
 
 -- the packet of a frame is read, whose second is a number of 32 bits
-pub record Reads (net : Net) (classes : List Class) (line : Action) (frame : Seen) (old done : Contents) : Type 0 where
+pub record ReadsFrame (net : Net) (classes : List Class) (line : Action) (frame : Seen) (old done : Contents) : Type 0 where
   pub packet : Packet
   pub is_frame : IsFrame packet frame
   pub given : IsGiven classes line packet
@@ -95,30 +95,30 @@ CarriesWhole net link old done = done ≡ after_carrying net link (queued_on (sl
 -- ---- a line
 
 -- an exporting process sends to this destination from now on
-pub record Uses (network : Network) (device exporter destination : ℕ) (old done : Contents) : Type 0 where
+pub record Uses (network : NetworkDocument) (device exporter destination : ℕ) (old done : Contents) : Type 0 where
   pub place : ℕ
   pub there : exporter_place network device exporter ≡ Some place
   pub names : Exporter
   pub exporter_is : slice_get (net_of network).exporters place ≡ Some names
-  pub destination_there : numbered names.destinations destination ≢ None
-  pub done_is : done ≡ record old { chosen = changed (λ (_ : ℕ). destination) old.chosen place }
+  pub destination_there : entry_numbered names.destinations destination ≢ None
+  pub done_is : done ≡ record old { chosen = with_changed (λ (_ : ℕ). destination) old.chosen place }
 
-abbrev pub ReadsNext : Net → List Class → Action → Option Seen → Making
-ReadsNext net classes line None old done = ⊥
-ReadsNext net classes line (Some frame) old done = Reads net classes line frame old done
+abbrev pub ReadsNextFrame : Net → List Class → Action → Option Seen → Making
+ReadsNextFrame net classes line None old done = ⊥
+ReadsNextFrame net classes line (Some frame) old done = ReadsFrame net classes line frame old done
 
 abbrev pub CarriesOn : Net → ℕ → ℕ → Making
 CarriesOn net zero n old done = ⊥
 CarriesOn net (suc link) n old done = Carries net link n old done
 
 -- What a line does. The frame is the capture's next one, if there is one.
-abbrev pub Does : Network → List Class → Option Seen → Action → Making
-Does network classes frame action.Next = ReadsNext (net_of network) classes action.Next frame
-Does network classes frame (action.NextOf class path) = ReadsNext (net_of network) classes (action.NextOf class path) frame
-Does network classes frame (action.Expire device cache) = LeastLeaves (net_of network) (holder.Cache device cache)
-Does network classes frame (action.Emit device process aggregation) = LeastLeaves (net_of network) (holder.Aggregation device process aggregation)
-Does network classes frame (action.Carry link n) = CarriesOn (net_of network) link n
-Does network classes frame (action.Use device exporter destination) = Uses network device exporter destination
+abbrev pub DoesAction : NetworkDocument → List Class → Option Seen → Action → Making
+DoesAction network classes frame action.Next = ReadsNextFrame (net_of network) classes action.Next frame
+DoesAction network classes frame (action.NextOf class path) = ReadsNextFrame (net_of network) classes (action.NextOf class path) frame
+DoesAction network classes frame (action.Expire device cache) = LeastLeaves (net_of network) (holder.Cache device cache)
+DoesAction network classes frame (action.Emit device process aggregation) = LeastLeaves (net_of network) (holder.Aggregation device process aggregation)
+DoesAction network classes frame (action.Carry link n) = CarriesOn (net_of network) link n
+DoesAction network classes frame (action.Use device exporter destination) = Uses network device exporter destination
 
 -- whether a line reads a packet
 abbrev pub reads_packet : Action → Bool
@@ -142,7 +142,7 @@ Each do_ (x ∷ xs) = Then (do_ x) (Each do_ xs)
 
 -- the places of all caches, in document order
 abbrev pub caches_of_all : Net → List ℕ
-caches_of_all net = flat_map (λ (d : Device). d.caches) net.devices
+caches_of_all net = flat_map (λ (d : DeviceEntry). d.caches) net.devices
 
 -- only where this is so
 abbrev pub Where : Bool → Doing → Doing
@@ -164,7 +164,7 @@ CarriesInto net process link = Where (leads_to (slice_get net.links link) proces
 
 -- the places of a process's aggregations among the holders
 abbrev pub holders_of : Option Process → List ℕ
-holders_of process = map (λ (a : Aggregation). a.holder) (aggregations_of process)
+holders_of process = map (λ (a : AggregationEntry). a.holder) (aggregations_of process)
 
 -- the holders at these places are emptied, one after another
 abbrev pub EmptiesAll : Net → List ℕ → Doing

@@ -5,7 +5,7 @@ use Rattle.fx_tables.specs.Network.{Net, named_by}
 use Rattle.fx_store.specs.Flows.{Entry, least}
 use Rattle.fx_net.specs.declared.leaving.Leaver.{Leaver}
 use Rattle.fx_net.specs.Stores.{Stored, flows_in, without_entry}
-use Rattle.fx_net.specs.Contents.{Contents, changed, stored_at}
+use Rattle.fx_net.specs.Contents.{Contents, with_changed, stored_at}
 use Rattle.fx_net.specs.Exporting.{after_send}
 
 abbrev pub leaver : ℕ → Entry → Leaver
@@ -34,7 +34,7 @@ taken_out None stored = stored
 taken_out (Some e) stored = without_entry stored e.0
 
 abbrev pub without_least : List (Option Stored) → ℕ → List (Option Stored)
-without_least stores place = changed (option_map (taken_out (least_of (stored_at stores place)))) stores place
+without_least stores place = with_changed (option_map (taken_out (least_of (stored_at stores place)))) stores place
 
 -- it leaves, if there is one
 abbrev pub after_expire : Net → ℕ → Option Entry → Contents → Contents

@@ -8,7 +8,7 @@ use Rattle.fx_tables.specs.Network.{Net, Exporter, Holder}
 use Rattle.fx_link.specs.Ongoing.{Ongoing, at_rest}
 use Rattle.fx_link.specs.Wires.{new_wire}
 use Rattle.fx_collect.specs.Totals.{nothing}
-use Rattle.fx_topology.specs.declared.network.Network.{Network}
+use Rattle.fx_topology.specs.declared.network.NetworkDocument.{NetworkDocument}
 use Rattle.fx_plan.specs.Labels.{exporting_labels}
 use Rattle.fx_plan.specs.Tables.{net_of, aggregation_holders}
 use Rattle.fx_net.specs.Stores.{Stored, new_store}
@@ -24,10 +24,10 @@ store_of_kind kind.Permanent max_flows = Some (new_store max_flows)
 abbrev pub store_of : Cache → Option Stored
 store_of cache = store_of_kind cache.kind cache.max_flows
 
-abbrev pub caches_in : Network → List Cache
+abbrev pub caches_in : NetworkDocument → List Cache
 caches_in network = flat_map (λ device. device.config.caches) network.devices
 
-abbrev pub aggregations_in : Network → List Holder
+abbrev pub aggregations_in : NetworkDocument → List Holder
 aggregations_in network = aggregation_holders (exporting_labels network.devices) network.devices
 
 -- aggregations have no bound
@@ -35,7 +35,7 @@ abbrev pub aggregation_stores : List Holder → List (Option Stored)
 aggregation_stores aggregations = map (λ (_ : Holder). Some (new_store 0)) aggregations
 
 -- all caches, then all aggregations
-abbrev pub stores_of : Network → List (Option Stored)
+abbrev pub stores_of : NetworkDocument → List (Option Stored)
 stores_of network = map store_of (caches_in network) ++ aggregation_stores (aggregations_in network)
 
 abbrev pub new_links : List ℕ → List Ongoing
@@ -54,5 +54,5 @@ opened_on net stores = record {
   second = 0;
 }
 
-abbrev pub opened : Network → Contents
-opened network = opened_on (net_of network) (stores_of network)
+abbrev pub opening_contents : NetworkDocument → Contents
+opening_contents network = opened_on (net_of network) (stores_of network)

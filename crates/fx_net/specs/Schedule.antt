@@ -26,10 +26,10 @@ IsAction (Carry link octets) = IsNumber link × (is_piece octets ≡ true)
 IsAction (Use device exporter destination) = IsNumber device × IsNumber exporter × IsNumber destination
 
 -- the line, without its line feed, asks for this
-abbrev pub Asks : List ℕ → Action → Type 0
-Asks line action = IsAction action × (line ≡ join_with_byte 32 (action_words action))
+abbrev pub AsksFor : List ℕ → Action → Type 0
+AsksFor line action = IsAction action × (line ≡ join_with_byte 32 (action_words action))
 
 -- what is read in a line: what it asks for, or none where it asks for nothing
 abbrev pub ReadsLine : List ℕ → Option Action → Type 0
-ReadsLine line (Some action) = Asks line action
-ReadsLine line None = (action : Action) → Asks line action → ⊥
+ReadsLine line (Some action) = AsksFor line action
+ReadsLine line None = (action : Action) → AsksFor line action → ⊥

@@ -3,7 +3,7 @@ use Rattle.std.specs.Prelude.{ℕ, ◌==◌, min, [], Option, None, if◌then◌
 use Rattle.std.specs.FinMap as flows
 use Rattle.fx_base.specs.declared.counts.Counts.{Counts}
 use Rattle.fx_layout.specs.Keys.{Key}
-use Rattle.fx_store.specs.Flows.{Flows, Entry, flows_of, added}
+use Rattle.fx_store.specs.Flows.{Flows, Entry, flows_of, with_added}
 use Rattle.fx_store.specs.Recent.{Recent, after_add, pushed_out, without_key}
 
 -- A store with a bound knows which of its flows were added to most recently.
@@ -26,7 +26,7 @@ new_store max_flows =
 
 -- counts are added at a key
 abbrev pub with_counts : Stored → Key → Counts → Stored
-with_counts (unbounded held) key counts = unbounded (added held key counts)
+with_counts (unbounded held) key counts = unbounded (with_added held key counts)
 with_counts (bounded recent) key counts = bounded (after_add recent key counts)
 
 -- the entry that leaves to make room

@@ -5,7 +5,7 @@ use Rattle.fx_tables.specs.declared.holding.Holding.{Holding}
 use Rattle.fx_tables.specs.Network.{Net}
 use Rattle.fx_store.specs.Flows.{Entry}
 use Rattle.fx_net.specs.Stores.{Stored, with_counts, makes_room}
-use Rattle.fx_net.specs.Contents.{Contents, changed, stored_at, is_immediate}
+use Rattle.fx_net.specs.Contents.{Contents, with_changed, stored_at, is_immediate}
 use Rattle.fx_net.specs.declared.leaving.Leaver.{Leaver}
 use Rattle.fx_net.specs.Leaving.{leaver, after_leaves}
 
@@ -21,7 +21,7 @@ left_by holder (Some e) = leaver holder e ∷ []
 -- the counts are added at a key of a holder
 abbrev pub with_holding : Counts → Holding → Adding → Adding
 with_holding counts h a = record {
-  stores = changed (option_map (λ s. with_counts s h.key counts)) a.stores h.holder;
+  stores = with_changed (option_map (λ s. with_counts s h.key counts)) a.stores h.holder;
   left = a.left ++ left_by h.holder (option_and_then (λ s. makes_room s h.key counts) (stored_at a.stores h.holder));
 }
 
@@ -29,8 +29,8 @@ abbrev pub with_holdings : Counts → List Holding → Adding → Adding
 with_holdings counts [] a = a
 with_holdings counts (h ∷ hs) a = with_holdings counts hs (with_holding counts h a)
 
-abbrev pub adding : List (Option Stored) → Counts → List Holding → Adding
-adding stores counts holdings = with_holdings counts holdings (record { stores = stores; left = [] })
+abbrev pub stores_and_leavers : List (Option Stored) → Counts → List Holding → Adding
+stores_and_leavers stores counts holdings = with_holdings counts holdings (record { stores = stores; left = [] })
 
 -- the record of an immediate cache leaves at once
 abbrev pub leaves_at_once : List (Option Stored) → Counts → Holding → List Leaver
@@ -48,9 +48,9 @@ with_stores c stores = record c { stores = stores }
 -- what makes room has left
 abbrev pub after_adding : Net → Counts → List Holding → Contents → Contents
 after_adding net counts holdings c =
-    after_leaves net (adding c.stores counts holdings).left (with_stores c (adding c.stores counts holdings).stores)
+    after_leaves net (stores_and_leavers c.stores counts holdings).left (with_stores c (stores_and_leavers c.stores counts holdings).stores)
 
 -- All these take the counts in: what makes room leaves first, then the records of immediate caches.
 abbrev pub after_taking : Net → Counts → List Holding → Contents → Contents
 after_taking net counts holdings c =
-    after_leaves net (all_leave_at_once (adding c.stores counts holdings).stores counts holdings) (after_adding net counts holdings c)
+    after_leaves net (all_leave_at_once (stores_and_leavers c.stores counts holdings).stores counts holdings) (after_adding net counts holdings c)

@@ -44,18 +44,18 @@ fn next_record(links: &mut Vec<Link>, link: usize) -> Option<Record>
 }
 
 /// How many octets of the link at this place wait to be carried, if it is there.
-pub(crate) fn queued(links: &[Link], link: usize) -> Option<usize>
+pub(crate) fn queue_length_of(links: &[Link], link: usize) -> Option<usize>
     ensures { result ≡ arriving.queued_at links.now link }
 {
     let link = links.get(link)?;
-    Some(link.queued())
+    Some(link.queue_length())
 }
 
 /// So many octets of the link at this place reach its end, if it is there.
 fn carry_on(links: &mut Vec<Link>, link: usize, count: usize) -> Result<(), Fault>
     requires { count ≤ arriving.queued_on (slice_get links.old.items link) }
     ensures ok { OnOk result (links.new.items
-        ≡ contents.changed (ongoing.after_carry count) links.old.items link) }
+        ≡ contents.with_changed (ongoing.after_carry count) links.old.items link) }
     ensures err { IfErr result (λ e. e ≡ fault_at 900 places.None) }
 {
     let Some(link) = links.get_mut(link) else {

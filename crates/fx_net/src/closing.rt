@@ -9,21 +9,21 @@ ghost use Rattle.fx_net.specs.Arriving.{queued_on};
 ghost use Rattle.fx_net.specs.Doings as doings;
 ghost use Rattle.fx_net.specs.Running as running;
 
-use crate::arriving::queued;
+use crate::arriving::queue_length_of;
 use crate::contents::Contents;
 use crate::network::Network;
 use crate::stop::Stop;
 use fx_base::{Fault, Source};
 use fx_link::{Link, Links};
 use fx_pcap::Capture;
-use fx_tables::{Aggregation, Device, Net, Occurrence, Process};
+use fx_tables::{AggregationEntry, DeviceEntry, Net, Occurrence, Process};
 use std::alloc::Global;
 
 /// How many octets of the link at this place wait to be carried.
 fn queued_whole(links: &[Link], link: usize) -> usize
     ensures { result ≡ queued_on (slice_get links.now link) }
 {
-    match queued(links, link) {
+    match queue_length_of(links, link) {
         None => 0,
         Some(queued) => queued,
     }
@@ -40,7 +40,7 @@ fn leads_to(net: &Net, link: usize, process: usize) -> bool
 }
 
 /// The aggregations of the collecting process at this place.
-fn aggregations_of(net: &Net, process: usize) -> &[Aggregation]
+fn aggregations_of(net: &Net, process: usize) -> &[AggregationEntry]
     ensures { result.now ≡ network.aggregations_of (slice_get net.now.processes process) }
 {
     match net.processes().get(process) {
@@ -83,11 +83,11 @@ impl Contents {
     fn empty_caches<L: Links>(
         &mut self,
         net: &Net,
-        devices: &[Device],
+        devices: &[DeviceEntry],
         links: &mut L,
     ) -> Result<(), Fault>
         ensures ok { OnOk result (doings.EmptiesAll net.now
-            (flat_map (λ (d : network.Device). d.caches) devices.now)
+            (flat_map (λ (d : network.DeviceEntry). d.caches) devices.now)
             (L.put_on links.old) self.old (L.put_on links.new) self.new) }
         ensures going { OnOk result (L.failed links.old ≡ false → L.failed links.new ≡ false) }
         ensures err { IfErr result (running.FailsOutside (L.failed links.new)) }
@@ -102,11 +102,11 @@ impl Contents {
     fn empty_aggregations<L: Links>(
         &mut self,
         net: &Net,
-        aggregations: &[Aggregation],
+        aggregations: &[AggregationEntry],
         links: &mut L,
     ) -> Result<(), Fault>
         ensures ok { OnOk result (doings.EmptiesAll net.now
-            (map (λ (a : network.Aggregation). a.holder) aggregations.now)
+            (map (λ (a : network.AggregationEntry). a.holder) aggregations.now)
             (L.put_on links.old) self.old (L.put_on links.new) self.new) }
         ensures going { OnOk result (L.failed links.old ≡ false → L.failed links.new ≡ false) }
         ensures err { IfErr result (running.FailsOutside (L.failed links.new)) }
@@ -292,7 +292,7 @@ impl<'a> Network<'a> {
         self.read_rest(capture, links)?;
         let plan = self.plan;
         self.contents
-            .empty_network(self.alloc, plan.net(), plan.ranked(), links)?;
+            .empty_network(self.alloc, plan.net(), plan.upwards(), links)?;
         Ok(())
     }
 

@@ -1,5 +1,5 @@
 //! What a running network holds.
-use crate::store::Store;
+use crate::store::HolderStore;
 use fx_collect::Totals;
 use fx_link::Link;
 use std::marker::Model;
@@ -9,7 +9,7 @@ use std::marker::Model;
 #[derive(Drop)]
 pub(crate) struct Contents {
     /// The store of each cache and of each aggregation; an immediate cache has none.
-    pub(crate) stores: Vec<Option<Store>>,
+    pub(crate) stores: Vec<Option<HolderStore>>,
     pub(crate) links: Vec<Link>,
     /// For each exporting process the number of the destination that it uses, from 1.
     pub(crate) chosen: Vec<u64>,

@@ -18,7 +18,7 @@ use fx_tables::{Exporter, Net, Record};
 /// layouts.
 fn put(links: &mut Vec<Link>, link: usize, time: u32, flow: &Record) -> Result<(), Fault>
     ensures ok { OnOk result (links.new.items
-        ≡ contents.changed (exporting.with_waiting time flow.now) links.old.items link) }
+        ≡ contents.with_changed (exporting.with_waiting time flow.now) links.old.items link) }
     ensures err { IfErr result (λ e. e ≡ fault_at 900 places.None) }
 {
     let Some(link) = links.get_mut(link) else {
@@ -39,7 +39,7 @@ fn put_to(
     flow: &Record,
 ) -> Result<(), Fault>
     ensures ok { OnOk result (links.new.items
-        ≡ exporting.put_each time flow.now (sends.linked destination) links.old.items) }
+        ≡ exporting.put_each time flow.now (sends.link_list destination) links.old.items) }
     ensures err { IfErr result (λ e. e ≡ fault_at 900 places.None) }
 {
     match destination {

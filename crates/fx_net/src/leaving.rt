@@ -7,7 +7,7 @@ ghost use Rattle.fx_net.specs.Leaving as leaving;
 
 use crate::contents::Contents;
 use crate::holding::count_at;
-use crate::store::Store;
+use crate::store::HolderStore;
 use fx_base::{Counts, Fault};
 use fx_layout::Key;
 use fx_store::FlowStore;
@@ -21,7 +21,7 @@ pub(crate) struct Leaver {
 }
 
 /// The entry of the least key of the holder at this place is taken out of its store, if there is one.
-fn take_least(stores: &mut Vec<Option<Store>>, place: usize) -> Option<(Key, Counts)>
+fn take_least(stores: &mut Vec<Option<HolderStore>>, place: usize) -> Option<(Key, Counts)>
     ensures value { result ≡ leaving.least_of (contents.stored_at stores.old.items place) }
     ensures rest { stores.new.items ≡ leaving.without_least stores.old.items place }
 {

@@ -2,7 +2,7 @@
 ghost use Rattle.std.specs.Prelude.{◌≡◌, OnOk, IfErr};
 ghost use Rattle.fx_base.specs.Fault.{fault_at};
 ghost use Rattle.fx_base.specs.declared.fault.Place.TheVariants as places;
-ghost use Rattle.fx_runs.specs.Making.{metered};
+ghost use Rattle.fx_runs.specs.Making.{intakes_at};
 ghost use Rattle.fx_net.specs.Metering as metering;
 ghost use Rattle.fx_net.specs.Taking as taking;
 
@@ -25,7 +25,7 @@ impl Contents {
         met: &mut Vec<Occurrence>,
     ) -> Result<(), Fault>
         ensures ok { OnOk result (self.new
-            ≡ taking.after_taking net.now counts (metered net.now fields.now crossing.now)
+            ≡ taking.after_taking net.now counts (intakes_at net.now fields.now crossing.now)
             self.old) }
         ensures err { IfErr result (λ e. e ≡ fault_at 900 places.None) }
     {

@@ -38,11 +38,11 @@ pub struct Network<'a> {
 
 impl<'a> Model for Network<'a> {
     ghost use Rattle.std.specs.Prelude.{option_map};
-    ghost use Rattle.fx_net.specs.Running.{Running, fault_of};
+    ghost use Rattle.fx_net.specs.Running.{RunningNetwork, fault_of};
     ghost use Rattle.std.specs.Coded.{codes};
     ghost use Rattle.std.specs.FinMap.{code};
 
-    ghost Value = { Running };
+    ghost Value = { RunningNetwork };
 
     ghost coded = { Prim.hlevel (codes, code) };
 
@@ -89,7 +89,7 @@ impl<'a> Network<'a> {
         ensures ok { IfOk result (λ n. n ≡ record {
           network = plan.now;
           classes = traffic.now;
-          contents = opening.opened plan.now;
+          contents = opening.opening_contents plan.now;
           fault = None;
         }) }
         ensures err { IfErr result (λ e. e ≡ fault_at 900 places.None) }
@@ -144,7 +144,7 @@ impl<'a> Network<'a> {
         met: &mut Vec<Occurrence>,
     ) -> Result<bool, Stop>
         ensures read { IfOk result (λ there. there ≡ true
-            → doings.Reads (net_of self.old.network) self.old.classes action.Next capture.now.seen
+            → doings.ReadsFrame (net_of self.old.network) self.old.classes action.Next capture.now.seen
             self.old.contents self.new.contents) }
         ensures none { IfOk result (λ there. there ≡ false
             → running.IsOfNone self.old.classes capture.now.seen) }

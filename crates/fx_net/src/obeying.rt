@@ -4,16 +4,16 @@ ghost use Rattle.fx_pcap.specs.Captures as captures;
 ghost use Rattle.fx_plan.specs.Tables.{net_of};
 ghost use Rattle.fx_net.specs.declared.action.Action.TheVariants as action;
 ghost use Rattle.fx_net.specs.declared.stop.Stop.TheVariants as stop;
-ghost use Rattle.fx_net.specs.Contents.{changed};
+ghost use Rattle.fx_net.specs.Contents.{with_changed};
 ghost use Rattle.fx_net.specs.Doings as doings;
 ghost use Rattle.fx_net.specs.Running as running;
 
 use crate::action::Action;
-use crate::arriving::queued;
+use crate::arriving::queue_length_of;
 use crate::network::Network;
 use crate::schedule::read_action;
 use crate::stop::Stop;
-use fx_base::{Fault, Line, Source, numbered};
+use fx_base::{Fault, Line, Source, entry_numbered};
 use fx_boxes::Fields;
 use fx_link::Links;
 use fx_pcap::Capture;
@@ -23,7 +23,7 @@ use fx_tables::{Class, HolderName, Occurrence};
 fn has_path(class: &Class, fields: &Fields, path: u64) -> bool
     ensures { result ≡ running.is_in_class (Some class.now) fields.now path }
 {
-    match numbered(class.paths(), path) {
+    match entry_numbered(class.paths(), path) {
         None => false,
         Some(_path) => class.holds(fields),
     }
@@ -33,7 +33,7 @@ fn has_path(class: &Class, fields: &Fields, path: u64) -> bool
 fn is_in(classes: &[Class], fields: &Fields, class: u64, path: u64) -> bool
     ensures { result ≡ running.is_in classes.now fields.now class path }
 {
-    match numbered(classes, class) {
+    match entry_numbered(classes, class) {
         None => false,
         Some(class) => has_path(class, fields, path),
     }
@@ -41,7 +41,7 @@ fn is_in(classes: &[Class], fields: &Fields, class: u64, path: u64) -> bool
 
 /// The exporting process at this place uses this destination from now on.
 fn choose(chosen: &mut Vec<u64>, place: usize, destination: u64)
-    ensures { chosen.new.items ≡ changed (λ _. destination) chosen.old.items place }
+    ensures { chosen.new.items ≡ with_changed (λ _. destination) chosen.old.items place }
 {
     if let Some(number) = chosen.get_mut(place) {
         *number = destination;
@@ -52,7 +52,7 @@ impl<'a> Network<'a> {
     /// The next packet is read. It is of the first class that holds it, and takes that class's first path.
     fn read_next<R: Source>(&mut self, capture: &mut Capture<R>, line: u64) -> Result<(), Stop>
         ensures ok { OnOk result (captures.AtFrame capture.old capture.new
-            × doings.Reads (net_of self.old.network) self.old.classes action.Next capture.new.seen
+            × doings.ReadsFrame (net_of self.old.network) self.old.classes action.Next capture.new.seen
             self.old.contents self.new.contents) }
         ensures rest { OnOk result (self.new ≡ record self.old { contents = self.new.contents }) }
         ensures err { IfErr result (λ s. (s ≡ stop.Bare 900)
@@ -78,7 +78,7 @@ impl<'a> Network<'a> {
         line: u64,
     ) -> Result<(), Stop>
         ensures ok { OnOk result (captures.AtFrame capture.old capture.new
-            × doings.Reads (net_of self.old.network) self.old.classes (action.NextOf class path)
+            × doings.ReadsFrame (net_of self.old.network) self.old.classes (action.NextOf class path)
             capture.new.seen
             self.old.contents self.new.contents) }
         ensures rest { OnOk result (self.new ≡ record self.old { contents = self.new.contents }) }
@@ -132,7 +132,7 @@ impl<'a> Network<'a> {
             return Err(Stop::Line { number: 802, line });
         }
         let place = (link - 1) as usize;
-        match queued(self.contents.links.as_slice(), place) {
+        match queue_length_of(self.contents.links.as_slice(), place) {
             None => return Err(Stop::Line { number: 802, line }),
             Some(queued) => {
                 if (queued as u64) < octets {
@@ -169,7 +169,7 @@ impl<'a> Network<'a> {
         let Some(named) = self.plan.net().exporters().get(place) else {
             return Err(Stop::Line { number: 802, line });
         };
-        let Some(_destination) = numbered(named.destinations(), destination) else {
+        let Some(_destination) = entry_numbered(named.destinations(), destination) else {
             return Err(Stop::Line { number: 802, line });
         };
         choose(&mut self.contents.chosen, place, destination);

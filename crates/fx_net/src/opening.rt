@@ -7,7 +7,7 @@ ghost use Rattle.fx_plan.specs.Tables.{net_of};
 ghost use Rattle.fx_net.specs.Opening as opening;
 
 use crate::contents::Contents;
-use crate::store::Store;
+use crate::store::HolderStore;
 use fx_base::Fault;
 use fx_collect::Totals;
 use fx_config::{Cache, CacheKind};
@@ -15,25 +15,25 @@ use fx_layout::Seed;
 use fx_link::Link;
 use fx_plan::Plan;
 use fx_tables::{Exporter, Holder, Net};
-use fx_topology::{Network, NetworkDevice};
+use fx_topology::{NetworkDocument, NetworkDevice};
 use std::alloc::Global;
 
 /// The store of a cache, and none where it is immediate.
-fn store_of(alloc: Global, seed: Seed, cache: &Cache) -> Result<Option<Store>, Fault>
+fn store_of(alloc: Global, seed: Seed, cache: &Cache) -> Result<Option<HolderStore>, Fault>
     ensures ok { IfOk result (λ store. store ≡ opening.store_of cache.now) }
     ensures err { IfErr result (λ e. e ≡ fault_at 900 places.None) }
 {
     if cache.kind == CacheKind::Immediate {
         return Ok(None);
     }
-    Ok(Some(Store::new(alloc, seed, cache.max_flows)?))
+    Ok(Some(HolderStore::new(alloc, seed, cache.max_flows)?))
 }
 
 /// The stores of these caches come last.
 fn push_caches(
     alloc: Global,
     seed: Seed,
-    stores: &mut Vec<Option<Store>>,
+    stores: &mut Vec<Option<HolderStore>>,
     caches: &[Cache],
 ) -> Result<(), Fault>
     ensures ok { OnOk result (stores.new.items
@@ -51,12 +51,12 @@ fn cache_stores(
     alloc: Global,
     seed: Seed,
     devices: &[NetworkDevice],
-) -> Result<Vec<Option<Store>>, Fault>
+) -> Result<Vec<Option<HolderStore>>, Fault>
     ensures ok { IfOk result (λ stores. stores.items
         ≡ map opening.store_of (flat_map (λ device. device.config.caches) devices.now)) }
     ensures err { IfErr result (λ e. e ≡ fault_at 900 places.None) }
 {
-    let mut stores: Vec<Option<Store>> = Vec::new(alloc);
+    let mut stores: Vec<Option<HolderStore>> = Vec::new(alloc);
     for device in devices {
         push_caches(alloc, seed, &mut stores, device.config.caches.as_slice())?;
     }
@@ -67,7 +67,7 @@ fn cache_stores(
 fn push_aggregations(
     alloc: Global,
     seed: Seed,
-    stores: &mut Vec<Option<Store>>,
+    stores: &mut Vec<Option<HolderStore>>,
     aggregations: &[Holder],
 ) -> Result<(), Fault>
     ensures ok { OnOk result (stores.new.items
@@ -75,13 +75,13 @@ fn push_aggregations(
     ensures err { IfErr result (λ e. e ≡ fault_at 900 places.None) }
 {
     for _aggregation in aggregations {
-        stores.push(Some(Store::new(alloc, seed, 0)?))?;
+        stores.push(Some(HolderStore::new(alloc, seed, 0)?))?;
     }
     Ok(())
 }
 
 /// The stores of all caches, and behind them of all aggregations.
-fn stores_of(alloc: Global, seed: Seed, plan: &Plan) -> Result<Vec<Option<Store>>, Fault>
+fn stores_of(alloc: Global, seed: Seed, plan: &Plan) -> Result<Vec<Option<HolderStore>>, Fault>
     ensures ok { IfOk result (λ stores. stores.items ≡ opening.stores_of plan.now) }
     ensures err { IfErr result (λ e. e ≡ fault_at 900 places.None) }
 {
@@ -122,7 +122,7 @@ impl Contents {
         alloc: Global,
         seed: Seed,
         net: &Net,
-        stores: Vec<Option<Store>>,
+        stores: Vec<Option<HolderStore>>,
     ) -> Result<Contents, Fault>
         ensures ok { IfOk result (λ contents. contents ≡ opening.opened_on net.now stores.items) }
         ensures err { IfErr result (λ e. e ≡ fault_at 900 places.None) }
@@ -140,7 +140,7 @@ impl Contents {
     ///
     /// Fails with 900, at no place, for want of memory.
     pub(crate) fn open(alloc: Global, seed: Seed, plan: &Plan) -> Result<Contents, Fault>
-        ensures ok { IfOk result (λ contents. contents ≡ opening.opened plan.now) }
+        ensures ok { IfOk result (λ contents. contents ≡ opening.opening_contents plan.now) }
         ensures err { IfErr result (λ e. e ≡ fault_at 900 places.None) }
     {
         let stores = stores_of(alloc, seed, plan)?;

@@ -1,6 +1,6 @@
 //! A whole run: the lines of a schedule, and then the closing phase.
 ghost use Rattle.std.specs.Prelude.{◌≡◌, ◌⊎◌, false, None, IfOk, OnOk, IfErr};
-ghost use Rattle.fx_net.specs.Opening.{opened};
+ghost use Rattle.fx_net.specs.Opening.{opening_contents};
 ghost use Rattle.fx_net.specs.Running as running;
 
 use crate::network::Network;
@@ -45,7 +45,7 @@ impl<'a> Network<'a> {
         links: &mut L,
     ) -> Result<(), Fault>
         requires { self.old.fault ≡ None }
-        ensures ok { OnOk result (running.Runs self.old self.new capture.old capture.new
+        ensures ok { OnOk result (running.RunsSchedule self.old self.new capture.old capture.new
             schedule.old schedule.new
             (L.put_on links.old) (L.put_on links.new)) }
         ensures going { OnOk result (L.failed links.old ≡ false → L.failed links.new ≡ false) }

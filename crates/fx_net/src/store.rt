@@ -16,18 +16,18 @@ use std::marker::Model;
 const MOST_FLOWS: u32 = 65_536;
 
 #[derive(Drop)]
-enum Kind {
+enum StoreKind {
     Unbounded(ListStore),
     Bounded(BoundedStore),
 }
 
 /// The store of a cache or of an aggregation.
 #[derive(Drop)]
-pub(crate) struct Store {
-    kind: Kind,
+pub(crate) struct HolderStore {
+    kind: StoreKind,
 }
 
-impl Model for Store {
+impl Model for HolderStore {
     ghost use Rattle.fx_net.specs.Stores.{Stored};
     ghost use Rattle.fx_net.specs.Kinds.{stored_of};
     ghost use Rattle.std.specs.Coded.{codes};
@@ -40,28 +40,28 @@ impl Model for Store {
     ghost view = { λ s. stored_of s.kind };
 }
 
-impl Store {
+impl HolderStore {
     /// A store of nothing that holds at most so many records, where 0 is no bound and more than 65,536 are 65,536, and
     /// hashes keys by the seed.
     ///
     /// Fails with 900, at no place, for want of memory.
-    pub(crate) fn new(alloc: Global, seed: Seed, max_flows: u32) -> Result<Store, Fault>
+    pub(crate) fn new(alloc: Global, seed: Seed, max_flows: u32) -> Result<HolderStore, Fault>
         ensures ok { IfOk result (λ s. s ≡ new_store max_flows) }
         ensures err { IfErr result (λ e. e ≡ fault_at 900 places.None) }
     {
         if max_flows == 0 {
-            return Ok(Store {
-                kind: Kind::Unbounded(ListStore::new(alloc, seed)),
+            return Ok(HolderStore {
+                kind: StoreKind::Unbounded(ListStore::new(alloc, seed)),
             });
         }
         let capacity = max_flows.min(MOST_FLOWS) as usize;
-        Ok(Store {
-            kind: Kind::Bounded(BoundedStore::new(alloc, seed, capacity)?),
+        Ok(HolderStore {
+            kind: StoreKind::Bounded(BoundedStore::new(alloc, seed, capacity)?),
         })
     }
 }
 
-impl FlowStore for Store {
+impl FlowStore for HolderStore {
     ghost flows = { λ s. flows_in s };
 
     /// Adds the counts at the key. Where there is a bound, the store is full and the key is new, the least
@@ -76,8 +76,8 @@ impl FlowStore for Store {
         ensures leaves { IfOk result (λ left. left ≡ makes_room self.old key counts) }
     {
         match &mut self.kind {
-            Kind::Unbounded(store) => store.add(key, counts),
-            Kind::Bounded(store) => store.add(key, counts),
+            StoreKind::Unbounded(store) => store.add(key, counts),
+            StoreKind::Bounded(store) => store.add(key, counts),
         }
     }
 
@@ -87,8 +87,8 @@ impl FlowStore for Store {
         ensures stored { self.new ≡ without_entry self.old key.now }
     {
         match &mut self.kind {
-            Kind::Unbounded(store) => store.take(key),
-            Kind::Bounded(store) => store.take(key),
+            StoreKind::Unbounded(store) => store.take(key),
+            StoreKind::Bounded(store) => store.take(key),
         }
     }
 
@@ -99,15 +99,15 @@ impl FlowStore for Store {
         ensures none { IfNone result (self.new ≡ self.old) }
     {
         match &mut self.kind {
-            Kind::Unbounded(store) => store.take_least(),
-            Kind::Bounded(store) => store.take_least(),
+            StoreKind::Unbounded(store) => store.take_least(),
+            StoreKind::Bounded(store) => store.take_least(),
         }
     }
 
     fn len(&self) -> usize {
         match &self.kind {
-            Kind::Unbounded(store) => store.len(),
-            Kind::Bounded(store) => store.len(),
+            StoreKind::Unbounded(store) => store.len(),
+            StoreKind::Bounded(store) => store.len(),
         }
     }
 }

@@ -9,7 +9,7 @@ ghost use Rattle.fx_net.specs.Taking as taking;
 use crate::contents::Contents;
 use crate::holding::is_immediate;
 use crate::leaving::Leaver;
-use crate::store::Store;
+use crate::store::HolderStore;
 use fx_base::{Counts, Fault};
 use fx_boxes::Fields;
 use fx_layout::Key;
@@ -37,7 +37,7 @@ fn push_leaver(
 
 /// The counts are added at a key of a holder, and what leaves to make room comes last.
 fn add(
-    stores: &mut Vec<Option<Store>>,
+    stores: &mut Vec<Option<HolderStore>>,
     left: &mut Vec<Leaver>,
     holding: Holding,
     counts: Counts,
@@ -63,7 +63,7 @@ fn add(
 /// The record of a holding comes last where its holder is an immediate cache.
 fn push_passing(
     passing: &mut Vec<Leaver>,
-    stores: &[Option<Store>],
+    stores: &[Option<HolderStore>],
     holding: &Holding,
     counts: Counts,
 ) -> Result<(), Fault>
@@ -98,7 +98,7 @@ impl Leavers {
 
 /// A holder takes the counts in at a key, and what leaves comes last.
 fn take(
-    stores: &mut Vec<Option<Store>>,
+    stores: &mut Vec<Option<HolderStore>>,
     leavers: &mut Leavers,
     holding: Holding,
     counts: Counts,
@@ -116,7 +116,7 @@ fn take(
 
 /// Holders take the counts in, one after another, each at its key.
 fn take_all(
-    stores: &mut Vec<Option<Store>>,
+    stores: &mut Vec<Option<HolderStore>>,
     leavers: &mut Leavers,
     holdings: Vec<Holding>,
     counts: Counts,
@@ -137,7 +137,7 @@ fn take_all(
 
 /// The caches of these occurrences take the counts in, one after another, each at the packet's key there.
 fn meet_all(
-    stores: &mut Vec<Option<Store>>,
+    stores: &mut Vec<Option<HolderStore>>,
     leavers: &mut Leavers,
     net: &Net,
     met: &[Occurrence],

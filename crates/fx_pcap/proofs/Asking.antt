@@ -4,13 +4,13 @@ use Rattle.std.proofs.lemmas.List.{length-append, length-drop}
 use Rattle.std.specs.Io.KnownBytes.{prepend_known}
 use Rattle.fx_base.proofs.Spending.{asked_since, gained_since}
 use Rattle.fx_base.specs.Device.{IsAsked}
-use Rattle.fx_pcap.specs.Captures.{Asks, Gains}
-use Rattle.fx_pcap.specs.Kept.{Kept, reading_of}
+use Rattle.fx_pcap.specs.Captures.{CallsForFrames, GainsFrames}
+use Rattle.fx_pcap.specs.Kept.{KeptRecord, reading_of}
 use Rattle.fx_base.specs.Window.{Held, octets_of}
 
 -- ---- of a window that passed some octets and was filled then
 
-pub asks_of : (w w1 w2 : Held) (k l : Kept) → w1 ≡ record w { held = drop k.taken w.held } → w1.calls ≤ w2.calls → IsAsked w1.asked (w2.calls - w1.calls) w2.asked → Asks (reading_of w k) (reading_of w2 l)
+pub asks_of : (w w1 w2 : Held) (k l : KeptRecord) → w1 ≡ record w { held = drop k.taken w.held } → w1.calls ≤ w2.calls → IsAsked w1.asked (w2.calls - w1.calls) w2.asked → CallsForFrames (reading_of w k) (reading_of w2 l)
 asks_of w w1 w2 k l passed more asked =
     let since = asked_since w w1 w2 k.taken passed more asked in
     record {
@@ -18,7 +18,7 @@ asks_of w w1 w2 k l passed more asked =
       asked = since.1;
     }
 
-pub gains_of : (n : ℕ) (w w1 w2 : Held) (k l : Kept) → w1 ≡ record w { held = drop k.taken w.held } → octets_of w2 ≡ octets_of w1 → w2.calls + length w1.held ≤ w1.calls + length w2.held + n → Gains n (reading_of w k) (reading_of w2 l)
+pub gains_of : (n : ℕ) (w w1 w2 : Held) (k l : KeptRecord) → w1 ≡ record w { held = drop k.taken w.held } → octets_of w2 ≡ octets_of w1 → w2.calls + length w1.held ≤ w1.calls + length w2.held + n → GainsFrames n (reading_of w k) (reading_of w2 l)
 gains_of n w w1 w2 k l passed same spent = gained_since w w1 w2 k.taken l.taken n passed same spent
 
 -- ---- of a reader that has read the file header

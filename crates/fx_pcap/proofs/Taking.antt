@@ -12,14 +12,14 @@ use Rattle.fx_pcap.specs.declared.skipped.Skipped.{Skipped}
 use Rattle.fx_pcap.specs.Numbers.{number_in}
 use Rattle.fx_pcap.specs.Frames.{content_of}
 use Rattle.fx_pcap.specs.Records.{captured_length, second_of, record_fault, item_of, Records, place_after, with_item, records_of}
-use Rattle.fx_pcap.specs.Captures.{Seen, counted, with_frame, frames_in, skipped_in, Ahead, ahead_in, Reading, ahead_of, with_first, Asks, Gains, AtFrame, budget}
+use Rattle.fx_pcap.specs.Captures.{Seen, skips_with, with_frame, frames_in, skipped_in, FramesAhead, ahead_in, CaptureState, ahead_of, with_first, CallsForFrames, GainsFrames, AtFrame, frame_budget}
 use Rattle.fx_base.specs.Window.{Held, octets_of}
 use Rattle.fx_base.specs.Limits.{call_limit}
 use Rattle.fx_pcap.specs.FirstRecord.{HasRecord}
 use Rattle.fx_pcap.specs.declared.record.TheConstants.{ROOM}
-use Rattle.fx_pcap.specs.Kept.{Kept, fault_of, reading_of, Passes}
+use Rattle.fx_pcap.specs.Kept.{KeptRecord, fault_of, reading_of, Passes}
 use Rattle.fx_pcap.specs.declared.content.Content.TheVariants.{Packet, Other, Malformed}
-use Rattle.fx_pcap.specs.declared.stop.Stop.{Stop}
+use Rattle.fx_pcap.specs.declared.stop.CaptureStop.{CaptureStop}
 use Rattle.fx_base.specs.Device.{MayBeLeft, MayHaveLeft, IsAsked}
 use Rattle.fx_pcap.proofs.Asking.{asks_of, gains_of}
 use Rattle.fx_base.proofs.Reading.{untold_behind}
@@ -28,10 +28,10 @@ use Rattle.fx_pcap.proofs.Whole.{number_whole}
 use Rattle.fx_pcap.proofs.Passing.{first_record}
 
 -- what is ahead where this comes before the rest
-abbrev pub ahead_with : Content → List ℕ → ℕ → Skipped → Records → Ahead
+abbrev pub ahead_with : Content → List ℕ → ℕ → Skipped → Records → FramesAhead
 ahead_with content captured second s r = record {
-  frames = with_frame content captured second s (frames_in (counted s content) r.items);
-  skipped = skipped_in (counted s content) r.items;
+  frames = with_frame content captured second s (frames_in (skips_with s content) r.items);
+  skipped = skipped_in (skips_with s content) r.items;
   fault = r.fault;
 }
 
@@ -93,24 +93,24 @@ pub so_small : (o : Option ℕ) (n : ℕ) (Q : ℕ → Type 0) → o ≡ Some n 
 so_small o n Q e h = subst (λ (x : Option ℕ). IfSome x Q) e h
 
 -- the reader behind a record
-abbrev pub behind : Kept → ℕ → ℕ → Skipped → List ℕ → ℕ → ℕ → Kept
+abbrev pub behind : KeptRecord → ℕ → ℕ → Skipped → List ℕ → ℕ → ℕ → KeptRecord
 behind k n place s fields octets second = record k { place = place; taken = n; skipped = s; fields = fields; octets = octets; second = second }
 
 -- a record was taken: this came before what is ahead now
-pub record After (old new : Reading) (content : Content) (s : Skipped) : Type 0 where
+pub record After (old new : CaptureState) (content : Content) (s : Skipped) : Type 0 where
   pub going : (old.stopped ≡ None) × (new.stopped ≡ None)
   pub frames : (rest : List ℕ) → MayBeLeft new.left rest → MayHaveLeft old.left (λ octets. ahead_of old octets ≡ ahead_with content new.seen.captured new.seen.second s (records_of new.format new.place rest))
   pub untold : old.left ≡ None → new.left ≡ None
   pub format : new.format ≡ old.format
-  pub asks : Asks old new
-  pub gains : Gains 0 old new
-  pub smaller : budget new < budget old
+  pub asks : CallsForFrames old new
+  pub gains : GainsFrames 0 old new
+  pub smaller : frame_budget new < frame_budget old
 
-no_stop : (place place' : ℕ) (o : Option Stop) → option_map (fault_of place) o ≡ None → option_map (fault_of place') o ≡ None
+no_stop : (place place' : ℕ) (o : Option CaptureStop) → option_map (fault_of place) o ≡ None → option_map (fault_of place') o ≡ None
 no_stop place place' None h = refl
 no_stop place place' (Some stop) h = absurd (cc)
 
-pub after_record : (w w1 w2 : Held) (k : Kept) (n place : ℕ) (s : Skipped) (fields : List ℕ) (size second : ℕ) (content : Content) (octets : List ℕ) → w1 ≡ record w { held = drop k.taken w.held } → octets_of w2 ≡ octets_of w1 → w2.calls + length w1.held ≤ w1.calls + length w2.held → w1.calls ≤ w2.calls → IsAsked w1.asked (w2.calls - w1.calls) w2.asked → HasRecord k.format.order n w2.held → (call_limit - w2.calls) * (ROOM + 1) + (length w2.held - n) < (call_limit - w1.calls) * (ROOM + 1) + length w1.held → octets ≡ w2.held → content ≡ content_of k.format.link (slice_range octets 16 n) → second ≡ number_in k.format.order 4 0 octets → k.place ≤ 2 ^ 64 - 1 → place ≡ place_after k.place n → (reading_of w k).stopped ≡ None → After (reading_of w k) (reading_of w2 (behind k n place s fields size second)) content k.skipped
+pub after_record : (w w1 w2 : Held) (k : KeptRecord) (n place : ℕ) (s : Skipped) (fields : List ℕ) (size second : ℕ) (content : Content) (octets : List ℕ) → w1 ≡ record w { held = drop k.taken w.held } → octets_of w2 ≡ octets_of w1 → w2.calls + length w1.held ≤ w1.calls + length w2.held → w1.calls ≤ w2.calls → IsAsked w1.asked (w2.calls - w1.calls) w2.asked → HasRecord k.format.order n w2.held → (call_limit - w2.calls) * (ROOM + 1) + (length w2.held - n) < (call_limit - w1.calls) * (ROOM + 1) + length w1.held → octets ≡ w2.held → content ≡ content_of k.format.link (slice_range octets 16 n) → second ≡ number_in k.format.order 4 0 octets → k.place ≤ 2 ^ 64 - 1 → place ≡ place_after k.place n → (reading_of w k).stopped ≡ None → After (reading_of w k) (reading_of w2 (behind k n place s fields size second)) content k.skipped
 after_record w w1 w2 k n place s fields size second content octets passed same spent more asked has smaller held is when fits at going =
     let all : octets_of w2 ≡ prepend_known (drop k.taken w.held) w.left = same ∙ ap octets_of passed in
     let here : content ≡ content_of k.format.link (slice_range w2.held 16 n) = is ∙ ap (λ (l : List ℕ). content_of k.format.link (slice_range l 16 n)) held in
@@ -133,7 +133,7 @@ frame_first : (content : Content) (fields : List ℕ) (octets : ℕ) (seen : See
 frame_first content fields octets seen s r is f o =
     (λ i. ahead_with (is i) seen.captured seen.second s r) ∙ (λ i. with_first (record { captured = seen.captured; fields = sym f i; octets = sym o i; second = seen.second }) s (ahead_in s r))
 
-pub at_frame : (old new : Reading) (content : Content) (fields : List ℕ) (octets : ℕ) → After old new content new.skipped → content ≡ Packet fields octets → new.seen.fields ≡ fields → new.seen.octets ≡ octets → AtFrame old new
+pub at_frame : (old new : CaptureState) (content : Content) (fields : List ℕ) (octets : ℕ) → After old new content new.skipped → content ≡ Packet fields octets → new.seen.fields ≡ fields → new.seen.octets ≡ octets → AtFrame old new
 at_frame old new content fields octets a is f o = record {
   going = a.going;
   frames = λ rest left. (let x = a.frames rest left in (x.0, x.1, x.2 ∙ frame_first content fields octets new.seen new.skipped (records_of new.format new.place rest) is f o));
@@ -144,7 +144,7 @@ at_frame old new content fields octets a is f o = record {
   smaller = a.smaller;
 }
 
-passes : (old new : Reading) (content : Content) (s : Skipped) → After old new content s → ((captured : List ℕ) (second : ℕ) (r : Records) → ahead_with content captured second s r ≡ ahead_in new.skipped r) → Passes old new
+passes : (old new : CaptureState) (content : Content) (s : Skipped) → After old new content s → ((captured : List ℕ) (second : ℕ) (r : Records) → ahead_with content captured second s r ≡ ahead_in new.skipped r) → Passes old new
 passes old new content s a same = record {
   going = a.going.1;
   frames = λ rest left. (let x = a.frames rest left in (x.0, x.1, x.2 ∙ same new.seen.captured new.seen.second (records_of new.format new.place rest)));
@@ -155,8 +155,8 @@ passes old new content s a same = record {
   smaller = a.smaller;
 }
 
-pub passes_other : (old new : Reading) (content : Content) (s : Skipped) → After old new content s → content ≡ Other → new.skipped ≡ counted s Other → Passes old new
+pub passes_other : (old new : CaptureState) (content : Content) (s : Skipped) → After old new content s → content ≡ Other → new.skipped ≡ skips_with s Other → Passes old new
 passes_other old new content s a is count = passes old new content s a (λ captured second r. (λ i. ahead_with (is i) captured second s r) ∙ (λ i. ahead_in (sym count i) r))
 
-pub passes_malformed : (old new : Reading) (content : Content) (s : Skipped) → After old new content s → content ≡ Malformed → new.skipped ≡ counted s Malformed → Passes old new
+pub passes_malformed : (old new : CaptureState) (content : Content) (s : Skipped) → After old new content s → content ≡ Malformed → new.skipped ≡ skips_with s Malformed → Passes old new
 passes_malformed old new content s a is count = passes old new content s a (λ captured second r. (λ i. ahead_with (is i) captured second s r) ∙ (λ i. ahead_in (sym count i) r))

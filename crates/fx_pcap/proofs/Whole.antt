@@ -10,7 +10,7 @@ use Rattle.fx_base.specs.Device.{MayBeLeft, MayHaveLeft}
 use Rattle.fx_base.specs.Fault.{fault_at}
 use Rattle.fx_pcap.specs.declared.order.Order.{Order}
 use Rattle.fx_pcap.specs.declared.order.Order.TheVariants.{Big, Little}
-use Rattle.fx_pcap.specs.declared.content.Link.{Link}
+use Rattle.fx_pcap.specs.declared.content.LinkType.{LinkType}
 use Rattle.fx_pcap.specs.declared.header.Format.{Format}
 use Rattle.fx_pcap.specs.Numbers.{number_in}
 use Rattle.fx_pcap.proofs.Left.{first_and_more}
@@ -66,7 +66,7 @@ format_long held format h =
 same_error : {A : Type 0} (e f : Fault) → ◌≡◌ {A = Result A Fault} (Err e) (Err f) → f ≡ e
 same_error e f h = cc
 
-link_error : (order : Order) (link : Option Link) (e : Fault) → of_link order link ≡ Err e → (e ≡ fault_at 701 (places.Octet 0)) ⊎ (e ≡ fault_at 702 places.None)
+link_error : (order : Order) (link : Option LinkType) (e : Fault) → of_link order link ≡ Err e → (e ≡ fault_at 701 (places.Octet 0)) ⊎ (e ≡ fault_at 702 places.None)
 link_error order None e h = inr (same_error _ e h)
 link_error order (Some link) e h = absurd (cc)
 

@@ -4,7 +4,7 @@ use Rattle.std.proofs.Common.{◌≡◌, ℕ, List, [], ◌∷◌, drop, take, S
 use Rattle.fx_base.specs.declared.fault.Place.TheVariants as places
 use Rattle.fx_base.specs.Fault.{fault_at}
 use Rattle.fx_pcap.specs.declared.order.Order.TheVariants.{Little}
-use Rattle.fx_pcap.specs.declared.content.Link.TheVariants.{Ethernet}
+use Rattle.fx_pcap.specs.declared.content.LinkType.TheVariants.{Ethernet}
 use Rattle.fx_pcap.specs.declared.header.Format.{Format}
 use Rattle.fx_pcap.specs.declared.skipped.Skipped.{Skipped}
 use Rattle.fx_pcap.specs.Records.{format_of, records_of}

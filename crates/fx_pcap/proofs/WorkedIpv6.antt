@@ -2,7 +2,7 @@
 -- too short, and a jumbogram.
 use Rattle.std.proofs.Common.{◌≡◌, ℕ, ◌+◌, ◌*◌, ◌^◌, List, [], ◌∷◌, ◌++◌, refl}
 use Rattle.fx_pcap.specs.declared.content.Content.TheVariants.{Packet, Malformed}
-use Rattle.fx_pcap.specs.declared.content.Link.TheVariants.{Ip}
+use Rattle.fx_pcap.specs.declared.content.LinkType.TheVariants.{Ip}
 use Rattle.fx_pcap.specs.Frames.{content_of}
 
 -- of prefix 2001:db8::/32

@@ -11,7 +11,7 @@ use Rattle.fx_pcap.specs.declared.content.Content.TheVariants.{Packet, Other, Ma
 use Rattle.fx_pcap.specs.declared.header.Format.{Format}
 use Rattle.fx_pcap.specs.declared.skipped.Skipped.{Skipped}
 use Rattle.fx_pcap.specs.declared.frame.Frame.{Frame}
-use Rattle.fx_pcap.specs.Records.{Item, Records, records_of, format_of}
+use Rattle.fx_pcap.specs.Records.{CapturedRecord, Records, records_of, format_of}
 
 -- what a frame lends, and what it says of its packet
 pub record Seen : Type 0 where
@@ -27,10 +27,10 @@ abbrev pub seen_of : Frame → Seen
 seen_of frame = record { captured = frame.captured.now; fields = frame.fields; octets = frame.octets; second = frame.second }
 
 -- the numbers of skipped frames, with one more where this is skipped
-abbrev pub counted : Skipped → Content → Skipped
-counted s (Packet fields octets) = s
-counted s Other = record s { other = (s.other + 1) % 2 ^ 64 }
-counted s Malformed = record s { malformed = (s.malformed + 1) % 2 ^ 64 }
+abbrev pub skips_with : Skipped → Content → Skipped
+skips_with s (Packet fields octets) = s
+skips_with s Other = record s { other = (s.other + 1) % 2 ^ 64 }
+skips_with s Malformed = record s { malformed = (s.malformed + 1) % 2 ^ 64 }
 
 abbrev pub with_frame : Content → List ℕ → ℕ → Skipped → List (Seen × Skipped) → List (Seen × Skipped)
 with_frame (Packet fields octets) captured second s rest = (record { captured = captured; fields = fields; octets = octets; second = second }, s) ∷ rest
@@ -38,26 +38,26 @@ with_frame Other captured second s rest = rest
 with_frame Malformed captured second s rest = rest
 
 -- the frames among some records, each with the numbers of frames skipped before it
-abbrev pub frames_in : Skipped → List Item → List (Seen × Skipped)
+abbrev pub frames_in : Skipped → List CapturedRecord → List (Seen × Skipped)
 frames_in s [] = []
-frames_in s (item ∷ items) = with_frame item.content item.captured item.second s (frames_in (counted s item.content) items)
+frames_in s (item ∷ items) = with_frame item.content item.captured item.second s (frames_in (skips_with s item.content) items)
 
 -- the numbers of skipped frames in the end
-abbrev pub skipped_in : Skipped → List Item → Skipped
+abbrev pub skipped_in : Skipped → List CapturedRecord → Skipped
 skipped_in s [] = s
-skipped_in s (item ∷ items) = skipped_in (counted s item.content) items
+skipped_in s (item ∷ items) = skipped_in (skips_with s item.content) items
 
 -- What is ahead: frames, the numbers of skipped ones behind the last, and the fault at which they end.
-pub record Ahead : Type 0 where
+pub record FramesAhead : Type 0 where
   pub frames : List (Seen × Skipped)
   pub skipped : Skipped
   pub fault : Option Fault
 
-abbrev pub ahead_in : Skipped → Records → Ahead
+abbrev pub ahead_in : Skipped → Records → FramesAhead
 ahead_in s r = record { frames = frames_in s r.items; skipped = skipped_in s r.items; fault = r.fault }
 
 -- What a reader of a capture is seen as.
-pub record Reading : Type 0 where
+pub record CaptureState : Type 0 where
   -- the octets behind the frame that it is at, where they are told
   pub left : Option (List ℕ)
   pub format : Format
@@ -77,97 +77,97 @@ pub record Reading : Type 0 where
   pub held : ℕ
 
 -- what is ahead of a reader that has these octets left
-abbrev pub ahead_of : Reading → List ℕ → Ahead
+abbrev pub ahead_of : CaptureState → List ℕ → FramesAhead
 ahead_of r octets = ahead_in r.skipped (records_of r.format r.place octets)
 
-abbrev pub nothing_more : Skipped → Option Fault → Ahead
+abbrev pub nothing_more : Skipped → Option Fault → FramesAhead
 nothing_more s fault = record { frames = []; skipped = s; fault = fault }
 
-abbrev pub with_first : Seen → Skipped → Ahead → Ahead
+abbrev pub with_first : Seen → Skipped → FramesAhead → FramesAhead
 with_first seen s a = record a { frames = (seen, s) ∷ a.frames }
 
 -- whatever is left now, this is what was ahead of octets that may have been left
-abbrev pub HadAhead : Reading → Reading → (Ahead → Ahead) → Type 0
+abbrev pub HadAhead : CaptureState → CaptureState → (FramesAhead → FramesAhead) → Type 0
 HadAhead old new f = (rest : List ℕ) → MayBeLeft new.left rest → MayHaveLeft old.left (λ octets. ahead_of old octets ≡ f (ahead_of new rest))
 
 -- falls with each frame
-abbrev pub budget : Reading → ℕ
-budget r = (call_limit - r.calls) * (ROOM + 1) + r.held
+abbrev pub frame_budget : CaptureState → ℕ
+frame_budget r = (call_limit - r.calls) * (ROOM + 1) + r.held
 
 -- how many of these octets, which it has left, it hasn't read
-abbrev pub unread : Reading → List ℕ → ℕ
+abbrev pub unread : CaptureState → List ℕ → ℕ
 unread r octets = length octets - r.held
 
 -- the reader's calls are calls of its source
-pub record Asks (old new : Reading) : Type 0 where
+pub record CallsForFrames (old new : CaptureState) : Type 0 where
   pub calls : old.calls ≤ new.calls
   pub asked : IsAsked old.asked (new.calls - old.calls) new.asked
 
 -- each call gives an octet, but so many, which come to the end of the capture
-abbrev pub Gains : ℕ → Reading → Reading → Type 0
-Gains n old new =
+abbrev pub GainsFrames : ℕ → CaptureState → CaptureState → Type 0
+GainsFrames n old new =
     IfSome old.left (λ octets. (rest : List ℕ) × (new.left ≡ Some rest) × (new.calls + unread new rest ≤ old.calls + unread old octets + n))
 
 -- it goes on to a frame
-pub record AtFrame (old new : Reading) : Type 0 where
+pub record AtFrame (old new : CaptureState) : Type 0 where
   pub going : (old.stopped ≡ None) × (new.stopped ≡ None)
   -- the frame comes before what is ahead now
   pub frames : HadAhead old new (with_first new.seen new.skipped)
   pub untold : old.left ≡ None → new.left ≡ None
   pub format : new.format ≡ old.format
-  pub asks : Asks old new
-  pub gains : Gains 0 old new
-  pub smaller : budget new < budget old
+  pub asks : CallsForFrames old new
+  pub gains : GainsFrames 0 old new
+  pub smaller : frame_budget new < frame_budget old
 
 -- it stays at the end of the capture
-pub record AtEnd (old new : Reading) : Type 0 where
+pub record AtCaptureEnd (old new : CaptureState) : Type 0 where
   pub going : (old.stopped ≡ None) × (new.stopped ≡ None)
   pub frames : MayHaveLeft old.left (λ octets. ahead_of old octets ≡ nothing_more new.skipped None)
   pub rest : IfSome old.left (λ _. new.left ≡ Some [])
   pub untold : old.left ≡ None → new.left ≡ None
   pub format : new.format ≡ old.format
-  pub asks : Asks old new
-  pub gains : Gains 1 old new
+  pub asks : CallsForFrames old new
+  pub gains : GainsFrames 1 old new
 
 -- its source's last call failed, or it made so many calls and the source hasn't ended
-abbrev pub IsCutOff : Reading → Reading → Type 0
-IsCutOff old new =
+abbrev pub IsCaptureCutOff : CaptureState → CaptureState → Type 0
+IsCaptureCutOff old new =
     (new.failed ≡ true)
-    ⊎ ((new.calls ≡ call_limit) × Asks old new × IfSome old.left (λ octets. call_limit ≤ old.calls + unread old octets))
+    ⊎ ((new.calls ≡ call_limit) × CallsForFrames old new × IfSome old.left (λ octets. call_limit ≤ old.calls + unread old octets))
 
 -- why a reader that hadn't stopped stops
-abbrev pub Stops : Reading → Reading → Fault → Type 0
-Stops old new e =
-    ((e ≡ fault_at 901 places.None) × IsCutOff old new)
+abbrev pub StopsCapture : CaptureState → CaptureState → Fault → Type 0
+StopsCapture old new e =
+    ((e ≡ fault_at 901 places.None) × IsCaptureCutOff old new)
     ⊎ (((e ≡ fault_at 703 (places.Octet new.place)) ⊎ (e ≡ fault_at 704 (places.Octet new.place))) × MayHaveLeft old.left (λ octets. ahead_of old octets ≡ nothing_more new.skipped (Some e)))
 
 -- it answers a fault, the same one from then on
-pub record Refuses (old new : Reading) (e : Fault) : Type 0 where
+pub record RefusesCapture (old new : CaptureState) (e : Fault) : Type 0 where
   pub from_now_on : new.stopped ≡ Some e
   pub same : IsSome old.stopped → new ≡ old
   pub again : IfSome old.stopped (λ f. e ≡ f)
-  pub first : old.stopped ≡ None → Stops old new e
+  pub first : old.stopped ≡ None → StopsCapture old new e
 
 -- what a reader of a capture answers where it fails: 901, or 703 or 704 at an octet
-pub data IsTold (e : Fault) : Type 0 where
-  not_read : e ≡ fault_at 901 places.None → IsTold e
-  cut_off : (octet : ℕ) → e ≡ fault_at 703 (places.Octet octet) → IsTold e
-  too_long : (octet : ℕ) → e ≡ fault_at 704 (places.Octet octet) → IsTold e
+pub data IsToldByCapture (e : Fault) : Type 0 where
+  not_read : e ≡ fault_at 901 places.None → IsToldByCapture e
+  cut_off : (octet : ℕ) → e ≡ fault_at 703 (places.Octet octet) → IsToldByCapture e
+  too_long : (octet : ℕ) → e ≡ fault_at 704 (places.Octet octet) → IsToldByCapture e
 
 -- what going on to the next frame does
-abbrev pub Advances : Reading → Reading → Result Bool Fault → Type 0
-Advances old new (Ok true) = AtFrame old new
-Advances old new (Ok false) = AtEnd old new
-Advances old new (Err e) = Refuses old new e
+abbrev pub AdvancesToFrame : CaptureState → CaptureState → Result Bool Fault → Type 0
+AdvancesToFrame old new (Ok true) = AtFrame old new
+AdvancesToFrame old new (Ok false) = AtCaptureEnd old new
+AdvancesToFrame old new (Err e) = RefusesCapture old new e
 
 -- what a reader in this state may answer: it goes on to the frame that it lends, or stays at the end, or answers a fault
-abbrev pub NextFrameIs : Reading → Result (Option Frame) Fault → Type 0
-NextFrameIs old (Ok (Some frame)) = (new : Reading) × AtFrame old new × (seen_of frame ≡ new.seen)
-NextFrameIs old (Ok None) = (new : Reading) × AtEnd old new
-NextFrameIs old (Err e) = (new : Reading) × Refuses old new e
+abbrev pub NextFrameIs : CaptureState → Result (Option Frame) Fault → Type 0
+NextFrameIs old (Ok (Some frame)) = (new : CaptureState) × AtFrame old new × (seen_of frame ≡ new.seen)
+NextFrameIs old (Ok None) = (new : CaptureState) × AtCaptureEnd old new
+NextFrameIs old (Err e) = (new : CaptureState) × RefusesCapture old new e
 
 -- a reader of a source that has these octets left, of which so many calls were made, behind the file header
-pub record IsOpened (left : Option (List ℕ)) (asked : ℕ) (new : Reading) : Type 0 where
+pub record IsOpened (left : Option (List ℕ)) (asked : ℕ) (new : CaptureState) : Type 0 where
   -- whatever is left behind the header, octets that begin with it may have been left
   pub format : (rest : List ℕ) → MayBeLeft new.left rest → MayHaveLeft left (λ octets. (format_of octets ≡ Ok new.format) × (drop 24 octets ≡ rest))
   pub rest : IfSome left (λ octets. new.left ≡ Some (drop 24 octets))
@@ -184,8 +184,8 @@ abbrev pub IsUnreadable : {R : Type 0} → (R → ℕ) → (R → Bool) → Opti
 IsUnreadable {R} calls failed left asked = (last : R) × IsUnread left asked (calls last) (failed last)
 
 -- why a capture isn't opened: want of memory, a source that can't be read, or its file header
-abbrev pub IsRefused : Option (List ℕ) → Type 0 → Fault → Type 0
-IsRefused left unread e =
+abbrev pub IsRefusedCapture : Option (List ℕ) → Type 0 → Fault → Type 0
+IsRefusedCapture left unread e =
     (e ≡ fault_at 900 places.None)
     ⊎ (((e ≡ fault_at 901 places.None) × unread)
     ⊎ (((e ≡ fault_at 701 (places.Octet 0)) ⊎ (e ≡ fault_at 702 places.None)) × MayHaveLeft left (λ octets. format_of octets ≡ Err e)))

@@ -3,8 +3,8 @@ use Rattle.std.specs.Prelude.{◌≡◌, ℕ, ◌+◌, ◌≤◌, ◌<◌, List,
 use Rattle.fx_base.specs.Device.{MayHaveLeft}
 use Rattle.fx_base.specs.Window.{Held, octets_of, HasFailed}
 use Rattle.fx_pcap.specs.declared.order.Order.{Order}
-use Rattle.fx_pcap.specs.declared.stop.Stop.{Stop}
-use Rattle.fx_pcap.specs.declared.stop.Stop.TheVariants.{Device, Cut, TooLong}
+use Rattle.fx_pcap.specs.declared.stop.CaptureStop.{CaptureStop}
+use Rattle.fx_pcap.specs.declared.stop.CaptureStop.TheVariants.{Device, Cut, TooLong}
 use Rattle.fx_pcap.specs.Records.{captured_length, record_fault}
 
 -- nothing is left
@@ -18,7 +18,7 @@ pub record HasRecord (order : Order) (n : ℕ) (held : List ℕ) : Type 0 where
   pub whole : n ≤ length held
 
 -- why no record is found
-abbrev pub IsStop : Order → Stop → Held → Held → Type 0
-IsStop order Device old new = HasFailed old new
-IsStop order Cut old new = MayHaveLeft (octets_of old) (λ os. (0 < length os) × (record_fault order os ≡ Some 703))
-IsStop order TooLong old new = MayHaveLeft (octets_of old) (λ os. (0 < length os) × (record_fault order os ≡ Some 704))
+abbrev pub IsWhyNoRecord : Order → CaptureStop → Held → Held → Type 0
+IsWhyNoRecord order Device old new = HasFailed old new
+IsWhyNoRecord order Cut old new = MayHaveLeft (octets_of old) (λ os. (0 < length os) × (record_fault order os ≡ Some 703))
+IsWhyNoRecord order TooLong old new = MayHaveLeft (octets_of old) (λ os. (0 < length os) × (record_fault order os ≡ Some 704))

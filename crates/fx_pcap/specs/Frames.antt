@@ -2,8 +2,8 @@
 use Rattle.std.specs.Prelude.{ℕ, Bool, ◌==◌, ◌||◌, nat_lt, if◌then◌else◌, List, [], ◌∷◌, length, drop}
 use Rattle.fx_pcap.specs.declared.content.Content.{Content}
 use Rattle.fx_pcap.specs.declared.content.Content.TheVariants.{Other, Malformed}
-use Rattle.fx_pcap.specs.declared.content.Link.{Link}
-use Rattle.fx_pcap.specs.declared.content.Link.TheVariants.{Ethernet, Ip}
+use Rattle.fx_pcap.specs.declared.content.LinkType.{LinkType}
+use Rattle.fx_pcap.specs.declared.content.LinkType.TheVariants.{Ethernet, Ip}
 use Rattle.fx_pcap.specs.Numbers.{network}
 use Rattle.fx_pcap.specs.Ip.{version}
 use Rattle.fx_pcap.specs.Ipv4.{ipv4}
@@ -24,8 +24,8 @@ abbrev pub behind_type : ℕ → List ℕ → Content
 behind_type type octets = if type == 0x0800 then ipv4 octets else (if type == 0x86dd then ipv6 octets else Other)
 
 -- an EtherType and what follows it; a tag here has its end cut off
-abbrev pub typed : List ℕ → Content
-typed octets =
+abbrev pub content_by_type : List ℕ → Content
+content_by_type octets =
     if nat_lt (length octets) 2 || is_tag (network 2 0 octets) then Malformed
     else behind_type (network 2 0 octets) (drop 2 octets)
 
@@ -36,7 +36,7 @@ abbrev pub of_version : ℕ → List ℕ → Content
 of_version number octets = if number == 4 then ipv4 octets else (if number == 6 then ipv6 octets else Other)
 
 -- two addresses, then tags and a packet; or the packet itself, which tells its version
-abbrev pub content_of : Link → List ℕ → Content
-content_of Ethernet octets = typed (after_tags (drop 12 octets))
+abbrev pub content_of : LinkType → List ℕ → Content
+content_of Ethernet octets = content_by_type (after_tags (drop 12 octets))
 content_of Ip [] = Malformed
 content_of Ip (o ∷ octets) = of_version (version (o ∷ octets)) (o ∷ octets)

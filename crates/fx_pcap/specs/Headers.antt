@@ -1,6 +1,6 @@
 -- The extension headers of IPv6 (RFC 8200, section 4) and the protocol behind them.
 use Rattle.std.specs.Prelude.{◌≡◌, ℕ, zero, suc, ◌+◌, ◌-◌, ◌*◌, ◌/◌, Bool, ◌==◌, ◌||◌, ◌&&◌, nat_lt, if◌then◌else◌, List, [], ◌∷◌, length, drop, slice_index, Option, Some, None}
-use Rattle.fx_pcap.specs.declared.transport.Transport.{Transport}
+use Rattle.fx_pcap.specs.declared.transport.TransportHeader.{TransportHeader}
 use Rattle.fx_pcap.specs.Numbers.{network}
 use Rattle.fx_pcap.specs.Ip.{begins_with_ports}
 
@@ -36,11 +36,11 @@ is_later_fragment type octets = is_fragment type && nat_lt 0 (fragment_offset oc
 
 -- ---- the protocol and its ports; none where the octets end before them
 
-abbrev pub without_ports : ℕ → Transport
+abbrev pub without_ports : ℕ → TransportHeader
 without_ports protocol = record { protocol = protocol; source_port = 0; destination_port = 0 }
 
 -- of the protocol's own octets
-abbrev pub transport_in : ℕ → List ℕ → Option Transport
+abbrev pub transport_in : ℕ → List ℕ → Option TransportHeader
 transport_in protocol octets =
     if begins_with_ports protocol then (
     if nat_lt (length octets) 4 then None
@@ -48,7 +48,7 @@ transport_in protocol octets =
     else Some (without_ports protocol)
 
 -- of octets that begin with a header of this type, where this is what the next header comes to
-abbrev pub with_header : ℕ → List ℕ → Option Transport → Option Transport
+abbrev pub with_header : ℕ → List ℕ → Option TransportHeader → Option TransportHeader
 with_header type octets next =
     if is_extension type then (
     if nat_lt (length octets) (octets_read type) then None
@@ -56,12 +56,12 @@ with_header type octets next =
     else transport_in type octets
 
 -- of octets of which the first few belong to the header before
-abbrev pub transport_behind : ℕ → ℕ → List ℕ → Option Transport
+abbrev pub transport_behind : ℕ → ℕ → List ℕ → Option TransportHeader
 transport_behind n type [] = with_header type [] None
 transport_behind (suc n) type (o ∷ octets) = transport_behind n type octets
 transport_behind zero type (o ∷ octets) = with_header type (o ∷ octets) (transport_behind (header_length type (o ∷ octets) - 1) o octets)
 
-abbrev pub transport_of : ℕ → List ℕ → Option Transport
+abbrev pub transport_of : ℕ → List ℕ → Option TransportHeader
 transport_of type octets = transport_behind 0 type octets
 
 -- ---- the same, said header by header

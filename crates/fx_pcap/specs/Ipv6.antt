@@ -2,7 +2,7 @@
 use Rattle.std.specs.Prelude.{ℕ, ◌+◌, ◌/◌, ◌%◌, ◌^◌, Bool, ◌==◌, ◌&&◌, nat_le, if◌then◌else◌, List, [], ◌∷◌, length, take, drop, slice_index, Option, Some, None}
 use Rattle.fx_pcap.specs.declared.content.Content.{Content}
 use Rattle.fx_pcap.specs.declared.content.Content.TheVariants.{Packet, Malformed}
-use Rattle.fx_pcap.specs.declared.transport.Transport.{Transport}
+use Rattle.fx_pcap.specs.declared.transport.TransportHeader.{TransportHeader}
 use Rattle.fx_pcap.specs.Numbers.{network}
 use Rattle.fx_pcap.specs.Ip.{version}
 use Rattle.fx_pcap.specs.Headers.{transport_of}
@@ -28,11 +28,11 @@ abbrev pub payload : List ℕ → List ℕ
 payload octets = take (payload_length octets) (drop 40 octets)
 
 -- the packet's values on the axes, in their order; it has no address of IPv4
-abbrev pub fields_with : List ℕ → Transport → List ℕ
+abbrev pub fields_with : List ℕ → TransportHeader → List ℕ
 fields_with octets t =
     0 ∷ 0 ∷ t.protocol ∷ t.source_port ∷ t.destination_port ∷ traffic_class octets ∷ 6 ∷ network 16 8 octets ∷ network 16 24 octets ∷ []
 
-abbrev pub with_transport : List ℕ → Option Transport → Content
+abbrev pub with_transport : List ℕ → Option TransportHeader → Content
 with_transport octets None = Malformed
 with_transport octets (Some t) = Packet (fields_with octets t) (40 + payload_length octets)
 

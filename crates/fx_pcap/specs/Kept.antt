@@ -7,15 +7,15 @@ use Rattle.fx_base.specs.declared.fault.Place.TheVariants as places
 use Rattle.fx_base.specs.Fault.{fault_at}
 use Rattle.fx_pcap.specs.declared.header.Format.{Format}
 use Rattle.fx_pcap.specs.declared.skipped.Skipped.{Skipped}
-use Rattle.fx_pcap.specs.declared.stop.Stop.{Stop}
-use Rattle.fx_pcap.specs.declared.stop.Stop.TheVariants.{Device, Cut, TooLong}
-use Rattle.fx_pcap.specs.declared.capture.Taken.{Taken}
-use Rattle.fx_pcap.specs.declared.capture.Taken.TheVariants as taken
-use Rattle.fx_pcap.specs.Captures.{Reading, HadAhead, budget, Asks, Gains, Stops, AtFrame, AtEnd}
+use Rattle.fx_pcap.specs.declared.stop.CaptureStop.{CaptureStop}
+use Rattle.fx_pcap.specs.declared.stop.CaptureStop.TheVariants.{Device, Cut, TooLong}
+use Rattle.fx_pcap.specs.declared.capture.RecordKind.{RecordKind}
+use Rattle.fx_pcap.specs.declared.capture.RecordKind.TheVariants as taken
+use Rattle.fx_pcap.specs.Captures.{CaptureState, HadAhead, frame_budget, CallsForFrames, GainsFrames, StopsCapture, AtFrame, AtCaptureEnd}
 use Rattle.fx_base.specs.Window.{Held}
 use Rattle.fx_pcap.specs.declared.record.TheConstants.{ROOM}
 
-pub record Kept : Type 0 where
+pub record KeptRecord : Type 0 where
   pub format : Format
   pub place : ℕ
   pub taken : ℕ
@@ -23,14 +23,14 @@ pub record Kept : Type 0 where
   pub fields : List ℕ
   pub octets : ℕ
   pub second : ℕ
-  pub stopped : Option Stop
+  pub stopped : Option CaptureStop
 
-abbrev pub fault_of : ℕ → Stop → Fault
+abbrev pub fault_of : ℕ → CaptureStop → Fault
 fault_of place Device = fault_at 901 places.None
 fault_of place Cut = fault_at 703 (places.Octet place)
 fault_of place TooLong = fault_at 704 (places.Octet place)
 
-abbrev pub reading_of : Held → Kept → Reading
+abbrev pub reading_of : Held → KeptRecord → CaptureState
 reading_of w k =
     record {
       left = prepend_known (drop k.taken w.held) w.left;
@@ -46,34 +46,34 @@ reading_of w k =
     }
 
 -- the record that it is at is at the front of what its window holds
-pub record IsReader (w : Held) (taken : ℕ) : Type 0 where
+pub record IsCaptureWindow (w : Held) (taken : ℕ) : Type 0 where
   pub room : w.room ≡ ROOM
   pub within : taken ≤ length w.held
 
 -- a record was taken, and its frame passed over
-pub record Passes (old new : Reading) : Type 0 where
+pub record Passes (old new : CaptureState) : Type 0 where
   pub going : new.stopped ≡ None
   pub frames : HadAhead old new (λ a. a)
   pub untold : old.left ≡ None → new.left ≡ None
   pub format : new.format ≡ old.format
-  pub asks : Asks old new
-  pub gains : Gains 0 old new
-  pub smaller : budget new < budget old
+  pub asks : CallsForFrames old new
+  pub gains : GainsFrames 0 old new
+  pub smaller : frame_budget new < frame_budget old
 
 -- it can't go on
-pub record Halts (old new : Reading) (e : Fault) : Type 0 where
+pub record Halts (old new : CaptureState) (e : Fault) : Type 0 where
   pub going : new.stopped ≡ None
-  pub why : Stops old new e
+  pub why : StopsCapture old new e
 
 -- what taking the next record does
-abbrev pub Takes : Reading → Reading → Result Taken Stop → Type 0
+abbrev pub Takes : CaptureState → CaptureState → Result RecordKind CaptureStop → Type 0
 Takes old new (Ok taken.Frame) = AtFrame old new
 Takes old new (Ok taken.Skipped) = Passes old new
-Takes old new (Ok taken.End) = AtEnd old new
+Takes old new (Ok taken.End) = AtCaptureEnd old new
 Takes old new (Err stop) = Halts old new (fault_of new.place stop)
 
 -- what going on to the next frame does, but for the fault that is kept
-abbrev pub GoesOn : Reading → Reading → Result Bool Stop → Type 0
-GoesOn old new (Ok true) = AtFrame old new
-GoesOn old new (Ok false) = AtEnd old new
-GoesOn old new (Err stop) = Halts old new (fault_of new.place stop)
+abbrev pub GoesOnToFrame : CaptureState → CaptureState → Result Bool CaptureStop → Type 0
+GoesOnToFrame old new (Ok true) = AtFrame old new
+GoesOnToFrame old new (Ok false) = AtCaptureEnd old new
+GoesOnToFrame old new (Err stop) = Halts old new (fault_of new.place stop)

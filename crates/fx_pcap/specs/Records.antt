@@ -6,8 +6,8 @@ use Rattle.fx_base.specs.Fault.{fault_at}
 use Rattle.fx_pcap.specs.declared.order.Order.{Order}
 use Rattle.fx_pcap.specs.declared.order.Order.TheVariants.{Big, Little}
 use Rattle.fx_pcap.specs.declared.content.Content.{Content}
-use Rattle.fx_pcap.specs.declared.content.Link.{Link}
-use Rattle.fx_pcap.specs.declared.content.Link.TheVariants.{Ethernet, Ip}
+use Rattle.fx_pcap.specs.declared.content.LinkType.{LinkType}
+use Rattle.fx_pcap.specs.declared.content.LinkType.TheVariants.{Ethernet, Ip}
 use Rattle.fx_pcap.specs.declared.header.Format.{Format}
 use Rattle.fx_pcap.specs.Numbers.{number_in}
 use Rattle.fx_pcap.specs.Frames.{content_of}
@@ -21,13 +21,13 @@ is_magic n = n == 0xa1b2c3d4 || n == 0xa1b23c4d
 abbrev pub order_of : List ℕ → Option Order
 order_of octets = if is_magic (number_in Big 4 0 octets) then Some Big else (if is_magic (number_in Little 4 0 octets) then Some Little else None)
 
-abbrev pub link_of : ℕ → Option Link
+abbrev pub link_of : ℕ → Option LinkType
 link_of n = if n == 1 then Some Ethernet else (if n == 101 then Some Ip else None)
 
 abbrev pub no_capture : Result Format Fault
 no_capture = Err (fault_at 701 (places.Octet 0))
 
-abbrev pub of_link : Order → Option Link → Result Format Fault
+abbrev pub of_link : Order → Option LinkType → Result Format Fault
 of_link order None = Err (fault_at 702 places.None)
 of_link order (Some link) = Ok (record { order = order; link = link })
 
@@ -59,7 +59,7 @@ record_fault order octets =
     else (if nat_lt (length octets) (16 + captured_length order octets) then Some 703 else None))
 
 -- what a record holds: its captured octets, what they are, and when they were captured
-pub record Item : Type 0 where
+pub record CapturedRecord : Type 0 where
   pub captured : List ℕ
   pub content : Content
   pub second : ℕ
@@ -67,7 +67,7 @@ pub record Item : Type 0 where
 abbrev pub captured_in : Order → List ℕ → List ℕ
 captured_in order octets = take (captured_length order octets) (drop 16 octets)
 
-abbrev pub item_of : Format → List ℕ → Item
+abbrev pub item_of : Format → List ℕ → CapturedRecord
 item_of format octets = record {
   captured = captured_in format.order octets;
   content = content_of format.link (captured_in format.order octets);
@@ -76,14 +76,14 @@ item_of format octets = record {
 
 -- records, and the fault at which they end
 pub record Records : Type 0 where
-  pub items : List Item
+  pub items : List CapturedRecord
   pub fault : Option Fault
 
 -- an octet's number stops at 2 to the 64 less 1
 abbrev pub place_after : ℕ → ℕ → ℕ
 place_after place n = min (place + n) (2 ^ 64 - 1)
 
-abbrev pub with_item : Option ℕ → ℕ → Item → Records → Records
+abbrev pub with_item : Option ℕ → ℕ → CapturedRecord → Records → Records
 with_item (Some number) place item rest = record { items = []; fault = Some (fault_at number (places.Octet place)) }
 with_item None place item rest = record { items = item ∷ rest.items; fault = rest.fault }
 

@@ -1,6 +1,6 @@
 //! The frames of a capture, one at a time.
 ghost use Rattle.std.specs.Prelude.{◌≡◌, None, IfOk, IfErr};
-ghost use Rattle.fx_pcap.specs.Captures.{IsTold};
+ghost use Rattle.fx_pcap.specs.Captures.{IsToldByCapture};
 ghost use Rattle.fx_pcap.specs.Kept.{fault_of};
 
 use crate::content::{Content, read_content};
@@ -8,7 +8,7 @@ use crate::frame::Frame;
 use crate::header::{FILE_HEADER, Format, read_format};
 use crate::record::{RECORD_HEADER, ROOM, find_record};
 use crate::skipped::Skipped;
-use crate::stop::Stop;
+use crate::stop::CaptureStop;
 use fx_base::{Fault, Source, Window};
 use fx_boxes::Fields;
 use fx_elements::AXES;
@@ -17,21 +17,21 @@ use std::marker::Model;
 
 /// What a record was.
 #[derive(Clone, Copy, Debug, PartialEq, Eq)]
-pub(crate) enum Taken {
+pub(crate) enum RecordKind {
     Frame,
     Skipped,
     End,
 }
 
 /// What a reader at that place answers once it has stopped.
-fn fault_of_stop(place: u64, stop: Stop) -> Fault
+fn fault_of_stop(place: u64, stop: CaptureStop) -> Fault
     ensures value { result ≡ fault_of place stop }
-    ensures told { IsTold result }
+    ensures told { IsToldByCapture result }
 {
     match stop {
-        Stop::Device => Fault::bare(901),
-        Stop::Cut => Fault::at_octet(703, place),
-        Stop::TooLong => Fault::at_octet(704, place),
+        CaptureStop::Device => Fault::bare(901),
+        CaptureStop::Cut => Fault::at_octet(703, place),
+        CaptureStop::TooLong => Fault::at_octet(704, place),
     }
 }
 
@@ -51,14 +51,14 @@ pub struct Capture<R: Source> {
     fields: Fields,
     octets: u32,
     second: u32,
-    stopped: Option<Stop>,
+    stopped: Option<CaptureStop>,
 }
 
 impl<R: Source> Model for Capture<R> {
-    ghost use Rattle.fx_pcap.specs.Captures.{Reading};
-    ghost use Rattle.fx_pcap.specs.Kept.{reading_of, IsReader};
+    ghost use Rattle.fx_pcap.specs.Captures.{CaptureState};
+    ghost use Rattle.fx_pcap.specs.Kept.{reading_of, IsCaptureWindow};
 
-    ghost Value = { Reading };
+    ghost Value = { CaptureState };
 
     ghost view = { λ c. reading_of c.window
         (record {
@@ -73,12 +73,12 @@ impl<R: Source> Model for Capture<R> {
           stopped = c.stopped;
         }) };
 
-    ghost invariant = { λ c. IsReader c.window c.taken };
+    ghost invariant = { λ c. IsCaptureWindow c.window c.taken };
 }
 
 impl<R: Source> Capture<R> {
-    ghost use Rattle.fx_pcap.specs.Captures.{Advances, NextFrameIs, IsOpened, IsRefused, IsUnreadable};
-    ghost use Rattle.fx_pcap.specs.Kept.{Takes, GoesOn};
+    ghost use Rattle.fx_pcap.specs.Captures.{AdvancesToFrame, NextFrameIs, IsOpened, IsRefusedCapture, IsUnreadable};
+    ghost use Rattle.fx_pcap.specs.Kept.{Takes, GoesOnToFrame};
 
     /// A reader of the capture that a source has.
     ///
@@ -87,7 +87,7 @@ impl<R: Source> Capture<R> {
     /// 901 and 702 at no place.
     pub fn new(alloc: Global, source: R) -> Result<Capture<R>, Fault>
         ensures ok { IfOk result (IsOpened (R.left source) (R.calls source)) }
-        ensures err { IfErr result (IsRefused (R.left source)
+        ensures err { IfErr result (IsRefusedCapture (R.left source)
             (IsUnreadable R.calls R.failed (R.left source) (R.calls source))) }
     {
         let mut window = Window::new(alloc, source, ROOM)?;
@@ -114,14 +114,14 @@ impl<R: Source> Capture<R> {
     }
 
     /// Takes the next record.
-    fn take_record(&mut self) -> Result<Taken, Stop>
+    fn take_record(&mut self) -> Result<RecordKind, CaptureStop>
         requires { self.old.stopped ≡ None }
         ensures { Takes self.old self.new result }
     {
         self.window.pass(self.taken);
         self.taken = 0;
         let Some(size) = find_record(&mut self.window, self.format.order)? else {
-            return Ok(Taken::End);
+            return Ok(RecordKind::End);
         };
         let octets = self.window.octets();
         let content = read_content(self.format.link, &octets[RECORD_HEADER..size]);
@@ -132,24 +132,24 @@ impl<R: Source> Capture<R> {
             Content::Packet(fields, octets) => {
                 self.fields = fields;
                 self.octets = octets;
-                return Ok(Taken::Frame);
+                return Ok(RecordKind::Frame);
             }
             Content::Other => self.skipped.other = self.skipped.other.wrapping_add(1),
             Content::Malformed => self.skipped.malformed = self.skipped.malformed.wrapping_add(1),
         }
-        Ok(Taken::Skipped)
+        Ok(RecordKind::Skipped)
     }
 
     /// Takes records up to the next frame, and answers whether there is one.
-    fn find_frame(&mut self) -> Result<bool, Stop>
+    fn find_frame(&mut self) -> Result<bool, CaptureStop>
         requires { self.old.stopped ≡ None }
-        ensures { GoesOn self.old self.new result }
+        ensures { GoesOnToFrame self.old self.new result }
     {
         'records: loop {
             match self.take_record()? {
-                Taken::Frame => return Ok(true),
-                Taken::End => return Ok(false),
-                Taken::Skipped => {}
+                RecordKind::Frame => return Ok(true),
+                RecordKind::End => return Ok(false),
+                RecordKind::Skipped => {}
             }
         }
     }
@@ -160,9 +160,9 @@ impl<R: Source> Capture<R> {
     /// calls, with 703 where the capture ends inside a record and with 704 where a record has more
     /// than 262,144 captured octets, both at the record's first octet.
     pub fn advance(&mut self) -> Result<bool, Fault>
-        ensures advances { Advances self.old self.new result }
+        ensures advances { AdvancesToFrame self.old self.new result }
         // Whatever the source tells.
-        ensures told { IfErr result IsTold }
+        ensures told { IfErr result IsToldByCapture }
     {
         if let Some(stop) = self.stopped {
             return Err(fault_of_stop(self.place, stop));

@@ -9,7 +9,7 @@ use fx_boxes::Fields;
 
 /// What a capture's octets begin with, by its link type.
 #[derive(Clone, Copy, Debug, PartialEq, Eq)]
-pub(crate) enum Link {
+pub(crate) enum LinkType {
     Ethernet,
     Ip,
 }
@@ -24,12 +24,12 @@ pub(crate) enum Content {
 }
 
 /// What the captured octets of a frame hold.
-pub(crate) fn read_content(link: Link, octets: &[u8]) -> Content
+pub(crate) fn read_content(link: LinkType, octets: &[u8]) -> Content
     ensures { result ≡ content_of link octets.now }
 {
     match link {
-        Link::Ethernet => read_ethernet(octets),
-        Link::Ip => match octets {
+        LinkType::Ethernet => read_ethernet(octets),
+        LinkType::Ip => match octets {
             [] => Content::Malformed,
             [first, ..] => match *first / 16 {
                 4 => read_ipv4(octets),

@@ -42,7 +42,7 @@ fn place_after_tags(octets: &[u8]) -> usize
 
 /// What is behind all tags: an EtherType, and what it names.
 fn read_typed(octets: &[u8]) -> Content
-    ensures { result ≡ frames.typed octets.now }
+    ensures { result ≡ frames.content_by_type octets.now }
 {
     if octets.len() < 2 {
         return Content::Malformed;
@@ -60,7 +60,7 @@ fn read_typed(octets: &[u8]) -> Content
 
 /// What an Ethernet frame holds.
 pub(crate) fn read_ethernet(octets: &[u8]) -> Content
-    ensures { result ≡ frames.typed (after_tags (drop 12 octets.now)) }
+    ensures { result ≡ frames.content_by_type (after_tags (drop 12 octets.now)) }
 {
     if octets.len() < ADDRESSES {
         return Content::Malformed;

@@ -3,7 +3,7 @@ ghost use Rattle.std.specs.Prelude.{◌≡◌, ◌≤◌, length};
 ghost use Rattle.fx_pcap.specs.Headers as rfc8200;
 
 use crate::order::network16;
-use crate::transport::{Transport, read_transport};
+use crate::transport::{TransportHeader, read_transport};
 
 /// The type of the fragment header.
 const FRAGMENT: u8 = 44;
@@ -45,7 +45,7 @@ fn is_later_fragment(header: u8, octets: &[u8]) -> bool
 
 /// The protocol behind the extension headers of a payload, whose first header has this type; none
 /// where the octets end before what is read.
-pub(crate) fn read_payload(first: u8, octets: &[u8]) -> Option<Transport>
+pub(crate) fn read_payload(first: u8, octets: &[u8]) -> Option<TransportHeader>
     ensures { result ≡ rfc8200.transport_of first octets.now }
 {
     let mut header = first;
@@ -56,7 +56,7 @@ pub(crate) fn read_payload(first: u8, octets: &[u8]) -> Option<Transport>
             return None;
         }
         if is_later_fragment(header, rest) {
-            return Some(Transport::without_ports(rest[0]));
+            return Some(TransportHeader::without_ports(rest[0]));
         }
         at = (at + header_length(header, rest)).min(octets.len());
         header = rest[0];

@@ -2,7 +2,7 @@
 ghost use Rattle.std.specs.Prelude.{◌≡◌, ◌+◌, ◌≤◌, length};
 ghost use Rattle.fx_pcap.specs.Records as records;
 
-use crate::content::Link;
+use crate::content::LinkType;
 use crate::order::Order;
 use fx_base::Fault;
 
@@ -13,7 +13,7 @@ pub(crate) const FILE_HEADER: usize = 24;
 #[derive(Clone, Copy, Debug, PartialEq, Eq)]
 pub(crate) struct Format {
     pub(crate) order: Order,
-    pub(crate) link: Link,
+    pub(crate) link: LinkType,
 }
 
 /// Whether the number begins a capture, with microseconds or with nanoseconds.
@@ -38,12 +38,12 @@ fn order_of(octets: &[u8]) -> Option<Order>
 }
 
 /// The link type of that number, if it is one that is read.
-fn link_of(number: u32) -> Option<Link>
+fn link_of(number: u32) -> Option<LinkType>
     ensures { result ≡ records.link_of number }
 {
     match number {
-        1 => Some(Link::Ethernet),
-        101 => Some(Link::Ip),
+        1 => Some(LinkType::Ethernet),
+        101 => Some(LinkType::Ip),
         _ => None,
     }
 }

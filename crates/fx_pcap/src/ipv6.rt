@@ -5,14 +5,14 @@ ghost use Rattle.fx_pcap.specs.Ipv6 as rfc8200;
 use crate::content::Content;
 use crate::extension::read_payload;
 use crate::order::{network16, network128};
-use crate::transport::Transport;
+use crate::transport::TransportHeader;
 use fx_boxes::Fields;
 
 /// The number of octets of the fixed header.
 const HEADER: usize = 40;
 
 /// The fields of a packet whose fixed header these octets begin with.
-fn fields_with(octets: &[u8], transport: Transport) -> Fields
+fn fields_with(octets: &[u8], transport: TransportHeader) -> Fields
     requires { 40 ≤ length octets.now }
     ensures { result ≡ rfc8200.fields_with octets.now transport }
 {

@@ -3,10 +3,10 @@ ghost use Rattle.std.specs.Prelude.{◌≡◌, ◌+◌, ◌-◌, ◌*◌, ◌≤
 ghost use Rattle.fx_base.specs.Limits.{call_limit};
 ghost use Rattle.fx_base.specs.Device.{IsAsked};
 ghost use Rattle.fx_base.specs.Window.{octets_of};
-ghost use Rattle.fx_pcap.specs.FirstRecord.{HasEnded, HasRecord, IsStop};
+ghost use Rattle.fx_pcap.specs.FirstRecord.{HasEnded, HasRecord, IsWhyNoRecord};
 
 use crate::order::Order;
-use crate::stop::Stop;
+use crate::stop::CaptureStop;
 use fx_base::{Source, Window};
 
 /// The number of octets of a record's header.
@@ -22,7 +22,7 @@ pub(crate) const ROOM: usize = 524_288;
 pub(crate) fn find_record<R: Source>(
     window: &mut Window<R>,
     order: Order,
-) -> Result<Option<usize>, Stop>
+) -> Result<Option<usize>, CaptureStop>
     requires { window.old.room ≡ ROOM }
     ensures octets { octets_of window.new ≡ octets_of window.old }
     ensures room { window.new.room ≡ ROOM }
@@ -38,28 +38,28 @@ pub(crate) fn find_record<R: Source>(
     ensures calls { window.old.calls ≤ window.new.calls }
     ensures asked { IsAsked window.old.asked (window.new.calls - window.old.calls)
         window.new.asked }
-    ensures stop { IfErr result (λ stop. IsStop order stop window.old window.new) }
+    ensures stop { IfErr result (λ stop. IsWhyNoRecord order stop window.old window.new) }
 {
     let Ok(()) = window.fill(RECORD_HEADER) else {
-        return Err(Stop::Device);
+        return Err(CaptureStop::Device);
     };
     let octets = window.octets();
     if octets.is_empty() {
         return Ok(None);
     }
     if octets.len() < RECORD_HEADER {
-        return Err(Stop::Cut);
+        return Err(CaptureStop::Cut);
     }
     let captured = order.read32(octets, 8);
     if captured > LONGEST {
-        return Err(Stop::TooLong);
+        return Err(CaptureStop::TooLong);
     }
     let size = RECORD_HEADER + captured as usize;
     let Ok(()) = window.fill(size) else {
-        return Err(Stop::Device);
+        return Err(CaptureStop::Device);
     };
     if window.octets().len() < size {
-        return Err(Stop::Cut);
+        return Err(CaptureStop::Cut);
     }
     Ok(Some(size))
 }

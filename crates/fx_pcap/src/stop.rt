@@ -1,6 +1,6 @@
 /// Why a reader stops.
 #[derive(Clone, Copy, Debug, PartialEq, Eq)]
-pub(crate) enum Stop {
+pub(crate) enum CaptureStop {
     Device,
     Cut,
     TooLong,

@@ -7,18 +7,18 @@ use crate::ports::{PORTS, begins_with_ports};
 
 /// A protocol and its ports, which are 0 where it has none and in a later fragment.
 #[derive(Clone, Copy, Debug, PartialEq, Eq)]
-pub(crate) struct Transport {
+pub(crate) struct TransportHeader {
     pub(crate) protocol: u8,
     pub(crate) source_port: u16,
     pub(crate) destination_port: u16,
 }
 
-impl Transport {
+impl TransportHeader {
     /// The protocol alone.
-    pub(crate) fn without_ports(protocol: u8) -> Transport
+    pub(crate) fn without_ports(protocol: u8) -> TransportHeader
         ensures { result ≡ rfc8200.without_ports protocol }
     {
-        Transport {
+        TransportHeader {
             protocol,
             source_port: 0,
             destination_port: 0,
@@ -27,16 +27,16 @@ impl Transport {
 }
 
 /// The protocol whose octets these are; none where they end before its ports.
-pub(crate) fn read_transport(protocol: u8, octets: &[u8]) -> Option<Transport>
+pub(crate) fn read_transport(protocol: u8, octets: &[u8]) -> Option<TransportHeader>
     ensures { result ≡ rfc8200.transport_in protocol octets.now }
 {
     if !begins_with_ports(protocol) {
-        return Some(Transport::without_ports(protocol));
+        return Some(TransportHeader::without_ports(protocol));
     }
     if octets.len() < PORTS {
         return None;
     }
-    Some(Transport {
+    Some(TransportHeader {
         protocol,
         source_port: network16(octets, 0),
         destination_port: network16(octets, 2),

@@ -11,7 +11,7 @@ use Rattle.fx_config.specs.declared.exporting_process.ExportMode.TheVariants.{Pa
 use Rattle.fx_config.specs.declared.observation_point.Direction.TheVariants.{Both}
 use Rattle.fx_config.specs.declared.selector.Method.TheVariants.{SelectAll}
 use Rattle.fx_config.specs.Devices.{device_of}
-use Rattle.fx_topology.specs.declared.network.Network.{Network}
+use Rattle.fx_topology.specs.declared.network.NetworkDocument.{NetworkDocument}
 use Rattle.fx_topology.specs.Networks.{network_of}
 use Rattle.fx_plan.specs.Tables.{net_of}
 
@@ -110,7 +110,7 @@ document = with_members ((codes "devices", list (router ∷ host ∷ [])) ∷ (c
 
 -- ---- the network
 
-abbrev network : Network
+abbrev network : NetworkDocument
 network = record {
   devices = record {
     name = codes "edge-router";

@@ -11,7 +11,7 @@ use Rattle.serde_json.specs.Find.{get, as_object}
 use Rattle.fx_base.specs.Name.{is_name}
 use Rattle.fx_elements.proofs.Cuts.{chosen}
 use Rattle.fx_walk.specs.Pointer.{below, nth}
-use Rattle.fx_walk.specs.Walk.{Found, Row, fault_if, row_faults, of_kind, object_faults, required, faults_or_missing, member_of}
+use Rattle.fx_walk.specs.Walk.{FoundFault, Row, fault_if, row_faults, of_kind, object_faults, required_row, faults_or_missing, member_of}
 use Rattle.fx_walk.specs.Lists.{by_length, entries_faults, faults_of_list, is_among, items_in, items_of, name_once}
 use Rattle.fx_walk.specs.Scalars.{text_of, text_that}
 use Rattle.fx_config.specs.CollectingProcesses.{collecting_process_faults, collecting_process_of, collecting_process_rows}
@@ -42,7 +42,7 @@ no_fault true n up h = absurd cc
 no_fault false n up h = refl
 
 -- what each entry has that has no fault behind others, all entries have
-entries_have : {X : Type 0} (faults : List (List ℕ) → List ℕ → Data → List Found) (name : Data → List ℕ) (meaning : Data → X) (P : X → Type 0)
+entries_have : {X : Type 0} (faults : List (List ℕ) → List ℕ → Data → List FoundFault) (name : Data → List ℕ) (meaning : Data → X) (P : X → Type 0)
     → ((earlier : List (List ℕ)) (up : List ℕ) (d : Data) → faults earlier up d ≡ [] → P (meaning d))
     → (earlier : List (List ℕ)) (up : List ℕ) (i : ℕ) (ds : List Data) → entries_faults faults name earlier up i ds ≡ [] → All P (map meaning ds)
 entries_have faults name meaning P each earlier up i [] h = All-nil P
@@ -50,7 +50,7 @@ entries_have faults name meaning P each earlier up i (d ∷ ds) h =
     All-cons P (meaning d) (map meaning ds) (each earlier (nth up i) d (none_before (faults earlier (nth up i) d) (entries_faults faults name (earlier ++ name d ∷ []) up (i + 1) ds) h))
     (entries_have faults name meaning P each (earlier ++ name d ∷ []) up (i + 1) ds (none_behind (faults earlier (nth up i) d) (entries_faults faults name (earlier ++ name d ∷ []) up (i + 1) ds) h))
 
-entries_new : {X : Type 0} (faults : List (List ℕ) → List ℕ → Data → List Found) (meaning : Data → X) (name : X → List ℕ)
+entries_new : {X : Type 0} (faults : List (List ℕ) → List ℕ → Data → List FoundFault) (meaning : Data → X) (name : X → List ℕ)
     → ((earlier : List (List ℕ)) (up : List ℕ) (d : Data) → faults earlier up d ≡ [] → is_among earlier (name (meaning d)) ≡ false)
     → (earlier : List (List ℕ)) (up : List ℕ) (i : ℕ) (ds : List Data) → entries_faults faults (λ d. name (meaning d)) earlier up i ds ≡ [] → AllNew earlier (map name (map meaning ds))
 entries_new faults meaning name each earlier up i [] h = tt
@@ -61,24 +61,24 @@ entries_new faults meaning name each earlier up i (d ∷ ds) h =
     )
 
 -- the entries of a list that may be empty
-entries_in : (most : ℕ) (faults : List (List ℕ) → List ℕ → Data → List Found) (name : Data → List ℕ) (up key : List ℕ) (o : Option Data)
+entries_in : (most : ℕ) (faults : List (List ℕ) → List ℕ → Data → List FoundFault) (name : Data → List ℕ) (up key : List ℕ) (o : Option Data)
     → faults_of_list 0 most (λ up ds. entries_faults faults name [] up 0 ds) up key o ≡ [] → entries_faults faults name [] (below up key) 0 (items_of (unwrap_or o null)) ≡ []
 entries_in most faults name up key None h = refl
 entries_in most faults name up key (Some d) h = kind_none 0 most (λ up ds. entries_faults faults name [] up 0 ds) (below up key) (items_in d) h
 
 -- a list that may not be empty isn't
-some_in : (most : ℕ) (up : List ℕ) (n : ℕ) (rest : List Found) → by_length 103 115 1 most up n rest ≡ [] → 0 < n
+some_in : (most : ℕ) (up : List ℕ) (n : ℕ) (rest : List FoundFault) → by_length 103 115 1 most up n rest ≡ [] → 0 < n
 some_in most up n rest h =
     elim (chosen (nat_lt most n) ((115, up) ∷ []) (cond (nat_lt n 1) ((103, up) ∷ []) rest) [] h) [
       | inl w ↦ absurd cc
       | inr w ↦ elim (chosen (nat_lt n 1) ((103, up) ∷ []) rest [] w.1) [ inl v ↦ absurd cc | inr v ↦ (let le = ltb-false n 1 v.0 in omega arith) ]
     ]
 
-some_of_kind : (most : ℕ) (faults : List ℕ → List Data → List Found) (up : List ℕ) (o : Option (List Data)) → of_kind o (λ ds. by_length 103 115 1 most up (length ds) (faults up ds)) up ≡ [] → 0 < length (unwrap_or o [])
+some_of_kind : (most : ℕ) (faults : List ℕ → List Data → List FoundFault) (up : List ℕ) (o : Option (List Data)) → of_kind o (λ ds. by_length 103 115 1 most up (length ds) (faults up ds)) up ≡ [] → 0 < length (unwrap_or o [])
 some_of_kind most faults up None h = absurd cc
 some_of_kind most faults up (Some ds) h = some_in most up (length ds) (faults up ds) h
 
-some_items : (most : ℕ) (faults : List ℕ → List Data → List Found) (up key : List ℕ) (o : Option Data) → faults_of_list 1 most faults up key o ≡ [] → 0 < length (items_of (unwrap_or o null))
+some_items : (most : ℕ) (faults : List ℕ → List Data → List FoundFault) (up key : List ℕ) (o : Option Data) → faults_of_list 1 most faults up key o ≡ [] → 0 < length (items_of (unwrap_or o null))
 some_items most faults up key None h = absurd cc
 some_items most faults up key (Some d) h = some_of_kind most faults (below up key) (items_in d) h
 
@@ -90,10 +90,10 @@ named_new earlier up key (Some d) h =
     no_fault (is_among earlier (text_of d)) 106 (below up key) (none_behind (text_that 105 is_name (below up key) d) (fault_if (is_among earlier (text_of d)) 106 (below up key)) h)
 
 -- objects whose first member is a name that may stand once
-name_new : (earlier : List (List ℕ)) (rows : List Row) (up : List ℕ) (d : Data) → object_faults (required (codes "name") (name_once earlier) ∷ rows) up d ≡ [] → is_among earlier (text_of (member_of (codes "name") d)) ≡ false
+name_new : (earlier : List (List ℕ)) (rows : List Row) (up : List ℕ) (d : Data) → object_faults (required_row (codes "name") (name_once earlier) ∷ rows) up d ≡ [] → is_among earlier (text_of (member_of (codes "name") d)) ≡ false
 name_new earlier rows up d h =
     named_new earlier up (codes "name") (get (codes "name") d)
-    (none_before _ (row_faults rows up d) (rows_none _ (required (codes "name") (name_once earlier) ∷ rows) up d (as_object d) h))
+    (none_before _ (row_faults rows up d) (rows_none _ (required_row (codes "name") (name_once earlier) ∷ rows) up d (as_object d) h))
 
 -- ---- devices
 

@@ -14,7 +14,7 @@ use Rattle.fx_elements.specs.Axes.{axis_width}
 use Rattle.fx_elements.specs.Values.{single, value_on, prefix_on, with_prefix}
 use Rattle.fx_elements.proofs.AxisTexts.{value_fits, prefix_fits}
 use Rattle.fx_elements.proofs.EveryAxis.{top_below}
-use Rattle.fx_layout.specs.Keys.{leading}
+use Rattle.fx_layout.specs.Keys.{leading_bits}
 use Rattle.fx_config.specs.declared.aggregation.Aggregation.{Aggregation}
 use Rattle.fx_config.specs.declared.collecting_process.CollectingProcess.{CollectingProcess}
 use Rattle.fx_config.specs.declared.property_match.PropertyMatch.{PropertyMatch}
@@ -66,7 +66,7 @@ meant_is_match PacketTotalCount text = (omega arith, omega arith)
 meant_is_match (PrefixLength axis) text = (omega arith, omega arith)
 meant_is_match Other text = (omega arith, omega arith)
 
-leading_below : (width bits value : ℕ) → bits ≤ width → value < 2 ^ width → leading width bits value < 2 ^ bits
+leading_below : (width bits value : ℕ) → bits ≤ width → value < 2 ^ width → leading_bits width bits value < 2 ^ bits
 leading_below width bits value le lt =
     let whole : 2 ^ width ≡ 2 ^ bits * 2 ^ (width - bits) = ap (λ n. 2 ^ n) (let e : width ≡ bits + (width - bits) = omega arith in e) ∙ pow-add 2 bits (width - bits) in
     (div-lt_iff_lt-mul {k = 2 ^ (width - bits)} {x = value} {y = 2 ^ bits} (pow_pos (width - bits))).1 (subst (λ n. value < n) whole lt)

@@ -17,14 +17,14 @@ use Rattle.fx_config.specs.declared.selector.Method.TheVariants.{SelectAll, Filt
 use Rattle.fx_config.specs.declared.selector.Selector.{Selector}
 use Rattle.fx_selectors.specs.Selection.{everything, narrowed_by, has_room, region_within, region_of}
 use Rattle.fx_tables.specs.declared.observation.Selection.{Selection}
-use Rattle.fx_tables.specs.Network.{Device, Holder}
+use Rattle.fx_tables.specs.Network.{DeviceEntry, Holder}
 use Rattle.fx_tables.specs.NamedAxes.{LayoutNamesOnly, RegionNamesOnly, PointNamesOnly, NamesOnly}
 use Rattle.fx_machine.proofs.AlikePackets.{all_head, all_tail}
 use Rattle.fx_machine.proofs.AlikeClaims.{all_nil}
 use Rattle.fx_plan.specs.Labels.{Label, cache_labels, collecting_labels, exporting_labels}
 use Rattle.fx_plan.specs.NamedByDocuments.{MethodNamesOnly, SelectorsNameOnly, AggregationsNameOnly, DeviceNamesOnly, DocumentNamesOnly}
 use Rattle.fx_plan.specs.Tables.{cache_holder, aggregation_holder, held_by, cache_holders, aggregation_holders, process_named, selection_of, point_of, table_of, net_of}
-use Rattle.fx_topology.specs.declared.network.Network.{Network}
+use Rattle.fx_topology.specs.declared.network.NetworkDocument.{NetworkDocument}
 use Rattle.fx_topology.specs.declared.network_device.NetworkDevice.{NetworkDevice}
 
 -- ---- all of a list
@@ -97,7 +97,7 @@ module _ (named : Axis → Bool) where
       All-map SelectionNamesOnly (selection_of caches x) point.selection_processes
       (all_any (λ (name : List ℕ). SelectionNamesOnly (selection_of caches x name)) (λ name. found_names x.config.selection_processes name only.selectors) point.selection_processes)
 
-  abbrev TableNamesOnly : Device → Type 0
+  abbrev TableNamesOnly : DeviceEntry → Type 0
   TableNamesOnly device = All (PointNamesOnly named) device.points
 
   table_names : (caches collecting : List Label) (x : NetworkDevice) → IsNamed x → TableNamesOnly (table_of caches collecting x)
@@ -135,7 +135,7 @@ module _ (named : Axis → Bool) where
 
   -- ---- the net
 
-  pub net_names : (network : Network) → DocumentNamesOnly named network → NamesOnly named (net_of network)
+  pub net_names : (network : NetworkDocument) → DocumentNamesOnly named network → NamesOnly named (net_of network)
   unfolding net_of
   net_names network only =
       let exporting = exporting_labels network.devices in

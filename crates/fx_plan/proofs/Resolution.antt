@@ -10,13 +10,13 @@ use Rattle.serde_json.specs.Data.{Data, null, Members}
 use Rattle.serde_json.specs.Find.{get, as_object}
 use Rattle.fx_elements.proofs.Cuts.{chosen}
 use Rattle.fx_walk.specs.Pointer.{below, nth}
-use Rattle.fx_walk.specs.Walk.{Found, Row, fault_if, row_faults, of_kind, others, faults_or_missing, member_of, is_listed, listed_in}
+use Rattle.fx_walk.specs.Walk.{FoundFault, Row, fault_if, row_faults, of_kind, others, faults_or_missing, member_of, is_listed, listed_in}
 use Rattle.fx_walk.specs.Lists.{by_length, is_among, items_in, items_of, list_faults}
 use Rattle.fx_config.specs.declared.collecting_process.CollectingProcess.{CollectingProcess}
 use Rattle.fx_config.specs.declared.ipfix.Device.{Device}
 use Rattle.fx_walk.proofs.Faults.{none_before, none_behind}
 use Rattle.fx_topology.specs.Limits.{link_limit}
-use Rattle.fx_topology.specs.declared.link.Link.{Link}
+use Rattle.fx_topology.specs.declared.link.NamedLink.{NamedLink}
 use Rattle.fx_topology.specs.declared.network_device.NetworkDevice.{NetworkDevice}
 use Rattle.fx_plan.specs.Labels.{Label, collecting_labels, exporting_labels, device_labels, is_label, place}
 use Rattle.fx_topology.specs.Links.{device_named, has_collecting_process, has_ends, has_destination, link_faults, link_of, link_rows, links_faults}
@@ -94,29 +94,29 @@ unless_fault : (b : Bool) (n : ℕ) (up : List ℕ) → fault_if (not b) n up �
 unless_fault true n up h = refl
 unless_fault false n up h = absurd cc
 
-in_length : (least most : ℕ) (up : List ℕ) (n : ℕ) (rest : List Found) → by_length 103 115 least most up n rest ≡ [] → rest ≡ []
+in_length : (least most : ℕ) (up : List ℕ) (n : ℕ) (rest : List FoundFault) → by_length 103 115 least most up n rest ≡ [] → rest ≡ []
 in_length least most up n rest h =
     elim (chosen (nat_lt most n) ((115, up) ∷ []) (cond (nat_lt n least) ((103, up) ∷ []) rest) [] h) [
       | inl w ↦ cc
       | inr w ↦ elim (chosen (nat_lt n least) ((103, up) ∷ []) rest [] w.1) [ inl v ↦ cc | inr v ↦ v.1 ]
     ]
 
-pub kind_none : (least most : ℕ) (faults : List ℕ → List Data → List Found) (up : List ℕ) (o : Option (List Data)) → of_kind o (λ ds. by_length 103 115 least most up (length ds) (faults up ds)) up ≡ [] → faults up (unwrap_or o []) ≡ []
+pub kind_none : (least most : ℕ) (faults : List ℕ → List Data → List FoundFault) (up : List ℕ) (o : Option (List Data)) → of_kind o (λ ds. by_length 103 115 least most up (length ds) (faults up ds)) up ≡ [] → faults up (unwrap_or o []) ≡ []
 kind_none least most faults up None h = cc
 kind_none least most faults up (Some ds) h = in_length least most up (length ds) (faults up ds) h
 
-pub list_none : (least most : ℕ) (faults : List ℕ → List Data → List Found) (up name : List ℕ) (o : Option Data) → faults_or_missing (list_faults least most faults) up name o ≡ [] → faults (below up name) (items_of (unwrap_or o null)) ≡ []
+pub list_none : (least most : ℕ) (faults : List ℕ → List Data → List FoundFault) (up name : List ℕ) (o : Option Data) → faults_or_missing (list_faults least most faults) up name o ≡ [] → faults (below up name) (items_of (unwrap_or o null)) ≡ []
 list_none least most faults up name None h = cc
 list_none least most faults up name (Some d) h = kind_none least most faults (below up name) (items_in d) h
 
 -- ---- links and the report
 
-link_ends : (devices : List NetworkDevice) (earlier : List Link) (up : List ℕ) (d : Data) → link_faults devices earlier up d ≡ [] → has_ends devices (link_of d) ≡ true
+link_ends : (devices : List NetworkDevice) (earlier : List NamedLink) (up : List ℕ) (d : Data) → link_faults devices earlier up d ≡ [] → has_ends devices (link_of d) ≡ true
 link_ends devices earlier up d h =
     let rows = rows_none (is_listed (listed_in (link_rows devices earlier))) (link_rows devices earlier) up d (as_object d) h in
     unless_fault (has_ends devices (link_of d)) 201 up (none_before (fault_if (not (has_ends devices (link_of d))) 201 up) (row_faults (drop 6 (link_rows devices earlier)) up d) (rows_behind 5 (link_rows devices earlier) up d rows))
 
-links_lead : (devices : List NetworkDevice) (earlier : List Link) (up : List ℕ) (i : ℕ) (ds : List Data) → links_faults devices earlier up i ds ≡ [] → (k p : ℕ) → slice_get (map (λ link. place (collecting_labels devices) link.to_device link.to_process) (map link_of ds)) k ≡ Some p → p < length (collecting_labels devices)
+links_lead : (devices : List NetworkDevice) (earlier : List NamedLink) (up : List ℕ) (i : ℕ) (ds : List Data) → links_faults devices earlier up i ds ≡ [] → (k p : ℕ) → slice_get (map (λ link. place (collecting_labels devices) link.to_device link.to_process) (map link_of ds)) k ≡ Some p → p < length (collecting_labels devices)
 links_lead devices earlier up i [] h k p e = cc
 links_lead devices earlier up i (d ∷ ds) h zero p e =
     let both = and_parts (has_destination (link_of d).exporting_process (link_of d).destination (device_named devices (link_of d).device)) (has_collecting_process (link_of d).to_process (device_named devices (link_of d).to_device)) (link_ends devices earlier (nth up i) d (none_before (link_faults devices earlier (nth up i) d) (links_faults devices (earlier ++ link_of d ∷ []) up (i + 1) ds) h)) in

@@ -23,8 +23,8 @@ use Rattle.fx_config.specs.declared.collecting_process.CollectingProcess.{Collec
 use Rattle.fx_config.specs.declared.destination.Destination.{Destination}
 use Rattle.fx_config.specs.declared.exporting_process.ExportingProcess.{ExportingProcess}
 use Rattle.fx_config.specs.declared.selection_process.SelectionProcess.{SelectionProcess}
-use Rattle.fx_topology.specs.declared.link.Link.{Link}
-use Rattle.fx_topology.specs.declared.network.Network.{Network}
+use Rattle.fx_topology.specs.declared.link.NamedLink.{NamedLink}
+use Rattle.fx_topology.specs.declared.network.NetworkDocument.{NetworkDocument}
 use Rattle.fx_topology.specs.declared.network_device.NetworkDevice.{NetworkDevice}
 use Rattle.fx_plan.specs.Labels.{Label, cache_labels, collecting_labels, device_labels, exporting_labels, place}
 use Rattle.fx_topology.specs.Links.{link_of, leads_from}
@@ -37,11 +37,11 @@ use Rattle.fx_plan.proofs.Resolution.{label_of, so_many_from}
 
 -- ---- destinations
 
-link_within : (links : List Link) (p : Link → Bool) (o : Option ℕ) → position p links ≡ o → IfSome o (λ link. link < length links)
+link_within : (links : List NamedLink) (p : NamedLink → Bool) (o : Option ℕ) → position p links ≡ o → IfSome o (λ link. link < length links)
 link_within links p None e = tt
 link_within links p (Some k) e = (position-Some p links k (link_of null) e).0
 
-has_destinations : (network : Network) (device : List ℕ) (process : ExportingProcess) → HasDestination process → HasDestinations (net_of network) (exporter_of network.links device process)
+has_destinations : (network : NetworkDocument) (device : List ℕ) (process : ExportingProcess) → HasDestination process → HasDestinations (net_of network) (exporter_of network.links device process)
 unfolding net_of
 has_destinations network device process some =
     let net = net_of network in
@@ -53,7 +53,7 @@ has_destinations network device process some =
       some = λ _. subst (λ n. 0 < n) (sym (length-map process.destinations leads)) some;
     }
 
-all_destinations : (network : Network) (devices : List NetworkDevice) → All (λ x. IsFaultless x.config) devices → All (HasDestinations (net_of network)) (exporters_of network.links devices)
+all_destinations : (network : NetworkDocument) (devices : List NetworkDevice) → All (λ x. IsFaultless x.config) devices → All (HasDestinations (net_of network)) (exporters_of network.links devices)
 all_destinations network [] faultless = All-nil _
 all_destinations network (x ∷ xs) faultless =
     All-append (HasDestinations (net_of network)) (map (exporter_of network.links x.name) x.config.exporting_processes) (exporters_of network.links xs)
@@ -62,7 +62,7 @@ all_destinations network (x ∷ xs) faultless =
 
 -- ---- devices, each behind others
 
-device_at : (network : Network) (front xs : List NetworkDevice) (x : NetworkDevice) → network.devices ≡ front ++ x ∷ xs → slice_get (net_of network).devices (length front) ≡ Some (table_of (cache_labels network.devices) (collecting_labels network.devices) x)
+device_at : (network : NetworkDocument) (front xs : List NetworkDevice) (x : NetworkDevice) → network.devices ≡ front ++ x ∷ xs → slice_get (net_of network).devices (length front) ≡ Some (table_of (cache_labels network.devices) (collecting_labels network.devices) x)
 unfolding net_of
 device_at network front xs x are =
     let table = table_of (cache_labels network.devices) (collecting_labels network.devices) in
@@ -78,7 +78,7 @@ so_many_caches exporting (x ∷ xs) =
     length-append (map label x.config.caches) (cache_labels xs)
     ∙ (rw (here, so_many_caches exporting xs) refl ∙ sym (length-append (map (cache_holder exporting x.name) x.config.caches) (cache_holders exporting xs)))
 
-cache_there : (network : Network) (front xs : List NetworkDevice) (x : NetworkDevice) → network.devices ≡ front ++ x ∷ xs → (name : List ℕ) → is_among (map (λ c. c.name) x.config.caches) name ≡ true → place (cache_labels network.devices) x.name name < length (net_of network).holders
+cache_there : (network : NetworkDocument) (front xs : List NetworkDevice) (x : NetworkDevice) → network.devices ≡ front ++ x ∷ xs → (name : List ℕ) → is_among (map (λ c. c.name) x.config.caches) name ≡ true → place (cache_labels network.devices) x.name name < length (net_of network).holders
 unfolding net_of
 cache_there network front xs x are name among =
     let exporting = exporting_labels network.devices in
@@ -86,7 +86,7 @@ cache_there network front xs x are name among =
     let long = length-append (cache_holders exporting network.devices) (aggregation_holders exporting network.devices) in
     omega (arith, low, long, so_many_caches exporting network.devices)
 
-cache_is_holder : (network : Network) (front xs : List NetworkDevice) (x : NetworkDevice) → network.devices ≡ front ++ x ∷ xs → (name : List ℕ) → IsKnown (map (λ c. c.name) x.config.caches) name → IsHolder (net_of network) (place (cache_labels network.devices) x.name name)
+cache_is_holder : (network : NetworkDocument) (front xs : List NetworkDevice) (x : NetworkDevice) → network.devices ≡ front ++ x ∷ xs → (name : List ℕ) → IsKnown (map (λ c. c.name) x.config.caches) name → IsHolder (net_of network) (place (cache_labels network.devices) x.name name)
 cache_is_holder network front xs x are name known =
     let labels = cache_labels network.devices in
     let named : List (List ℕ) = map (λ c. c.name) x.config.caches in
@@ -117,7 +117,7 @@ cache_has : (P : List ℕ → Type 0) (o : Option SelectionProcess) → IfSome o
 cache_has P None h = tt
 cache_has P (Some p) h = h
 
-has_caches : (network : Network) (front xs : List NetworkDevice) (x : NetworkDevice) → network.devices ≡ front ++ x ∷ xs → IsFaultless x.config → HasCaches (net_of network) (table_of (cache_labels network.devices) (collecting_labels network.devices) x)
+has_caches : (network : NetworkDocument) (front xs : List NetworkDevice) (x : NetworkDevice) → network.devices ≡ front ++ x ∷ xs → IsFaultless x.config → HasCaches (net_of network) (table_of (cache_labels network.devices) (collecting_labels network.devices) x)
 has_caches network front xs x are faultless =
     let net = net_of network in
     let caches = cache_labels network.devices in
@@ -128,7 +128,7 @@ has_caches network front xs x are faultless =
     All-map (λ (p : machine.Point). All (λ s. IfSome s.holder (IsHolder net)) p.selections) (point_of caches x) x.config.observation_points (λ k d low.
     All-map (λ s. IfSome s.holder (IsHolder net)) (selection_of caches x) (get_or x.config.observation_points k d).selection_processes (λ j name _. has (get_or (get_or x.config.observation_points k d).selection_processes j name)))
 
-all_caches : (network : Network) (front rest : List NetworkDevice) → network.devices ≡ front ++ rest → All (λ x. IsFaultless x.config) rest → All (HasCaches (net_of network)) (map (table_of (cache_labels network.devices) (collecting_labels network.devices)) rest)
+all_caches : (network : NetworkDocument) (front rest : List NetworkDevice) → network.devices ≡ front ++ rest → All (λ x. IsFaultless x.config) rest → All (HasCaches (net_of network)) (map (table_of (cache_labels network.devices) (collecting_labels network.devices)) rest)
 all_caches network front [] are faultless = All-nil _
 all_caches network front (x ∷ xs) are faultless =
     All-cons (HasCaches (net_of network)) (table_of (cache_labels network.devices) (collecting_labels network.devices) x) (map (table_of (cache_labels network.devices) (collecting_labels network.devices)) xs)
@@ -141,12 +141,12 @@ so_many_aggregations : (holder : ℕ) (aggregations : List Aggregation) → leng
 so_many_aggregations holder [] = refl
 so_many_aggregations holder (a ∷ rest) = ap suc (so_many_aggregations (holder + 1) rest)
 
-held_from : (holder : ℕ) (aggregations : List Aggregation) (k : ℕ) (d : machine.Aggregation) → k < length (aggregations_from holder aggregations) → (get_or (aggregations_from holder aggregations) k d).holder ≡ holder + k
+held_from : (holder : ℕ) (aggregations : List Aggregation) (k : ℕ) (d : machine.AggregationEntry) → k < length (aggregations_from holder aggregations) → (get_or (aggregations_from holder aggregations) k d).holder ≡ holder + k
 held_from holder [] k d low = absurd (omega arith)
 held_from holder (a ∷ rest) zero d low = omega arith
 held_from holder (a ∷ rest) (suc k) d low = held_from (holder + 1) rest k d (omega arith) ∙ omega arith
 
-has_aggregations : (network : Network) (front xs : List NetworkDevice) (x : NetworkDevice) (early late : List CollectingProcess) (p : CollectingProcess) (done after : List machine.Process) (holder : ℕ)
+has_aggregations : (network : NetworkDocument) (front xs : List NetworkDevice) (x : NetworkDevice) (early late : List CollectingProcess) (p : CollectingProcess) (done after : List machine.Process) (holder : ℕ)
     → network.devices ≡ front ++ x ∷ xs → x.config.collecting_processes ≡ early ++ p ∷ late → is_among (map (λ x. x.name) front) x.name ≡ false → is_among (map (λ p. p.name) early) p.name ≡ false
     → (net_of network).processes ≡ done ++ process_from (exporting_labels network.devices) x.name holder p ∷ after → length done ≡ length (collecting_labels front) + length early → holder + length p.aggregations ≤ length (net_of network).holders
     → HasAggregations (net_of network) (process_from (exporting_labels network.devices) x.name holder p)
@@ -169,7 +169,7 @@ has_aggregations network front xs x early late p done after holder are processes
       there = omega (arith, held, low, fits, so_many_aggregations holder p.aggregations);
     }
 
-processes_have : (network : Network) (front xs : List NetworkDevice) (x : NetworkDevice) (early late : List CollectingProcess) (done after : List machine.Process) (holder : ℕ)
+processes_have : (network : NetworkDocument) (front xs : List NetworkDevice) (x : NetworkDevice) (early late : List CollectingProcess) (done after : List machine.Process) (holder : ℕ)
     → network.devices ≡ front ++ x ∷ xs → x.config.collecting_processes ≡ early ++ late → is_among (map (λ x. x.name) front) x.name ≡ false → AllNew (map (λ p. p.name) early) (map (λ p. p.name) late)
     → (net_of network).processes ≡ done ++ (processes_from (exporting_labels network.devices) x.name holder late ++ after) → length done ≡ length (collecting_labels front) + length early → holder + length (held_by (exporting_labels network.devices) x.name late) ≤ length (net_of network).holders
     → All (HasAggregations (net_of network)) (processes_from (exporting_labels network.devices) x.name holder late)
@@ -189,7 +189,7 @@ processes_have network front xs x early (p ∷ ps) done after holder are process
     (omega (arith, long, length-append done (this ∷ []), length-append early (p ∷ [])))
     (omega (arith, held, fits)))
 
-all_aggregations : (network : Network) (front rest : List NetworkDevice) (done : List machine.Process) (holder : ℕ)
+all_aggregations : (network : NetworkDocument) (front rest : List NetworkDevice) (done : List machine.Process) (holder : ℕ)
     → network.devices ≡ front ++ rest → AllNew (map (λ x. x.name) front) (map (λ x. x.name) rest) → All (λ x. IsFaultless x.config) rest
     → (net_of network).processes ≡ done ++ processes_in (exporting_labels network.devices) holder rest → length done ≡ length (collecting_labels front) → holder + length (aggregation_holders (exporting_labels network.devices) rest) ≤ length (net_of network).holders
     → All (HasAggregations (net_of network)) (processes_in (exporting_labels network.devices) holder rest)

@@ -4,7 +4,7 @@ use Rattle.std.specs.List.{list_all, list_any, range_with_len}
 use Rattle.std.proofs.lemmas.Bool.{cases_Bool, or_cases, both_ways, not-true, not_from_false}
 use Rattle.std.proofs.lemmas.List.Folds.{list_all-map, Any-from_list_any}
 use Rattle.std.proofs.lemmas.List.FromFn.{length-map-range_with_len, get_or-map-range_with_len}
-use Rattle.fx_tables.specs.Network.{Net, Exporter, Process, Aggregation, at_places, exporters_of}
+use Rattle.fx_tables.specs.Network.{Net, Exporter, Process, AggregationEntry, at_places, exporters_of}
 use Rattle.fx_tables.specs.Ranks.{RisesTo, Rises, AllRise, ProcessRises, IsRanked}
 use Rattle.fx_ranks.specs.Feeding.{feeds, feeds_by, is_place, lead_to, leads_to, places_of}
 use Rattle.fx_plan.specs.Plans.{IsResolved}
@@ -80,8 +80,8 @@ process_rises_along net rank from q (Some process) h e =
     elim (or_cases (lead_to net q (at_places net.exporters process.exporters)) (list_any (λ a. lead_to net q (exporters_of net (slice_get net.holders a.holder))) process.aggregations) e) [
       | inl f ↦ all_rise_along net rank from q (at_places net.exporters process.exporters) h.0 f
       | inr f ↦
-          (let some = Any-from_list_any (λ (a : Aggregation). lead_to net q (exporters_of net (slice_get net.holders a.holder))) process.aggregations f in
-          let here : AllRise rank net from (exporters_of net (slice_get net.holders some.1.holder)) = subst (λ (a : Aggregation). AllRise rank net from (exporters_of net (slice_get net.holders a.holder))) some.3 (h.1 some.0 some.1 some.2) in
+          (let some = Any-from_list_any (λ (a : AggregationEntry). lead_to net q (exporters_of net (slice_get net.holders a.holder))) process.aggregations f in
+          let here : AllRise rank net from (exporters_of net (slice_get net.holders some.1.holder)) = subst (λ (a : AggregationEntry). AllRise rank net from (exporters_of net (slice_get net.holders a.holder))) some.3 (h.1 some.0 some.1 some.2) in
           all_rise_along net rank from q (exporters_of net (slice_get net.holders some.1.holder)) here some.4)
     ]
 

@@ -13,8 +13,8 @@ use Rattle.fx_config.specs.declared.exporting_process.ExportMode.TheVariants.{Pa
 use Rattle.fx_config.specs.declared.observation_point.Direction.TheVariants.{Ingress}
 use Rattle.fx_config.specs.declared.property_match.PropertyMatch.{PropertyMatch}
 use Rattle.fx_config.specs.declared.selector.Method.TheVariants.{FilterMatch}
-use Rattle.fx_topology.specs.declared.link.Link.{Link}
-use Rattle.fx_topology.specs.declared.network.Network.{Network}
+use Rattle.fx_topology.specs.declared.link.NamedLink.{NamedLink}
+use Rattle.fx_topology.specs.declared.network.NetworkDocument.{NetworkDocument}
 use Rattle.fx_topology.specs.declared.network_device.NetworkDevice.{NetworkDevice}
 use Rattle.fx_plan.specs.Cycles.{stuck_text}
 use Rattle.fx_ranks.specs.Feeding.{feeds}
@@ -79,10 +79,10 @@ host = record {
 }
 
 -- from a device's exporting process to the collecting process of this name on another
-abbrev link : List ℕ → List ℕ → List ℕ → Link
+abbrev link : List ℕ → List ℕ → List ℕ → NamedLink
 link device process to_device = record { device = device; exporting_process = process; destination = codes "first"; to_device = to_device; to_process = codes "collect" }
 
-abbrev network : Network
+abbrev network : NetworkDocument
 network = record {
   devices = router ∷ mediator ∷ host ∷ [];
   links = link (codes "mediator") (codes "other") (codes "host") ∷ link (codes "router") (codes "export") (codes "mediator") ∷ link (codes "mediator") (codes "export") (codes "host") ∷ [];
@@ -138,7 +138,7 @@ collector name = record {
   };
 }
 
-abbrev circle : Network
+abbrev circle : NetworkDocument
 circle = record {
   devices = collector (codes "a") ∷ collector (codes "b") ∷ collector (codes "c") ∷ [];
   links = link (codes "a") (codes "export") (codes "b") ∷ link (codes "b") (codes "export") (codes "c") ∷ link (codes "c") (codes "export") (codes "a") ∷ [];

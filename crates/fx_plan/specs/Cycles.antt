@@ -32,8 +32,8 @@ numbers_text (n ∷ ns) = number_text n ++ flat_map (λ m. 32 ∷ number_text m)
 abbrev pub stuck_text : List NetworkDevice → List ℕ → List ℕ
 stuck_text devices stuck = numbers_text (at_places (process_numbers devices) stuck)
 
-abbrev pub IsText : Place → List ℕ → Type 0
-IsText (places.Text s) text = string_bytes s ≡ text
-IsText places.None text = ⊥
-IsText (places.Line n) text = ⊥
-IsText (places.Octet n) text = ⊥
+abbrev pub IsTextPlace : Place → List ℕ → Type 0
+IsTextPlace (places.Text s) text = string_bytes s ≡ text
+IsTextPlace places.None text = ⊥
+IsTextPlace (places.Line n) text = ⊥
+IsTextPlace (places.Octet n) text = ⊥

@@ -1,8 +1,8 @@
 -- Where an exporting process that is named by numbers stands in the table of exporting processes.
 use Rattle.std.specs.Prelude.{ℕ, List, Option, Some, None}
 use Rattle.fx_config.specs.declared.exporting_process.ExportingProcess.{ExportingProcess}
-use Rattle.fx_base.specs.Entries.{numbered}
-use Rattle.fx_topology.specs.declared.network.Network.{Network}
+use Rattle.fx_base.specs.Entries.{entry_numbered}
+use Rattle.fx_topology.specs.declared.network.NetworkDocument.{NetworkDocument}
 use Rattle.fx_topology.specs.declared.network_device.NetworkDevice.{NetworkDevice}
 use Rattle.fx_plan.specs.Labels.{exporting_labels, place}
 
@@ -13,8 +13,8 @@ place_of_process devices device (Some process) = Some (place (exporting_labels d
 
 abbrev pub place_on_device : List NetworkDevice → Option NetworkDevice → ℕ → Option ℕ
 place_on_device devices None exporter = None
-place_on_device devices (Some device) exporter = place_of_process devices device (numbered device.config.exporting_processes exporter)
+place_on_device devices (Some device) exporter = place_of_process devices device (entry_numbered device.config.exporting_processes exporter)
 
 -- the exporting process of this number of the device of this number, from 1 in document order
-abbrev pub exporter_place : Network → ℕ → ℕ → Option ℕ
-exporter_place network device exporter = place_on_device network.devices (numbered network.devices device) exporter
+abbrev pub exporter_place : NetworkDocument → ℕ → ℕ → Option ℕ
+exporter_place network device exporter = place_on_device network.devices (entry_numbered network.devices device) exporter

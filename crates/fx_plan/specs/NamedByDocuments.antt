@@ -11,7 +11,7 @@ use Rattle.fx_config.specs.declared.selector.Method.TheVariants.{SelectAll, Filt
 use Rattle.fx_config.specs.declared.selector.Selector.{Selector}
 use Rattle.fx_tables.specs.NamedAxes.{LayoutNamesOnly}
 use Rattle.fx_plan.specs.Tables.{report_layout_of}
-use Rattle.fx_topology.specs.declared.network.Network.{Network}
+use Rattle.fx_topology.specs.declared.network.NetworkDocument.{NetworkDocument}
 use Rattle.fx_topology.specs.declared.network_device.NetworkDevice.{NetworkDevice}
 
 -- a filter is on a named axis
@@ -32,6 +32,6 @@ pub record DeviceNamesOnly (named : Axis → Bool) (device : Device) : Type 0 wh
   pub aggregations : All (AggregationsNameOnly named) device.collecting_processes
 
 -- so are those of all devices, and the report's key
-pub record DocumentNamesOnly (named : Axis → Bool) (network : Network) : Type 0 where
+pub record DocumentNamesOnly (named : Axis → Bool) (network : NetworkDocument) : Type 0 where
   pub devices : All (λ (x : NetworkDevice). DeviceNamesOnly named x.config) network.devices
   pub report : LayoutNamesOnly named (report_layout_of network)

@@ -11,8 +11,8 @@ use Rattle.fx_tables.specs.Network.{Net, layout_of}
 use Rattle.fx_tables.specs.Matches.{AreEntries}
 use Rattle.fx_tables.specs.Ranks.{IsRanked}
 use Rattle.fx_tables.specs.Runnable.{IsRunnable}
-use Rattle.fx_topology.specs.declared.network.Network.{Network}
-use Rattle.fx_plan.specs.Cycles.{IsText, stuck_text}
+use Rattle.fx_topology.specs.declared.network.NetworkDocument.{NetworkDocument}
+use Rattle.fx_plan.specs.Cycles.{IsTextPlace, stuck_text}
 use Rattle.fx_plan.specs.Layouts.{AreNumbers, layouts_of}
 use Rattle.fx_topology.specs.Networks.{network_faults, network_of}
 use Rattle.fx_ranks.specs.Ranks.{AreStuck, IsStuck, IsWhole, LinksLead}
@@ -29,30 +29,30 @@ abbrev pub HasTooManyLayouts : Net → Type 0
 HasTooManyLayouts net = layout_limit < length (layouts_of net)
 
 -- some processes are stuck, so there are no ranks, and the fault tells them all
-pub record IsCycle (network : Network) (e : Fault) : Type 0 where
+pub record IsCycle (network : NetworkDocument) (e : Fault) : Type 0 where
   pub stuck : List ℕ
   pub are_stuck : AreStuck (net_of network) stuck
   pub one : (process : ℕ) × (process < length (net_of network).processes) × IsStuck (net_of network) process
   pub unranked : IsRanked (net_of network) → ⊥
   pub number : e.number ≡ 204
-  pub text : IsText e.place (stuck_text network.devices stuck)
+  pub text : IsTextPlace e.place (stuck_text network.devices stuck)
 
 -- the refusals of a network whose document has no other fault, in this order
-abbrev pub RefusesNetwork : Network → Fault → Type 0
+abbrev pub RefusesNetwork : NetworkDocument → Fault → Type 0
 RefusesNetwork network e =
     ((e ≡ fault_at 207 places.None) × HasTooManyLayouts (net_of network))
     ⊎ ((length (layouts_of (net_of network)) ≤ layout_limit) × IsCycle network e)
 
 -- what reading a plan comes to: the network that the document means, if it has no fault at all, and else its first
 -- fault; or want of memory
-abbrev pub ReadsPlan : Data → Result Network Fault → Type 0
+abbrev pub ReadsPlan : Data → Result NetworkDocument Fault → Type 0
 ReadsPlan d (Ok network) =
     (network_faults [] d ≡ []) × (network ≡ network_of d) × (length (layouts_of (net_of network)) ≤ layout_limit) × ((process : ℕ) → IsStuck (net_of network) process → ⊥)
 ReadsPlan d (Err e) = Refuses e (network_faults [] d) ⊎ ((network_faults [] d ≡ []) × RefusesNetwork (network_of d) e)
 
 -- ---- what it keeps
 
-pub record IsPlan (network : Network) (net : Net) (ranked order : List ℕ) (layouts : List Layout) (numbers : List ℕ) : Type 0 where
+pub record IsPlan (network : NetworkDocument) (net : Net) (ranked order : List ℕ) (layouts : List Layout) (numbers : List ℕ) : Type 0 where
   pub net_is : net ≡ net_of network
   pub report : net.report < length net.processes
   pub whole : IsWhole net ranked

@@ -4,7 +4,7 @@ use Rattle.std.specs.List.{flat_map, position}
 use Rattle.std.specs.Option.{unwrap_or}
 use Rattle.std.specs.Str.{bytes_eq}
 use Rattle.fx_elements.specs.Axes.{axis_width}
-use Rattle.fx_layout.specs.Keys.{Layout, leading}
+use Rattle.fx_layout.specs.Keys.{Layout, leading_bits}
 use Rattle.fx_tables.specs.Network as machine
 use Rattle.fx_tables.specs.declared.aggregation.MatchEntry.{MatchEntry}
 use Rattle.fx_tables.specs.declared.observation.Selection.{Selection}
@@ -20,8 +20,8 @@ use Rattle.fx_config.specs.declared.collecting_process.CollectingProcess.{Collec
 use Rattle.fx_config.specs.declared.aggregation.Aggregation.{Aggregation}
 use Rattle.fx_config.specs.declared.property_match.PropertyMatch.{PropertyMatch}
 use Rattle.fx_selectors.specs.Selection.{region_of}
-use Rattle.fx_topology.specs.declared.link.Link.{Link}
-use Rattle.fx_topology.specs.declared.network.Network.{Network}
+use Rattle.fx_topology.specs.declared.link.NamedLink.{NamedLink}
+use Rattle.fx_topology.specs.declared.network.NetworkDocument.{NetworkDocument}
 use Rattle.fx_topology.specs.declared.network_device.NetworkDevice.{NetworkDevice}
 use Rattle.fx_plan.specs.Labels.{Label, exporting_labels, cache_labels, collecting_labels, place}
 use Rattle.fx_topology.specs.Links.{leads_from}
@@ -35,13 +35,13 @@ is_parallel Parallel = true
 is_parallel LoadBalancing = false
 is_parallel Fallback = false
 
-abbrev pub exporter_of : List Link → List ℕ → ExportingProcess → machine.Exporter
+abbrev pub exporter_of : List NamedLink → List ℕ → ExportingProcess → machine.Exporter
 exporter_of links device process = record {
   parallel = is_parallel process.mode;
   destinations = map (λ d. position (leads_from device process.name d.name) links) process.destinations;
 }
 
-abbrev pub exporters_of : List Link → List NetworkDevice → List machine.Exporter
+abbrev pub exporters_of : List NamedLink → List NetworkDevice → List machine.Exporter
 exporters_of links devices = flat_map (λ x. map (exporter_of links x.name) x.config.exporting_processes) devices
 
 -- ---- what holds records: all caches, then all aggregations, with the places of the exporting processes that they name
@@ -72,10 +72,10 @@ holders_of devices = cache_holders (exporting_labels devices) devices ++ aggrega
 
 -- the leading bits that a match fixes
 abbrev pub match_entry : PropertyMatch → MatchEntry
-match_entry m = record { axis = m.axis; bits = m.range.bits; value = leading (axis_width m.axis) m.range.bits m.range.low }
+match_entry m = record { axis = m.axis; bits = m.range.bits; value = leading_bits (axis_width m.axis) m.range.bits m.range.low }
 
 -- aggregations whose records are held from this place on
-abbrev pub aggregations_from : ℕ → List Aggregation → List machine.Aggregation
+abbrev pub aggregations_from : ℕ → List Aggregation → List machine.AggregationEntry
 aggregations_from holder [] = []
 aggregations_from holder (a ∷ rest) = record { holder = holder; matches = map match_entry a.matches } ∷ aggregations_from (holder + 1) rest
 
@@ -131,7 +131,7 @@ point_of caches x point = record {
   selections = map (selection_of caches x) point.selection_processes;
 }
 
-abbrev pub table_of : List Label → List Label → NetworkDevice → machine.Device
+abbrev pub table_of : List Label → List Label → NetworkDevice → machine.DeviceEntry
 table_of caches collecting x = record {
   points = map (point_of caches x) x.config.observation_points;
   caches = map (λ c. place caches x.name c.name) x.config.caches;
@@ -140,10 +140,10 @@ table_of caches collecting x = record {
 
 -- ---- the network
 
-abbrev pub report_layout_of : Network → Layout
+abbrev pub report_layout_of : NetworkDocument → Layout
 report_layout_of network = unwrap_or (key_layout network.report.key) []
 
-unfoldable pub net_of : Network → machine.Net
+unfoldable pub net_of : NetworkDocument → machine.Net
 net_of network =
     let collecting = collecting_labels network.devices in
     record {

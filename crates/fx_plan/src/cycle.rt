@@ -124,7 +124,7 @@ fn cycle_text(alloc: Global, devices: &[NetworkDevice], come: &[bool]) -> Result
 /// text.
 pub fn cycle(alloc: Global, devices: &[NetworkDevice], come: &[bool]) -> Fault
     ensures { (result ≡ fault_at 900 places.None)
-        ⊎ ((result.number ≡ 204) × cycles.IsText result.place
+        ⊎ ((result.number ≡ 204) × cycles.IsTextPlace result.place
         (cycles.stuck_text devices.now (filter (λ place. not (slice_index_or come.now place false))
         (range_with_len 0 (length come.now))))) }
 {

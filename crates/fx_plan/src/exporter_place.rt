@@ -4,7 +4,7 @@ ghost use Rattle.fx_plan.specs.ExporterPlaces.{exporter_place};
 
 use crate::labels::{labels_of, place};
 use crate::plan::Plan;
-use fx_base::numbered;
+use fx_base::entry_numbered;
 use fx_config::ExportingProcess;
 use std::alloc::{AllocError, Global};
 
@@ -20,11 +20,11 @@ impl Plan {
         ensures { IfOk result (λ place. place ≡ exporter_place self.now device exporter) }
     {
         let devices = self.network().devices.as_slice();
-        let Some(named) = numbered(devices, device) else {
+        let Some(named) = entry_numbered(devices, device) else {
             return Ok(None);
         };
         let processes = named.config.exporting_processes.as_slice();
-        let Some(process) = numbered(processes, exporter) else {
+        let Some(process) = entry_numbered(processes, exporter) else {
             return Ok(None);
         };
         let labels = labels_of::<ExportingProcess>(alloc, devices)?;

@@ -7,13 +7,13 @@ ghost use Rattle.fx_topology.specs.Links.{leads_from};
 use fx_base::Name;
 use fx_config::{Destination, ExportMode, ExportingProcess};
 use fx_tables::Exporter;
-use fx_topology::{Links, NetworkDevice};
+use fx_topology::{LinkTable, NetworkDevice};
 use std::alloc::{AllocError, Global};
 
 /// The place of the link of each destination of an exporting process, if it has one.
 fn link_places(
     alloc: Global,
-    links: &Links,
+    links: &LinkTable,
     device: &Name,
     process: &Name,
     destinations: &[Destination],
@@ -41,7 +41,7 @@ fn is_parallel(mode: ExportMode) -> bool
 
 fn exporter_of(
     alloc: Global,
-    links: &Links,
+    links: &LinkTable,
     device: &Name,
     process: &ExportingProcess,
 ) -> Result<Exporter, AllocError>
@@ -56,7 +56,7 @@ fn exporter_of(
 fn push_exporters(
     alloc: Global,
     exporters: &mut Vec<Exporter>,
-    links: &Links,
+    links: &LinkTable,
     device: &Name,
     processes: &[ExportingProcess],
 ) -> Result<(), AllocError>
@@ -73,7 +73,7 @@ fn push_exporters(
 /// The exporting processes of all devices, in document order.
 pub fn exporters_of(
     alloc: Global,
-    links: &Links,
+    links: &LinkTable,
     devices: &[NetworkDevice],
 ) -> Result<Vec<Exporter>, AllocError>
     ensures { IfOk result (λ v. v.items ≡ tables.exporters_of links.now devices.now) }

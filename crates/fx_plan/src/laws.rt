@@ -9,7 +9,7 @@ ghost use Rattle.fx_tables.specs.NamedAxes as axes;
 ghost use Rattle.fx_tables.specs.declared.packet.Packet as of_packet;
 ghost use Rattle.fx_plan.specs.NamedByDocuments.{DocumentNamesOnly};
 ghost use Rattle.fx_plan.specs.Tables as tables;
-ghost use Rattle.fx_topology.specs.declared.network.Network as documents;
+ghost use Rattle.fx_topology.specs.declared.network.NetworkDocument as documents;
 
 use crate::plan::Plan;
 use fx_machine::complete_runs_exist;
@@ -28,14 +28,14 @@ pub fn plans_have_complete_runs(plan: &Plan)
 /// network that names only these. So where it and its classes name none of IPv6, what is promised of packets with
 /// values on the six other axes alone is promised of all.
 pub fn documents_name_axes()
-    ensures names { (named : Axis → Bool) (network : documents.Network)
+    ensures names { (named : Axis → Bool) (network : documents.NetworkDocument)
         → DocumentNamesOnly named network → axes.NamesOnly named (tables.net_of network) }
-    ensures once { (network : documents.Network) (classes : List traffic.Class)
+    ensures once { (network : documents.NetworkDocument) (classes : List traffic.Class)
         → DocumentNamesOnly axes.is_of_six network
         → axes.ClassesNameOnly axes.is_of_six classes
         → (ExactlyOnceOf axes.HasSixValues (tables.net_of network) classes
         ↔ ExactlyOnce (tables.net_of network) classes) }
-    ensures modulo { (network : documents.Network) (classes : List traffic.Class)
+    ensures modulo { (network : documents.NetworkDocument) (classes : List traffic.Class)
         → DocumentNamesOnly axes.is_of_six network
         → axes.ClassesNameOnly axes.is_of_six classes
         → (OnceModuloOf axes.HasSixValues (tables.net_of network) classes

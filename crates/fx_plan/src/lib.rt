@@ -15,6 +15,6 @@ mod points;
 mod processes;
 mod ranks;
 
-pub use fx_topology::{Link, Links, Network, NetworkDevice, Report, read_network};
+pub use fx_topology::{NamedLink, LinkTable, NetworkDocument, NetworkDevice, Report, read_network};
 pub use laws::{documents_name_axes, plans_have_complete_runs};
 pub use plan::{Plan, read_plan};

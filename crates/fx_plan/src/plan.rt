@@ -19,16 +19,16 @@ use crate::layouts::{Numbering, numbering_of};
 use crate::points::tables_of;
 use crate::processes::{link_ends, processes_in};
 use crate::ranks::{Ranks, ranks_of};
-use fx_base::{Fault, numbered};
+use fx_base::{Fault, entry_numbered};
 use fx_config::{Cache, CollectingProcess, Device, ExportingProcess};
 use fx_layout::Layout;
 use fx_tables::Net;
-use fx_topology::{Network, read_network};
+use fx_topology::{NetworkDocument, read_network};
 use serde_json::Value;
 use std::alloc::{AllocError, Global};
 use std::marker::Model;
 
-fn report_layout_of(network: &Network) -> Layout
+fn report_layout_of(network: &NetworkDocument) -> Layout
     ensures { result ≡ tables.report_layout_of network.now }
 {
     match network.report.layout() {
@@ -38,7 +38,7 @@ fn report_layout_of(network: &Network) -> Layout
 }
 
 /// The network that a document means.
-fn net_of(alloc: Global, network: &Network) -> Result<Net, AllocError>
+fn net_of(alloc: Global, network: &NetworkDocument) -> Result<Net, AllocError>
     ensures { IfOk result (λ net. net ≡ tables.net_of network.now) }
 {
     let devices = network.devices.as_slice();
@@ -75,7 +75,7 @@ pub struct Plan {
 /// What a plan is made of: behind a box, so that a function that holds a plan lets it go by one call.
 #[derive(Debug, Drop)]
 struct Parts {
-    network: Network,
+    network: NetworkDocument,
     net: Net,
     ranks: Ranks,
     numbering: Numbering,
@@ -83,9 +83,9 @@ struct Parts {
 
 impl Model for Plan {
     ghost use Rattle.fx_plan.specs.Plans.{IsPlan};
-    ghost use Rattle.fx_topology.specs.declared.network.Network as of_network;
+    ghost use Rattle.fx_topology.specs.declared.network.NetworkDocument as of_network;
 
-    ghost Value = { of_network.Network };
+    ghost Value = { of_network.NetworkDocument };
 
     ghost view = { λ p. p.parts.value.network };
 
@@ -107,7 +107,7 @@ impl Plan {
     }
 
     /// What the document says.
-    pub fn network(&self) -> &Network
+    pub fn network(&self) -> &NetworkDocument
         ensures { result.now ≡ self.now }
     {
         &self.parts.network
@@ -118,13 +118,13 @@ impl Plan {
     pub fn device(&self, number: u64) -> Option<&Device>
         ensures { now_of result ≡ device_numbered self.now number }
     {
-        let device = numbered(self.parts.network.devices.as_slice(), number)?;
+        let device = entry_numbered(self.parts.network.devices.as_slice(), number)?;
         Some(&device.config)
     }
 
     /// The places of all collecting processes in the order of ranks: each time the first in document order whose
     /// feeders have all come.
-    pub fn ranked(&self) -> &[usize]
+    pub fn upwards(&self) -> &[usize]
         ensures order { IsRankOrder (tables.net_of self.now) result.now }
         ensures whole { IsWhole (tables.net_of self.now) result.now }
     {
@@ -140,7 +140,7 @@ impl Plan {
     }
 
     /// The places of all collecting processes, each behind all of higher rank.
-    pub fn order(&self) -> &[usize]
+    pub fn downwards(&self) -> &[usize]
         ensures { IsDescending (tables.net_of self.now) result.now }
     {
         self.parts.ranks.order.as_slice()
@@ -165,9 +165,9 @@ impl Plan {
 }
 
 /// A plan of these parts.
-fn planned(
+fn plan_of_parts(
     alloc: Global,
-    network: Network,
+    network: NetworkDocument,
     net: Net,
     ranks: Ranks,
     numbering: Numbering,
@@ -207,6 +207,6 @@ pub fn read_plan(alloc: Global, value: &Value) -> Result<Plan, Fault>
     let net = net_of(alloc, &network)?;
     let numbering = numbering_of(alloc, &net)?;
     let ranks = ranks_of(alloc, &network, &net)?;
-    let plan = planned(alloc, network, net, ranks, numbering)?;
+    let plan = plan_of_parts(alloc, network, net, ranks, numbering)?;
     Ok(plan)
 }

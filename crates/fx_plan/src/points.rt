@@ -9,7 +9,7 @@ use fx_base::Name;
 use fx_boxes::Region;
 use fx_config::{Direction, ObservationPoint, SelectionProcess};
 use fx_selectors::region_of;
-use fx_tables::{Device, Point, Selection};
+use fx_tables::{DeviceEntry, Point, Selection};
 use fx_topology::NetworkDevice;
 use std::alloc::{AllocError, Global};
 
@@ -139,7 +139,7 @@ fn table_of(
     caches: &Labels<'_>,
     collecting: &Labels<'_>,
     device: &NetworkDevice,
-) -> Result<Device, AllocError>
+) -> Result<DeviceEntry, AllocError>
     ensures { IfOk result (λ t. t ≡ tables.table_of caches.now collecting.now device.now) }
 {
     let points = points_of(
@@ -155,7 +155,7 @@ fn table_of(
         &device.name,
         device.config.collecting_processes.as_slice(),
     )?;
-    Ok(Device::new(points, held, received))
+    Ok(DeviceEntry::new(points, held, received))
 }
 
 /// The tables of all devices, in document order.
@@ -164,7 +164,7 @@ pub fn tables_of(
     caches: &Labels<'_>,
     collecting: &Labels<'_>,
     devices: &[NetworkDevice],
-) -> Result<Vec<Device>, AllocError>
+) -> Result<Vec<DeviceEntry>, AllocError>
     ensures { IfOk result (λ v. v.items ≡ map (tables.table_of caches.now collecting.now)
         devices.now) }
 {

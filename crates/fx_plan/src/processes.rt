@@ -8,9 +8,9 @@ use crate::labels::{Labels, place, places};
 use fx_base::Name;
 use fx_config::{Aggregation, CollectingProcess, PropertyMatch};
 use fx_elements::width;
-use fx_layout::leading;
+use fx_layout::leading_bits;
 use fx_tables::{Holder, MatchEntry, Process};
-use fx_topology::{Link, NetworkDevice};
+use fx_topology::{NamedLink, NetworkDevice};
 use std::alloc::{AllocError, Global};
 
 /// The leading bits that a match fixes.
@@ -22,7 +22,7 @@ fn match_entry(fixed: &PropertyMatch) -> MatchEntry
     MatchEntry {
         axis,
         bits,
-        value: leading(width(axis), bits, fixed.range.low),
+        value: leading_bits(width(axis), bits, fixed.range.low),
     }
 }
 
@@ -43,7 +43,7 @@ fn push_aggregations(
     exporting: &Labels<'_>,
     device: &Name,
     aggregations: &[Aggregation],
-) -> Result<Vec<fx_tables::Aggregation>, AllocError>
+) -> Result<Vec<fx_tables::AggregationEntry>, AllocError>
     ensures held { OnOk result (holders.new.items
         ≡ holders.old.items ++ map (tables.aggregation_holder exporting.now device.now)
         aggregations.now) }
@@ -53,7 +53,7 @@ fn push_aggregations(
     let mut taken = Vec::new(alloc);
     for aggregation in aggregations {
         let matches = match_entries(alloc, aggregation.matches.as_slice())?;
-        taken.push(fx_tables::Aggregation::new(holders.len(), matches))?;
+        taken.push(fx_tables::AggregationEntry::new(holders.len(), matches))?;
         let names = aggregation.exporting_processes.as_slice();
         holders.push(holder_with(alloc, exporting, device, &aggregation.key, names)?)?;
     }
@@ -134,7 +134,7 @@ pub fn processes_in(
 pub fn link_ends(
     alloc: Global,
     collecting: &Labels<'_>,
-    links: &[Link],
+    links: &[NamedLink],
 ) -> Result<Vec<usize>, AllocError>
     ensures { IfOk result (λ v. v.items ≡ map
         (λ link. naming.place collecting.now link.to_device link.to_process) links.now) }

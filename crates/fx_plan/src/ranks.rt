@@ -11,7 +11,7 @@ use crate::cycle::cycle;
 use fx_base::Fault;
 use fx_ranks::rank_order;
 use fx_tables::Net;
-use fx_topology::Network;
+use fx_topology::NetworkDocument;
 use std::alloc::{AllocError, Global};
 
 /// The collecting processes of a network in two orders.
@@ -29,7 +29,7 @@ fn all_have_come(come: &[bool]) -> bool
     come.iter().all(|there| *there)
 }
 
-fn turned(alloc: Global, ranked: &[usize]) -> Result<Vec<usize>, AllocError>
+fn reverse_of(alloc: Global, ranked: &[usize]) -> Result<Vec<usize>, AllocError>
     ensures { IfOk result (λ v. v.items ≡ reverse ranked.now) }
 {
     let mut order: Vec<usize> = Vec::new(alloc);
@@ -41,7 +41,7 @@ fn turned(alloc: Global, ranked: &[usize]) -> Result<Vec<usize>, AllocError>
 /// The ranks of a network's collecting processes, where links lead to processes that are there.
 ///
 /// Fails with 204 where there are none, since links form a cycle, and with 900 for want of memory.
-pub fn ranks_of(alloc: Global, network: &Network, net: &Net) -> Result<Ranks, Fault>
+pub fn ranks_of(alloc: Global, network: &NetworkDocument, net: &Net) -> Result<Ranks, Fault>
     requires net_is { net.now ≡ tables.net_of network.now }
     requires resolved { IsResolved net.now }
     ensures whole { IfOk result (λ r. IsWhole net.now r.ranked.items) }
@@ -52,7 +52,7 @@ pub fn ranks_of(alloc: Global, network: &Network, net: &Net) -> Result<Ranks, Fa
     if !all_have_come(coming.come.as_slice()) {
         return Err(cycle(alloc, network.devices.as_slice(), coming.come.as_slice()));
     }
-    let order = turned(alloc, coming.order.as_slice())?;
+    let order = reverse_of(alloc, coming.order.as_slice())?;
     Ok(Ranks {
         ranked: coming.order,
         order,

@@ -5,7 +5,7 @@ use Rattle.std.specs.List.{list_any}
 use Rattle.std.proofs.lemmas.Bool.{or_cases, or_left, or_right, eq-eqb}
 use Rattle.std.proofs.lemmas.List.Folds.{list_any_at, Any-from_list_any}
 use Rattle.fx_layout.specs.Keys.{Fits}
-use Rattle.fx_tables.specs.Network.{Net, Exporter, Process, Aggregation, at_places, exporters_of, layout_of}
+use Rattle.fx_tables.specs.Network.{Net, Exporter, Process, AggregationEntry, at_places, exporters_of, layout_of}
 use Rattle.fx_tables.specs.Ranks.{RisesTo, Rises, AllRise, ProcessRises, IsRanked, IsNetwork}
 use Rattle.fx_ranks.specs.Feeding.{feeds, feeds_by, lead_to, leads_to, is_place}
 use Rattle.fx_ranks.specs.Ranks.{is_in, rank_in, IsDescending, IsWhole, LinksLead}
@@ -32,7 +32,7 @@ process_rises net rank from (Some process) h = (
   all_rise net rank from (at_places net.exporters process.exporters) (λ q led. h q (or_left (lead_to net q (at_places net.exporters process.exporters)) (list_any (λ a. lead_to net q (exporters_of net (slice_get net.holders a.holder))) process.aggregations) led)),
   λ k a low. all_rise net rank from (exporters_of net (slice_get net.holders (get_or process.aggregations k a).holder)) (λ q led.
       h q (or_right (lead_to net q (at_places net.exporters process.exporters)) (list_any (λ a. lead_to net q (exporters_of net (slice_get net.holders a.holder))) process.aggregations)
-      (list_any_at (λ (a : Aggregation). lead_to net q (exporters_of net (slice_get net.holders a.holder))) process.aggregations k a low led))),
+      (list_any_at (λ (a : AggregationEntry). lead_to net q (exporters_of net (slice_get net.holders a.holder))) process.aggregations k a low led))),
 )
 
 -- ---- links lead to processes
@@ -57,7 +57,7 @@ process_within net leads q (Some process) e =
     elim (or_cases (lead_to net q (at_places net.exporters process.exporters)) (list_any (λ a. lead_to net q (exporters_of net (slice_get net.holders a.holder))) process.aggregations) e) [
       | inl f ↦ all_led_within net leads q (at_places net.exporters process.exporters) f
       | inr f ↦
-          (let some = Any-from_list_any (λ (a : Aggregation). lead_to net q (exporters_of net (slice_get net.holders a.holder))) process.aggregations f in
+          (let some = Any-from_list_any (λ (a : AggregationEntry). lead_to net q (exporters_of net (slice_get net.holders a.holder))) process.aggregations f in
           all_led_within net leads q (exporters_of net (slice_get net.holders some.1.holder)) some.4)
     ]
 

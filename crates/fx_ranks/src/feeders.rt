@@ -5,7 +5,7 @@ ghost use Rattle.fx_tables.specs.Network as machine;
 ghost use Rattle.fx_ranks.specs.Feeding as feeding;
 
 use crate::linked_processes::LinkedProcesses;
-use fx_tables::{Aggregation, Net};
+use fx_tables::{AggregationEntry, Net};
 use std::alloc::{AllocError, Global};
 
 fn any_leads(linked: &LinkedProcesses<'_>, process: usize, places: &[usize]) -> bool
@@ -29,7 +29,7 @@ fn lead_to(linked: &LinkedProcesses<'_>, process: usize, places: &[usize]) -> bo
 fn aggregation_leads(
     linked: &LinkedProcesses<'_>,
     process: usize,
-    aggregation: &Aggregation,
+    aggregation: &AggregationEntry,
 ) -> bool
     requires { process < length linked.now.processes }
     ensures { result ≡ feeding.lead_to linked.now process
@@ -44,7 +44,7 @@ fn aggregation_leads(
 fn any_aggregation_leads(
     linked: &LinkedProcesses<'_>,
     process: usize,
-    aggregations: &[Aggregation],
+    aggregations: &[AggregationEntry],
 ) -> bool
     requires { process < length linked.now.processes }
     ensures { result ≡ list_any (λ a. feeding.lead_to linked.now process

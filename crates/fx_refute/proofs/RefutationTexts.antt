@@ -19,10 +19,10 @@ use Rattle.fx_run_text.specs.declared.run_line.RunLine.TheVariants as line
 use Rattle.fx_run_text.specs.declared.step.Step.{Step}
 use Rattle.fx_machine.specs.Limits.{step_limit}
 use Rattle.fx_run_text.specs.RunLineText.{IsOneLine, IsRunLine, ended_line, run_line_text}
-use Rattle.fx_run_text.specs.RunReading.{Line, at_line, line_of}
+use Rattle.fx_run_text.specs.RunReading.{TextLine, at_line, line_of}
 use Rattle.fx_elements.specs.Words.{words}
 use Rattle.fx_run_text.specs.RunText.{AreShort, IsStep, last_words, lines_text, step_words}
-use Rattle.fx_refute.specs.RefutationReading.{ended, formed, from_packet, from_step, line_said, only, packet_behind, reading, steps_behind, with_step}
+use Rattle.fx_refute.specs.RefutationReading.{end_of_lines, line_or_fault, from_packet, from_step, line_said, only, packet_behind, refutation_in, steps_behind, with_step}
 use Rattle.fx_refute.specs.RefutationText.{IsRefutation, first_words, refutation_lines, refutation_text, steps_text}
 use Rattle.fx_refute.specs.Refutations.{Refutation}
 
@@ -105,7 +105,7 @@ first_short : (version : TextVersion) → length (join_with_byte 32 (first_words
 first_short One = omega arith
 first_short Two = omega arith
 
-first_read : (version : TextVersion) (n : ℕ) (ls : List Line) → reading n (ended_line (first_line version) ∷ ls) ≡ packet_behind version (next_number n) ls
+first_read : (version : TextVersion) (n : ℕ) (ls : List TextLine) → refutation_in n (ended_line (first_line version) ∷ ls) ≡ packet_behind version (next_number n) ls
 first_read One n ls = refl
 first_read Two n ls = refl
 
@@ -131,22 +131,22 @@ module _ (version : TextVersion) (laws : LineLaws version) where
   packet_read r n is short =
       rw (said_line (line.Packet r.packet) is.packet short.1.0) (steps_read r.steps (next_number n) (only r.packet) is.steps short.1.1 (omega (arith, is.few)))
 
-  behind_read : (r : Refutation) (n : ℕ) → IsRefutation version r → AreShort (refutation_lines version r) → reading n (text_lines (refutation_text version r)) ≡ reading n (ended_line (first_line version) ∷ map ended_line (run_line_text version (line.Packet r.packet) ∷ step_lines r.steps))
+  behind_read : (r : Refutation) (n : ℕ) → IsRefutation version r → AreShort (refutation_lines version r) → refutation_in n (text_lines (refutation_text version r)) ≡ refutation_in n (ended_line (first_line version) ∷ map ended_line (run_line_text version (line.Packet r.packet) ∷ step_lines r.steps))
   behind_read r n is short =
       let whole : AllByRecursion IsOneLine (refutation_lines version r) = (first_one_line version, (laws.one_line (line.Packet r.packet) is.packet, one_lines r.steps is.steps)) in
-      ap (reading n) (laws.lines (refutation_lines version r) whole) ∙ ap (λ (x : List ℕ). reading n (ended_line x ∷ map ended_line (run_line_text version (line.Packet r.packet) ∷ step_lines r.steps))) (first_words_join version)
+      ap (refutation_in n) (laws.lines (refutation_lines version r) whole) ∙ ap (λ (x : List ℕ). refutation_in n (ended_line x ∷ map ended_line (run_line_text version (line.Packet r.packet) ∷ step_lines r.steps))) (first_words_join version)
 
-  pub text_read : (r : Refutation) (n : ℕ) → IsRefutation version r → AreShort (refutation_lines version r) → reading n (text_lines (refutation_text version r)) ≡ Ok r
+  pub text_read : (r : Refutation) (n : ℕ) → IsRefutation version r → AreShort (refutation_lines version r) → refutation_in n (text_lines (refutation_text version r)) ≡ Ok r
   text_read r n is short = behind_read r n is short ∙ first_read version n (map ended_line (run_line_text version (line.Packet r.packet) ∷ step_lines r.steps)) ∙ packet_read r (next_number n) is short
 
   -- ---- what is read is a refutation's text
 
-  record Says (l : Line) (x : RunLine) : Type 0 where
+  record Says (l : TextLine) (x : RunLine) : Type 0 where
     line : l ≡ ended_line (run_line_text version x)
     short : length (run_line_text version x) ≤ 4096
     is : IsRunLine version x
 
-  well_formed : (o : Option RunLine) (x : RunLine) → formed o ≡ Ok x → o ≡ Some x
+  well_formed : (o : Option RunLine) (x : RunLine) → line_or_fault o ≡ Ok x → o ≡ Some x
   well_formed None x e = absurd cc
   well_formed (Some y) x e = let k : y ≡ x = cc in ap (λ (z : RunLine). Some z) k
 
@@ -158,24 +158,24 @@ module _ (version : TextVersion) (laws : LineLaws version) where
       ]
 
   says_so : (text : List ℕ) (end : Bool) (x : RunLine) → end ≡ true → length text ≤ 4096 → (text ≡ run_line_text version x) × IsRunLine version x → Says (text, end) x
-  says_so text end x ended short found = record {
-    line = rw (ended, found.0) refl;
+  says_so text end x end_of_lines short found = record {
+    line = rw (end_of_lines, found.0) refl;
     short = subst (λ (t : List ℕ). length t ≤ 4096) found.0 short;
     is = found.1;
   }
 
-  says : (l : Line) (x : RunLine) → line_said version l ≡ Ok x → Says l x
+  says : (l : TextLine) (x : RunLine) → line_said version l ≡ Ok x → Says l x
   says l x e =
       elim (chosen (nat_lt 4096 (length l.0)) (Err 903) _ (Ok x) e) [
         | inl h ↦ absurd cc
-        | inr h ↦ elim (chosen l.1 (formed (line_of version (words l.0))) (Err 501) (Ok x) h.1) [
+        | inr h ↦ elim (chosen l.1 (line_or_fault (line_of version (words l.0))) (Err 501) (Ok x) h.1) [
           | inl i ↦ says_so l.0 l.1 x i.0 (not_long (length l.0) h.0) (laws.only l.0 x (well_formed (line_of version (words l.0)) x i.1))
           | inr i ↦ absurd cc
         ]
       ]
 
   -- the steps that were read in lines, behind those that were there
-  record Comes (r result : Refutation) (ls : List Line) : Type 0 where
+  record Comes (r result : Refutation) (ls : List TextLine) : Type 0 where
     ss : List Step
     packet : result.packet ≡ r.packet
     steps : result.steps ≡ r.steps ++ ss
@@ -184,25 +184,25 @@ module _ (version : TextVersion) (laws : LineLaws version) where
     short : AreShort (step_lines ss)
     few : length r.steps ≤ step_limit → length result.steps ≤ step_limit
 
-  step_comes : (r result : Refutation) (s : Step) (l : Line) (ls : List Line) → Says l (line.Step s) → length r.steps < step_limit → Comes (with_step r s) result ls → Comes r result (l ∷ ls)
+  step_comes : (r result : Refutation) (s : Step) (l : TextLine) (ls : List TextLine) → Says l (line.Step s) → length r.steps < step_limit → Comes (with_step r s) result ls → Comes r result (l ∷ ls)
   step_comes r result s l ls said lt m = record {
     ss = s ∷ m.ss;
     packet = m.packet;
     steps = m.steps ∙ append_assoc r.steps (s ∷ []) m.ss;
-    lines = ap (λ (x : Line). x ∷ ls) said.line ∙ ap (λ (x : List Line). ended_line (run_line_text version (line.Step s)) ∷ x) m.lines;
+    lines = ap (λ (x : TextLine). x ∷ ls) said.line ∙ ap (λ (x : List TextLine). ended_line (run_line_text version (line.Step s)) ∷ x) m.lines;
     are = (said.is, m.are);
     short = (said.short, m.short);
     few = λ le. m.few (omega (arith, lt, length-append r.steps (s ∷ [])));
   }
 
-  end_comes : (n : ℕ) (r result : Refutation) (l : Line) (ls : List Line) → Says l line.End → ended n r ls ≡ Ok result → Comes r result (l ∷ ls)
+  end_comes : (n : ℕ) (r result : Refutation) (l : TextLine) (ls : List TextLine) → Says l line.End → end_of_lines n r ls ≡ Ok result → Comes r result (l ∷ ls)
   end_comes n r result l [] said e =
       let same : r ≡ result = cc in
       record {
         ss = [];
         packet = ap (λ (x : Refutation). x.packet) (sym same);
         steps = ap (λ (x : Refutation). x.steps) (sym same) ∙ sym (append-nil r.steps);
-        lines = ap (λ (x : Line). x ∷ []) said.line;
+        lines = ap (λ (x : TextLine). x ∷ []) said.line;
         are = tt;
         short = (said.short, tt);
         few = λ le. subst (λ (x : Refutation). length x.steps ≤ step_limit) same le;
@@ -216,7 +216,7 @@ module _ (version : TextVersion) (laws : LineLaws version) where
         | inr le ↦ let k : nat_lt n step_limit ≡ false = le-ltb n step_limit le in absurd cc
       ]
 
-  comes : (ls : List Line) (n : ℕ) (r result : Refutation) → steps_behind version n r ls ≡ Ok result → Comes r result ls
+  comes : (ls : List TextLine) (n : ℕ) (r result : Refutation) → steps_behind version n r ls ≡ Ok result → Comes r result ls
   comes [] n r result e = absurd cc
   comes (l ∷ ls) n r result e = by_said (line_said version l) refl e (λ x f. comes ls (next_number n) x result f) where
     by_said : (x : Result RunLine ℕ) → line_said version l ≡ x → from_step (next_number n) r x ls (λ y. steps_behind version (next_number n) y ls) ≡ Ok result → ((y : Refutation) → steps_behind version (next_number n) y ls ≡ Ok result → Comes y result ls) → Comes r result (l ∷ ls)
@@ -230,21 +230,21 @@ module _ (version : TextVersion) (laws : LineLaws version) where
     by_said (Ok line.End) s f more = end_comes (next_number n) r result l ls (says l line.End s) f
 
   -- a whole text
-  record Whole (result : Refutation) (ls : List Line) : Type 0 where
+  record Whole (result : Refutation) (ls : List TextLine) : Type 0 where
     lines : ls ≡ map ended_line (run_line_text version (line.Packet result.packet) ∷ step_lines result.steps)
     is : IsRefutation version result
     short : AreShort (run_line_text version (line.Packet result.packet) ∷ step_lines result.steps)
 
-  packet_comes : (p : Packet) (result : Refutation) (l : Line) (ls : List Line) → Says l (line.Packet p) → Comes (only p) result ls → Whole result (l ∷ ls)
+  packet_comes : (p : Packet) (result : Refutation) (l : TextLine) (ls : List TextLine) → Says l (line.Packet p) → Comes (only p) result ls → Whole result (l ∷ ls)
   packet_comes p result l ls said m =
       let same : result ≡ record { packet = p; steps = m.ss } = ap₂ (λ (x : Packet) (y : List Step). record { packet = x; steps = y }) m.packet m.steps in
       subst (λ (x : Refutation). Whole x (l ∷ ls)) (sym same) (record {
-        lines = ap (λ (x : Line). x ∷ ls) said.line ∙ ap (λ (x : List Line). ended_line (run_line_text version (line.Packet p)) ∷ x) m.lines;
+        lines = ap (λ (x : TextLine). x ∷ ls) said.line ∙ ap (λ (x : List TextLine). ended_line (run_line_text version (line.Packet p)) ∷ x) m.lines;
         is = record { packet = said.is; steps = m.are; few = subst (λ (xs : List Step). length xs ≤ step_limit) m.steps (m.few (omega arith)) };
         short = (said.short, m.short);
       })
 
-  whole : (ls : List Line) (n : ℕ) (result : Refutation) → packet_behind version n ls ≡ Ok result → Whole result ls
+  whole : (ls : List TextLine) (n : ℕ) (result : Refutation) → packet_behind version n ls ≡ Ok result → Whole result ls
   whole [] n result e = absurd cc
   whole (l ∷ ls) n result e = by_said (line_said version l) refl e where
     by_said : (x : Result RunLine ℕ) → line_said version l ≡ x → from_packet version (next_number n) x ls ≡ Ok result → Whole result (l ∷ ls)
@@ -253,19 +253,19 @@ module _ (version : TextVersion) (laws : LineLaws version) where
     by_said (Ok (line.Step step)) s f = absurd cc
     by_said (Ok line.End) s f = absurd cc
 
-  begun : (text : List ℕ) (l : Line) (ls : List Line) (n : ℕ) (r : Refutation) → text_lines text ≡ l ∷ ls → (l.1 && bytes_eq l.0 (first_line version)) ≡ true → packet_behind version n ls ≡ Ok r → (text ≡ refutation_text version r) × IsRefutation version r × AreShort (refutation_lines version r)
+  begun : (text : List ℕ) (l : TextLine) (ls : List TextLine) (n : ℕ) (r : Refutation) → text_lines text ≡ l ∷ ls → (l.1 && bytes_eq l.0 (first_line version)) ≡ true → packet_behind version n ls ≡ Ok r → (text ≡ refutation_text version r) × IsRefutation version r × AreShort (refutation_lines version r)
   begun text l ls n r same is e =
       let p = both l.1 (bytes_eq l.0 (first_line version)) is in
       let first : l ≡ ended_line (first_line version) = rw (← p.0, ← (bytes_eq-Decides l.0 (first_line version)).0 p.1) refl in
       let w = whole ls n r e in
-      let lines : text_lines text ≡ map ended_line (refutation_lines version r) = same ∙ ap (λ (x : Line). x ∷ ls) first ∙ ap (λ (x : List Line). ended_line (first_line version) ∷ x) w.lines ∙ ap (λ (x : List ℕ). ended_line x ∷ map ended_line (run_line_text version (line.Packet r.packet) ∷ step_lines r.steps)) (sym (first_words_join version)) in
+      let lines : text_lines text ≡ map ended_line (refutation_lines version r) = same ∙ ap (λ (x : TextLine). x ∷ ls) first ∙ ap (λ (x : List TextLine). ended_line (first_line version) ∷ x) w.lines ∙ ap (λ (x : List ℕ). ended_line x ∷ map ended_line (run_line_text version (line.Packet r.packet) ∷ step_lines r.steps)) (sym (first_words_join version)) in
       (laws.text text (refutation_lines version r) lines, w.is, (first_short version, w.short))
 
 -- what reads a text is its text in one of the versions
 abbrev Written : List ℕ → Refutation → Type 0
 Written text r = (version : TextVersion) × (text ≡ refutation_text version r) × IsRefutation version r × AreShort (refutation_lines version r)
 
-found : ((version : TextVersion) → LineLaws version) → (text : List ℕ) (ls : List Line) (n : ℕ) (r : Refutation) → text_lines text ≡ ls → reading n ls ≡ Ok r → Written text r
+found : ((version : TextVersion) → LineLaws version) → (text : List ℕ) (ls : List TextLine) (n : ℕ) (r : Refutation) → text_lines text ≡ ls → refutation_in n ls ≡ Ok r → Written text r
 found laws text [] n r same e = absurd cc
 found laws text (l ∷ ls) n r same e =
     elim (chosen (nat_lt 4096 (length l.0)) (Err (at_line 903 (next_number n))) _ (Ok r) e) [
@@ -279,5 +279,5 @@ found laws text (l ∷ ls) n r same e =
       ]
     ]
 
-pub text_found : ((version : TextVersion) → LineLaws version) → (text : List ℕ) (r : Refutation) (n : ℕ) → reading n (text_lines text) ≡ Ok r → Written text r
+pub text_found : ((version : TextVersion) → LineLaws version) → (text : List ℕ) (r : Refutation) (n : ℕ) → refutation_in n (text_lines text) ≡ Ok r → Written text r
 text_found laws text r n e = found laws text (text_lines text) n r refl e

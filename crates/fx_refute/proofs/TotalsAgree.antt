@@ -5,23 +5,23 @@ use Rattle.std.proofs.lemmas.List.{length-map}
 use Rattle.fx_base.specs.declared.counts.Counts.{Counts}
 use Rattle.fx_base.specs.declared.fault.Fault.{Fault}
 use Rattle.fx_elements.specs.Axes.{field, axis_width}
-use Rattle.fx_layout.specs.Keys.{Key, Layout, IsLayout, key_of, leading, project, same_key}
+use Rattle.fx_layout.specs.Keys.{Key, Layout, IsLayout, key_of, leading_bits, project, same_key}
 use Rattle.fx_layout.proofs.Projections.{key_same, same_key_is}
 use Rattle.fx_tables.specs.declared.packet.Packet.{Packet}
 use Rattle.fx_tables.specs.declared.record.Record.{Record}
 use Rattle.fx_tables.specs.Network.{Net}
-use Rattle.fx_base.specs.Entries.{numbered}
+use Rattle.fx_base.specs.Entries.{entry_numbered}
 use Rattle.fx_tables.specs.Classes.{Class, IsOf, exempts, to_count}
 use Rattle.fx_machine.specs.Claim.{CountsEachOnce}
-use Rattle.fx_machine.specs.States.{State, opening, told}
+use Rattle.fx_machine.specs.States.{State, opening, told_state}
 use Rattle.fx_machine.specs.Steps.{run, one_packet}
-use Rattle.fx_machine.specs.Stores.{Running}
+use Rattle.fx_machine.specs.Stores.{LoadedNetwork}
 use Rattle.fx_machine.specs.Sums.{plain_sum, total_at}
 use Rattle.fx_collect.specs.Totals.{IsTable, IsUnder, Totals, nothing, totals_in}
 use Rattle.fx_collect.proofs.OwnKeys.{project_own, refines_own}
-use Rattle.fx_refute.specs.Confirming.{plain_totals, own_record, Agree, IsStopped}
-use Rattle.fx_refute.specs.Refutations.{Refutation, RunsTo, ArePlainSums, IsRefused}
-use Rattle.fx_refute.specs.Refutations.IsRefused.{not_enabled}
+use Rattle.fx_refute.specs.Confirming.{plain_totals, own_record, TotalsAgreeAt, IsStopped}
+use Rattle.fx_refute.specs.Refutations.{Refutation, ReachesState, IsPlainSumTable, IsNoRefutation}
+use Rattle.fx_refute.specs.Refutations.IsNoRefutation.{not_enabled}
 
 -- a list of this packet, or of none
 abbrev pub IsOneOrNone : Packet → List Packet → Type 0
@@ -29,8 +29,8 @@ IsOneOrNone p ps = (ps ≡ p ∷ []) ⊎ (ps ≡ [])
 
 -- what is to be counted of one packet
 pub one_or_none : (classes : List Class) (p : Packet) → IsOneOrNone p (to_count classes (p ∷ []))
-one_or_none classes p = by_exempt (exempts (numbered classes p.class)) refl where
-  by_exempt : (b : Bool) → exempts (numbered classes p.class) ≡ b → IsOneOrNone p (to_count classes (p ∷ []))
+one_or_none classes p = by_exempt (exempts (entry_numbered classes p.class)) refl where
+  by_exempt : (b : Bool) → exempts (entry_numbered classes p.class) ≡ b → IsOneOrNone p (to_count classes (p ∷ []))
   by_exempt true is = inr (rw is refl)
   by_exempt false is = inl (rw is refl)
 
@@ -45,7 +45,7 @@ module _ (layout : Layout) (p : Packet) where
   one_total = record { layout = layout; entries = own_record layout p ∷ []; unassigned = 0 }
 
   own_under : IsUnder layout own
-  own_under = (refl, length-map layout (λ part. leading (axis_width part.axis) part.bits (field p.fields part.axis)))
+  own_under = (refl, length-map layout (λ part. leading_bits (axis_width part.axis) part.bits (field p.fields part.axis)))
 
   one_tallied : IsLayout layout → plain_totals layout (p ∷ []) ≡ one_total
   one_tallied is =
@@ -63,7 +63,7 @@ module _ (layout : Layout) (p : Packet) where
         | false ↦ λ e k. absurd (cc)
       ] refl h
 
-  one_sums : ArePlainSums layout (p ∷ []) one_total
+  one_sums : IsPlainSumTable layout (p ∷ []) one_total
   one_sums = record {
     layout_is = refl;
     table = record { under = (own_under, tt); differ = (tt, tt) };
@@ -71,7 +71,7 @@ module _ (layout : Layout) (p : Packet) where
     assigned = refl;
   }
 
-  no_sums : ArePlainSums layout [] (plain_totals layout [])
+  no_sums : IsPlainSumTable layout [] (plain_totals layout [])
   no_sums = record {
     layout_is = refl;
     table = record { under = tt; differ = tt };
@@ -79,7 +79,7 @@ module _ (layout : Layout) (p : Packet) where
     assigned = refl;
   }
 
-  pub plain_are_sums : (ps : List Packet) → IsLayout layout → IsOneOrNone p ps → ArePlainSums layout ps (plain_totals layout ps)
+  pub plain_are_sums : (ps : List Packet) → IsLayout layout → IsOneOrNone p ps → IsPlainSumTable layout ps (plain_totals layout ps)
   plain_are_sums ps is (inl one) = rw (one, one_tallied is) one_sums
   plain_are_sums ps is (inr none) = rw none no_sums
 
@@ -119,52 +119,52 @@ no_total (t ∷ ts) e key = absurd (omega arith)
 
 module _ (net : Net) (p : Packet) (last : State) (is : IsLayout net.report_layout) where
   abbrev told_of : Totals
-  told_of = totals_in net.report_layout (told last)
+  told_of = totals_in net.report_layout (told_state last)
 
   abbrev own_key : Key
   own_key = key_of net.report_layout p.fields
 
-  pub agrees_counted : (ps : List Packet) → IsOneOrNone p ps → last.unassigned < 2 ^ 64 → Agree told_of (plain_totals net.report_layout ps) own_key → CountsEachOnce net ps last
+  pub agrees_counted : (ps : List Packet) → IsOneOrNone p ps → last.unassigned < 2 ^ 64 → TotalsAgreeAt told_of (plain_totals net.report_layout ps) own_key → CountsEachOnce net ps last
   agrees_counted ps (inl one) few a =
-      let b : Agree told_of (one_total net.report_layout p) own_key = rw (one, one_tallied net.report_layout p is) at a in
+      let b : TotalsAgreeAt told_of (one_total net.report_layout p) own_key = rw (one, one_tallied net.report_layout p is) at a in
       rw one (record {
         totals = one_entry net.report_layout p last.totals b.keys (b.same ∙ own_sum net.report_layout p);
         assigned = sym (mod-eq_of_lt few) ∙ b.assigned;
       })
   agrees_counted ps (inr none) few a =
-      let b : Agree told_of (plain_totals net.report_layout []) own_key = rw none at a in
+      let b : TotalsAgreeAt told_of (plain_totals net.report_layout []) own_key = rw none at a in
       rw none (record {
         totals = no_total last.totals b.keys;
         assigned = sym (mod-eq_of_lt few) ∙ b.assigned;
       })
 
-  counted_agrees_one : IsTable net.report_layout last.totals → CountsEachOnce net (p ∷ []) last → Agree told_of (plain_totals net.report_layout (p ∷ [])) own_key
+  counted_agrees_one : IsTable net.report_layout last.totals → CountsEachOnce net (p ∷ []) last → TotalsAgreeAt told_of (plain_totals net.report_layout (p ∷ [])) own_key
   counted_agrees_one table c = rw (one_tallied net.report_layout p is) (record {
     assigned = ap (λ n. n % 2 ^ 64) c.assigned;
     keys = entries_alone net.report_layout p last.totals table c.totals;
     same = c.totals own_key;
   })
 
-  counted_agrees_none : CountsEachOnce net [] last → Agree told_of (plain_totals net.report_layout []) own_key
+  counted_agrees_none : CountsEachOnce net [] last → TotalsAgreeAt told_of (plain_totals net.report_layout []) own_key
   counted_agrees_none c = record {
     assigned = ap (λ n. n % 2 ^ 64) c.assigned;
     keys = no_entry last.totals c.totals;
     same = c.totals own_key;
   }
 
-  pub counted_agrees : (ps : List Packet) → IsOneOrNone p ps → IsTable net.report_layout last.totals → CountsEachOnce net ps last → Agree told_of (plain_totals net.report_layout ps) own_key
+  pub counted_agrees : (ps : List Packet) → IsOneOrNone p ps → IsTable net.report_layout last.totals → CountsEachOnce net ps last → TotalsAgreeAt told_of (plain_totals net.report_layout ps) own_key
   counted_agrees ps (inl one) table c = rw one (counted_agrees_one table (rw one at c))
   counted_agrees ps (inr none) table c = rw none (counted_agrees_none (rw none at c))
 
 -- ---- a run from its opening
 
-pub ran : (net : Net) (classes : List Class) (r : Refutation) (old new : Running) → old ≡ record { net = net; classes = classes; packets = r.packet ∷ []; state = opening net classes (r.packet ∷ []) } → IsOf r.packet (numbered classes r.packet.class) → ((s : State) → old.state ≡ told s → (last : State) × (run old.net old.classes old.packets r.steps s ≡ Ok last) × (new.state ≡ told last)) → (last : State) × RunsTo net classes r last × (new.state ≡ told last)
+pub ran : (net : Net) (classes : List Class) (r : Refutation) (old new : LoadedNetwork) → old ≡ record { net = net; classes = classes; packets = r.packet ∷ []; state = opening net classes (r.packet ∷ []) } → IsOf r.packet (entry_numbered classes r.packet.class) → ((s : State) → old.state ≡ told_state s → (last : State) × (run old.net old.classes old.packets r.steps s ≡ Ok last) × (new.state ≡ told_state last)) → (last : State) × ReachesState net classes r last × (new.state ≡ told_state last)
 ran net classes r old new is of_class made =
-    let begun : Running = record { net = net; classes = classes; packets = r.packet ∷ []; state = opening net classes (r.packet ∷ []) } in
-    let m = subst (λ (x : Running). (s : State) → x.state ≡ told s → (last : State) × (run x.net x.classes x.packets r.steps s ≡ Ok last) × (new.state ≡ told last)) is made (opening net classes (r.packet ∷ [])) refl in
+    let begun : LoadedNetwork = record { net = net; classes = classes; packets = r.packet ∷ []; state = opening net classes (r.packet ∷ []) } in
+    let m = subst (λ (x : LoadedNetwork). (s : State) → x.state ≡ told_state s → (last : State) × (run x.net x.classes x.packets r.steps s ≡ Ok last) × (new.state ≡ told_state last)) is made (opening net classes (r.packet ∷ [])) refl in
     (m.0, record { of_class = of_class; runs = m.1 }, m.2)
 
-pub stopped : (net : Net) (classes : List Class) (r : Refutation) (old : Running) (e : Fault) → old ≡ record { net = net; classes = classes; packets = r.packet ∷ []; state = opening net classes (r.packet ∷ []) } → IsOf r.packet (numbered classes r.packet.class) → ((s : State) → old.state ≡ told s → IsStopped old.net old.classes old.packets r.steps s e) → IsRefused net classes r e
+pub stopped : (net : Net) (classes : List Class) (r : Refutation) (old : LoadedNetwork) (e : Fault) → old ≡ record { net = net; classes = classes; packets = r.packet ∷ []; state = opening net classes (r.packet ∷ []) } → IsOf r.packet (entry_numbered classes r.packet.class) → ((s : State) → old.state ≡ told_state s → IsStopped old.net old.classes old.packets r.steps s e) → IsNoRefutation net classes r e
 stopped net classes r old e is of_class stop =
-    let s = subst (λ (x : Running). (s : State) → x.state ≡ told s → IsStopped x.net x.classes x.packets r.steps s e) is stop (opening net classes (r.packet ∷ [])) refl in
-    subst (IsRefused net classes r) (sym s.fault) (not_enabled s.before s.step s.behind s.mid s.number s.all (record { of_class = of_class; runs = s.runs }) s.refused)
+    let s = subst (λ (x : LoadedNetwork). (s : State) → x.state ≡ told_state s → IsStopped x.net x.classes x.packets r.steps s e) is stop (opening net classes (r.packet ∷ [])) refl in
+    subst (IsNoRefutation net classes r) (sym s.fault) (not_enabled s.before s.step s.behind s.mid s.number s.all (record { of_class = of_class; runs = s.runs }) s.refused)

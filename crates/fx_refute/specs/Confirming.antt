@@ -35,7 +35,7 @@ abbrev pub plain_totals : Layout → List Packet → Totals
 plain_totals layout packets = with_records (nothing layout) (map (own_record layout) packets)
 
 -- nothing is unassigned, there are as many keys, and both have the same at this one
-pub record Agree (ran plain : Totals) (key : Key) : Type 0 where
+pub record TotalsAgreeAt (ran plain : Totals) (key : Key) : Type 0 where
   pub assigned : ran.unassigned ≡ 0
   pub keys : length ran.entries ≡ length plain.entries
   pub same : total_at ran.entries key ≡ total_at plain.entries key

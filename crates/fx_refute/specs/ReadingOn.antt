@@ -5,11 +5,11 @@ use Rattle.fx_base.specs.Device.{MayBeLeft, MayHaveLeft}
 use Rattle.fx_base.specs.Lines.{Lines, text_lines, next_number}
 use Rattle.fx_run_text.specs.declared.text_version.TextVersion.{TextVersion}
 use Rattle.fx_run_text.specs.declared.run_line.RunLine.{RunLine}
-use Rattle.fx_run_text.specs.RunReading.{Line, at_line}
+use Rattle.fx_run_text.specs.RunReading.{TextLine, at_line}
 use Rattle.fx_refute.specs.RefutationReading.{Read, line_said}
 
 -- whatever is left now, what the second reads in it is what the first reads in a text that may have been left before
-abbrev pub Leads : Lines → Lines → (List Line → Read) → (List Line → Read) → Type 0
+abbrev pub Leads : Lines → Lines → (List TextLine → Read) → (List TextLine → Read) → Type 0
 Leads old new before after =
     (rest : List ℕ) → MayBeLeft new.left rest
     → MayHaveLeft old.left (λ text. before (text_lines text) ≡ after (text_lines rest))
@@ -18,10 +18,10 @@ Leads old new before after =
 pub record Says (version : TextVersion) (old new : Lines) (x : RunLine) : Type 0 where
   pub number : new.number ≡ next_number old.number
   pub line : (rest : List ℕ) → MayBeLeft new.left rest
-      → MayHaveLeft old.left (λ text. (l : Line) × (text_lines text ≡ l ∷ text_lines rest) × (line_said version l ≡ Ok x))
+      → MayHaveLeft old.left (λ text. (l : TextLine) × (text_lines text ≡ l ∷ text_lines rest) × (line_said version l ≡ Ok x))
 
 -- the first of these lines, which come behind the line n, isn't there or says nothing
-abbrev pub FirstIsWrong : TextVersion → ℕ → Fault → List Line → Type 0
+abbrev pub FirstIsWrong : TextVersion → ℕ → Fault → List TextLine → Type 0
 FirstIsWrong version n e [] = e ≡ at_line 501 (next_number n)
 FirstIsWrong version n e (l ∷ ls) = (number : ℕ) × (line_said version l ≡ Err number) × (e ≡ at_line number (next_number n))
 

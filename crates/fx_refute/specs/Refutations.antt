@@ -7,10 +7,10 @@ use Rattle.fx_layout.specs.Keys.{Layout, Key}
 use Rattle.fx_tables.specs.declared.packet.Packet.{Packet}
 use Rattle.fx_run_text.specs.declared.step.Step.{Step}
 use Rattle.fx_tables.specs.Network.{Net}
-use Rattle.fx_base.specs.Entries.{numbered}
+use Rattle.fx_base.specs.Entries.{entry_numbered}
 use Rattle.fx_tables.specs.Classes.{Class, IsOf, to_count}
 use Rattle.fx_machine.specs.Claim.{CountsEachOnce}
-use Rattle.fx_machine.specs.States.{State, opening, Complete, told}
+use Rattle.fx_machine.specs.States.{State, opening, Complete, told_state}
 use Rattle.fx_machine.specs.Steps.{run, after}
 use Rattle.fx_machine.specs.Sums.{plain_sum, total_at}
 use Rattle.fx_collect.specs.Totals.{Totals, IsTable, totals_in}
@@ -21,25 +21,25 @@ pub record Refutation : Type 0 where
   pub steps : List Step
 
 -- the packet, where it is to be counted
-abbrev pub counted : List Class → Refutation → List Packet
-counted classes r = to_count classes (r.packet ∷ [])
+abbrev pub packets_to_count : List Class → Refutation → List Packet
+packets_to_count classes r = to_count classes (r.packet ∷ [])
 
 -- the packet is of its class, and the steps lead from its opening to this state
-pub record RunsTo (net : Net) (classes : List Class) (r : Refutation) (last : State) : Type 0 where
-  pub of_class : IsOf r.packet (numbered classes r.packet.class)
+pub record ReachesState (net : Net) (classes : List Class) (r : Refutation) (last : State) : Type 0 where
+  pub of_class : IsOf r.packet (entry_numbered classes r.packet.class)
   pub runs : run net classes (r.packet ∷ []) r.steps (opening net classes (r.packet ∷ [])) ≡ Ok last
 
 -- the run is complete, and its totals aren't the plain sums or something is unassigned
 pub record Refutes (net : Net) (classes : List Class) (r : Refutation) : Type 0 where
   pub last : State
-  pub runs_to : RunsTo net classes r last
+  pub runs_to : ReachesState net classes r last
   pub complete : Complete last
-  pub wrong : CountsEachOnce net (counted classes r) last → ⊥
+  pub wrong : CountsEachOnce net (packets_to_count classes r) last → ⊥
 
 -- ---- what is answered
 
 -- these totals have each key once, and are the plain sums over these packets
-pub record ArePlainSums (layout : Layout) (packets : List Packet) (t : Totals) : Type 0 where
+pub record IsPlainSumTable (layout : Layout) (packets : List Packet) (t : Totals) : Type 0 where
   pub layout_is : t.layout ≡ layout
   pub table : IsTable layout t.entries
   pub sums : (key : Key) → total_at t.entries key ≡ plain_sum layout key packets
@@ -48,19 +48,19 @@ pub record ArePlainSums (layout : Layout) (packets : List Packet) (t : Totals) :
 -- the totals of a refutation's last state, and the plain sums over its packet
 pub record AreTotals (net : Net) (classes : List Class) (r : Refutation) (ran plain : Totals) : Type 0 where
   pub last : State
-  pub runs_to : RunsTo net classes r last
-  pub totals : ran ≡ totals_in net.report_layout (told last)
-  pub sums : ArePlainSums net.report_layout (counted classes r) plain
+  pub runs_to : ReachesState net classes r last
+  pub totals : ran ≡ totals_in net.report_layout (told_state last)
+  pub sums : IsPlainSumTable net.report_layout (packets_to_count classes r) plain
 
 -- why nothing is refuted: the packet isn't of its class, a step isn't enabled (they begin at line 3), the run isn't
 -- complete, or its totals are the plain sums and nothing is unassigned
-pub data IsRefused (net : Net) (classes : List Class) (r : Refutation) : Fault → Type 0 where
-  no_member : (IsOf r.packet (numbered classes r.packet.class) → ⊥) → IsRefused net classes r (fault_at 502 (places.Line 2))
+pub data IsNoRefutation (net : Net) (classes : List Class) (r : Refutation) : Fault → Type 0 where
+  no_member : (IsOf r.packet (entry_numbered classes r.packet.class) → ⊥) → IsNoRefutation net classes r (fault_at 502 (places.Line 2))
   not_enabled : (steps : List Step) (step : Step) (behind : List Step) (s : State) (number : ℕ)
-      → r.steps ≡ steps ++ step ∷ behind → RunsTo net classes (record { packet = r.packet; steps = steps }) s
+      → r.steps ≡ steps ++ step ∷ behind → ReachesState net classes (record { packet = r.packet; steps = steps }) s
       → after net classes (r.packet ∷ []) step s ≡ Err number
-      → IsRefused net classes r (fault_at 503 (places.Line (length steps + 3)))
-  incomplete : (last : State) → RunsTo net classes r last → (Complete last → ⊥)
-      → IsRefused net classes r (fault_at 504 places.None)
-  agrees : (last : State) → RunsTo net classes r last → Complete last → CountsEachOnce net (counted classes r) last
-      → IsRefused net classes r (fault_at 505 places.None)
+      → IsNoRefutation net classes r (fault_at 503 (places.Line (length steps + 3)))
+  incomplete : (last : State) → ReachesState net classes r last → (Complete last → ⊥)
+      → IsNoRefutation net classes r (fault_at 504 places.None)
+  agrees : (last : State) → ReachesState net classes r last → Complete last → CountsEachOnce net (packets_to_count classes r) last
+      → IsNoRefutation net classes r (fault_at 505 places.None)

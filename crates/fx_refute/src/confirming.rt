@@ -35,10 +35,10 @@ fn open<'a>(
       packets = packet.now ∷ [];
       state = states.opening net.now classes.now (packet.now ∷ []);
     })
-        × traffic.IsOf packet.now (network.numbered classes.now packet.now.class)) }
+        × traffic.IsOf packet.now (network.entry_numbered classes.now packet.now.class)) }
     ensures err { IfErr result (λ e. ((e ≡ fault_at 502 (places.Line 2))
-        × (traffic.IsOf packet.now (network.numbered classes.now packet.now.class) → ⊥))
-        ⊎ (e ≡ fault_at 900 places.None)) }
+        × (traffic.IsOf packet.now (network.entry_numbered classes.now packet.now.class) → ⊥))
+        ⊎ IsMemory e) }
 {
     let packets = vec![in alloc; *packet]?;
     match State::open(alloc, net, classes, packets) {
@@ -56,13 +56,13 @@ fn open<'a>(
 /// Makes one step after another. The first stands at line 3 of a refutation's text.
 fn make_steps(state: &mut State<'_>, steps: &[Step]) -> Result<(), Fault>
     requires few { length steps.now ≤ step_limit }
-    ensures ok { OnOk result ((s : states.State) → state.old.state ≡ states.told s
+    ensures ok { OnOk result ((s : states.State) → state.old.state ≡ states.told_state s
         → (last : states.State)
         × (stepping.run state.old.net state.old.classes state.old.packets steps.now s ≡ Ok last)
-        × (state.new.state ≡ states.told last)) }
+        × (state.new.state ≡ states.told_state last)) }
     ensures net { OnOk result (state.new.net ≡ state.old.net) }
     ensures err { IfErr result (λ e. (e ≡ fault_at 900 places.None)
-        ⊎ ((s : states.State) → state.old.state ≡ states.told s
+        ⊎ ((s : states.State) → state.old.state ≡ states.told_state s
         → confirming.IsStopped state.old.net state.old.classes state.old.packets steps.now s e)) }
 {
     for place in 0..steps.len() {
@@ -112,7 +112,7 @@ fn plain_sums(alloc: Global, net: &Net, classes: &Classes, packet: &Packet) -> R
 
 /// Whether totals are those of one packet with this key, and nothing is unassigned.
 fn agree(ran: &Totals, plain: &Totals, key: &Key) -> bool
-    ensures { IsTrue result ↔ confirming.Agree ran.now plain.now key.now }
+    ensures { IsTrue result ↔ confirming.TotalsAgreeAt ran.now plain.now key.now }
 {
     ran.unassigned() == 0 && ran.len() == plain.len() && ran.get(key) == plain.get(key)
 }
@@ -128,7 +128,7 @@ fn confirm_over(
     ensures totals { IfOk result (λ t.
         refutations.AreTotals net.now classes.now refutation.now t.0 t.1) }
     ensures err { IfErr result (λ e. (e ≡ fault_at 900 places.None)
-        ⊎ refutations.IsRefused net.now classes.now refutation.now e) }
+        ⊎ refutations.IsNoRefutation net.now classes.now refutation.now e) }
 {
     let layout = net.report_layout();
     let packet = refutation.packet();
@@ -162,7 +162,7 @@ pub fn confirm(
     ensures totals { IfOk result (λ t.
         refutations.AreTotals (net_of plan.now) traffic.now refutation.now t.0 t.1) }
     ensures err { IfErr result (λ e. (e ≡ fault_at 900 places.None)
-        ⊎ refutations.IsRefused (net_of plan.now) traffic.now refutation.now e) }
+        ⊎ refutations.IsNoRefutation (net_of plan.now) traffic.now refutation.now e) }
 {
     confirm_over(alloc, plan.net(), traffic.classes(), refutation)
 }

@@ -6,7 +6,7 @@ ghost use Rattle.fx_tables.specs.Classes as traffic;
 ghost use Rattle.fx_tables.specs.Network as network;
 ghost use Rattle.fx_run_text.specs.RunText.{AreShort};
 ghost use Rattle.fx_run_text.specs.declared.text_version.TextVersion.{TextVersion};
-ghost use Rattle.fx_refute.specs.RefutationReading.{reading};
+ghost use Rattle.fx_refute.specs.RefutationReading.{refutation_in};
 ghost use Rattle.fx_refute.specs.RefutationText.{IsRefutation, refutation_lines, refutation_text};
 ghost use Rattle.fx_refute.specs.Refutations.{Refutation, Refutes};
 
@@ -26,8 +26,8 @@ pub fn refutations_refute()
 pub fn refutations_have_one_text()
     ensures read { (version : TextVersion) (r : Refutation) (n : ℕ)
         → IsRefutation version r → AreShort (refutation_lines version r)
-        → reading n (text_lines (refutation_text version r)) ≡ Ok r }
-    ensures only { (text : List ℕ) (r : Refutation) (n : ℕ) → reading n (text_lines text) ≡ Ok r
+        → refutation_in n (text_lines (refutation_text version r)) ≡ Ok r }
+    ensures only { (text : List ℕ) (r : Refutation) (n : ℕ) → refutation_in n (text_lines text) ≡ Ok r
         → (version : TextVersion) × (text ≡ refutation_text version r)
         × IsRefutation version r × AreShort (refutation_lines version r) }
 {

@@ -2,10 +2,10 @@
 ghost use Rattle.std.specs.Prelude.{◌≡◌, ◌⊎◌, ◌<◌, Ok, Err, None, IfOk, IfErr, OnOk};
 ghost use Rattle.std.specs.Str.{bytes_eq};
 ghost use Rattle.fx_base.specs.Fault.{fault_at};
-ghost use Rattle.fx_base.specs.Lines.{GoesOn, budget, Fails};
+ghost use Rattle.fx_base.specs.Lines.{GoesOnToLines, line_budget, Fails};
 ghost use Rattle.fx_base.specs.declared.fault.Place.TheVariants as places;
 ghost use Rattle.fx_refute.specs.ReadingOn.{Leads, NextIsWrong, Says};
-ghost use Rattle.fx_refute.specs.RefutationReading.{MayGive, MayRead, ended, only, packet_behind, reading, steps_behind};
+ghost use Rattle.fx_refute.specs.RefutationReading.{MayGive, MayReadRefutation, end_of_lines, only, packet_behind, refutation_in, steps_behind};
 ghost use Rattle.fx_refute.specs.Refutations as refutations;
 
 use crate::refutation::{Refutation, STEPS};
@@ -24,10 +24,10 @@ fn is_line(line: &[u8], other: &[u8]) -> bool
 /// Goes past the first line, which tells the text's version.
 fn read_first<R: Source>(lines: &mut LineReader<R>) -> Result<TextVersion, Fault>
     ensures going { OnOk result (lines.new.stopped ≡ None) }
-    ensures on { OnOk result (GoesOn lines.old lines.new) }
+    ensures on { OnOk result (GoesOnToLines lines.old lines.new) }
     ensures ok { IfOk result (λ version. Leads lines.old lines.new
-        (reading lines.old.number) (packet_behind version lines.new.number)) }
-    ensures err { IfErr result (λ e. Fails lines.old lines.new e ⊎ MayRead lines.old (Err e)) }
+        (refutation_in lines.old.number) (packet_behind version lines.new.number)) }
+    ensures err { IfErr result (λ e. Fails lines.old lines.new e ⊎ MayReadRefutation lines.old (Err e)) }
 {
     if !lines.advance()? {
         return Err(Fault::at_line(501, lines.number().saturating_add(1)));
@@ -50,9 +50,9 @@ fn read_next<R: Source>(
 ) -> Result<RunLine, Fault>
     requires { lines.old.stopped ≡ None }
     ensures going { OnOk result (lines.new.stopped ≡ None) }
-    ensures on { OnOk result (GoesOn lines.old lines.new) }
+    ensures on { OnOk result (GoesOnToLines lines.old lines.new) }
     ensures ok { IfOk result (λ x. Says version lines.old lines.new x) }
-    ensures smaller { OnOk result (budget lines.new < budget lines.old) }
+    ensures smaller { OnOk result (line_budget lines.new < line_budget lines.old) }
     ensures err { IfErr result (λ e. (e ≡ fault_at 900 places.None)
         ⊎ (Fails lines.old lines.new e ⊎ NextIsWrong version lines.old e)) }
 {
@@ -73,9 +73,9 @@ fn read_next<R: Source>(
 fn read_end<R: Source>(lines: &mut LineReader<R>) -> Result<(), Fault>
     requires { lines.old.stopped ≡ None }
     ensures ok { OnOk result ((r : refutations.Refutation)
-        → MayGive lines.old (ended lines.old.number r) (Ok r)) }
+        → MayGive lines.old (end_of_lines lines.old.number r) (Ok r)) }
     ensures err { IfErr result (λ e. Fails lines.old lines.new e
-        ⊎ ((r : refutations.Refutation) → MayGive lines.old (ended lines.old.number r) (Err e))) }
+        ⊎ ((r : refutations.Refutation) → MayGive lines.old (end_of_lines lines.old.number r) (Err e))) }
 {
     if lines.advance()? {
         return Err(Fault::at_line(501, lines.number()));
@@ -91,7 +91,7 @@ fn read_packet<R: Source>(
 ) -> Result<Packet, Fault>
     requires { lines.old.stopped ≡ None }
     ensures going { OnOk result (lines.new.stopped ≡ None) }
-    ensures on { OnOk result (GoesOn lines.old lines.new) }
+    ensures on { OnOk result (GoesOnToLines lines.old lines.new) }
     ensures ok { IfOk result (λ p. Leads lines.old lines.new
         (packet_behind version lines.old.number) (steps_behind version lines.new.number (only p))) }
     ensures err { IfErr result (λ e. (e ≡ fault_at 900 places.None)
@@ -149,9 +149,9 @@ pub fn read_refutation<R: Source>(
     alloc: Global,
     lines: &mut LineReader<R>,
 ) -> Result<Refutation, Fault>
-    ensures ok { IfOk result (λ r. MayRead lines.old (Ok r)) }
+    ensures ok { IfOk result (λ r. MayReadRefutation lines.old (Ok r)) }
     ensures err { IfErr result (λ e. (e ≡ fault_at 900 places.None)
-        ⊎ (Fails lines.old lines.new e ⊎ MayRead lines.old (Err e))) }
+        ⊎ (Fails lines.old lines.new e ⊎ MayReadRefutation lines.old (Err e))) }
 {
     let version = read_first(lines)?;
     let packet = read_packet(alloc, version, lines)?;

@@ -10,8 +10,8 @@ use Rattle.fx_tables.specs.declared.holder_name.HolderName.{HolderName}
 use Rattle.fx_tables.specs.declared.holder_name.HolderName.TheVariants.{Cache, Aggregation}
 use Rattle.fx_run_text.specs.declared.step.Step.{Step}
 use Rattle.fx_run_text.specs.declared.step.Step.TheVariants as step
-use Rattle.fx_run_text.specs.declared.run_line.Action.{Action}
-use Rattle.fx_run_text.specs.declared.run_line.Action.TheVariants.{Cross, Expire, Arrive}
+use Rattle.fx_run_text.specs.declared.run_line.StepAction.{StepAction}
+use Rattle.fx_run_text.specs.declared.run_line.StepAction.TheVariants.{Cross, Expire, Arrive}
 use Rattle.fx_run_text.specs.RunText.{choice_word, holder_words, step_words, IsNumber, AreChoices, IsHolderName, IsStep}
 use Rattle.fx_elements.specs.Words.{Words, first_word, number_first}
 use Rattle.fx_run_text.specs.RunReading.{cache_first, aggregation_first, holder_first, cross_first, expire_first, arrive_first, action_of, choices_behind, step_with, step_of}
@@ -117,33 +117,33 @@ holder_found ws r is =
     ])
 
 -- the words of an action, before those of its choices
-abbrev action_words : Action → Words
+abbrev action_words : StepAction → Words
 action_words (Cross packet crossing) = codes "cross" ∷ decimal packet ∷ decimal crossing ∷ []
 action_words (Expire holder position) = codes "expire" ∷ (holder_words holder ++ decimal position ∷ [])
 action_words (Arrive link position) = codes "arrive" ∷ decimal link ∷ decimal position ∷ []
 
-abbrev IsAction : Action → Type 0
+abbrev IsAction : StepAction → Type 0
 IsAction (Cross packet crossing) = IsNumber packet × IsNumber crossing
 IsAction (Expire holder position) = IsHolderName holder × IsNumber position
 IsAction (Arrive link position) = IsNumber link × IsNumber position
 
-abbrev ActionFound : (Action × Words) → Words → Type 0
+abbrev ActionFound : (StepAction × Words) → Words → Type 0
 ActionFound r ws = (ws ≡ action_words r.0 ++ r.1) × IsAction r.0
 
-cross_parts : (ws w1 w2 : Words) (a b : ℕ) (r : Action × Words) → (ws ≡ decimal a ∷ w1) × IsNumber a → (w1 ≡ decimal b ∷ w2) × IsNumber b → (Cross a b, w2) ≡ r → ActionFound r (codes "cross" ∷ ws)
-cross_parts ws w1 w2 a b r ha hb is = subst (λ (r : Action × Words). ActionFound r (codes "cross" ∷ ws)) is (rw (ha.0, hb.0) refl, (ha.1, hb.1))
+cross_parts : (ws w1 w2 : Words) (a b : ℕ) (r : StepAction × Words) → (ws ≡ decimal a ∷ w1) × IsNumber a → (w1 ≡ decimal b ∷ w2) × IsNumber b → (Cross a b, w2) ≡ r → ActionFound r (codes "cross" ∷ ws)
+cross_parts ws w1 w2 a b r ha hb is = subst (λ (r : StepAction × Words). ActionFound r (codes "cross" ∷ ws)) is (rw (ha.0, hb.0) refl, (ha.1, hb.1))
 
-cross_found : (ws : Words) (r : Action × Words) → cross_first ws ≡ Some r → ActionFound r (codes "cross" ∷ ws)
+cross_found : (ws : Words) (r : StepAction × Words) → cross_first ws ≡ Some r → ActionFound r (codes "cross" ∷ ws)
 unfolding cross_first
 cross_found ws r is =
     by_some (number_first ws) _ r is (λ a pa ea.
     by_some (number_first a.1) _ r ea (λ b pb eb.
     cross_parts ws a.1 b.1 a.0 b.0 r (number_word ws a pa) (number_word a.1 b pb) (some_is eb)))
 
-arrive_parts : (ws w1 w2 : Words) (a b : ℕ) (r : Action × Words) → (ws ≡ decimal a ∷ w1) × IsNumber a → (w1 ≡ decimal b ∷ w2) × IsNumber b → (Arrive a b, w2) ≡ r → ActionFound r (codes "arrive" ∷ ws)
-arrive_parts ws w1 w2 a b r ha hb is = subst (λ (r : Action × Words). ActionFound r (codes "arrive" ∷ ws)) is (rw (ha.0, hb.0) refl, (ha.1, hb.1))
+arrive_parts : (ws w1 w2 : Words) (a b : ℕ) (r : StepAction × Words) → (ws ≡ decimal a ∷ w1) × IsNumber a → (w1 ≡ decimal b ∷ w2) × IsNumber b → (Arrive a b, w2) ≡ r → ActionFound r (codes "arrive" ∷ ws)
+arrive_parts ws w1 w2 a b r ha hb is = subst (λ (r : StepAction × Words). ActionFound r (codes "arrive" ∷ ws)) is (rw (ha.0, hb.0) refl, (ha.1, hb.1))
 
-arrive_found : (ws : Words) (r : Action × Words) → arrive_first ws ≡ Some r → ActionFound r (codes "arrive" ∷ ws)
+arrive_found : (ws : Words) (r : StepAction × Words) → arrive_first ws ≡ Some r → ActionFound r (codes "arrive" ∷ ws)
 unfolding arrive_first
 arrive_found ws r is =
     by_some (number_first ws) _ r is (λ a pa ea.
@@ -154,12 +154,12 @@ holder_front : (h : HolderName) (position : ℕ) (ws : Words) → holder_words h
 holder_front (Cache device cache) position ws = refl
 holder_front (Aggregation device process aggregation) position ws = refl
 
-expire_parts : (ws w1 w2 : Words) (h : HolderName) (b : ℕ) (r : Action × Words) → (ws ≡ holder_words h ++ w1) × IsHolderName h → (w1 ≡ decimal b ∷ w2) × IsNumber b → (Expire h b, w2) ≡ r → ActionFound r (codes "expire" ∷ ws)
+expire_parts : (ws w1 w2 : Words) (h : HolderName) (b : ℕ) (r : StepAction × Words) → (ws ≡ holder_words h ++ w1) × IsHolderName h → (w1 ≡ decimal b ∷ w2) × IsNumber b → (Expire h b, w2) ≡ r → ActionFound r (codes "expire" ∷ ws)
 expire_parts ws w1 w2 h b r hh hb is =
     let k : ws ≡ (holder_words h ++ decimal b ∷ []) ++ w2 = hh.0 ∙ ap (λ (x : Words). holder_words h ++ x) hb.0 ∙ holder_front h b w2 in
-    subst (λ (r : Action × Words). ActionFound r (codes "expire" ∷ ws)) is (ap (λ (x : Words). codes "expire" ∷ x) k, (hh.1, hb.1))
+    subst (λ (r : StepAction × Words). ActionFound r (codes "expire" ∷ ws)) is (ap (λ (x : Words). codes "expire" ∷ x) k, (hh.1, hb.1))
 
-expire_found : (ws : Words) (r : Action × Words) → expire_first ws ≡ Some r → ActionFound r (codes "expire" ∷ ws)
+expire_found : (ws : Words) (r : StepAction × Words) → expire_first ws ≡ Some r → ActionFound r (codes "expire" ∷ ws)
 unfolding expire_first
 expire_found ws r is =
     by_some (holder_first ws) _ r is (λ h ph eh.
@@ -170,7 +170,7 @@ expire_found ws r is =
 of_kind : (P : Words → Type 0) (ws : Words) (w kind : List ℕ) → w ≡ kind → P (kind ∷ ws) → P (w ∷ ws)
 of_kind P ws w kind same p = subst P (ap (λ (x : List ℕ). x ∷ ws) (sym same)) p
 
-action_found : (kind : List ℕ) (ws : Words) (r : Action × Words) → action_of kind ws ≡ Some r → ActionFound r (kind ∷ ws)
+action_found : (kind : List ℕ) (ws : Words) (r : StepAction × Words) → action_of kind ws ≡ Some r → ActionFound r (kind ∷ ws)
 unfolding action_of
 action_found kind ws r is =
     elim (chosen (bytes_eq kind (codes "cross")) _ _ (Some r) is) [
@@ -184,12 +184,12 @@ action_found kind ws r is =
       ]
     ]
 
-with_choices : (a : Action) (choices : List (Option ℕ)) (ws : Words) → ws ≡ action_words a ++ map choice_word choices → IsAction a → AreChoices choices → (ws ≡ step_words (step_with a choices)) × IsStep (step_with a choices)
+with_choices : (a : StepAction) (choices : List (Option ℕ)) (ws : Words) → ws ≡ action_words a ++ map choice_word choices → IsAction a → AreChoices choices → (ws ≡ step_words (step_with a choices)) × IsStep (step_with a choices)
 with_choices (Cross packet crossing) choices ws e h c = (e, (h.0, h.1, c))
 with_choices (Expire holder position) choices ws e h c = (e ∙ ap (λ (x : Words). codes "expire" ∷ x) (sym (holder_front holder position (map choice_word choices))), (h.0, h.1, c))
 with_choices (Arrive link position) choices ws e h c = (e, (h.0, h.1, c))
 
-step_parts : (ws rest : Words) (a : Action) (all cs : List (Option ℕ)) (s : Step) → ws ≡ action_words a ++ rest → IsAction a → all ≡ [] ++ cs → rest ≡ map choice_word cs → AreChoices cs → step_with a all ≡ s → (ws ≡ step_words s) × IsStep s
+step_parts : (ws rest : Words) (a : StepAction) (all cs : List (Option ℕ)) (s : Step) → ws ≡ action_words a ++ rest → IsAction a → all ≡ [] ++ cs → rest ≡ map choice_word cs → AreChoices cs → step_with a all ≡ s → (ws ≡ step_words s) × IsStep s
 step_parts ws rest a all cs s e h same more are is =
     let w : (ws ≡ step_words (step_with a cs)) × IsStep (step_with a cs) = with_choices a cs ws (e ∙ ap (λ (x : Words). action_words a ++ x) more) h are in
     let k : step_with a cs ≡ s = ap (λ (x : List (Option ℕ)). step_with a x) (sym same) ∙ is in

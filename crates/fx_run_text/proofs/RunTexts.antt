@@ -31,12 +31,12 @@ use Rattle.fx_run_text.specs.declared.text_version.TextVersion.{TextVersion}
 use Rattle.fx_run_text.specs.declared.text_version.TextVersion.TheVariants.{One, Two}
 use Rattle.fx_run_text.specs.declared.run_line.RunLine.{RunLine}
 use Rattle.fx_run_text.specs.declared.run_line.RunLine.TheVariants as line
-use Rattle.fx_base.specs.Entries.{numbered}
+use Rattle.fx_base.specs.Entries.{entry_numbered}
 use Rattle.fx_tables.specs.Classes.{Class, IsOf, is_of}
-use Rattle.fx_run_text.specs.RunText.{Run, choice_word, field_words, packet_words, holder_words, step_words, first_words, last_words, run_lines, lines_text, run_text, AreChoices, IsHolderName, IsStep, IsPacket, IsPacketOf, IsRun, AreShort, CanSay, line_axes}
+use Rattle.fx_run_text.specs.RunText.{Run, choice_word, field_words, packet_words, holder_words, step_words, first_words, last_words, run_lines, lines_text, run_text, AreChoices, IsHolderName, IsStep, IsPacket, IsPacketOf, IsWritableRun, AreShort, CanSay, line_axes}
 use Rattle.fx_run_text.specs.RunLineText.{IsRunLine, line_words, run_line_text}
 use Rattle.fx_elements.specs.Words.{Words, words, first_word}
-use Rattle.fx_run_text.specs.RunReading.{at_end, packet_of, step_of, line_of_kind, line_of, Line, at_line, well_formed, said, no_run, with_packet, with_step, packet_fault, unless, from_line, ended, behind, reading}
+use Rattle.fx_run_text.specs.RunReading.{at_end, packet_of, step_of, line_of_kind, line_of, TextLine, at_line, well_formed, said, no_run, with_packet, with_step, packet_fault, unless, from_line, end_of_lines, behind, run_in}
 use Rattle.fx_run_text.proofs.RunWordTexts.{word_found, same_word, end_found, packet_text, packet_found}
 use Rattle.fx_run_text.proofs.RunStepTexts.{step_text, step_found}
 
@@ -184,18 +184,18 @@ text_line : (l rest : List ℕ) → IsLine l → text_lines (l ++ 10 ∷ rest) �
 text_line [] rest h = refl
 text_line (b ∷ bs) rest h = rw (ne_eqb b 10 h.0, text_line bs rest h.1) refl
 
-abbrev pub ended_line : List ℕ → Line
+abbrev pub ended_line : List ℕ → TextLine
 ended_line l = (l, true)
 
 pub text_of_lines : (ls : List (List ℕ)) → AllByRecursion IsLine ls → text_lines (lines_text ls) ≡ map ended_line ls
 text_of_lines [] h = refl
-text_of_lines (l ∷ ls) h = rw (append_assoc l (10 ∷ []) (lines_text ls)) (text_line l (lines_text ls) h.0 ∙ ap (λ (x : List Line). (l, true) ∷ x) (text_of_lines ls h.1))
+text_of_lines (l ∷ ls) h = rw (append_assoc l (10 ∷ []) (lines_text ls)) (text_line l (lines_text ls) h.0 ∙ ap (λ (x : List TextLine). (l, true) ∷ x) (text_of_lines ls h.1))
 
 -- the text of a line, with its line feed where it has one
-abbrev line_text : Line → List ℕ
+abbrev line_text : TextLine → List ℕ
 line_text l = l.0 ++ cond l.1 (10 ∷ []) []
 
-begun : (b : ℕ) (ls : List Line) → flat_map line_text (begin_line b ls) ≡ b ∷ flat_map line_text ls
+begun : (b : ℕ) (ls : List TextLine) → flat_map line_text (begin_line b ls) ≡ b ∷ flat_map line_text ls
 begun b [] = refl
 begun b (l ∷ ls) = refl
 
@@ -211,7 +211,7 @@ ended_text [] = refl
 ended_text (l ∷ ls) = ap (λ (x : List ℕ). (l ++ 10 ∷ []) ++ x) (ended_text ls)
 
 pub text_is : (text : List ℕ) (ls : List (List ℕ)) → text_lines text ≡ map ended_line ls → text ≡ lines_text ls
-text_is text ls e = sym (text_back text) ∙ ap (λ (x : List Line). flat_map line_text x) e ∙ ended_text ls
+text_is text ls e = sym (text_back text) ∙ ap (λ (x : List TextLine). flat_map line_text x) e ∙ ended_text ls
 
 -- ---- packets and their classes
 
@@ -225,11 +225,11 @@ some_back (Some x) h = λ e. absurd cc
 
 pub of_true : (p : Packet) (c : Option Class) → IsOf p c → is_of p c ≡ true
 of_true p None h = absurd h
-of_true p (Some c) h = rw (h.0, some_true (numbered c.paths p.path) h.1) refl
+of_true p (Some c) h = rw (h.0, some_true (entry_numbered c.paths p.path) h.1) refl
 
 pub of_back : (p : Packet) (c : Option Class) → is_of p c ≡ true → IsOf p c
 of_back p None h = absurd cc
-of_back p (Some c) h = let k = both _ (is_some (numbered c.paths p.path)) h in (k.0, some_back (numbered c.paths p.path) k.1)
+of_back p (Some c) h = let k = both _ (is_some (entry_numbered c.paths p.path)) h in (k.0, some_back (entry_numbered c.paths p.path) k.1)
 
 -- ---- lines
 
@@ -297,7 +297,7 @@ steps_read version classes (s ∷ ss) n run h short =
 packets_read : (version : TextVersion) (classes : List Class) (ps : List Packet) (ss : List Step) (n : ℕ) (qs : List Packet) → AllByRecursion (IsPacketOf version classes) ps → AllByRecursion IsStep ss → AreShort (packet_lines version ps ss) → behind version classes n (record { packets = qs; steps = [] }) (map ended_line (packet_lines version ps ss)) ≡ Ok (record { packets = qs ++ ps; steps = ss })
 packets_read version classes [] ss n qs of are short = steps_read version classes ss n (record { packets = qs; steps = [] }) are short ∙ ap (λ (x : List Packet). Ok (record { packets = x; steps = ss })) (sym (append-nil qs))
 packets_read version classes (p ∷ ps) ss n qs of are short =
-    rw (says_packet version p of.0.0 of.0.1 short.0, of_true p (numbered classes p.class) of.0.2)
+    rw (says_packet version p of.0.0 of.0.1 short.0, of_true p (entry_numbered classes p.class) of.0.2)
     (packets_read version classes ps ss (next_number n) (qs ++ p ∷ []) of.1 are short.1 ∙ ap (λ (x : List Packet). Ok (record { packets = x; steps = ss })) (append_assoc qs (p ∷ []) ps))
 
 packets_lines : (version : TextVersion) (classes : List Class) (ps : List Packet) (ss : List Step) → AllByRecursion (IsPacketOf version classes) ps → AllByRecursion IsStep ss → AllByRecursion IsLine (packet_lines version ps ss)
@@ -310,15 +310,15 @@ first_words_plain One = (written (codes "once-run") refl, (written (codes "1") r
 first_words_plain Two = (written (codes "once-run") refl, (written (codes "2") refl, tt))
 
 -- behind the first line of a version, its lines are read
-first_read : (version : TextVersion) (classes : List Class) (n : ℕ) (ls : List Line) → reading classes n (ended_line (text_of_words (first_words version)) ∷ ls) ≡ behind version classes (next_number n) no_run ls
+first_read : (version : TextVersion) (classes : List Class) (n : ℕ) (ls : List TextLine) → run_in classes n (ended_line (text_of_words (first_words version)) ∷ ls) ≡ behind version classes (next_number n) no_run ls
 first_read One classes n ls = refl
 first_read Two classes n ls = refl
 
-pub text_read : (version : TextVersion) (classes : List Class) (run : Run) (n : ℕ) → IsRun version classes run → AreShort (run_lines version run) → reading classes n (text_lines (run_text version run)) ≡ Ok run
+pub text_read : (version : TextVersion) (classes : List Class) (run : Run) (n : ℕ) → IsWritableRun version classes run → AreShort (run_lines version run) → run_in classes n (text_lines (run_text version run)) ≡ Ok run
 text_read version classes run n is short =
     let lines : AllByRecursion IsLine (run_lines version run) = (line_join (first_words version) (first_words_plain version), packets_lines version classes run.packets run.steps is.packets is.steps) in
     let k : text_lines (run_text version run) ≡ map ended_line (run_lines version run) = text_of_lines (run_lines version run) lines in
-    ap (λ (ls : List Line). reading classes n ls) k ∙ first_read version classes n (map ended_line (packet_lines version run.packets run.steps)) ∙ packets_read version classes run.packets run.steps (next_number n) [] is.packets is.steps short.1
+    ap (λ (ls : List TextLine). run_in classes n ls) k ∙ first_read version classes n (map ended_line (packet_lines version run.packets run.steps)) ∙ packets_read version classes run.packets run.steps (next_number n) [] is.packets is.steps short.1
 
 -- ---- what is read is a run's text
 
@@ -367,7 +367,7 @@ formed None x e = absurd cc
 formed (Some y) x e = let k : y ≡ x = cc in ap (λ (z : RunLine). Some z) k
 
 -- a line that says something: it is short, ended and well-formed
-pub record Says (version : TextVersion) (l : Line) (x : RunLine) : Type 0 where
+pub record Says (version : TextVersion) (l : TextLine) (x : RunLine) : Type 0 where
   pub short : length l.0 ≤ 4096
   pub ended : l.1 ≡ true
   pub words_are : LineIs version x (words l.0)
@@ -379,7 +379,7 @@ not_long n e =
       | inr le ↦ le
     ]
 
-pub says_found : (version : TextVersion) (l : Line) (x : RunLine) → said version l ≡ Ok x → Says version l x
+pub says_found : (version : TextVersion) (l : TextLine) (x : RunLine) → said version l ≡ Ok x → Says version l x
 says_found version l x e =
     elim (chosen (nat_lt 4096 (length l.0)) (Err 903) _ (Ok x) e) [
       | inl h ↦ absurd cc
@@ -390,18 +390,18 @@ says_found version l x e =
     ]
 
 -- such a line is the text of its words
-pub line_is : (l : Line) (ws : Words) → l.1 ≡ true → words l.0 ≡ ws → l ≡ (text_of_words ws, true)
+pub line_is : (l : TextLine) (ws : Words) → l.1 ≡ true → words l.0 ≡ ws → l ≡ (text_of_words ws, true)
 line_is l ws ended e =
     let k : l.0 ≡ text_of_words ws = sym (join_with_byte-slice_split 32 l.0) ∙ ap (λ (x : Words). text_of_words x) e in
     rw (← ended, ← k) refl
 
-pub short_is : (l : Line) (ws : Words) → length l.0 ≤ 4096 → words l.0 ≡ ws → length (text_of_words ws) ≤ 4096
+pub short_is : (l : TextLine) (ws : Words) → length l.0 ≤ 4096 → words l.0 ≡ ws → length (text_of_words ws) ≤ 4096
 short_is l ws short e =
     let k : l.0 ≡ text_of_words ws = sym (join_with_byte-slice_split 32 l.0) ∙ ap (λ (x : Words). text_of_words x) e in
     subst (λ (x : List ℕ). length x ≤ 4096) k short
 
 -- the packets and the steps that were read in lines, behind those of a run
-record Comes (version : TextVersion) (classes : List Class) (run result : Run) (ls : List Line) : Type 0 where
+record Comes (version : TextVersion) (classes : List Class) (run result : Run) (ls : List TextLine) : Type 0 where
   ps : List Packet
   ss : List Step
   packets : result.packets ≡ run.packets ++ ps
@@ -416,17 +416,17 @@ unless_found : (o : Option ℕ) (n : ℕ) (r : Result Run Fault) (y : Run) → u
 unless_found None n r y e = (refl, e)
 unless_found (Some k) n r y e = absurd cc
 
-no_fault : (classes : List Class) (run : Run) (p : Packet) → packet_fault classes run p ≡ None → (length run.steps ≡ 0) × (is_of p (numbered classes p.class) ≡ true)
+no_fault : (classes : List Class) (run : Run) (p : Packet) → packet_fault classes run p ≡ None → (length run.steps ≡ 0) × (is_of p (entry_numbered classes p.class) ≡ true)
 no_fault classes run p e =
     elim (chosen (eqb (length run.steps) 0) _ (Some 855) None e) [
-      | inl h ↦ elim (chosen (is_of p (numbered classes p.class)) None (Some 856) None h.1) [
+      | inl h ↦ elim (chosen (is_of p (entry_numbered classes p.class)) None (Some 856) None h.1) [
         | inl i ↦ (eqb-true (length run.steps) 0 h.0, i.0)
         | inr i ↦ absurd cc
       ]
       | inr h ↦ absurd cc
     ]
 
-packet_comes : (version : TextVersion) (classes : List Class) (n : ℕ) (run result : Run) (p : Packet) (l : Line) (ls : List Line) → Says version l (line.Packet p) → packet_fault classes run p ≡ None → Comes version classes (with_packet run p) result ls → Comes version classes run result (l ∷ ls)
+packet_comes : (version : TextVersion) (classes : List Class) (n : ℕ) (run result : Run) (p : Packet) (l : TextLine) (ls : List TextLine) → Says version l (line.Packet p) → packet_fault classes run p ≡ None → Comes version classes (with_packet run p) result ls → Comes version classes run result (l ∷ ls)
 packet_comes version classes n run result p l ls says none m =
     let k = no_fault classes run p none in
     record {
@@ -434,14 +434,14 @@ packet_comes version classes n run result p l ls says none m =
       ss = m.ss;
       packets = m.packets ∙ append_assoc run.packets (p ∷ []) m.ps;
       steps = m.steps;
-      lines = ap (λ (x : Line). x ∷ ls) (line_is l (packet_words version p) says.ended says.words_are.0) ∙ ap (λ (x : List Line). (text_of_words (packet_words version p), true) ∷ x) m.lines;
-      of = ((says.words_are.1, says.words_are.2, of_back p (numbered classes p.class) k.1), m.of);
+      lines = ap (λ (x : TextLine). x ∷ ls) (line_is l (packet_words version p) says.ended says.words_are.0) ∙ ap (λ (x : List TextLine). (text_of_words (packet_words version p), true) ∷ x) m.lines;
+      of = ((says.words_are.1, says.words_are.2, of_back p (entry_numbered classes p.class) k.1), m.of);
       are = m.are;
       short = (short_is l (packet_words version p) says.short says.words_are.0, m.short);
       stepped = λ h. absurd (omega (arith, k.0, h));
     }
 
-step_comes : (version : TextVersion) (classes : List Class) (n : ℕ) (run result : Run) (s : Step) (l : Line) (ls : List Line) → Says version l (line.Step s) → Comes version classes (with_step run s) result ls → Comes version classes run result (l ∷ ls)
+step_comes : (version : TextVersion) (classes : List Class) (n : ℕ) (run result : Run) (s : Step) (l : TextLine) (ls : List TextLine) → Says version l (line.Step s) → Comes version classes (with_step run s) result ls → Comes version classes run result (l ∷ ls)
 step_comes version classes n run result s l ls says m =
     let some : 0 < length (run.steps ++ s ∷ []) = omega (arith, length-append run.steps (s ∷ [])) in
     let none : m.ps ≡ [] = m.stepped some in
@@ -450,14 +450,14 @@ step_comes version classes n run result s l ls says m =
       ss = s ∷ m.ss;
       packets = m.packets ∙ ap (λ (x : List Packet). run.packets ++ x) none;
       steps = m.steps ∙ append_assoc run.steps (s ∷ []) m.ss;
-      lines = ap (λ (x : Line). x ∷ ls) (line_is l (step_words s) says.ended says.words_are.0) ∙ ap (λ (x : List Line). (text_of_words (step_words s), true) ∷ x) (m.lines ∙ ap (λ (x : List Packet). map ended_line (packet_lines version x m.ss)) none);
+      lines = ap (λ (x : TextLine). x ∷ ls) (line_is l (step_words s) says.ended says.words_are.0) ∙ ap (λ (x : List TextLine). (text_of_words (step_words s), true) ∷ x) (m.lines ∙ ap (λ (x : List Packet). map ended_line (packet_lines version x m.ss)) none);
       of = tt;
       are = (says.words_are.1, m.are);
       short = (short_is l (step_words s) says.short says.words_are.0, subst (λ (x : List Packet). AreShort (packet_lines version x m.ss)) none m.short);
       stepped = λ h. refl;
     }
 
-end_comes : (version : TextVersion) (classes : List Class) (n : ℕ) (run result : Run) (l : Line) (ls : List Line) → Says version l line.End → ended n run ls ≡ Ok result → Comes version classes run result (l ∷ ls)
+end_comes : (version : TextVersion) (classes : List Class) (n : ℕ) (run result : Run) (l : TextLine) (ls : List TextLine) → Says version l line.End → end_of_lines n run ls ≡ Ok result → Comes version classes run result (l ∷ ls)
 end_comes version classes n run result l [] says e =
     let k : run ≡ result = cc in
     record {
@@ -465,7 +465,7 @@ end_comes version classes n run result l [] says e =
       ss = [];
       packets = ap (λ (x : Run). x.packets) (sym k) ∙ sym (append-nil run.packets);
       steps = ap (λ (x : Run). x.steps) (sym k) ∙ sym (append-nil run.steps);
-      lines = ap (λ (x : Line). x ∷ []) (line_is l last_words says.ended says.words_are);
+      lines = ap (λ (x : TextLine). x ∷ []) (line_is l last_words says.ended says.words_are);
       of = tt;
       are = tt;
       short = (short_is l last_words says.short says.words_are, tt);
@@ -473,7 +473,7 @@ end_comes version classes n run result l [] says e =
     }
 end_comes version classes n run result l (m ∷ ms) says e = absurd cc
 
-comes : (version : TextVersion) (classes : List Class) (ls : List Line) (n : ℕ) (run result : Run) → behind version classes n run ls ≡ Ok result → Comes version classes run result ls
+comes : (version : TextVersion) (classes : List Class) (ls : List TextLine) (n : ℕ) (run result : Run) → behind version classes n run ls ≡ Ok result → Comes version classes run result ls
 comes version classes [] n run result e = absurd cc
 comes version classes (l ∷ ls) n run result e = by_said (said version l) refl e (λ r f. comes version classes ls (next_number n) r result f) where
   by_said : (x : Result RunLine ℕ) → said version l ≡ x → from_line classes (next_number n) run x ls (λ r. behind version classes (next_number n) r ls) ≡ Ok result → ((r : Run) → behind version classes (next_number n) r ls ≡ Ok result → Comes version classes r result ls) → Comes version classes run result (l ∷ ls)
@@ -485,13 +485,13 @@ comes version classes (l ∷ ls) n run result e = by_said (said version l) refl 
   by_said (Ok line.End) s f more = end_comes version classes (next_number n) run result l ls (says_found version l line.End s) f
 
 -- the first line, and what comes behind it
-record Begins (classes : List Class) (ls : List Line) (run : Run) : Type 0 where
+record Begins (classes : List Class) (ls : List TextLine) (run : Run) : Type 0 where
   version : TextVersion
-  rest : List Line
+  rest : List TextLine
   first : ls ≡ (text_of_words (first_words version), true) ∷ rest
   comes_behind : Comes version classes no_run run rest
 
-first_comes : (classes : List Class) (ls : List Line) (n : ℕ) (run : Run) → reading classes n ls ≡ Ok run → Begins classes ls run
+first_comes : (classes : List Class) (ls : List TextLine) (n : ℕ) (run : Run) → run_in classes n ls ≡ Ok run → Begins classes ls run
 first_comes classes [] n run e = absurd cc
 first_comes classes (l ∷ ls) n run e =
     elim (chosen (nat_lt 4096 (length l.0)) (Err (at_line 903 (next_number n))) _ (Ok run) e) [
@@ -512,7 +512,7 @@ first_comes classes (l ∷ ls) n run e =
     ]
 
 abbrev IsTextOf : TextVersion → List Class → List ℕ → Run → Type 0
-IsTextOf version classes text run = (text ≡ run_text version run) × IsRun version classes run × AreShort (run_lines version run)
+IsTextOf version classes text run = (text ≡ run_text version run) × IsWritableRun version classes run × AreShort (run_lines version run)
 
 first_short : (version : TextVersion) → length (text_of_words (first_words version)) ≤ 4096
 first_short One = omega arith
@@ -522,11 +522,11 @@ text_of_parts : (version : TextVersion) (classes : List Class) (text : List ℕ)
 text_of_parts version classes text ps ss e of are short =
     (text_is text (text_of_words (first_words version) ∷ packet_lines version ps ss) e, record { packets = of; steps = are }, (first_short version, short))
 
-pub text_found : (classes : List Class) (text : List ℕ) (run : Run) (n : ℕ) → reading classes n (text_lines text) ≡ Ok run → (version : TextVersion) × (text ≡ run_text version run) × IsRun version classes run × AreShort (run_lines version run)
+pub text_found : (classes : List Class) (text : List ℕ) (run : Run) (n : ℕ) → run_in classes n (text_lines text) ≡ Ok run → (version : TextVersion) × (text ≡ run_text version run) × IsWritableRun version classes run × AreShort (run_lines version run)
 text_found classes text run n e =
     let f = first_comes classes (text_lines text) n run e in
     let m = f.comes_behind in
-    let parts : IsTextOf f.version classes text (record { packets = m.ps; steps = m.ss }) = text_of_parts f.version classes text m.ps m.ss (f.first ∙ ap (λ (x : List Line). (text_of_words (first_words f.version), true) ∷ x) m.lines) m.of m.are m.short in
+    let parts : IsTextOf f.version classes text (record { packets = m.ps; steps = m.ss }) = text_of_parts f.version classes text m.ps m.ss (f.first ∙ ap (λ (x : List TextLine). (text_of_words (first_words f.version), true) ∷ x) m.lines) m.of m.are m.short in
     let same : record { packets = m.ps; steps = m.ss } ≡ run = run_is run m.ps m.ss m.packets m.steps in
     let q = subst (λ (r : Run). IsTextOf f.version classes text r) same parts in
     (f.version, q.0, q.1, q.2) where

@@ -5,7 +5,7 @@ use Rattle.fx_run_text.specs.declared.run_line.RunLine.{RunLine}
 use Rattle.fx_run_text.specs.declared.run_line.RunLine.TheVariants.{Packet, Step, End}
 use Rattle.fx_run_text.specs.declared.text_version.TextVersion.{TextVersion}
 use Rattle.fx_run_text.specs.RunText.{packet_words, step_words, last_words, IsPacket, CanSay, IsStep}
-use Rattle.fx_run_text.specs.RunReading.{Line}
+use Rattle.fx_run_text.specs.RunReading.{TextLine}
 
 abbrev pub line_words : TextVersion → RunLine → List (List ℕ)
 line_words version (Packet p) = packet_words version p
@@ -25,9 +25,9 @@ IsRunLine version End = Unit {0}
 abbrev pub IsOneLine : List ℕ → Type 0
 IsOneLine line = AllByRecursion (λ b. b ≢ 10) line
 
-abbrev pub ended_line : List ℕ → Line
+abbrev pub ended_line : List ℕ → TextLine
 ended_line line = (line, true)
 
 -- each of these words behind a space
-abbrev pub spaced : List (List ℕ) → List ℕ
-spaced ws = flat_map (λ w. 32 ∷ w) ws
+abbrev pub spaced_words : List (List ℕ) → List ℕ
+spaced_words ws = flat_map (λ w. 32 ∷ w) ws

@@ -7,7 +7,7 @@ use Rattle.fx_base.specs.declared.fault.Fault.{Fault}
 use Rattle.fx_base.specs.declared.fault.Place.TheVariants as places
 use Rattle.fx_base.specs.Fault.{fault_at}
 use Rattle.fx_base.specs.Device.{MayBeLeft, MayHaveLeft}
-use Rattle.fx_base.specs.Lines.{Lines, IsCutOff, text_lines, next_number}
+use Rattle.fx_base.specs.Lines.{Lines, IsTextCutOff, text_lines, next_number}
 use Rattle.fx_elements.specs.declared.axis.Axis.{Axis}
 use Rattle.fx_elements.specs.declared.axis.Axis.TheVariants.{Source, Destination, Protocol, SourcePort, DestinationPort, ClassOfService, Version, Source6, Destination6}
 use Rattle.fx_elements.specs.Axes.{Fields}
@@ -18,14 +18,14 @@ use Rattle.fx_tables.specs.declared.holder_name.HolderName.{HolderName}
 use Rattle.fx_tables.specs.declared.holder_name.HolderName.TheVariants.{Cache, Aggregation}
 use Rattle.fx_run_text.specs.declared.step.Step.{Step}
 use Rattle.fx_run_text.specs.declared.step.Step.TheVariants as step
-use Rattle.fx_run_text.specs.declared.run_line.Action.{Action}
-use Rattle.fx_run_text.specs.declared.run_line.Action.TheVariants.{Cross, Expire, Arrive}
+use Rattle.fx_run_text.specs.declared.run_line.StepAction.{StepAction}
+use Rattle.fx_run_text.specs.declared.run_line.StepAction.TheVariants.{Cross, Expire, Arrive}
 use Rattle.fx_run_text.specs.declared.run_line.LastFields.{LastFields}
 use Rattle.fx_run_text.specs.declared.text_version.TextVersion.{TextVersion}
 use Rattle.fx_run_text.specs.declared.text_version.TextVersion.TheVariants.{One, Two}
 use Rattle.fx_run_text.specs.declared.run_line.RunLine.{RunLine}
 use Rattle.fx_run_text.specs.declared.run_line.RunLine.TheVariants as line
-use Rattle.fx_base.specs.Entries.{numbered}
+use Rattle.fx_base.specs.Entries.{entry_numbered}
 use Rattle.fx_tables.specs.Classes.{Class, is_of}
 use Rattle.fx_run_text.specs.RunText.{Run}
 
@@ -86,26 +86,26 @@ holder_first ws = do
   kind ← first_word ws
   if bytes_eq kind.0 (codes "cache") then cache_first kind.1 else if bytes_eq kind.0 (codes "aggregation") then aggregation_first kind.1 else None
 
-unfoldable pub cross_first : Words → Option (Action × Words)
+unfoldable pub cross_first : Words → Option (StepAction × Words)
 cross_first ws = do
   packet ← number_first ws
   crossing ← number_first packet.1
   Some (Cross packet.0 crossing.0, crossing.1)
 
-unfoldable pub expire_first : Words → Option (Action × Words)
+unfoldable pub expire_first : Words → Option (StepAction × Words)
 expire_first ws = do
   holder ← holder_first ws
   position ← number_first holder.1
   Some (Expire holder.0 position.0, position.1)
 
-unfoldable pub arrive_first : Words → Option (Action × Words)
+unfoldable pub arrive_first : Words → Option (StepAction × Words)
 arrive_first ws = do
   link ← number_first ws
   position ← number_first link.1
   Some (Arrive link.0 position.0, position.1)
 
 -- the action of this kind
-unfoldable pub action_of : List ℕ → Words → Option (Action × Words)
+unfoldable pub action_of : List ℕ → Words → Option (StepAction × Words)
 action_of kind ws =
     if bytes_eq kind (codes "cross") then cross_first ws
     else if bytes_eq kind (codes "expire") then expire_first ws
@@ -121,7 +121,7 @@ abbrev pub choices_behind : List (Option ℕ) → Words → Option (List (Option
 choices_behind choices [] = Some choices
 choices_behind choices (w ∷ ws) = choice_of w >>= λ choice. choices_behind (choices ++ choice ∷ []) ws
 
-abbrev pub step_with : Action → List (Option ℕ) → Step
+abbrev pub step_with : StepAction → List (Option ℕ) → Step
 step_with (Cross packet crossing) choices = step.Cross packet crossing choices
 step_with (Expire holder position) choices = step.Expire holder position choices
 step_with (Arrive link position) choices = step.Arrive link position choices
@@ -148,8 +148,8 @@ line_of version ws = first_word ws >>= λ kind. line_of_kind version kind.0 kind
 -- ---- a text
 
 -- a line, and whether a line feed ended it
-abbrev pub Line : Type 0
-Line = List ℕ × Bool
+abbrev pub TextLine : Type 0
+TextLine = List ℕ × Bool
 
 abbrev pub at_line : ℕ → ℕ → Fault
 at_line number n = fault_at number (places.Line n)
@@ -159,7 +159,7 @@ well_formed None = Err 855
 well_formed (Some x) = Ok x
 
 -- what a line says, or the number of its fault
-abbrev pub said : TextVersion → Line → Result RunLine ℕ
+abbrev pub said : TextVersion → TextLine → Result RunLine ℕ
 said version l = if nat_lt 4096 (length l.0) then Err 903 else if l.1 then well_formed (line_of version (words l.0)) else Err 855
 
 abbrev pub no_run : Run
@@ -173,12 +173,12 @@ with_step run s = record { packets = run.packets; steps = run.steps ++ s ∷ [] 
 
 -- the fault of a packet line: 855 behind a step, 856 where the packet isn't of its class
 abbrev pub packet_fault : List Class → Run → Packet → Option ℕ
-packet_fault classes run p = if length run.steps == 0 then (if is_of p (numbered classes p.class) then None else Some 856) else Some 855
+packet_fault classes run p = if length run.steps == 0 then (if is_of p (entry_numbered classes p.class) then None else Some 856) else Some 855
 
 -- no line comes behind the last, which has the number n
-abbrev pub ended : ℕ → Run → List Line → Result Run Fault
-ended n run [] = Ok run
-ended n run (l ∷ ls) = Err (at_line (if nat_lt 4096 (length l.0) then 903 else 855) (next_number n))
+abbrev pub end_of_lines : ℕ → Run → List TextLine → Result Run Fault
+end_of_lines n run [] = Ok run
+end_of_lines n run (l ∷ ls) = Err (at_line (if nat_lt 4096 (length l.0) then 903 else 855) (next_number n))
 
 -- the fault of this number at the line n, if there is one
 abbrev pub unless : Option ℕ → ℕ → Result Run Fault → Result Run Fault
@@ -186,46 +186,46 @@ unless None n result = result
 unless (Some number) n result = Err (at_line number n)
 
 -- the run that the line n and those behind it complete, where `next` reads those behind it
-abbrev pub from_line : List Class → ℕ → Run → Result RunLine ℕ → List Line → (Run → Result Run Fault) → Result Run Fault
+abbrev pub from_line : List Class → ℕ → Run → Result RunLine ℕ → List TextLine → (Run → Result Run Fault) → Result Run Fault
 from_line classes n run (Err number) ls next = Err (at_line number n)
 from_line classes n run (Ok (line.Packet p)) ls next = unless (packet_fault classes run p) n (next (with_packet run p))
 from_line classes n run (Ok (line.Step s)) ls next = next (with_step run s)
-from_line classes n run (Ok line.End) ls next = ended n run ls
+from_line classes n run (Ok line.End) ls next = end_of_lines n run ls
 
 -- the run that the lines of such a text behind the line n complete, or the first fault
-abbrev pub behind : TextVersion → List Class → ℕ → Run → List Line → Result Run Fault
+abbrev pub behind : TextVersion → List Class → ℕ → Run → List TextLine → Result Run Fault
 behind version classes n run [] = Err (at_line 855 (next_number n))
 behind version classes n run (l ∷ ls) = from_line classes (next_number n) run (said version l) ls (λ r. behind version classes (next_number n) r ls)
 
 -- the run whose text has these lines, the first of which comes behind the line n, or the first fault
-abbrev pub reading : List Class → ℕ → List Line → Result Run Fault
-reading classes n [] = Err (at_line 855 (next_number n))
-reading classes n (l ∷ ls) =
+abbrev pub run_in : List Class → ℕ → List TextLine → Result Run Fault
+run_in classes n [] = Err (at_line 855 (next_number n))
+run_in classes n (l ∷ ls) =
     if nat_lt 4096 (length l.0) then Err (at_line 903 (next_number n))
     else if l.1 && bytes_eq l.0 (codes "once-run 1") then behind One classes (next_number n) no_run ls
     else if l.1 && bytes_eq l.0 (codes "once-run 2") then behind Two classes (next_number n) no_run ls
     else Err (at_line 854 (next_number n))
 
 -- what reading comes to, of a text that the reader of lines may have left
-abbrev pub MayRead : List Class → Lines → Result Run Fault → Type 0
-MayRead classes lines result = MayHaveLeft lines.left (λ text. reading classes lines.number (text_lines text) ≡ result)
+abbrev pub MayReadRun : List Class → Lines → Result Run Fault → Type 0
+MayReadRun classes lines result = MayHaveLeft lines.left (λ text. run_in classes lines.number (text_lines text) ≡ result)
 
 -- the same of a reader that is behind the first line and has read so much of a run, and of one that is behind the last
 abbrev pub MayReadBehind : TextVersion → List Class → Lines → Run → Result Run Fault → Type 0
 MayReadBehind version classes lines run result = MayHaveLeft lines.left (λ text. behind version classes lines.number run (text_lines text) ≡ result)
 
 abbrev pub MayEnd : Lines → Run → Result Run Fault → Type 0
-MayEnd lines run result = MayHaveLeft lines.left (λ text. ended lines.number run (text_lines text) ≡ result)
+MayEnd lines run result = MayHaveLeft lines.left (λ text. end_of_lines lines.number run (text_lines text) ≡ result)
 
 -- whatever is left behind the first line, reading it is reading a text that may have been left before it
 abbrev pub ReadsFirst : TextVersion → Lines → Lines → Type 0
 ReadsFirst version old new =
     (rest : List ℕ) → MayBeLeft new.left rest
-    → MayHaveLeft old.left (λ text. (classes : List Class) → reading classes old.number (text_lines text) ≡ behind version classes new.number no_run (text_lines rest))
+    → MayHaveLeft old.left (λ text. (classes : List Class) → run_in classes old.number (text_lines text) ≡ behind version classes new.number no_run (text_lines rest))
 
 -- the same of a later line, which says this
-abbrev pub ReadsNext : TextVersion → Lines → Lines → RunLine → Type 0
-ReadsNext version old new x =
+abbrev pub ReadsNextLine : TextVersion → Lines → Lines → RunLine → Type 0
+ReadsNextLine version old new x =
     (rest : List ℕ) → MayBeLeft new.left rest
     → MayHaveLeft old.left (λ text. (classes : List Class) (run : Run) → behind version classes old.number run (text_lines text) ≡ from_line classes new.number run (Ok x) (text_lines rest) (λ r. behind version classes new.number r (text_lines rest)))
 
@@ -233,4 +233,4 @@ ReadsNext version old new x =
 abbrev pub ReadsOn : TextVersion → List Class → Lines → Lines → Run → Type 0
 ReadsOn version classes old new run =
     (rest : List ℕ) → MayBeLeft new.left rest
-    → MayHaveLeft old.left (λ text. reading classes old.number (text_lines text) ≡ behind version classes new.number run (text_lines rest))
+    → MayHaveLeft old.left (λ text. run_in classes old.number (text_lines text) ≡ behind version classes new.number run (text_lines rest))

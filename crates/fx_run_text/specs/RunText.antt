@@ -14,7 +14,7 @@ use Rattle.fx_tables.specs.declared.holder_name.HolderName.{HolderName}
 use Rattle.fx_tables.specs.declared.holder_name.HolderName.TheVariants.{Cache, Aggregation}
 use Rattle.fx_run_text.specs.declared.step.Step.{Step}
 use Rattle.fx_run_text.specs.declared.step.Step.TheVariants.{Cross, Expire, Arrive}
-use Rattle.fx_base.specs.Entries.{numbered}
+use Rattle.fx_base.specs.Entries.{entry_numbered}
 use Rattle.fx_tables.specs.Classes.{Class, IsOf}
 
 -- a run: its packets and its steps
@@ -97,10 +97,10 @@ CanSay One fields = (field fields Version ≡ 4) × (field fields Source6 ≡ 0)
 CanSay Two fields = Unit {0}
 
 abbrev pub IsPacketOf : TextVersion → List Class → Packet → Type 0
-IsPacketOf version classes p = IsPacket p × CanSay version p.fields × IsOf p (numbered classes p.class)
+IsPacketOf version classes p = IsPacket p × CanSay version p.fields × IsOf p (entry_numbered classes p.class)
 
 -- each packet is of its class
-pub record IsRun (version : TextVersion) (classes : List Class) (run : Run) : Type 0 where
+pub record IsWritableRun (version : TextVersion) (classes : List Class) (run : Run) : Type 0 where
   pub packets : AllByRecursion (IsPacketOf version classes) run.packets
   pub steps : AllByRecursion IsStep run.steps
 

@@ -12,29 +12,29 @@ use std::alloc::{AllocError, Global};
 
 /// What a step does, without what it chooses. All numbers and positions count from 1.
 #[derive(Clone, Copy, Debug, PartialEq, Eq)]
-pub(crate) enum Action {
+pub(crate) enum StepAction {
     Cross { packet: u64, crossing: u64 },
     Expire { holder: HolderName, position: u64 },
     Arrive { link: u64, position: u64 },
 }
 
-impl Action {
+impl StepAction {
     /// The step that does this with these choices.
     fn with(self, choices: Choices) -> Step
         ensures { result ≡ step_with self choices }
     {
         match self {
-            Action::Cross { packet, crossing } => Step::Cross {
+            StepAction::Cross { packet, crossing } => Step::Cross {
                 packet,
                 crossing,
                 choices,
             },
-            Action::Expire { holder, position } => Step::Expire {
+            StepAction::Expire { holder, position } => Step::Expire {
                 holder,
                 position,
                 choices,
             },
-            Action::Arrive { link, position } => Step::Arrive {
+            StepAction::Arrive { link, position } => Step::Arrive {
                 link,
                 position,
                 choices,
@@ -183,37 +183,37 @@ fn read_holder(words: Words<'_>) -> Option<(HolderName, Words<'_>)>
 
 /// The numbers of a crossing that is made.
 #[tactic(auto, unfolding(crate::specs::RunReading::cross_first))]
-fn read_cross(words: Words<'_>) -> Option<(Action, Words<'_>)>
+fn read_cross(words: Words<'_>) -> Option<(StepAction, Words<'_>)>
     ensures { result ≡ cross_first words.entry }
 {
     let (packet, words) = words.number()?;
     let (crossing, words) = words.number()?;
-    Some((Action::Cross { packet, crossing }, words))
+    Some((StepAction::Cross { packet, crossing }, words))
 }
 
 /// The holder and the position of a record that leaves it.
 #[tactic(auto, unfolding(crate::specs::RunReading::expire_first))]
-fn read_expire(words: Words<'_>) -> Option<(Action, Words<'_>)>
+fn read_expire(words: Words<'_>) -> Option<(StepAction, Words<'_>)>
     ensures { result ≡ expire_first words.entry }
 {
     let (holder, words) = read_holder(words)?;
     let (position, words) = words.number()?;
-    Some((Action::Expire { holder, position }, words))
+    Some((StepAction::Expire { holder, position }, words))
 }
 
 /// The link and the position of a record that arrives.
 #[tactic(auto, unfolding(crate::specs::RunReading::arrive_first))]
-fn read_arrive(words: Words<'_>) -> Option<(Action, Words<'_>)>
+fn read_arrive(words: Words<'_>) -> Option<(StepAction, Words<'_>)>
     ensures { result ≡ arrive_first words.entry }
 {
     let (link, words) = words.number()?;
     let (position, words) = words.number()?;
-    Some((Action::Arrive { link, position }, words))
+    Some((StepAction::Arrive { link, position }, words))
 }
 
 /// What a step of this kind does.
 #[tactic(auto, unfolding(crate::specs::RunReading::action_of))]
-fn read_action<'a>(kind: &[u8], words: Words<'a>) -> Option<(Action, Words<'a>)>
+fn read_action<'a>(kind: &[u8], words: Words<'a>) -> Option<(StepAction, Words<'a>)>
     ensures { result ≡ action_of kind.now words.entry }
 {
     if is_word(kind, b"cross") {

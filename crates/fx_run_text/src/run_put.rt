@@ -5,7 +5,7 @@ ghost use Rattle.fx_base.specs.Fault.{fault_at};
 ghost use Rattle.fx_base.specs.declared.fault.Place.TheVariants as places;
 ghost use Rattle.fx_elements.specs.Axes.{field};
 ghost use Rattle.fx_elements.specs.Values.{value_text};
-ghost use Rattle.fx_run_text.specs.RunLineText.{run_line_text, spaced};
+ghost use Rattle.fx_run_text.specs.RunLineText.{run_line_text, spaced_words};
 ghost use Rattle.fx_run_text.specs.RunText.{choice_word, holder_words};
 ghost use Rattle.fx_run_text.specs.declared.run_line.RunLine.TheVariants as line;
 ghost use Rattle.fx_tables.specs.declared.holder_name.HolderName.TheVariants as holders;
@@ -20,7 +20,7 @@ use fx_tables::{HolderName, Packet};
 
 /// Writes a number behind a space.
 fn put_spaced<S: Sink>(sink: &mut S, number: u64) -> Result<(), Fault>
-    ensures ok { OnOk result (Writes (S.taken sink.old) (S.taken sink.new) (spaced (decimal number
+    ensures ok { OnOk result (Writes (S.taken sink.old) (S.taken sink.new) (spaced_words (decimal number
         ∷ []))) }
     ensures going { OnOk result (S.failed sink.old ≡ false → S.failed sink.new ≡ false) }
     ensures err { IfErr result (λ e. (e ≡ fault_at 902 places.None) × (S.failed sink.new ≡ true)) }
@@ -32,7 +32,7 @@ fn put_spaced<S: Sink>(sink: &mut S, number: u64) -> Result<(), Fault>
 /// Writes the value on an axis behind a space.
 #[tactic(auto, using(crate::proofs::RunPutting::field_fits))]
 fn put_field<S: Sink>(sink: &mut S, fields: &Fields, axis: Axis) -> Result<(), Fault>
-    ensures ok { OnOk result (Writes (S.taken sink.old) (S.taken sink.new) (spaced (value_text axis
+    ensures ok { OnOk result (Writes (S.taken sink.old) (S.taken sink.new) (spaced_words (value_text axis
         (field fields.now axis) ∷ []))) }
     ensures going { OnOk result (S.failed sink.old ≡ false → S.failed sink.new ≡ false) }
     ensures err { IfErr result (λ e. (e ≡ fault_at 902 places.None) × (S.failed sink.new ≡ true)) }
@@ -45,7 +45,7 @@ fn put_field<S: Sink>(sink: &mut S, fields: &Fields, axis: Axis) -> Result<(), F
 /// Writes the values on these axes, each behind a space.
 fn put_on_axes<S: Sink>(sink: &mut S, fields: &Fields, axes: &[Axis]) -> Result<(), Fault>
     ensures ok { OnOk result (Writes (S.taken sink.old) (S.taken sink.new)
-        (spaced (map (λ axis. value_text axis (field fields.now axis)) axes.now))) }
+        (spaced_words (map (λ axis. value_text axis (field fields.now axis)) axes.now))) }
     ensures going { OnOk result (S.failed sink.old ≡ false → S.failed sink.new ≡ false) }
     ensures err { IfErr result (λ e. (e ≡ fault_at 902 places.None) × (S.failed sink.new ≡ true)) }
 {
@@ -57,7 +57,7 @@ fn put_on_axes<S: Sink>(sink: &mut S, fields: &Fields, axes: &[Axis]) -> Result<
 
 /// Writes a choice behind a space.
 fn put_choice<S: Sink>(sink: &mut S, choice: Option<u64>) -> Result<(), Fault>
-    ensures ok { OnOk result (Writes (S.taken sink.old) (S.taken sink.new) (spaced
+    ensures ok { OnOk result (Writes (S.taken sink.old) (S.taken sink.new) (spaced_words
         (choice_word choice ∷ []))) }
     ensures going { OnOk result (S.failed sink.old ≡ false → S.failed sink.new ≡ false) }
     ensures err { IfErr result (λ e. (e ≡ fault_at 902 places.None) × (S.failed sink.new ≡ true)) }
@@ -70,7 +70,7 @@ fn put_choice<S: Sink>(sink: &mut S, choice: Option<u64>) -> Result<(), Fault>
 
 /// Writes choices, each behind a space.
 fn put_choices<S: Sink>(sink: &mut S, choices: &[Option<u64>]) -> Result<(), Fault>
-    ensures ok { OnOk result (Writes (S.taken sink.old) (S.taken sink.new) (spaced
+    ensures ok { OnOk result (Writes (S.taken sink.old) (S.taken sink.new) (spaced_words
         (map choice_word choices.now))) }
     ensures going { OnOk result (S.failed sink.old ≡ false → S.failed sink.new ≡ false) }
     ensures err { IfErr result (λ e. (e ≡ fault_at 902 places.None) × (S.failed sink.new ≡ true)) }
@@ -83,7 +83,7 @@ fn put_choices<S: Sink>(sink: &mut S, choices: &[Option<u64>]) -> Result<(), Fau
 
 /// Writes the words of a cache, each behind a space.
 fn put_cache<S: Sink>(sink: &mut S, device: u64, cache: u64) -> Result<(), Fault>
-    ensures ok { OnOk result (Writes (S.taken sink.old) (S.taken sink.new) (spaced (holder_words
+    ensures ok { OnOk result (Writes (S.taken sink.old) (S.taken sink.new) (spaced_words (holder_words
         (holders.Cache device cache)))) }
     ensures going { OnOk result (S.failed sink.old ≡ false → S.failed sink.new ≡ false) }
     ensures err { IfErr result (λ e. (e ≡ fault_at 902 places.None) × (S.failed sink.new ≡ true)) }
@@ -101,7 +101,7 @@ fn put_aggregation<S: Sink>(
     aggregation: u64,
 ) -> Result<(), Fault>
     ensures ok { OnOk result (Writes (S.taken sink.old) (S.taken sink.new)
-        (spaced (holder_words (holders.Aggregation device process aggregation)))) }
+        (spaced_words (holder_words (holders.Aggregation device process aggregation)))) }
     ensures going { OnOk result (S.failed sink.old ≡ false → S.failed sink.new ≡ false) }
     ensures err { IfErr result (λ e. (e ≡ fault_at 902 places.None) × (S.failed sink.new ≡ true)) }
 {
@@ -113,7 +113,7 @@ fn put_aggregation<S: Sink>(
 
 /// Writes what holds records, each word behind a space.
 fn put_holder<S: Sink>(sink: &mut S, holder: HolderName) -> Result<(), Fault>
-    ensures ok { OnOk result (Writes (S.taken sink.old) (S.taken sink.new) (spaced
+    ensures ok { OnOk result (Writes (S.taken sink.old) (S.taken sink.new) (spaced_words
         (holder_words holder))) }
     ensures going { OnOk result (S.failed sink.old ≡ false → S.failed sink.new ≡ false) }
     ensures err { IfErr result (λ e. (e ≡ fault_at 902 places.None) × (S.failed sink.new ≡ true)) }

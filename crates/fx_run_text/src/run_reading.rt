@@ -1,12 +1,12 @@
 //! Reading the text of a run.
 ghost use Rattle.std.specs.Prelude.{◌≡◌, ◌⊎◌, ◌<◌, ℕ, List, Ok, Err, None, IfOk, IfErr, OnOk};
 ghost use Rattle.fx_base.specs.Fault.{fault_at};
-ghost use Rattle.fx_base.specs.Lines.{GoesOn, text_lines, budget, Fails};
+ghost use Rattle.fx_base.specs.Lines.{GoesOnToLines, text_lines, line_budget, Fails};
 ghost use Rattle.fx_base.specs.declared.fault.Place.TheVariants as places;
 ghost use Rattle.fx_tables.specs.Classes.{Class};
 ghost use Rattle.fx_run_text.specs.declared.text_version.TextVersion.{TextVersion};
-ghost use Rattle.fx_run_text.specs.RunText.{Run, run_text, run_lines, IsRun, AreShort};
-ghost use Rattle.fx_run_text.specs.RunReading.{reading, MayEnd, MayRead, MayReadBehind, ReadsFirst, ReadsNext};
+ghost use Rattle.fx_run_text.specs.RunText.{Run, run_text, run_lines, IsWritableRun, AreShort};
+ghost use Rattle.fx_run_text.specs.RunReading.{run_in, MayEnd, MayReadRun, MayReadBehind, ReadsFirst, ReadsNextLine};
 
 use crate::run::Run;
 use crate::run_line::{RunLine, read_run_line};
@@ -19,10 +19,10 @@ use std::alloc::Global;
 /// Goes past the first line, which tells the text's version.
 fn read_first<R: Source>(lines: &mut LineReader<R>) -> Result<TextVersion, Fault>
     ensures going { OnOk result (lines.new.stopped ≡ None) }
-    ensures on { OnOk result (GoesOn lines.old lines.new) }
+    ensures on { OnOk result (GoesOnToLines lines.old lines.new) }
     ensures ok { IfOk result (λ version. ReadsFirst version lines.old lines.new) }
     ensures err { IfErr result (λ e. Fails lines.old lines.new e
-        ⊎ ((classes : List Class) → MayRead classes lines.old (Err e))) }
+        ⊎ ((classes : List Class) → MayReadRun classes lines.old (Err e))) }
 {
     if !lines.advance()? {
         return Err(Fault::at_line(855, lines.number().saturating_add(1)));
@@ -45,9 +45,9 @@ fn read_next<R: Source>(
 ) -> Result<RunLine, Fault>
     requires { lines.old.stopped ≡ None }
     ensures going { OnOk result (lines.new.stopped ≡ None) }
-    ensures on { OnOk result (GoesOn lines.old lines.new) }
-    ensures ok { IfOk result (λ x. ReadsNext version lines.old lines.new x) }
-    ensures smaller { OnOk result (budget lines.new < budget lines.old) }
+    ensures on { OnOk result (GoesOnToLines lines.old lines.new) }
+    ensures ok { IfOk result (λ x. ReadsNextLine version lines.old lines.new x) }
+    ensures smaller { OnOk result (line_budget lines.new < line_budget lines.old) }
     ensures err { IfErr result (λ e. (e ≡ fault_at 900 places.None) ⊎ (Fails lines.old lines.new e
         ⊎ ((classes : List Class) (run : Run)
         → MayReadBehind version classes lines.old run (Err e)))) }
@@ -100,9 +100,9 @@ pub fn read_run<R: Source>(
     classes: &Classes,
     lines: &mut LineReader<R>,
 ) -> Result<Run, Fault>
-    ensures ok { IfOk result (λ run. MayRead classes.now lines.old (Ok run)) }
+    ensures ok { IfOk result (λ run. MayReadRun classes.now lines.old (Ok run)) }
     ensures err { IfErr result (λ e. (e ≡ fault_at 900 places.None)
-        ⊎ (Fails lines.old lines.new e ⊎ MayRead classes.now lines.old (Err e))) }
+        ⊎ (Fails lines.old lines.new e ⊎ MayReadRun classes.now lines.old (Err e))) }
 {
     let version = read_first(lines)?;
     let mut run = Run::new(alloc);
@@ -126,10 +126,10 @@ pub fn read_run<R: Source>(
 /// The text of a run in either version whose lines have at most 4,096 bytes is read as that run, and no other text is.
 pub fn run_texts()
     ensures read { (version : TextVersion) (classes : List Class) (run : Run) (n : ℕ)
-        → IsRun version classes run → AreShort (run_lines version run)
-        → reading classes n (text_lines (run_text version run)) ≡ Ok run }
+        → IsWritableRun version classes run → AreShort (run_lines version run)
+        → run_in classes n (text_lines (run_text version run)) ≡ Ok run }
     ensures only { (classes : List Class) (text : List ℕ) (run : Run) (n : ℕ)
-        → reading classes n (text_lines text) ≡ Ok run
-        → (version : TextVersion) × (text ≡ run_text version run) × IsRun version classes run
+        → run_in classes n (text_lines text) ≡ Ok run
+        → (version : TextVersion) × (text ≡ run_text version run) × IsWritableRun version classes run
         × AreShort (run_lines version run) }
 {}

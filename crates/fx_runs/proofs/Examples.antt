@@ -5,14 +5,14 @@ use Rattle.fx_run_text.specs.declared.step.Step.{Step}
 use Rattle.fx_run_text.specs.declared.step.Step.TheVariants.{Cross, Expire, Arrive}
 use Rattle.fx_tables.specs.declared.holder_name.HolderName.TheVariants.{Cache}
 use Rattle.fx_tables.specs.Network.{Net, Exporter}
-use Rattle.fx_base.specs.Entries.{numbered}
+use Rattle.fx_base.specs.Entries.{entry_numbered}
 use Rattle.fx_machine.specs.States.{opening}
 use Rattle.fx_machine.specs.Steps.{after, run}
 use Rattle.fx_machine.proofs.ClaimExamples.{net, customers, one, two, having, first, second, by_choice}
 use Rattle.fx_runs.specs.Destinations.{AllUsable, number_in_use, sent_by}
 use Rattle.fx_runs.specs.Extending.{with_packet}
 use Rattle.fx_runs.specs.PutOn.{put_by, put_on}
-use Rattle.fx_runs.specs.Given.{given}
+use Rattle.fx_runs.specs.Given.{records_given}
 use Rattle.fx_runs.proofs.RunsGoOn.{runs_extend}
 use Rattle.fx_runs.proofs.StepsThatCanBeMade.{expires_are_made}
 
@@ -66,20 +66,20 @@ none_put : put_on meter customers one 0 (Cross 1 1 (None ∷ []) ∷ Expire (Cac
 none_put = refl
 
 -- a link that is one of these twice is given the record twice
-given_twice : given (0 ∷ 1 ∷ 0 ∷ []) first 0 ≡ first ∷ first ∷ []
+given_twice : records_given (0 ∷ 1 ∷ 0 ∷ []) first 0 ≡ first ∷ first ∷ []
 given_twice = refl
 
 -- on a link that isn't there nothing is put, whatever it is given
 not_there : put_by (Expire (Cache 1 1) 1 []) 1 (having (first ∷ []) [] []) (having [] [] []) ≡ []
 not_there = refl
 
-given_elsewhere : given (1 ∷ []) first 1 ≡ first ∷ []
+given_elsewhere : records_given (1 ∷ []) first 1 ≡ first ∷ []
 given_elsewhere = refl
 
 -- ---- destinations in use
 
-by_first : (e : Exporter) (place : ℕ) → slice_get (by_choice ∷ []) place ≡ Some e → numbered e.destinations (number_in_use (1 ∷ []) place) ≡ Some (Some 0)
-by_first e zero h = let is : by_choice ≡ e = cc in subst (λ (x : Exporter). numbered x.destinations 1 ≡ Some (Some 0)) is refl
+by_first : (e : Exporter) (place : ℕ) → slice_get (by_choice ∷ []) place ≡ Some e → entry_numbered e.destinations (number_in_use (1 ∷ []) place) ≡ Some (Some 0)
+by_first e zero h = let is : by_choice ≡ e = cc in subst (λ (x : Exporter). entry_numbered x.destinations 1 ≡ Some (Some 0)) is refl
 by_first e (suc n) h = absurd cc
 
 -- the first destination is there

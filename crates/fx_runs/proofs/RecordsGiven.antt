@@ -11,7 +11,7 @@ use Rattle.fx_machine.specs.Acts.{Choices}
 use Rattle.fx_machine.specs.Sends.{put_all}
 use Rattle.fx_machine.proofs.LastLeaves.{there}
 use Rattle.fx_runs.specs.PutOn.{carried_on, put_by}
-use Rattle.fx_runs.specs.Given.{given}
+use Rattle.fx_runs.specs.Given.{records_given}
 
 -- ---- places of lists
 
@@ -56,25 +56,25 @@ put_gives rss l link r true e =
     ap (λ (n : ℕ). slice_get (put_last rss n r) link) same ∙ put_here rss link r
 put_gives rss l link r false e = put_elsewhere rss l link r (eqb-false l link e) ∙ given_nothing (slice_get rss link)
 
-pub gives_all : (links : List ℕ) (r : Record) (rss : List (List Record)) (link : ℕ) → slice_get (put_all links r rss) link ≡ option_map (λ rs. rs ++ given links r link) (slice_get rss link)
+pub gives_all : (links : List ℕ) (r : Record) (rss : List (List Record)) (link : ℕ) → slice_get (put_all links r rss) link ≡ option_map (λ rs. rs ++ records_given links r link) (slice_get rss link)
 gives_all [] r rss link = given_nothing (slice_get rss link)
 gives_all (l ∷ ls) r rss link =
     gives_all ls r (put_last rss l r) link
-    ∙ ap (option_map (λ rs. rs ++ given ls r link)) (put_gives rss l link r (l == link) refl)
-    ∙ more_at (cond (l == link) (r ∷ []) []) (given ls r link) (slice_get rss link)
+    ∙ ap (option_map (λ rs. rs ++ records_given ls r link)) (put_gives rss l link r (l == link) refl)
+    ∙ more_at (cond (l == link) (r ∷ []) []) (records_given ls r link) (slice_get rss link)
 
 -- ---- what steps put
 
 -- what is given to a link with these records lies behind them
 behind : (s t : State) (links : List ℕ) (r : Record) (rss : List (List Record)) (rs : List Record) (link n : ℕ) → t.carried ≡ put_all links r rss → slice_get rss link ≡ Some rs → n ≡ length rs
-    → drop n (carried_on t link) ≡ given links r link
+    → drop n (carried_on t link) ≡ records_given links r link
 behind s t links r rss rs link n e at len =
     ap (λ (x : List (List Record)). drop n (entries (slice_get x link))) e
-    ∙ ap (λ (o : Option (List Record)). drop n (entries o)) (gives_all links r rss link ∙ ap (option_map (λ rs. rs ++ given links r link)) at)
-    ∙ ap (λ (m : ℕ). drop m (rs ++ given links r link)) len
-    ∙ drop-append_seam rs (given links r link)
+    ∙ ap (λ (o : Option (List Record)). drop n (entries o)) (gives_all links r rss link ∙ ap (option_map (λ rs. rs ++ records_given links r link)) at)
+    ∙ ap (λ (m : ℕ). drop m (rs ++ records_given links r link)) len
+    ∙ drop-append_seam rs (records_given links r link)
 
-pub expire_puts : (name : HolderName) (number : ℕ) (choices : Choices) (s t : State) (links : List ℕ) (r : Record) (link : ℕ) → t.carried ≡ put_all links r s.carried → link < length s.carried → put_by (Expire name number choices) link s t ≡ given links r link
+pub expire_puts : (name : HolderName) (number : ℕ) (choices : Choices) (s t : State) (links : List ℕ) (r : Record) (link : ℕ) → t.carried ≡ put_all links r s.carried → link < length s.carried → put_by (Expire name number choices) link s t ≡ records_given links r link
 expire_puts name number choices s t links r link e within =
     let at = there s.carried link within in
     let len : length (carried_on s link) ≡ length at.0 = ap (λ (o : Option (List Record)). length (entries o)) at.1 in
@@ -82,7 +82,7 @@ expire_puts name number choices s t links r link e within =
 
 -- the link that the record leaves, or another
 arrive_by : (from : ℕ) (s t : State) (links : List ℕ) (r : Record) (rs : List Record) (link : ℕ) (b : Bool) → (suc from == suc link) ≡ b → slice_get s.carried from ≡ Some (r ∷ rs) → t.carried ≡ put_all links r (slice_set s.carried from rs) → link < length s.carried
-    → drop (length (carried_on s link) - cond b 1 0) (carried_on t link) ≡ given links r link
+    → drop (length (carried_on s link) - cond b 1 0) (carried_on t link) ≡ records_given links r link
 arrive_by from s t links r rs link true h g e within =
     let same : from ≡ link = omega (arith, eqb-true (suc from) (suc link) h) in
     let old : slice_get s.carried link ≡ Some (r ∷ rs) = ap (slice_get s.carried) (sym same) ∙ g in
@@ -96,7 +96,7 @@ arrive_by from s t links r rs link false h g e within =
     behind s t links r (slice_set s.carried from rs) at.0 link (length (carried_on s link) - 0) e new (omega (arith, len))
 
 pub arrive_puts : (from : ℕ) (choices : Choices) (s t : State) (links : List ℕ) (r : Record) (rs : List Record) (link : ℕ) → slice_get s.carried from ≡ Some (r ∷ rs) → t.carried ≡ put_all links r (slice_set s.carried from rs) → link < length s.carried
-    → put_by (Arrive (suc from) 1 choices) link s t ≡ given links r link
+    → put_by (Arrive (suc from) 1 choices) link s t ≡ records_given links r link
 arrive_puts from choices s t links r rs link g e within = arrive_by from s t links r rs link (suc from == suc link) refl g e within
 
 pub cross_puts : (packet crossing : ℕ) (choices : Choices) (s t : State) (link : ℕ) → t.carried ≡ s.carried → put_by (Cross packet crossing choices) link s t ≡ []

@@ -9,11 +9,11 @@ use Rattle.fx_tables.specs.declared.record.Record.{Record}
 use Rattle.fx_run_text.specs.declared.step.Step.{Step}
 use Rattle.fx_run_text.specs.declared.step.Step.TheVariants.{Cross, Expire, Arrive}
 use Rattle.fx_tables.specs.Network.{Net, Exporter, holder_place}
-use Rattle.fx_base.specs.Entries.{numbered}
+use Rattle.fx_base.specs.Entries.{entry_numbered}
 use Rattle.fx_tables.specs.Classes.{Class, path}
-use Rattle.fx_machine.specs.States.{State, Coming, crossings_from, coming_from, opening, nothing_at, without, add_at, tallied, sent_to, sent_to_all}
+use Rattle.fx_machine.specs.States.{State, Coming, crossings_from, coming_from, opening, nothing_at, without, add_at, after_tally, sent_to, sent_to_all}
 use Rattle.fx_machine.specs.Acts.{Choices, Act, Tally, Send, Hold, Made, Outcome, sent_to_chosen, send_by_choice, taken_in, with_held, hold_in, hold, act, all_used, act_all, all_acts}
-use Rattle.fx_machine.specs.Steps.{one_packet, crossing_acts, leaving, arriving, later, place, after_cross, after_expire, expire_from, expire_at, link_place, after_arrive, arrive_from, arrive_at, after, then_run, run}
+use Rattle.fx_machine.specs.Steps.{one_packet, crossing_acts, acts_of_leaving, acts_of_arrival, later, place, after_cross, after_expire, expire_from, expire_at, link_place, after_arrive, arrive_from, arrive_at, after, then_run, run}
 use Rattle.fx_runs.specs.Extending.{coming_too, crossings_of, with_packet}
 
 -- ---- acts don't look at what is to come
@@ -30,7 +30,7 @@ module _ (more : List Coming) where
   outcome_too (Ok s) = Ok (coming_too more s)
   outcome_too (Err n) = Err n
 
-  tallied_too : (net : Net) (key : Key) (counts : Counts) (s : State) → tallied net key counts (coming_too more s) ≡ coming_too more (tallied net key counts s)
+  tallied_too : (net : Net) (key : Key) (counts : Counts) (s : State) → after_tally net key counts (coming_too more s) ≡ coming_too more (after_tally net key counts s)
   tallied_too net key counts s = by (refines key.layout net.report_layout) where
     by : (t : Bool) → cond t (record (coming_too more s) { totals = add_at s.totals (project key net.report_layout) counts }) (record (coming_too more s) { unassigned = s.unassigned + 1 })
         ≡ coming_too more (cond t (record s { totals = add_at s.totals (project key net.report_layout) counts }) (record s { unassigned = s.unassigned + 1 }))
@@ -52,7 +52,7 @@ module _ (more : List Coming) where
   by_choice_too : (ds : List (Option ℕ)) (r : Record) (s : State) (choices : Choices) → send_by_choice ds r (coming_too more s) choices ≡ made_too (send_by_choice ds r s choices)
   by_choice_too ds r s [] = refl
   by_choice_too ds r s (None ∷ choices) = refl
-  by_choice_too ds r s (Some n ∷ choices) = chosen_too (numbered ds n) r s choices
+  by_choice_too ds r s (Some n ∷ choices) = chosen_too (entry_numbered ds n) r s choices
 
   with_held_too : (s : State) (holder : ℕ) (o : Option (List Record)) (choices : Choices) → with_held (coming_too more s) holder o choices ≡ made_too (with_held s holder o choices)
   with_held_too s holder None choices = refl
@@ -100,7 +100,7 @@ get_more [] ys n x e = absurd cc
 get_more (y ∷ xs) ys zero x e = e
 get_more (y ∷ xs) ys (suc n) x e = get_more xs ys n x e
 
-numbered_more : {A : Type 0} (xs ys : List A) (n : ℕ) (x : A) → numbered xs n ≡ Some x → numbered (xs ++ ys) n ≡ Some x
+numbered_more : {A : Type 0} (xs ys : List A) (n : ℕ) (x : A) → entry_numbered xs n ≡ Some x → entry_numbered (xs ++ ys) n ≡ Some x
 numbered_more xs ys zero x e = absurd cc
 numbered_more xs ys (suc n) x e = get_more xs ys n x e
 
@@ -130,7 +130,7 @@ place_more (c ∷ cs) more i j n e = by (λ m h. place_more cs more i j m h) (c.
   by ih false k = let l = later_some (place cs i j) n (here false k) in on l.0 l.2 k (ih l.0 l.1)
 
 some_packet : (net : Net) (classes : List Class) (o : Option Packet) (n : Option ℕ) (j : ℕ) (s t : State) (choices : Choices) → after_cross net classes o n j s choices ≡ Ok t
-    → (p : Packet) × (m : ℕ) × (o ≡ Some p) × (n ≡ Some m) × (all_acts net (one_packet p) (crossing_acts net p.fields (numbered (path classes p) j)) (record s { coming = remove s.coming m }) choices ≡ Ok t)
+    → (p : Packet) × (m : ℕ) × (o ≡ Some p) × (n ≡ Some m) × (all_acts net (one_packet p) (crossing_acts net p.fields (entry_numbered (path classes p) j)) (record s { coming = remove s.coming m }) choices ≡ Ok t)
 some_packet net classes o None j s t choices e = absurd cc
 some_packet net classes None (Some m) j s t choices e = absurd cc
 some_packet net classes (Some p) (Some m) j s t choices e = (p, m, refl, refl, e)
@@ -144,20 +144,20 @@ first_made net classes packets steps (Err n) t e = absurd cc
 module _ (net : Net) (classes : List Class) (packets extra : List Packet) (more : List Coming) where
   cross_too : (i j : ℕ) (s t : State) (choices : Choices) → after net classes packets (Cross i j choices) s ≡ Ok t → after net classes (packets ++ extra) (Cross i j choices) (coming_too more s) ≡ Ok (coming_too more t)
   cross_too i j s t choices e =
-      let c = some_packet net classes (numbered packets i) (place s.coming i j) j s t choices e in
+      let c = some_packet net classes (entry_numbered packets i) (place s.coming i j) j s t choices e in
       let m = place_more s.coming more i j c.1 c.3 in
       ap (λ (o : Option Packet). after_cross net classes o (place (s.coming ++ more) i j) j (coming_too more s) choices) (numbered_more packets extra i c.0 c.2)
       ∙ ap (λ (o : Option ℕ). after_cross net classes (Some c.0) o j (coming_too more s) choices) m.0
-      ∙ ap (λ (l : List Coming). all_acts net (one_packet c.0) (crossing_acts net c.0.fields (numbered (path classes c.0) j)) (record s { coming = l }) choices) m.1
-      ∙ all_acts_too more net (one_packet c.0) (crossing_acts net c.0.fields (numbered (path classes c.0) j)) (record s { coming = remove s.coming c.1 }) t choices c.4
+      ∙ ap (λ (l : List Coming). all_acts net (one_packet c.0) (crossing_acts net c.0.fields (entry_numbered (path classes c.0) j)) (record s { coming = l }) choices) m.1
+      ∙ all_acts_too more net (one_packet c.0) (crossing_acts net c.0.fields (entry_numbered (path classes c.0) j)) (record s { coming = remove s.coming c.1 }) t choices c.4
 
   after_expire_too : (holder number : ℕ) (rs : List Record) (o : Option Record) (s t : State) (choices : Choices) → after_expire net holder rs number o s choices ≡ Ok t → after_expire net holder rs number o (coming_too more s) choices ≡ Ok (coming_too more t)
   after_expire_too holder number rs None s t choices e = absurd cc
-  after_expire_too holder number rs (Some r) s t choices e = all_acts_too more net r.counts (leaving net holder r.key) (record s { held = slice_set s.held holder (without rs number) }) t choices e
+  after_expire_too holder number rs (Some r) s t choices e = all_acts_too more net r.counts (acts_of_leaving net holder r.key) (record s { held = slice_set s.held holder (without rs number) }) t choices e
 
   expire_from_too : (holder number : ℕ) (o : Option (List Record)) (s t : State) (choices : Choices) → expire_from net holder o number s choices ≡ Ok t → expire_from net holder o number (coming_too more s) choices ≡ Ok (coming_too more t)
   expire_from_too holder number None s t choices e = absurd cc
-  expire_from_too holder number (Some rs) s t choices e = after_expire_too holder number rs (numbered rs number) s t choices e
+  expire_from_too holder number (Some rs) s t choices e = after_expire_too holder number rs (entry_numbered rs number) s t choices e
 
   expire_at_too : (number : ℕ) (o : Option ℕ) (s t : State) (choices : Choices) → expire_at net o number s choices ≡ Ok t → expire_at net o number (coming_too more s) choices ≡ Ok (coming_too more t)
   expire_at_too number None s t choices e = absurd cc
@@ -165,11 +165,11 @@ module _ (net : Net) (classes : List Class) (packets extra : List Packet) (more 
 
   after_arrive_too : (link number : ℕ) (rs : List Record) (o : Option Record) (s t : State) (choices : Choices) → after_arrive net link rs number o s choices ≡ Ok t → after_arrive net link rs number o (coming_too more s) choices ≡ Ok (coming_too more t)
   after_arrive_too link number rs None s t choices e = absurd cc
-  after_arrive_too link number rs (Some r) s t choices e = all_acts_too more net r.counts (arriving net r.key (slice_get net.links link)) (record s { carried = slice_set s.carried link (without rs number) }) t choices e
+  after_arrive_too link number rs (Some r) s t choices e = all_acts_too more net r.counts (acts_of_arrival net r.key (slice_get net.links link)) (record s { carried = slice_set s.carried link (without rs number) }) t choices e
 
   arrive_from_too : (link number : ℕ) (o : Option (List Record)) (s t : State) (choices : Choices) → arrive_from net link o number s choices ≡ Ok t → arrive_from net link o number (coming_too more s) choices ≡ Ok (coming_too more t)
   arrive_from_too link number None s t choices e = absurd cc
-  arrive_from_too link number (Some rs) s t choices e = after_arrive_too link number rs (numbered rs number) s t choices e
+  arrive_from_too link number (Some rs) s t choices e = after_arrive_too link number rs (entry_numbered rs number) s t choices e
 
   arrive_at_too : (number : ℕ) (o : Option ℕ) (s t : State) (choices : Choices) → arrive_at net o number s choices ≡ Ok t → arrive_at net o number (coming_too more s) choices ≡ Ok (coming_too more t)
   arrive_at_too number None s t choices e = absurd cc

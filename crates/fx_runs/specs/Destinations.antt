@@ -2,9 +2,9 @@
 use Rattle.std.specs.Prelude.{◌≡◌, ◌≢◌, ℕ, false, List, [], ◌∷◌, ◌++◌, Option, Some, None, slice_get, if◌then◌else◌}
 use Rattle.std.specs.Option.{unwrap_or}
 use Rattle.fx_tables.specs.Network.{Net, Exporter}
-use Rattle.fx_base.specs.Entries.{numbered}
+use Rattle.fx_base.specs.Entries.{entry_numbered}
 use Rattle.fx_machine.specs.Acts.{Choices}
-use Rattle.fx_machine.specs.Sends.{linked, links_of}
+use Rattle.fx_machine.specs.Sends.{link_list, links_of}
 
 -- the number of the destination that the exporting process at this place uses
 abbrev pub number_in_use : List ℕ → ℕ → ℕ
@@ -14,17 +14,17 @@ number_in_use chosen place = unwrap_or (slice_get chosen place) 0
 abbrev pub AllUsable : Net → List ℕ → Type 0
 AllUsable net chosen =
     (place : ℕ) (e : Exporter) → slice_get net.exporters place ≡ Some e → e.parallel ≡ false
-    → numbered e.destinations (number_in_use chosen place) ≢ None
+    → entry_numbered e.destinations (number_in_use chosen place) ≢ None
 
 -- ---- links
 
 -- the link of a destination, if it has one
 abbrev pub link_of : Option (Option ℕ) → List ℕ
 link_of None = []
-link_of (Some destination) = linked destination
+link_of (Some destination) = link_list destination
 
 abbrev pub link_numbered : List (Option ℕ) → ℕ → List ℕ
-link_numbered destinations number = link_of (numbered destinations number)
+link_numbered destinations number = link_of (entry_numbered destinations number)
 
 -- the links of all destinations, or that of the one in use
 abbrev pub links_of_exporter : Exporter → ℕ → List ℕ

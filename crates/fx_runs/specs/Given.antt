@@ -9,9 +9,9 @@ use Rattle.fx_machine.specs.Sends.{put_all}
 use Rattle.fx_runs.specs.PutOn.{put_by}
 
 -- the record, as often as the link is one of these
-abbrev pub given : List ℕ → Record → ℕ → List Record
-given [] r link = []
-given (l ∷ ls) r link = (if l == link then r ∷ [] else []) ++ given ls r link
+abbrev pub records_given : List ℕ → Record → ℕ → List Record
+records_given [] r link = []
+records_given (l ∷ ls) r link = (if l == link then r ∷ [] else []) ++ records_given ls r link
 
 -- ---- the laws
 
@@ -20,7 +20,7 @@ abbrev pub GivesAll : Type 0
 GivesAll =
     (links : List ℕ) (r : Record) (rss : List (List Record)) (link : ℕ)
     → slice_get (put_all links r rss) link
-    ≡ option_map (λ rs. rs ++ given links r link) (slice_get rss link)
+    ≡ option_map (λ rs. rs ++ records_given links r link) (slice_get rss link)
 
 -- A record that leaves a holder and is put on some links puts on each link that is there what it is given.
 abbrev pub ExpirePuts : Type 0
@@ -28,7 +28,7 @@ ExpirePuts =
     (name : HolderName) (number : ℕ) (choices : Choices) (s : State) (t : State)
     (links : List ℕ) (r : Record) (link : ℕ)
     → t.carried ≡ put_all links r s.carried → link < length s.carried
-    → put_by (Expire name number choices) link s t ≡ given links r link
+    → put_by (Expire name number choices) link s t ≡ records_given links r link
 
 -- So does the first record of a link, which leaves it.
 abbrev pub ArrivePuts : Type 0
@@ -38,7 +38,7 @@ ArrivePuts =
     → slice_get s.carried from ≡ Some (r ∷ rs)
     → t.carried ≡ put_all links r (slice_set s.carried from rs)
     → link < length s.carried
-    → put_by (Arrive (suc from) 1 choices) link s t ≡ given links r link
+    → put_by (Arrive (suc from) 1 choices) link s t ≡ records_given links r link
 
 -- A crossing, by which nothing is put on links, puts nothing.
 abbrev pub CrossPuts : Type 0

@@ -8,25 +8,25 @@ use Rattle.fx_tables.specs.declared.holder_name.HolderName.{HolderName}
 use Rattle.fx_run_text.specs.declared.step.Step.TheVariants.{Cross, Expire, Arrive}
 use Rattle.fx_tables.specs.declared.traffic.Crossing.{Crossing}
 use Rattle.fx_tables.specs.Network.{Net, Process, named_by, holder_place}
-use Rattle.fx_base.specs.Entries.{numbered}
+use Rattle.fx_base.specs.Entries.{entry_numbered}
 use Rattle.fx_tables.specs.Classes.{Class, path}
 use Rattle.fx_tables.specs.Occurrences.{occurrences}
-use Rattle.fx_machine.specs.States.{State, without, tallied}
+use Rattle.fx_machine.specs.States.{State, without, after_tally}
 use Rattle.fx_machine.specs.Acts.{Choices}
 use Rattle.fx_machine.specs.Sends.{put_all}
 use Rattle.fx_machine.specs.Holds.{hold_all}
 use Rattle.fx_tables.specs.Holdings.{met_holdings}
-use Rattle.fx_tables.specs.Takers.{aggregated}
+use Rattle.fx_tables.specs.Takers.{intakes}
 use Rattle.fx_machine.specs.Steps.{one_packet, place, after}
 use Rattle.fx_runs.specs.Destinations.{AllUsable, links_used, sent_by}
 
 -- what meters a packet at a crossing, with its keys
-abbrev pub metered : Net → Fields → Crossing → List Holding
-metered net fields crossing = met_holdings net.holders fields (occurrences net crossing fields)
+abbrev pub intakes_at : Net → Fields → Crossing → List Holding
+intakes_at net fields crossing = met_holdings net.holders fields (occurrences net crossing fields)
 
 -- at the report it is tallied
 abbrev pub tallied_at : Net → ℕ → Record → State → State
-tallied_at net process r s = if process == net.report then tallied net r.key r.counts s else s
+tallied_at net process r s = if process == net.report then after_tally net r.key r.counts s else s
 
 -- ---- the laws
 
@@ -37,7 +37,7 @@ ExpiresAreMade =
     (name : HolderName) (holder : ℕ) (number : ℕ) (rs : List Record) (r : Record)
     → AllUsable net chosen
     → holder_place net name ≡ Some holder → slice_get s.held holder ≡ Some rs
-    → numbered rs number ≡ Some r
+    → entry_numbered rs number ≡ Some r
     → after net classes packets
     (Expire name number (sent_by net chosen (named_by (slice_get net.holders holder)))) s
     ≡ Ok (record s {
@@ -54,7 +54,7 @@ ArrivesAreMade =
     → AllUsable net chosen
     → slice_get s.carried link ≡ Some (r ∷ rs)
     → slice_get net.links link ≡ Some to → slice_get net.processes to ≡ Some process
-    → hold_all r.counts (aggregated net.holders r.key process.aggregations) s.held joined ≡ Some now
+    → hold_all r.counts (intakes net.holders r.key process.aggregations) s.held joined ≡ Some now
     → after net classes packets
     (Arrive (suc link) 1 (sent_by net chosen process.exporters ++ joined)) s
     ≡ Ok (record (tallied_at net to r (record s { carried = slice_set s.carried link rs })) {
@@ -68,8 +68,8 @@ CrossesAreMade =
     (net : Net) (classes : List Class) (packets : List Packet) (s : State)
     (i : ℕ) (j : ℕ) (n : ℕ) (p : Packet) (crossing : Crossing)
     (choices : Choices) (now : List (List Record))
-    → numbered packets i ≡ Some p → place s.coming i j ≡ Some n
-    → numbered (path classes p) j ≡ Some crossing
-    → hold_all (one_packet p) (metered net p.fields crossing) s.held choices ≡ Some now
+    → entry_numbered packets i ≡ Some p → place s.coming i j ≡ Some n
+    → entry_numbered (path classes p) j ≡ Some crossing
+    → hold_all (one_packet p) (intakes_at net p.fields crossing) s.held choices ≡ Some now
     → after net classes packets (Cross i j choices) s
     ≡ Ok (record s { coming = remove s.coming n; held = now })

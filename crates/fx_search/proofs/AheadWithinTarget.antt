@@ -7,13 +7,13 @@ use Rattle.fx_boxes.specs.Boxes.{Bounds, IsInside, IsStrictlyInside, below_part,
 use Rattle.fx_tables.specs.declared.traffic.Crossing.{Crossing}
 use Rattle.fx_tables.specs.Classes.{Class}
 use Rattle.fx_tables.specs.Network.{Net}
-use Rattle.fx_base.specs.Entries.{numbered}
+use Rattle.fx_base.specs.Entries.{entry_numbered}
 use Rattle.fx_leaf.specs.Splits.{IsSplit}
 use Rattle.fx_leaf.specs.Splits.IsSplit.{of_selection, of_match}
 use Rattle.fx_traffic.specs.Targets.{Target, targets_along, targets_from, targets_of}
-use Rattle.fx_search.specs.Fronts.{Ahead, Front, root}
+use Rattle.fx_search.specs.Fronts.{RegionAhead, SearchFront, root}
 use Rattle.fx_search.specs.Growing.{IsTarget, Lies}
-use Rattle.fx_search.specs.Fronts.Front.{begins, leaf, split}
+use Rattle.fx_search.specs.Fronts.SearchFront.{begins, leaf, split}
 
 -- ---- targets
 
@@ -25,7 +25,7 @@ record IsBehind (ks : List Class) (c : ℕ) (t : Target) : Type 0 where
   named : slice_get ks at ≡ Some class
   region_is : class.region ≡ t.region
   exempt_is : class.exempt ≡ t.exempt
-  path_is : numbered class.paths t.path ≡ Some t.crossings
+  path_is : entry_numbered class.paths t.path ≡ Some t.crossings
 
 record IsAlong (c : ℕ) (b : Bounds) (exempt : Bool) (m : ℕ) (paths : List (List Crossing)) (t : Target) : Type 0 where
   at : ℕ
@@ -50,7 +50,7 @@ along c b exempt m (p ∷ ps) = (
   changed (IsAlong c b exempt (m + 1) ps) (IsAlong c b exempt m (p ∷ ps)) (λ t h. record { at = suc h.at; class_is = h.class_is; region_is = h.region_is; exempt_is = h.exempt_is; number = omega (arith, h.number); path_is = h.path_is }) (targets_along c b exempt (m + 1) ps) (along c b exempt (m + 1) ps),
 )
 
-of_path : (paths : List (List Crossing)) (n at : ℕ) (cs : List Crossing) → n ≡ 1 + at → slice_get paths at ≡ Some cs → numbered paths n ≡ Some cs
+of_path : (paths : List (List Crossing)) (n at : ℕ) (cs : List Crossing) → n ≡ 1 + at → slice_get paths at ≡ Some cs → entry_numbered paths n ≡ Some cs
 of_path paths zero at cs e h = absurd (omega (arith, e))
 of_path paths (suc n) at cs e h = let same : n ≡ at = omega (arith, e) in rw same h
 
@@ -61,7 +61,7 @@ behind c (k ∷ ks) =
     (changed (IsAlong c k.region k.exempt 1 k.paths) (IsBehind (k ∷ ks) c) (λ t h. record { at = 0; class = k; number = omega (arith, h.class_is); named = refl; region_is = h.region_is; exempt_is = h.exempt_is; path_is = of_path k.paths t.path h.at t.crossings h.number h.path_is }) (targets_along c k.region k.exempt 1 k.paths) (along c k.region k.exempt 1 k.paths))
     (changed (IsBehind ks (c + 1)) (IsBehind (k ∷ ks) c) (λ t h. record { at = suc h.at; class = h.class; number = omega (arith, h.number); named = h.named; region_is = h.region_is; exempt_is = h.exempt_is; path_is = h.path_is }) (targets_from (c + 1) ks) (behind (c + 1) ks))
 
-of_class : (ks : List Class) (n at : ℕ) (k : Class) → n ≡ 1 + at → slice_get ks at ≡ Some k → numbered ks n ≡ Some k
+of_class : (ks : List Class) (n at : ℕ) (k : Class) → n ≡ 1 + at → slice_get ks at ≡ Some k → entry_numbered ks n ≡ Some k
 of_class ks zero at k e h = absurd (omega (arith, e))
 of_class ks (suc n) at k e h = let same : n ≡ at = omega (arith, e) in rw same h
 
@@ -102,7 +102,7 @@ roots_lie : (classes : List Class) (ts : List Target) → AllByRecursion (IsTarg
 roots_lie classes [] h = tt
 roots_lie classes (t ∷ ts) h = (record { target = h.0; inside = λ f held. held; shallow = omega arith }, roots_lie classes ts h.1)
 
-pub all_lie : (net : Net) (classes : List Class) (ahead : List Ahead) (n : ℕ) → Front net (targets_of classes) ahead n → AllByRecursion (Lies classes) ahead
+pub all_lie : (net : Net) (classes : List Class) (ahead : List RegionAhead) (n : ℕ) → SearchFront net (targets_of classes) ahead n → AllByRecursion (Lies classes) ahead
 all_lie net classes ahead n begins = roots_lie classes (targets_of classes) (are_targets classes)
 all_lie net classes ahead n (leaf a rest m before sound) = (all_lie net classes (a ∷ rest) m before).1
 all_lie net classes ahead n (split a rest m axis at before less is) =

@@ -11,7 +11,7 @@ use Rattle.fx_elements.specs.declared.axis.Axis.{Axis}
 use Rattle.fx_elements.specs.Axes.{axis_index}
 use Rattle.fx_tables.specs.Classes.{Class}
 use Rattle.fx_tables.specs.Network.{Net}
-use Rattle.fx_base.specs.Entries.{numbered}
+use Rattle.fx_base.specs.Entries.{entry_numbered}
 use Rattle.fx_tables.specs.declared.traffic.Crossing.{Crossing}
 use Rattle.fx_boxes.specs.Boxes.{Bounds, above_part, below_part}
 use Rattle.fx_leaf.specs.Certificates.{Tree, Leaf, Uncounted, Split, SoundTree}
@@ -19,13 +19,13 @@ use Rattle.fx_leaf.specs.SoundLeaves.{SoundLeaf, SoundNever}
 use Rattle.fx_leaf.specs.Splits.{IsSplit}
 use Rattle.fx_traffic.specs.Targets.{Target, targets_of}
 use Rattle.fx_check.specs.Certificates.{IsCertificate, AllCounted, IsShallow, IsWritable, body_items, in_a_row, item_line, size, sizes, tree_items}
-use Rattle.fx_check.specs.Verdict.{depth_limit, line_limit}
+use Rattle.fx_check.specs.FirstRefusal.{depth_limit, line_limit}
 use Rattle.fx_check.proofs.SoundLeaves.{AllSound, sound_back, sound_of}
-use Rattle.fx_search.specs.Fronts.{Ahead, lower, most_lines, root, upper}
+use Rattle.fx_search.specs.Fronts.{RegionAhead, lower, most_lines, root, upper}
 use Rattle.fx_base.specs.Lines.{text_lines}
 use Rattle.fx_search.proofs.Texts.{certificate_lines}
 use Rattle.fx_search.specs.Found.{certificate_text, AllAtBounds, IsFound, some_exempt, version_for}
-use Rattle.fx_search.specs.Growing.{Completes, Grows, IsBegun, IsTarget, opening_items}
+use Rattle.fx_search.specs.Growing.{Completes, GrowsTree, IsBegun, IsTarget, opening_items}
 use Rattle.fx_search.proofs.AheadWithinTarget.{are_targets, split_inside}
 
 -- ---- a leaf or a split more
@@ -34,33 +34,33 @@ regrouped : (items opened rest : List Item) (i : Item) → (items ++ (opened ++ 
 regrouped items opened rest i = append_assoc items (opened ++ i ∷ []) rest ∙ ap (λ (w : List Item). items ++ w) (append_assoc opened (i ∷ []) rest)
 
 -- a tree of one line
-begun_leaf : (net : Net) (targets : List Target) (version : Version) (items : List Item) (a : Ahead) (as' : List Ahead) (n : ℕ) (x : Tree) (i : Item) → tree_items x ≡ i ∷ [] → size x ≡ 1 → Grows net a x
+begun_leaf : (net : Net) (targets : List Target) (version : Version) (items : List Item) (a : RegionAhead) (as' : List RegionAhead) (n : ℕ) (x : Tree) (i : Item) → tree_items x ≡ i ∷ [] → size x ≡ 1 → GrowsTree net a x
     → IsBegun net targets version items (a ∷ as') n → IsBegun net targets version (items ++ (opening_items a ++ i ∷ [])) as' (n + 1)
 begun_leaf net targets version items a as' n x i is one grows begun rest m completes =
     let more = begun (opening_items a ++ (i ∷ rest)) (1 + m) (x, rest, m, ap (λ (w : List Item). opening_items a ++ (w ++ rest)) (sym is), grows, ap (λ (k : ℕ). k + m) (sym one), completes) in
     (more.0, regrouped items (opening_items a) rest i ∙ more.1, let e : n + 1 + m ≡ n + (1 + m) = omega arith in rw e more.2)
 
-pub leaf_begun : (net : Net) (targets : List Target) (version : Version) (items : List Item) (a : Ahead) (as' : List Ahead) (n crossing point process : ℕ) → a.target.exempt ≡ false → SoundLeaf net a.target.crossings a.region crossing point process
+pub leaf_begun : (net : Net) (targets : List Target) (version : Version) (items : List Item) (a : RegionAhead) (as' : List RegionAhead) (n crossing point process : ℕ) → a.target.exempt ≡ false → SoundLeaf net a.target.crossings a.region crossing point process
     → IsBegun net targets version items (a ∷ as') n → IsBegun net targets version (items ++ (opening_items a ++ item.Leaf crossing point process ∷ [])) as' (n + 1)
 leaf_begun net targets version items a as' n crossing point process wanted sound begun =
     begun_leaf net targets version items a as' n (Leaf crossing point process) (item.Leaf crossing point process) refl refl (record { sound = (wanted, sound); bounds = tt; shallow = tt }) begun
 
-pub never_begun : (net : Net) (targets : List Target) (version : Version) (items : List Item) (a : Ahead) (as' : List Ahead) (n : ℕ) → a.target.exempt ≡ true → SoundNever net a.target.crossings a.region
+pub never_begun : (net : Net) (targets : List Target) (version : Version) (items : List Item) (a : RegionAhead) (as' : List RegionAhead) (n : ℕ) → a.target.exempt ≡ true → SoundNever net a.target.crossings a.region
     → IsBegun net targets version items (a ∷ as') n → IsBegun net targets version (items ++ (opening_items a ++ item.Never ∷ [])) as' (n + 1)
 never_begun net targets version items a as' n wanted sound begun =
     begun_leaf net targets version items a as' n Uncounted item.Never refl refl (record { sound = (wanted, sound); bounds = tt; shallow = tt }) begun
 
-not_opened : (a : Ahead) (d : ℕ) → a.depth ≡ d + 1 → opening_items a ≡ []
+not_opened : (a : RegionAhead) (d : ℕ) → a.depth ≡ d + 1 → opening_items a ≡ []
 not_opened a d e = go (eqb a.depth 0) refl where
   go : (b : Bool) → eqb a.depth 0 ≡ b → cond b (item.Class a.target.class a.target.path ∷ []) [] ≡ []
   go true h = absurd (let z = eqb-true a.depth 0 h in omega (arith, z, e))
   go false h = refl
 
-pub split_begun : (net : Net) (targets : List Target) (version : Version) (items : List Item) (a : Ahead) (as' : List Ahead) (n : ℕ) (axis : Axis) (at : ℕ) → a.depth < depth_limit → IsSplit net a.target.crossings a.region axis at
+pub split_begun : (net : Net) (targets : List Target) (version : Version) (items : List Item) (a : RegionAhead) (as' : List RegionAhead) (n : ℕ) (axis : Axis) (at : ℕ) → a.depth < depth_limit → IsSplit net a.target.crossings a.region axis at
     → IsBegun net targets version items (a ∷ as') n → IsBegun net targets version (items ++ (opening_items a ++ item.Split axis at ∷ [])) (lower a axis at ∷ upper a axis at ∷ as') (n + 1)
 split_begun net targets version items a as' n axis at less is begun rest m completes =
     let x = completes.0 in let y = completes.6.0 in let last = completes.6.1 in let k = completes.6.2 in
-    let grows : Grows net a (Split axis at x y) = record {
+    let grows : GrowsTree net a (Split axis at x y) = record {
       sound = (split_inside net a.target.crossings a.region axis at is, completes.4.sound, completes.6.4.sound);
       bounds = (is, completes.4.bounds, completes.6.4.bounds);
       shallow = (less, completes.4.shallow, completes.6.4.shallow);
@@ -126,7 +126,7 @@ none_exempt [] at k e h = absurd cc
 none_exempt (x ∷ ks) zero k e h = let same : x ≡ k = cc in subst (λ (c : Class). c.exempt ≡ false) same (or_false x.exempt (some_exempt ks) e).0
 none_exempt (x ∷ ks) (suc at) k e h = none_exempt ks at k (or_false x.exempt (some_exempt ks) e).1 h
 
-none_numbered : (ks : List Class) (n : ℕ) (k : Class) → some_exempt ks ≡ false → numbered ks n ≡ Some k → k.exempt ≡ false
+none_numbered : (ks : List Class) (n : ℕ) (k : Class) → some_exempt ks ≡ false → entry_numbered ks n ≡ Some k → k.exempt ≡ false
 none_numbered ks zero k e h = absurd cc
 none_numbered ks (suc n) k e h = none_exempt ks n k e h
 

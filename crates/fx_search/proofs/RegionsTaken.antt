@@ -21,22 +21,22 @@ use Rattle.fx_leaf.specs.Judgements.{IsJudged}
 use Rattle.fx_leaf.specs.SoundLeaves.{SoundLeaf, SoundNever}
 use Rattle.fx_traffic.specs.Targets.{Target}
 use Rattle.fx_check.specs.Certificates.{IsWritable}
-use Rattle.fx_check.specs.Verdict.{depth_limit}
-use Rattle.fx_search.specs.Fronts.{Ahead, Front, HasLeaf, lower, upper, root}
-use Rattle.fx_search.specs.Fronts.Front.{begins, leaf, split}
+use Rattle.fx_check.specs.FirstRefusal.{depth_limit}
+use Rattle.fx_search.specs.Fronts.{RegionAhead, SearchFront, HasLeaf, lower, upper, root}
+use Rattle.fx_search.specs.Fronts.SearchFront.{begins, leaf, split}
 use Rattle.fx_search.specs.Fronts.HasLeaf.{counted, never}
 use Rattle.fx_search.specs.Fronts.IsTooLarge.{lines as too_many, depth as too_deep}
 use Rattle.fx_search.specs.Growing.{IsGivenUp, IsGrowing, IsWrongAt, leaf_item, opening_items}
 use Rattle.fx_search.proofs.GrowingCertificate.{leaf_begun, never_begun, split_begun}
 
-abbrev IsShallowEnough : Ahead → Type 0
+abbrev IsShallowEnough : RegionAhead → Type 0
 IsShallowEnough a = a.depth ≤ depth_limit
 
 roots_shallow : (ts : List Target) → AllByRecursion IsShallowEnough (map root ts)
 roots_shallow [] = tt
 roots_shallow (t ∷ ts) = (omega arith, roots_shallow ts)
 
-all_shallow : (net : Net) (targets : List Target) (ahead : List Ahead) (n : ℕ) → Front net targets ahead n → AllByRecursion IsShallowEnough ahead
+all_shallow : (net : Net) (targets : List Target) (ahead : List RegionAhead) (n : ℕ) → SearchFront net targets ahead n → AllByRecursion IsShallowEnough ahead
 all_shallow net targets ahead n begins = roots_shallow targets
 all_shallow net targets ahead n (leaf a rest m before sound) = (all_shallow net targets (a ∷ rest) m before).1
 all_shallow net targets ahead n (split a rest m axis at before less is) =
@@ -46,7 +46,7 @@ pub written_more : (xs ys : List Item) → AllByRecursion IsWritable xs → AllB
 written_more [] ys a b = b
 written_more (x ∷ xs) ys a b = (a.0, written_more xs ys a.1 b)
 
-module _ (net : Net) (targets : List Target) (version : Version) (most : ℕ) (items new : List Item) (lines : ℕ) (a : Ahead) (as' : List Ahead) (g : IsGrowing net targets version most items lines (a ∷ as')) where
+module _ (net : Net) (targets : List Target) (version : Version) (most : ℕ) (items new : List Item) (lines : ℕ) (a : RegionAhead) (as' : List RegionAhead) (g : IsGrowing net targets version most items lines (a ∷ as')) where
   -- ---- a line more
 
   pub cut_taken : (axis : Axis) (at : ℕ) → IsJudged net a.target.crossings a.region (judged.Cut axis at) → lines < most → a.depth < depth_limit → new ≡ items ++ (opening_items a ++ item.Split axis at ∷ []) → AllByRecursion IsWritable new
@@ -62,7 +62,7 @@ module _ (net : Net) (targets : List Target) (version : Version) (most : ℕ) (i
   pub leaf_taken : (j : Judgement) (i : Item) → IsJudged net a.target.crossings a.region j → leaf_item j a.target.exempt ≡ Some i → lines < most → new ≡ items ++ (opening_items a ++ i ∷ []) → AllByRecursion IsWritable new
       → IsGrowing net targets version most new (lines + 1) as'
   leaf_taken j i is named less same written = go j is a.target.exempt refl named where
-    next : HasLeaf net a → Front net targets as' (lines + 1)
+    next : HasLeaf net a → SearchFront net targets as' (lines + 1)
     next has = let f = leaf a as' lines g.front has in let e : lines + 1 ≡ suc lines = omega arith in rw e f
 
     by_once : (crossing point process : ℕ) → SoundLeaf net a.target.crossings a.region crossing point process → a.target.exempt ≡ false → item.Leaf crossing point process ≡ i → IsGrowing net targets version most new (lines + 1) as'
@@ -96,11 +96,11 @@ module _ (net : Net) (targets : List Target) (version : Version) (most : ℕ) (i
   -- ---- no line
 
   pub cut_given_up : (axis : Axis) (at : ℕ) (e : Fault) → IsJudged net a.target.crossings a.region (judged.Cut axis at) → ((most ≤ lines) ⊎ (depth_limit ≤ a.depth)) → e ≡ fault_at 601 places.None → IsGivenUp net targets most e
-  cut_given_up axis at e is (inl le) same = inr (same, too_many a as' (let n : lines ≡ most = omega (arith, le, g.few) in subst (Front net targets (a ∷ as')) n g.front) (inl is.0))
+  cut_given_up axis at e is (inl le) same = inr (same, too_many a as' (let n : lines ≡ most = omega (arith, le, g.few) in subst (SearchFront net targets (a ∷ as')) n g.front) (inl is.0))
   cut_given_up axis at e is (inr le) same = let h = all_shallow net targets (a ∷ as') lines g.front in inr (same, too_deep a as' lines g.front (omega (arith, le, h.0)) is.0)
 
   pub leaf_given_up : (j : Judgement) (i : Item) (e : Fault) → IsJudged net a.target.crossings a.region j → leaf_item j a.target.exempt ≡ Some i → most ≤ lines → e ≡ fault_at 601 places.None → IsGivenUp net targets most e
-  leaf_given_up j i e is named le same = inr (same, too_many a as' (let n : lines ≡ most = omega (arith, le, g.few) in subst (Front net targets (a ∷ as')) n g.front) (inr (go j is a.target.exempt refl named))) where
+  leaf_given_up j i e is named le same = inr (same, too_many a as' (let n : lines ≡ most = omega (arith, le, g.few) in subst (SearchFront net targets (a ∷ as')) n g.front) (inr (go j is a.target.exempt refl named))) where
     go : (k : Judgement) → IsJudged net a.target.crossings a.region k → (exempt : Bool) → a.target.exempt ≡ exempt → leaf_item k exempt ≡ Some i → HasLeaf net a
     go (judged.Cut axis at) k exempt wants e = absurd cc
     go (judged.Once c) k true wants e = absurd cc
@@ -116,7 +116,7 @@ module _ (net : Net) (targets : List Target) (version : Version) (most : ℕ) (i
 lows_held : (b : Bounds) → IsRegion b → holds b b.low ≡ true
 lows_held b r = holds_if b b.low (λ k. λ small. (omega arith, (r k small).0))
 
-pub wrong_at : (net : Net) (a : Ahead) (j : Judgement) → IsRegion a.region → IsJudged net a.target.crossings a.region j → ((axis : Axis) (at : ℕ) → j ≡ judged.Cut axis at → ⊥) → leaf_item j a.target.exempt ≡ None → IsWrongAt net a
+pub wrong_at : (net : Net) (a : RegionAhead) (j : Judgement) → IsRegion a.region → IsJudged net a.target.crossings a.region j → ((axis : Axis) (at : ℕ) → j ≡ judged.Cut axis at → ⊥) → leaf_item j a.target.exempt ≡ None → IsWrongAt net a
 wrong_at net a j region is uncut none = go j is uncut a.target.exempt refl none where
   has : (f : Fate) → AllHave net a.target.crossings a.region f → (exempt : Bool) → a.target.exempt ≡ exempt → f ≢ wanted_fate exempt → packet_fate net a.region.low a.target.crossings ≢ wanted_fate a.target.exempt
   has f all exempt wants other e = other (sym (all a.region.low (lows_held a.region region)) ∙ e ∙ ap wanted_fate wants)

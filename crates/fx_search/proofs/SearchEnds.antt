@@ -13,13 +13,13 @@ use Rattle.fx_tables.specs.declared.packet.Packet.{Packet}
 use Rattle.fx_tables.specs.declared.traffic.Crossing.{Crossing}
 use Rattle.fx_tables.specs.Classes.{Class, IsOf, exempts, path}
 use Rattle.fx_tables.specs.Network.{Net}
-use Rattle.fx_base.specs.Entries.{numbered}
+use Rattle.fx_base.specs.Entries.{entry_numbered}
 use Rattle.fx_traffic.specs.Targets.{Target, targets_of}
 use Rattle.fx_steps.specs.WrongRun.{HasNoRun, IsWrongRun}
 use Rattle.fx_run_text.specs.declared.step.Step.{Step}
 use Rattle.fx_refute.specs.Refutations.{Refutes}
-use Rattle.fx_search.specs.Fronts.{Ahead, Front, root}
-use Rattle.fx_search.specs.Fronts.Front.{begins}
+use Rattle.fx_search.specs.Fronts.{RegionAhead, SearchFront, root}
+use Rattle.fx_search.specs.Fronts.SearchFront.{begins}
 use Rattle.fx_search.specs.Fronts.IsTooLarge.{steps as too_long}
 use Rattle.fx_search.specs.Growing.{IsGivenUp, IsGrowing, IsTarget, IsWrongAt, Lies, least_packet}
 use Rattle.fx_search.proofs.GrowingCertificate.{begun_first}
@@ -27,41 +27,41 @@ use Rattle.fx_search.proofs.AheadWithinTarget.{all_lie}
 use Rattle.fx_search.proofs.ShortLines.{header_writable}
 
 -- the last of the stack comes next
-pub popped : (net : Net) (targets : List Target) (version : Version) (most : ℕ) (items : List Item) (lines : ℕ) (stack rest : List Ahead) (a : Ahead) → stack ≡ rest ++ a ∷ [] → IsGrowing net targets version most items lines (reverse stack) → IsGrowing net targets version most items lines (a ∷ reverse rest)
+pub popped : (net : Net) (targets : List Target) (version : Version) (most : ℕ) (items : List Item) (lines : ℕ) (stack rest : List RegionAhead) (a : RegionAhead) → stack ≡ rest ++ a ∷ [] → IsGrowing net targets version most items lines (reverse stack) → IsGrowing net targets version most items lines (a ∷ reverse rest)
 popped net targets version most items lines stack rest a e g = subst (IsGrowing net targets version most items lines) (ap reverse e ∙ reverse-append rest (a ∷ [])) g
 
-pub started : (net : Net) (targets : List Target) (version : Version) (most : ℕ) (items : List Item) (lines : ℕ) (ahead : List Ahead) → items ≡ item.Header version ∷ [] → lines ≡ 0 → ahead ≡ map root targets → IsGrowing net targets version most items lines ahead
+pub started : (net : Net) (targets : List Target) (version : Version) (most : ℕ) (items : List Item) (lines : ℕ) (ahead : List RegionAhead) → items ≡ item.Header version ∷ [] → lines ≡ 0 → ahead ≡ map root targets → IsGrowing net targets version most items lines ahead
 started net targets version most items lines ahead is none all =
     rw (is, none, all) (record { front = begins; begun = begun_first net targets version; written = (header_writable version, tt); few = omega arith })
 
 -- ---- what lies in its target
 
-path_of : (classes : List Class) (a : Ahead) → IsTarget classes a.target → path classes (least_packet a) ≡ a.target.crossings
+path_of : (classes : List Class) (a : RegionAhead) → IsTarget classes a.target → path classes (least_packet a) ≡ a.target.crossings
 path_of classes a t = rw (t.named, t.path_is) refl
 
-exempt_of : (classes : List Class) (a : Ahead) → IsTarget classes a.target → exempts (numbered classes a.target.class) ≡ a.target.exempt
+exempt_of : (classes : List Class) (a : RegionAhead) → IsTarget classes a.target → exempts (entry_numbered classes a.target.class) ≡ a.target.exempt
 exempt_of classes a t = rw t.named t.exempt_is
 
-pub least_of_class : (classes : List Class) (a : Ahead) (p : Packet) → p ≡ least_packet a → Holds a.region p.fields → Lies classes a → IsOf p (numbered classes p.class)
+pub least_of_class : (classes : List Class) (a : RegionAhead) (p : Packet) → p ≡ least_packet a → Holds a.region p.fields → Lies classes a → IsOf p (entry_numbered classes p.class)
 least_of_class classes a p is held lies = rw (is, lies.target.named) (rw lies.target.region_is (holds_if a.target.region a.region.low (lies.inside a.region.low (subst (λ (q : Packet). Holds a.region q.fields) is held))), λ none. absurd (let e : Some a.target.crossings ≡ None = sym lies.target.path_is ∙ none in cc))
 
 -- ---- why nothing is found
 
-abbrev pub HasNone : Net → List Class → Ahead → Fault → Type 0
+abbrev pub HasNone : Net → List Class → RegionAhead → Fault → Type 0
 HasNone net classes a e =
-    (e ≡ fault_at 900 places.None) ⊎ ((e ≡ fault_at 601 places.None) × HasNoRun net a.region.low (path classes (least_packet a)) (exempts (numbered classes a.target.class)))
+    (e ≡ fault_at 900 places.None) ⊎ ((e ≡ fault_at 601 places.None) × HasNoRun net a.region.low (path classes (least_packet a)) (exempts (entry_numbered classes a.target.class)))
 
-pub given_up : (net : Net) (classes : List Class) (most : ℕ) (a : Ahead) (rest : List Ahead) (n : ℕ) (e : Fault) → Front net (targets_of classes) (a ∷ rest) n → IsWrongAt net a → HasNone net classes a e → IsGivenUp net (targets_of classes) most e
+pub given_up : (net : Net) (classes : List Class) (most : ℕ) (a : RegionAhead) (rest : List RegionAhead) (n : ℕ) (e : Fault) → SearchFront net (targets_of classes) (a ∷ rest) n → IsWrongAt net a → HasNone net classes a e → IsGivenUp net (targets_of classes) most e
 given_up net classes most a rest n e front wrong (inl memory) = inl memory
 given_up net classes most a rest n e front wrong (inr none) =
     let t = (all_lie net classes (a ∷ rest) n front).0.target in
     inr (none.0, too_long a rest n front wrong.0 wrong.1 (subst (λ (cs : List Crossing). HasNoRun net a.region.low cs a.target.exempt) (path_of classes a t) (subst (HasNoRun net a.region.low (path classes (least_packet a))) (exempt_of classes a t) none.1)))
 
-pub lies_there : (net : Net) (classes : List Class) (a : Ahead) (rest : List Ahead) (n : ℕ) → Front net (targets_of classes) (a ∷ rest) n → Lies classes a
+pub lies_there : (net : Net) (classes : List Class) (a : RegionAhead) (rest : List RegionAhead) (n : ℕ) → SearchFront net (targets_of classes) (a ∷ rest) n → Lies classes a
 lies_there net classes a rest n front = (all_lie net classes (a ∷ rest) n front).0
 
 -- ---- what refutes
 
-pub refutes_there : (net : Net) (classes : List Class) (a : Ahead) (p : Packet) (steps : List Step) → p ≡ least_packet a → Holds a.region p.fields → Lies classes a → IsWrongRun net classes p steps → Refutes net classes (record { packet = p; steps = steps })
+pub refutes_there : (net : Net) (classes : List Class) (a : RegionAhead) (p : Packet) (steps : List Step) → p ≡ least_packet a → Holds a.region p.fields → Lies classes a → IsWrongRun net classes p steps → Refutes net classes (record { packet = p; steps = steps })
 refutes_there net classes a p steps is held lies w =
     record { last = w.last; runs_to = record { of_class = least_of_class classes a p is held lies; runs = w.runs }; complete = w.complete; wrong = w.wrong }

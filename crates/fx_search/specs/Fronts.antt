@@ -9,42 +9,42 @@ use Rattle.fx_leaf.specs.Fates.{packet_fate, wanted_fate}
 use Rattle.fx_leaf.specs.SoundLeaves.{SoundLeaf, SoundNever}
 use Rattle.fx_leaf.specs.Splits.{IsSplit}
 use Rattle.fx_traffic.specs.Targets.{Target}
-use Rattle.fx_check.specs.Verdict.{line_limit, depth_limit}
+use Rattle.fx_check.specs.FirstRefusal.{line_limit, depth_limit}
 use Rattle.fx_steps.specs.WrongRun.{HasNoRun}
 
 -- ---- fronts
 
 -- a region of a target whose tree is still to come, and the depth of that tree's root
-pub record Ahead : Type 0 where
+pub record RegionAhead : Type 0 where
   pub target : Target
   pub region : Bounds
   pub depth : ℕ
 
-abbrev pub root : Target → Ahead
+abbrev pub root : Target → RegionAhead
 root t = record { target = t; region = t.region; depth = 0 }
 
 -- the parts of its region
-abbrev pub lower : Ahead → Axis → ℕ → Ahead
+abbrev pub lower : RegionAhead → Axis → ℕ → RegionAhead
 lower a axis at = record { target = a.target; region = below_part a.region (axis_index axis) at; depth = a.depth + 1 }
 
-abbrev pub upper : Ahead → Axis → ℕ → Ahead
+abbrev pub upper : RegionAhead → Axis → ℕ → RegionAhead
 upper a axis at = record { target = a.target; region = above_part a.region (axis_index axis) at; depth = a.depth + 1 }
 
 -- a leaf of the kind that the class wants is sound for it
-pub data HasLeaf (net : Net) (a : Ahead) : Type 0 where
+pub data HasLeaf (net : Net) (a : RegionAhead) : Type 0 where
   counted : (crossing point process : ℕ) → a.target.exempt ≡ false → SoundLeaf net a.target.crossings a.region crossing point process → HasLeaf net a
   never : a.target.exempt ≡ true → SoundNever net a.target.crossings a.region → HasLeaf net a
 
 -- after so many split and leaf lines these regions are ahead: each leaf was sound, each split at a bound of what cuts
-pub data Front (net : Net) (targets : List Target) : List Ahead → ℕ → Type 0 where
-  begins : Front net targets (map root targets) 0
-  leaf : (a : Ahead) (rest : List Ahead) (n : ℕ) → Front net targets (a ∷ rest) n → HasLeaf net a → Front net targets rest (suc n)
-  split : (a : Ahead) (rest : List Ahead) (n : ℕ) (axis : Axis) (at : ℕ) → Front net targets (a ∷ rest) n → a.depth < depth_limit → IsSplit net a.target.crossings a.region axis at → Front net targets (lower a axis at ∷ upper a axis at ∷ rest) (suc n)
+pub data SearchFront (net : Net) (targets : List Target) : List RegionAhead → ℕ → Type 0 where
+  begins : SearchFront net targets (map root targets) 0
+  leaf : (a : RegionAhead) (rest : List RegionAhead) (n : ℕ) → SearchFront net targets (a ∷ rest) n → HasLeaf net a → SearchFront net targets rest (suc n)
+  split : (a : RegionAhead) (rest : List RegionAhead) (n : ℕ) (axis : Axis) (at : ℕ) → SearchFront net targets (a ∷ rest) n → a.depth < depth_limit → IsSplit net a.target.crossings a.region axis at → SearchFront net targets (lower a axis at ∷ upper a axis at ∷ rest) (suc n)
 
 -- ---- why nothing is found
 
 -- something cuts its region
-abbrev pub IsCut : Net → Ahead → Type 0
+abbrev pub IsCut : Net → RegionAhead → Type 0
 IsCut net a = NothingCuts net a.target.crossings a.region → ⊥
 
 -- at most so many split and leaf lines are written
@@ -54,8 +54,8 @@ most_lines limit = min limit line_limit
 -- what a certificate of at most so many split and leaf lines, or a refutation, needs is too large
 pub data IsTooLarge (net : Net) (targets : List Target) (most : ℕ) : Type 0 where
   -- a line more
-  lines : (a : Ahead) (rest : List Ahead) → Front net targets (a ∷ rest) most → IsCut net a ⊎ HasLeaf net a → IsTooLarge net targets most
+  lines : (a : RegionAhead) (rest : List RegionAhead) → SearchFront net targets (a ∷ rest) most → IsCut net a ⊎ HasLeaf net a → IsTooLarge net targets most
   -- a split deeper than any may be
-  depth : (a : Ahead) (rest : List Ahead) (n : ℕ) → Front net targets (a ∷ rest) n → a.depth ≡ depth_limit → IsCut net a → IsTooLarge net targets most
+  depth : (a : RegionAhead) (rest : List RegionAhead) (n : ℕ) → SearchFront net targets (a ∷ rest) n → a.depth ≡ depth_limit → IsCut net a → IsTooLarge net targets most
   -- nothing cuts the region, and its least packet hasn't the fate that the class wants, but no run that shows it is short enough
-  steps : (a : Ahead) (rest : List Ahead) (n : ℕ) → Front net targets (a ∷ rest) n → NothingCuts net a.target.crossings a.region → packet_fate net a.region.low a.target.crossings ≢ wanted_fate a.target.exempt → HasNoRun net a.region.low a.target.crossings a.target.exempt → IsTooLarge net targets most
+  steps : (a : RegionAhead) (rest : List RegionAhead) (n : ℕ) → SearchFront net targets (a ∷ rest) n → NothingCuts net a.target.crossings a.region → packet_fate net a.region.low a.target.crossings ≢ wanted_fate a.target.exempt → HasNoRun net a.region.low a.target.crossings a.target.exempt → IsTooLarge net targets most

@@ -11,7 +11,7 @@ use Rattle.fx_tables.specs.declared.packet.Packet.{Packet}
 use Rattle.fx_boxes.specs.Boxes.{IsInside}
 use Rattle.fx_tables.specs.Classes.{Class}
 use Rattle.fx_tables.specs.Network.{Net}
-use Rattle.fx_base.specs.Entries.{numbered}
+use Rattle.fx_base.specs.Entries.{entry_numbered}
 use Rattle.fx_leaf.specs.declared.judgement.Judgement.{Judgement}
 use Rattle.fx_leaf.specs.declared.judgement.Judgement.TheVariants as judged
 use Rattle.fx_leaf.specs.Answers.{NothingCuts}
@@ -19,51 +19,51 @@ use Rattle.fx_leaf.specs.Certificates.{Tree, SoundTree}
 use Rattle.fx_leaf.specs.Fates.{packet_fate, wanted_fate}
 use Rattle.fx_traffic.specs.Targets.{Target}
 use Rattle.fx_check.specs.Certificates.{IsShallow, IsWritable, size, tree_items}
-use Rattle.fx_check.specs.Verdict.{depth_limit}
+use Rattle.fx_check.specs.FirstRefusal.{depth_limit}
 use Rattle.fx_search.specs.Found.{AtBounds}
-use Rattle.fx_search.specs.Fronts.{Ahead, Front, IsTooLarge, root}
+use Rattle.fx_search.specs.Fronts.{RegionAhead, SearchFront, IsTooLarge, root}
 
 -- before the tree of a whole target comes the target's line
-abbrev pub opening_items : Ahead → List Item
+abbrev pub opening_items : RegionAhead → List Item
 opening_items a = if a.depth == 0 then item.Class a.target.class a.target.path ∷ [] else []
 
 -- a tree that a certificate may have for a region
-pub record Grows (net : Net) (a : Ahead) (x : Tree) : Type 0 where
+pub record GrowsTree (net : Net) (a : RegionAhead) (x : Tree) : Type 0 where
   pub sound : SoundTree net a.target.crossings a.target.exempt a.region x
   pub bounds : AtBounds net a.target.crossings a.region x
   pub shallow : IsShallow a.depth x
 
 -- these items, of so many split and leaf lines, are those of trees for what is ahead, and the last item
-abbrev pub Completes : Net → List Ahead → List Item → ℕ → Type 0
+abbrev pub Completes : Net → List RegionAhead → List Item → ℕ → Type 0
 Completes net [] items n = (items ≡ item.End ∷ []) × (n ≡ 0)
 Completes net (a ∷ as') items n =
-    (x : Tree) × (rest : List Item) × (m : ℕ) × (items ≡ opening_items a ++ (tree_items x ++ rest)) × Grows net a x × (n ≡ size x + m) × Completes net as' rest m
+    (x : Tree) × (rest : List Item) × (m : ℕ) × (items ≡ opening_items a ++ (tree_items x ++ rest)) × GrowsTree net a x × (n ≡ size x + m) × Completes net as' rest m
 
 -- whatever completes what is ahead makes these items, of so many split and leaf lines, a certificate's
-abbrev pub IsBegun : Net → List Target → Version → List Item → List Ahead → ℕ → Type 0
+abbrev pub IsBegun : Net → List Target → Version → List Item → List RegionAhead → ℕ → Type 0
 IsBegun net targets version items ahead n =
     (rest : List Item) (m : ℕ) → Completes net ahead rest m → (body : List Item) × (items ++ rest ≡ item.Header version ∷ body) × Completes net (map root targets) body (n + m)
 
 -- where a search stands: what is ahead and how many lines there are, the items so far, and that these may be written
-pub record IsGrowing (net : Net) (targets : List Target) (version : Version) (most : ℕ) (items : List Item) (lines : ℕ) (ahead : List Ahead) : Type 0 where
-  pub front : Front net targets ahead lines
+pub record IsGrowing (net : Net) (targets : List Target) (version : Version) (most : ℕ) (items : List Item) (lines : ℕ) (ahead : List RegionAhead) : Type 0 where
+  pub front : SearchFront net targets ahead lines
   pub begun : IsBegun net targets version items ahead lines
   pub written : AllByRecursion IsWritable items
   pub few : lines ≤ most
 
 -- nothing cuts the region, and its least packet hasn't the fate that its class wants
-abbrev pub IsWrongAt : Net → Ahead → Type 0
+abbrev pub IsWrongAt : Net → RegionAhead → Type 0
 IsWrongAt net a = NothingCuts net a.target.crossings a.region × (packet_fate net a.region.low a.target.crossings ≢ wanted_fate a.target.exempt)
 
 -- a region was gone past by a line more, or its packets haven't the fate that is wanted
-abbrev pub IsTaken : Net → List Target → Version → ℕ → List Item → ℕ → List Ahead → Ahead → Bool → Type 0
+abbrev pub IsTaken : Net → List Target → Version → ℕ → List Item → ℕ → List RegionAhead → RegionAhead → Bool → Type 0
 IsTaken net targets version most items lines ahead a true = IsGrowing net targets version most items lines ahead
 IsTaken net targets version most items lines ahead a false = IsWrongAt net a
 
 -- the search ends with nothing ahead, or at the first region where packets haven't the fate that is wanted
-abbrev pub IsGrown : Net → List Target → Version → ℕ → List Item → ℕ → Option Ahead → Type 0
+abbrev pub IsGrown : Net → List Target → Version → ℕ → List Item → ℕ → Option RegionAhead → Type 0
 IsGrown net targets version most items lines None = IsGrowing net targets version most items lines []
-IsGrown net targets version most items lines (Some a) = IsWrongAt net a × ((rest : List Ahead) × (n : ℕ) × Front net targets (a ∷ rest) n)
+IsGrown net targets version most items lines (Some a) = IsWrongAt net a × ((rest : List RegionAhead) × (n : ℕ) × SearchFront net targets (a ∷ rest) n)
 
 -- for want of memory, or since what is needed is too large
 abbrev pub IsGivenUp : Net → List Target → ℕ → Fault → Type 0
@@ -76,7 +76,7 @@ leaf_item judged.Never exempt = if exempt then Some item.Never else None
 leaf_item _ exempt = None
 
 -- a region's least packet
-abbrev pub least_packet : Ahead → Packet
+abbrev pub least_packet : RegionAhead → Packet
 least_packet a = record { fields = a.region.low; octets = 1; class = a.target.class; path = a.target.path }
 
 -- ---- where it lies
@@ -84,13 +84,13 @@ least_packet a = record { fields = a.region.low; octets = 1; class = a.target.cl
 -- a path of a class, by number
 pub record IsTarget (classes : List Class) (t : Target) : Type 0 where
   pub class : Class
-  pub named : numbered classes t.class ≡ Some class
+  pub named : entry_numbered classes t.class ≡ Some class
   pub region_is : class.region ≡ t.region
   pub exempt_is : class.exempt ≡ t.exempt
-  pub path_is : numbered class.paths t.path ≡ Some t.crossings
+  pub path_is : entry_numbered class.paths t.path ≡ Some t.crossings
 
 -- its target is one of these, it lies in the target's region, and it isn't too deep
-pub record Lies (classes : List Class) (a : Ahead) : Type 0 where
+pub record Lies (classes : List Class) (a : RegionAhead) : Type 0 where
   pub target : IsTarget classes a.target
   pub inside : IsInside a.region a.target.region
   pub shallow : a.depth ≤ depth_limit

@@ -5,7 +5,7 @@ ghost use Rattle.fx_cert.specs.declared.item.Item.TheVariants as of_item;
 ghost use Rattle.fx_boxes.specs.Boxes.{Holds, IsRegion, IsStrictlyInside};
 ghost use Rattle.fx_elements.specs.Axes.{axis_index};
 ghost use Rattle.fx_check.specs.Certificates.{IsWritable};
-ghost use Rattle.fx_check.specs.Verdict.{depth_limit, line_limit};
+ghost use Rattle.fx_check.specs.FirstRefusal.{depth_limit, line_limit};
 ghost use Rattle.fx_search.specs.Fronts.{lower, upper, root};
 ghost use Rattle.fx_leaf.specs.Judgements.{IsJudged};
 ghost use Rattle.fx_leaf.specs.Tables.{AreTables};
@@ -30,9 +30,9 @@ pub(crate) struct Ahead<'a> {
 }
 
 impl<'a> Model for Ahead<'a> {
-    ghost use Rattle.fx_search.specs.Fronts.{Ahead};
+    ghost use Rattle.fx_search.specs.Fronts.{RegionAhead};
 
-    ghost Value = { Ahead };
+    ghost Value = { RegionAhead };
 
     ghost view = { λ a. record { target = a.target.now; region = a.region; depth = a.depth } };
 }
@@ -102,7 +102,7 @@ fn roots<'a>(alloc: Global, targets: &'a [Target<'a>]) -> Result<Vec<Ahead<'a>>,
 }
 
 /// The line of a target.
-fn opening(class: u64, path: u64) -> Item
+fn class_line(class: u64, path: u64) -> Item
     ensures is { result ≡ of_item.Class class path }
     ensures writable { IsWritable result }
 {
@@ -164,7 +164,7 @@ impl<'a> Growth<'a> {
     {
         if here.depth == 0 {
             let target = here.target;
-            self.items.push(opening(target.class, target.path))?;
+            self.items.push(class_line(target.class, target.path))?;
         }
         self.items.push(item)?;
         self.lines += 1;

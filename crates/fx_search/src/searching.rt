@@ -8,7 +8,7 @@ ghost use Rattle.fx_tables.specs.Ranks.{IsNetwork};
 ghost use Rattle.fx_tables.specs.Runnable.{IsRunnable};
 ghost use Rattle.fx_plan.specs.Tables.{net_of};
 ghost use Rattle.fx_check.specs.Certificates.{IsWritable};
-ghost use Rattle.fx_check.specs.Verdict.{line_limit};
+ghost use Rattle.fx_check.specs.FirstRefusal.{line_limit};
 ghost use Rattle.fx_cert.specs.declared.item.Version.{Version};
 ghost use Rattle.fx_traffic.specs.Targets.{Target, targets_of};
 ghost use Rattle.fx_search.specs.Found as found;
@@ -16,7 +16,7 @@ ghost use Rattle.fx_search.specs.Fronts as fronts;
 ghost use Rattle.fx_search.specs.Growing.{leaf_item, least_packet, IsGrowing, IsGrown, IsTaken, IsGivenUp, Lies};
 ghost use Rattle.fx_tables.specs.Classes.{IsOf, path, exempts, Class as OfClass};
 ghost use Rattle.fx_tables.specs.Network.{Net};
-ghost use Rattle.fx_base.specs.Entries.{numbered};
+ghost use Rattle.fx_base.specs.Entries.{entry_numbered};
 ghost use Rattle.fx_steps.specs.WrongRun.{HasNoRun};
 
 use crate::found::Found;
@@ -146,7 +146,7 @@ fn refute(
     ensures err { IfErr result (λ e. (e ≡ fault_at 900 places.None)
         ⊎ ((e ≡ fault_at 601 places.None)
         × HasNoRun tables.now.net here.now.region.low (path classes.now (least_packet here.now))
-        (exempts (numbered classes.now here.now.target.class)))) }
+        (exempts (entry_numbered classes.now here.now.target.class)))) }
 {
     refutations_refute();
     let packet = here.least_packet();

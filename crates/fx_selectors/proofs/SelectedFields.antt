@@ -14,7 +14,7 @@ use Rattle.fx_config.specs.declared.selector.Method.{Method}
 use Rattle.fx_config.specs.declared.selector.Method.TheVariants.{SelectAll, FilterMatch}
 use Rattle.fx_config.specs.declared.selector.Selector.{Selector}
 use Rattle.fx_config.specs.declared.selection_process.SelectionProcess.{SelectionProcess}
-use Rattle.fx_selectors.specs.Selection.{has, passes, selects, everything, narrowed, narrowed_by, bounds_of, has_room, region_of, region_within}
+use Rattle.fx_selectors.specs.Selection.{has, passes, selects, everything, bounds_within, narrowed_by, bounds_of, has_room, region_of, region_within}
 
 some_is : {A : Type 0} {x y : A} → ◌≡◌ {A = Option A} (Some x) (Some y) → x ≡ y
 some_is {A} {x} h = ap (λ (o : Option A). unwrap_or o x) h
@@ -26,14 +26,14 @@ none_some h = absurd (cc)
 abbrev IsWhole : Bounds → Type 0
 IsWhole b = (length b.low ≡ axis_count) × (length b.high ≡ axis_count)
 
-narrowed_whole : (b : Bounds) (m : PropertyMatch) → IsWhole b → IsWhole (narrowed b m)
+narrowed_whole : (b : Bounds) (m : PropertyMatch) → IsWhole b → IsWhole (bounds_within b m)
 narrowed_whole b m whole = (length-set b.low _ _ ∙ whole.0, length-set b.high _ _ ∙ whole.1)
 
 -- where each place is the axis of the match or another
-low_own : (b : Bounds) (m : PropertyMatch) → IsWhole b → get_or (narrowed b m).low (axis_index m.axis) 0 ≡ max (field b.low m.axis) m.range.low
+low_own : (b : Bounds) (m : PropertyMatch) → IsWhole b → get_or (bounds_within b m).low (axis_index m.axis) 0 ≡ max (field b.low m.axis) m.range.low
 low_own b m whole = get_or-set_same b.low (axis_index m.axis) _ 0 (let small = index_below m.axis in omega (arith, small, whole.0))
 
-high_own : (b : Bounds) (m : PropertyMatch) → IsWhole b → get_or (narrowed b m).high (axis_index m.axis) 0 ≡ min (field b.high m.axis) m.range.high
+high_own : (b : Bounds) (m : PropertyMatch) → IsWhole b → get_or (bounds_within b m).high (axis_index m.axis) 0 ≡ min (field b.high m.axis) m.range.high
 high_own b m whole = get_or-set_same b.high (axis_index m.axis) _ 0 (let small = index_below m.axis in omega (arith, small, whole.1))
 
 -- another place
@@ -47,7 +47,7 @@ module _ (b : Bounds) (m : PropertyMatch) (f : Fields) (whole : IsWhole b) where
   Before k = (get_or b.low k 0 ≤ get_or f k 0) × (get_or f k 0 ≤ get_or b.high k 0)
 
   abbrev After : ℕ → Type 0
-  After k = (get_or (narrowed b m).low k 0 ≤ get_or f k 0) × (get_or f k 0 ≤ get_or (narrowed b m).high k 0)
+  After k = (get_or (bounds_within b m).low k 0 ≤ get_or f k 0) × (get_or f k 0 ≤ get_or (bounds_within b m).high k 0)
 
   abbrev IsAmong : Type 0
   IsAmong = (m.range.low ≤ field f m.axis) × (field f m.axis ≤ m.range.high)
@@ -71,10 +71,10 @@ module _ (b : Bounds) (m : PropertyMatch) (f : Fields) (whole : IsWhole b) where
       let least = min-le_right (field b.high m.axis) m.range.high in
       (omega (arith, low, most), omega (arith, high, least))
 
-  same_low : (k : ℕ) → (k ≡ axis_index m.axis → ⊥) → get_or (narrowed b m).low k 0 ≡ get_or b.low k 0
+  same_low : (k : ℕ) → (k ≡ axis_index m.axis → ⊥) → get_or (bounds_within b m).low k 0 ≡ get_or b.low k 0
   same_low k differs = get_or-set_other b.low (axis_index m.axis) k _ 0 differs
 
-  same_high : (k : ℕ) → (k ≡ axis_index m.axis → ⊥) → get_or (narrowed b m).high k 0 ≡ get_or b.high k 0
+  same_high : (k : ℕ) → (k ≡ axis_index m.axis → ⊥) → get_or (bounds_within b m).high k 0 ≡ get_or b.high k 0
   same_high k differs = get_or-set_other b.high (axis_index m.axis) k _ 0 differs
 
   after_at : IsAmong → (k : ℕ) → Before k → After k
@@ -95,21 +95,21 @@ module _ (b : Bounds) (m : PropertyMatch) (f : Fields) (whole : IsWhole b) where
   has_is : has m f ≡ true → IsAmong
   has_is h = let parts = and_true (nat_le m.range.low (field f m.axis)) _ h in (leb-true _ _ parts.0, leb-true _ _ parts.1)
 
-  within_if : Holds b f → has m f ≡ true → Holds (narrowed b m) f
+  within_if : Holds b f → has m f ≡ true → Holds (bounds_within b m) f
   within_if h t k lt = after_at (has_is t) k (h k lt)
 
-  within_is : Holds (narrowed b m) f → Holds b f × (has m f ≡ true)
+  within_is : Holds (bounds_within b m) f → Holds b f × (has m f ≡ true)
   within_is h = (λ k lt. before_at k (h k lt), has_if (among_own (h _ (index_below m.axis))))
 
 -- no bound passes the greatest value
-narrowed_fields : (b : Bounds) (m : PropertyMatch) → IsWhole b → IsFields b.high → IsFields (narrowed b m).high
-narrowed_fields b m whole fields k lt = elim (k == axis_index m.axis) as (λ t. (k == axis_index m.axis) ≡ t → get_or (narrowed b m).high k 0 ≤ get_or tops k 0) [
+narrowed_fields : (b : Bounds) (m : PropertyMatch) → IsWhole b → IsFields b.high → IsFields (bounds_within b m).high
+narrowed_fields b m whole fields k lt = elim (k == axis_index m.axis) as (λ t. (k == axis_index m.axis) ≡ t → get_or (bounds_within b m).high k 0 ≤ get_or tops k 0) [
   | true ↦ λ e.
       let i = eqb-true k (axis_index m.axis) e in
       let own = high_own b m whole in
       let least = min-le_left (field b.high m.axis) m.range.high in
       let before = fields (axis_index m.axis) (index_below m.axis) in
-      subst (λ (n : ℕ). get_or (narrowed b m).high n 0 ≤ get_or tops n 0) (sym i) (rw own (omega (arith, least, before)))
+      subst (λ (n : ℕ). get_or (bounds_within b m).high n 0 ≤ get_or tops n 0) (sym i) (rw own (omega (arith, least, before)))
   | false ↦ λ e. rw (get_or-set_other b.high (axis_index m.axis) k _ 0 (other k _ e)) (fields k lt)
 ] refl
 

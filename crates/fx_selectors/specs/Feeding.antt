@@ -21,13 +21,13 @@ abbrev pub has_cache : List SelectionProcess → List ℕ → Bool
 has_cache processes name = list_any (λ process. bytes_eq process.name name && is_some process.cache) processes
 
 -- the numbers of the names, from this one on, whose process has a cache
-abbrev pub fed : List SelectionProcess → ℕ → List (List ℕ) → List ℕ
-fed processes number [] = []
-fed processes number (name ∷ names) = (if has_cache processes name then number ∷ [] else []) ++ fed processes (number + 1) names
+abbrev pub numbers_with_cache : List SelectionProcess → ℕ → List (List ℕ) → List ℕ
+numbers_with_cache processes number [] = []
+numbers_with_cache processes number (name ∷ names) = (if has_cache processes name then number ∷ [] else []) ++ numbers_with_cache processes (number + 1) names
 
 -- those of a point's processes, each beside the point's number
 abbrev pub fed_by : List SelectionProcess → ℕ → ObservationPoint → List (ℕ × ℕ)
-fed_by processes number point = map (λ process. (number, process)) (fed processes 1 point.selection_processes)
+fed_by processes number point = map (λ process. (number, process)) (numbers_with_cache processes 1 point.selection_processes)
 
 -- those of the points that observe the crossing, numbered from this one on
 abbrev pub fed_from : List SelectionProcess → List ℕ → Bool → ℕ → List ObservationPoint → List (ℕ × ℕ)
@@ -42,8 +42,8 @@ feeds device interface inwards = fed_from device.selection_processes interface i
 -- ---- what is left of them
 
 -- behind so many names of the first of these points
-abbrev pub left : List SelectionProcess → List ℕ → Bool → ℕ → ℕ → List ObservationPoint → List (ℕ × ℕ)
-left processes interface inwards number behind [] = []
-left processes interface inwards number behind (point ∷ points) =
-    (if watches point interface inwards then map (λ process. (number, process)) (fed processes (behind + 1) (drop behind point.selection_processes)) else [])
-    ++ left processes interface inwards (number + 1) 0 points
+abbrev pub feeds_left : List SelectionProcess → List ℕ → Bool → ℕ → ℕ → List ObservationPoint → List (ℕ × ℕ)
+feeds_left processes interface inwards number behind [] = []
+feeds_left processes interface inwards number behind (point ∷ points) =
+    (if watches point interface inwards then map (λ process. (number, process)) (numbers_with_cache processes (behind + 1) (drop behind point.selection_processes)) else [])
+    ++ feeds_left processes interface inwards (number + 1) 0 points

@@ -30,15 +30,15 @@ abbrev pub everything : Bounds
 everything = record { low = map (λ axis. 0) axes; high = tops }
 
 -- the bounds of what is left by a match: no value on its axis is below its low or above its high
-abbrev pub narrowed : Bounds → PropertyMatch → Bounds
-narrowed b m = record {
+abbrev pub bounds_within : Bounds → PropertyMatch → Bounds
+bounds_within b m = record {
   low = slice_set b.low (axis_index m.axis) (max (field b.low m.axis) m.range.low);
   high = slice_set b.high (axis_index m.axis) (min (field b.high m.axis) m.range.high);
 }
 
 abbrev pub narrowed_by : Bounds → Method → Bounds
 narrowed_by b SelectAll = b
-narrowed_by b (FilterMatch m) = narrowed b m
+narrowed_by b (FilterMatch m) = bounds_within b m
 
 abbrev pub bounds_of : List Selector → Bounds
 bounds_of selectors = fold (λ b selector. narrowed_by b selector.method) everything selectors

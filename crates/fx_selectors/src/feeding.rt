@@ -2,7 +2,7 @@
 ghost use Rattle.std.specs.Prelude.{◌≡◌, ◌+◌, ◌<◌, ◌∷◌, [], MatchOption, bytes_eq, length, drop, is_some, ◌&&◌};
 ghost use Rattle.std.specs.List.{list_any};
 ghost use Rattle.std.specs.Iterator.{YieldsFirst, item_count};
-ghost use Rattle.fx_selectors.specs.Feeding.{agrees, fed, feeds, has_cache, watches};
+ghost use Rattle.fx_selectors.specs.Feeding.{agrees, numbers_with_cache, feeds, has_cache, watches};
 
 use fx_base::Name;
 use fx_config::{Device, Direction, ObservationPoint, SelectionProcess};
@@ -44,9 +44,9 @@ fn has_cache(processes: &[SelectionProcess], name: &Name) -> bool
 
 /// The place of the first of the names from a place on whose process has a cache.
 fn next_fed(processes: &[SelectionProcess], names: &[Name], from: usize) -> Option<usize>
-    ensures none { MatchOption result (fed processes.now (from + 1) (drop from names.now)
-        ≡ []) (λ place. fed processes.now (from + 1) (drop from names.now)
-        ≡ (place + 1) ∷ fed processes.now (place + 1 + 1) (drop (place + 1) names.now)) }
+    ensures none { MatchOption result (numbers_with_cache processes.now (from + 1) (drop from names.now)
+        ≡ []) (λ place. numbers_with_cache processes.now (from + 1) (drop from names.now)
+        ≡ (place + 1) ∷ numbers_with_cache processes.now (place + 1 + 1) (drop (place + 1) names.now)) }
     ensures bound { MatchOption result (Unit {0}) (λ place. place < length names.now) }
 {
     for place in from..names.len() {
@@ -70,11 +70,11 @@ pub struct FedPairs<'a> {
 
 impl<'a> Model for FedPairs<'a> {
     ghost use Rattle.std.specs.Prelude.{ℕ, List, ◌+◌, drop};
-    ghost use Rattle.fx_selectors.specs.Feeding.{left};
+    ghost use Rattle.fx_selectors.specs.Feeding.{feeds_left};
 
     ghost Value = { List (ℕ × ℕ) };
 
-    ghost view = { λ s. left s.device.now.selection_processes s.interface.now s.inwards (s.point
+    ghost view = { λ s. feeds_left s.device.now.selection_processes s.interface.now s.inwards (s.point
         + 1) s.process (drop s.point s.device.now.observation_points) };
 }
 

@@ -24,8 +24,8 @@ impl Model for Bounds {
 }
 
 /// What a match leaves within these bounds.
-fn narrowed(within: Bounds, fixed: &PropertyMatch) -> Bounds
-    ensures { result ≡ selection.narrowed within fixed.now }
+fn bounds_within(within: Bounds, fixed: &PropertyMatch) -> Bounds
+    ensures { result ≡ selection.bounds_within within fixed.now }
 {
     let Bounds { mut low, mut high } = within;
     let k = fixed.axis.index();
@@ -45,7 +45,7 @@ fn bounds_of(selectors: &[Selector]) -> Bounds
     for selector in selectors {
         match &selector.method {
             Method::SelectAll => {}
-            Method::FilterMatch(fixed) => bounds = narrowed(bounds, fixed),
+            Method::FilterMatch(fixed) => bounds = bounds_within(bounds, fixed),
         }
     }
     bounds

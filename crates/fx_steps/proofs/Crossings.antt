@@ -9,7 +9,7 @@ use Rattle.fx_run_text.specs.declared.step.Step.TheVariants.{Cross}
 use Rattle.fx_tables.specs.declared.traffic.Crossing.{Crossing}
 use Rattle.fx_tables.specs.Classes.{Class, path}
 use Rattle.fx_tables.specs.Network.{Net}
-use Rattle.fx_base.specs.Entries.{numbered}
+use Rattle.fx_base.specs.Entries.{entry_numbered}
 use Rattle.fx_tables.specs.Occurrences.{occurrences}
 use Rattle.fx_tables.specs.Ranks.{IsNetwork}
 use Rattle.fx_tables.specs.Runnable.{IsHolder, IsRunnable}
@@ -41,7 +41,7 @@ use Rattle.fx_steps.proofs.PlannedPlaces.{all_of_every, meets_there}
 use Rattle.fx_steps.proofs.WholeNetworks.{whole}
 
 module _ (net : Net) (n : Numbering) (table : CostTable) (classes : List Class) (p : Packet) (network : IsNetwork net) where
-  pub crossed : (c : Crossing) (number : ℕ) (coming : List Coming) (f g : Fate) (old new : List Step) → numbered (path classes p) number ≡ Some c → Crosses table net n p.fields c g → new ≡ old ++ Cross 1 number (meets_choose (occurrences net c p.fields)) ∷ [] → UnderWay net n classes p (record { packet = 1; crossing = number } ∷ coming) f old [] → UnderWay net n classes p coming (both f g) new (meets table net n (occurrences net c p.fields) g)
+  pub crossed : (c : Crossing) (number : ℕ) (coming : List Coming) (f g : Fate) (old new : List Step) → entry_numbered (path classes p) number ≡ Some c → Crosses table net n p.fields c g → new ≡ old ++ Cross 1 number (meets_choose (occurrences net c p.fields)) ∷ [] → UnderWay net n classes p (record { packet = 1; crossing = number } ∷ coming) f old [] → UnderWay net n classes p coming (both f g) new (meets table net n (occurrences net c p.fields) g)
   crossed c number coming f g old new at can last way =
       let os = occurrences net c p.fields in
       let step = Cross 1 number (meets_choose os) in

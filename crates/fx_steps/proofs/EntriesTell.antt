@@ -2,11 +2,11 @@
 use Rattle.std.proofs.Common.{◌≡◌, ◌⊎◌, inl, inr, ℕ, zero, suc, ◌+◌, ◌<◌, true, false, cond, ◌&&◌, ◌==◌, if◌then◌else◌, List, [], ◌∷◌, map, filter, length, Option, Some, None, refl, sym, ap, ap₂, ◌∙◌, subst, arith, slice_get}
 use Rattle.std.specs.List.{list_all}
 use Rattle.fx_elements.specs.Axes.{Fields}
-use Rattle.fx_layout.specs.Keys.{Layout, Key, Fits, key_of, refines, reads, cut}
+use Rattle.fx_layout.specs.Keys.{Layout, Key, Fits, key_of, refines, reads, bits_on}
 use Rattle.fx_layout.proofs.Projections.{and_true, project_key}
-use Rattle.fx_tables.specs.Network.{Net, Exporter, Holder, Aggregation, Process, at_places, exporters_of, layout_of, takes}
+use Rattle.fx_tables.specs.Network.{Net, Exporter, Holder, AggregationEntry, Process, at_places, exporters_of, layout_of, takes}
 use Rattle.fx_machine.specs.Acts.{Act, Tally, Send, Hold}
-use Rattle.fx_machine.specs.Steps.{leaving, arriving, coming_to, acts_of, take_in}
+use Rattle.fx_machine.specs.Steps.{acts_of_leaving, acts_of_arrival, coming_to, acts_of, take_in}
 use Rattle.fx_tables.specs.Ranks.{IsNetwork}
 use Rattle.fx_leaf.specs.declared.verdict.Fate.{Fate}
 use Rattle.fx_leaf.specs.declared.verdict.Fate.TheVariants.{Never, Once, Unassigned}
@@ -44,14 +44,14 @@ module _ (net : Net) (n : Numbering) (fields : Fields) (network : IsNetwork net)
     abbrev key : Key
     key = key_of layout fields
 
-    arriving_tells : (o : Option ℕ) → ((q : ℕ) → o ≡ Some q → ToldAt q) → Tells (coming_costs table number o) (Of net (acts (arriving net key o)))
+    arriving_tells : (o : Option ℕ) → ((q : ℕ) → o ≡ Some q → ToldAt q) → Tells (coming_costs table number o) (Of net (acts (acts_of_arrival net key o)))
     arriving_tells None good = no_acts_tell
     arriving_tells (Some q) good = good q refl number layout is fits
 
     link_tells : (d : Option ℕ) → GoodTo d → Tells (link_costs table net number d) (Of net (to key (d ∷ [])))
     link_tells None good = nothing_tells (Of net (to key (None ∷ []))) (Comes.to_outside key [] Never 0 (Comes.no_destination key)) (λ f k c. (of_none net (of_outside net c)).0)
     link_tells (Some link) good =
-        next_tells (Of net (acts (arriving net key (slice_get net.links link)))) (Of net (to key (Some link ∷ []))) (coming_costs table number (slice_get net.links link)) (arriving_tells (slice_get net.links link) good.1) (λ f k c. of_one_link net c) (λ f m d. to_one_link net key link f m good.0 d)
+        next_tells (Of net (acts (acts_of_arrival net key (slice_get net.links link)))) (Of net (to key (Some link ∷ []))) (coming_costs table number (slice_get net.links link)) (arriving_tells (slice_get net.links link) good.1) (λ f k c. of_one_link net c) (λ f m d. to_one_link net key link f m good.0 d)
 
     -- one destination more
     to_more : (d : Option ℕ) (ds : List (Option ℕ)) → GoodTo d → (f g : Fate) (m k : ℕ) → Comes net (to key (d ∷ [])) f m → Comes net (to key ds) g k → Comes net (to key (d ∷ ds)) (both f g) (m + k)
@@ -131,18 +131,18 @@ module _ (net : Net) (n : Numbering) (fields : Fields) (network : IsNetwork net)
   held_tells holder good =
       let key = key_of (own holder) fields in
       let number = number_of_layout n holder in
-      next_tells (Of net (acts (leaving net holder key))) (Of net (one (Hold holder key))) (sent_costs table net number (exporters_of net (slice_get net.holders holder))) (sent_tells number (own holder) (own_number holder good.0.there) (network.fits holder) (exporters_of net (slice_get net.holders holder)) good.1) (λ f k c. of_hold net c) (λ f k c. Comes.hold holder key f k good.0 c)
+      next_tells (Of net (acts (acts_of_leaving net holder key))) (Of net (one (Hold holder key))) (sent_costs table net number (exporters_of net (slice_get net.holders holder))) (sent_tells number (own holder) (own_number holder good.0.there) (network.fits holder) (exporters_of net (slice_get net.holders holder)) good.1) (λ f k c. of_hold net c) (λ f k c. Comes.hold holder key f k good.0 c)
 
   module _ (number : ℕ) (layout : Layout) (is : slice_get n.layouts number ≡ Some layout) (fits : Fits layout) where
     abbrev here : Key
     here = key_of layout fields
 
-    pub taken_key : (a : Aggregation) → takes net here a ≡ true → take_in net here a ≡ Hold a.holder (key_of (own a.holder) fields)
+    pub taken_key : (a : AggregationEntry) → takes net here a ≡ true → take_in net here a ≡ Hold a.holder (key_of (own a.holder) fields)
     taken_key a t =
-        let two = and_true (refines layout (own a.holder)) (list_all (λ e. reads layout e.axis e.bits && cut here e.axis e.bits == e.value) a.matches) t in
+        let two = and_true (refines layout (own a.holder)) (list_all (λ e. reads layout e.axis e.bits && bits_on here e.axis e.bits == e.value) a.matches) t in
         ap (Hold a.holder) (project_key layout (own a.holder) fields fits two.0)
 
-    taken_tells : (as' : List Aggregation) → Every (λ (a : Aggregation). GoodIn a.holder) as' → Tells (taken_costs table net n here as') (Of net (acts (map (take_in net here) (filter (takes net here) as'))))
+    taken_tells : (as' : List AggregationEntry) → Every (λ (a : AggregationEntry). GoodIn a.holder) as' → Tells (taken_costs table net n here as') (Of net (acts (map (take_in net here) (filter (takes net here) as'))))
     taken_tells [] good = no_acts_tell
     taken_tells (a ∷ as') good =
         let rest = taken_tells as' good.1 in
@@ -154,7 +154,7 @@ module _ (net : Net) (n : Numbering) (fields : Fields) (network : IsNetwork net)
 
     -- ---- what a collecting process does
 
-    handled_tells : (o : Option Process) → ((p : Process) → o ≡ Some p → Every GoodBy (at_places net.exporters p.exporters) × Every (λ (a : Aggregation). GoodIn a.holder) p.aggregations) → Tells (handled_costs table net n fields number layout o) (Of net (acts (acts_of net here o)))
+    handled_tells : (o : Option Process) → ((p : Process) → o ≡ Some p → Every GoodBy (at_places net.exporters p.exporters) × Every (λ (a : AggregationEntry). GoodIn a.holder) p.aggregations) → Tells (handled_costs table net n fields number layout o) (Of net (acts (acts_of net here o)))
     handled_tells None good = no_acts_tell
     handled_tells (Some p) good =
         let g = good p refl in
@@ -178,6 +178,6 @@ module _ (net : Net) (n : Numbering) (fields : Fields) (network : IsNetwork net)
           | false ↦ no_acts_tell
         ]
 
-    pub entry_tells : (process : ℕ) → ((p : Process) → slice_get net.processes process ≡ Some p → Every GoodBy (at_places net.exporters p.exporters) × Every (λ (a : Aggregation). GoodIn a.holder) p.aggregations) → Tells (cost_from table net n fields process number layout) (Of net (acts (coming_to net here process)))
+    pub entry_tells : (process : ℕ) → ((p : Process) → slice_get net.processes process ≡ Some p → Every GoodBy (at_places net.exporters p.exporters) × Every (λ (a : AggregationEntry). GoodIn a.holder) p.aggregations) → Tells (cost_from table net n fields process number layout) (Of net (acts (coming_to net here process)))
     entry_tells process good =
         append_tells net (if process == net.report then Tally here ∷ [] else []) (acts_of net here (slice_get net.processes process)) (tally_costs net layout process) (handled_costs table net n fields number layout (slice_get net.processes process)) (tally_tells process) (handled_tells (slice_get net.processes process) good)

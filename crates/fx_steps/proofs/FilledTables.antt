@@ -7,7 +7,7 @@ use Rattle.std.specs.Prelude.{Contains}
 use Rattle.fx_elements.specs.Axes.{Fields}
 use Rattle.fx_layout.specs.Keys.{Layout, Key, key_of}
 use Rattle.fx_machine.specs.Acts.{Tally}
-use Rattle.fx_tables.specs.Network.{Net, Exporter, Aggregation, Process, at_places, before, exporters_of, named_by}
+use Rattle.fx_tables.specs.Network.{Net, Exporter, AggregationEntry, Process, at_places, before, exporters_of, named_by}
 use Rattle.fx_tables.specs.Orders.{Descends}
 use Rattle.fx_tables.specs.Ranks.{RisesTo, Rises, AllRise, ProcessRises, IsRanked, IsNetwork}
 use Rattle.fx_machine.specs.Steps.{acts_of, coming_to}
@@ -77,14 +77,14 @@ module _ (net : Net) (n : Numbering) (fields : Fields) (network : IsNetwork net)
     good_all places rises =
         both_on (λ e. All (Rises ranked.rank net from) e.destinations) (HasLinks net) (GoodBy net n fields network numbers table) (at_places net.exporters places) good_by (every_of_all (λ e. All (Rises ranked.rank net from) e.destinations) (at_places net.exporters places) rises) (all_at_places (HasLinks net) net.exporters places whole.links)
 
-    good_in : (a : Aggregation) → AllRise ranked.rank net from (exporters_of net (slice_get net.holders a.holder)) → IsHolder net a.holder → GoodIn net n fields network numbers table a.holder
+    good_in : (a : AggregationEntry) → AllRise ranked.rank net from (exporters_of net (slice_get net.holders a.holder)) → IsHolder net a.holder → GoodIn net n fields network numbers table a.holder
     good_in a rises is = (is, good_all (named_by (slice_get net.holders a.holder)) rises)
 
-    good_process : (p : Process) → slice_get net.processes from ≡ Some p → Every (GoodBy net n fields network numbers table) (at_places net.exporters p.exporters) × Every (λ (a : Aggregation). GoodIn net n fields network numbers table a.holder) p.aggregations
+    good_process : (p : Process) → slice_get net.processes from ≡ Some p → Every (GoodBy net n fields network numbers table) (at_places net.exporters p.exporters) × Every (λ (a : AggregationEntry). GoodIn net n fields network numbers table a.holder) p.aggregations
     good_process p is =
         let rises = subst (ProcessRises ranked.rank net from) is (ranked.rises from) in
-        let P : Aggregation → Type 0 = λ a. AllRise ranked.rank net from (exporters_of net (slice_get net.holders a.holder)) in
-        (good_all p.exporters rises.0, both_on P (λ (a : Aggregation). IsHolder net a.holder) (λ (a : Aggregation). GoodIn net n fields network numbers table a.holder) p.aggregations good_in (every_of_all P p.aggregations rises.1) (all_at (HasHolders net) net.processes from p whole.aggregations is))
+        let P : AggregationEntry → Type 0 = λ a. AllRise ranked.rank net from (exporters_of net (slice_get net.holders a.holder)) in
+        (good_all p.exporters rises.0, both_on P (λ (a : AggregationEntry). IsHolder net a.holder) (λ (a : AggregationEntry). GoodIn net n fields network numbers table a.holder) p.aggregations good_in (every_of_all P p.aggregations rises.1) (all_at (HasHolders net) net.processes from p whole.aggregations is))
 
   -- ---- the table, row by row
 

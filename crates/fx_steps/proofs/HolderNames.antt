@@ -3,8 +3,8 @@ use Rattle.std.proofs.Common.{◌≡◌, ◌⊎◌, inl, inr, ℕ, zero, suc, �
 use Rattle.std.proofs.lemmas.Bool.{cases_lt}
 use Rattle.fx_tables.specs.declared.holder_name.HolderName.{HolderName}
 use Rattle.fx_tables.specs.declared.holder_name.HolderName.TheVariants.{Cache, Aggregation as AggregationOf}
-use Rattle.fx_tables.specs.Network.{Net, Device, caches_of, processes_of, process_at, aggregations_of, held_at, holder_place}
-use Rattle.fx_base.specs.Entries.{numbered}
+use Rattle.fx_tables.specs.Network.{Net, DeviceEntry, caches_of, processes_of, process_at, aggregations_of, held_at, holder_place}
+use Rattle.fx_base.specs.Entries.{entry_numbered}
 use Rattle.fx_steps.specs.Names.{NameAll, Keep, Note, device_of}
 
 pub inside : {A : Type 0} (xs : List A) (k : ℕ) (x : A) → slice_get xs k ≡ Some x → k < length xs
@@ -22,31 +22,31 @@ module _ (net : Net) where
   pub note_kept : (old new : List HolderName) (name : HolderName) → Keep net old new → Note net old name → Note net new name
   note_kept old new name k n holder at lt = k.named holder (n holder at (let e = k.size in omega arith))
 
-  none_numbered : {A : Type 0} (c : ℕ) (x : A) → numbered {A = A} [] c ≡ Some x → ⊥
+  none_numbered : {A : Type 0} (c : ℕ) (x : A) → entry_numbered {A = A} [] c ≡ Some x → ⊥
   none_numbered zero x h = absurd (cc)
   none_numbered (suc c) x h = absurd (cc)
 
-  there : {A : Type 0} (xs : List A) (n : ℕ) (x : A) → numbered xs n ≡ Some x → (k : ℕ) × (n ≡ suc k) × (k < length xs)
+  there : {A : Type 0} (xs : List A) (n : ℕ) (x : A) → entry_numbered xs n ≡ Some x → (k : ℕ) × (n ≡ suc k) × (k < length xs)
   there xs zero x h = absurd (cc)
   there xs (suc k) x h = (k, refl, inside xs k x h)
 
   -- the device of a name is there
   device_there : (name : HolderName) (holder : ℕ) → holder_place net name ≡ Some holder → (k : ℕ) × (device_of name ≡ suc k) × (k < length net.devices)
-  device_there (Cache device cache) holder h = from (numbered net.devices device) refl h where
-    from : (o : Option Device) → numbered net.devices device ≡ o → numbered (caches_of o) cache ≡ Some holder → (k : ℕ) × (device ≡ suc k) × (k < length net.devices)
+  device_there (Cache device cache) holder h = from (entry_numbered net.devices device) refl h where
+    from : (o : Option DeviceEntry) → entry_numbered net.devices device ≡ o → entry_numbered (caches_of o) cache ≡ Some holder → (k : ℕ) × (device ≡ suc k) × (k < length net.devices)
     from None e b = absurd (none_numbered cache holder b)
     from (Some d) e b = there net.devices device d e
-  device_there (AggregationOf device process aggregation) holder h = from (numbered net.devices device) refl h where
-    last : held_at (numbered (aggregations_of (process_at net.processes (numbered [] process))) aggregation) ≡ Some holder → ⊥
-    last b = none_held (numbered [] process) refl b where
-      none_held : (o : Option ℕ) → numbered [] process ≡ o → held_at (numbered (aggregations_of (process_at net.processes o)) aggregation) ≡ Some holder → ⊥
+  device_there (AggregationOf device process aggregation) holder h = from (entry_numbered net.devices device) refl h where
+    last : held_at (entry_numbered (aggregations_of (process_at net.processes (entry_numbered [] process))) aggregation) ≡ Some holder → ⊥
+    last b = none_held (entry_numbered [] process) refl b where
+      none_held : (o : Option ℕ) → entry_numbered [] process ≡ o → held_at (entry_numbered (aggregations_of (process_at net.processes o)) aggregation) ≡ Some holder → ⊥
       none_held None e b = nothing aggregation b where
-        nothing : (a : ℕ) → held_at (numbered [] a) ≡ Some holder → ⊥
+        nothing : (a : ℕ) → held_at (entry_numbered [] a) ≡ Some holder → ⊥
         nothing zero b = absurd (cc)
         nothing (suc a) b = absurd (cc)
       none_held (Some place) e b = none_numbered process place e
 
-    from : (o : Option Device) → numbered net.devices device ≡ o → held_at (numbered (aggregations_of (process_at net.processes (numbered (processes_of o) process))) aggregation) ≡ Some holder → (k : ℕ) × (device ≡ suc k) × (k < length net.devices)
+    from : (o : Option DeviceEntry) → entry_numbered net.devices device ≡ o → held_at (entry_numbered (aggregations_of (process_at net.processes (entry_numbered (processes_of o) process))) aggregation) ≡ Some holder → (k : ℕ) × (device ≡ suc k) × (k < length net.devices)
     from None e b = absurd (last b)
     from (Some d) e b = there net.devices device d e
 

@@ -2,9 +2,9 @@
 use Rattle.std.proofs.Common.{◌≡◌, ◌⊎◌, inl, inr, ℕ, suc, ◌+◌, ◌<◌, true, false, List, [], ◌∷◌, ◌++◌, length, Option, Some, None, refl, sym, ap, ◌∙◌, subst, arith, slice_get}
 use Rattle.fx_layout.specs.Keys.{Key}
 use Rattle.fx_tables.specs.Network.{Net, Exporter}
-use Rattle.fx_base.specs.Entries.{numbered}
+use Rattle.fx_base.specs.Entries.{entry_numbered}
 use Rattle.fx_machine.specs.Acts.{Act, Tally, Send, Hold}
-use Rattle.fx_machine.specs.Steps.{leaving, arriving}
+use Rattle.fx_machine.specs.Steps.{acts_of_leaving, acts_of_arrival}
 use Rattle.fx_leaf.specs.declared.verdict.Fate.{Fate}
 use Rattle.fx_leaf.specs.declared.verdict.Fate.TheVariants.{Never}
 use Rattle.fx_leaf.specs.Fates.{both}
@@ -30,12 +30,12 @@ module _ (net : Net) where
   pub of_tally : {key : Key} {f : Fate} {n : ℕ} → Comes net (one (Tally key)) f n → (f ≡ tally_fate net key) × (n ≡ 0)
   of_tally (Comes.tally key) = (refl, refl)
 
-  pub of_hold : {holder : ℕ} {key : Key} {f : Fate} {n : ℕ} → Comes net (one (Hold holder key)) f n → (m : ℕ) × Comes net (acts (leaving net holder key)) f m × (n ≡ suc m)
+  pub of_hold : {holder : ℕ} {key : Key} {f : Fate} {n : ℕ} → Comes net (one (Hold holder key)) f n → (m : ℕ) × Comes net (acts (acts_of_leaving net holder key)) f m × (n ≡ suc m)
   of_hold (Comes.hold holder key f n is d) = (n, d, refl)
 
   -- by one of the destinations
   abbrev pub Any : Key → List (Option ℕ) → Fate → ℕ → Type 0
-  Any key ds f n = (number : ℕ) × (d : Option ℕ) × (numbered ds number ≡ Some d) × Comes net (to key (d ∷ [])) f n
+  Any key ds f n = (number : ℕ) × (d : Option ℕ) × (entry_numbered ds number ≡ Some d) × Comes net (to key (d ∷ [])) f n
 
   pub of_send : {e : Exporter} {key : Key} {f : Fate} {n : ℕ} → Comes net (one (Send e key)) f n → ((e.parallel ≡ true) × Comes net (to key e.destinations) f n) ⊎ ((e.parallel ≡ false) × Any key e.destinations f n)
   of_send (Comes.to_all e key f n h d) = inl (h, d)
@@ -52,7 +52,7 @@ module _ (net : Net) where
     pub second : Fate
     pub here : ℕ
     pub there : ℕ
-    pub on : Comes net (acts (arriving net key (slice_get net.links link))) first here
+    pub on : Comes net (acts (acts_of_arrival net key (slice_get net.links link))) first here
     pub others : Comes net (to key ds) second there
     pub fate : f ≡ both first second
     pub steps : n ≡ suc here + there
@@ -61,7 +61,7 @@ module _ (net : Net) where
   of_link (Comes.to_link key link ds f g m n lt d e) = record { first = f; second = g; here = m; there = n; on = d; others = e; fate = refl; steps = refl }
 
   -- to one link alone
-  pub of_one_link : {key : Key} {link : ℕ} {f : Fate} {n : ℕ} → Comes net (to key (Some link ∷ [])) f n → (m : ℕ) × Comes net (acts (arriving net key (slice_get net.links link))) f m × (n ≡ suc m)
+  pub of_one_link : {key : Key} {link : ℕ} {f : Fate} {n : ℕ} → Comes net (to key (Some link ∷ [])) f n → (m : ℕ) × Comes net (acts (acts_of_arrival net key (slice_get net.links link))) f m × (n ≡ suc m)
   of_one_link {key} {link} {f} {n} c =
       let l = of_link c in
       let none = of_none l.others in
@@ -70,7 +70,7 @@ module _ (net : Net) where
       let z = none.1 in
       (l.here, way_is l.first f l.here l.here fate refl l.on, omega arith)
 
-  pub to_one_link : (key : Key) (link : ℕ) (f : Fate) (m : ℕ) → link < length net.links → Comes net (acts (arriving net key (slice_get net.links link))) f m → Comes net (to key (Some link ∷ [])) f (suc m)
+  pub to_one_link : (key : Key) (link : ℕ) (f : Fate) (m : ℕ) → link < length net.links → Comes net (acts (acts_of_arrival net key (slice_get net.links link))) f m → Comes net (to key (Some link ∷ [])) f (suc m)
   to_one_link key link f m lt d =
       let n : suc m + 0 ≡ suc m = omega arith in
       way_is (both f Never) f (suc m + 0) (suc m) (both_never f) n (Comes.to_link key link [] f Never m 0 lt d (Comes.no_destination key))

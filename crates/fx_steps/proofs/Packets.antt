@@ -8,7 +8,7 @@ use Rattle.fx_run_text.specs.declared.step.Step.TheVariants.{Cross}
 use Rattle.fx_tables.specs.declared.traffic.Crossing.{Crossing}
 use Rattle.fx_tables.specs.declared.observation.Occurrence.{Occurrence}
 use Rattle.fx_tables.specs.Network.{Net}
-use Rattle.fx_base.specs.Entries.{numbered}
+use Rattle.fx_base.specs.Entries.{entry_numbered}
 use Rattle.fx_tables.specs.Classes.{Class, path, exempts, to_count}
 use Rattle.fx_machine.specs.Claim.{CountsEachOnce}
 use Rattle.fx_tables.specs.Occurrences.{occurrences}
@@ -46,7 +46,7 @@ module _ (net : Net) (classes : List Class) (p : Packet) (network : IsNetwork ne
   goes steps s = run net classes (p ∷ []) steps s
 
   -- the next crossing is made
-  pub crosses : (s : State) (rest : List Coming) (number : ℕ) (choices : Choices) → after net classes (p ∷ []) (Cross 1 number choices) (record s { coming = record { packet = 1; crossing = number } ∷ rest }) ≡ all_acts net (one_packet p) (crossing_acts net p.fields (numbered (path classes p) number)) (record s { coming = rest }) choices
+  pub crosses : (s : State) (rest : List Coming) (number : ℕ) (choices : Choices) → after net classes (p ∷ []) (Cross 1 number choices) (record s { coming = record { packet = 1; crossing = number } ∷ rest }) ≡ all_acts net (one_packet p) (crossing_acts net p.fields (entry_numbered (path classes p) number)) (record s { coming = rest }) choices
   crosses s rest number choices =
       ap (λ b. after_cross net classes (Some p) (cond b (Some 0) (later (place rest 1 number))) number (record s { coming = record { packet = 1; crossing = number } ∷ rest }) choices) (eq-eqb number number refl)
 
@@ -67,7 +67,7 @@ module _ (net : Net) (classes : List Class) (p : Packet) (network : IsNetwork ne
       let i = inner s0 (record { held = z.held; carried = z.carried }) in
       let r = rest (counted i.tallies i.lost s0) (record { held = z.held; carried = z.carried }) refl in
       let number = suc (length before) in
-      let here : numbered (path classes p) number ≡ Some c = ap (λ xs. slice_get xs (length before)) at ∙ next_here before c cs in
+      let here : entry_numbered (path classes p) number ≡ Some c = ap (λ xs. slice_get xs (length before)) at ∙ next_here before c cs in
       let one = Cross 1 number i.choices in
       let begins : after net classes (p ∷ []) one s ≡ Ok i.mid = ap (λ xs. after net classes (p ∷ []) one (record s { coming = xs })) coming ∙ crosses s others number i.choices ∙ ap (λ o. all_acts net (one_packet p) (crossing_acts net p.fields o) s0 i.choices) here ∙ i.made in
       let end = RunsOfPackets.run_both net classes p network i.steps r.steps i.mid (counted i.tallies i.lost s0) (counted r.tallies r.lost (counted i.tallies i.lost (record s { coming = [] }))) i.ends r.ends in
@@ -131,9 +131,9 @@ module _ (net : Net) (classes : List Class) (p : Packet) (network : IsNetwork ne
       absurd (omega arith)
 
   -- where another fate was wanted, the packet isn't counted as it should be
-  pub is_wrong : (t u : ℕ) → t < 2 ^ 64 → (s : State) → s.totals ≡ [] → s.unassigned ≡ 0 → fate_of t u ≢ wanted_fate (exempts (numbered classes p.class)) → CountsEachOnce net (to_count classes (p ∷ [])) (counted t u s) → ⊥
+  pub is_wrong : (t u : ℕ) → t < 2 ^ 64 → (s : State) → s.totals ≡ [] → s.unassigned ≡ 0 → fate_of t u ≢ wanted_fate (exempts (entry_numbered classes p.class)) → CountsEachOnce net (to_count classes (p ∷ [])) (counted t u s) → ⊥
   is_wrong t u few s totals lost wrong =
-      not_counted (exempts (numbered classes p.class)) t u few wrong (counted t u s) (ap (add_times t own_key (one_packet p)) totals) (ap (λ n. n + u) lost)
+      not_counted (exempts (entry_numbered classes p.class)) t u few wrong (counted t u s) (ap (add_times t own_key (one_packet p)) totals) (ap (λ n. n + u) lost)
 
   -- ---- the law
 

@@ -5,8 +5,8 @@ use Rattle.fx_elements.specs.Axes.{Fields}
 use Rattle.fx_tables.specs.declared.observation.Occurrence.{Occurrence}
 use Rattle.fx_tables.specs.declared.observation.Selection.{Selection}
 use Rattle.fx_tables.specs.declared.traffic.Crossing.{Crossing}
-use Rattle.fx_tables.specs.Network.{Net, Exporter, Point, Device, points_of, exporters_of, named_by}
-use Rattle.fx_base.specs.Entries.{numbered}
+use Rattle.fx_tables.specs.Network.{Net, Exporter, Point, DeviceEntry, points_of, exporters_of, named_by}
+use Rattle.fx_base.specs.Entries.{entry_numbered}
 use Rattle.fx_tables.specs.Occurrences.{selects, occurrence, met_by, watches, met_at, occurrences}
 use Rattle.fx_machine.specs.Steps.{meet, crossing_acts}
 use Rattle.fx_tables.specs.Ranks.{IsNetwork}
@@ -66,16 +66,16 @@ module _ (net : Net) (n : Numbering) (fields : Fields) (network : IsNetwork net)
   at_met number (p ∷ ps) c h =
       every_append InCache (if watches p c then met_by number 1 p.selections fields else []) (met_at (number + 1) ps c fields) (if_met (watches p c) (met_by number 1 p.selections fields) (by_met number 1 p.selections h.0)) (at_met (number + 1) ps c h.1)
 
-  of_device : (o : Option Device) → ((d : Device) → o ≡ Some d → HasCaches net d) → AllByRecursion (λ (p : Point). AllByRecursion HasCache p.selections) (points_of o)
+  of_device : (o : Option DeviceEntry) → ((d : DeviceEntry) → o ≡ Some d → HasCaches net d) → AllByRecursion (λ (p : Point). AllByRecursion HasCache p.selections) (points_of o)
   of_device None h = tt
   of_device (Some d) h = h d refl
 
-  of_numbered : (k : ℕ) (d : Device) → numbered net.devices k ≡ Some d → HasCaches net d
+  of_numbered : (k : ℕ) (d : DeviceEntry) → entry_numbered net.devices k ≡ Some d → HasCaches net d
   of_numbered zero d e = absurd (cc)
   of_numbered (suc k) d e = all_at (HasCaches net) net.devices k d whole.caches e
 
   pub caches_met : (c : Crossing) → Every InCache (occurrences net c fields)
-  caches_met c = at_met 1 (points_of (numbered net.devices c.device)) c (of_device (numbered net.devices c.device) (λ d e. of_numbered c.device d e))
+  caches_met c = at_met 1 (points_of (entry_numbered net.devices c.device)) c (of_device (entry_numbered net.devices c.device) (λ d e. of_numbered c.device d e))
 
   -- ---- costs
 

@@ -8,7 +8,7 @@ use Rattle.fx_tables.specs.declared.record.Record.{Record}
 use Rattle.fx_tables.specs.declared.holder_name.HolderName.{HolderName}
 use Rattle.fx_run_text.specs.declared.step.Step.TheVariants.{Expire, Arrive}
 use Rattle.fx_tables.specs.Classes.{Class}
-use Rattle.fx_tables.specs.Network.{Net, Exporter, Aggregation, Process, at_places, exporters_of, named_by, takes, holder_place}
+use Rattle.fx_tables.specs.Network.{Net, Exporter, AggregationEntry, Process, at_places, exporters_of, named_by, takes, holder_place}
 use Rattle.fx_tables.specs.Ranks.{IsNetwork}
 use Rattle.fx_machine.specs.States.{State}
 use Rattle.fx_machine.specs.Steps.{after, one_packet}
@@ -70,7 +70,7 @@ module _ (table : CostTable) (net : Net) (n : Numbering) where
           let p = pick (send_costs table net number e) (sent_costs table net number es) f in
           every_append (IsThere net n) (on_links number (spread_by table net number e p.0)) (sends table net number es p.1) (links_there (spread_by table net number e p.0) (by_there e p.0 all.0)) (sends_there es p.1 all.1)
 
-  takings_there : (key : Key) (as' : List Aggregation) (f : Fate) → AllByRecursion (λ (a : Aggregation). IsHolder net a.holder) as' → Every (IsThere net n) (takings table net n key as' f)
+  takings_there : (key : Key) (as' : List AggregationEntry) (f : Fate) → AllByRecursion (λ (a : AggregationEntry). IsHolder net a.holder) as' → Every (IsThere net n) (takings table net n key as' f)
   takings_there key [] f all = tt
   takings_there key (a ∷ as') f all =
       let p = pick (held_costs table net n a.holder) (taken_costs table net n key as') f in

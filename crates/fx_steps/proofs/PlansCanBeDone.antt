@@ -4,8 +4,8 @@ use Rattle.std.specs.List.{AllByRecursion}
 use Rattle.fx_elements.specs.Axes.{Fields}
 use Rattle.fx_layout.specs.Keys.{Layout, Key, Fits, key_of, refines}
 use Rattle.fx_machine.specs.Acts.{Choices, Act, Send, Hold, Tally}
-use Rattle.fx_tables.specs.Network.{Net, Aggregation, Process, at_places, exporters_of, layout_of, takes}
-use Rattle.fx_machine.specs.Steps.{leaving, coming_to, acts_of, take_in, meet}
+use Rattle.fx_tables.specs.Network.{Net, AggregationEntry, Process, at_places, exporters_of, layout_of, takes}
+use Rattle.fx_machine.specs.Steps.{acts_of_leaving, coming_to, acts_of, take_in, meet}
 use Rattle.fx_tables.specs.Ranks.{IsNetwork}
 use Rattle.fx_tables.specs.declared.observation.Occurrence.{Occurrence}
 use Rattle.fx_leaf.specs.declared.verdict.Fate.{Fate}
@@ -51,7 +51,7 @@ module _ (table : CostTable) (net : Net) (n : Numbering) (fields : Fields) (netw
 
   -- ---- what leaves a holder
 
-  pub leaving_spreads : (holder : ℕ) (f : Fate) → holder < length net.holders → AllByRecursion (HasLinks net) (exporters_of net (slice_get net.holders holder)) → cost_of (sent_costs table net (number_of_layout n holder) (exporters_of net (slice_get net.holders holder))) f ≤ step_limit → Spreads net (acts (leaving net holder (key_of (layout_of (slice_get net.holders holder)) fields))) (sends_choose table net (number_of_layout n holder) (exporters_of net (slice_get net.holders holder)) f) (pending_items net n fields (sends table net (number_of_layout n holder) (exporters_of net (slice_get net.holders holder)) f)) []
+  pub leaving_spreads : (holder : ℕ) (f : Fate) → holder < length net.holders → AllByRecursion (HasLinks net) (exporters_of net (slice_get net.holders holder)) → cost_of (sent_costs table net (number_of_layout n holder) (exporters_of net (slice_get net.holders holder))) f ≤ step_limit → Spreads net (acts (acts_of_leaving net holder (key_of (layout_of (slice_get net.holders holder)) fields))) (sends_choose table net (number_of_layout n holder) (exporters_of net (slice_get net.holders holder)) f) (pending_items net n fields (sends table net (number_of_layout n holder) (exporters_of net (slice_get net.holders holder)) f)) []
   leaving_spreads holder f lt all le =
       let es = exporters_of net (slice_get net.holders holder) in
       let number = number_of_layout n holder in
@@ -64,7 +64,7 @@ module _ (table : CostTable) (net : Net) (n : Numbering) (fields : Fields) (netw
     abbrev here : Key
     here = key_of layout fields
 
-    pub takings_spread : (as' : List Aggregation) (f : Fate) → AllByRecursion (λ (a : Aggregation). IsHolder net a.holder) as' → Spreads net (acts (map (take_in net here) (filter (takes net here) as'))) (takings_choose table net n here as') (pending_items net n fields (takings table net n here as' f)) []
+    pub takings_spread : (as' : List AggregationEntry) (f : Fate) → AllByRecursion (λ (a : AggregationEntry). IsHolder net a.holder) as' → Spreads net (acts (map (take_in net here) (filter (takes net here) as'))) (takings_choose table net n here as') (pending_items net n fields (takings table net n here as' f)) []
     takings_spread [] f all = Spreads.no_act
     takings_spread (a ∷ as') f all =
         let others = filter (takes net here) as' in
@@ -81,7 +81,7 @@ module _ (table : CostTable) (net : Net) (n : Numbering) (fields : Fields) (netw
     -- all that it names is there
     abbrev pub HasAll : Option Process → Type 0
     HasAll None = Unit {0}
-    HasAll (Some p) = AllByRecursion (HasLinks net) (at_places net.exporters p.exporters) × AllByRecursion (λ (a : Aggregation). IsHolder net a.holder) p.aggregations
+    HasAll (Some p) = AllByRecursion (HasLinks net) (at_places net.exporters p.exporters) × AllByRecursion (λ (a : AggregationEntry). IsHolder net a.holder) p.aggregations
 
     pub handles_spread : (o : Option Process) (f : Fate) → HasAll o → cost_of (handled_costs table net n fields number layout o) f ≤ step_limit → Spreads net (acts (acts_of net here o)) (handles_choose table net n fields number layout o f) (pending_items net n fields (handles table net n fields number layout o f)) []
     handles_spread None f all le = Spreads.no_act

@@ -4,7 +4,7 @@ use Rattle.std.specs.List.{AllByRecursion}
 use Rattle.fx_elements.specs.Axes.{Fields}
 use Rattle.fx_layout.specs.Keys.{Layout, Key, key_of}
 use Rattle.fx_machine.specs.Acts.{Choices, Send}
-use Rattle.fx_tables.specs.Network.{Net, Exporter, Aggregation, Process, before, at_places, takes}
+use Rattle.fx_tables.specs.Network.{Net, Exporter, AggregationEntry, Process, before, at_places, takes}
 use Rattle.fx_tables.specs.declared.observation.Occurrence.{Occurrence}
 use Rattle.fx_leaf.specs.declared.verdict.Fate.{Fate}
 use Rattle.fx_leaf.specs.Fates.{both}
@@ -15,10 +15,10 @@ use Rattle.fx_steps.specs.declared.pending.Pending.{Pending}
 use Rattle.fx_steps.specs.declared.pending.Pending.TheVariants.{AtHolder}
 use Rattle.fx_steps.specs.Building.{Item, Carried, Spreads}
 use Rattle.fx_machine.specs.Limits.{step_limit}
-use Rattle.fx_steps.specs.Costs.{cost_of, both_costs, nothing}
-use Rattle.fx_steps.specs.CostTables.{CostTable, link_costs, send_costs, sent_costs, held_costs, taken_costs, handled_costs, met_costs}
-use Rattle.fx_steps.specs.Planning.{on_links, sends, sends_choose, first_sends, first_chooses, left_by, takings, handles, meets, pending_fate, total_cost, total_fate, layout_in, item_of, pending_items}
-use Rattle.fx_steps.specs.Spread.{SentRecord, pick, spread_by, chosen_by, all_cost, joint, items_of}
+use Rattle.fx_steps.specs.Costs.{cost_of, both_costs, costs_of_never}
+use Rattle.fx_steps.specs.CostTables.{CostTable, destination_costs, send_costs, sent_costs, holder_costs, all_taken_costs, handled_costs, occurrence_costs}
+use Rattle.fx_steps.specs.Planning.{pending_on_links, sent_pending, sent_choices, first_pending, first_choices, fate_left_by, all_taken_pending, handled_pending, occurrence_pending, pending_fate, total_cost, total_fate, layout_in, item_of, pending_items, AddsPlan, all_taken_choices, handled_choices}
+use Rattle.fx_steps.specs.Spread.{SentRecord, shares, records_by_exporter, choices_by_exporter, records_cost, joint_fate, items_of}
 use Rattle.fx_steps.specs.Ways.{acts, one}
 use Rattle.fx_steps.proofs.WholeNetworks.{HasLinks}
 use Rattle.fx_steps.proofs.SharesCost.{Picked, pick_is, alone, Shared, by_shared, by_spreads}
@@ -47,6 +47,25 @@ module _ (table : CostTable) (net : Net) (number : ℕ) where
       ∙ append_assoc old (first_chooses table net number o others f) (sends_choose table net number es (left_by table net number o others f))
       ∙ ap (λ (k : Costs). old ++ (first_chooses table net number o k f ++ sends_choose table net number es (left_by table net number o k f))) c
       ∙ ap (λ (x : Choices). old ++ x) (first_chosen o es f)
+
+-- ---- the code's way through a collecting process
+
+adds_then : (old mid new : StepPlan) (xs ys : List Pending) (cs ds : Choices) → AddsPlan old mid xs cs → AddsPlan mid new ys ds → AddsPlan old new (xs ++ ys) (cs ++ ds)
+adds_then old mid new xs ys cs ds x y = record {
+  pending = y.pending ∙ ap (λ (zs : List Pending). zs ++ ys) x.pending ∙ append_assoc old.pending.items xs ys;
+  choices = y.choices ∙ ap (λ (es : Choices). es ++ ds) x.choices ∙ append_assoc old.choices.items cs ds;
+}
+
+module _ (table : CostTable) (net : Net) (n : Numbering) (fields : Fields) (number : ℕ) (layout : Layout) (p : Process) (f : Fate) where
+  pub then_takings : (old mid new : StepPlan) (key : Key) (q : Fate × Fate) (es : List ℕ) (as' : List AggregationEntry) → key ≡ key_of layout fields → es ≡ p.exporters → as' ≡ p.aggregations → q ≡ shares (sent_costs table net number (at_places net.exporters p.exporters)) (all_taken_costs table net n key p.aggregations) f → AddsPlan old mid (sent_pending table net number (at_places net.exporters es) q.0) (sent_choices table net number (at_places net.exporters es) q.0) → AddsPlan mid new (all_taken_pending table net n key as' q.1) (all_taken_choices table net n key as') → AddsPlan old new (handled_pending table net n fields number layout (Some p) f) (handled_choices table net n fields number layout (Some p) f)
+  then_takings old mid new key q es as' key_is es_are as_are q_is x y =
+      let S : Key → Fate × Fate = λ k. shares (sent_costs table net number (at_places net.exporters p.exporters)) (all_taken_costs table net n k p.aggregations) f in
+      let So : List ℕ → List AggregationEntry → Fate × Fate → Key → Type 0 = λ ps bs r k. AddsPlan old new (sent_pending table net number (at_places net.exporters ps) r.0 ++ all_taken_pending table net n k bs r.1) (sent_choices table net number (at_places net.exporters ps) r.0 ++ all_taken_choices table net n k bs) in
+      let both_added : So es as' q key = adds_then old mid new _ _ _ _ x y in
+      let exporters : So p.exporters as' q key = subst (λ (ps : List ℕ). So ps as' q key) es_are both_added in
+      let aggregations : So p.exporters p.aggregations q key = subst (λ (bs : List AggregationEntry). So p.exporters bs q key) as_are exporters in
+      let shared : So p.exporters p.aggregations (S key) key = subst (λ (r : Fate × Fate). So p.exporters p.aggregations r key) q_is aggregations in
+      subst (λ (k : Key). So p.exporters p.aggregations (S k) k) key_is shared
 
 -- ---- costs and fates
 
@@ -96,7 +115,7 @@ module _ (table : CostTable) (net : Net) (n : Numbering) (fields : Fields) where
       let g = (pick a b f).0 in
       both_meet (on_links number (spread_by table net number e g)) (sends table net number es (pick a b f).1) a b f p (links_meet number (spread_by table net number e g) g (cost_of a g) (by_shared table net number e g p.first)) (sends_meet number es (pick a b f).1 p.second)
 
-  pub takings_meet : (key : Key) (as' : List Aggregation) (f : Fate) → cost_of (taken_costs table net n key as') f ≤ step_limit → Meets (takings table net n key as' f) f (cost_of (taken_costs table net n key as') f)
+  pub takings_meet : (key : Key) (as' : List AggregationEntry) (f : Fate) → cost_of (taken_costs table net n key as') f ≤ step_limit → Meets (takings table net n key as' f) f (cost_of (taken_costs table net n key as') f)
   takings_meet key [] f = λ le. none_meet f le
   takings_meet key (a ∷ as') f =
       let h = held_costs table net n a.holder in

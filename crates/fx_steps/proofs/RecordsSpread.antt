@@ -7,11 +7,11 @@ use Rattle.fx_tables.specs.declared.packet.Packet.{Packet}
 use Rattle.fx_run_text.specs.declared.step.Step.TheVariants.{Expire, Arrive}
 use Rattle.fx_machine.specs.Acts.{Act, Send, Hold, Choices, act, act_all, all_acts, hold_in, sent_to_chosen, send_by_choice}
 use Rattle.fx_tables.specs.Network.{Net, Exporter}
-use Rattle.fx_base.specs.Entries.{numbered}
+use Rattle.fx_base.specs.Entries.{entry_numbered}
 use Rattle.fx_tables.specs.Classes.{Class}
 use Rattle.fx_tables.specs.Ranks.{IsNetwork}
-use Rattle.fx_machine.specs.States.{State, tallied, put_last, add_at, sent_to_all}
-use Rattle.fx_machine.specs.Steps.{after, leaving, arriving, one_packet}
+use Rattle.fx_machine.specs.States.{State, after_tally, put_last, add_at, sent_to_all}
+use Rattle.fx_machine.specs.Steps.{after, acts_of_leaving, acts_of_arrival, one_packet}
 use Rattle.fx_leaf.specs.Laws.{IsSized}
 use Rattle.fx_machine.proofs.Lists.{length_put_last}
 use Rattle.fx_steps.specs.Building.{Item, Held, Carried, put, put_each, tally_each, Spreads}
@@ -28,7 +28,7 @@ put_is_set (ss ∷ rss) (suc n) rs r h = ap (λ vs. ss ∷ vs) (put_is_set rss n
 module _ (net : Net) (counts : Counts) where
   -- ---- what is put and what is tallied don't meet
 
-  tallied_put : (k : Key) (i : Item) (s : State) → tallied net k counts (put counts i s) ≡ put counts i (tallied net k counts s)
+  tallied_put : (k : Key) (i : Item) (s : State) → after_tally net k counts (put counts i s) ≡ put counts i (after_tally net k counts s)
   tallied_put k i s =
       let yes : State → State = λ s. record s { totals = add_at s.totals (project k net.report_layout) counts } in
       let no : State → State = λ s. record s { unassigned = s.unassigned + 1 } in
@@ -39,7 +39,7 @@ module _ (net : Net) (counts : Counts) where
 
   tally_put : (ks : List Key) (i : Item) (s : State) → tally_each net counts ks (put counts i s) ≡ put counts i (tally_each net counts ks s)
   tally_put [] i s = refl
-  tally_put (k ∷ ks) i s = ap (tally_each net counts ks) (tallied_put k i s) ∙ tally_put ks i (tallied net k counts s)
+  tally_put (k ∷ ks) i s = ap (tally_each net counts ks) (tallied_put k i s) ∙ tally_put ks i (after_tally net k counts s)
 
   pub tally_put_each : (ks : List Key) (is : List Item) (s : State) → tally_each net counts ks (put_each counts is s) ≡ put_each counts is (tally_each net counts ks s)
   tally_put_each ks [] s = refl
@@ -51,7 +51,7 @@ module _ (net : Net) (counts : Counts) where
 
   tally_append : (ks ls : List Key) (s : State) → tally_each net counts (ks ++ ls) s ≡ tally_each net counts ls (tally_each net counts ks s)
   tally_append [] ls s = refl
-  tally_append (k ∷ ks) ls s = tally_append ks ls (tallied net k counts s)
+  tally_append (k ∷ ks) ls s = tally_append ks ls (after_tally net k counts s)
 
   spread_twice : (is js : List Item) (ks ls : List Key) (s : State) → put_each counts js (tally_each net counts ls (put_each counts is (tally_each net counts ks s))) ≡ put_each counts (is ++ js) (tally_each net counts (ks ++ ls) s)
   spread_twice is js ks ls s =
@@ -67,7 +67,7 @@ module _ (net : Net) (counts : Counts) where
   sized_put_each [] s z = z
   sized_put_each (i ∷ is) s z = sized_put_each is (put counts i s) (sized_put i s z)
 
-  sized_tallied : (k : Key) (s : State) → IsSized net s → IsSized net (tallied net k counts s)
+  sized_tallied : (k : Key) (s : State) → IsSized net s → IsSized net (after_tally net k counts s)
   sized_tallied k s z =
       let yes : State = record s { totals = add_at s.totals (project k net.report_layout) counts } in
       let no : State = record s { unassigned = s.unassigned + 1 } in
@@ -78,7 +78,7 @@ module _ (net : Net) (counts : Counts) where
 
   pub sized_tally : (ks : List Key) (s : State) → IsSized net s → IsSized net (tally_each net counts ks s)
   sized_tally [] s z = z
-  sized_tally (k ∷ ks) s z = sized_tally ks (tallied net k counts s) (sized_tallied k s z)
+  sized_tally (k ∷ ks) s z = sized_tally ks (after_tally net k counts s) (sized_tallied k s z)
 
   -- ---- acts are done as they are spread
 
@@ -106,7 +106,7 @@ module _ (net : Net) (counts : Counts) where
       let r : Record = record { key = key; counts = counts } in
       ap (λ b. cond b (Some (record { state = sent_to_all e.destinations r s; choices = more })) (send_by_choice e.destinations r s more)) p ∙ ap (λ x. Some (record { state = x; choices = more })) (h s)
 
-  any_done : (e : Exporter) (key : Key) (number : ℕ) (d : Option ℕ) (is : List Item) → e.parallel ≡ false → numbered e.destinations number ≡ Some d → Done (to key (d ∷ [])) [] is [] → Done (one (Send e key)) (Some number ∷ []) is []
+  any_done : (e : Exporter) (key : Key) (number : ℕ) (d : Option ℕ) (is : List Item) → e.parallel ≡ false → entry_numbered e.destinations number ≡ Some d → Done (to key (d ∷ [])) [] is [] → Done (one (Send e key)) (Some number ∷ []) is []
   unfolding Done
   any_done e key number d is p at h s more z =
       let r : Record = record { key = key; counts = counts } in
@@ -131,12 +131,12 @@ module _ (net : Net) (counts : Counts) where
 -- ---- the record on top leaves
 
 module _ (net : Net) (classes : List Class) (p : Packet) (network : IsNetwork net) where
-  pub held_leaves : (holder : ℕ) (h : IsHolder net holder) (key : Key) (c : Choices) (is : List Item) (ks : List Key) (s : State) (rs : List Record) → Spreads net (acts (leaving net holder key)) c is ks → IsSized net s → slice_get s.held holder ≡ Some rs → after net classes (p ∷ []) (Expire h.name (suc (length rs)) c) (put (one_packet p) (Held holder key) s) ≡ Ok (put_each (one_packet p) is (tally_each net (one_packet p) ks s))
+  pub held_leaves : (holder : ℕ) (h : IsHolder net holder) (key : Key) (c : Choices) (is : List Item) (ks : List Key) (s : State) (rs : List Record) → Spreads net (acts (acts_of_leaving net holder key)) c is ks → IsSized net s → slice_get s.held holder ≡ Some rs → after net classes (p ∷ []) (Expire h.name (suc (length rs)) c) (put (one_packet p) (Held holder key) s) ≡ Ok (put_each (one_packet p) is (tally_each net (one_packet p) ks s))
   held_leaves holder h key c is ks s rs x z at =
       let r : Record = record { key = key; counts = one_packet p } in
-      ap (λ (rss : List (List Record)). after net classes (p ∷ []) (Expire h.name (suc (length rs)) c) (record s { held = rss })) (sym (put_is_set s.held holder rs r at)) ∙ RunsOfPackets.expires net classes p network holder h rs r s c at ∙ acts_done net (one_packet p) (leaving net holder key) c is ks x s z
+      ap (λ (rss : List (List Record)). after net classes (p ∷ []) (Expire h.name (suc (length rs)) c) (record s { held = rss })) (sym (put_is_set s.held holder rs r at)) ∙ RunsOfPackets.expires net classes p network holder h rs r s c at ∙ acts_done net (one_packet p) (acts_of_leaving net holder key) c is ks x s z
 
-  pub carried_arrives : (link : ℕ) (key : Key) (c : Choices) (is : List Item) (ks : List Key) (s : State) (rs : List Record) → Spreads net (acts (arriving net key (slice_get net.links link))) c is ks → IsSized net s → slice_get s.carried link ≡ Some rs → after net classes (p ∷ []) (Arrive (suc link) (suc (length rs)) c) (put (one_packet p) (Carried link key) s) ≡ Ok (put_each (one_packet p) is (tally_each net (one_packet p) ks s))
+  pub carried_arrives : (link : ℕ) (key : Key) (c : Choices) (is : List Item) (ks : List Key) (s : State) (rs : List Record) → Spreads net (acts (acts_of_arrival net key (slice_get net.links link))) c is ks → IsSized net s → slice_get s.carried link ≡ Some rs → after net classes (p ∷ []) (Arrive (suc link) (suc (length rs)) c) (put (one_packet p) (Carried link key) s) ≡ Ok (put_each (one_packet p) is (tally_each net (one_packet p) ks s))
   carried_arrives link key c is ks s rs x z at =
       let r : Record = record { key = key; counts = one_packet p } in
-      RunsOfPackets.arrives net classes p network link rs r s c at ∙ acts_done net (one_packet p) (arriving net key (slice_get net.links link)) c is ks x s z
+      RunsOfPackets.arrives net classes p network link rs r s c at ∙ acts_done net (one_packet p) (acts_of_arrival net key (slice_get net.links link)) c is ks x s z

@@ -5,7 +5,7 @@ use Rattle.fx_run_text.specs.declared.step.Step.{Step}
 use Rattle.fx_machine.specs.Claim.{CountsEachOnce}
 use Rattle.fx_tables.specs.Classes.{Class, path, exempts, to_count}
 use Rattle.fx_tables.specs.Network.{Net}
-use Rattle.fx_base.specs.Entries.{numbered}
+use Rattle.fx_base.specs.Entries.{entry_numbered}
 use Rattle.fx_tables.specs.Ranks.{IsNetwork}
 use Rattle.fx_machine.specs.States.{crossings_from}
 use Rattle.fx_machine.proofs.Lists.{nothing_empty}
@@ -39,7 +39,7 @@ module _ (net : Net) (n : Numbering) (classes : List Class) (p : Packet) where
   }
 
   -- where all is done and another fate was wanted, the run is wrong
-  pub ends_wrong : IsNetwork net → (f : Fate) (steps : List Step) → length steps ≤ step_limit → f ≢ wanted_fate (exempts (numbered classes p.class)) → UnderWay net n classes p [] f steps [] → IsWrongRun net classes p steps
+  pub ends_wrong : IsNetwork net → (f : Fate) (steps : List Step) → length steps ≤ step_limit → f ≢ wanted_fate (exempts (entry_numbered classes p.class)) → UnderWay net n classes p [] f steps [] → IsWrongRun net classes p steps
   ends_wrong network f steps few wrong way =
       let more : way.unassigned ≡ 0 + way.unassigned = omega arith in
       let last = reached net p way.tallies way.unassigned [] in

@@ -1,19 +1,19 @@
 -- A run of one packet, from the way in which it comes to a fate: what was put last leaves first.
 use Rattle.std.proofs.Common.{◌≡◌, ℕ, suc, ◌+◌, ◌<◌, ◌≤◌, Bool, true, false, cond, ◌&&◌, ◌==◌, List, [], ◌∷◌, ◌++◌, map, filter, length, length-append, Option, Some, None, Ok, Err, refl, sym, ap, ap₂, ◌∙◌, subst, arith, slice_get, slice_set, length-set}
 use Rattle.std.specs.List.{list_all}
-use Rattle.fx_layout.specs.Keys.{Key, Fits, key_of, refines, project, reads, cut}
+use Rattle.fx_layout.specs.Keys.{Key, Fits, key_of, refines, project, reads, bits_on}
 use Rattle.fx_layout.proofs.Projections.{and_true, project_key}
 use Rattle.fx_tables.specs.declared.record.Record.{Record}
 use Rattle.fx_tables.specs.declared.packet.Packet.{Packet}
 use Rattle.fx_run_text.specs.declared.step.Step.{Step}
 use Rattle.fx_run_text.specs.declared.step.Step.TheVariants.{Expire, Arrive}
 use Rattle.fx_tables.specs.declared.observation.Occurrence.{Occurrence}
-use Rattle.fx_tables.specs.Network.{Net, Aggregation, Process, at_places, exporters_of, layout_of, takes}
-use Rattle.fx_base.specs.Entries.{numbered}
+use Rattle.fx_tables.specs.Network.{Net, AggregationEntry, Process, at_places, exporters_of, layout_of, takes}
+use Rattle.fx_base.specs.Entries.{entry_numbered}
 use Rattle.fx_tables.specs.Classes.{Class}
-use Rattle.fx_machine.specs.States.{State, tallied, put_last, add_at}
+use Rattle.fx_machine.specs.States.{State, after_tally, put_last, add_at}
 use Rattle.fx_machine.specs.Acts.{Choices, Act, Tally, Send, Hold, Outcome, all_acts, act_all, hold_in, sent_to_chosen}
-use Rattle.fx_machine.specs.Steps.{run, then_run, after, meet, leaving, arriving, coming_to, acts_of, take_in, one_packet, after_expire, expire_from, expire_at, after_arrive, arrive_from}
+use Rattle.fx_machine.specs.Steps.{run, then_run, after, meet, acts_of_leaving, acts_of_arrival, coming_to, acts_of, take_in, one_packet, after_expire, expire_from, expire_at, after_arrive, arrive_from}
 use Rattle.fx_tables.specs.Ranks.{IsNetwork}
 use Rattle.fx_leaf.specs.declared.verdict.Fate.{Fate}
 use Rattle.fx_leaf.specs.declared.verdict.Fate.TheVariants.{Never, Once, Unassigned}
@@ -82,19 +82,19 @@ module _ (net : Net) (classes : List Class) (p : Packet) (network : IsNetwork ne
 
   -- ---- a record leaves where it was put last
 
-  pub expires : (holder : ℕ) (h : IsHolder net holder) (rs : List Record) (r : Record) (s : State) (choices : Choices) → slice_get s.held holder ≡ Some rs → after net classes (p ∷ []) (Expire h.name (suc (length rs)) choices) (record s { held = slice_set s.held holder (rs ++ r ∷ []) }) ≡ all_acts net r.counts (leaving net holder r.key) s choices
+  pub expires : (holder : ℕ) (h : IsHolder net holder) (rs : List Record) (r : Record) (s : State) (choices : Choices) → slice_get s.held holder ≡ Some rs → after net classes (p ∷ []) (Expire h.name (suc (length rs)) choices) (record s { held = slice_set s.held holder (rs ++ r ∷ []) }) ≡ all_acts net r.counts (acts_of_leaving net holder r.key) s choices
   expires holder h rs r s choices at =
       let now = slice_set s.held holder (rs ++ r ∷ []) in
       ap (λ o. expire_at net o (suc (length rs)) (record s { held = now }) choices) h.named
       ∙ ap (λ o. expire_from net holder o (suc (length rs)) (record s { held = now }) choices) (set_here s.held holder rs (rs ++ r ∷ []) at)
       ∙ ap (λ o. after_expire net holder (rs ++ r ∷ []) (suc (length rs)) o (record s { held = now }) choices) (last_here rs r)
-      ∙ ap (λ (less : List Record). all_acts net r.counts (leaving net holder r.key) (record s { held = slice_set now holder less }) choices) (last_removed rs r)
-      ∙ ap (λ (rss : List (List Record)). all_acts net r.counts (leaving net holder r.key) (record s { held = rss }) choices) (set_back s.held holder rs (rs ++ r ∷ []) at)
+      ∙ ap (λ (less : List Record). all_acts net r.counts (acts_of_leaving net holder r.key) (record s { held = slice_set now holder less }) choices) (last_removed rs r)
+      ∙ ap (λ (rss : List (List Record)). all_acts net r.counts (acts_of_leaving net holder r.key) (record s { held = rss }) choices) (set_back s.held holder rs (rs ++ r ∷ []) at)
 
-  pub arrives : (link : ℕ) (rs : List Record) (r : Record) (s : State) (choices : Choices) → slice_get s.carried link ≡ Some rs → after net classes (p ∷ []) (Arrive (suc link) (suc (length rs)) choices) (record s { carried = put_last s.carried link r }) ≡ all_acts net r.counts (arriving net r.key (slice_get net.links link)) s choices
+  pub arrives : (link : ℕ) (rs : List Record) (r : Record) (s : State) (choices : Choices) → slice_get s.carried link ≡ Some rs → after net classes (p ∷ []) (Arrive (suc link) (suc (length rs)) choices) (record s { carried = put_last s.carried link r }) ≡ all_acts net r.counts (acts_of_arrival net r.key (slice_get net.links link)) s choices
   arrives link rs r s choices at =
       let now = put_last s.carried link r in
-      let acts = arriving net r.key (slice_get net.links link) in
+      let acts = acts_of_arrival net r.key (slice_get net.links link) in
       ap (λ o. arrive_from net link o (suc (length rs)) (record s { carried = now }) choices) (put_here s.carried link rs r at)
       ∙ ap (λ o. after_arrive net link (rs ++ r ∷ []) (suc (length rs)) o (record s { carried = now }) choices) (last_here rs r)
       ∙ ap (λ (less : List Record). all_acts net r.counts acts (record s { carried = slice_set now link less }) choices) (last_removed rs r)
@@ -108,7 +108,7 @@ module _ (net : Net) (classes : List Class) (p : Packet) (network : IsNetwork ne
   pub projected : (key : Key) (layout : List _) → IsOwn key → refines key.layout layout ≡ true → project key layout ≡ key_of layout p.fields
   projected key layout own r = ap (λ k. project k layout) own.is ∙ project_key key.layout layout p.fields own.fits r
 
-  pub leaving_own : (holder : ℕ) (key : Key) → IsOwn key → Every OwnAct (leaving net holder key)
+  pub leaving_own : (holder : ℕ) (key : Key) → IsOwn key → Every OwnAct (acts_of_leaving net holder key)
   unfolding OwnAct
   leaving_own holder key own = every_map OwnAct (λ e. Send e key) (exporters_of net (slice_get net.holders holder)) (λ e. own)
 
@@ -117,11 +117,11 @@ module _ (net : Net) (classes : List Class) (p : Packet) (network : IsNetwork ne
   unfolding OwnAct
   met_own os = every_map OwnAct (meet net p.fields) os (λ o. record { is = refl; fits = network.fits o.holder })
 
-  taken_own : (key : Key) → IsOwn key → (a : Aggregation) → takes net key a ≡ true → OwnAct (take_in net key a)
+  taken_own : (key : Key) → IsOwn key → (a : AggregationEntry) → takes net key a ≡ true → OwnAct (take_in net key a)
   unfolding OwnAct
   taken_own key own a t =
       let layout = layout_of (slice_get net.holders a.holder) in
-      let both' = and_true (refines key.layout layout) (list_all (λ e. reads key.layout e.axis e.bits && cut key e.axis e.bits == e.value) a.matches) t in
+      let both' = and_true (refines key.layout layout) (list_all (λ e. reads key.layout e.axis e.bits && bits_on key e.axis e.bits == e.value) a.matches) t in
       record { is = projected key layout own both'.0; fits = network.fits a.holder }
 
   handled_own : (key : Key) → IsOwn key → (o : Option Process) → Every OwnAct (acts_of net key o)
@@ -139,7 +139,7 @@ module _ (net : Net) (classes : List Class) (p : Packet) (network : IsNetwork ne
         | false ↦ rest
       ]
 
-  pub arriving_own : (key : Key) → IsOwn key → (o : Option ℕ) → Every OwnAct (arriving net key o)
+  pub arriving_own : (key : Key) → IsOwn key → (o : Option ℕ) → Every OwnAct (acts_of_arrival net key o)
   unfolding OwnAct
   arriving_own key own None = tt
   arriving_own key own (Some process) = coming_own key own process
@@ -170,7 +170,7 @@ module _ (net : Net) (classes : List Class) (p : Packet) (network : IsNetwork ne
       let to = project key net.report_layout in
       let yes : State → State → State = λ a b. b in
       let next : State = record s { totals = add_at s.totals own_key (one_packet p) } in
-      let first : tallied net key (one_packet p) s ≡ next = ap (λ b. cond b (record s { totals = add_at s.totals to (one_packet p) }) (record s { unassigned = s.unassigned + 1 })) e ∙ ap (λ k. record s { totals = add_at s.totals k (one_packet p) }) (projected key net.report_layout own e) in
+      let first : after_tally net key (one_packet p) s ≡ next = ap (λ b. cond b (record s { totals = add_at s.totals to (one_packet p) }) (record s { unassigned = s.unassigned + 1 })) e ∙ ap (λ k. record s { totals = add_at s.totals k (one_packet p) }) (projected key net.report_layout own e) in
       let fate : tally_fate net key ≡ Once = ap (λ b. cond b Once Unassigned) e in
       let r = rest next (record { held = z.held; carried = z.carried }) in
       record {
@@ -188,7 +188,7 @@ module _ (net : Net) (classes : List Class) (p : Packet) (network : IsNetwork ne
   tally_played key acts f n own rest false e s z =
       let to = project key net.report_layout in
       let next : State = record s { unassigned = s.unassigned + 1 } in
-      let first : tallied net key (one_packet p) s ≡ next = ap (λ b. cond b (record s { totals = add_at s.totals to (one_packet p) }) (record s { unassigned = s.unassigned + 1 })) e in
+      let first : after_tally net key (one_packet p) s ≡ next = ap (λ b. cond b (record s { totals = add_at s.totals to (one_packet p) }) (record s { unassigned = s.unassigned + 1 })) e in
       let fate : tally_fate net key ≡ Unassigned = ap (λ b. cond b Once Unassigned) e in
       let r = rest next (record { held = z.held; carried = z.carried }) in
       let more : s.unassigned + 1 + r.lost ≡ s.unassigned + suc r.lost = omega arith in
@@ -226,7 +226,7 @@ module _ (net : Net) (classes : List Class) (p : Packet) (network : IsNetwork ne
         few = let a = later.few in let b = last.few in omega arith;
       }
 
-  hold_played : (acts : List Act) (f g : Fate) (m n : ℕ) (holder : ℕ) (key : Key) → IsHolder net holder → Rest (leaving net holder key) f m → Rest acts g n → Rest (Hold holder key ∷ acts) (both f g) (suc (m + n))
+  hold_played : (acts : List Act) (f g : Fate) (m n : ℕ) (holder : ℕ) (key : Key) → IsHolder net holder → Rest (acts_of_leaving net holder key) f m → Rest acts g n → Rest (Hold holder key ∷ acts) (both f g) (suc (m + n))
   hold_played acts f g m n holder key h inner rest s z =
       let r : Record = record { key = key; counts = one_packet p } in
       let here = there s.held holder (let lt = h.there in let e = z.held in omega arith) in
@@ -234,16 +234,16 @@ module _ (net : Net) (classes : List Class) (p : Packet) (network : IsNetwork ne
       let next : State = record s { held = slice_set s.held holder (rs ++ r ∷ []) } in
       let later = rest next (record { held = length-set s.held holder (rs ++ r ∷ []) ∙ z.held; carried = z.carried }) in
       let made : all_acts net (one_packet p) (Hold holder key ∷ acts) s (None ∷ later.choices) ≡ Ok later.mid = ap (λ o. act_all net (one_packet p) acts (hold_in o holder r s None later.choices)) here.1 ∙ later.made in
-      join (Hold holder key ∷ acts) acts (leaving net holder key) f g m n s next later (λ cs. Expire h.name (suc (length rs)) cs) (None ∷ later.choices) made (λ t u cs. expires holder h rs r (counted t u s) cs here.1) (let e = leaving_count net holder key in omega arith) refl (inner (counted later.tallies later.lost s) (record { held = z.held; carried = z.carried }))
+      join (Hold holder key ∷ acts) acts (acts_of_leaving net holder key) f g m n s next later (λ cs. Expire h.name (suc (length rs)) cs) (None ∷ later.choices) made (λ t u cs. expires holder h rs r (counted t u s) cs here.1) (let e = leaving_count net holder key in omega arith) refl (inner (counted later.tallies later.lost s) (record { held = z.held; carried = z.carried }))
 
-  on_played : (acts : List Act) (f g : Fate) (m n : ℕ) (link : ℕ) (ds : List (Option ℕ)) (key : Key) → link < length net.links → Rest (arriving net key (slice_get net.links link)) f m → Rest (Send (all_of ds) key ∷ acts) g n → Rest (Send (all_of (Some link ∷ ds)) key ∷ acts) (both f g) (suc (m + n))
+  on_played : (acts : List Act) (f g : Fate) (m n : ℕ) (link : ℕ) (ds : List (Option ℕ)) (key : Key) → link < length net.links → Rest (acts_of_arrival net key (slice_get net.links link)) f m → Rest (Send (all_of ds) key ∷ acts) g n → Rest (Send (all_of (Some link ∷ ds)) key ∷ acts) (both f g) (suc (m + n))
   on_played acts f g m n link ds key lt inner rest s z =
       let r : Record = record { key = key; counts = one_packet p } in
       let here = there s.carried link (let e = z.carried in omega arith) in
       let rs = here.0 in
       let next : State = record s { carried = put_last s.carried link r } in
       let later = rest next (record { held = z.held; carried = length_put_last s.carried link r ∙ z.carried }) in
-      join (Send (all_of (Some link ∷ ds)) key ∷ acts) (Send (all_of ds) key ∷ acts) (arriving net key (slice_get net.links link)) f g m n s next later (λ cs. Arrive (suc link) (suc (length rs)) cs) later.choices later.made (λ t u cs. arrives link rs r (counted t u s) cs here.1) (arriving_count net key (slice_get net.links link)) refl (inner (counted later.tallies later.lost s) (record { held = z.held; carried = z.carried }))
+      join (Send (all_of (Some link ∷ ds)) key ∷ acts) (Send (all_of ds) key ∷ acts) (acts_of_arrival net key (slice_get net.links link)) f g m n s next later (λ cs. Arrive (suc link) (suc (length rs)) cs) later.choices later.made (λ t u cs. arrives link rs r (counted t u s) cs here.1) (arriving_count net key (slice_get net.links link)) refl (inner (counted later.tallies later.lost s) (record { held = z.held; carried = z.carried }))
 
   -- what is played of acts is played of others that do the same and tally as often
   same_played : (all acts : List Act) (f : Fate) (n : ℕ) (s : State) (r : Played acts f n s) (choices : Choices) → all_acts net (one_packet p) all s choices ≡ all_acts net (one_packet p) acts s r.choices → tally_count all ≡ tally_count acts → Played all f n s
@@ -260,7 +260,7 @@ module _ (net : Net) (classes : List Class) (p : Packet) (network : IsNetwork ne
     few = let k = r.few in omega arith;
   }
 
-  choice_played : (acts : List Act) (f : Fate) (n : ℕ) (ds : List (Option ℕ)) (number : ℕ) (d : Option ℕ) (key : Key) → numbered ds number ≡ Some d → Rest (Send (all_of (d ∷ [])) key ∷ acts) f n → Rest (Send (any_of ds) key ∷ acts) f n
+  choice_played : (acts : List Act) (f : Fate) (n : ℕ) (ds : List (Option ℕ)) (number : ℕ) (d : Option ℕ) (key : Key) → entry_numbered ds number ≡ Some d → Rest (Send (all_of (d ∷ [])) key ∷ acts) f n → Rest (Send (any_of ds) key ∷ acts) f n
   choice_played acts f n ds number d key e rest s z =
       let r = rest s z in
       let x : Record = record { key = key; counts = one_packet p } in

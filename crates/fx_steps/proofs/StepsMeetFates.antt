@@ -10,8 +10,8 @@ use Rattle.fx_steps.proofs.PlansCanBeDone.{meets_spread, HasAll, leaving_spreads
 use Rattle.fx_steps.proofs.PathCosts.{caches_met, each_good}
 use Rattle.fx_elements.specs.Axes.{Fields}
 use Rattle.fx_layout.specs.Keys.{Layout, Fits, key_of}
-use Rattle.fx_tables.specs.Network.{Net, Aggregation, Process, at_places, exporters_of, named_by}
-use Rattle.fx_machine.specs.Steps.{coming_to, arriving}
+use Rattle.fx_tables.specs.Network.{Net, AggregationEntry, Process, at_places, exporters_of, named_by}
+use Rattle.fx_machine.specs.Steps.{coming_to, acts_of_arrival}
 use Rattle.fx_tables.specs.Ranks.{IsNetwork}
 use Rattle.fx_leaf.specs.declared.verdict.Fate.{Fate}
 use Rattle.fx_leaf.specs.declared.verdict.Fate.TheVariants.{Never}
@@ -41,7 +41,7 @@ module _ (net : Net) (n : Numbering) (fields : Fields) (network : IsNetwork net)
   good_at : (places : List ℕ) → Every (GoodBy net n fields network numbers table) (at_places net.exporters places)
   good_at places = each_good net n fields network numbers whole table told (at_places net.exporters places) (links_at places)
 
-  good_in : (as' : List Aggregation) → AllByRecursion (λ (a : Aggregation). IsHolder net a.holder) as' → Every (λ (a : Aggregation). GoodIn net n fields network numbers table a.holder) as'
+  good_in : (as' : List AggregationEntry) → AllByRecursion (λ (a : AggregationEntry). IsHolder net a.holder) as' → Every (λ (a : AggregationEntry). GoodIn net n fields network numbers table a.holder) as'
   good_in [] h = tt
   good_in (a ∷ as') h = ((h.0, good_at (named_by (slice_get net.holders a.holder))), good_in as' h.1)
 
@@ -83,7 +83,7 @@ module _ (net : Net) (n : Numbering) (fields : Fields) (network : IsNetwork net)
 
     -- what comes of a record that arrives at a collecting process
     pub record Comes (o : Option ℕ) (f : Fate) : Type 0 where
-      pub spreads : Spreads net (acts (arriving net (key_of layout fields) o)) (arrives_choose table net n fields number layout o f) (pending_items net n fields (arrives table net n fields number layout o f)) (arrives_tallied net fields layout o)
+      pub spreads : Spreads net (acts (acts_of_arrival net (key_of layout fields) o)) (arrives_choose table net n fields number layout o f) (pending_items net n fields (arrives table net n fields number layout o f)) (arrives_tallied net fields layout o)
       pub cost : total_cost table net n (arrives table net n fields number layout o f) ≡ cost_of (coming_costs table number o) f
       pub fate : both (keys_fate net (arrives_tallied net fields layout o)) (total_fate (arrives table net n fields number layout o f)) ≡ f
 
@@ -115,7 +115,7 @@ module _ (net : Net) (n : Numbering) (fields : Fields) (network : IsNetwork net)
       let same : layout ≡ layout_in (slice_get n.layouts number) = sym (ap layout_in is) in
       let o = slice_get net.links link in
       record {
-        spreads = subst (λ (l : Layout). Spreads net (acts (arriving net (key_of l fields) o)) (arrives_choose table net n fields number l o f) (pending_items net n fields (arrives table net n fields number l o f)) (arrives_tallied net fields l o)) same x.0.spreads;
+        spreads = subst (λ (l : Layout). Spreads net (acts (acts_of_arrival net (key_of l fields) o)) (arrives_choose table net n fields number l o f) (pending_items net n fields (arrives table net n fields number l o f)) (arrives_tallied net fields l o)) same x.0.spreads;
         cost = ap (λ (l : Layout). suc (total_cost table net n (arrives table net n fields number l o f))) (sym same) ∙ ap suc x.0.cost ∙ x.1;
         fate = ap (λ (l : Layout). both (keys_fate net (arrives_tallied net fields l o)) (total_fate (arrives table net n fields number l o f))) (sym same) ∙ x.0.fate;
       }

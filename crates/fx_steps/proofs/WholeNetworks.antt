@@ -2,7 +2,7 @@
 use Rattle.std.proofs.Common.{suc, ◌<◌, List, [], ◌∷◌, length, All, IfSome, arith}
 use Rattle.std.specs.List.{AllByRecursion}
 use Rattle.fx_tables.specs.declared.observation.Selection.{Selection}
-use Rattle.fx_tables.specs.Network.{Net, Exporter, Aggregation, Process, Point, Device}
+use Rattle.fx_tables.specs.Network.{Net, Exporter, AggregationEntry, Process, Point, DeviceEntry}
 use Rattle.fx_tables.specs.Runnable as runnable
 use Rattle.fx_tables.specs.Runnable.{IsHolder, IsRunnable}
 
@@ -10,9 +10,9 @@ abbrev pub HasLinks : Net → Exporter → Type 0
 HasLinks net e = AllByRecursion (λ d. IfSome d (λ link. link < length net.links)) e.destinations
 
 abbrev pub HasHolders : Net → Process → Type 0
-HasHolders net p = AllByRecursion (λ (a : Aggregation). IsHolder net a.holder) p.aggregations
+HasHolders net p = AllByRecursion (λ (a : AggregationEntry). IsHolder net a.holder) p.aggregations
 
-abbrev pub HasCaches : Net → Device → Type 0
+abbrev pub HasCaches : Net → DeviceEntry → Type 0
 HasCaches net d = AllByRecursion (λ (p : Point). AllByRecursion (λ (s : Selection). IfSome s.holder (IsHolder net)) p.selections) d.points
 
 pub record IsWhole (net : Net) : Type 0 where
@@ -30,6 +30,6 @@ same_along P xs h = along P P xs (λ x y. y) h
 pub whole : (net : Net) → IsRunnable net → IsWhole net
 whole net is = record {
   links = along (runnable.HasDestinations net) (HasLinks net) net.exporters (λ e h. same_along (λ d. IfSome d (λ link. link < length net.links)) e.destinations h.links) is.destinations;
-  aggregations = along (runnable.HasAggregations net) (HasHolders net) net.processes (λ p h. same_along (λ (a : Aggregation). IsHolder net a.holder) p.aggregations h) is.aggregations;
+  aggregations = along (runnable.HasAggregations net) (HasHolders net) net.processes (λ p h. same_along (λ (a : AggregationEntry). IsHolder net a.holder) p.aggregations h) is.aggregations;
   caches = along (runnable.HasCaches net) (HasCaches net) net.devices (λ d h. along (λ (p : Point). All (λ (s : Selection). IfSome s.holder (IsHolder net)) p.selections) (λ (p : Point). AllByRecursion (λ (s : Selection). IfSome s.holder (IsHolder net)) p.selections) d.points (λ p k. same_along (λ (s : Selection). IfSome s.holder (IsHolder net)) p.selections k) h) is.caches;
 }

@@ -4,8 +4,8 @@ use Rattle.fx_base.specs.declared.counts.Counts.{Counts}
 use Rattle.fx_layout.specs.Keys.{Key}
 use Rattle.fx_machine.specs.Acts.{Act, Tally, Send, Hold, Choices}
 use Rattle.fx_tables.specs.Network.{Net, Exporter}
-use Rattle.fx_base.specs.Entries.{numbered}
-use Rattle.fx_machine.specs.States.{State, tallied, put_last}
+use Rattle.fx_base.specs.Entries.{entry_numbered}
+use Rattle.fx_machine.specs.States.{State, after_tally, put_last}
 use Rattle.fx_steps.specs.Ways.{Task, acts, one, to}
 
 -- a record that is held, or on a link
@@ -24,9 +24,9 @@ put_each counts [] s = s
 put_each counts (i ∷ is) s = put_each counts is (put counts i s)
 
 -- all these keys are tallied
-abbrev pub tally_each : Net → Counts → List Key → State → State
-tally_each net counts [] s = s
-tally_each net counts (k ∷ ks) s = tally_each net counts ks (tallied net k counts s)
+abbrev pub with_tallies : Net → Counts → List Key → State → State
+with_tallies net counts [] s = s
+with_tallies net counts (k ∷ ks) s = with_tallies net counts ks (after_tally net k counts s)
 
 -- the task may be done with these choices: these records come of it, in this order, and these keys are tallied
 pub data Spreads (net : Net) : Task → Choices → List Item → List Key → Type 0 where
@@ -35,7 +35,7 @@ pub data Spreads (net : Net) : Task → Choices → List Item → List Key → T
   tally : (key : Key) → Spreads net (one (Tally key)) [] [] (key ∷ [])
   hold : (holder : ℕ) (key : Key) → holder < length net.holders → Spreads net (one (Hold holder key)) (None ∷ []) (Held holder key ∷ []) []
   to_all : (e : Exporter) (key : Key) (is : List Item) → e.parallel ≡ true → Spreads net (to key e.destinations) [] is [] → Spreads net (one (Send e key)) [] is []
-  to_any : (e : Exporter) (key : Key) (number : ℕ) (d : Option ℕ) (is : List Item) → e.parallel ≡ false → numbered e.destinations number ≡ Some d → Spreads net (to key (d ∷ [])) [] is [] → Spreads net (one (Send e key)) (Some number ∷ []) is []
+  to_any : (e : Exporter) (key : Key) (number : ℕ) (d : Option ℕ) (is : List Item) → e.parallel ≡ false → entry_numbered e.destinations number ≡ Some d → Spreads net (to key (d ∷ [])) [] is [] → Spreads net (one (Send e key)) (Some number ∷ []) is []
   no_destination : (key : Key) → Spreads net (to key []) [] [] []
   to_outside : (key : Key) (ds : List (Option ℕ)) (is : List Item) → Spreads net (to key ds) [] is [] → Spreads net (to key (None ∷ ds)) [] is []
   to_link : (key : Key) (link : ℕ) (ds : List (Option ℕ)) (is : List Item) → link < length net.links → Spreads net (to key ds) [] is [] → Spreads net (to key (Some link ∷ ds)) [] (Carried link key ∷ is) []

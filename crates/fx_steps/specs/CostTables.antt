@@ -2,7 +2,7 @@
 use Rattle.std.specs.Prelude.{ℕ, suc, ◌==◌, List, [], ◌∷◌, Option, Some, None, slice_get, slice_set, if◌then◌else◌}
 use Rattle.fx_elements.specs.Axes.{Fields}
 use Rattle.fx_layout.specs.Keys.{Layout, Key, refines, key_of}
-use Rattle.fx_tables.specs.Network.{Net, Exporter, Aggregation, Process, at_places, exporters_of, takes}
+use Rattle.fx_tables.specs.Network.{Net, Exporter, AggregationEntry, Process, at_places, exporters_of, takes}
 use Rattle.fx_tables.specs.declared.observation.Occurrence.{Occurrence}
 use Rattle.fx_tables.specs.declared.traffic.Crossing.{Crossing}
 use Rattle.fx_tables.specs.Occurrences.{occurrences}
@@ -56,7 +56,7 @@ sent_costs table net number (e ∷ es) = both_costs (send_costs table net number
 abbrev pub held_costs : CostTable → Net → Numbering → ℕ → Costs
 held_costs table net n holder = next (sent_costs table net (number_of_layout n holder) (exporters_of net (slice_get net.holders holder)))
 
-abbrev pub taken_costs : CostTable → Net → Numbering → Key → List Aggregation → Costs
+abbrev pub taken_costs : CostTable → Net → Numbering → Key → List AggregationEntry → Costs
 taken_costs table net n key [] = nothing
 taken_costs table net n key (a ∷ as') =
     if takes net key a then both_costs (held_costs table net n a.holder) (taken_costs table net n key as') else taken_costs table net n key as'

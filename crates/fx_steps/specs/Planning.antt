@@ -3,10 +3,10 @@ use Rattle.std.specs.Prelude.{◌≡◌, ◌<◌, ◌==◌, ◌+◌, ◌++◌, l
 use Rattle.fx_elements.specs.Axes.{Fields}
 use Rattle.fx_layout.specs.Keys.{Layout, Key, Fits, key_of}
 use Rattle.fx_machine.specs.Acts.{Choices, Act}
-use Rattle.fx_machine.specs.Steps.{leaving, arriving, crossing_acts}
+use Rattle.fx_machine.specs.Steps.{acts_of_leaving, acts_of_arrival, crossing_acts}
 use Rattle.fx_tables.specs.Occurrences.{occurrences}
 use Rattle.fx_tables.specs.declared.traffic.Crossing.{Crossing}
-use Rattle.fx_tables.specs.Network.{Net, Exporter, Aggregation, Process, at_places, exporters_of, layout_of, takes}
+use Rattle.fx_tables.specs.Network.{Net, Exporter, AggregationEntry, Process, at_places, exporters_of, layout_of, takes}
 use Rattle.fx_tables.specs.declared.observation.Occurrence.{Occurrence}
 use Rattle.fx_leaf.specs.declared.verdict.Fate.{Fate}
 use Rattle.fx_leaf.specs.declared.verdict.Fate.TheVariants.{Never}
@@ -22,8 +22,13 @@ use Rattle.fx_steps.specs.Costs.{cost_of}
 use Rattle.fx_steps.specs.CostTables.{CostTable, link_costs, send_costs, sent_costs, held_costs, taken_costs, tally_costs, handled_costs, met_costs}
 use Rattle.fx_steps.specs.Spread.{SentRecord, pick, spread_by, chosen_by}
 
-abbrev pub on_links : ℕ → List SentRecord → List Pending
-on_links number xs = map (λ (x : SentRecord). OnLink x.link number x.fate) xs
+-- these records come last in a plan, and these choices
+pub record AddsPlan (old new : StepPlan) (xs : List Pending) (cs : Choices) : Type 0 where
+  pub pending : new.pending.items ≡ old.pending.items ++ xs
+  pub choices : new.choices.items ≡ old.choices.items ++ cs
+
+abbrev pub pending_on_links : ℕ → List SentRecord → List Pending
+pending_on_links number xs = map (λ (x : SentRecord). OnLink x.link number x.fate) xs
 
 -- ---- what exporting processes send of a record of the layout of this number
 
@@ -54,13 +59,13 @@ left_by table net number (Some e) others f = (pick (send_costs table net number 
 
 -- ---- what aggregations take in
 
-abbrev pub takings : CostTable → Net → Numbering → Key → List Aggregation → Fate → List Pending
+abbrev pub takings : CostTable → Net → Numbering → Key → List AggregationEntry → Fate → List Pending
 takings table net n key [] f = []
 takings table net n key (a ∷ as') f =
     let p = pick (held_costs table net n a.holder) (taken_costs table net n key as') f in
     if takes net key a then AtHolder a.holder p.0 ∷ takings table net n key as' p.1 else takings table net n key as' f
 
-abbrev pub takings_choose : CostTable → Net → Numbering → Key → List Aggregation → Choices
+abbrev pub takings_choose : CostTable → Net → Numbering → Key → List AggregationEntry → Choices
 takings_choose table net n key [] = []
 takings_choose table net n key (a ∷ as') =
     if takes net key a then None ∷ takings_choose table net n key as' else takings_choose table net n key as'
@@ -154,8 +159,8 @@ tallied_of net n fields (OnLink link number f) = arrives_tallied net fields (lay
 
 -- the acts of its step
 abbrev pub acts_at : Net → Numbering → Fields → Pending → List Act
-acts_at net n fields (AtHolder holder f) = leaving net holder (key_of (layout_of (slice_get net.holders holder)) fields)
-acts_at net n fields (OnLink link number f) = arriving net (key_of (layout_in (slice_get n.layouts number)) fields) (slice_get net.links link)
+acts_at net n fields (AtHolder holder f) = acts_of_leaving net holder (key_of (layout_of (slice_get net.holders holder)) fields)
+acts_at net n fields (OnLink link number f) = acts_of_arrival net (key_of (layout_in (slice_get n.layouts number)) fields) (slice_get net.links link)
 
 abbrev pub keys_fate : Net → List Key → Fate
 keys_fate net [] = Never

@@ -6,7 +6,7 @@ use Rattle.fx_tables.specs.declared.packet.Packet.{Packet}
 use Rattle.fx_tables.specs.declared.record.Record.{Record}
 use Rattle.fx_run_text.specs.declared.step.Step.{Step}
 use Rattle.fx_tables.specs.Network.{Net}
-use Rattle.fx_base.specs.Entries.{numbered}
+use Rattle.fx_base.specs.Entries.{entry_numbered}
 use Rattle.fx_tables.specs.Classes.{Class, exempts, to_count}
 use Rattle.fx_machine.specs.Claim.{CountsEachOnce}
 use Rattle.fx_machine.specs.States.{State, opening, Complete, add_at}
@@ -35,4 +35,4 @@ pub record RunOf (net : Net) (classes : List Class) (p : Packet) (fate : Fate) (
   pub runs : run net classes (p ∷ []) steps (opening net classes (p ∷ [])) ≡ Ok final
   pub complete : Complete final
   pub number_is : length steps ≡ number
-  pub wrong : fate ≢ wanted_fate (exempts (numbered classes p.class)) → CountsEachOnce net (to_count classes (p ∷ [])) final → ⊥
+  pub wrong : fate ≢ wanted_fate (exempts (entry_numbered classes p.class)) → CountsEachOnce net (to_count classes (p ∷ [])) final → ⊥

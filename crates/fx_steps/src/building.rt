@@ -300,30 +300,26 @@ impl Building {
         rest: &[Crossing],
         left: Fate,
     ) -> Result<Fate, AllocError>
-        requires tables { by_table.AreTables tables.now }
-        requires runnable { IsRunnable tables.now.net }
-        requires filled { under_way.HasCosts tables.now packet.now.fields rows.now }
-        requires names { NameAll tables.now.net names.now }
-        requires nothing { self.old.pending.items ≡ [] }
-        requires waiting { Wait tables.now.net [] self.old.waiting }
-        requires cheap { length self.old.steps.items + costs.cost_of (tabled.path_costs rows.now
-            tables.now.net tables.now.numbering packet.now.fields (crossing.now ∷ rest.now)) left ≤
-            step_limit }
-        ensures nothing { OnOk result (self.new.pending.items ≡ []) }
-        ensures waiting { OnOk result (Wait tables.now.net [] self.new.waiting) }
-        ensures number { IfOk result (λ later. length self.new.steps.items + costs.cost_of
-            (tabled.path_costs rows.now tables.now.net tables.now.numbering packet.now.fields
-            rest.now) later
-            ≡ length self.old.steps.items + costs.cost_of (tabled.path_costs rows.now
-            tables.now.net tables.now.numbering packet.now.fields (crossing.now ∷ rest.now))
-            left) }
-        ensures way { IfOk result (λ later. (classes : List traffic.Class) (coming : List
-            states.Coming) (f : of_fate.Fate) → network.numbered (traffic.path classes packet.now)
-            number ≡ Some crossing.now
-            → under_way.UnderWay tables.now.net tables.now.numbering classes packet.now (record {
-              packet = 1;
-              crossing = number;
-            } ∷ coming) f self.old.steps.items []
+        requires prepared { under_way.IsPrepared costs.now names.now }
+        requires nothing { self.old.plan.pending.items ≡ [] }
+        requires waiting { let c = costs.now in Wait c.tables.net [] self.old.waiting }
+        requires cheap { let c = costs.now in
+            length self.old.steps.items + by_fate.cost_of
+            (tabled.path_costs c.table c.tables.net c.tables.numbering c.packet.fields (crossing.now
+            ∷ rest.now)) left ≤ step_limit }
+        ensures nothing { OnOk result (self.new.plan.pending.items ≡ []) }
+        ensures waiting { let c = costs.now in OnOk result (Wait c.tables.net [] self.new.waiting) }
+        ensures number { let c = costs.now in
+            IfOk result (λ later. length self.new.steps.items
+            + by_fate.cost_of (tabled.path_costs c.table c.tables.net c.tables.numbering
+            c.packet.fields rest.now) later ≡ length self.old.steps.items
+            + by_fate.cost_of (tabled.path_costs c.table c.tables.net c.tables.numbering
+            c.packet.fields (crossing.now ∷ rest.now)) left) }
+        ensures way { let c = costs.now in
+            IfOk result (λ later. (classes : List traffic.Class) (coming : List states.Coming)
+            (f : of_fate.Fate) → network.entry_numbered (traffic.path classes c.packet) number
+            ≡ Some crossing.now → under_way.UnderWay c.tables.net c.tables.numbering classes
+            c.packet (record { packet = 1; crossing = number } ∷ coming) f self.old.steps.items []
             → (g : of_fate.Fate) × (both g later ≡ both f left)
             × under_way.UnderWay tables.now.net tables.now.numbering classes packet.now coming
             g self.new.steps.items []) }

@@ -11,7 +11,7 @@ use crate::table::Row;
 use fx_boxes::Fields;
 use fx_layout::{Key, Layout};
 use fx_leaf::Tables;
-use fx_tables::{Aggregation, MatchEntry, Net, Process};
+use fx_tables::{AggregationEntry, MatchEntry, Net, Process};
 
 /// Of a record that a holder takes in.
 pub(crate) fn held(rows: &[Row], tables: &Tables<'_>, holder: usize) -> Costs
@@ -29,14 +29,14 @@ pub(crate) fn held(rows: &[Row], tables: &Tables<'_>, holder: usize) -> Costs
 
 /// Whether all of these entries can be read from a key and hold.
 fn entries_hold(key: &Key, entries: &[MatchEntry]) -> bool
-    ensures { result ≡ list_all (λ e. keys.reads key.now.layout e.axis e.bits && keys.cut key.now
+    ensures { result ≡ list_all (λ e. keys.reads key.now.layout e.axis e.bits && keys.bits_on key.now
         e.axis e.bits == e.value) entries.now }
 {
-    entries.iter().all(|e| key.layout().reads(e.axis, e.bits) && key.cut(e.axis, e.bits) == e.value)
+    entries.iter().all(|e| key.layout().reads(e.axis, e.bits) && key.bits_on(e.axis, e.bits) == e.value)
 }
 
 /// Whether an aggregation takes a key.
-pub(crate) fn takes(net: &Net, key: &Key, aggregation: &Aggregation) -> bool
+pub(crate) fn takes(net: &Net, key: &Key, aggregation: &AggregationEntry) -> bool
     ensures { result ≡ network.takes net.now key.now aggregation.now }
 {
     key.layout().refines(&net.layout_at(aggregation.holder()))
@@ -48,7 +48,7 @@ pub(crate) fn taken(
     rows: &[Row],
     tables: &Tables<'_>,
     key: &Key,
-    aggregations: &[Aggregation],
+    aggregations: &[AggregationEntry],
 ) -> Costs
     ensures { result ≡ tabled.taken_costs rows.now tables.now.net tables.now.numbering key.now
         aggregations.now }

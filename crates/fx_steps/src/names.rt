@@ -5,7 +5,7 @@ ghost use Rattle.fx_tables.specs.declared.holder_name.HolderName as of_name;
 ghost use Rattle.fx_tables.specs.declared.holder_name.HolderName.TheVariants as variants;
 ghost use Rattle.fx_steps.specs.Names as naming;
 
-use fx_tables::{Device, HolderName, Net};
+use fx_tables::{DeviceEntry, HolderName, Net};
 use std::alloc::{AllocError, Global};
 
 /// The holder of this name, if there is one, has it.
@@ -73,8 +73,8 @@ fn note_processes(names: &mut [HolderName], net: &Net, device: u64, places: &[us
 }
 
 /// The same of all holders of the device of this number.
-fn note_device(names: &mut [HolderName], net: &Net, number: u64, device: &Device)
-    requires { network.numbered net.now.devices number ≡ Some device.now }
+fn note_device(names: &mut [HolderName], net: &Net, number: u64, device: &DeviceEntry)
+    requires { network.entry_numbered net.now.devices number ≡ Some device.now }
     ensures kept { naming.Keep net.now names.old names.new }
     ensures noted { (name : of_name.HolderName) → naming.device_of name ≡ number
         → naming.Note net.now names.new name }

@@ -13,7 +13,7 @@ ghost use Rattle.fx_steps.specs.Ways as ways;
 use crate::costs::Costs;
 use crate::entry::held;
 use crate::rows::fill;
-use crate::table::Row;
+use crate::table::{PacketCosts, CostRow};
 use fx_boxes::{Fields, Region};
 use fx_leaf::Tables;
 use fx_tables::{Crossing, Point, Selection};
@@ -141,7 +141,7 @@ pub(crate) fn along(rows: &[Row], tables: &Tables<'_>, fields: &Fields, path: &[
 /// The least numbers of steps in which a packet with these fields, on this path, comes to each fate, where they are at
 /// most 1,000,000. The rows are filled for the packet, whatever they held. It takes no memory.
 pub(crate) fn least_steps(
-    rows: &mut [Row],
+    rows: &mut [CostRow],
     tables: &Tables<'_>,
     fields: &Fields,
     path: &[Crossing],

@@ -18,7 +18,7 @@ use crate::table::Row;
 use fx_boxes::Fields;
 use fx_layout::{Key, Layout};
 use fx_leaf::{Fate, Tables};
-use fx_tables::{Aggregation, Exporter, Net, Occurrence, Process};
+use fx_tables::{AggregationEntry, Exporter, Net, Occurrence, Process};
 use std::alloc::AllocError;
 
 /// A record on the link of a destination, if it has one, comes last.
@@ -293,7 +293,7 @@ fn plan_takings(
     rows: &[Row],
     tables: &Tables<'_>,
     key: &Key,
-    aggregations: &[Aggregation],
+    aggregations: &[AggregationEntry],
     fate: Fate,
 ) -> Result<(), AllocError>
     ensures planned { OnOk result (pending.new.items ≡ pending.old.items
@@ -393,123 +393,350 @@ fn plan_handled(
     }
 }
 
-/// The fate that is left behind the report's tally.
-fn left_behind(
-    rows: &[Row],
-    tables: &Tables<'_>,
-    fields: &Fields,
-    number: usize,
-    layout: &Layout,
-    process: usize,
-    fate: Fate,
-) -> Fate
-    ensures { result ≡ planning.behind rows.now tables.now.net tables.now.numbering fields.now
-        process number layout.now fate }
-{
-    let here = tallied(tables.net(), layout, process);
-    let others = handled_at(rows, tables, fields, number, layout, process);
-    pick(here, others, fate).1
-}
+impl StepPlan {
+    /// A record on the link of a destination, if it has one, comes last.
+    fn add_on_link(
+        &mut self,
+        layout: usize,
+        destination: Option<usize>,
+        fate: Fate,
+    ) -> Result<(), AllocError>
+        ensures { OnOk result (planning.AddsPlan self.old self.new
+            (planning.pending_on_links layout (spread.records_to_destination destination fate))
+            []) }
+    {
+        if let Some(link) = destination {
+            self.pending.push(Pending::OnLink { link, layout, fate })?;
+        }
+        Ok(())
+    }
 
-/// What comes of a record of the layout of this number at the collecting process at this place.
-pub(crate) fn plan_arrival(
-    pending: &mut Vec<Pending>,
-    choices: &mut Vec<Option<u64>>,
-    rows: &[Row],
-    tables: &Tables<'_>,
-    fields: &Fields,
-    number: usize,
-    layout: &Layout,
-    process: usize,
-    fate: Fate,
-) -> Result<(), AllocError>
-    ensures planned { OnOk result (pending.new.items ≡ pending.old.items
-        ++ planning.handles rows.now tables.now.net tables.now.numbering fields.now number
-        layout.now (slice_get tables.now.net.processes process) (planning.behind rows.now
-        tables.now.net tables.now.numbering fields.now process number layout.now fate)) }
-    ensures chosen { OnOk result (choices.new.items ≡ choices.old.items
-        ++ planning.handles_choose rows.now tables.now.net tables.now.numbering fields.now number
-        layout.now (slice_get tables.now.net.processes process) (planning.behind rows.now
-        tables.now.net tables.now.numbering fields.now process number layout.now fate)) }
-{
-    let other = left_behind(rows, tables, fields, number, layout, process, fate);
-    plan_handled(
-        pending,
-        choices,
-        rows,
-        tables,
-        fields,
-        number,
-        layout,
-        process_at(tables.net(), process),
-        other,
-    )
-}
-
-/// What comes of a record that leaves the holder at this place.
-pub(crate) fn plan_leaving(
-    pending: &mut Vec<Pending>,
-    choices: &mut Vec<Option<u64>>,
-    rows: &[Row],
-    tables: &Tables<'_>,
-    holder: usize,
-    fate: Fate,
-) -> Result<(), AllocError>
-    ensures planned { OnOk result (pending.new.items ≡ pending.old.items
-        ++ planning.sends rows.now tables.now.net (by_table.number_of_layout tables.now.numbering
-        holder) (network.exporters_of tables.now.net (slice_get tables.now.net.holders holder))
-        fate) }
-    ensures chosen { OnOk result (choices.new.items ≡ choices.old.items
-        ++ planning.sends_choose rows.now tables.now.net (by_table.number_of_layout
-        tables.now.numbering holder) (network.exporters_of tables.now.net (slice_get
-        tables.now.net.holders holder)) fate) }
-{
-    let net = tables.net();
-    plan_sends(
-        pending,
-        choices,
-        rows,
-        net,
-        tables.number_of_layout(holder),
-        net.named_by(holder),
-        fate,
-    )
-}
-
-/// The least numbers of steps of what the caches of these occurrences take in.
-pub(crate) fn met(rows: &[Row], tables: &Tables<'_>, occurrences: &[Occurrence]) -> Costs
-    ensures { result ≡ tabled.met_costs rows.now tables.now.net tables.now.numbering
-        occurrences.now }
-{
-    match occurrences {
-        [] => Costs::nothing(),
-        [first, rest @ ..] => {
-            let others = met(rows, tables, rest);
-            held(rows, tables, first.holder).both(others)
+    /// Records to all of these destinations.
+    fn add_to_all(
+        &mut self,
+        costs: &PacketCosts<'_, '_>,
+        layout: usize,
+        destinations: &[Option<usize>],
+        fate: Fate,
+    ) -> Result<(), AllocError>
+        ensures { let c = costs.now in
+            OnOk result (planning.AddsPlan self.old self.new
+            (planning.pending_on_links layout (spread.records_to_all c.table c.tables.net layout
+            destinations.now fate)) []) }
+    {
+        match destinations {
+            [] => Ok(()),
+            [first, rest @ ..] => {
+                let here = costs.destination_costs(layout, *first);
+                let (one, other) = shares(here, costs.all_destinations_costs(layout, rest), fate);
+                self.add_on_link(layout, *first, one)?;
+                self.add_to_all(costs, layout, rest, other)
+            }
         }
     }
-}
 
-/// What the caches of these occurrences take in.
-pub(crate) fn plan_meets(
-    pending: &mut Vec<Pending>,
-    choices: &mut Vec<Option<u64>>,
-    rows: &[Row],
-    tables: &Tables<'_>,
-    occurrences: &[Occurrence],
-    fate: Fate,
-) -> Result<(), AllocError>
-    ensures planned { OnOk result (pending.new.items ≡ pending.old.items
-        ++ planning.meets rows.now tables.now.net tables.now.numbering occurrences.now fate) }
-    ensures chosen { OnOk result (choices.new.items ≡ choices.old.items
-        ++ planning.meets_choose occurrences.now) }
-{
-    match occurrences {
-        [] => Ok(()),
-        [first, rest @ ..] => {
-            let others = met(rows, tables, rest);
-            let left = plan_holding(pending, choices, rows, tables, first.holder, others, fate)?;
-            plan_meets(pending, choices, rows, tables, rest, left)
+    /// A record to the destination at this place.
+    fn add_to_place(
+        &mut self,
+        layout: usize,
+        destinations: &[Option<usize>],
+        place: usize,
+        fate: Fate,
+    ) -> Result<(), AllocError>
+        ensures { OnOk result (planning.AddsPlan self.old self.new
+            (planning.pending_on_links layout (spread.records_to_one
+            (slice_get destinations.now place) fate)) []) }
+    {
+        match destination_at(destinations, place) {
+            None => Ok(()),
+            Some(destination) => self.add_on_link(layout, destination, fate),
+        }
+    }
+
+    /// A record to the cheapest of these destinations, and its choice.
+    fn add_to_cheapest(
+        &mut self,
+        costs: &PacketCosts<'_, '_>,
+        layout: usize,
+        destinations: &[Option<usize>],
+        fate: Fate,
+    ) -> Result<(), AllocError>
+        ensures { let c = costs.now in
+            OnOk result (planning.AddsPlan self.old self.new
+            (planning.pending_on_links layout (spread.records_to_one
+            (slice_get destinations.now (spread.choice_of c.table c.tables.net layout
+            destinations.now fate)) fate)) (Some
+            (suc (spread.choice_of c.table c.tables.net layout destinations.now fate)) ∷ [])) }
+    {
+        let place = costs.choice_of(layout, destinations, fate);
+        self.choices.push(Some(place as u64 + 1))?;
+        self.add_to_place(layout, destinations, place, fate)
+    }
+
+    /// What an exporting process sends, and what it chooses.
+    fn add_send(
+        &mut self,
+        costs: &PacketCosts<'_, '_>,
+        layout: usize,
+        exporter: &Exporter,
+        fate: Fate,
+    ) -> Result<(), AllocError>
+        ensures { let c = costs.now in
+            OnOk result (planning.AddsPlan self.old self.new
+            (planning.pending_on_links layout (spread.records_by_exporter c.table c.tables.net
+            layout exporter.now fate)) (spread.choices_by_exporter c.table c.tables.net layout
+            exporter.now fate)) }
+    {
+        if exporter.parallel() {
+            self.add_to_all(costs, layout, exporter.destinations(), fate)
+        } else {
+            self.add_to_cheapest(costs, layout, exporter.destinations(), fate)
+        }
+    }
+
+    /// What an exporting process sends, and what it chooses, where others are to cost so much; the fate that is left for
+    /// these.
+    fn add_send_before(
+        &mut self,
+        costs: &PacketCosts<'_, '_>,
+        layout: usize,
+        exporter: &Exporter,
+        others: Costs,
+        fate: Fate,
+    ) -> Result<Fate, AllocError>
+        ensures left { let c = costs.now in
+            IfOk result (λ f. f ≡ planning.fate_left_by c.table c.tables.net layout
+            (Some exporter.now) others fate) }
+        ensures added { let c = costs.now in
+            OnOk result (planning.AddsPlan self.old self.new
+            (planning.first_pending c.table c.tables.net layout (Some exporter.now) others fate)
+            (planning.first_choices c.table c.tables.net layout (Some exporter.now) others fate)) }
+    {
+        let here = costs.send_costs(layout, exporter);
+        let (one, other) = shares(here, others, fate);
+        self.add_send(costs, layout, exporter, one)?;
+        Ok(other)
+    }
+
+    /// What an exporting process sends, if it is there, where others are to cost so much, and what it chooses; the fate
+    /// that is left for the others.
+    fn add_send_at(
+        &mut self,
+        costs: &PacketCosts<'_, '_>,
+        layout: usize,
+        exporter: Option<&Exporter>,
+        others: Costs,
+        fate: Fate,
+    ) -> Result<Fate, AllocError>
+        ensures left { let c = costs.now in
+            IfOk result (λ f. f ≡ planning.fate_left_by c.table c.tables.net layout
+            (views.now_of exporter.entry) others fate) }
+        ensures added { let c = costs.now in
+            OnOk result (planning.AddsPlan self.old self.new
+            (planning.first_pending c.table c.tables.net layout (views.now_of exporter.entry) others
+            fate) (planning.first_choices c.table c.tables.net layout (views.now_of exporter.entry)
+            others fate)) }
+    {
+        match exporter {
+            None => Ok(fate),
+            Some(exporter) => self.add_send_before(costs, layout, exporter, others, fate),
+        }
+    }
+
+    /// What the exporting processes at these places send, and what they choose.
+    pub(crate) fn add_sends(
+        &mut self,
+        costs: &PacketCosts<'_, '_>,
+        layout: usize,
+        places: &[usize],
+        fate: Fate,
+    ) -> Result<(), AllocError>
+        ensures { let c = costs.now in
+            OnOk result (planning.AddsPlan self.old self.new
+            (planning.sent_pending c.table c.tables.net layout
+            (network.at_places c.tables.net.exporters places.now) fate)
+            (planning.sent_choices c.table c.tables.net layout
+            (network.at_places c.tables.net.exporters places.now) fate)) }
+    {
+        match places {
+            [] => Ok(()),
+            [first, rest @ ..] => {
+                let others = costs.sent_costs(layout, rest);
+                let exporter = exporter_at(costs.net(), *first);
+                let left = self.add_send_at(costs, layout, exporter, others, fate)?;
+                self.add_sends(costs, layout, rest, left)
+            }
+        }
+    }
+
+    /// A record comes to a holder where others are to cost so much, as a new one; the fate that is left for the others.
+    fn add_holding(
+        &mut self,
+        costs: &PacketCosts<'_, '_>,
+        holder: usize,
+        others: Costs,
+        fate: Fate,
+    ) -> Result<Fate, AllocError>
+        ensures left { let c = costs.now in
+            IfOk result (λ f. f ≡ (spread.shares
+            (tabled.holder_costs c.table c.tables.net c.tables.numbering holder) others fate).1) }
+        ensures added { let c = costs.now in
+            OnOk result (planning.AddsPlan self.old self.new
+            (of_pending.AtHolder holder (spread.shares
+            (tabled.holder_costs c.table c.tables.net c.tables.numbering holder) others fate).0
+            ∷ []) (None ∷ [])) }
+    {
+        let (one, other) = shares(costs.holder_costs(holder), others, fate);
+        self.pending.push(Pending::AtHolder { holder, fate: one })?;
+        self.choices.push(None)?;
+        Ok(other)
+    }
+
+    /// What these aggregations take in.
+    fn add_takings(
+        &mut self,
+        costs: &PacketCosts<'_, '_>,
+        key: &Key,
+        aggregations: &[AggregationEntry],
+        fate: Fate,
+    ) -> Result<(), AllocError>
+        ensures { let c = costs.now in
+            OnOk result (planning.AddsPlan self.old self.new
+            (planning.all_taken_pending c.table c.tables.net c.tables.numbering key.now
+            aggregations.now fate) (planning.all_taken_choices c.table c.tables.net
+            c.tables.numbering key.now aggregations.now)) }
+    {
+        match aggregations {
+            [] => Ok(()),
+            [first, rest @ ..] => {
+                if !takes(costs.net(), key, first) {
+                    return self.add_takings(costs, key, rest, fate);
+                }
+                let others = costs.all_taken_costs(key, rest);
+                let left = self.add_holding(costs, first.holder(), others, fate)?;
+                self.add_takings(costs, key, rest, left)
+            }
+        }
+    }
+
+    /// What a collecting process does with a record of the layout of this number.
+    fn add_handling(
+        &mut self,
+        costs: &PacketCosts<'_, '_>,
+        number: usize,
+        layout: &Layout,
+        process: &Process,
+        fate: Fate,
+    ) -> Result<(), AllocError>
+        ensures { let c = costs.now in
+            OnOk result (planning.AddsPlan self.old self.new
+            (planning.handled_pending c.table c.tables.net c.tables.numbering c.packet.fields number
+            layout.now (Some process.now) fate)
+            (planning.handled_choices c.table c.tables.net c.tables.numbering c.packet.fields number
+            layout.now (Some process.now) fate)) }
+    {
+        let key = costs.key_of(layout);
+        let (one, other) = costs.handling_shares(number, &key, process, fate);
+        self.add_sends(costs, number, process.exporters(), one)?;
+        self.add_takings(costs, &key, process.aggregations(), other)
+    }
+
+    /// What a collecting process, if it is there, does with a record of the layout of this number.
+    fn add_handling_at(
+        &mut self,
+        costs: &PacketCosts<'_, '_>,
+        number: usize,
+        layout: &Layout,
+        process: Option<&Process>,
+        fate: Fate,
+    ) -> Result<(), AllocError>
+        ensures { let c = costs.now in
+            OnOk result (planning.AddsPlan self.old self.new
+            (planning.handled_pending c.table c.tables.net c.tables.numbering c.packet.fields number
+            layout.now (views.now_of process.entry) fate)
+            (planning.handled_choices c.table c.tables.net c.tables.numbering c.packet.fields number
+            layout.now (views.now_of process.entry) fate)) }
+    {
+        match process {
+            None => Ok(()),
+            Some(process) => self.add_handling(costs, number, layout, process, fate),
+        }
+    }
+
+    /// What comes of a record of the layout of this number at the collecting process at this place.
+    pub(crate) fn add_arrival(
+        &mut self,
+        costs: &PacketCosts<'_, '_>,
+        number: usize,
+        layout: &Layout,
+        process: usize,
+        fate: Fate,
+    ) -> Result<(), AllocError>
+        ensures { let c = costs.now in
+            OnOk result (planning.AddsPlan self.old self.new
+            (planning.handled_pending c.table c.tables.net c.tables.numbering c.packet.fields number
+            layout.now (slice_get c.tables.net.processes process)
+            (planning.fate_behind_tally c.table c.tables.net c.tables.numbering c.packet.fields
+            process number layout.now fate)) (planning.handled_choices c.table c.tables.net
+            c.tables.numbering c.packet.fields number layout.now
+            (slice_get c.tables.net.processes process)
+            (planning.fate_behind_tally c.table c.tables.net c.tables.numbering c.packet.fields
+            process number layout.now fate))) }
+    {
+        let other = costs.fate_behind_tally(number, layout, process, fate);
+        self.add_handling_at(
+            costs,
+            number,
+            layout,
+            process_at(costs.net(), process),
+            other,
+        )
+    }
+
+    /// What comes of a record that leaves the holder at this place.
+    pub(crate) fn add_leaving(
+        &mut self,
+        costs: &PacketCosts<'_, '_>,
+        holder: usize,
+        fate: Fate,
+    ) -> Result<(), AllocError>
+        ensures { let c = costs.now in
+            OnOk result (planning.AddsPlan self.old self.new
+            (planning.sent_pending c.table c.tables.net
+            (by_table.number_of_layout c.tables.numbering holder)
+            (network.exporters_of c.tables.net (slice_get c.tables.net.holders holder)) fate)
+            (planning.sent_choices c.table c.tables.net
+            (by_table.number_of_layout c.tables.numbering holder)
+            (network.exporters_of c.tables.net (slice_get c.tables.net.holders holder)) fate)) }
+    {
+        let net = costs.net();
+        self.add_sends(
+            costs,
+            costs.number_of_layout(holder),
+            net.named_by(holder),
+            fate,
+        )
+    }
+
+    /// What the caches of these occurrences take in.
+    pub(crate) fn add_meetings(
+        &mut self,
+        costs: &PacketCosts<'_, '_>,
+        occurrences: &[Occurrence],
+        fate: Fate,
+    ) -> Result<(), AllocError>
+        ensures { let c = costs.now in
+            OnOk result (planning.AddsPlan self.old self.new
+            (planning.occurrence_pending c.table c.tables.net c.tables.numbering occurrences.now
+            fate) (planning.occurrence_choices occurrences.now)) }
+    {
+        match occurrences {
+            [] => Ok(()),
+            [first, rest @ ..] => {
+                let others = costs.occurrence_costs(rest);
+                let left = self.add_holding(costs, first.holder, others, fate)?;
+                self.add_meetings(costs, rest, left)
+            }
         }
     }
 }

@@ -59,30 +59,87 @@ fn end_of(net: &Net, link: usize) -> Option<usize>
     net.links().get(link).copied()
 }
 
-/// What comes of a record at the end of a link, if it leads to a collecting process.
-fn plan_end(
-    pending: &mut Vec<Pending>,
-    choices: &mut Vec<Option<u64>>,
-    rows: &[Row],
-    tables: &Tables<'_>,
-    fields: &Fields,
-    number: usize,
-    layout: &Layout,
-    process: Option<usize>,
-    fate: Fate,
-) -> Result<(), AllocError>
-    ensures planned { OnOk result (pending.new.items ≡ pending.old.items
-        ++ planning.arrives rows.now tables.now.net tables.now.numbering fields.now number
-        layout.now process fate) }
-    ensures chosen { OnOk result (choices.new.items ≡ choices.old.items
-        ++ planning.arrives_choose rows.now tables.now.net tables.now.numbering fields.now number
-        layout.now process fate) }
-{
-    match process {
-        None => Ok(()),
-        Some(process) => plan_arrival(
-            pending, choices, rows, tables, fields, number, layout, process, fate,
-        ),
+impl StepPlan {
+    /// What comes of a record at the end of a link, if it leads to a collecting process.
+    fn add_end(
+        &mut self,
+        costs: &PacketCosts<'_, '_>,
+        number: usize,
+        layout: &Layout,
+        process: Option<usize>,
+        fate: Fate,
+    ) -> Result<(), AllocError>
+        ensures { let c = costs.now in
+            OnOk result (planning.AddsPlan self.old self.new
+            (planning.arrival_pending c.table c.tables.net c.tables.numbering c.packet.fields number
+            layout.now process fate) (planning.arrival_choices c.table c.tables.net
+            c.tables.numbering c.packet.fields number layout.now process fate)) }
+    {
+        match process {
+            None => Ok(()),
+            Some(process) => self.add_arrival(costs, number, layout, process, fate),
+        }
+    }
+
+    /// The record in this position leaves the holder of this name; what comes of it comes last.
+    pub(crate) fn leave(
+        &mut self,
+        alloc: Global,
+        costs: &PacketCosts<'_, '_>,
+        holder: usize,
+        fate: Fate,
+        name: HolderName,
+        position: u64,
+    ) -> Result<Step, AllocError>
+        ensures pending { let c = costs.now in
+            OnOk result (self.new.pending.items
+            ≡ self.old.pending.items ++ planning.step_pending c.table c.tables.net
+            c.tables.numbering c.packet.fields (of_pending.AtHolder holder fate)) }
+        ensures step { let c = costs.now in
+            IfOk result (λ step. step ≡ of_step.Expire name position
+            (planning.step_choices c.table c.tables.net c.tables.numbering c.packet.fields
+            (of_pending.AtHolder holder fate))) }
+    {
+        self.begin();
+        self.add_leaving(costs, holder, fate)?;
+        Ok(Step::Expire {
+            holder: name,
+            position,
+            choices: Choices::new(self.take_choices(alloc)),
+        })
+    }
+
+    /// The record in this position leaves the link; what comes of it comes last.
+    pub(crate) fn arrive(
+        &mut self,
+        alloc: Global,
+        costs: &PacketCosts<'_, '_>,
+        link: usize,
+        number: usize,
+        fate: Fate,
+        position: u64,
+    ) -> Result<Step, AllocError>
+        requires { link < length costs.now.tables.net.links }
+        ensures pending { let c = costs.now in
+            OnOk result (self.new.pending.items
+            ≡ self.old.pending.items ++ planning.step_pending c.table c.tables.net
+            c.tables.numbering c.packet.fields (of_pending.OnLink link number fate)) }
+        ensures step { let c = costs.now in
+            IfOk result (λ step. step ≡ of_step.Arrive (suc link) position
+            (planning.step_choices c.table c.tables.net c.tables.numbering c.packet.fields
+            (of_pending.OnLink link number fate))) }
+    {
+        let layout = layout_in(costs.layouts(), number);
+        let process = end_of(costs.net(), link);
+        let links = costs.net().links().len();
+        prove!(link < links);
+        self.begin();
+        self.add_end(costs, number, &layout, process, fate)?;
+        Ok(Step::Arrive {
+            link: link as u64 + 1,
+            position,
+            choices: Choices::new(self.take_choices(alloc)),
+        })
     }
 }
 

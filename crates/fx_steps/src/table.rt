@@ -13,11 +13,11 @@ use std::marker::Model;
 
 /// Those of records that come to a collecting process, by the number of their layout.
 #[derive(Debug, Drop)]
-pub(crate) struct Row {
+pub(crate) struct CostRow {
     entries: ArrayVec<Costs, LAYOUTS>,
 }
 
-impl Model for Row {
+impl Model for CostRow {
     ghost use Rattle.std.specs.Prelude.{List};
     ghost use Rattle.fx_steps.specs.declared.costs.Costs as of_costs;
 
@@ -26,12 +26,12 @@ impl Model for Row {
     ghost view = { λ r. r.entries.items };
 }
 
-impl Row {
+impl CostRow {
     /// A row without entries.
-    pub(crate) fn new() -> Row
+    pub(crate) fn new() -> CostRow
         ensures { result ≡ [] }
     {
-        Row {
+        CostRow {
             entries: ArrayVec::new(),
         }
     }
@@ -55,23 +55,74 @@ impl Row {
     }
 }
 
-/// The entry for a collecting process and the layout of this number, from 0 each.
-pub(crate) fn entry(rows: &[Row], process: usize, layout: usize) -> Costs
-    ensures { result ≡ tabled.cost_entry rows.now process layout }
-{
-    match rows.get(process) {
-        None => Costs::nothing(),
-        Some(row) => row.at(layout),
+/// The least numbers of steps of a packet and its records, by table: what a plan lends, and for each collecting process
+/// a row.
+#[derive(Drop)]
+pub(crate) struct PacketCosts<'a, 't> {
+    pub(crate) tables: &'a Tables<'t>,
+    pub(crate) packet: &'a Packet,
+    pub(crate) rows: &'a [CostRow],
+}
+
+impl<'a, 't> Model for PacketCosts<'a, 't> {
+    ghost use Rattle.fx_steps.specs.CostTables.{PacketCosts};
+
+    ghost Value = { PacketCosts };
+
+    ghost view = { λ c. record {
+      tables = c.tables.now;
+      packet = c.packet.now;
+      table = c.rows.now;
+    } };
+}
+
+impl<'a, 't> PacketCosts<'a, 't> {
+    /// The network.
+    pub(crate) fn net(&self) -> &'t Net
+        ensures { result.now ≡ self.now.tables.net }
+    {
+        self.tables.net()
+    }
+
+    /// Its layouts.
+    pub(crate) fn layouts(&self) -> &'t [Layout]
+        ensures { result.now ≡ self.now.tables.numbering.layouts }
+    {
+        self.tables.layouts()
+    }
+
+    /// The number of the layout of the holder at this place, from 0 each.
+    pub(crate) fn number_of_layout(&self, holder: usize) -> usize
+        ensures { result ≡ by_table.number_of_layout self.now.tables.numbering holder }
+    {
+        self.tables.number_of_layout(holder)
+    }
+
+    /// The packet's fields.
+    pub(crate) fn fields(&self) -> &'a Fields
+        ensures { result.now ≡ self.now.packet.fields }
+    {
+        &self.packet.fields
+    }
+
+    /// The entry for a collecting process and the layout of this number, from 0 each.
+    pub(crate) fn entry(&self, process: usize, layout: usize) -> Costs
+        ensures { result ≡ tabled.cost_entry self.now.table process layout }
+    {
+        match self.rows.get(process) {
+            None => Costs::of_never(),
+            Some(row) => row.at(layout),
+        }
     }
 }
 
 /// So many rows without entries. Fails with 900, for want of memory, alone.
-pub(crate) fn empty_rows(alloc: Global, count: usize) -> Result<Vec<Row>, AllocError>
+pub(crate) fn empty_rows(alloc: Global, count: usize) -> Result<Vec<CostRow>, AllocError>
     ensures { IfOk result (λ rows. length rows.items ≡ count) }
 {
-    let mut rows: Vec<Row> = Vec::with_capacity(alloc, count)?;
+    let mut rows: Vec<CostRow> = Vec::with_capacity(alloc, count)?;
     for _process in 0..count {
-        rows.push(Row::new())?;
+        rows.push(CostRow::new())?;
     }
     Ok(rows)
 }

@@ -111,10 +111,10 @@ pub fn wrong_run(
         IsWrongRun tables.now.net classes.now packet.now steps.items)) }
     ensures least { IfOk result (λ found. IfSome found (λ steps.
         IsLeast tables.now.net packet.now.fields (traffic.path classes.now packet.now)
-        (traffic.exempts (network.numbered classes.now packet.now.class)) (length steps.items))) }
+        (traffic.exempts (network.entry_numbered classes.now packet.now.class)) (length steps.items))) }
     ensures none { IfOk result (λ found. IfNone found
         (HasNoRun tables.now.net packet.now.fields (traffic.path classes.now packet.now)
-        (traffic.exempts (network.numbered classes.now packet.now.class)))) }
+        (traffic.exempts (network.entry_numbered classes.now packet.now.class)))) }
     ensures err { IfErr result (λ e. e ≡ fault_at 900 places.None) }
 {
     let net = tables.net();

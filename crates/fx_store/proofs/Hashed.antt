@@ -8,7 +8,7 @@ use Rattle.fx_layout.specs.Keys.{Key, same_key}
 use Rattle.fx_store.specs.Order.{key_cmp}
 use Rattle.fx_store.specs.KeyOrder.{same_key_ties}
 use Rattle.fx_store.specs.Flows.{Entry, Flows, flows_of, with_more, Adds}
-use Rattle.fx_store.specs.Recent.{IsKept, counts_at}
+use Rattle.fx_store.specs.Recent.{AreKeysOf, counts_at}
 use Rattle.fx_store.proofs.FlowMaps.{adds_alone}
 use Rattle.fx_store.proofs.Orders.{kept_held}
 use Rattle.fx_store.proofs.Recency.{same_test, counted}
@@ -32,9 +32,9 @@ adds_more m n k c v is h =
     adds_alone m n k c v (updated_by_order m n k (Some v) h) (is ∙ ap (λ (o : Option Counts). with_more o c) (sym (found_by_order k m)))
 
 -- the keys are those of the flows still
-pub kept_more : (m n : List Entry) (k : Key) (c : Counts) (ks : List Key) → IsSome (counts_at m k) → Adds (flows_of m) (flows_of n) k c None → IsKept (flows_of m) ks → IsKept (flows_of n) ks
+pub kept_more : (m n : List Entry) (k : Key) (c : Counts) (ks : List Key) → IsSome (counts_at m k) → Adds (flows_of m) (flows_of n) k c None → AreKeysOf (flows_of m) ks → AreKeysOf (flows_of n) ks
 kept_more m n k c ks there adds kept =
-    subst (λ (f : Flows). IsKept f ks) (sym adds.flows) (kept_held (flows_of m) k (with_more (get (flows_of m) k) c) ks kept (ap is_some (counted k m) ∙ there))
+    subst (λ (f : Flows). AreKeysOf f ks) (sym adds.flows) (kept_held (flows_of m) k (with_more (get (flows_of m) k) c) ks kept (ap is_some (counted k m) ∙ there))
 
 pub no_counts : {X : Type 0} (v : Counts) → None ≡ Some v → X
 no_counts v h = absurd (cc)

@@ -13,8 +13,8 @@ use Rattle.fx_layout.specs.Keys.{Key, same_key}
 use Rattle.lru.specs.LruCache.{lru_cache, put_entries, displaced}
 use Rattle.fx_store.specs.Order.{key_cmp}
 use Rattle.fx_store.specs.KeyOrder.{key_cmp_total, key_cmp_apart}
-use Rattle.fx_store.specs.Flows.{Entry, Flows, flows_of, least, without, added, with_more, Adds}
-use Rattle.fx_store.specs.Recent.{IsKept, counts_at, without_key, with_latest}
+use Rattle.fx_store.specs.Flows.{Entry, Flows, flows_of, least, without, with_added, with_more, Adds}
+use Rattle.fx_store.specs.Recent.{AreKeysOf, counts_at, without_key, with_latest}
 use Rattle.fx_store.proofs.FlowMaps.{found, least_is, least_none}
 use Rattle.fx_store.proofs.Recency.{counted, entry_at, no_entry_at}
 
@@ -52,14 +52,14 @@ has_inserted m k q v = ap is_some (get-insert key_cmp_total m k v q) ∙ elim (e
 has_left : (m : Flows) (k q : Key) → contains_key (remove m k) q ≡ cond (eq_by_cmp key_cmp q k) false (contains_key m q)
 has_left m k q = ap is_some (get-remove key_cmp_total m k q) ∙ elim (eq_by_cmp key_cmp q k) as (λ b. is_some (cond b None (get m q)) ≡ cond b false (is_some (get m q))) [ true ↦ refl | false ↦ refl ]
 
-pub kept_insert : (m : Flows) (k : Key) (v : Counts) (ks js : List Key) → IsKept m ks → ((q : Key) → list_any (is_at (key_cmp q)) js ≡ cond (is_at (key_cmp k) q) true (list_any (is_at (key_cmp q)) ks)) → IsKept (insert m k v) js
+pub kept_insert : (m : Flows) (k : Key) (v : Counts) (ks js : List Key) → AreKeysOf m ks → ((q : Key) → list_any (is_at (key_cmp q)) js ≡ cond (is_at (key_cmp k) q) true (list_any (is_at (key_cmp q)) ks)) → AreKeysOf (insert m k v) js
 kept_insert m k v ks js kept h q = h q ∙ flip k q _ _ ∙ ap (cond (eq_by_cmp key_cmp q k) true) (kept q) ∙ sym (has_inserted m k q v)
 
-pub kept_remove : (m : Flows) (k : Key) (ks js : List Key) → IsKept m ks → ((q : Key) → list_any (is_at (key_cmp q)) js ≡ cond (is_at (key_cmp k) q) false (list_any (is_at (key_cmp q)) ks)) → IsKept (remove m k) js
+pub kept_remove : (m : Flows) (k : Key) (ks js : List Key) → AreKeysOf m ks → ((q : Key) → list_any (is_at (key_cmp q)) js ≡ cond (is_at (key_cmp k) q) false (list_any (is_at (key_cmp q)) ks)) → AreKeysOf (remove m k) js
 kept_remove m k ks js kept h q = h q ∙ flip k q _ _ ∙ ap (cond (eq_by_cmp key_cmp q k) false) (kept q) ∙ sym (has_left m k q)
 
 -- a key that is there has new counts
-pub kept_held : (m : Flows) (k : Key) (v : Counts) (ks : List Key) → IsKept m ks → IsSome (get m k) → IsKept (insert m k v) ks
+pub kept_held : (m : Flows) (k : Key) (v : Counts) (ks : List Key) → AreKeysOf m ks → IsSome (get m k) → AreKeysOf (insert m k v) ks
 kept_held m k v ks kept there q =
     kept q ∙ (elim (eq_by_cmp key_cmp q k) as (λ b. eq_by_cmp key_cmp q k ≡ b → contains_key m q ≡ cond b true (contains_key m q)) [
       | true ↦ λ t. subst (λ (x : Key). contains_key m x ≡ true) (sym (same q t)) there
@@ -90,21 +90,21 @@ swapped m k e v far =
         ]) refl
 
 -- the keys after an addition at a new key
-pub kept_alone : (m n : Flows) (k : Key) (c : Counts) (left : Option Entry) (ks js : List Key) → Adds m n k c left → left ≡ None → IsKept m ks → ((q : Key) → list_any (is_at (key_cmp q)) js ≡ cond (is_at (key_cmp k) q) true (list_any (is_at (key_cmp q)) ks)) → IsKept n js
+pub kept_alone : (m n : Flows) (k : Key) (c : Counts) (left : Option Entry) (ks js : List Key) → Adds m n k c left → left ≡ None → AreKeysOf m ks → ((q : Key) → list_any (is_at (key_cmp q)) js ≡ cond (is_at (key_cmp k) q) true (list_any (is_at (key_cmp q)) ks)) → AreKeysOf n js
 kept_alone m n k c left ks js a none kept h =
-    let now : n ≡ added m k c = a.flows ∙ ap (λ (o : Option Entry). added (without m o) k c) none in
-    subst (λ (f : Flows). IsKept f js) (sym now) (kept_insert m k (with_more (get m k) c) ks js kept h)
+    let now : n ≡ with_added m k c = a.flows ∙ ap (λ (o : Option Entry). with_added (without m o) k c) none in
+    subst (λ (f : Flows). AreKeysOf f js) (sym now) (kept_insert m k (with_more (get m k) c) ks js kept h)
 
-pub kept_swap : (m n : Flows) (k : Key) (c : Counts) (left : Option Entry) (e : Entry) (ks js ls : List Key) → Adds m n k c left → left ≡ Some e → IsKept m ks → ((q : Key) → list_any (is_at (key_cmp q)) js ≡ cond (is_at (key_cmp k) q) true (list_any (is_at (key_cmp q)) ks)) → ((q : Key) → list_any (is_at (key_cmp q)) ls ≡ cond (is_at (key_cmp e.0) q) false (list_any (is_at (key_cmp q)) js)) → IsKept n ls
+pub kept_swap : (m n : Flows) (k : Key) (c : Counts) (left : Option Entry) (e : Entry) (ks js ls : List Key) → Adds m n k c left → left ≡ Some e → AreKeysOf m ks → ((q : Key) → list_any (is_at (key_cmp q)) js ≡ cond (is_at (key_cmp k) q) true (list_any (is_at (key_cmp q)) ks)) → ((q : Key) → list_any (is_at (key_cmp q)) ls ≡ cond (is_at (key_cmp e.0) q) false (list_any (is_at (key_cmp q)) js)) → AreKeysOf n ls
 kept_swap m n k c left e ks js ls a one kept h g =
     let whole = subst (λ (o : Option Entry). IfSome o (λ x. (get m k ≡ None) × (get m x.0 ≡ Some x.1))) one a.whole in
     let v : Counts = with_more (get (remove m e.0) k) c in
-    let now : n ≡ insert (remove m e.0) k v = a.flows ∙ ap (λ (o : Option Entry). added (without m o) k c) one in
+    let now : n ≡ insert (remove m e.0) k v = a.flows ∙ ap (λ (o : Option Entry). with_added (without m o) k c) one in
     let far : eq_by_cmp key_cmp k e.0 ≡ false = apart m k e.0 whole.0 (ap is_some whole.1) in
-    subst (λ (f : Flows). IsKept f ls) (swapped m k e.0 v far ∙ sym now) (kept_remove (insert m k v) e.0 js ls (kept_insert m k v ks js kept h) g)
+    subst (λ (f : Flows). AreKeysOf f ls) (swapped m k e.0 v far ∙ sym now) (kept_remove (insert m k v) e.0 js ls (kept_insert m k v ks js kept h) g)
 
 -- a key that was put in and taken out again
-pub kept_back : (m : Flows) (k : Key) (ks js ls : List Key) → IsKept m ks → get m k ≡ None → ((q : Key) → list_any (is_at (key_cmp q)) js ≡ cond (is_at (key_cmp k) q) true (list_any (is_at (key_cmp q)) ks)) → ((q : Key) → list_any (is_at (key_cmp q)) ls ≡ cond (is_at (key_cmp k) q) false (list_any (is_at (key_cmp q)) js)) → IsKept m ls
+pub kept_back : (m : Flows) (k : Key) (ks js ls : List Key) → AreKeysOf m ks → get m k ≡ None → ((q : Key) → list_any (is_at (key_cmp q)) js ≡ cond (is_at (key_cmp k) q) true (list_any (is_at (key_cmp q)) ks)) → ((q : Key) → list_any (is_at (key_cmp q)) ls ≡ cond (is_at (key_cmp k) q) false (list_any (is_at (key_cmp q)) js)) → AreKeysOf m ls
 kept_back m k ks js ls kept none h g q =
     g q ∙ flip k q _ _ ∙ ap (cond (eq_by_cmp key_cmp q k) false) (h q ∙ flip k q _ _ ∙ ap (cond (eq_by_cmp key_cmp q k) true) (kept q)) ∙ (elim (eq_by_cmp key_cmp q k) as (λ b. eq_by_cmp key_cmp q k ≡ b → cond b false (cond b true (contains_key m q)) ≡ contains_key m q) [
       | true ↦ λ t. sym (ap (λ (x : Key). contains_key m x) (tells_apart key_cmp_apart q k t) ∙ ap is_some none)
@@ -121,7 +121,7 @@ answer_key k j v w h = ap (λ (o : Option Entry). option_map_or (λ (e : Entry).
 
 -- ---- the least key
 
-pub least_of_none : (es : List Entry) (ks : List Key) → IsKept (flows_of es) ks → ks ≡ [] → least (flows_of es) ≡ None
+pub least_of_none : (es : List Entry) (ks : List Key) → AreKeysOf (flows_of es) ks → ks ≡ [] → least (flows_of es) ≡ None
 least_of_none [] ks kept none = least_none [] (λ h. absurd (omega arith))
 least_of_none (e ∷ es) ks kept none =
     let here : contains_key (flows_of (e ∷ es)) e.0 ≡ true = has_inserted (flows_of es) e.0 e.0 e.1 ∙ ap (λ b. cond b true (contains_key (flows_of es) e.0)) ((eq_by_cmp_equiv key_cmp_total).refl e.0) in
@@ -133,7 +133,7 @@ nothing_in [] h = refl
 nothing_in (k ∷ ks) h = let no : false ≡ true = h (omega arith) in absurd (cc)
 
 -- a key that no key is below is the least, with what stands at it
-pub least_kept : (es : List Entry) (ks : List Key) (k : Key) → IsKept (flows_of es) ks → list_any (is_at (key_cmp k)) ks ≡ true → ((q : Key) → list_any (is_at (key_cmp q)) ks ≡ true → is_gt (key_cmp k q) ≡ false) → (v : Counts) × (counts_at es k ≡ Some v) × (least (flows_of es) ≡ Some (k, v))
+pub least_kept : (es : List Entry) (ks : List Key) (k : Key) → AreKeysOf (flows_of es) ks → list_any (is_at (key_cmp k)) ks ≡ true → ((q : Key) → list_any (is_at (key_cmp q)) ks ≡ true → is_gt (key_cmp k q) ≡ false) → (v : Counts) × (counts_at es k ≡ Some v) × (least (flows_of es) ≡ Some (k, v))
 least_kept es ks k kept here low = by_counts (get (flows_of es) k) refl
   where
     by_counts : (o : Option Counts) → get (flows_of es) k ≡ o → (v : Counts) × (counts_at es k ≡ Some v) × (least (flows_of es) ≡ Some (k, v))

@@ -13,7 +13,7 @@ use Rattle.fx_layout.specs.Keys.{Key, same_key}
 use Rattle.fx_layout.proofs.Projections.{same_key_is, key_same}
 use Rattle.fx_store.specs.Order.{key_cmp}
 use Rattle.fx_store.specs.KeyOrder.{key_cmp_total, key_cmp_apart, same_key_ties, same_key_equiv}
-use Rattle.fx_store.specs.Flows.{Entry, Flows, flows_of, added, with_more, Adds}
+use Rattle.fx_store.specs.Flows.{Entry, Flows, flows_of, with_added, with_more, Adds}
 use Rattle.fx_store.specs.Recent.{Recent, counts_at, without_key, with_latest, after_add, pushed_out}
 use Rattle.fx_store.proofs.FlowMaps.{found, remove_is}
 
@@ -150,7 +150,7 @@ adds_when_full es k c d some none =
     let before : flows_of front ≡ remove (flows_of es) e.0 = ap flows_of (sym apart.1 ∙ ap (λ (l : List Entry). without_key l e.0) (sym whole)) ∙ without_is e.0 es d in
     let new : get (flows_of es) k ≡ None = counted k es ∙ none in
     let old : get (flows_of es) e.0 ≡ Some e.1 = counted e.0 es ∙ ap (λ (l : List Entry). counts_at l e.0) whole ∙ apart.0 in
-    let same : insert (flows_of front) k c ≡ added (remove (flows_of es) e.0) k c = ap (λ (m : Flows). insert m k c) before ∙ ap (insert (remove (flows_of es) e.0) k) (ap (λ (o : Option Counts). with_more o c) (sym (still_none (flows_of es) e.0 k new))) in
+    let same : insert (flows_of front) k c ≡ with_added (remove (flows_of es) e.0) k c = ap (λ (m : Flows). insert m k c) before ∙ ap (insert (remove (flows_of es) e.0) k) (ap (λ (o : Option Counts). with_more o c) (sym (still_none (flows_of es) e.0 k new))) in
     rw last.1 (record { flows = same; whole = (new, old) })
 
 adds_at_the_end : (es : List Entry) (k : Key) (c : Counts) (n : ℕ) → AreDistinct es → n ≡ suc (length es - 1) → 0 < length es → counts_at es k ≡ None → Adds (flows_of es) (flows_of (take n (with_latest es k c))) k c (slice_get (with_latest es k c) n)

@@ -23,8 +23,8 @@ with_more None more = more
 with_more (Some before) more = add_counts before more
 
 -- the counts are added at the key
-abbrev pub added : Flows → Key → Counts → Flows
-added flows key counts = insert flows key (with_more (get flows key) counts)
+abbrev pub with_added : Flows → Key → Counts → Flows
+with_added flows key counts = insert flows key (with_more (get flows key) counts)
 
 -- the entry is taken out, if there is one
 abbrev pub without : Flows → Option Entry → Flows
@@ -37,6 +37,6 @@ least flows = slice_get (entries flows) 0
 
 -- Counts are added at a key, and an entry may leave.
 pub record Adds (old new : Flows) (key : Key) (counts : Counts) (left : Option Entry) : Type 0 where
-  pub flows : new ≡ added (without old left) key counts
+  pub flows : new ≡ with_added (without old left) key counts
   -- only where the key is new, and then another key's entry with all its counts
   pub whole : IfSome left (λ e. (get old key ≡ None) × (get old e.0 ≡ Some e.1))

@@ -53,9 +53,9 @@ same_key_ties a b =
     one_answer (same_key a b) (eq_by_cmp key_cmp a b) s d
 
 -- what a key feeds a hasher
-abbrev pub hashed : Key → HashWrites
-hashed k = slice u128 k.values
+abbrev pub hash_writes : Key → HashWrites
+hash_writes k = slice u128 k.values
 
 -- what is the same is hashed alike
-pub hashes_alike : (a b : Key) → same_key a b ≡ true → hashed a ≡ hashed b
-hashes_alike a b h = ap hashed (same_key_is a b h)
+pub hashes_alike : (a b : Key) → same_key a b ≡ true → hash_writes a ≡ hash_writes b
+hashes_alike a b h = ap hash_writes (same_key_is a b h)

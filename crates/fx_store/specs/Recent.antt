@@ -33,5 +33,5 @@ abbrev pub pushed_out : Recent → Key → Counts → Option Entry
 pushed_out r key counts = slice_get (with_latest r.entries key counts) r.capacity
 
 -- the keys are those of the flows
-abbrev pub IsKept : Flows → List Key → Type 0
-IsKept flows keys = (q : Key) → list_any (eq_by_cmp key_cmp q) keys ≡ contains_key flows q
+abbrev pub AreKeysOf : Flows → List Key → Type 0
+AreKeysOf flows keys = (q : Key) → list_any (eq_by_cmp key_cmp q) keys ≡ contains_key flows q

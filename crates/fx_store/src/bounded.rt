@@ -27,14 +27,14 @@ pub struct BoundedStore {
 }
 
 impl Model for BoundedStore {
-    ghost use Rattle.fx_store.specs.Recent.{Recent, IsKept};
+    ghost use Rattle.fx_store.specs.Recent.{Recent, AreKeysOf};
     ghost use Rattle.fx_store.specs.Flows.{flows_of};
 
     ghost Value = { Recent };
 
     ghost view = { λ s. record { entries = s.recent.entries; capacity = s.recent.cap } };
 
-    ghost invariant = { λ s. IsKept (flows_of s.recent.entries) s.order.keys };
+    ghost invariant = { λ s. AreKeysOf (flows_of s.recent.entries) s.order.keys };
 }
 
 impl BoundedStore {

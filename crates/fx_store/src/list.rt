@@ -27,13 +27,13 @@ pub struct ListStore {
 impl Model for ListStore {
     ghost use Rattle.std.specs.Prelude.{List};
     ghost use Rattle.fx_store.specs.Flows.{Entry, flows_of};
-    ghost use Rattle.fx_store.specs.Recent.{IsKept};
+    ghost use Rattle.fx_store.specs.Recent.{AreKeysOf};
 
     ghost Value = { List Entry };
 
     ghost view = { λ s. s.flows.entries };
 
-    ghost invariant = { λ s. IsKept (flows_of s.flows.entries) s.order.keys };
+    ghost invariant = { λ s. AreKeysOf (flows_of s.flows.entries) s.order.keys };
 }
 
 impl ListStore {

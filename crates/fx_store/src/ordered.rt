@@ -3,7 +3,7 @@ ghost use Rattle.std.specs.Prelude.{◌≡◌, Some, refl};
 ghost use Rattle.std.specs.Cmp.{partial_equiv_from_equiv, po};
 ghost use Rattle.fx_layout.specs.Keys.{same_key};
 ghost use Rattle.fx_store.specs.Order.{key_cmp, layout_cmp, part_cmp};
-ghost use Rattle.fx_store.specs.KeyOrder.{key_cmp_total, same_key_equiv, same_key_ties, hashed, hashes_alike};
+ghost use Rattle.fx_store.specs.KeyOrder.{key_cmp_total, same_key_equiv, same_key_ties, hash_writes, hashes_alike};
 
 use fx_layout::{Key, Part};
 use std::cmp::Ordering;
@@ -125,7 +125,7 @@ impl Ord for Ordered {
 }
 
 impl Hash for Ordered {
-    ghost hash_input = { hashed };
+    ghost hash_input = { hash_writes };
 
     ghost respects_eq = { hashes_alike };
 

@@ -6,9 +6,9 @@ use Rattle.fx_tables.specs.declared.holding.Holding.{Holding}
 use Rattle.fx_tables.specs.declared.observation.Selection.{Selection}
 use Rattle.fx_tables.specs.declared.observation.Occurrence.{Occurrence}
 use Rattle.fx_tables.specs.declared.traffic.Crossing.{Crossing}
-use Rattle.fx_tables.specs.Network.{Holder, Aggregation, Point}
+use Rattle.fx_tables.specs.Network.{Holder, AggregationEntry, Point}
 use Rattle.fx_tables.specs.Occurrences.{selects, occurrence, met_by, watches, met_at}
-use Rattle.fx_tables.specs.Takers.{aggregating, aggregated}
+use Rattle.fx_tables.specs.Takers.{intake_of, intakes}
 
 pub met_by_more : (p q k : ℕ) (ss : List Selection) (f : Fields) (d : Selection) → k < length ss → met_by p q (take (k + 1) ss) f ≡ met_by p q (take k ss) f ++ cond (selects (get_or ss k d).region f) (occurrence p (q + k) (get_or ss k d).holder) []
 met_by_more p q k ss f d lt = subst (λ m. met_by p q (take m ss) f ≡ met_by p q (take k ss) f ++ cond (selects (get_or ss k d).region f) (occurrence p (q + k) (get_or ss k d).holder) []) (sym (add-one k)) (go q k ss lt)
@@ -43,14 +43,14 @@ met_at_more n k ps x f p lt at = subst (λ m. met_at n (take m ps) x f ≡ met_a
         let rest = go (n + 1) k ps (le_of_suc-le-suc lt) at in
         ap (λ (os : List Occurrence). here ++ os) (rest ∙ ap (λ m. met_at (n + 1) (take k ps) x f ++ cond (watches p x) (met_by m 1 p.selections f) []) e) ∙ sym (append_assoc here (met_at (n + 1) (take k ps) x f) (cond (watches p x) (met_by (n + suc k) 1 p.selections f) []))
 
-pub aggregated_more : (hs : List Holder) (key : Key) (k : ℕ) (xs : List Aggregation) (a : Aggregation) → k < length xs → a ≡ get_or xs k a → aggregated hs key (take (k + 1) xs) ≡ aggregated hs key (take k xs) ++ aggregating hs key a
-aggregated_more hs key k xs a lt at = subst (λ m. aggregated hs key (take m xs) ≡ aggregated hs key (take k xs) ++ aggregating hs key a) (sym (add-one k)) (go k xs lt at)
+pub aggregated_more : (hs : List Holder) (key : Key) (k : ℕ) (xs : List AggregationEntry) (a : AggregationEntry) → k < length xs → a ≡ get_or xs k a → intakes hs key (take (k + 1) xs) ≡ intakes hs key (take k xs) ++ intake_of hs key a
+aggregated_more hs key k xs a lt at = subst (λ m. intakes hs key (take m xs) ≡ intakes hs key (take k xs) ++ intake_of hs key a) (sym (add-one k)) (go k xs lt at)
   where
-    go : (k : ℕ) (xs : List Aggregation) → k < length xs → a ≡ get_or xs k a → aggregated hs key (take (suc k) xs) ≡ aggregated hs key (take k xs) ++ aggregating hs key a
+    go : (k : ℕ) (xs : List AggregationEntry) → k < length xs → a ≡ get_or xs k a → intakes hs key (take (suc k) xs) ≡ intakes hs key (take k xs) ++ intake_of hs key a
     go k [] lt at = absurd (omega arith)
-    go zero (b ∷ xs) lt at = append-nil (aggregating hs key b) ∙ ap (aggregating hs key) (sym at)
+    go zero (b ∷ xs) lt at = append-nil (intake_of hs key b) ∙ ap (intake_of hs key) (sym at)
     go (suc k) (b ∷ xs) lt at =
-        ap (λ (ys : List Holding). aggregating hs key b ++ ys) (go k xs (le_of_suc-le-suc lt) at) ∙ sym (append_assoc (aggregating hs key b) (aggregated hs key (take k xs)) (aggregating hs key a))
+        ap (λ (ys : List Holding). intake_of hs key b ++ ys) (go k xs (le_of_suc-le-suc lt) at) ∙ sym (append_assoc (intake_of hs key b) (intakes hs key (take k xs)) (intake_of hs key a))
 
 pub met_at_first : (k : ℕ) (ps : List Point) (x : Crossing) (f : Fields) (p : Point) → k < length ps → p ≡ get_or ps k p → met_at 1 (take (k + 1) ps) x f ≡ met_at 1 (take k ps) x f ++ cond (watches p x) (met_by (k + 1) 1 p.selections f) []
 met_at_first k ps x f p lt at =

@@ -3,7 +3,7 @@ use Rattle.std.specs.Prelude.{◌≡◌, ◌≢◌, ◌&&◌, is_some, Bool, tru
 use Rattle.fx_boxes.specs.Boxes.{Bounds, holds}
 use Rattle.fx_tables.specs.declared.packet.Packet.{Packet}
 use Rattle.fx_tables.specs.declared.traffic.Crossing.{Crossing}
-use Rattle.fx_base.specs.Entries.{numbered}
+use Rattle.fx_base.specs.Entries.{entry_numbered}
 use Rattle.fx_tables.specs.Network.{entries}
 
 pub record Class : Type 0 where
@@ -22,18 +22,18 @@ exempts (Some class) = class.exempt
 
 -- the packets that are to be counted: those of classes that aren't exempt
 abbrev pub to_count : List Class → List Packet → List Packet
-to_count classes = filter (λ packet. not (exempts (numbered classes packet.class)))
+to_count classes = filter (λ packet. not (exempts (entry_numbered classes packet.class)))
 
 -- the crossings of a packet
 abbrev pub path : List Class → Packet → List Crossing
-path classes packet = entries (numbered (paths_of (numbered classes packet.class)) packet.path)
+path classes packet = entries (entry_numbered (paths_of (entry_numbered classes packet.class)) packet.path)
 
 -- a packet is of a class and has one of its paths
 abbrev pub IsOf : Packet → Option Class → Type 0
 IsOf packet None = ⊥
-IsOf packet (Some class) = (holds class.region packet.fields ≡ true) × (numbered class.paths packet.path ≢ None)
+IsOf packet (Some class) = (holds class.region packet.fields ≡ true) × (entry_numbered class.paths packet.path ≢ None)
 
 -- the same as a decision: whether the packet has one of the paths of the class, and fields in its region
 abbrev pub is_of : Packet → Option Class → Bool
 is_of packet None = false
-is_of packet (Some class) = holds class.region packet.fields && is_some (numbered class.paths packet.path)
+is_of packet (Some class) = holds class.region packet.fields && is_some (entry_numbered class.paths packet.path)

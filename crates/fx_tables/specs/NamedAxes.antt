@@ -9,14 +9,14 @@ use Rattle.fx_layout.specs.declared.layout.Part.{Part}
 use Rattle.fx_layout.specs.Keys.{Layout}
 use Rattle.fx_tables.specs.declared.observation.Selection.{Selection}
 use Rattle.fx_tables.specs.declared.packet.Packet.{Packet}
-use Rattle.fx_tables.specs.Network.{Net, Device, Holder, Point}
+use Rattle.fx_tables.specs.Network.{Net, DeviceEntry, Holder, Point}
 use Rattle.fx_tables.specs.Classes.{Class}
 
 -- ---- packets
 
 -- the same value on each axis that is named
-abbrev pub Agree : (Axis → Bool) → Fields → Fields → Type 0
-Agree named f g = (axis : Axis) → named axis ≡ true → field f axis ≡ field g axis
+abbrev pub AgreeOnAxes : (Axis → Bool) → Fields → Fields → Type 0
+AgreeOnAxes named f g = (axis : Axis) → named axis ≡ true → field f axis ≡ field g axis
 
 -- on each other axis a value that it can have
 abbrev pub FitsElsewhere : (Axis → Bool) → Fields → Type 0
@@ -31,7 +31,7 @@ pub record IsAlike (named : Axis → Bool) (p q : Packet) : Type 0 where
   pub octets : p.octets ≡ q.octets
   pub class : p.class ≡ q.class
   pub path : p.path ≡ q.path
-  pub agree : Agree named p.fields q.fields
+  pub agree : AgreeOnAxes named p.fields q.fields
   pub first_fits : FitsElsewhere named p.fields
   pub second_fits : FitsElsewhere named q.fields
 
@@ -58,7 +58,7 @@ PointNamesOnly named point = All (λ (s : Selection). IfSome s.region (RegionNam
 pub record NamesOnly (named : Axis → Bool) (net : Net) : Type 0 where
   pub holders : All (λ (holder : Holder). LayoutNamesOnly named holder.layout) net.holders
   pub report : LayoutNamesOnly named net.report_layout
-  pub selections : All (λ (device : Device). All (PointNamesOnly named) device.points) net.devices
+  pub selections : All (λ (device : DeviceEntry). All (PointNamesOnly named) device.points) net.devices
 
 abbrev pub ClassesNameOnly : (Axis → Bool) → List Class → Type 0
 ClassesNameOnly named classes = All (λ (class : Class). RegionNamesOnly named class.region) classes

@@ -1,8 +1,8 @@
 -- The tables of a network.
 use Rattle.std.specs.Prelude.{ℕ, Bool, ◌&&◌, ◌==◌, List, [], ◌∷◌, Option, Some, None, slice_get}
 use Rattle.std.specs.List.{list_all}
-pub use Rattle.fx_base.specs.Entries.{numbered}
-use Rattle.fx_layout.specs.Keys.{Layout, Key, reads, refines, cut}
+pub use Rattle.fx_base.specs.Entries.{entry_numbered}
+use Rattle.fx_layout.specs.Keys.{Layout, Key, reads, refines, bits_on}
 use Rattle.fx_tables.specs.declared.aggregation.MatchEntry.{MatchEntry}
 use Rattle.fx_tables.specs.declared.observation.Selection.{Selection}
 use Rattle.fx_tables.specs.declared.holder_name.HolderName.{HolderName}
@@ -21,14 +21,14 @@ pub record Holder : Type 0 where
   pub exporters : List ℕ
 
 -- where an aggregation's records are held, and its match
-pub record Aggregation : Type 0 where
+pub record AggregationEntry : Type 0 where
   pub holder : ℕ
   pub matches : List MatchEntry
 
 -- a collecting process
 pub record Process : Type 0 where
   pub exporters : List ℕ
-  pub aggregations : List Aggregation
+  pub aggregations : List AggregationEntry
 
 -- an observation point: the names of its interfaces, which way the packets go, and its selection processes
 pub record Point : Type 0 where
@@ -38,13 +38,13 @@ pub record Point : Type 0 where
   pub selections : List Selection
 
 -- a device: its points, and the places of its caches and of its collecting processes
-pub record Device : Type 0 where
+pub record DeviceEntry : Type 0 where
   pub points : List Point
   pub caches : List ℕ
   pub processes : List ℕ
 
 pub record Net : Type 0 where
-  pub devices : List Device
+  pub devices : List DeviceEntry
   pub exporters : List Exporter
   pub holders : List Holder
   pub processes : List Process
@@ -80,30 +80,30 @@ named_by (Some holder) = holder.exporters
 abbrev pub exporters_of : Net → Option Holder → List Exporter
 exporters_of net holder = at_places net.exporters (named_by holder)
 
-abbrev pub takes_with : List Holder → Key → Aggregation → Bool
+abbrev pub takes_with : List Holder → Key → AggregationEntry → Bool
 takes_with holders key aggregation =
     refines key.layout (layout_of (slice_get holders aggregation.holder))
-    && list_all (λ e. reads key.layout e.axis e.bits && cut key e.axis e.bits == e.value) aggregation.matches
+    && list_all (λ e. reads key.layout e.axis e.bits && bits_on key e.axis e.bits == e.value) aggregation.matches
 
 -- an aggregation takes a key that its own key and its match can be read from, where the match holds
-abbrev pub takes : Net → Key → Aggregation → Bool
+abbrev pub takes : Net → Key → AggregationEntry → Bool
 takes net key aggregation = takes_with net.holders key aggregation
 
 -- ---- where a holder that is named by numbers stands in the table
 
-abbrev pub points_of : Option Device → List Point
+abbrev pub points_of : Option DeviceEntry → List Point
 points_of None = []
 points_of (Some device) = device.points
 
-abbrev pub caches_of : Option Device → List ℕ
+abbrev pub caches_of : Option DeviceEntry → List ℕ
 caches_of None = []
 caches_of (Some device) = device.caches
 
-abbrev pub processes_of : Option Device → List ℕ
+abbrev pub processes_of : Option DeviceEntry → List ℕ
 processes_of None = []
 processes_of (Some device) = device.processes
 
-abbrev pub aggregations_of : Option Process → List Aggregation
+abbrev pub aggregations_of : Option Process → List AggregationEntry
 aggregations_of None = []
 aggregations_of (Some process) = process.aggregations
 
@@ -111,14 +111,14 @@ abbrev pub process_at : List Process → Option ℕ → Option Process
 process_at processes None = None
 process_at processes (Some place) = slice_get processes place
 
-abbrev pub held_at : Option Aggregation → Option ℕ
+abbrev pub held_at : Option AggregationEntry → Option ℕ
 held_at None = None
 held_at (Some aggregation) = Some aggregation.holder
 
-abbrev pub place_named : List Device → List Process → HolderName → Option ℕ
-place_named devices processes (Cache device cache) = numbered (caches_of (numbered devices device)) cache
+abbrev pub place_named : List DeviceEntry → List Process → HolderName → Option ℕ
+place_named devices processes (Cache device cache) = entry_numbered (caches_of (entry_numbered devices device)) cache
 place_named devices processes (AggregationOf device process aggregation) =
-    held_at (numbered (aggregations_of (process_at processes (numbered (processes_of (numbered devices device)) process))) aggregation)
+    held_at (entry_numbered (aggregations_of (process_at processes (entry_numbered (processes_of (entry_numbered devices device)) process))) aggregation)
 
 -- the place of the holder that the name means, if there is one
 abbrev pub holder_place : Net → HolderName → Option ℕ

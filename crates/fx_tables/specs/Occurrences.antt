@@ -7,7 +7,7 @@ use Rattle.fx_tables.specs.declared.observation.Selection.{Selection}
 use Rattle.fx_tables.specs.declared.observation.Occurrence.{Occurrence}
 use Rattle.fx_tables.specs.declared.traffic.Crossing.{Crossing}
 use Rattle.fx_tables.specs.Network.{Point, Net, points_of}
-use Rattle.fx_base.specs.Entries.{numbered}
+use Rattle.fx_base.specs.Entries.{entry_numbered}
 
 abbrev pub selects : Option Bounds → Fields → Bool
 selects None fields = false
@@ -35,4 +35,4 @@ met_at n (point ∷ points) crossing fields =
 
 -- the occurrences of a packet at a crossing
 abbrev pub occurrences : Net → Crossing → Fields → List Occurrence
-occurrences net crossing fields = met_at 1 (points_of (numbered net.devices crossing.device)) crossing fields
+occurrences net crossing fields = met_at 1 (points_of (entry_numbered net.devices crossing.device)) crossing fields

@@ -2,7 +2,7 @@
 use Rattle.std.specs.Prelude.{◌≡◌, ℕ, ◌<◌, false, All, length, Some, IfSome}
 use Rattle.fx_tables.specs.declared.observation.Selection.{Selection}
 use Rattle.fx_tables.specs.declared.holder_name.HolderName.{HolderName}
-use Rattle.fx_tables.specs.Network.{Net, Exporter, Aggregation, Process, Point, Device, holder_place}
+use Rattle.fx_tables.specs.Network.{Net, Exporter, AggregationEntry, Process, Point, DeviceEntry, holder_place}
 
 -- the holder is there, and a step can name it
 pub record IsHolder (net : Net) (holder : ℕ) : Type 0 where
@@ -16,9 +16,9 @@ pub record HasDestinations (net : Net) (e : Exporter) : Type 0 where
   pub some : e.parallel ≡ false → 0 < length e.destinations
 
 abbrev pub HasAggregations : Net → Process → Type 0
-HasAggregations net p = All (λ (a : Aggregation). IsHolder net a.holder) p.aggregations
+HasAggregations net p = All (λ (a : AggregationEntry). IsHolder net a.holder) p.aggregations
 
-abbrev pub HasCaches : Net → Device → Type 0
+abbrev pub HasCaches : Net → DeviceEntry → Type 0
 HasCaches net d = All (λ (p : Point). All (λ (s : Selection). IfSome s.holder (IsHolder net)) p.selections) d.points
 
 -- each record that is sent goes to a link that is there, and each that is held can be named by a step

@@ -16,25 +16,25 @@ pub struct MatchEntry {
 
 /// An aggregation (RFC 7015): the place of its holder, from 0, and its match.
 #[derive(Debug, Drop)]
-pub struct Aggregation {
+pub struct AggregationEntry {
     pub(crate) holder: usize,
     pub(crate) matches: Vec<MatchEntry>,
 }
 
-impl Model for Aggregation {
+impl Model for AggregationEntry {
     ghost use Rattle.fx_tables.specs.Network as network;
 
-    ghost Value = { network.Aggregation };
+    ghost Value = { network.AggregationEntry };
 
     ghost view = { λ a. record { holder = a.holder; matches = a.matches.items } };
 }
 
-impl Aggregation {
+impl AggregationEntry {
     /// An aggregation that takes in the records in which all these entries hold.
-    pub fn new(holder: usize, matches: Vec<MatchEntry>) -> Aggregation
+    pub fn new(holder: usize, matches: Vec<MatchEntry>) -> AggregationEntry
         ensures { result ≡ record { holder = holder; matches = matches.items } }
     {
-        Aggregation { holder, matches }
+        AggregationEntry { holder, matches }
     }
 
     /// The place of its holder.

@@ -7,16 +7,16 @@ use std::marker::Model;
 /// A device: its observation points, and the places of its caches in the table of holders and of its
 /// collecting processes in the table of processes, from 0.
 #[derive(Debug, Drop)]
-pub struct Device {
+pub struct DeviceEntry {
     pub(crate) points: Vec<Point>,
     pub(crate) caches: Vec<usize>,
     pub(crate) processes: Vec<usize>,
 }
 
-impl Model for Device {
+impl Model for DeviceEntry {
     ghost use Rattle.fx_tables.specs.Network as network;
 
-    ghost Value = { network.Device };
+    ghost Value = { network.DeviceEntry };
 
     ghost view = { λ d. record {
       points = d.points.items;
@@ -26,9 +26,9 @@ impl Model for Device {
     } };
 }
 
-impl Device {
+impl DeviceEntry {
     /// A device with these points, caches and collecting processes.
-    pub fn new(points: Vec<Point>, caches: Vec<usize>, processes: Vec<usize>) -> Device
+    pub fn new(points: Vec<Point>, caches: Vec<usize>, processes: Vec<usize>) -> DeviceEntry
         ensures { result ≡ record {
           points = points.items;
           caches = caches.items;
@@ -36,7 +36,7 @@ impl Device {
               processes.items;
         } }
     {
-        Device {
+        DeviceEntry {
             points,
             caches,
             processes,

@@ -18,8 +18,8 @@ mod record;
 mod takers;
 mod traffic;
 
-pub use aggregation::{Aggregation, MatchEntry};
-pub use device::Device;
+pub use aggregation::{AggregationEntry, MatchEntry};
+pub use device::DeviceEntry;
 pub use exporter::Exporter;
 pub use holder::Holder;
 pub use holder_name::HolderName;

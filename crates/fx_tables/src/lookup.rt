@@ -3,8 +3,8 @@ ghost use Rattle.std.specs.Prelude.{◌≡◌, ◌↔◌, IsTrue, slice_get};
 ghost use Rattle.fx_tables.specs.Classes as traffic;
 ghost use Rattle.fx_tables.specs.Network as network;
 
-use crate::aggregation::Aggregation;
-use crate::device::Device;
+use crate::aggregation::AggregationEntry;
+use crate::device::DeviceEntry;
 use crate::holder::Holder;
 use crate::holder_name::HolderName;
 use crate::net::Net;
@@ -12,7 +12,7 @@ use crate::observation::Point;
 use crate::packet::Packet;
 use crate::process::Process;
 use crate::traffic::{Class, Classes, Crossing};
-use fx_base::numbered;
+use fx_base::entry_numbered;
 use fx_layout::Layout;
 
 /// The layout of the records of the holder at this place, and the empty one where there is none.
@@ -36,37 +36,37 @@ fn named_by(holders: &[Holder], place: usize) -> &[usize]
 }
 
 /// The observation points of the device of this number.
-pub(crate) fn points_of(devices: &[Device], number: u64) -> &[Point]
-    ensures { result.now ≡ network.points_of (network.numbered devices.now number) }
+pub(crate) fn points_of(devices: &[DeviceEntry], number: u64) -> &[Point]
+    ensures { result.now ≡ network.points_of (network.entry_numbered devices.now number) }
 {
-    match numbered(devices, number) {
+    match entry_numbered(devices, number) {
         None => &[],
         Some(device) => device.points.as_slice(),
     }
 }
 
 /// The caches of the device of this number.
-fn caches_of(devices: &[Device], number: u64) -> &[usize]
-    ensures { result.now ≡ network.caches_of (network.numbered devices.now number) }
+fn caches_of(devices: &[DeviceEntry], number: u64) -> &[usize]
+    ensures { result.now ≡ network.caches_of (network.entry_numbered devices.now number) }
 {
-    match numbered(devices, number) {
+    match entry_numbered(devices, number) {
         None => &[],
         Some(device) => device.caches.as_slice(),
     }
 }
 
 /// The collecting processes of the device of this number.
-fn processes_of(devices: &[Device], number: u64) -> &[usize]
-    ensures { result.now ≡ network.processes_of (network.numbered devices.now number) }
+fn processes_of(devices: &[DeviceEntry], number: u64) -> &[usize]
+    ensures { result.now ≡ network.processes_of (network.entry_numbered devices.now number) }
 {
-    match numbered(devices, number) {
+    match entry_numbered(devices, number) {
         None => &[],
         Some(device) => device.processes.as_slice(),
     }
 }
 
 /// The aggregations of the collecting process at this place.
-fn aggregations_at(processes: &[Process], place: Option<usize>) -> &[Aggregation]
+fn aggregations_at(processes: &[Process], place: Option<usize>) -> &[AggregationEntry]
     ensures { result.now ≡ network.aggregations_of (network.process_at processes.now place) }
 {
     match place {
@@ -79,27 +79,27 @@ fn aggregations_at(processes: &[Process], place: Option<usize>) -> &[Aggregation
 }
 
 /// The place of the holder of the aggregation of this number.
-fn holder_of(aggregations: &[Aggregation], number: u64) -> Option<usize>
-    ensures { result ≡ network.held_at (network.numbered aggregations.now number) }
+fn holder_of(aggregations: &[AggregationEntry], number: u64) -> Option<usize>
+    ensures { result ≡ network.held_at (network.entry_numbered aggregations.now number) }
 {
-    match numbered(aggregations, number) {
+    match entry_numbered(aggregations, number) {
         None => None,
         Some(aggregation) => Some(aggregation.holder),
     }
 }
 
 /// The place of the holder of this name.
-fn place_of_holder(devices: &[Device], processes: &[Process], name: HolderName) -> Option<usize>
+fn place_of_holder(devices: &[DeviceEntry], processes: &[Process], name: HolderName) -> Option<usize>
     ensures { result ≡ network.place_named devices.now processes.now name }
 {
     match name {
-        HolderName::Cache { device, cache } => numbered(caches_of(devices, device), cache).copied(),
+        HolderName::Cache { device, cache } => entry_numbered(caches_of(devices, device), cache).copied(),
         HolderName::Aggregation {
             device,
             process,
             aggregation,
         } => {
-            let place = numbered(processes_of(devices, device), process).copied();
+            let place = entry_numbered(processes_of(devices, device), process).copied();
             holder_of(aggregations_at(processes, place), aggregation)
         }
     }
@@ -109,9 +109,9 @@ fn place_of_holder(devices: &[Device], processes: &[Process], name: HolderName) 
 fn path_of<'a>(classes: &'a [Class], packet: &Packet) -> &'a [Crossing]
     ensures { result.now ≡ traffic.path classes.now packet.now }
 {
-    match numbered(classes, packet.class) {
+    match entry_numbered(classes, packet.class) {
         None => &[],
-        Some(class) => match numbered(class.paths(), packet.path) {
+        Some(class) => match entry_numbered(class.paths(), packet.path) {
             None => &[],
             Some(path) => path.as_slice(),
         },
@@ -137,7 +137,7 @@ impl Net {
 
     /// The observation points of the device of this number, from 1; none where there is none.
     pub fn points_of(&self, device: u64) -> &[Point]
-        ensures { result.now ≡ network.points_of (network.numbered self.now.devices device) }
+        ensures { result.now ≡ network.points_of (network.entry_numbered self.now.devices device) }
     {
         points_of(self.devices.as_slice(), device)
     }
@@ -161,9 +161,9 @@ impl Classes {
 
     /// Whether a packet is of an exempt class, by its number, from 1: it must never be counted.
     pub fn exempts(&self, packet: &Packet) -> bool
-        ensures { result ≡ traffic.exempts (network.numbered self.now packet.now.class) }
+        ensures { result ≡ traffic.exempts (network.entry_numbered self.now packet.now.class) }
     {
-        match numbered(self.as_slice(), packet.class) {
+        match entry_numbered(self.as_slice(), packet.class) {
             None => false,
             Some(class) => class.exempt(),
         }
@@ -173,14 +173,14 @@ impl Classes {
     /// from 1, and the class's region holds its fields.
     pub fn contains(&self, packet: &Packet) -> bool
         ensures value { result ≡ traffic.is_of packet.now
-            (network.numbered self.now packet.now.class) }
+            (network.entry_numbered self.now packet.now.class) }
         ensures meaning { IsTrue result
-            ↔ traffic.IsOf packet.now (network.numbered self.now packet.now.class) }
+            ↔ traffic.IsOf packet.now (network.entry_numbered self.now packet.now.class) }
     {
-        match numbered(self.as_slice(), packet.class) {
+        match entry_numbered(self.as_slice(), packet.class) {
             None => false,
             Some(class) => {
-                class.holds(&packet.fields) && numbered(class.paths(), packet.path).is_some()
+                class.holds(&packet.fields) && entry_numbered(class.paths(), packet.path).is_some()
             }
         }
     }

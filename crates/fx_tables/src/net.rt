@@ -2,7 +2,7 @@
 ghost use Rattle.std.specs.Prelude.{◌≡◌};
 ghost use Rattle.fx_layout.specs.Keys.{IsLayout};
 
-use crate::device::Device;
+use crate::device::DeviceEntry;
 use crate::exporter::Exporter;
 use crate::holder::Holder;
 use crate::process::Process;
@@ -12,7 +12,7 @@ use std::marker::Model;
 /// A network: its devices, and the tables of what they name by place, from 0.
 #[derive(Debug, Drop)]
 pub struct Net {
-    pub(crate) devices: Vec<Device>,
+    pub(crate) devices: Vec<DeviceEntry>,
     pub(crate) exporters: Vec<Exporter>,
     pub(crate) holders: Vec<Holder>,
     pub(crate) processes: Vec<Process>,
@@ -41,7 +41,7 @@ impl Net {
     /// The network with these tables. `links` has the place of the collecting process to which each link
     /// leads; `report` is the place of the collecting process that tallies, under the layout `report_layout`.
     pub fn new(
-        devices: Vec<Device>,
+        devices: Vec<DeviceEntry>,
         exporters: Vec<Exporter>,
         holders: Vec<Holder>,
         processes: Vec<Process>,
@@ -72,7 +72,7 @@ impl Net {
     }
 
     /// The devices.
-    pub fn devices(&self) -> &[Device]
+    pub fn devices(&self) -> &[DeviceEntry]
         ensures { result.now ≡ self.now.devices }
     {
         self.devices.as_slice()

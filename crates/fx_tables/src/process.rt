@@ -1,7 +1,7 @@
 //! Collecting processes.
 ghost use Rattle.std.specs.Prelude.{◌≡◌};
 
-use crate::aggregation::Aggregation;
+use crate::aggregation::AggregationEntry;
 use std::marker::Model;
 
 /// A collecting process (RFC 6728, section 4.5): the places of its exporting processes, from 0, and its
@@ -9,7 +9,7 @@ use std::marker::Model;
 #[derive(Debug, Drop)]
 pub struct Process {
     pub(crate) exporters: Vec<usize>,
-    pub(crate) aggregations: Vec<Aggregation>,
+    pub(crate) aggregations: Vec<AggregationEntry>,
 }
 
 impl Model for Process {
@@ -26,7 +26,7 @@ impl Model for Process {
 
 impl Process {
     /// A collecting process that names these exporting processes and has these aggregations.
-    pub fn new(exporters: Vec<usize>, aggregations: Vec<Aggregation>) -> Process
+    pub fn new(exporters: Vec<usize>, aggregations: Vec<AggregationEntry>) -> Process
         ensures { result ≡ record {
           exporters = exporters.items;
           aggregations =
@@ -47,7 +47,7 @@ impl Process {
     }
 
     /// Its aggregations.
-    pub fn aggregations(&self) -> &[Aggregation]
+    pub fn aggregations(&self) -> &[AggregationEntry]
         ensures { result.now ≡ self.now.aggregations }
     {
         self.aggregations.as_slice()

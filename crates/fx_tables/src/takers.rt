@@ -2,9 +2,9 @@
 ghost use Rattle.std.specs.Prelude.{◌≡◌, ◌++◌, ◌&&◌, ◌==◌, IfOk, OnOk};
 ghost use Rattle.std.specs.List.{list_all};
 ghost use Rattle.fx_layout.specs.Keys as keys;
-ghost use Rattle.fx_tables.specs.Takers.{aggregating, aggregated};
+ghost use Rattle.fx_tables.specs.Takers.{intake_of, intakes};
 
-use crate::aggregation::{Aggregation, MatchEntry};
+use crate::aggregation::{AggregationEntry, MatchEntry};
 use crate::holder::Holder;
 use crate::holding::Holding;
 use crate::lookup::layout_at;
@@ -16,21 +16,21 @@ use std::alloc::{AllocError, Global};
 /// Whether the key has the leading bits of all these entries, with their values.
 fn matches(key: &Key, entries: &[MatchEntry]) -> bool
     ensures { result ≡ list_all (λ e. keys.reads key.now.layout e.axis e.bits
-        && keys.cut key.now e.axis e.bits == e.value) entries.now }
+        && keys.bits_on key.now e.axis e.bits == e.value) entries.now }
 {
     entries.iter().all(|entry| key.layout().reads(entry.axis, entry.bits)
-        && key.cut(entry.axis, entry.bits) == entry.value)
+        && key.bits_on(entry.axis, entry.bits) == entry.value)
 }
 
 /// The aggregation comes last with the projected key, if it takes the key.
-fn push_taken(
+fn push_intake(
     holdings: &mut Vec<Holding>,
     holders: &[Holder],
     key: &Key,
-    aggregation: &Aggregation,
+    aggregation: &AggregationEntry,
 ) -> Result<(), AllocError>
     ensures { OnOk result (holdings.new.items
-        ≡ holdings.old.items ++ aggregating holders.now key.now aggregation.now) }
+        ≡ holdings.old.items ++ intake_of holders.now key.now aggregation.now) }
 {
     if let Some(projected) = key.project(&layout_at(holders, aggregation.holder)) {
         if matches(key, aggregation.matches.as_slice()) {
@@ -44,18 +44,18 @@ fn push_taken(
 }
 
 /// The aggregations that take the key, with the projected keys.
-fn taken(
+fn intakes_of(
     alloc: Global,
     holders: &[Holder],
     key: &Key,
-    aggregations: &[Aggregation],
+    aggregations: &[AggregationEntry],
 ) -> Result<Vec<Holding>, AllocError>
     ensures { IfOk result (λ holdings. holdings.items
-        ≡ aggregated holders.now key.now aggregations.now) }
+        ≡ intakes holders.now key.now aggregations.now) }
 {
     let mut holdings: Vec<Holding> = Vec::new(alloc);
     for aggregation in aggregations {
-        push_taken(&mut holdings, holders, key, aggregation)?;
+        push_intake(&mut holdings, holders, key, aggregation)?;
     }
     Ok(holdings)
 }
@@ -70,8 +70,8 @@ impl Net {
         key: &Key,
     ) -> Result<Vec<Holding>, AllocError>
         ensures { IfOk result (λ holdings. holdings.items
-            ≡ aggregated self.now.holders key.now process.now.aggregations) }
+            ≡ intakes self.now.holders key.now process.now.aggregations) }
     {
-        taken(alloc, self.holders(), key, process.aggregations())
+        intakes_of(alloc, self.holders(), key, process.aggregations())
     }
 }

@@ -4,18 +4,18 @@ use crate::documents::{Frame, Kind, look_at_rows};
 use crate::plan::plan_of;
 use fx_elements::{Axis, Element};
 use fx_tables::Net;
-use fx_topology::{Network, read_network};
+use fx_topology::{NetworkDocument, read_network};
 use serde_json::Value;
 use std::alloc::Global;
 use std::test::Fail;
 
 /// The network that a document means.
-fn network_of(alloc: Global, text: &str) -> Result<Network, Fail> {
+fn network_of(alloc: Global, text: &str) -> Result<NetworkDocument, Fail> {
     Ok(read_network(alloc, &Value::from_str(alloc, text)?)?)
 }
 
 /// Whether the two devices of the network are the meter and the collector.
-fn has_devices(network: &Network) -> bool {
+fn has_devices(network: &NetworkDocument) -> bool {
     let [meter, collector] = network.devices.as_slice() else {
         return false;
     };
@@ -26,7 +26,7 @@ fn has_devices(network: &Network) -> bool {
 }
 
 /// Whether its one link leads from the one to the other.
-fn has_link(network: &Network) -> bool {
+fn has_link(network: &NetworkDocument) -> bool {
     let [link] = network.links.as_slice() else {
         return false;
     };
@@ -38,7 +38,7 @@ fn has_link(network: &Network) -> bool {
 }
 
 /// Whether the report at the collector has sources for its key.
-fn has_report(network: &Network) -> bool {
+fn has_report(network: &NetworkDocument) -> bool {
     let [field] = network.report.key.as_slice() else {
         return false;
     };

@@ -23,7 +23,7 @@ fn outcome(alloc: Global, text: &str) -> Result<String, Fail> {
         Ok(plan) => {
             plans_have_complete_runs(&plan);
             documents_name_axes();
-            Ok(format!(in alloc; "{:?}", plan.ranked())?)
+            Ok(format!(in alloc; "{:?}", plan.upwards())?)
         }
         Err(Fault { number, place }) => Ok(format!(in alloc; "{number} {place}")?),
     }
@@ -74,14 +74,14 @@ fn ranks_feeders_first_and_refuses_cycles(rt: HostRuntime) -> Result<(), Fail> {
 /// Whether the plan's order of ranks is found anew in its tables, and its report has a layout.
 fn is_ordered(plan: &Plan, alloc: Global) -> Result<bool, AllocError> {
     let found = rank_order(alloc, plan.net())?;
-    Ok(found.order.as_slice() == plan.ranked() && plan.network().report.layout().is_some())
+    Ok(found.order.as_slice() == plan.upwards() && plan.network().report.layout().is_some())
 }
 
 #[test]
 fn orders_by_falling_rank(rt: HostRuntime) -> Result<(), Fail> {
     let text = linked(rt.alloc(), &[("c2", "c1")])?;
     let plan = plan_of(rt.alloc(), text.as_str())?;
-    assert!(rt; plan.rank(0) == Some(1) && plan.order() == [2, 0, 1].as_slice());
+    assert!(rt; plan.rank(0) == Some(1) && plan.downwards() == [2, 0, 1].as_slice());
     let (third, fourth) = (
         plan.exporter_place(rt.alloc(), 3, 1)?,
         plan.exporter_place(rt.alloc(), 4, 1)?,

@@ -4,7 +4,7 @@ use Rattle.std.specs.Prelude.{Contains}
 use Rattle.std.specs.List.{AllByRecursion}
 use Rattle.fx_elements.specs.declared.axis.Axis.TheVariants.{Source}
 use Rattle.fx_layout.specs.Keys.{Layout, Fits}
-use Rattle.fx_tables.specs.Network.{Device, Exporter, Holder, Aggregation, Process, exporters_of, Net, layout_of, aggregations_of}
+use Rattle.fx_tables.specs.Network.{DeviceEntry, Exporter, Holder, AggregationEntry, Process, exporters_of, Net, layout_of, aggregations_of}
 use Rattle.fx_tables.specs.Ranks.{RisesTo, Rises, AllRise, ProcessRises}
 use Rattle.fx_tables.specs.Orders.{Descends}
 use Rattle.fx_tables.specs.Matches.{HasEntries}
@@ -30,7 +30,7 @@ all_one : {A : Type 0} (P : A → Type 0) (x : A) → P x → All P (x ∷ [])
 all_one P x p zero d lt = p
 all_one P x p (suc k) d lt = absurd (omega arith)
 
-module _ (devices : List Device) (report_layout a b c : Layout) where
+module _ (devices : List DeviceEntry) (report_layout a b c : Layout) where
   abbrev net_of : List Exporter → List Holder → List Process → List ℕ → ℕ → Net
   net_of exporters holders processes links report = record { devices = devices; exporters = exporters; holders = holders; processes = processes; links = links; report = report; report_layout = report_layout }
 
@@ -40,17 +40,17 @@ module _ (devices : List Device) (report_layout a b c : Layout) where
   abbrev rank : ℕ → ℕ
   rank p = min p 2
 
-  feeds : (from to : ℕ) (process : Process) (e : Exporter) (a : Aggregation) → process ≡ record { exporters = []; aggregations = a ∷ [] } → exporters_of chain (slice_get chain.holders a.holder) ≡ e ∷ [] → e.destinations ≡ Some to ∷ [] → slice_get chain.links to ≡ Some to → rank from < rank to → ProcessRises rank chain from (Some process)
+  feeds : (from to : ℕ) (process : Process) (e : Exporter) (a : AggregationEntry) → process ≡ record { exporters = []; aggregations = a ∷ [] } → exporters_of chain (slice_get chain.holders a.holder) ≡ e ∷ [] → e.destinations ≡ Some to ∷ [] → slice_get chain.links to ≡ Some to → rank from < rank to → ProcessRises rank chain from (Some process)
   feeds from to process e a is of sends leads up =
       let link : Rises rank chain from (Some to) = subst (RisesTo rank from) (sym leads) up in
       let one : All (Rises rank chain from) e.destinations = subst (λ (ds : List (Option ℕ)). All (Rises rank chain from) ds) (sym sends) (all_one (Rises rank chain from) (Some to) link) in
       let all : AllRise rank chain from (exporters_of chain (slice_get chain.holders a.holder)) = subst (λ (es : List Exporter). AllRise rank chain from es) (sym of) (all_one (λ (x : Exporter). All (Rises rank chain from) x.destinations) e one) in
-      subst (λ (p : Process). ProcessRises rank chain from (Some p)) (sym is) (none_at (λ (x : Exporter). All (Rises rank chain from) x.destinations), all_one (λ (x : Aggregation). AllRise rank chain from (exporters_of chain (slice_get chain.holders x.holder))) a all)
+      subst (λ (p : Process). ProcessRises rank chain from (Some p)) (sym is) (none_at (λ (x : Exporter). All (Rises rank chain from) x.destinations), all_one (λ (x : AggregationEntry). AllRise rank chain from (exporters_of chain (slice_get chain.holders x.holder))) a all)
 
   rises : (process : ℕ) → ProcessRises rank chain process (slice_get collecting process)
   rises zero = feeds 0 1 _ (record { parallel = true; destinations = Some 1 ∷ [] }) (record { holder = 1; matches = [] }) refl refl refl refl (omega arith)
   rises (suc zero) = feeds 1 2 _ (record { parallel = true; destinations = Some 2 ∷ [] }) (record { holder = 2; matches = record { axis = Source; bits = 24; value = 0x0a0102 } ∷ [] }) refl refl refl refl (omega arith)
-  rises (suc (suc zero)) = (none_at (λ (x : Exporter). All (Rises rank chain 2) x.destinations), none_at (λ (x : Aggregation). AllRise rank chain 2 (exporters_of chain (slice_get chain.holders x.holder))))
+  rises (suc (suc zero)) = (none_at (λ (x : Exporter). All (Rises rank chain 2) x.destinations), none_at (λ (x : AggregationEntry). AllRise rank chain 2 (exporters_of chain (slice_get chain.holders x.holder))))
   rises (suc (suc (suc p))) = tt
 
   module _ (fits_a : Fits a) (fits_b : Fits b) (fits_c : Fits c) where

@@ -5,8 +5,8 @@ use Rattle.std.specs.List.{AllByRecursion}
 use Rattle.fx_layout.specs.Keys.{Layout, Fits}
 use Rattle.fx_tables.specs.declared.observation.Selection.{Selection}
 use Rattle.fx_tables.specs.declared.holder_name.HolderName.TheVariants.{Cache}
-use Rattle.fx_tables.specs.Network.{Device, Point, Exporter, Holder, Aggregation, Process, Net, exporters_of, layout_of, aggregations_of}
-use Rattle.fx_base.specs.Entries.{numbered}
+use Rattle.fx_tables.specs.Network.{DeviceEntry, Point, Exporter, Holder, AggregationEntry, Process, Net, exporters_of, layout_of, aggregations_of}
+use Rattle.fx_base.specs.Entries.{entry_numbered}
 use Rattle.fx_tables.specs.Ranks.{Rises, AllRise, ProcessRises}
 use Rattle.fx_tables.specs.Orders.{Descends}
 use Rattle.fx_tables.specs.Matches.{HasEntries}
@@ -41,7 +41,7 @@ cache = record { layout = []; exporters = 0 ∷ [] } ∷ []
 abbrev pub one_layout : Numbering
 one_layout = record { layouts = [] ∷ []; numbers = 0 ∷ [] }
 
-module _ (devices : List Device) (first : Exporter) where
+module _ (devices : List DeviceEntry) (first : Exporter) where
   abbrev pub doubling : Net
   doubling = record { devices = devices; exporters = first ∷ second ∷ []; holders = cache; processes = collectors; links = 0 ∷ 0 ∷ 1 ∷ 1 ∷ []; report = 1; report_layout = [] }
 
@@ -51,11 +51,11 @@ module _ (devices : List Device) (first : Exporter) where
   rises : (process : ℕ) → ProcessRises rank doubling process (slice_get collectors process)
   rises zero = (
     all_one (λ (e : Exporter). All (Rises rank doubling 0) e.destinations) second (all_two (Rises rank doubling 0) (Some 2) (Some 3) (omega arith) (omega arith)),
-    all_none (λ (a : Aggregation). AllRise rank doubling 0 (exporters_of doubling (slice_get cache a.holder))),
+    all_none (λ (a : AggregationEntry). AllRise rank doubling 0 (exporters_of doubling (slice_get cache a.holder))),
   )
   rises (suc zero) = (
     all_none (λ (e : Exporter). All (Rises rank doubling 1) e.destinations),
-    all_none (λ (a : Aggregation). AllRise rank doubling 1 (exporters_of doubling (slice_get cache a.holder))),
+    all_none (λ (a : AggregationEntry). AllRise rank doubling 1 (exporters_of doubling (slice_get cache a.holder))),
   )
   rises (suc (suc p)) = tt
 
@@ -99,13 +99,13 @@ module _ (devices : List Device) (first : Exporter) where
     entries = entries;
   }
 
-abbrev pub IsMeter : Device → Type 0
+abbrev pub IsMeter : DeviceEntry → Type 0
 IsMeter d = (d.caches ≡ 0 ∷ []) × All (λ (p : Point). All (λ (s : Selection). s.holder ≡ Some 0) p.selections) d.points
 
 abbrev pub InRange : Option ℕ → Type 0
 InRange d = IfSome d (λ link. link < 4)
 
-module _ (d : Device) (is : IsMeter d) (parallel : Bool) (one other : Option ℕ) (here : InRange one) (there : InRange other) where
+module _ (d : DeviceEntry) (is : IsMeter d) (parallel : Bool) (one other : Option ℕ) (here : InRange one) (there : InRange other) where
   abbrev first : Exporter
   first = record { parallel = parallel; destinations = one ∷ other ∷ [] }
 
@@ -113,16 +113,16 @@ module _ (d : Device) (is : IsMeter d) (parallel : Bool) (one other : Option ℕ
   net = doubling (d ∷ []) first
 
   held : IsHolder net 0
-  held = record { name = Cache 1 1; named = ap (λ cs. numbered cs 1) is.0; there = omega arith }
+  held = record { name = Cache 1 1; named = ap (λ cs. entry_numbered cs 1) is.0; there = omega arith }
 
   doubling_runs : IsRunnable net
   doubling_runs = record {
     destinations = all_two (HasDestinations net) first second (record { links = all_two InRange one other here there; some = λ e. omega arith }) (record { links = all_two InRange (Some 2) (Some 3) (omega arith) (omega arith); some = λ e. omega arith });
-    aggregations = all_two (HasAggregations net) _ _ (all_none (λ (a : Aggregation). IsHolder net a.holder)) (all_none (λ (a : Aggregation). IsHolder net a.holder));
+    aggregations = all_two (HasAggregations net) _ _ (all_none (λ (a : AggregationEntry). IsHolder net a.holder)) (all_none (λ (a : AggregationEntry). IsHolder net a.holder));
     caches = all_one (HasCaches net) d (on_all (λ (p : Point). All (λ (s : Selection). s.holder ≡ Some 0) p.selections) (λ (p : Point). All (λ (s : Selection). IfSome s.holder (IsHolder net)) p.selections) d.points (λ p h. on_all (λ (s : Selection). s.holder ≡ Some 0) (λ (s : Selection). IfSome s.holder (IsHolder net)) p.selections (λ s e. subst (λ o. IfSome o (IsHolder net)) (sym e) held) h) is.1);
   }
 
-one_of : (ds : List Device) → length ds ≡ 1 → All IsMeter ds → (d : Device) × (ds ≡ d ∷ []) × IsMeter d
+one_of : (ds : List DeviceEntry) → length ds ≡ 1 → All IsMeter ds → (d : DeviceEntry) × (ds ≡ d ∷ []) × IsMeter d
 one_of [] e h = absurd (omega arith)
 one_of (d ∷ []) e h = (d, refl, h 0 d (omega arith))
 one_of (d ∷ x ∷ ds) e h = absurd (omega arith)
@@ -134,4 +134,4 @@ pub is_runnable : (n : Net) (first : Exporter) (parallel : Bool) (one other : Op
 is_runnable n first parallel one other e f size meters here there =
     let m = one_of n.devices size meters in
     let x : Exporter = record { parallel = parallel; destinations = one ∷ other ∷ [] } in
-    subst (λ (m : Net). IsRunnable m) (sym e) (subst (λ (ds : List Device). IsRunnable (doubling ds first)) (sym m.1) (subst (λ (y : Exporter). IsRunnable (doubling (m.0 ∷ []) y)) (sym f) (doubling_runs m.0 m.2 parallel one other here there)))
+    subst (λ (m : Net). IsRunnable m) (sym e) (subst (λ (ds : List DeviceEntry). IsRunnable (doubling ds first)) (sym m.1) (subst (λ (y : Exporter). IsRunnable (doubling (m.0 ∷ []) y)) (sym f) (doubling_runs m.0 m.2 parallel one other here there)))

@@ -3,7 +3,7 @@ use Rattle.std.proofs.Common.{◌≡◌, ℕ, zero, suc, ◌<◌, List, [], ◌�
 use Rattle.std.specs.Prelude.{Contains}
 use Rattle.std.specs.List.{AllByRecursion}
 use Rattle.fx_layout.specs.Keys.{Layout, Fits}
-use Rattle.fx_tables.specs.Network.{Device, Exporter, Holder, Process, Net, layout_of, aggregations_of}
+use Rattle.fx_tables.specs.Network.{DeviceEntry, Exporter, Holder, Process, Net, layout_of, aggregations_of}
 use Rattle.fx_tables.specs.Ranks.{ProcessRises}
 use Rattle.fx_tables.specs.Matches.{HasEntries}
 use Rattle.fx_leaf.specs.Tables.{Numbering, number_of_layout, Tables, AreTables}
@@ -17,7 +17,7 @@ one_process = record { exporters = []; aggregations = [] } ∷ []
 abbrev pub one_layout : Numbering
 one_layout = record { layouts = [] ∷ []; numbers = 0 ∷ 0 ∷ [] }
 
-module _ (devices : List Device) (exporters : List Exporter) (links : List ℕ) (report_layout : Layout) where
+module _ (devices : List DeviceEntry) (exporters : List Exporter) (links : List ℕ) (report_layout : Layout) where
   abbrev net_of : List Holder → List Process → ℕ → Net
   net_of holders processes report = record { devices = devices; exporters = exporters; holders = holders; processes = processes; links = links; report = report; report_layout = report_layout }
 

@@ -9,7 +9,7 @@ use fx_boxes::Region;
 use fx_elements::Axis;
 use fx_layout::Layout;
 use fx_leaf::{Counted, Scratch, Tables, cut, fate};
-use fx_tables::{Aggregation, Crossing, Device, Exporter, Holder, MatchEntry, Net, Process};
+use fx_tables::{AggregationEntry, Crossing, DeviceEntry, Exporter, Holder, MatchEntry, Net, Process};
 use std::alloc::Global;
 use std::test::Fail;
 
@@ -44,7 +44,7 @@ fn first(alloc: Global) -> Result<Process, Fail>
           record { holder = 1; matches = [] } ∷ [];
     }) }
 {
-    let aggregation = Aggregation::new(1, Vec::new(alloc));
+    let aggregation = AggregationEntry::new(1, Vec::new(alloc));
     Ok(Process::new(Vec::new(alloc), vec![in alloc; aggregation]?))
 }
 
@@ -65,7 +65,7 @@ fn second(alloc: Global) -> Result<Process, Fail>
         bits: 24,
         value: 0x0a0102,
     };
-    let aggregation = Aggregation::new(2, vec![in alloc; entry]?);
+    let aggregation = AggregationEntry::new(2, vec![in alloc; entry]?);
     Ok(Process::new(Vec::new(alloc), vec![in alloc; aggregation]?))
 }
 
@@ -90,7 +90,7 @@ fn processes(alloc: Global) -> Result<Vec<Process>, Fail>
 }
 
 /// One meter of all packets.
-fn devices(alloc: Global) -> Result<Vec<Device>, Fail> {
+fn devices(alloc: Global) -> Result<Vec<DeviceEntry>, Fail> {
     Ok(vec![in alloc; meter(alloc, Region::whole(), 0, false)?]?)
 }
 

@@ -6,18 +6,18 @@ use crate::parts::{by_source, collector, exporter, holder, process};
 use fx_elements::Axis;
 use fx_layout::Layout;
 use fx_leaf::{Counted, Judgement, Scratch, Tables, cut, fate, judge, never};
-use fx_tables::{Crossing, Device, Exporter, Holder, Net};
+use fx_tables::{Crossing, DeviceEntry, Exporter, Holder, Net};
 use std::alloc::Global;
 use std::test::Fail;
 
 /// A meter of the sources from one to another, into the cache at this place.
-fn half(alloc: Global, low: u128, high: u128, cache: usize) -> Result<Device, Fail> {
+fn half(alloc: Global, low: u128, high: u128, cache: usize) -> Result<DeviceEntry, Fail> {
     meter(alloc, sources(low, high)?, cache, false)
 }
 
 /// A meter of the sources below 128.0.0.0, another of those from there on, and a collector that tallies what both
 /// send.
-fn devices(alloc: Global) -> Result<Vec<Device>, Fail> {
+fn devices(alloc: Global) -> Result<Vec<DeviceEntry>, Fail> {
     Ok(vec![in alloc;
         half(alloc, 0, 0x7fff_ffff, 0)?,
         collector(alloc)?,

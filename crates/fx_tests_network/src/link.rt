@@ -116,7 +116,7 @@ fn ends_a_message_at_64_records(rt: HostRuntime) -> Result<(), Fail> {
     }
     link.finish(0, 1, &mut links)?;
     // A message of 64 records has 16, 20 and 4 + 64 * 20 octets, and one of a record 16 and 4 + 20.
-    assert!(rt; link.queued() == 1320 + 40);
+    assert!(rt; link.queue_length() == 1320 + 40);
     Ok(())
 }
 
@@ -132,17 +132,17 @@ fn carries_records_across_a_cut(rt: HostRuntime) -> Result<(), Fail> {
     )?;
     link.finish(0, 1, &mut links)?;
     // The template has four fields, and the record 16, 1 and 16 octets.
-    if link.queued() != 16 + 24 + 4 + 33 {
+    if link.queue_length() != 16 + 24 + 4 + 33 {
         return Err("octets".into());
     }
     link.carry(76)?;
     let early = link.next_record().is_some();
-    if link.queued() < 1 {
+    if link.queue_length() < 1 {
         return Err("octet".into());
     }
     link.carry(1)?;
     let arrived = link.next_record().ok_or("record")?;
-    assert!(rt; !early && arrived.key.cut(Axis::Destination6, 48) == 0x2001_0db8_0007);
+    assert!(rt; !early && arrived.key.bits_on(Axis::Destination6, 48) == 0x2001_0db8_0007);
     assert!(rt; arrived.counts.packets == 3 && arrived.counts.octets == 5);
     Ok(())
 }

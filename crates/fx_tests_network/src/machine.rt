@@ -9,7 +9,7 @@ use fx_machine::{
 };
 use fx_run_text::{Choices, Step};
 use fx_tables::{
-    Aggregation, Class, Classes, Device, HolderName, MatchEntry, Net, Packet, Path, Process,
+    AggregationEntry, Class, Classes, DeviceEntry, HolderName, MatchEntry, Net, Packet, Path, Process,
 };
 use std::alloc::Global;
 use std::test::Fail;
@@ -21,7 +21,7 @@ const CACHE: HolderName = HolderName::Cache {
 };
 
 /// A meter at one interface, and a collector.
-fn devices(alloc: Global) -> Result<Vec<Device>, Fail> {
+fn devices(alloc: Global) -> Result<Vec<DeviceEntry>, Fail> {
     Ok(vec![in alloc; meter(alloc, Region::whole(), 0, true)?, collector(alloc)?]?)
 }
 
@@ -254,7 +254,7 @@ fn takers(net: &Net, alloc: Global, source: u128) -> Result<usize, Fail> {
         bits: 8,
         value: 10,
     };
-    let aggregation = Aggregation::new(0, vec![in alloc; entry]?);
+    let aggregation = AggregationEntry::new(0, vec![in alloc; entry]?);
     let process = Process::new(Vec::new(alloc), vec![in alloc; aggregation]?);
     let fields = Fields::new([source, 0, 0, 0, 0, 0, 4, 0, 0]).ok_or("no fields")?;
     let key = by_source(32)?.key_of(&fields);

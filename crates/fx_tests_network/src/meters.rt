@@ -4,7 +4,7 @@ ghost use Rattle.std.specs.Prelude.{◌≡◌, All, [], ◌∷◌, Some, IfOk};
 use fx_base::{Fault, Name};
 use fx_boxes::{Fields, Region};
 use fx_elements::TOPS;
-use fx_tables::{Crossing, Device, Point, Selection};
+use fx_tables::{Crossing, DeviceEntry, Point, Selection};
 use std::alloc::Global;
 use std::test::Fail;
 
@@ -36,7 +36,7 @@ pub(crate) fn meter(
     region: Region,
     cache: usize,
     outwards: bool,
-) -> Result<Device, Fail>
+) -> Result<DeviceEntry, Fail>
     ensures caches { IfOk result (λ d. d.caches ≡ cache ∷ []) }
     ensures points { IfOk result (λ d. All (λ p. All (λ s. s.holder ≡ Some cache) p.selections)
         d.points) }
@@ -44,7 +44,7 @@ pub(crate) fn meter(
     let point = point(alloc, region, cache, outwards)?;
     let points = vec![in alloc; point]?;
     let caches = vec![in alloc; cache]?;
-    Ok(Device::new(points, caches, Vec::new(alloc)))
+    Ok(DeviceEntry::new(points, caches, Vec::new(alloc)))
 }
 
 /// Into the meter that is the device of this number.

@@ -4,7 +4,7 @@ ghost use Rattle.fx_elements.specs.declared.axis.Axis.TheVariants as axis;
 
 use fx_elements::Axis;
 use fx_layout::Layout;
-use fx_tables::{Device, Exporter, Holder, Process};
+use fx_tables::{DeviceEntry, Exporter, Holder, Process};
 use std::alloc::Global;
 use std::test::Fail;
 
@@ -37,7 +37,7 @@ pub(crate) fn process(alloc: Global) -> Process
 }
 
 /// A device with the first collecting process alone.
-pub(crate) fn collector(alloc: Global) -> Result<Device, Fail> {
+pub(crate) fn collector(alloc: Global) -> Result<DeviceEntry, Fail> {
     let processes = vec![in alloc; 0]?;
-    Ok(Device::new(Vec::new(alloc), Vec::new(alloc), processes))
+    Ok(DeviceEntry::new(Vec::new(alloc), Vec::new(alloc), processes))
 }

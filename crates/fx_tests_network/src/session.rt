@@ -67,7 +67,7 @@ fn is_flow(found: &Option<Record>, source: u128, packets: u64, octets: u64) -> b
     match found {
         None => false,
         Some(entry) => {
-            entry.key.cut(Axis::Source, 32) == source
+            entry.key.bits_on(Axis::Source, 32) == source
                 && entry.counts.packets == packets
                 && entry.counts.octets == octets
         }

@@ -86,7 +86,7 @@ fn is_prefix(found: Option<Record>) -> bool {
         Some(entry) => {
             entry.layout().reads(Axis::Source, 16)
                 && !entry.layout().reads(Axis::Source, 17)
-                && entry.key.cut(Axis::Source, 16) == 0x0a09
+                && entry.key.bits_on(Axis::Source, 16) == 0x0a09
         }
     }
 }

@@ -1,7 +1,7 @@
 //! Lines, names, places, numbers and texts written out, and devices that fail.
 use fx_base::{
     Counts, Fault, Fuse, Line, LineReader, Name, Octets, Outside, PieceReader, Room, Sink, Source,
-    Window, entry_at, numbered, put_fault, put_number, put_number_wide, put_place, put_text,
+    Window, entry_at, entry_numbered, put_fault, put_number, put_number_wide, put_place, put_text,
     read_whole,
 };
 use std::alloc::{AllocError, Global};
@@ -338,5 +338,5 @@ fn adds_counts(rt: HostRuntime) {
 #[test]
 fn finds_entries(rt: HostRuntime) {
     let entries = [7u8, 8];
-    assert!(rt; numbered(&entries, 1) == entry_at(&entries, 0) && numbered(&entries, 0).is_none());
+    assert!(rt; entry_numbered(&entries, 1) == entry_at(&entries, 0) && entry_numbered(&entries, 0).is_none());
 }

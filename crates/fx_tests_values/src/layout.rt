@@ -58,7 +58,7 @@ fn is_coarse_key(key: &Key, coarse: &Layout, fine: &Layout) -> bool {
 
 /// Whether a key of the web packet gives its first octet, is not before itself, and is projected.
 fn is_projected(key: &Key, coarse: &Layout, fine: &Layout) -> bool {
-    key.cut(Axis::Source, 8) == 10
+    key.bits_on(Axis::Source, 8) == 10
         && !key.comes_before(&key.copy())
         && match key.project(coarse) {
             Some(projected) => is_coarse_key(&projected, coarse, fine),

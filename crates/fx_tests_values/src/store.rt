@@ -29,14 +29,14 @@ fn add<S: FlowStore>(store: &mut S, source: u128) -> Result<Option<u128>, Fail> 
     Ok(
         store
             .add(from(source)?, COUNTS)?
-            .map(|left| left.0.cut(Axis::Source, 32)),
+            .map(|left| left.0.bits_on(Axis::Source, 32)),
     )
 }
 
 /// Takes the least key out: its address and counts.
 fn least<S: FlowStore>(store: &mut S) -> Option<(u128, u64, u64)> {
     let (key, counts) = store.take_least()?;
-    Some((key.cut(Axis::Source, 32), counts.packets, counts.octets))
+    Some((key.bits_on(Axis::Source, 32), counts.packets, counts.octets))
 }
 
 /// Adds at three keys, one of them twice, and empties the store in order: whether it held them.

@@ -4,7 +4,7 @@ use Rattle.std.proofs.lemmas.List.{drop_more}
 use Rattle.serde_json.specs.Data.{Data}
 use Rattle.fx_walk.specs.Pointer.{nth}
 use Rattle.fx_topology.specs.Links.{link_faults, link_of, links_faults}
-use Rattle.fx_topology.specs.declared.link.Link.{Link}
+use Rattle.fx_topology.specs.declared.link.NamedLink.{NamedLink}
 use Rattle.fx_topology.specs.declared.network_device.NetworkDevice.{NetworkDevice}
 
 -- the item at a place and what is behind it
@@ -14,8 +14,8 @@ drop_item {X} xs n k x e lt is =
     let here : get_or xs n x ≡ x = rw e (sym is) in
     drop_more xs n x within ∙ ap (λ (y : X). y ∷ drop (n + 1) xs) here
 
-pub next_faults : (devices : List NetworkDevice) (before after : List Link) (up : List ℕ) (i : ℕ) (d : Data) (all rest : List Data) (link : Link) → all ≡ d ∷ rest → after ≡ before ++ link ∷ [] → link_faults devices before (nth up i) d ≡ [] → link ≡ link_of d → links_faults devices before up i all ≡ links_faults devices after up (i + 1) rest
+pub next_faults : (devices : List NetworkDevice) (before after : List NamedLink) (up : List ℕ) (i : ℕ) (d : Data) (all rest : List Data) (link : NamedLink) → all ≡ d ∷ rest → after ≡ before ++ link ∷ [] → link_faults devices before (nth up i) d ≡ [] → link ≡ link_of d → links_faults devices before up i all ≡ links_faults devices after up (i + 1) rest
 next_faults devices before after up i d all rest link items links none is = rw (items, links, none, is) refl
 
-pub next_values : (before after : List Link) (d : Data) (all rest : List Data) (link : Link) → all ≡ d ∷ rest → after ≡ before ++ link ∷ [] → link ≡ link_of d → after ++ map link_of rest ≡ before ++ map link_of all
+pub next_values : (before after : List NamedLink) (d : Data) (all rest : List Data) (link : NamedLink) → all ≡ d ∷ rest → after ≡ before ++ link ∷ [] → link ≡ link_of d → after ++ map link_of rest ≡ before ++ map link_of all
 next_values before after d all rest link items links is = rw (items, links, is) (append_assoc before (link_of d ∷ []) (map link_of rest))

@@ -2,7 +2,7 @@
 use Rattle.std.specs.Prelude.{ℕ, List, [], ◌∷◌, Bool, not, codes, map, Option, Some, is_some, option_and_then}
 use Rattle.serde_json.specs.Data.{Data}
 use Rattle.fx_layout.specs.Keys.{Layout}
-use Rattle.fx_walk.specs.Walk.{Found, Row, object_faults, required, then_check, fault_if, member_of}
+use Rattle.fx_walk.specs.Walk.{FoundFault, Row, object_faults, required_row, then_check, fault_if, member_of}
 use Rattle.fx_walk.specs.Scalars.{name_faults, text_of}
 use Rattle.fx_walk.specs.Lists.{items_of}
 use Rattle.fx_config.specs.KeyFields.{key_field_faults, key_field_of}
@@ -39,12 +39,12 @@ has_place devices report = has_collecting_process report.collecting_process (dev
 
 abbrev pub report_rows : List NetworkDevice → List Row
 report_rows devices =
-    required (codes "device") name_faults
-    ∷ required (codes "collectingProcess") name_faults
+    required_row (codes "device") name_faults
+    ∷ required_row (codes "collectingProcess") name_faults
     ∷ required_items key_field_limit (codes "key") key_field_faults
     ∷ then_check (λ up d. fault_if (not (has_place devices (report_of d))) 205 up)
     ∷ then_check (λ up d. fault_if (not (is_some (key_layout (report_of d).key))) 206 up)
     ∷ []
 
-abbrev pub report_faults : List NetworkDevice → List ℕ → Data → List Found
+abbrev pub report_faults : List NetworkDevice → List ℕ → Data → List FoundFault
 report_faults devices = object_faults (report_rows devices)

@@ -1,6 +1,6 @@
 -- Where links lead from, as their table keeps it.
 use Rattle.std.specs.Prelude.{◌≡◌, ℕ, List, [], ◌∷◌, string_bytes}
-use Rattle.fx_topology.specs.declared.link.Link.{Link}
+use Rattle.fx_topology.specs.declared.link.NamedLink.{NamedLink}
 use Rattle.fx_topology.specs.declared.link_table.Start.{Start}
 
 -- these are its names
@@ -9,11 +9,11 @@ pub record IsStartAt (start : Start) (device process destination : List ℕ) : T
   pub process_is : string_bytes start.exporting_process ≡ process
   pub destination_is : string_bytes start.destination ≡ destination
 
-abbrev pub IsStartOf : Start → Link → Type 0
+abbrev pub IsStartOf : Start → NamedLink → Type 0
 IsStartOf start link = IsStartAt start link.device link.exporting_process link.destination
 
 -- one of each link, in order
-abbrev pub AreStarts : List Start → List Link → Type 0
+abbrev pub AreStarts : List Start → List NamedLink → Type 0
 AreStarts [] [] = Unit {0}
 AreStarts [] (link ∷ links) = ⊥
 AreStarts (start ∷ starts) [] = ⊥

@@ -2,7 +2,7 @@
 ghost use Rattle.std.specs.Prelude.{◌≡◌, option_map};
 ghost use Rattle.fx_topology.specs.Links as links;
 
-use crate::link::Link;
+use crate::link::NamedLink;
 use crate::network_device::NetworkDevice;
 use fx_base::Name;
 use fx_config::{Device, ExportingProcess};
@@ -54,7 +54,7 @@ pub fn has_collecting_process(devices: &[NetworkDevice], device: &Name, process:
 }
 
 /// Whether the link leads from a destination of the network.
-fn has_start(devices: &[NetworkDevice], link: &Link) -> bool
+fn has_start(devices: &[NetworkDevice], link: &NamedLink) -> bool
     ensures { result ≡ links.has_destination link.now.exporting_process link.now.destination
         (links.device_named devices.now link.now.device) }
 {
@@ -65,7 +65,7 @@ fn has_start(devices: &[NetworkDevice], link: &Link) -> bool
 }
 
 /// Whether both ends of the link are there.
-pub fn has_ends(devices: &[NetworkDevice], link: &Link) -> bool
+pub fn has_ends(devices: &[NetworkDevice], link: &NamedLink) -> bool
     ensures { result ≡ links.has_ends devices.now link.now }
 {
     has_start(devices, link) && has_collecting_process(devices, &link.to_device, &link.to_process)

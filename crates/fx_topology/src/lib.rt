@@ -12,8 +12,8 @@ mod network_device;
 mod process_count;
 mod report;
 
-pub use link::Link;
-pub use link_table::Links;
-pub use network::{Network, read_network};
+pub use link::NamedLink;
+pub use link_table::LinkTable;
+pub use network::{NetworkDocument, read_network};
 pub use network_device::NetworkDevice;
 pub use report::Report;

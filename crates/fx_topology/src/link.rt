@@ -3,7 +3,7 @@ use fx_base::Name;
 
 /// A link: what an exporting process sends to a destination comes to a collecting process.
 #[derive(Debug, Drop)]
-pub struct Link {
+pub struct NamedLink {
     /// The device that sends.
     pub device: Name,
     /// The exporting process, on that device.

@@ -6,7 +6,7 @@ ghost use Rattle.fx_base.specs.declared.fault.Place.TheVariants as places;
 ghost use Rattle.fx_topology.specs.Links.{leads_from, starts_there};
 ghost use Rattle.fx_topology.specs.Starts.{IsStartAt};
 
-use crate::link::Link;
+use crate::link::NamedLink;
 use fx_base::{Fault, Name};
 use indexmap::IndexSet;
 use std::alloc::{AllocError, Global};
@@ -42,30 +42,30 @@ impl Start {
 
 /// Links of which no two lead from one destination, in the order in which they came. Contracts see the list of them.
 #[derive(Debug, Drop)]
-pub struct Links {
-    links: Vec<Link>,
+pub struct LinkTable {
+    links: Vec<NamedLink>,
     starts: IndexSet<Start>,
     alloc: Global,
 }
 
-impl Model for Links {
+impl Model for LinkTable {
     ghost use Rattle.std.specs.Prelude.{List};
-    ghost use Rattle.fx_topology.specs.declared.link.Link as of_link;
+    ghost use Rattle.fx_topology.specs.declared.link.NamedLink as of_link;
     ghost use Rattle.fx_topology.specs.Starts.{AreStarts};
 
-    ghost Value = { List of_link.Link };
+    ghost Value = { List of_link.NamedLink };
 
     ghost view = { λ l. l.links.items };
 
     ghost invariant = { λ l. AreStarts l.starts.keys l.links.items };
 }
 
-impl Links {
+impl LinkTable {
     /// No links.
-    pub(crate) fn new(alloc: Global) -> Links
+    pub(crate) fn new(alloc: Global) -> LinkTable
         ensures { result ≡ [] }
     {
-        Links {
+        LinkTable {
             links: Vec::new(alloc),
             starts: IndexSet::new(alloc),
             alloc,
@@ -73,7 +73,7 @@ impl Links {
     }
 
     /// The links, in order.
-    pub fn as_slice(&self) -> &[Link]
+    pub fn as_slice(&self) -> &[NamedLink]
         ensures { result.now ≡ self.now }
     {
         self.links.as_slice()
@@ -98,7 +98,7 @@ impl Links {
     /// destination.
     ///
     /// Fails with 900, at no place, for want of memory.
-    pub(crate) fn add(&mut self, link: Link) -> Result<bool, Fault>
+    pub(crate) fn add(&mut self, link: NamedLink) -> Result<bool, Fault>
         ensures answer { IfOk result (λ new. new ≡ not (starts_there self.old link)) }
         ensures err { IfErr result (λ e. e ≡ fault_at 900 places.None) }
         ensures links { OnOk result (self.new

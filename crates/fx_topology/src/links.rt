@@ -8,20 +8,20 @@ ghost use Rattle.fx_topology.specs.Links.{has_ends, starts_there, link_faults, l
 
 use crate::ends::has_ends;
 use crate::limits::LINKS;
-use crate::link::Link;
-use crate::link_table::Links;
+use crate::link::NamedLink;
+use crate::link_table::LinkTable;
 use crate::network_device::NetworkDevice;
 use fx_base::{Fault, Name};
-use fx_walk::{Path, items_in, object_of, refusal, refuse_if, required_member};
+use fx_walk::{DocumentPath, items_in, object_of, refusal, refuse_if, required_member};
 use serde_json::Value;
 use std::alloc::Global;
 
 /// Refuses a link at the path with an end that isn't there (201).
 fn ends_are_there(
     alloc: Global,
-    path: &Path<'_>,
+    path: &DocumentPath<'_>,
     devices: &[NetworkDevice],
-    link: &Link,
+    link: &NamedLink,
 ) -> Result<(), Fault>
     ensures { Reads (fault_if (not (has_ends devices.now link.now)) 201 (pointer path.now)) tt
         result }
@@ -30,7 +30,7 @@ fn ends_are_there(
 }
 
 /// Puts a link at the path behind these. Refuses it where one of them leads from the same destination (202).
-fn add_alone(alloc: Global, path: &Path<'_>, earlier: &mut Links, link: Link) -> Result<(), Fault>
+fn add_alone(alloc: Global, path: &DocumentPath<'_>, earlier: &mut LinkTable, link: NamedLink) -> Result<(), Fault>
     ensures reads { Reads (fault_if (starts_there earlier.old link) 202 (pointer path.now)) tt
         result }
     ensures links { OnOk result (earlier.new ≡ earlier.old ++ link ∷ []) }
@@ -43,10 +43,10 @@ fn add_alone(alloc: Global, path: &Path<'_>, earlier: &mut Links, link: Link) ->
 /// link leads from the same destination.
 fn add_link(
     alloc: Global,
-    path: &Path<'_>,
+    path: &DocumentPath<'_>,
     value: &Value,
     devices: &[NetworkDevice],
-    earlier: &mut Links,
+    earlier: &mut LinkTable,
 ) -> Result<(), Fault>
     ensures reads { Reads (link_faults devices.now earlier.old (pointer path.now) (view value.now))
         tt result }
@@ -69,7 +69,7 @@ fn add_link(
     let destination = required_member::<Name>(alloc, path, value, "destination")?;
     let to_device = required_member::<Name>(alloc, path, value, "toDevice")?;
     let to_process = required_member::<Name>(alloc, path, value, "toProcess")?;
-    let link = Link {
+    let link = NamedLink {
         device,
         exporting_process: exporting,
         destination,
@@ -84,17 +84,17 @@ fn add_link(
 /// What the links of the list at the path mean, in order.
 fn links_of(
     alloc: Global,
-    path: &Path<'_>,
+    path: &DocumentPath<'_>,
     items: &[Value],
     devices: &[NetworkDevice],
-) -> Result<Links, Fault>
+) -> Result<LinkTable, Fault>
     ensures { Reads (links_faults devices.now [] (pointer path.now) 0 (map view items.now))
         (map link_of (map view items.now)) result }
 {
-    let mut links = Links::new(alloc);
+    let mut links = LinkTable::new(alloc);
     let mut place = 0;
     for item in items {
-        let path = Path::Item(&*path, place);
+        let path = DocumentPath::Item(&*path, place);
         add_link(alloc, &path, item, devices, &mut links)?;
         place += 1;
     }
@@ -104,16 +104,16 @@ fn links_of(
 /// The network's links: 103 at the object where there is no list of them.
 pub fn links_member(
     alloc: Global,
-    path: &Path<'_>,
+    path: &DocumentPath<'_>,
     object: &Value,
     devices: &[NetworkDevice],
-) -> Result<Links, Fault>
+) -> Result<LinkTable, Fault>
     ensures { Reads ((links_row devices.now).faults (pointer path.now) (view object.now))
         (map link_of (items_of (member_of (codes "links") (view object.now)))) result }
 {
     match object.get("links") {
         Some(value) => {
-            let path = Path::Member(path, "links");
+            let path = DocumentPath::Member(path, "links");
             let items = items_in(alloc, &path, value, 0, LINKS)?;
             links_of(alloc, &path, items, devices)
         }

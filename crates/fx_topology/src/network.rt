@@ -5,34 +5,34 @@ ghost use Rattle.fx_walk.specs.Walk.{Reads};
 ghost use Rattle.fx_topology.specs.Networks.{network_faults, network_of};
 
 use crate::limits::DEVICES;
-use crate::link_table::Links;
+use crate::link_table::LinkTable;
 use crate::links::links_member;
 use crate::network_device::NetworkDevice;
 use crate::process_count::processes_are_few;
 use crate::report::{Report, report_member};
 use fx_base::Fault;
-use fx_walk::{FromValue, Path, Sequence, object_of, required_entries};
+use fx_walk::{FromValue, DocumentPath, Sequence, object_of, required_entries};
 use serde_json::Value;
 use std::alloc::Global;
 
 /// What a network document says. The ends of each link are there, no two links lead from one destination, the
 /// report's collecting process is there, and its key is made of axes and leading bits of addresses, no axis twice.
 #[derive(Debug, Drop)]
-pub struct Network {
+pub struct NetworkDocument {
     /// The devices, in document order, as all its lists.
     pub devices: Sequence<NetworkDevice>,
     /// The links between them.
-    pub links: Links,
+    pub links: LinkTable,
     /// What is asked for.
     pub report: Report,
 }
 
-impl FromValue for Network {
+impl FromValue for NetworkDocument {
     ghost faults = { network_faults };
 
     ghost meaning = { network_of };
 
-    fn from_value(alloc: Global, path: &Path<'_>, value: &Value) -> Result<Network, Fault> {
+    fn from_value(alloc: Global, path: &DocumentPath<'_>, value: &Value) -> Result<NetworkDocument, Fault> {
         object_of(alloc, path, value, &["devices", "links", "report"])?;
         let devices: Sequence<NetworkDevice> = required_entries(
             alloc, path, value, "devices", DEVICES,
@@ -41,7 +41,7 @@ impl FromValue for Network {
         processes_are_few(alloc, path, known)?;
         let links = links_member(alloc, path, value, known)?;
         let report = report_member(alloc, path, value, known)?;
-        Ok(Network {
+        Ok(NetworkDocument {
             devices,
             links,
             report,
@@ -58,8 +58,8 @@ impl FromValue for Network {
 /// collecting process isn't there, 202 a second link of one destination, 205 a report whose collecting process
 /// isn't there, 206 one with a key field that is no part of an axis or with an axis twice; 900, at no place, for
 /// want of memory.
-pub fn read_network(alloc: Global, value: &Value) -> Result<Network, Fault>
+pub fn read_network(alloc: Global, value: &Value) -> Result<NetworkDocument, Fault>
     ensures { Reads (network_faults [] (view value.now)) (network_of (view value.now)) result }
 {
-    Network::from_value(alloc, &Path::Root, value)
+    NetworkDocument::from_value(alloc, &DocumentPath::Root, value)
 }

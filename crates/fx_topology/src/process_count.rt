@@ -8,7 +8,7 @@ ghost use Rattle.fx_topology.specs.NetworkDevices.{process_count};
 use crate::limits::PROCESSES;
 use crate::network_device::NetworkDevice;
 use fx_base::Fault;
-use fx_walk::{Path, refuse_if};
+use fx_walk::{DocumentPath, refuse_if};
 use std::alloc::Global;
 
 /// Whether the devices have more collecting processes than a network may have.
@@ -30,12 +30,12 @@ fn are_too_many(devices: &[NetworkDevice]) -> bool
 /// have (115).
 pub fn processes_are_few(
     alloc: Global,
-    path: &Path<'_>,
+    path: &DocumentPath<'_>,
     devices: &[NetworkDevice],
 ) -> Result<(), Fault>
     ensures { Reads (fault_if (nat_lt process_limit (process_count devices.now)) 115
         (below (pointer path.now) (codes "devices"))) tt result }
 {
-    let path = Path::Member(path, "devices");
+    let path = DocumentPath::Member(path, "devices");
     refuse_if(alloc, &path, 115, are_too_many(devices))
 }

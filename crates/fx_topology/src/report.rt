@@ -2,7 +2,7 @@
 ghost use Rattle.std.specs.Prelude.{◌≡◌, ℕ, List, [], ◌∷◌, codes, not, is_some};
 ghost use Rattle.serde_json.specs.View.{view};
 ghost use Rattle.fx_walk.specs.Pointer.{pointer};
-ghost use Rattle.fx_walk.specs.Walk.{Reads, fault_if, member_of, required};
+ghost use Rattle.fx_walk.specs.Walk.{Reads, fault_if, member_of, required_row};
 ghost use Rattle.fx_topology.specs.Reports.{has_place, key_layout, report_faults, report_of};
 
 use crate::ends::has_collecting_process;
@@ -12,7 +12,7 @@ use crate::network_device::NetworkDevice;
 use fx_base::{Fault, Name};
 use fx_config::KeyField;
 use fx_layout::Layout;
-use fx_walk::{Path, Sequence, object_of, refusal, refuse_if, required_items, required_member};
+use fx_walk::{DocumentPath, Sequence, object_of, refusal, refuse_if, required_items, required_member};
 use serde_json::Value;
 use std::alloc::Global;
 
@@ -39,7 +39,7 @@ impl Report {
 /// Refuses a report at the path whose collecting process isn't there (205).
 fn process_is_there(
     alloc: Global,
-    path: &Path<'_>,
+    path: &DocumentPath<'_>,
     devices: &[NetworkDevice],
     report: &Report,
 ) -> Result<(), Fault>
@@ -51,7 +51,7 @@ fn process_is_there(
 }
 
 /// Refuses a report at the path with a key field that stands for no part of an axis, or with an axis twice (206).
-fn key_is_axes(alloc: Global, path: &Path<'_>, report: &Report) -> Result<(), Fault>
+fn key_is_axes(alloc: Global, path: &DocumentPath<'_>, report: &Report) -> Result<(), Fault>
     ensures { Reads (fault_if (not (is_some (key_layout report.now.key))) 206 (pointer path.now)) tt
         result }
 {
@@ -62,7 +62,7 @@ fn key_is_axes(alloc: Global, path: &Path<'_>, report: &Report) -> Result<(), Fa
 /// The report that stands at the path, in a network of these devices.
 fn report_at(
     alloc: Global,
-    path: &Path<'_>,
+    path: &DocumentPath<'_>,
     value: &Value,
     devices: &[NetworkDevice],
 ) -> Result<Report, Fault>
@@ -86,16 +86,16 @@ fn report_at(
 /// The network's report: 103 at the object where there is none.
 pub fn report_member(
     alloc: Global,
-    path: &Path<'_>,
+    path: &DocumentPath<'_>,
     object: &Value,
     devices: &[NetworkDevice],
 ) -> Result<Report, Fault>
-    ensures { Reads ((required (codes "report") (report_faults devices.now)).faults
+    ensures { Reads ((required_row (codes "report") (report_faults devices.now)).faults
         (pointer path.now) (view object.now))
         (report_of (member_of (codes "report") (view object.now))) result }
 {
     match object.get("report") {
-        Some(value) => report_at(alloc, &Path::Member(path, "report"), value, devices),
+        Some(value) => report_at(alloc, &DocumentPath::Member(path, "report"), value, devices),
         None => Err(refusal(alloc, 103, path)),
     }
 }

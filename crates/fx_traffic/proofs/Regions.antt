@@ -11,7 +11,7 @@ use Rattle.fx_elements.specs.declared.axis.Axis.{Axis}
 use Rattle.fx_elements.specs.declared.axis.Axis.TheVariants.{Source}
 use Rattle.fx_elements.specs.declared.values.Range.{Range}
 use Rattle.fx_boxes.specs.Boxes.{Bounds, IsRegion}
-use Rattle.fx_walk.specs.Walk.{Found, Refuses, Row, optional, row_faults}
+use Rattle.fx_walk.specs.Walk.{FoundFault, Refuses, Row, optional, row_faults}
 use Rattle.fx_walk.proofs.Faults.{refuses_more}
 use Rattle.fx_base.specs.declared.fault.Fault.{Fault}
 use Rattle.fx_traffic.specs.Regions.{IsOn, axis_name, region_of, values_faults, values_given}
@@ -50,7 +50,7 @@ pub faults_here : (up : List ℕ) (d : Data) (i : ℕ) → i < axis_count → ro
 faults_here up d i lt = ap (λ (xs : List Axis). row_faults (map row_on xs) up d) (drop_more axes i Source lt)
 
 -- the first fault of these, with others behind them
-pub refuses_here : (e : Fault) (all here more : List Found) → all ≡ here ++ more → Refuses e here → Refuses e all
+pub refuses_here : (e : Fault) (all here more : List FoundFault) → all ≡ here ++ more → Refuses e here → Refuses e all
 refuses_here e all here more is h = subst (Refuses e) (sym is) (refuses_more e here more h)
 
 -- values on each axis make a region

@@ -2,7 +2,7 @@
 use Rattle.std.specs.Prelude.{ℕ, List, [], ◌∷◌, codes, map, not, is_some}
 use Rattle.serde_json.specs.Data.{Data}
 use Rattle.serde_json.specs.Find.{get}
-use Rattle.fx_walk.specs.Walk.{Found, Row, fault_if, object_faults, required, optional, member_of}
+use Rattle.fx_walk.specs.Walk.{FoundFault, Row, fault_if, object_faults, required_row, optional, member_of}
 use Rattle.fx_walk.specs.Lists.{entries_faults, items_faults, items_of}
 use Rattle.fx_walk.specs.Scalars.{text_of, is_empty_type}
 use Rattle.fx_tables.specs.Classes.{Class}
@@ -14,22 +14,22 @@ use Rattle.fx_traffic.specs.Limits.{class_limit, path_limit}
 
 -- ---- a class, in a network whose devices have these names
 
-abbrev pub paths_faults : List (List ℕ) → List ℕ → Data → List Found
+abbrev pub paths_faults : List (List ℕ) → List ℕ → Data → List FoundFault
 paths_faults devices = list_faults 1 path_limit (λ up ds. items_faults (path_faults devices) up 0 ds)
 
 -- an empty type: being there it says that the class is exempt
-abbrev pub exempt_faults : List ℕ → Data → List Found
+abbrev pub exempt_faults : List ℕ → Data → List FoundFault
 exempt_faults up d = fault_if (not (is_empty_type d)) 302 up
 
 abbrev pub class_rows : List (List ℕ) → List (List ℕ) → List Row
 class_rows devices earlier =
-    required (codes "name") (name_once earlier)
+    required_row (codes "name") (name_once earlier)
     ∷ optional (codes "region") region_faults
-    ∷ required (codes "paths") (paths_faults devices)
+    ∷ required_row (codes "paths") (paths_faults devices)
     ∷ optional (codes "exempt") exempt_faults
     ∷ []
 
-abbrev pub class_faults : List (List ℕ) → List (List ℕ) → List ℕ → Data → List Found
+abbrev pub class_faults : List (List ℕ) → List (List ℕ) → List ℕ → Data → List FoundFault
 class_faults devices earlier = object_faults (class_rows devices earlier)
 
 abbrev pub class_name : Data → List ℕ
@@ -44,15 +44,15 @@ class_of devices d = record {
 
 -- ---- the document, of which crates above speak by these two words
 
-abbrev pub list_of_classes_faults : List (List ℕ) → List ℕ → Data → List Found
+abbrev pub list_of_classes_faults : List (List ℕ) → List ℕ → Data → List FoundFault
 list_of_classes_faults devices = list_faults 0 class_limit (λ up ds. entries_faults (class_faults devices) class_name [] up 0 ds)
 
 abbrev pub traffic_rows : List (List ℕ) → List Row
 traffic_rows devices =
-    required (codes "classes") (list_of_classes_faults devices)
+    required_row (codes "classes") (list_of_classes_faults devices)
     ∷ []
 
-unfoldable pub traffic_faults : List (List ℕ) → List ℕ → Data → List Found
+unfoldable pub traffic_faults : List (List ℕ) → List ℕ → Data → List FoundFault
 traffic_faults devices up d = object_faults (traffic_rows devices) up d
 
 unfoldable pub traffic_of : List (List ℕ) → Data → List Class

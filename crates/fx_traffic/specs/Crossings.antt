@@ -3,7 +3,7 @@ use Rattle.std.specs.Prelude.{ℕ, suc, List, [], ◌∷◌, ◌++◌, codes, ma
 use Rattle.std.specs.Option.{unwrap_or}
 use Rattle.std.specs.Str.{bytes_eq}
 use Rattle.serde_json.specs.Data.{Data}
-use Rattle.fx_walk.specs.Walk.{Found, Row, object_faults, required, member_of, fault_if}
+use Rattle.fx_walk.specs.Walk.{FoundFault, Row, object_faults, required_row, member_of, fault_if}
 use Rattle.fx_walk.specs.Lists.{items_faults, items_of, place_in}
 use Rattle.fx_walk.specs.Scalars.{text_of}
 use Rattle.fx_tables.specs.declared.traffic.Crossing.{Crossing}
@@ -18,7 +18,7 @@ abbrev pub number_in : List (List ℕ) → List ℕ → Option ℕ
 number_in devices name = option_map (λ place. suc place) (place_in devices name)
 
 -- a name that one of the devices has
-abbrev pub device_faults : List (List ℕ) → List ℕ → Data → List Found
+abbrev pub device_faults : List (List ℕ) → List ℕ → Data → List FoundFault
 device_faults devices up d = name_faults up d ++ fault_if (not (is_some (number_in devices (text_of d)))) 303 up
 
 abbrev pub number_of : List (List ℕ) → Data → ℕ
@@ -28,7 +28,7 @@ number_of devices d = unwrap_or (number_in devices (text_of d)) 0
 abbrev pub inwards_in : List ℕ → Option Bool
 inwards_in text = if bytes_eq text (codes "ingress") then Some true else (if bytes_eq text (codes "egress") then Some false else None)
 
-abbrev pub direction_faults : List ℕ → Data → List Found
+abbrev pub direction_faults : List ℕ → Data → List FoundFault
 direction_faults = text_that (λ text. is_some (inwards_in text))
 
 abbrev pub inwards_of : Data → Bool
@@ -38,12 +38,12 @@ inwards_of d = unwrap_or (inwards_in (text_of d)) false
 
 abbrev pub crossing_rows : List (List ℕ) → List Row
 crossing_rows devices =
-    required (codes "device") (device_faults devices)
-    ∷ required (codes "interface") name_faults
-    ∷ required (codes "direction") direction_faults
+    required_row (codes "device") (device_faults devices)
+    ∷ required_row (codes "interface") name_faults
+    ∷ required_row (codes "direction") direction_faults
     ∷ []
 
-abbrev pub crossing_faults : List (List ℕ) → List ℕ → Data → List Found
+abbrev pub crossing_faults : List (List ℕ) → List ℕ → Data → List FoundFault
 crossing_faults devices = object_faults (crossing_rows devices)
 
 abbrev pub crossing_of : List (List ℕ) → Data → Crossing
@@ -55,7 +55,7 @@ crossing_of devices d = record {
 
 -- ---- paths
 
-abbrev pub path_faults : List (List ℕ) → List ℕ → Data → List Found
+abbrev pub path_faults : List (List ℕ) → List ℕ → Data → List FoundFault
 path_faults devices = list_faults 0 crossing_limit (λ up ds. items_faults (crossing_faults devices) up 0 ds)
 
 abbrev pub path_of : List (List ℕ) → Data → List Crossing

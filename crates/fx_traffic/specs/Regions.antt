@@ -11,7 +11,7 @@ use Rattle.fx_elements.specs.declared.axis.Axis.TheVariants.{Source, Destination
 use Rattle.fx_elements.specs.declared.element.Element.TheVariants.{OnAxis, Prefix}
 use Rattle.fx_elements.specs.declared.values.Range.{Range}
 use Rattle.fx_boxes.specs.Boxes.{Bounds}
-use Rattle.fx_walk.specs.Walk.{Found, Row, object_faults, optional}
+use Rattle.fx_walk.specs.Walk.{FoundFault, Row, object_faults, optional}
 use Rattle.fx_walk.specs.Scalars.{text_of}
 use Rattle.fx_traffic.specs.Texts.{text_that}
 
@@ -43,7 +43,7 @@ values_by axis text (Some ends) = span (value_on axis ends.0) (value_on axis end
 abbrev pub values_on : Axis → List ℕ → Option Range
 values_on axis text = values_by axis text (cut_at 45 text)
 
-abbrev pub values_faults : Axis → List ℕ → Data → List Found
+abbrev pub values_faults : Axis → List ℕ → Data → List FoundFault
 values_faults axis = text_that (λ text. is_some (values_on axis text))
 
 -- all values on the axis
@@ -67,7 +67,7 @@ IsOn axis values = (values.low ≤ values.high) × (values.high ≤ slice_index 
 abbrev pub region_rows : List Row
 region_rows = map (λ axis. optional (axis_name axis) (values_faults axis)) axes
 
-abbrev pub region_faults : List ℕ → Data → List Found
+abbrev pub region_faults : List ℕ → Data → List FoundFault
 region_faults = object_faults region_rows
 
 abbrev pub bounds_of : List Range → Bounds

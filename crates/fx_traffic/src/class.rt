@@ -3,7 +3,7 @@ ghost use Rattle.std.specs.Prelude.{◌≡◌, ◌++◌, ◌∷◌, ℕ, List, [
 ghost use Rattle.serde_json.specs.View.{view};
 ghost use Rattle.serde_json.specs.Find.{get};
 ghost use Rattle.fx_walk.specs.Pointer.{pointer};
-ghost use Rattle.fx_walk.specs.Walk.{Reads, required, optional, member_of};
+ghost use Rattle.fx_walk.specs.Walk.{Reads, required_row, optional, member_of};
 ghost use Rattle.fx_walk.specs.Lists.{entries_faults, items_of};
 ghost use Rattle.fx_traffic.specs.Crossings.{path_of};
 ghost use Rattle.fx_traffic.specs.Regions.{region_faults, region_given};
@@ -16,41 +16,41 @@ use crate::region::{read_region, whole};
 use crate::text::name_member;
 use fx_base::Fault;
 use fx_boxes::Region;
-use fx_tables::{Class, Path as Route};
-use fx_walk::{Named, Names, Path, Sequence, is_empty_type, object_of, refusal};
+use fx_tables::{Class, Path};
+use fx_walk::{Named, Names, DocumentPath, Sequence, is_empty_type, object_of, refusal};
 use serde_json::Value;
 use std::alloc::Global;
 
 /// The member `region`, which is whole where it isn't there.
-fn region_member(alloc: Global, path: &Path<'_>, object: &Value) -> Result<Region, Fault>
+fn region_member(alloc: Global, path: &DocumentPath<'_>, object: &Value) -> Result<Region, Fault>
     ensures { Reads ((optional (codes "region") region_faults).faults (pointer path.now)
         (view object.now)) (region_given (get (codes "region") (view object.now))) result }
 {
     match object.get("region") {
-        Some(value) => read_region(alloc, &Path::Member(path, "region"), value),
+        Some(value) => read_region(alloc, &DocumentPath::Member(path, "region"), value),
         None => Ok(whole()),
     }
 }
 
 fn paths_member<T: Named>(
     alloc: Global,
-    path: &Path<'_>,
+    path: &DocumentPath<'_>,
     object: &Value,
     devices: &[T],
-) -> Result<Sequence<Route>, Fault>
-    ensures { Reads ((required (codes "paths") (paths_faults (map T.name devices.now))).faults
+) -> Result<Sequence<Path>, Fault>
+    ensures { Reads ((required_row (codes "paths") (paths_faults (map T.name devices.now))).faults
         (pointer path.now) (view object.now))
         (map (path_of (map T.name devices.now))
         (items_of (member_of (codes "paths") (view object.now)))) result }
 {
     match object.get("paths") {
-        Some(value) => read_paths(alloc, &Path::Member(path, "paths"), value, devices),
+        Some(value) => read_paths(alloc, &DocumentPath::Member(path, "paths"), value, devices),
         None => Err(refusal(alloc, 103, path)),
     }
 }
 
 /// The member `exempt`: whether it is there.
-fn exempt_member(alloc: Global, path: &Path<'_>, object: &Value) -> Result<bool, Fault>
+fn exempt_member(alloc: Global, path: &DocumentPath<'_>, object: &Value) -> Result<bool, Fault>
     ensures { Reads ((optional (codes "exempt") exempt_faults).faults (pointer path.now)
         (view object.now)) (is_some (get (codes "exempt") (view object.now))) result }
 {
@@ -59,7 +59,7 @@ fn exempt_member(alloc: Global, path: &Path<'_>, object: &Value) -> Result<bool,
             if is_empty_type(value) {
                 Ok(true)
             } else {
-                Err(refusal(alloc, 302, &Path::Member(path, "exempt")))
+                Err(refusal(alloc, 302, &DocumentPath::Member(path, "exempt")))
             }
         }
         None => Ok(false),
@@ -69,7 +69,7 @@ fn exempt_member(alloc: Global, path: &Path<'_>, object: &Value) -> Result<bool,
 /// A class behind classes with these names, to which its own is added.
 fn read_class<T: Named>(
     alloc: Global,
-    path: &Path<'_>,
+    path: &DocumentPath<'_>,
     value: &Value,
     devices: &[T],
     earlier: &mut Names,
@@ -89,7 +89,7 @@ fn read_class<T: Named>(
 /// The classes of the list at the path, in order.
 fn classes_of<T: Named>(
     alloc: Global,
-    path: &Path<'_>,
+    path: &DocumentPath<'_>,
     items: &[Value],
     devices: &[T],
 ) -> Result<Sequence<Class>, Fault>
@@ -101,7 +101,7 @@ fn classes_of<T: Named>(
     let mut classes = Vec::new(alloc);
     let mut place = 0;
     for item in items {
-        let path = Path::Item(&*path, place);
+        let path = DocumentPath::Item(&*path, place);
         classes.push(read_class(alloc, &path, item, devices, &mut names)?)?;
         place += 1;
     }
@@ -111,7 +111,7 @@ fn classes_of<T: Named>(
 /// The list of classes.
 pub fn read_list<T: Named>(
     alloc: Global,
-    path: &Path<'_>,
+    path: &DocumentPath<'_>,
     value: &Value,
     devices: &[T],
 ) -> Result<Sequence<Class>, Fault>

@@ -2,7 +2,7 @@
 ghost use Rattle.std.specs.Prelude.{◌≡◌, ℕ, List, map, codes};
 ghost use Rattle.serde_json.specs.View.{view};
 ghost use Rattle.fx_walk.specs.Pointer.{pointer};
-ghost use Rattle.fx_walk.specs.Walk.{Reads, required, member_of};
+ghost use Rattle.fx_walk.specs.Walk.{Reads, required_row, member_of};
 ghost use Rattle.fx_walk.specs.Scalars.{text_of};
 ghost use Rattle.fx_traffic.specs.Texts.{name_faults};
 ghost use Rattle.fx_traffic.specs.Crossings.{number_in, number_of, device_faults, inwards_in, inwards_of, direction_faults, crossing_faults, crossing_of};
@@ -11,7 +11,7 @@ use crate::list::FromValueAmong;
 use crate::text::read_name;
 use fx_base::{Fault, Name};
 use fx_tables::Crossing;
-use fx_walk::{Named, Path, object_of, place_of, refusal};
+use fx_walk::{Named, DocumentPath, object_of, place_of, refusal};
 use serde_json::Value;
 use std::alloc::Global;
 
@@ -26,7 +26,7 @@ fn number_in<T: Named>(devices: &[T], name: &Name) -> Option<u64>
 /// The number of the device that the value names: 303 where none has its name.
 fn device_at<T: Named>(
     alloc: Global,
-    path: &Path<'_>,
+    path: &DocumentPath<'_>,
     value: &Value,
     devices: &[T],
 ) -> Result<u64, Fault>
@@ -42,26 +42,26 @@ fn device_at<T: Named>(
 
 fn device_member<T: Named>(
     alloc: Global,
-    path: &Path<'_>,
+    path: &DocumentPath<'_>,
     object: &Value,
     devices: &[T],
 ) -> Result<u64, Fault>
-    ensures { Reads ((required (codes "device") (device_faults (map T.name devices.now))).faults
+    ensures { Reads ((required_row (codes "device") (device_faults (map T.name devices.now))).faults
         (pointer path.now) (view object.now))
         (number_of (map T.name devices.now) (member_of (codes "device") (view object.now))) result }
 {
     match object.get("device") {
-        Some(value) => device_at(alloc, &Path::Member(path, "device"), value, devices),
+        Some(value) => device_at(alloc, &DocumentPath::Member(path, "device"), value, devices),
         None => Err(refusal(alloc, 103, path)),
     }
 }
 
-fn interface_member(alloc: Global, path: &Path<'_>, object: &Value) -> Result<Name, Fault>
-    ensures { Reads ((required (codes "interface") name_faults).faults (pointer path.now)
+fn interface_member(alloc: Global, path: &DocumentPath<'_>, object: &Value) -> Result<Name, Fault>
+    ensures { Reads ((required_row (codes "interface") name_faults).faults (pointer path.now)
         (view object.now)) (text_of (member_of (codes "interface") (view object.now))) result }
 {
     match object.get("interface") {
-        Some(value) => read_name(alloc, &Path::Member(path, "interface"), value),
+        Some(value) => read_name(alloc, &DocumentPath::Member(path, "interface"), value),
         None => Err(refusal(alloc, 103, path)),
     }
 }
@@ -78,7 +78,7 @@ fn inwards_in(text: &str) -> Option<bool>
 }
 
 /// A direction: 104 for no text, 302 for another text than `ingress` and `egress`.
-fn inwards_at(alloc: Global, path: &Path<'_>, value: &Value) -> Result<bool, Fault>
+fn inwards_at(alloc: Global, path: &DocumentPath<'_>, value: &Value) -> Result<bool, Fault>
     ensures { Reads (direction_faults (pointer path.now) (view value.now))
         (inwards_of (view value.now)) result }
 {
@@ -91,12 +91,12 @@ fn inwards_at(alloc: Global, path: &Path<'_>, value: &Value) -> Result<bool, Fau
     }
 }
 
-fn inwards_member(alloc: Global, path: &Path<'_>, object: &Value) -> Result<bool, Fault>
-    ensures { Reads ((required (codes "direction") direction_faults).faults (pointer path.now)
+fn inwards_member(alloc: Global, path: &DocumentPath<'_>, object: &Value) -> Result<bool, Fault>
+    ensures { Reads ((required_row (codes "direction") direction_faults).faults (pointer path.now)
         (view object.now)) (inwards_of (member_of (codes "direction") (view object.now))) result }
 {
     match object.get("direction") {
-        Some(value) => inwards_at(alloc, &Path::Member(path, "direction"), value),
+        Some(value) => inwards_at(alloc, &DocumentPath::Member(path, "direction"), value),
         None => Err(refusal(alloc, 103, path)),
     }
 }
@@ -109,7 +109,7 @@ impl FromValueAmong for Crossing {
 
     fn from_value_among<D: Named>(
         alloc: Global,
-        path: &Path<'_>,
+        path: &DocumentPath<'_>,
         value: &Value,
         devices: &[D],
     ) -> Result<Crossing, Fault> {

@@ -4,23 +4,23 @@ ghost use Rattle.serde_json.specs.Data.{Data};
 ghost use Rattle.serde_json.specs.View.{view};
 ghost use Rattle.fx_walk.specs.Lists.{items_faults, items_of};
 ghost use Rattle.fx_walk.specs.Pointer.{pointer};
-ghost use Rattle.fx_walk.specs.Walk.{Found, Reads};
-ghost use Rattle.fx_traffic.specs.Lists.{IsListOf, list_faults};
+ghost use Rattle.fx_walk.specs.Walk.{FoundFault, Reads};
+ghost use Rattle.fx_traffic.specs.Lists.{IsTrafficList, list_faults};
 
 use fx_base::Fault;
-use fx_walk::{Named, Path, Sequence, items_by};
+use fx_walk::{Named, DocumentPath, Sequence, items_by};
 use serde_json::Value;
 use std::alloc::Global;
 
 /// The items of a list: 104 for another kind of value, 305 for more than `most`, 304 for fewer than `least`.
 pub fn items_in<'v>(
     alloc: Global,
-    path: &Path<'_>,
+    path: &DocumentPath<'_>,
     value: &'v Value,
     least: usize,
     most: usize,
 ) -> Result<&'v [Value], Fault>
-    ensures { IsListOf least most (pointer path.now) (view value.now) result }
+    ensures { IsTrafficList least most (pointer path.now) (view value.now) result }
 {
     items_by(alloc, path, value, least, most, 304, 305)
 }
@@ -28,7 +28,7 @@ pub fn items_in<'v>(
 /// What a value may be read as that names devices.
 pub trait FromValueAmong: Drop {
     /// The faults of a value at a pointer, where the devices have these names.
-    ghost faults: { List (List ℕ) → List ℕ → Data → List Found };
+    ghost faults: { List (List ℕ) → List ℕ → Data → List FoundFault };
 
     /// What a value without a fault means there.
     ghost meaning: { List (List ℕ) → Data → Self };
@@ -36,7 +36,7 @@ pub trait FromValueAmong: Drop {
     /// Reads the value that stands at the path, or answers its first fault.
     fn from_value_among<D: Named>(
         alloc: Global,
-        path: &Path<'_>,
+        path: &DocumentPath<'_>,
         value: &Value,
         devices: &[D],
     ) -> Result<Self, Fault>
@@ -48,7 +48,7 @@ pub trait FromValueAmong: Drop {
 /// What the items of the list at the path mean, in order.
 fn values_among<T: FromValueAmong, D: Named>(
     alloc: Global,
-    path: &Path<'_>,
+    path: &DocumentPath<'_>,
     items: &[Value],
     devices: &[D],
 ) -> Result<Sequence<T>, Fault>
@@ -59,7 +59,7 @@ fn values_among<T: FromValueAmong, D: Named>(
     let mut values = Vec::new(alloc);
     let mut place = 0;
     for item in items {
-        let path = Path::Item(&*path, place);
+        let path = DocumentPath::Item(&*path, place);
         values.push(T::from_value_among(alloc, &path, item, devices)?)?;
         place += 1;
     }
@@ -69,7 +69,7 @@ fn values_among<T: FromValueAmong, D: Named>(
 /// A list of `least` to `most` items: 104, 305 and 304 as for any list, or the faults of its items.
 pub fn list_among<T: FromValueAmong, D: Named>(
     alloc: Global,
-    path: &Path<'_>,
+    path: &DocumentPath<'_>,
     value: &Value,
     least: usize,
     most: usize,

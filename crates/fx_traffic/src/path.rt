@@ -10,35 +10,35 @@ ghost use Rattle.fx_traffic.specs.Classes.{paths_faults};
 use crate::limits::{CROSSINGS, PATHS};
 use crate::list::{FromValueAmong, list_among};
 use fx_base::Fault;
-use fx_tables::{Crossing, Path as Route};
-use fx_walk::{Named, Path, Sequence};
+use fx_tables::{Crossing, Path};
+use fx_walk::{Named, DocumentPath, Sequence};
 use serde_json::Value;
 use std::alloc::Global;
 
 /// A path: a list of crossings.
-impl FromValueAmong for Route {
+impl FromValueAmong for Path {
     ghost faults = { path_faults };
 
     ghost meaning = { path_of };
 
     fn from_value_among<D: Named>(
         alloc: Global,
-        path: &Path<'_>,
+        path: &DocumentPath<'_>,
         value: &Value,
         devices: &[D],
-    ) -> Result<Route, Fault> {
+    ) -> Result<Path, Fault> {
         let crossings: Sequence<Crossing> = list_among(alloc, path, value, 0, CROSSINGS, devices)?;
-        Ok(Route::new(crossings.into_vec()))
+        Ok(Path::new(crossings.into_vec()))
     }
 }
 
 /// A class's paths: a list of at least one.
 pub fn read_paths<D: Named>(
     alloc: Global,
-    path: &Path<'_>,
+    path: &DocumentPath<'_>,
     value: &Value,
     devices: &[D],
-) -> Result<Sequence<Route>, Fault>
+) -> Result<Sequence<Path>, Fault>
     ensures { let names = map D.name devices.now in
         let meaning = map (path_of names) (items_of (view value.now)) in
         Reads (paths_faults names (pointer path.now) (view value.now)) meaning result }

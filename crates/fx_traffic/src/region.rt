@@ -12,9 +12,9 @@ ghost use Rattle.fx_traffic.specs.Regions.{IsOn, all_on, axis_name, region_fault
 use fx_base::Fault;
 use fx_boxes::{Fields, Region};
 use fx_elements::{
-    AXES, Axis, EVERY_AXIS, Element, Range, TOPS, cut, read_on, read_value, top, values_fit, width,
+    AXES, Axis, EVERY_AXIS, Element, Range, TOPS, split_at_byte, read_on, read_value, top, values_fit, width,
 };
-use fx_walk::{Path, object_of, refusal};
+use fx_walk::{DocumentPath, object_of, refusal};
 use serde_json::Value;
 use std::alloc::Global;
 
@@ -58,7 +58,7 @@ fn values_on(axis: Axis, text: &str) -> Option<Range>
     ensures value { result ≡ values_on axis text.now }
     ensures bound { IfSome result (IsOn axis) }
 {
-    match cut(text.as_bytes(), b'-') {
+    match split_at_byte(text.as_bytes(), b'-') {
         Some((low, high)) => span(axis, low, high),
         None => match single_on(axis, text) {
             Some(values) => Some(values),
@@ -80,7 +80,7 @@ fn all_on(axis: Axis) -> Range
 }
 
 /// Values on the axis: 104 for no text, 302 for a text that spells none.
-fn values_at(alloc: Global, path: &Path<'_>, value: &Value, axis: Axis) -> Result<Range, Fault>
+fn values_at(alloc: Global, path: &DocumentPath<'_>, value: &Value, axis: Axis) -> Result<Range, Fault>
     ensures answer { Reads (values_faults axis (pointer path.now) (view value.now))
         (values_in axis (view value.now)) result }
     ensures bound { IfOk result (IsOn axis) }
@@ -116,7 +116,7 @@ fn axis_name(axis: Axis) -> &'static str
 }
 
 /// The values on the axis that an object's member gives; all where it isn't there.
-fn axis_member(alloc: Global, path: &Path<'_>, object: &Value, axis: Axis) -> Result<Range, Fault>
+fn axis_member(alloc: Global, path: &DocumentPath<'_>, object: &Value, axis: Axis) -> Result<Range, Fault>
     ensures answer { Reads ((optional (axis_name axis) (values_faults axis)).faults
         (pointer path.now) (view object.now))
         (values_given axis (get (axis_name axis) (view object.now))) result }
@@ -124,7 +124,7 @@ fn axis_member(alloc: Global, path: &Path<'_>, object: &Value, axis: Axis) -> Re
 {
     let name = axis_name(axis);
     match object.get(name) {
-        Some(value) => values_at(alloc, &Path::Member(path, name), value, axis),
+        Some(value) => values_at(alloc, &DocumentPath::Member(path, name), value, axis),
         None => Ok(all_on(axis)),
     }
 }
@@ -148,7 +148,7 @@ pub fn whole() -> Region
 }
 
 /// The region of the values that an object's members give.
-fn region_in(alloc: Global, path: &Path<'_>, object: &Value) -> Result<Region, Fault>
+fn region_in(alloc: Global, path: &DocumentPath<'_>, object: &Value) -> Result<Region, Fault>
     ensures { Reads (row_faults region_rows (pointer path.now) (view object.now))
         (region_of (view object.now)) result }
 {
@@ -163,7 +163,7 @@ fn region_in(alloc: Global, path: &Path<'_>, object: &Value) -> Result<Region, F
 }
 
 /// A region: an object that names axes, each with the values that packets may have on it.
-pub fn read_region(alloc: Global, path: &Path<'_>, value: &Value) -> Result<Region, Fault>
+pub fn read_region(alloc: Global, path: &DocumentPath<'_>, value: &Value) -> Result<Region, Fault>
     ensures { Reads (region_faults (pointer path.now) (view value.now)) (region_of (view value.now))
         result }
 {

@@ -2,7 +2,7 @@
 ghost use Rattle.std.specs.Prelude.{◌≡◌, ℕ, List, [], map, codes};
 ghost use Rattle.serde_json.specs.View.{view};
 ghost use Rattle.fx_walk.specs.Pointer.{pointer};
-ghost use Rattle.fx_walk.specs.Walk.{Reads, required, member_of};
+ghost use Rattle.fx_walk.specs.Walk.{Reads, required_row, member_of};
 ghost use Rattle.fx_walk.specs.Lists.{items_of};
 ghost use Rattle.fx_topology.specs.Networks.{device_names};
 ghost use Rattle.fx_traffic.specs.Classes.{class_of, list_of_classes_faults, traffic_faults, traffic_of};
@@ -11,7 +11,7 @@ use crate::class::read_list;
 use fx_base::Fault;
 use fx_plan::Plan;
 use fx_tables::{Class, Classes};
-use fx_walk::{Named, Path, Sequence, object_of, refusal};
+use fx_walk::{Named, DocumentPath, Sequence, object_of, refusal};
 use serde_json::Value;
 use std::alloc::Global;
 use std::marker::Model;
@@ -42,17 +42,17 @@ impl Traffic {
 
 fn classes_member<T: Named>(
     alloc: Global,
-    path: &Path<'_>,
+    path: &DocumentPath<'_>,
     object: &Value,
     devices: &[T],
 ) -> Result<Sequence<Class>, Fault>
-    ensures { Reads ((required (codes "classes")
+    ensures { Reads ((required_row (codes "classes")
         (list_of_classes_faults (map T.name devices.now))).faults (pointer path.now)
         (view object.now)) (map (class_of (map T.name devices.now))
         (items_of (member_of (codes "classes") (view object.now)))) result }
 {
     match object.get("classes") {
-        Some(value) => read_list(alloc, &Path::Member(path, "classes"), value, devices),
+        Some(value) => read_list(alloc, &DocumentPath::Member(path, "classes"), value, devices),
         None => Err(refusal(alloc, 103, path)),
     }
 }
@@ -60,7 +60,7 @@ fn classes_member<T: Named>(
 /// The declaration that stands at the path.
 fn traffic_at<T: Named>(
     alloc: Global,
-    path: &Path<'_>,
+    path: &DocumentPath<'_>,
     value: &Value,
     devices: &[T],
 ) -> Result<Traffic, Fault>
@@ -83,7 +83,7 @@ pub(crate) fn read_classes<T: Named>(
     ensures { Reads (traffic_faults (map T.name devices.now) [] (view value.now))
         (traffic_of (map T.name devices.now) (view value.now)) result }
 {
-    traffic_at(alloc, &Path::Root, value, devices)
+    traffic_at(alloc, &DocumentPath::Root, value, devices)
 }
 
 /// Reads the declaration of the traffic that crosses a network: what it means, or its first fault in the order

@@ -6,13 +6,13 @@ use Rattle.serde_json.specs.Find.{get}
 use Rattle.fx_walk.specs.Choice.{numbered_faults, numbered_row}
 use Rattle.fx_walk.specs.declared.choice.Refused.{Refused}
 use Rattle.fx_walk.specs.Pointer.{below}
-use Rattle.fx_walk.specs.Walk.{Found, first}
+use Rattle.fx_walk.specs.Walk.{FoundFault, first}
 
 find_none : {A B : Type 0} (b : Bool) (x : A) (y : B) (ys : List B) (rest : Option A) → None ≡ cond b (Some x) rest → (None ≡ rest → ys ≡ []) → cond b (y ∷ ys) ys ≡ []
 find_none true x y ys rest h next = absurd cc
 find_none false x y ys rest h next = next h
 
-find_some : (b : Bool) (x y : Refused) (up : List ℕ) (rest : Option Refused) (fs : List Found) → Some y ≡ cond b (Some x) rest → (Some y ≡ rest → first fs ≡ Some (y.number, below up y.name.now)) → first (cond b ((x.number, below up x.name.now) ∷ fs) fs) ≡ Some (y.number, below up y.name.now)
+find_some : (b : Bool) (x y : Refused) (up : List ℕ) (rest : Option Refused) (fs : List FoundFault) → Some y ≡ cond b (Some x) rest → (Some y ≡ rest → first fs ≡ Some (y.number, below up y.name.now)) → first (cond b ((x.number, below up x.name.now) ∷ fs) fs) ≡ Some (y.number, below up y.name.now)
 find_some true x y up rest fs h next = let e : x ≡ y = cc in ap (λ (z : Refused). Some (z.number, below up z.name.now)) e
 find_some false x y up rest fs h next = next h
 

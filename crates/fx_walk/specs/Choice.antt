@@ -3,10 +3,10 @@ use Rattle.std.specs.Prelude.{ℕ, zero, suc, List, [], ◌∷◌, is_some, map,
 use Rattle.serde_json.specs.Data.{Data}
 use Rattle.serde_json.specs.Find.{get}
 use Rattle.fx_walk.specs.Pointer.{below}
-use Rattle.fx_walk.specs.Walk.{Found, Row}
+use Rattle.fx_walk.specs.Walk.{FoundFault, Row}
 use Rattle.fx_walk.specs.declared.choice.Refused.{Refused}
 
-abbrev pub unless_one : ℕ → List ℕ → List Found
+abbrev pub unless_one : ℕ → List ℕ → List FoundFault
 unless_one zero up = (103, up) ∷ []
 unless_one (suc zero) up = []
 unless_one (suc (suc n)) up = (105, up) ∷ []
@@ -15,7 +15,7 @@ unless_one (suc (suc n)) up = (105, up) ∷ []
 abbrev pub one_of : List (List ℕ) → Row
 one_of names = record { names = []; faults = λ up d. unless_one (count_by (λ n. is_some (get n d)) names) up }
 
-abbrev pub numbered_faults : List (List ℕ × ℕ) → List ℕ → Data → List Found
+abbrev pub numbered_faults : List (List ℕ × ℕ) → List ℕ → Data → List FoundFault
 numbered_faults [] up d = []
 numbered_faults (r ∷ rows) up d = cond (is_some (get r.0 d)) ((r.1, below up r.0) ∷ numbered_faults rows up d) (numbered_faults rows up d)
 

@@ -10,7 +10,7 @@ use Rattle.serde_json.specs.View.{view}
 use Rattle.serde_json.specs.declared.value.Value.{Value}
 use Rattle.fx_base.specs.declared.fault.Fault.{Fault}
 use Rattle.fx_walk.specs.Pointer.{below, nth}
-use Rattle.fx_walk.specs.Walk.{Found, Row, Refuses, of_kind, fault_if}
+use Rattle.fx_walk.specs.Walk.{FoundFault, Row, Refuses, of_kind, fault_if}
 use Rattle.fx_walk.specs.Scalars.{text_of, text_that}
 use Rattle.fx_base.specs.Name.{is_name}
 
@@ -29,39 +29,39 @@ items_of d = unwrap_or (items_in d) []
 -- ---- faults
 
 -- too many items, too few, or those of the items; the first two have these numbers
-abbrev pub by_length : ℕ → ℕ → ℕ → ℕ → List ℕ → ℕ → List Found → List Found
+abbrev pub by_length : ℕ → ℕ → ℕ → ℕ → List ℕ → ℕ → List FoundFault → List FoundFault
 by_length few many least most up n rest = if nat_lt most n then (many, up) ∷ [] else (if nat_lt n least then (few, up) ∷ [] else rest)
 
-abbrev pub list_faults_by : ℕ → ℕ → ℕ → ℕ → (List ℕ → List Data → List Found) → List ℕ → Data → List Found
+abbrev pub list_faults_by : ℕ → ℕ → ℕ → ℕ → (List ℕ → List Data → List FoundFault) → List ℕ → Data → List FoundFault
 list_faults_by few many least most faults up d = of_kind (items_in d) (λ ds. by_length few many least most up (length ds) (faults up ds)) up
 
-abbrev pub list_faults : ℕ → ℕ → (List ℕ → List Data → List Found) → List ℕ → Data → List Found
+abbrev pub list_faults : ℕ → ℕ → (List ℕ → List Data → List FoundFault) → List ℕ → Data → List FoundFault
 list_faults = list_faults_by 103 115
 
-abbrev pub faults_of_list : ℕ → ℕ → (List ℕ → List Data → List Found) → List ℕ → List ℕ → Option Data → List Found
+abbrev pub faults_of_list : ℕ → ℕ → (List ℕ → List Data → List FoundFault) → List ℕ → List ℕ → Option Data → List FoundFault
 faults_of_list least most faults up name None = fault_if (nat_lt 0 least) 103 up
 faults_of_list least most faults up name (Some d) = list_faults least most faults (below up name) d
 
 -- A member that is a list of `least` to `most` items. Where it may be empty it may be left out, which is the same.
-abbrev pub list_row : ℕ → ℕ → List ℕ → (List ℕ → List Data → List Found) → Row
+abbrev pub list_row : ℕ → ℕ → List ℕ → (List ℕ → List Data → List FoundFault) → Row
 list_row least most name faults = record { names = name ∷ []; faults = λ up d. faults_of_list least most faults up name (get name d) }
 
 -- the faults of the items from the i-th on
-abbrev pub items_faults : {X : Type 0} → (List ℕ → X → List Found) → List ℕ → ℕ → List X → List Found
+abbrev pub items_faults : {X : Type 0} → (List ℕ → X → List FoundFault) → List ℕ → ℕ → List X → List FoundFault
 items_faults faults up i [] = []
 items_faults faults up i (x ∷ xs) = faults (nth up i) x ++ items_faults faults up (i + 1) xs
 
-abbrev pub items : ℕ → ℕ → List ℕ → (List ℕ → Data → List Found) → Row
+abbrev pub items : ℕ → ℕ → List ℕ → (List ℕ → Data → List FoundFault) → Row
 items least most name faults = list_row least most name (λ up ds. items_faults faults up 0 ds)
 
 -- ---- lists whose entries have names that differ
 
 -- the faults of the entries from the i-th on, behind entries with these names
-abbrev pub entries_faults : (List (List ℕ) → List ℕ → Data → List Found) → (Data → List ℕ) → List (List ℕ) → List ℕ → ℕ → List Data → List Found
+abbrev pub entries_faults : (List (List ℕ) → List ℕ → Data → List FoundFault) → (Data → List ℕ) → List (List ℕ) → List ℕ → ℕ → List Data → List FoundFault
 entries_faults faults name earlier up i [] = []
 entries_faults faults name earlier up i (d ∷ ds) = faults earlier (nth up i) d ++ entries_faults faults name (earlier ++ name d ∷ []) up (i + 1) ds
 
-abbrev pub entries : ℕ → ℕ → List ℕ → (List (List ℕ) → List ℕ → Data → List Found) → (Data → List ℕ) → Row
+abbrev pub entries : ℕ → ℕ → List ℕ → (List (List ℕ) → List ℕ → Data → List FoundFault) → (Data → List ℕ) → Row
 entries least most name faults name_in = list_row least most name (λ up ds. entries_faults faults name_in [] up 0 ds)
 
 abbrev pub is_among : List (List ℕ) → List ℕ → Bool
@@ -72,17 +72,17 @@ abbrev pub place_in : List (List ℕ) → List ℕ → Option ℕ
 place_in names name = position (λ n. bytes_eq n name) names
 
 -- a name that differs from earlier ones; these numbers stand for a text that is no name, and for one of those
-abbrev pub name_once_by : ℕ → ℕ → List (List ℕ) → List ℕ → Data → List Found
+abbrev pub name_once_by : ℕ → ℕ → List (List ℕ) → List ℕ → Data → List FoundFault
 name_once_by wrong twice earlier up d = text_that wrong is_name up d ++ fault_if (is_among earlier (text_of d)) twice up
 
-abbrev pub name_once : List (List ℕ) → List ℕ → Data → List Found
+abbrev pub name_once : List (List ℕ) → List ℕ → Data → List FoundFault
 name_once = name_once_by 105 106
 
 -- What a look at a list's kind and length comes to.
 abbrev pub IsListBy : ℕ → ℕ → ℕ → ℕ → List ℕ → Data → Result (Bor (List Value)) Fault → Type 0
 IsListBy few many least most up d (Ok values) =
-    ((faults : List ℕ → List Data → List Found) → list_faults_by few many least most faults up d ≡ faults up (map view values.now)) × (items_of d ≡ map view values.now)
-IsListBy few many least most up d (Err e) = (faults : List ℕ → List Data → List Found) → Refuses e (list_faults_by few many least most faults up d)
+    ((faults : List ℕ → List Data → List FoundFault) → list_faults_by few many least most faults up d ≡ faults up (map view values.now)) × (items_of d ≡ map view values.now)
+IsListBy few many least most up d (Err e) = (faults : List ℕ → List Data → List FoundFault) → Refuses e (list_faults_by few many least most faults up d)
 
 abbrev pub IsListOf : ℕ → ℕ → List ℕ → Data → Result (Bor (List Value)) Fault → Type 0
 IsListOf = IsListBy 103 115

@@ -13,38 +13,38 @@ use Rattle.fx_base.specs.declared.fault.Place.TheVariants as places
 -- ---- faults and answers
 
 -- a number, and the pointer to where it stands
-abbrev pub Found : Type 0
-Found = ℕ × List ℕ
+abbrev pub FoundFault : Type 0
+FoundFault = ℕ × List ℕ
 
-abbrev pub first : List Found → Option Found
+abbrev pub first : List FoundFault → Option FoundFault
 first [] = None
 first (f ∷ fs) = Some f
 
 -- a refusal is the first of these faults, or want of memory
-abbrev pub refuses : ℕ → Place → List Found → Type 0
+abbrev pub refuses : ℕ → Place → List FoundFault → Type 0
 refuses n places.None fs = n ≡ 900
 refuses n (places.Text s) fs = first fs ≡ Some (n, string_bytes s)
 refuses n (places.Line l) fs = ⊥
 refuses n (places.Octet o) fs = ⊥
 
-abbrev pub Refuses : Fault → List Found → Type 0
+abbrev pub Refuses : Fault → List FoundFault → Type 0
 Refuses e fs = refuses e.number e.place fs
 
 -- What a reader answers, where these are all faults and this is what is meant: the meaning where there is no fault,
 -- and else the first of them.
-abbrev pub Reads : {X : Type 0} → List Found → X → Result X Fault → Type 0
+abbrev pub Reads : {X : Type 0} → List FoundFault → X → Result X Fault → Type 0
 Reads fs meaning (Ok x) = (fs ≡ []) × (x ≡ meaning)
 Reads fs meaning (Err e) = Refuses e fs
 
 -- ---- values
 
 -- the faults of a value of some kind; one of another kind is a fault itself
-abbrev pub of_kind : {X : Type 0} → Option X → (X → List Found) → List ℕ → List Found
+abbrev pub of_kind : {X : Type 0} → Option X → (X → List FoundFault) → List ℕ → List FoundFault
 of_kind None faults up = (104, up) ∷ []
 of_kind (Some x) faults up = faults x
 
 -- a fault where a test holds
-abbrev pub fault_if : Bool → ℕ → List ℕ → List Found
+abbrev pub fault_if : Bool → ℕ → List ℕ → List FoundFault
 fault_if true n up = (n, up) ∷ []
 fault_if false n up = []
 
@@ -57,35 +57,35 @@ member_of name d = unwrap_or (get name d) null
 -- A row of the table that defines an object: the members that it speaks of, and their faults in an object at a pointer.
 pub record Row : Type 0 where
   pub names : List (List ℕ)
-  pub faults : List ℕ → Data → List Found
+  pub faults : List ℕ → Data → List FoundFault
 
-abbrev pub faults_if_there : (List ℕ → Data → List Found) → List ℕ → List ℕ → Option Data → List Found
+abbrev pub faults_if_there : (List ℕ → Data → List FoundFault) → List ℕ → List ℕ → Option Data → List FoundFault
 faults_if_there faults up name None = []
 faults_if_there faults up name (Some d) = faults (below up name) d
 
-abbrev pub faults_or_missing : (List ℕ → Data → List Found) → List ℕ → List ℕ → Option Data → List Found
+abbrev pub faults_or_missing : (List ℕ → Data → List FoundFault) → List ℕ → List ℕ → Option Data → List FoundFault
 faults_or_missing faults up name None = (103, up) ∷ []
 faults_or_missing faults up name (Some d) = faults (below up name) d
 
 -- a member that may be there
-abbrev pub optional : List ℕ → (List ℕ → Data → List Found) → Row
+abbrev pub optional : List ℕ → (List ℕ → Data → List FoundFault) → Row
 optional name faults = record { names = name ∷ []; faults = λ up d. faults_if_there faults up name (get name d) }
 
 -- a member that must be there
-abbrev pub required : List ℕ → (List ℕ → Data → List Found) → Row
-required name faults = record { names = name ∷ []; faults = λ up d. faults_or_missing faults up name (get name d) }
+abbrev pub required_row : List ℕ → (List ℕ → Data → List FoundFault) → Row
+required_row name faults = record { names = name ∷ []; faults = λ up d. faults_or_missing faults up name (get name d) }
 
 -- members that are left unread
 abbrev pub unread : List (List ℕ) → Row
 unread names = record { names = names; faults = λ up d. [] }
 
 -- what is looked at once the members of the rows above are read
-abbrev pub then_check : (List ℕ → Data → List Found) → Row
+abbrev pub then_check : (List ℕ → Data → List FoundFault) → Row
 then_check faults = record { names = []; faults = faults }
 
 -- ---- objects
 
-abbrev pub row_faults : List Row → List ℕ → Data → List Found
+abbrev pub row_faults : List Row → List ℕ → Data → List FoundFault
 row_faults [] up d = []
 row_faults (row ∷ rows) up d = row.faults up d ++ row_faults rows up d
 
@@ -101,11 +101,11 @@ abbrev pub is_listed : List (List ℕ) → List ℕ → Bool
 is_listed listed name = list_any (λ t. bytes_eq t name) listed
 
 -- the members for which a test doesn't hold
-abbrev pub others : (List ℕ → Bool) → List ℕ → Members → List Found
+abbrev pub others : (List ℕ → Bool) → List ℕ → Members → List FoundFault
 others may_stand up ms = map (λ k. (102, below up k)) (filter (λ k. not (may_stand k)) (names ms))
 
 -- an object: the members that no row lists, and then the rows in order
-abbrev pub object_faults : List Row → List ℕ → Data → List Found
+abbrev pub object_faults : List Row → List ℕ → Data → List FoundFault
 object_faults rows up d = of_kind (as_object d) (λ ms. others (is_listed (listed_in rows)) up ms ++ row_faults rows up d) up
 
 -- The name of a member that another module defines (RFC 7951, section 4): the text before the first colon is the
@@ -115,10 +115,10 @@ is_foreign home name = list_any (λ b. b == 58) name && (not (bytes_eq (before_f
     && not (bytes_eq (before_first (λ b. b == 58) name) home))
 
 -- an object of this module beside whose members those of other modules may stand
-abbrev pub open_object_faults : List ℕ → List Row → List ℕ → Data → List Found
+abbrev pub open_object_faults : List ℕ → List Row → List ℕ → Data → List FoundFault
 open_object_faults home rows up d = of_kind (as_object d) (λ ms. others (λ k. is_listed (listed_in rows) k || is_foreign home k) up ms ++ row_faults rows up d) up
 
 -- What a look at an object's kind and its other members comes to.
-abbrev pub IsObject : (List Row → List ℕ → Data → List Found) → List (List ℕ) → List ℕ → Data → Result (Unit {0}) Fault → Type 0
+abbrev pub IsObject : (List Row → List ℕ → Data → List FoundFault) → List (List ℕ) → List ℕ → Data → Result (Unit {0}) Fault → Type 0
 IsObject faults listed up d (Ok x) = (rows : List Row) → listed_in rows ≡ listed → faults rows up d ≡ row_faults rows up d
 IsObject faults listed up d (Err e) = (rows : List Row) → listed_in rows ≡ listed → Refuses e (faults rows up d)

@@ -7,7 +7,7 @@ ghost use Rattle.fx_walk.specs.Pointer.{pointer};
 ghost use Rattle.fx_walk.specs.Walk.{Reads};
 ghost use Rattle.fx_walk.specs.Choice.{one_of, none_of, numbered_row};
 
-use crate::path::{Path, refusal};
+use crate::path::{DocumentPath, refusal};
 use fx_base::Fault;
 use serde_json::Value;
 use std::alloc::Global;
@@ -29,7 +29,7 @@ fn how_many_named(value: &Value, names: &[&str]) -> usize
 }
 
 /// Refuses an object with none of these members (103), or with several (105).
-pub fn one_of(alloc: Global, path: &Path<'_>, object: &Value, names: &[&str]) -> Result<(), Fault>
+pub fn one_of(alloc: Global, path: &DocumentPath<'_>, object: &Value, names: &[&str]) -> Result<(), Fault>
     ensures { Reads ((one_of (map (λ n. n.now) names.now)).faults (pointer path.now)
         (view object.now)) tt result }
 {
@@ -60,7 +60,7 @@ fn first_refused<'a>(object: &Value, rows: &[Refused<'a>]) -> Option<Refused<'a>
 /// Refuses an object with one of these members, at the first that is there in the order of the rows.
 pub fn none_of(
     alloc: Global,
-    path: &Path<'_>,
+    path: &DocumentPath<'_>,
     object: &Value,
     rows: &[Refused<'_>],
 ) -> Result<(), Fault>
@@ -68,7 +68,7 @@ pub fn none_of(
         (view object.now)) tt result }
 {
     match first_refused(object, rows) {
-        Some(row) => Err(refusal(alloc, row.number, &Path::Member(path, row.name))),
+        Some(row) => Err(refusal(alloc, row.number, &DocumentPath::Member(path, row.name))),
         None => Ok(()),
     }
 }

@@ -3,14 +3,14 @@ ghost use Rattle.std.specs.Prelude.{◌≡◌, ℕ, List, [], ◌∷◌, ◌++�
 ghost use Rattle.serde_json.specs.Data.{Data};
 ghost use Rattle.serde_json.specs.View.{view};
 ghost use Rattle.fx_walk.specs.Pointer.{pointer};
-ghost use Rattle.fx_walk.specs.Walk.{Found, Reads, member_of, required};
+ghost use Rattle.fx_walk.specs.Walk.{FoundFault, Reads, member_of, required_row};
 ghost use Rattle.fx_walk.specs.Lists.{entries, entries_faults, items_of, name_once, name_once_by};
 ghost use Rattle.fx_walk.specs.NamedEntries.{named_entries};
 ghost use Rattle.fx_walk.specs.Scalars.{text_of};
 
 use crate::list::items_in;
 use crate::names::Names;
-use crate::path::{Path, refusal};
+use crate::path::{DocumentPath, refusal};
 use crate::scalar::read_name;
 use crate::sequence::Sequence;
 use fx_base::{Fault, Name};
@@ -31,7 +31,7 @@ pub trait Named: Drop {
 /// What an entry of a list may be read as, whose name differs from those of the entries before it.
 pub trait Entry: Named {
     /// The faults of a value at a pointer, behind entries with these names.
-    ghost faults: { List (List ℕ) → List ℕ → Data → List Found };
+    ghost faults: { List (List ℕ) → List ℕ → Data → List FoundFault };
 
     /// What a value without a fault means.
     ghost meaning: { Data → Self };
@@ -40,7 +40,7 @@ pub trait Entry: Named {
     /// answers its first fault.
     fn from_entry(
         alloc: Global,
-        path: &Path<'_>,
+        path: &DocumentPath<'_>,
         value: &Value,
         earlier: &mut Names,
     ) -> Result<Self, Fault>
@@ -54,7 +54,7 @@ pub trait Entry: Named {
 /// `twice` for one of those.
 pub fn unique_name_by(
     alloc: Global,
-    path: &Path<'_>,
+    path: &DocumentPath<'_>,
     value: &Value,
     earlier: &mut Names,
     wrong: u16,
@@ -75,7 +75,7 @@ pub fn unique_name_by(
 /// A name that differs from those of earlier entries: 104 and 105 as for any name, 106 for one of those.
 pub fn unique_name(
     alloc: Global,
-    path: &Path<'_>,
+    path: &DocumentPath<'_>,
     value: &Value,
     earlier: &mut Names,
 ) -> Result<Name, Fault>
@@ -90,11 +90,11 @@ pub fn unique_name(
 /// An entry's member `name`, which differs from those of earlier entries.
 pub fn name_member(
     alloc: Global,
-    path: &Path<'_>,
+    path: &DocumentPath<'_>,
     object: &Value,
     earlier: &mut Names,
 ) -> Result<Name, Fault>
-    ensures reads { Reads ((required (codes "name") (name_once earlier.old)).faults
+    ensures reads { Reads ((required_row (codes "name") (name_once earlier.old)).faults
         (pointer path.now) (view object.now)) (text_of (member_of (codes "name") (view object.now)))
         result }
     ensures names { OnOk result (earlier.new
@@ -102,7 +102,7 @@ pub fn name_member(
     ensures same { OnErr result (earlier.new ≡ earlier.old) }
 {
     match object.get("name") {
-        Some(value) => unique_name(alloc, &Path::Member(path, "name"), value, earlier),
+        Some(value) => unique_name(alloc, &DocumentPath::Member(path, "name"), value, earlier),
         None => Err(refusal(alloc, 103, path)),
     }
 }
@@ -123,7 +123,7 @@ impl Entry for Name {
 
     fn from_entry(
         alloc: Global,
-        path: &Path<'_>,
+        path: &DocumentPath<'_>,
         value: &Value,
         earlier: &mut Names,
     ) -> Result<Name, Fault> {
@@ -175,7 +175,7 @@ pub struct Entries<T> {
 /// What the entries of the list at the path mean, in order.
 fn entries_of<T: Entry>(
     alloc: Global,
-    path: &Path<'_>,
+    path: &DocumentPath<'_>,
     items: &[Value],
 ) -> Result<Entries<T>, Fault>
     ensures { Reads (entries_faults T.faults (λ d. T.name (T.meaning d)) [] (pointer path.now) 0
@@ -185,7 +185,7 @@ fn entries_of<T: Entry>(
     let mut names = Names::new(alloc);
     let mut place = 0;
     for item in items {
-        values.push(T::from_entry(alloc, &Path::Item(&*path, place), item, &mut names)?)?;
+        values.push(T::from_entry(alloc, &DocumentPath::Item(&*path, place), item, &mut names)?)?;
         place += 1;
     }
     let names = EntryNames::new(alloc, names)?;
@@ -199,7 +199,7 @@ fn entries_of<T: Entry>(
 /// left out; else 103 at the object.
 pub fn named_member<T: Entry>(
     alloc: Global,
-    path: &Path<'_>,
+    path: &DocumentPath<'_>,
     object: &Value,
     name: &str,
     least: usize,
@@ -212,7 +212,7 @@ pub fn named_member<T: Entry>(
 {
     match object.get(name) {
         Some(value) => {
-            let path = Path::Member(path, name);
+            let path = DocumentPath::Member(path, name);
             let items = items_in(alloc, &path, value, least, most)?;
             entries_of(alloc, &path, items)
         }
@@ -230,7 +230,7 @@ pub fn named_member<T: Entry>(
 /// The same without the names.
 pub fn entries_member<T: Entry>(
     alloc: Global,
-    path: &Path<'_>,
+    path: &DocumentPath<'_>,
     object: &Value,
     name: &str,
     least: usize,

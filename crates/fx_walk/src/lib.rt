@@ -29,7 +29,7 @@ pub use list::{items_by, items_in, items_member};
 pub use member::{FromValue, optional_member, required_member};
 pub use names::Names;
 pub use object::{document_of, object_of};
-pub use path::{Path, refusal};
+pub use path::{DocumentPath, refusal};
 pub use reference::{Refers, is_named, items_refer, place_of};
 pub use refuse::refuse_if;
 pub use required_list::{required_entries, required_items};

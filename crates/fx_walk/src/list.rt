@@ -6,7 +6,7 @@ ghost use Rattle.fx_walk.specs.Walk.{Reads, member_of};
 ghost use Rattle.fx_walk.specs.Lists.{IsListBy, IsListOf, items, items_faults, items_of};
 
 use crate::member::FromValue;
-use crate::path::{Path, refusal};
+use crate::path::{DocumentPath, refusal};
 use crate::sequence::Sequence;
 use fx_base::Fault;
 use serde_json::Value;
@@ -15,7 +15,7 @@ use std::alloc::Global;
 /// The items of a list: 104 for another kind of value, `many` for more than `most`, `few` for fewer than `least`.
 pub fn items_by<'v>(
     alloc: Global,
-    path: &Path<'_>,
+    path: &DocumentPath<'_>,
     value: &'v Value,
     least: usize,
     most: usize,
@@ -39,7 +39,7 @@ pub fn items_by<'v>(
 /// The items of a list: 104 for another kind of value, 115 for more than `most`, 103 for fewer than `least`.
 pub fn items_in<'v>(
     alloc: Global,
-    path: &Path<'_>,
+    path: &DocumentPath<'_>,
     value: &'v Value,
     least: usize,
     most: usize,
@@ -52,7 +52,7 @@ pub fn items_in<'v>(
 /// What the items of the list at the path mean, in order.
 fn values_of<T: FromValue>(
     alloc: Global,
-    path: &Path<'_>,
+    path: &DocumentPath<'_>,
     items: &[Value],
 ) -> Result<Sequence<T>, Fault>
     ensures { Reads (items_faults T.faults (pointer path.now) 0 (map view items.now))
@@ -61,7 +61,7 @@ fn values_of<T: FromValue>(
     let mut values = Vec::new(alloc);
     let mut place = 0;
     for item in items {
-        values.push(T::from_value(alloc, &Path::Item(path, place), item)?)?;
+        values.push(T::from_value(alloc, &DocumentPath::Item(path, place), item)?)?;
         place += 1;
     }
     Ok(Sequence::from_vec(values))
@@ -71,7 +71,7 @@ fn values_of<T: FromValue>(
 /// at the object.
 pub fn items_member<T: FromValue>(
     alloc: Global,
-    path: &Path<'_>,
+    path: &DocumentPath<'_>,
     object: &Value,
     name: &str,
     least: usize,
@@ -83,7 +83,7 @@ pub fn items_member<T: FromValue>(
 {
     match object.get(name) {
         Some(value) => {
-            let path = Path::Member(path, name);
+            let path = DocumentPath::Member(path, name);
             let items = items_in(alloc, &path, value, least, most)?;
             values_of(alloc, &path, items)
         }

@@ -4,9 +4,9 @@ ghost use Rattle.serde_json.specs.Data.{Data};
 ghost use Rattle.serde_json.specs.View.{view};
 ghost use Rattle.serde_json.specs.Find.{get};
 ghost use Rattle.fx_walk.specs.Pointer.{pointer};
-ghost use Rattle.fx_walk.specs.Walk.{Found, Reads, required, optional, member_of};
+ghost use Rattle.fx_walk.specs.Walk.{FoundFault, Reads, required_row, optional, member_of};
 
-use crate::path::{Path, refusal};
+use crate::path::{DocumentPath, refusal};
 use fx_base::Fault;
 use serde_json::Value;
 use std::alloc::Global;
@@ -14,13 +14,13 @@ use std::alloc::Global;
 /// What a value of a document may be read as.
 pub trait FromValue: Drop {
     /// The faults of a value at a pointer, in the order of the walk.
-    ghost faults: { List ℕ → Data → List Found };
+    ghost faults: { List ℕ → Data → List FoundFault };
 
     /// What a value without a fault means.
     ghost meaning: { Data → Self };
 
     /// Reads the value that stands at the path, or answers its first fault.
-    fn from_value(alloc: Global, path: &Path<'_>, value: &Value) -> Result<Self, Fault>
+    fn from_value(alloc: Global, path: &DocumentPath<'_>, value: &Value) -> Result<Self, Fault>
         ensures { Reads (faults (pointer path.now) (view value.now)) (meaning (view value.now))
             result };
 }
@@ -28,15 +28,15 @@ pub trait FromValue: Drop {
 /// A member that an object must have: 103 at the object where it isn't there.
 pub fn required_member<T: FromValue>(
     alloc: Global,
-    path: &Path<'_>,
+    path: &DocumentPath<'_>,
     object: &Value,
     name: &str,
 ) -> Result<T, Fault>
-    ensures { Reads ((required name.now T.faults).faults (pointer path.now) (view object.now))
+    ensures { Reads ((required_row name.now T.faults).faults (pointer path.now) (view object.now))
         (T.meaning (member_of name.now (view object.now))) result }
 {
     match object.get(name) {
-        Some(value) => T::from_value(alloc, &Path::Member(path, name), value),
+        Some(value) => T::from_value(alloc, &DocumentPath::Member(path, name), value),
         None => Err(refusal(alloc, 103, path)),
     }
 }
@@ -44,7 +44,7 @@ pub fn required_member<T: FromValue>(
 /// A member that an object may have.
 pub fn optional_member<T: FromValue>(
     alloc: Global,
-    path: &Path<'_>,
+    path: &DocumentPath<'_>,
     object: &Value,
     name: &str,
 ) -> Result<Option<T>, Fault>
@@ -52,7 +52,7 @@ pub fn optional_member<T: FromValue>(
         (option_map T.meaning (get name.now (view object.now))) result }
 {
     match object.get(name) {
-        Some(value) => Ok(Some(T::from_value(alloc, &Path::Member(path, name), value)?)),
+        Some(value) => Ok(Some(T::from_value(alloc, &DocumentPath::Member(path, name), value)?)),
         None => Ok(None),
     }
 }

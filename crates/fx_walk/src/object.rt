@@ -7,7 +7,7 @@ ghost use Rattle.std.specs.Map.{keys_of};
 ghost use Rattle.fx_walk.specs.Pointer.{pointer};
 ghost use Rattle.fx_walk.specs.Walk.{IsObject, object_faults, open_object_faults, is_foreign, is_listed};
 
-use crate::path::{Path, refusal};
+use crate::path::{DocumentPath, refusal};
 use fx_base::Fault;
 use serde_json::{Map, Value};
 use std::alloc::Global;
@@ -38,7 +38,7 @@ fn first_other<'v>(members: &'v Map<String, Value>, listed: &[&str]) -> Option<&
 /// of them in byte order).
 pub fn object_of(
     alloc: Global,
-    path: &Path<'_>,
+    path: &DocumentPath<'_>,
     value: &Value,
     listed: &[&str],
 ) -> Result<(), Fault>
@@ -49,7 +49,7 @@ pub fn object_of(
         return Err(refusal(alloc, 104, path));
     };
     match first_other(members, listed) {
-        Some(name) => Err(refusal(alloc, 102, &Path::Member(path, name.as_str()))),
+        Some(name) => Err(refusal(alloc, 102, &DocumentPath::Member(path, name.as_str()))),
         None => Ok(()),
     }
 }
@@ -80,7 +80,7 @@ fn first_refused<'v>(
 /// (RFC 7951, section 4).
 pub fn document_of(
     alloc: Global,
-    path: &Path<'_>,
+    path: &DocumentPath<'_>,
     value: &Value,
     home: &str,
     listed: &[&str],
@@ -92,7 +92,7 @@ pub fn document_of(
         return Err(refusal(alloc, 104, path));
     };
     match first_refused(members, home, listed) {
-        Some(name) => Err(refusal(alloc, 102, &Path::Member(path, name.as_str()))),
+        Some(name) => Err(refusal(alloc, 102, &DocumentPath::Member(path, name.as_str()))),
         None => Ok(()),
     }
 }

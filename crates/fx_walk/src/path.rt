@@ -1,5 +1,5 @@
 //! Where a value stands in a document.
-ghost use Rattle.fx_walk.specs.Pointer.{escaped, pointer};
+ghost use Rattle.fx_walk.specs.Pointer.{escaped_name, pointer};
 ghost use Rattle.fx_walk.specs.Walk.{Refuses};
 ghost use Rattle.fx_base.specs.Fault.{fault_at};
 ghost use Rattle.fx_base.specs.declared.fault.Place.TheVariants as places;
@@ -10,17 +10,17 @@ use std::alloc::{AllocError, Global};
 
 /// Where a value stands: at the root, or below another value.
 #[derive(Clone, Copy)]
-pub enum Path<'a> {
+pub enum DocumentPath<'a> {
     /// The whole document.
     Root,
     /// An object's member of this name.
-    Member(&'a Path<'a>, &'a str),
+    Member(&'a DocumentPath<'a>, &'a str),
     /// A list's item at this place, counted from 0.
-    Item(&'a Path<'a>, usize),
+    Item(&'a DocumentPath<'a>, usize),
 }
 
 fn push_escaped(out: &mut String, name: &str) -> Result<(), AllocError>
-    ensures { OnOk result (string_bytes out.new ≡ string_bytes out.old ++ escaped name.now) }
+    ensures { OnOk result (string_bytes out.new ≡ string_bytes out.old ++ escaped_name name.now) }
 {
     for c in name.chars() {
         match c {
@@ -32,24 +32,24 @@ fn push_escaped(out: &mut String, name: &str) -> Result<(), AllocError>
     Ok(())
 }
 
-fn push_pointer(out: &mut String, path: &Path<'_>) -> Result<(), AllocError>
+fn push_pointer(out: &mut String, path: &DocumentPath<'_>) -> Result<(), AllocError>
     ensures { OnOk result (string_bytes out.new ≡ string_bytes out.old ++ pointer path.now) }
 {
     match path {
-        Path::Root => Ok(()),
-        Path::Member(up, name) => {
+        DocumentPath::Root => Ok(()),
+        DocumentPath::Member(up, name) => {
             push_pointer(out, up)?;
             out.push_str("/")?;
             push_escaped(out, name)
         }
-        Path::Item(up, place) => {
+        DocumentPath::Item(up, place) => {
             push_pointer(out, up)?;
             write!(out, "/{place}")
         }
     }
 }
 
-fn pointer_text(alloc: Global, path: &Path<'_>) -> Result<String, AllocError>
+fn pointer_text(alloc: Global, path: &DocumentPath<'_>) -> Result<String, AllocError>
     ensures { IfOk result (λ s. string_bytes s ≡ pointer path.now) }
 {
     let mut text = String::new(alloc);
@@ -58,7 +58,7 @@ fn pointer_text(alloc: Global, path: &Path<'_>) -> Result<String, AllocError>
 }
 
 /// A refusal with this number at the path, or want of memory (900) for its pointer.
-pub fn refusal(alloc: Global, number: u16, path: &Path<'_>) -> Fault
+pub fn refusal(alloc: Global, number: u16, path: &DocumentPath<'_>) -> Fault
     ensures { Refuses result ((number, pointer path.now) ∷ []) }
 {
     match pointer_text(alloc, path) {

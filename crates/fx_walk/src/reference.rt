@@ -3,13 +3,13 @@ ghost use Rattle.std.specs.Prelude.{◌≡◌, ℕ, List, [], ◌∷◌, map};
 ghost use Rattle.std.specs.List.{position};
 ghost use Rattle.std.specs.Str.{bytes_eq};
 ghost use Rattle.fx_walk.specs.Pointer.{pointer};
-ghost use Rattle.fx_walk.specs.Walk.{Found, Reads};
+ghost use Rattle.fx_walk.specs.Walk.{FoundFault, Reads};
 ghost use Rattle.fx_walk.specs.Lists.{is_among, items_faults, place_in};
 ghost use Rattle.fx_walk.specs.KnownNames.{member_references, unknown};
 
 use crate::entries::Named;
 use crate::names::Names;
-use crate::path::{Path, refusal};
+use crate::path::{DocumentPath, refusal};
 use crate::sequence::Sequence;
 use fx_base::{Fault, Name};
 use std::alloc::Global;
@@ -17,17 +17,17 @@ use std::alloc::Global;
 /// What refers to things by their names.
 pub trait Refers {
     /// The faults of one at a pointer, where these are the names of all things that it may refer to.
-    ghost faults: { List (List ℕ) → List ℕ → Self → List Found };
+    ghost faults: { List (List ℕ) → List ℕ → Self → List FoundFault };
 
     /// Refuses the first name in the one at the path that is none of these (107).
-    fn refers(&self, alloc: Global, path: &Path<'_>, known: &Names) -> Result<(), Fault>
+    fn refers(&self, alloc: Global, path: &DocumentPath<'_>, known: &Names) -> Result<(), Fault>
         ensures { Reads (faults known.now (pointer path.now) self.now) tt result };
 }
 
 impl Refers for Name {
     ghost faults = { unknown };
 
-    fn refers(&self, alloc: Global, path: &Path<'_>, known: &Names) -> Result<(), Fault> {
+    fn refers(&self, alloc: Global, path: &DocumentPath<'_>, known: &Names) -> Result<(), Fault> {
         if known.contains(self) {
             Ok(())
         } else {
@@ -39,7 +39,7 @@ impl Refers for Name {
 /// The same for all items of the list at the path.
 fn each_refers<T: Refers>(
     alloc: Global,
-    path: &Path<'_>,
+    path: &DocumentPath<'_>,
     items: &[T],
     known: &Names,
 ) -> Result<(), Fault>
@@ -47,7 +47,7 @@ fn each_refers<T: Refers>(
 {
     let mut place = 0;
     for item in items {
-        item.refers(alloc, &Path::Item(&*path, place), known)?;
+        item.refers(alloc, &DocumentPath::Item(&*path, place), known)?;
         place += 1;
     }
     Ok(())
@@ -56,7 +56,7 @@ fn each_refers<T: Refers>(
 /// The same for all items of the list that is the member `name` of the object at the path.
 pub fn items_refer<T: Refers>(
     alloc: Global,
-    path: &Path<'_>,
+    path: &DocumentPath<'_>,
     name: &str,
     items: &Sequence<T>,
     known: &Names,
@@ -64,7 +64,7 @@ pub fn items_refer<T: Refers>(
     ensures { let faults = member_references (T.faults known.now) in
         Reads (faults (pointer path.now) name.now items.now) tt result }
 {
-    each_refers(alloc, &Path::Member(path, name), items.as_slice(), known)
+    each_refers(alloc, &DocumentPath::Member(path, name), items.as_slice(), known)
 }
 
 /// Whether an entry has the name.

@@ -2,12 +2,12 @@
 ghost use Rattle.fx_walk.specs.Pointer.{pointer};
 ghost use Rattle.fx_walk.specs.Walk.{Reads, fault_if};
 
-use crate::path::{Path, refusal};
+use crate::path::{DocumentPath, refusal};
 use fx_base::Fault;
 use std::alloc::Global;
 
 /// Refuses with this number at the path where something fails.
-pub fn refuse_if(alloc: Global, path: &Path<'_>, number: u16, fails: bool) -> Result<(), Fault>
+pub fn refuse_if(alloc: Global, path: &DocumentPath<'_>, number: u16, fails: bool) -> Result<(), Fault>
     ensures { Reads (fault_if fails number (pointer path.now)) tt result }
 {
     if fails {

@@ -9,7 +9,7 @@ ghost use Rattle.fx_walk.specs.RequiredLists.{required_items, required_entries};
 use crate::entries::{Entry, entries_member};
 use crate::list::items_member;
 use crate::member::FromValue;
-use crate::path::{Path, refusal};
+use crate::path::{DocumentPath, refusal};
 use crate::sequence::Sequence;
 use fx_base::Fault;
 use serde_json::Value;
@@ -18,7 +18,7 @@ use std::alloc::Global;
 /// A member that is a list of at most `most` items: 103 at the object where it isn't there.
 pub fn required_items<T: FromValue>(
     alloc: Global,
-    path: &Path<'_>,
+    path: &DocumentPath<'_>,
     object: &Value,
     name: &str,
     most: usize,
@@ -36,7 +36,7 @@ pub fn required_items<T: FromValue>(
 /// The same for a list of entries whose names differ.
 pub fn required_entries<T: Entry>(
     alloc: Global,
-    path: &Path<'_>,
+    path: &DocumentPath<'_>,
     object: &Value,
     name: &str,
     most: usize,

@@ -9,14 +9,14 @@ ghost use Rattle.fx_base.specs.Fault.{fault_at};
 ghost use Rattle.fx_base.specs.declared.fault.Place.TheVariants as places;
 
 use crate::member::FromValue;
-use crate::path::{Path, refusal};
+use crate::path::{DocumentPath, refusal};
 use fx_base::{Fault, Name};
 use serde_json::Value;
 use std::alloc::Global;
 use std::marker::Model;
 
 /// A name: 104 for no text, and this number for a text that is no name.
-pub fn read_name(alloc: Global, path: &Path<'_>, value: &Value, wrong: u16) -> Result<Name, Fault>
+pub fn read_name(alloc: Global, path: &DocumentPath<'_>, value: &Value, wrong: u16) -> Result<Name, Fault>
     ensures { Reads (text_that wrong is_name (pointer path.now) (view value.now))
         (text_of (view value.now)) result }
 {
@@ -36,7 +36,7 @@ impl FromValue for Name {
 
     ghost meaning = { text_of };
 
-    fn from_value(alloc: Global, path: &Path<'_>, value: &Value) -> Result<Name, Fault> {
+    fn from_value(alloc: Global, path: &DocumentPath<'_>, value: &Value) -> Result<Name, Fault> {
         read_name(alloc, path, value, 105)
     }
 }
@@ -69,7 +69,7 @@ impl FromValue for Text {
 
     ghost meaning = { text_of };
 
-    fn from_value(alloc: Global, path: &Path<'_>, value: &Value) -> Result<Text, Fault> {
+    fn from_value(alloc: Global, path: &DocumentPath<'_>, value: &Value) -> Result<Text, Fault> {
         let Some(text) = value.as_str() else {
             return Err(refusal(alloc, 104, path));
         };
@@ -112,7 +112,7 @@ impl<const LOW: u32, const HIGH: u32> FromValue for Whole<LOW, HIGH> {
 
     ghost meaning = { number_of };
 
-    fn from_value(alloc: Global, path: &Path<'_>, value: &Value) -> Result<Self, Fault> {
+    fn from_value(alloc: Global, path: &DocumentPath<'_>, value: &Value) -> Result<Self, Fault> {
         let Some(number) = value.as_number() else {
             return Err(refusal(alloc, 104, path));
         };
@@ -158,7 +158,7 @@ impl FromValue for Empty {
 
     ghost meaning = { λ _. record {} };
 
-    fn from_value(alloc: Global, path: &Path<'_>, value: &Value) -> Result<Empty, Fault> {
+    fn from_value(alloc: Global, path: &DocumentPath<'_>, value: &Value) -> Result<Empty, Fault> {
         if is_empty_type(value) {
             Ok(Empty)
         } else {

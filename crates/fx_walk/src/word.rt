@@ -6,7 +6,7 @@ ghost use Rattle.fx_walk.specs.Pointer.{pointer};
 ghost use Rattle.fx_walk.specs.Scalars.{meaning_of_word, word_faults, word_given};
 ghost use Rattle.fx_walk.specs.Walk.{Reads, optional};
 
-use crate::path::{Path, refusal};
+use crate::path::{DocumentPath, refusal};
 use fx_base::Fault;
 use serde_json::Value;
 use std::alloc::Global;
@@ -29,7 +29,7 @@ pub trait Word: Drop {
 }
 
 /// What a word stands for: 104 for no text, 105 for another text.
-fn read_word<T: Word>(alloc: Global, path: &Path<'_>, value: &Value) -> Result<T, Fault>
+fn read_word<T: Word>(alloc: Global, path: &DocumentPath<'_>, value: &Value) -> Result<T, Fault>
     ensures { let meaning = meaning_of_word T.named T.unsaid (view value.now) in
         Reads (word_faults T.named (pointer path.now) (view value.now)) meaning result }
 {
@@ -45,7 +45,7 @@ fn read_word<T: Word>(alloc: Global, path: &Path<'_>, value: &Value) -> Result<T
 /// A member that is a word, and that an object may have.
 pub fn word_member<T: Word>(
     alloc: Global,
-    path: &Path<'_>,
+    path: &DocumentPath<'_>,
     object: &Value,
     name: &str,
 ) -> Result<T, Fault>
@@ -54,7 +54,7 @@ pub fn word_member<T: Word>(
         Reads (faults (pointer path.now) (view object.now)) meaning result }
 {
     match object.get(name) {
-        Some(value) => read_word(alloc, &Path::Member(path, name), value),
+        Some(value) => read_word(alloc, &DocumentPath::Member(path, name), value),
         None => Ok(T::unsaid()),
     }
 }

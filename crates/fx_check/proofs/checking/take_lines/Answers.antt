@@ -2,7 +2,7 @@ use Rattle.std.proofs.Common.{◌≡◌, ℕ, Some, [], sym, ap, ◌∙◌, inr,
 use Rattle.std.proofs.lemmas.Result.{err_from_is_err_and}
 use Rattle.fx_check.specs.Judging.{judge_of}
 use Rattle.fx_check.specs.Remaining.{goals}
-use Rattle.fx_check.specs.Verdict.{after_reading, at_end, at_line, made_after, reading_of, whole}
+use Rattle.fx_check.specs.FirstRefusal.{after_reading, at_end, at_line, made_after, reading_of, whole}
 use Rattle.fx_base.proofs.GoingOn.{goes_then, to_line}
 use Rattle.fx_check.proofs.FirstRefusals.{reads_on, reader_refuses, refuses_line, ends_early, ends_well, ended_line, err_gives, ok_gives, at_end_of, at_line_of, lent_line}
 use Rattle.fx_check.proofs.Numbers.{line_fault, end_fault, reader_fault}

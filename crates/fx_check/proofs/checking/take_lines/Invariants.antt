@@ -1,10 +1,10 @@
 use Rattle.std.proofs.Common.{◌≡◌, ◌≤◌, Some, length}
 use Rattle.fx_base.specs.declared.fault.Fault.{Fault}
-use Rattle.fx_base.specs.Lines.{GoesOn, budget}
+use Rattle.fx_base.specs.Lines.{GoesOnToLines, line_budget}
 use Rattle.fx_check.specs.Judging.{judge_of}
 use Rattle.fx_check.specs.Outcomes.{Continues}
 use Rattle.fx_check.specs.Remaining.{goals, IsConsistent}
-use Rattle.fx_check.specs.Verdict.{whole}
+use Rattle.fx_check.specs.FirstRefusal.{whole}
 use Rattle.fx_check.proofs.checking.take_lines.Given as goal
 
 abbrev pub invariant-lines : goal.invariant-lines
@@ -12,9 +12,9 @@ invariant-lines g l = record {
   room : length l.tables.net.processes ≤ length l.scratch;
   consistent : IsConsistent l.targets l.course;
   stopped : (e : Fault) → l.lines.stopped ≡ Some e → l.fn.lines.stopped ≡ Some e;
-  on : GoesOn l.fn.lines l.lines;
+  on : GoesOnToLines l.fn.lines l.lines;
   reads : Continues (judge_of l.tables.net) l.fn.lines (whole l.targets) l.lines l.course.made (goals l.targets l.course);
 }
 
 abbrev pub decreases-lines : goal.decreases-lines
-decreases-lines g l = budget l.lines
+decreases-lines g l = line_budget l.lines

@@ -11,7 +11,7 @@ use Rattle.fx_plan.specs.Layouts.{layouts_of}
 use Rattle.fx_plan.specs.Plans.{IsCycle, IsResolved, ReadsPlan}
 use Rattle.fx_topology.specs.Networks.{network_faults, network_of}
 use Rattle.fx_ranks.specs.Ranks.{IsStuck}
-use Rattle.fx_topology.specs.declared.network.Network.{Network}
+use Rattle.fx_topology.specs.declared.network.NetworkDocument.{NetworkDocument}
 use Rattle.fx_tables.specs.Limits.{layout_limit}
 use Rattle.fx_layout.specs.Keys.{Layout}
 use Rattle.fx_plan.specs.Tables.{net_of}
@@ -22,13 +22,13 @@ use Rattle.fx_plan.proofs.StuckProcesses.{none_are_stuck}
 use Rattle.fx_plan.proofs.plan.read_plan.Goals as goal
 
 -- the exit where there are no ranks
-no_ranks : (d : Data) (network : Network) (r : Result Network Fault) (e : Fault) → IsErr r × IsErrAnd r (λ x. x ≡ e) → network_faults [] d ≡ [] → network ≡ network_of d → length (layouts_of (net_of network)) ≤ layout_limit → (e ≡ fault_at 900 places.None) ⊎ IsCycle network e → ReadsPlan d r
+no_ranks : (d : Data) (network : NetworkDocument) (r : Result NetworkDocument Fault) (e : Fault) → IsErr r × IsErrAnd r (λ x. x ≡ e) → network_faults [] d ≡ [] → network ≡ network_of d → length (layouts_of (net_of network)) ≤ layout_limit → (e ≡ fault_at 900 places.None) ⊎ IsCycle network e → ReadsPlan d r
 no_ranks d network (Ok x) e h none is few why = absurd h.1
 no_ranks d network (Err x) e h none is few why =
     rw h.1
     (elim why [
       | inl m ↦ inl (rw m refl)
-      | inr cycle ↦ inr (none, inr (subst (λ (n : Network). length (layouts_of (net_of n)) ≤ layout_limit) is few, subst (λ (n : Network). IsCycle n e) is cycle))
+      | inr cycle ↦ inr (none, inr (subst (λ (n : NetworkDocument). length (layouts_of (net_of n)) ≤ layout_limit) is few, subst (λ (n : NetworkDocument). IsCycle n e) is cycle))
     ])
 
 pub ranks_of-requires-clause-resolved : goal.ranks_of-requires-clause-resolved
@@ -36,8 +36,8 @@ ranks_of-requires-clause-resolved c =
     let is = c.in_ok-net.ensures ∙ ap net_of c.in_ok-network.ensures.1 in
     subst (λ (n : Net). IsResolved n) (sym is) (resolved (view c.args.value.now) c.in_ok-network.ensures.0)
 
-pub planned-requires : goal.planned-requires
-planned-requires c =
+pub plan_of_parts-requires : goal.plan_of_parts-requires
+plan_of_parts-requires c =
     let is = c.in_ok-net.ensures ∙ ap net_of c.in_ok-network.ensures.1 in
     let there : IsResolved c.in_ok-net.net = subst (λ (n : Net). IsResolved n) (sym is) (resolved (view c.args.value.now) c.in_ok-network.ensures.0) in
     record {
@@ -65,7 +65,7 @@ returns c =
     let few : length (layouts_of (net_of c.in_ok-network.network)) ≤ layout_limit = subst (λ (n : Net). length (layouts_of n) ≤ layout_limit) is (subst (λ (l : List Layout). length l ≤ layout_limit) c.in_ok-numbering.ensures.layouts c.in_ok-numbering.ensures.few) in (
       c.in_ok-network.ensures.0,
       same ∙ c.in_ok-network.ensures.1,
-      subst (λ (n : Network). length (layouts_of (net_of n)) ≤ layout_limit) (sym same) few,
+      subst (λ (n : NetworkDocument). length (layouts_of (net_of n)) ≤ layout_limit) (sym same) few,
       λ process stuck.
-          none_are_stuck c.in_ok-net.net c.in_ok-ranks.ranks.ranked.items c.in_ok-ranks.ensures.whole process (subst (λ (n : Net). IsStuck n process) (sym is) (subst (λ (n : Network). IsStuck (net_of n) process) same stuck)),
+          none_are_stuck c.in_ok-net.net c.in_ok-ranks.ranks.ranked.items c.in_ok-ranks.ensures.whole process (subst (λ (n : Net). IsStuck n process) (sym is) (subst (λ (n : NetworkDocument). IsStuck (net_of n) process) same stuck)),
     )

@@ -1,7 +1,7 @@
 use Rattle.std.proofs.Common.{◌≡◌, Bool, true, false, List, sym, ap, ◌∙◌, subst, inl, inr}
 use Rattle.std.specs.List.{list_all}
 use Rattle.fx_topology.specs.declared.network_device.NetworkDevice.{NetworkDevice}
-use Rattle.fx_plan.specs.Cycles.{IsText, stuck_text}
+use Rattle.fx_plan.specs.Cycles.{IsTextPlace, stuck_text}
 use Rattle.fx_plan.proofs.StuckProcesses.{no_ranks, one_stuck, stuck_if, stuck_places, whole_if}
 use Rattle.fx_plan.proofs.ranks.ranks_of.Goals as goal
 
@@ -21,9 +21,9 @@ returns-then-not-all_have_come-clause-err c =
         one = rw (← c.requires.net_is) here;
         number = f.0;
         text =
-            (let told : IsText c.cycle.result.place (stuck_text c.as_slice-then-not-all_have_come.result.now (stuck_places c.as_slice-then-not-all_have_come-2.result.now)) = f.1 in
-            subst (λ (flags : List Bool). IsText c.cycle.result.place (stuck_text c.args.network.now.devices (stuck_places flags))) c.as_slice-then-not-all_have_come-2.ensures.value
-            (subst (λ (devices : List NetworkDevice). IsText c.cycle.result.place (stuck_text devices (stuck_places c.as_slice-then-not-all_have_come-2.result.now))) c.as_slice-then-not-all_have_come.ensures told));
+            (let told : IsTextPlace c.cycle.result.place (stuck_text c.as_slice-then-not-all_have_come.result.now (stuck_places c.as_slice-then-not-all_have_come-2.result.now)) = f.1 in
+            subst (λ (flags : List Bool). IsTextPlace c.cycle.result.place (stuck_text c.args.network.now.devices (stuck_places flags))) c.as_slice-then-not-all_have_come-2.ensures.value
+            (subst (λ (devices : List NetworkDevice). IsTextPlace c.cycle.result.place (stuck_text devices (stuck_places c.as_slice-then-not-all_have_come-2.result.now))) c.as_slice-then-not-all_have_come.ensures told));
       })
     ]
 

@@ -4,7 +4,7 @@ use Rattle.fx_base.proofs.GoingOn.{goes_then}
 use Rattle.fx_run_text.specs.RunReading.{at_line}
 use Rattle.fx_run_text.specs.declared.run_line.RunLine.TheVariants as line
 use Rattle.fx_refute.specs.ReadingOn.{Says}
-use Rattle.fx_refute.specs.RefutationReading.{ended, only, steps_behind}
+use Rattle.fx_refute.specs.RefutationReading.{end_of_lines, only, steps_behind}
 use Rattle.fx_machine.specs.Limits.{step_limit}
 use Rattle.fx_refute.specs.Refutations.{Refutation}
 use Rattle.fx_refute.proofs.ReadingLines.{end_fault, end_leads, fault_behind, gives_before, leads_on, second_packet, too_many}
@@ -24,9 +24,9 @@ returns-in_err-read_end-in-End-clause-err g c =
     let first = c.args.lines.now in
     let mid = c.read_next.new.lines in
     let says : Says c.args.version c.lines.lines mid line.End = search rules in
-    let leads = leads_on first c.lines.lines mid (steps_behind c.args.version first.number (only c.args.packet)) (steps_behind c.args.version c.lines.lines.number r) (ended mid.number r) c.lines.invariant.leads (end_leads c.args.version c.lines.lines mid r says) in
+    let leads = leads_on first c.lines.lines mid (steps_behind c.args.version first.number (only c.args.packet)) (steps_behind c.args.version c.lines.lines.number r) (end_of_lines mid.number r) c.lines.invariant.leads (end_leads c.args.version c.lines.lines mid r says) in
     let on = goes_then first c.lines.lines mid c.lines.invariant.on c.in_ok-step.ensures.on in
-    rw (p.1, p.2) (fault_behind first mid c.read_end.new.lines (steps_behind c.args.version first.number (only c.args.packet)) (ended mid.number r) _ c.in_ok-step.ensures.going on leads (end_fault mid c.read_end.new.lines r _ c.in_err-read_end-in-End.ensures.err))
+    rw (p.1, p.2) (fault_behind first mid c.read_end.new.lines (steps_behind c.args.version first.number (only c.args.packet)) (end_of_lines mid.number r) _ c.in_ok-step.ensures.going on leads (end_fault mid c.read_end.new.lines r _ c.in_err-read_end-in-End.ensures.err))
 
 pub returns-in-End-clause-ok : goal.returns-in-End-clause-ok
 returns-in-End-clause-ok g c =
@@ -34,8 +34,8 @@ returns-in-End-clause-ok g c =
     let first = c.args.lines.now in
     let mid = c.read_next.new.lines in
     let says : Says c.args.version c.lines.lines mid line.End = search rules in
-    let leads = leads_on first c.lines.lines mid (steps_behind c.args.version first.number (only c.args.packet)) (steps_behind c.args.version c.lines.lines.number r) (ended mid.number r) c.lines.invariant.leads (end_leads c.args.version c.lines.lines mid r says) in
-    rw c.new.ensures (gives_before first mid (steps_behind c.args.version first.number (only c.args.packet)) (ended mid.number r) (Ok r) leads (c.in_ok-read_end-in-End.ensures.ok r))
+    let leads = leads_on first c.lines.lines mid (steps_behind c.args.version first.number (only c.args.packet)) (steps_behind c.args.version c.lines.lines.number r) (end_of_lines mid.number r) c.lines.invariant.leads (end_leads c.args.version c.lines.lines mid r says) in
+    rw c.new.ensures (gives_before first mid (steps_behind c.args.version first.number (only c.args.packet)) (end_of_lines mid.number r) (Ok r) leads (c.in_ok-read_end-in-End.ensures.ok r))
 
 pub returns-in-Packet-clause-err : goal.returns-in-Packet-clause-err
 returns-in-Packet-clause-err g c =

@@ -1,5 +1,5 @@
 use Rattle.std.proofs.Common.{◌≡◌, ◌≤◌, length, None}
-use Rattle.fx_base.specs.Lines.{GoesOn, budget}
+use Rattle.fx_base.specs.Lines.{GoesOnToLines, line_budget}
 use Rattle.fx_refute.specs.ReadingOn.{Leads}
 use Rattle.fx_refute.specs.RefutationReading.{only, steps_behind}
 use Rattle.fx_machine.specs.Limits.{step_limit}
@@ -9,10 +9,10 @@ use Rattle.fx_refute.proofs.reading.read_steps.Given as goal
 abbrev pub invariant-lines : goal.invariant-lines
 invariant-lines g l = record {
   going : l.lines.stopped ≡ None;
-  on : GoesOn l.fn.lines l.lines;
+  on : GoesOnToLines l.fn.lines l.lines;
   leads : Leads l.fn.lines l.lines (steps_behind l.version l.fn.lines.number (only l.packet)) (steps_behind l.version l.lines.number (record { packet = l.packet; steps = l.steps.items }));
   few : length l.steps.items ≤ step_limit;
 }
 
 abbrev pub decreases-lines : goal.decreases-lines
-decreases-lines g l = budget l.lines
+decreases-lines g l = line_budget l.lines

@@ -1,5 +1,5 @@
 use Rattle.std.proofs.Common.{[], ◌∷◌, codes, decimal, map}
-use Rattle.fx_run_text.specs.RunLineText.{spaced}
+use Rattle.fx_run_text.specs.RunLineText.{spaced_words}
 use Rattle.fx_run_text.specs.RunText.{choice_word}
 use Rattle.fx_run_text.proofs.RunPutting.{cross_put, writes_4}
 use Rattle.fx_run_text.proofs.run_put.put_cross.Goals as goal
@@ -7,4 +7,4 @@ use Rattle.fx_run_text.proofs.run_put.put_cross.Goals as goal
 pub returns-clause-ok : goal.returns-clause-ok
 returns-clause-ok g c =
     let taken = g.S.Sink.taken in
-    writes_4 c.put_choices.result (taken c.args.sink.now) (taken c.put_text.new.sink) (taken c.put_spaced.new.sink) (taken c.put_spaced-2.new.sink) (taken c.put_choices.new.sink) (codes "cross") (spaced (decimal c.args.packet ∷ [])) (spaced (decimal c.args.crossing ∷ [])) (spaced (map choice_word c.args.choices.now)) _ c.in_ok-put_text.ensures.ok c.in_ok-put_spaced.ensures.ok c.in_ok-put_spaced-2.ensures.ok c.put_choices.ensures.ok (cross_put c.args.packet c.args.crossing c.args.choices.now)
+    writes_4 c.put_choices.result (taken c.args.sink.now) (taken c.put_text.new.sink) (taken c.put_spaced.new.sink) (taken c.put_spaced-2.new.sink) (taken c.put_choices.new.sink) (codes "cross") (spaced_words (decimal c.args.packet ∷ [])) (spaced_words (decimal c.args.crossing ∷ [])) (spaced_words (map choice_word c.args.choices.now)) _ c.in_ok-put_text.ensures.ok c.in_ok-put_spaced.ensures.ok c.in_ok-put_spaced-2.ensures.ok c.put_choices.ensures.ok (cross_put c.args.packet c.args.crossing c.args.choices.now)

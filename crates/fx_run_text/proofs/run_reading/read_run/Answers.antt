@@ -2,7 +2,7 @@ use Rattle.std.proofs.Common.{rules, ◌≡◌, None, Some, Ok, inr}
 use Rattle.std.proofs.lemmas.Result.{err_from_is_err_and}
 use Rattle.fx_base.proofs.GoingOn.{goes_then}
 use Rattle.fx_run_text.specs.declared.run_line.RunLine.TheVariants as line
-use Rattle.fx_run_text.specs.RunReading.{ReadsNext, packet_fault}
+use Rattle.fx_run_text.specs.RunReading.{ReadsNextLine, packet_fault}
 use Rattle.fx_run_text.proofs.RunLines.{end_fault, first_fault, next_fault, on_end, on_packet, packet_wrong}
 use Rattle.fx_run_text.proofs.run_reading.read_run.Goals as goal
 
@@ -18,14 +18,14 @@ returns-in_err-packet-clause-err g c =
 
 pub returns-in-Some-clause-err : goal.returns-in-Some-clause-err
 returns-in-Some-clause-err g c =
-    let next : ReadsNext c.in_ok-version.version c.lines.lines c.read_next.new.lines (line.Packet c.in-Packet.packet) = search rules in
+    let next : ReadsNextLine c.in_ok-version.version c.lines.lines c.read_next.new.lines (line.Packet c.in-Packet.packet) = search rules in
     let wrong : packet_fault c.args.classes.now c.lines.run c.in-Packet.packet ≡ Some c.in-Some.number = search rules in
     let number : c.number.result ≡ c.read_next.new.lines.number = search rules in
     inr (inr (rw (c.at_line.ensures, number) (packet_wrong c.in_ok-version.version c.args.classes.now c.args.lines.now c.lines.lines c.read_next.new.lines c.lines.run c.in-Packet.packet c.in-Some.number c.lines.invariant.reads next wrong)))
 
 pub lines-preserved-in-Continue-branch-4 : goal.lines-preserved-in-Continue-branch-4
 lines-preserved-in-Continue-branch-4 g c =
-    let next : ReadsNext c.in_ok-version.version c.lines.lines c.read_next.new.lines (line.Packet c.in-Packet.packet) = search rules in
+    let next : ReadsNextLine c.in_ok-version.version c.lines.lines c.read_next.new.lines (line.Packet c.in-Packet.packet) = search rules in
     let none : packet_fault c.args.classes.now c.lines.run c.in-Packet.packet ≡ None = search rules in
     record {
       going = search rules;
@@ -36,11 +36,11 @@ lines-preserved-in-Continue-branch-4 g c =
 pub returns-in_err-read_end-in-End-clause-err : goal.returns-in_err-read_end-in-End-clause-err
 returns-in_err-read_end-in-End-clause-err g c =
     let p = err_from_is_err_and c.from_residual-in_err-read_end-in-End.result c.from_residual-in_err-read_end-in-End.ensures.1 in
-    let next : ReadsNext c.in_ok-version.version c.lines.lines c.read_next.new.lines line.End = search rules in
+    let next : ReadsNextLine c.in_ok-version.version c.lines.lines c.read_next.new.lines line.End = search rules in
     let on = goes_then c.args.lines.now c.lines.lines c.read_next.new.lines c.lines.invariant.on c.in_ok-packet.ensures.on in
     rw (p.1, p.2) (inr (end_fault c.in_ok-version.version c.args.classes.now c.args.lines.now c.lines.lines c.read_next.new.lines c.read_end.new.lines c.lines.run _ on c.in_ok-packet.ensures.going c.lines.invariant.reads next c.in_err-read_end-in-End.ensures.err))
 
 pub returns-in-End-clause-ok : goal.returns-in-End-clause-ok
 returns-in-End-clause-ok g c =
-    let next : ReadsNext c.in_ok-version.version c.lines.lines c.read_next.new.lines line.End = search rules in
+    let next : ReadsNextLine c.in_ok-version.version c.lines.lines c.read_next.new.lines line.End = search rules in
     on_end c.in_ok-version.version c.args.classes.now c.args.lines.now c.lines.lines c.read_next.new.lines c.lines.run (Ok c.lines.run) c.lines.invariant.reads next (c.in_ok-read_end-in-End.ensures.ok c.lines.run)

@@ -1,7 +1,7 @@
 use Rattle.std.proofs.Common.{◌≡◌, ◌⊎◌, inl, inr, ◌≤◌, ◌<◌, reverse, sym, ap, ◌∙◌, arith, [], ◌∷◌, None}
 use Rattle.std.proofs.lemmas.List.{reverse-append}
-use Rattle.fx_check.specs.Verdict.{depth_limit}
-use Rattle.fx_search.specs.Fronts.{Ahead, lower, upper}
+use Rattle.fx_check.specs.FirstRefusal.{depth_limit}
+use Rattle.fx_search.specs.Fronts.{RegionAhead, lower, upper}
 use Rattle.fx_search.specs.Growing.{leaf_item}
 use Rattle.fx_search.proofs.RegionsTaken.{cut_taken, leaf_taken, cut_given_up, leaf_given_up, wrong_at}
 use Rattle.fx_search.proofs.searching.take.Goals as goal
@@ -9,7 +9,7 @@ use Rattle.fx_search.proofs.searching.take.Goals.{then-growth-most-via-then-grow
 
 pub returns-then-growth-most-clause-err : goal.returns-then-growth-most-clause-err
 returns-then-growth-most-clause-err c targets version g =
-    let depth : c.here.inside.depth ≡ c.args.here.now.depth = ap (λ (a : Ahead). a.depth) c.here.view_is in
+    let depth : c.here.inside.depth ≡ c.args.here.now.depth = ap (λ (a : RegionAhead). a.depth) c.here.view_is in
     let why : (c.args.most ≤ c.args.growth.now.lines) ⊎ (depth_limit ≤ c.args.here.now.depth) = elim c.then-growth-most.branch [
       | then-growth-most-via-then-growth-most w ↦ inl w.if-growth-most.true
       | then-growth-most-via-else-growth-most+then-here-ge-DEPTHS w ↦ inr (omega (arith, w.if-here-ge-DEPTHS.true, depth))
@@ -19,7 +19,7 @@ returns-then-growth-most-clause-err c targets version g =
 pub returns-in-Cut-clause-on : goal.returns-in-Cut-clause-on
 returns-in-Cut-clause-on c targets version g =
     let a = c.args.here.now in
-    let depth : c.here.inside.depth ≡ a.depth = ap (λ (x : Ahead). x.depth) c.here.view_is in
+    let depth : c.here.inside.depth ≡ a.depth = ap (λ (x : RegionAhead). x.depth) c.here.view_is in
     let deep : a.depth < depth_limit = omega (arith, c.if-here-ge-DEPTHS.false, depth) in
     let less : c.args.growth.now.lines < c.args.most = omega (arith, c.if-growth-most.false) in
     let ahead : reverse c.split.new.self.ahead.items ≡ lower a c.in-Cut.axis c.in-Cut.at ∷ upper a c.in-Cut.axis c.in-Cut.at ∷ reverse c.args.growth.now.ahead.items =

@@ -2,7 +2,7 @@ use Rattle.std.proofs.Common.{◌≡◌, ◌+◌, ◌≤◌, ◌∙◌, suc, Lis
 use Rattle.std.proofs.Math.ListN.{drop_of_length-le}
 use Rattle.std.proofs.lemmas.Option.{slice_get-get_or}
 use Rattle.fx_tables.specs.Classes.{path}
-use Rattle.fx_base.specs.Entries.{numbered}
+use Rattle.fx_base.specs.Entries.{entry_numbered}
 use Rattle.fx_machine.specs.States.{Coming, crossings_from}
 use Rattle.fx_tables.specs.declared.traffic.Crossing.{Crossing}
 use Rattle.fx_machine.specs.Limits.{step_limit}
@@ -38,8 +38,8 @@ loop-number-preserved c =
       λ classes same.
           let way = inv.3 classes same in
           let coming = crossings_from 1 (suc (suc k)) (drop (k + 1) xs) in
-          let at : numbered (path classes p) (k + 1) ≡ Some crossing =
-          ap (λ (cs : List Crossing). numbered cs (k + 1)) same ∙ ap (numbered xs) (add-one k) ∙ slice_get-get_or xs k crossing c.loop-number-test.true ∙ ap (λ (x : Crossing). Some x) (sym c.index-path-number.is) in
+          let at : entry_numbered (path classes p) (k + 1) ≡ Some crossing =
+          ap (λ (cs : List Crossing). entry_numbered cs (k + 1)) same ∙ ap (entry_numbered xs) (add-one k) ∙ slice_get-get_or xs k crossing c.loop-number-test.true ∙ ap (λ (x : Crossing). Some x) (sym c.index-path-number.is) in
           let first : crossings_from 1 (suc k) (drop k xs) ≡ record { packet = 1; crossing = k + 1 } ∷ coming =
           ap (crossings_from 1 (suc k)) here ∙ ap (λ m. record { packet = 1; crossing = m } ∷ coming) (sym (add-one k)) in
           let made = e.way classes coming way.0 at (subst (λ (cs : List Coming). UnderWay net n classes p cs way.0 old.steps.items []) first way.2) in

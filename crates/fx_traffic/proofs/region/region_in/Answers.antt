@@ -7,7 +7,7 @@ use Rattle.fx_elements.specs.declared.values.Range.{Range}
 use Rattle.fx_elements.specs.Axes.{axes}
 use Rattle.fx_elements.proofs.EveryAxis.{index_at, set_more}
 use Rattle.fx_walk.specs.Pointer.{pointer}
-use Rattle.fx_walk.specs.Walk.{Found, row_faults}
+use Rattle.fx_walk.specs.Walk.{FoundFault, row_faults}
 use Rattle.fx_walk.proofs.Faults.{exit}
 use Rattle.fx_traffic.specs.Regions.{IsOn}
 use Rattle.fx_traffic.proofs.Regions.{IsLowAt, IsHighAt, faults_here, is_region, refuses_here, region_is, row_on}
@@ -28,7 +28,7 @@ loop-axis-preserved c =
     record {
       low_len = length-set c.loop-axis.low c.index.result c.in_ok-values.values.low ∙ inv.low_len;
       high_len = length-set c.loop-axis.high c.index-in-loop-axis.result c.in_ok-values.values.high ∙ inv.high_len;
-      faults = inv.faults ∙ faults_here up d i (omega arith) ∙ ap (λ (fs : List Found). fs ++ row_faults (map row_on (drop (i + 1) axes)) up d) c.in_ok-values.ensures.answer.0;
+      faults = inv.faults ∙ faults_here up d i (omega arith) ∙ ap (λ (fs : List FoundFault). fs ++ row_faults (map row_on (drop (i + 1) axes)) up d) c.in_ok-values.ensures.answer.0;
       lows = set_more (IsLowAt d) c.loop-axis.low i c.index.result c.in_ok-values.values.low 0 (omega (arith, inv.low_len)) (c.index.ensures.place ∙ at)
           (ap (λ (r : Range). r.low) given, subst (IsOn (get_or axes i Source)) given c.in_ok-values.ensures.bound) inv.lows;
       highs = set_more (IsHighAt d) c.loop-axis.high i c.index-in-loop-axis.result c.in_ok-values.values.high 0 (omega (arith, inv.high_len)) (c.index-in-loop-axis.ensures.place ∙ at) (ap (λ (r : Range). r.high) given) inv.highs;

@@ -1,7 +1,7 @@
 use Rattle.std.proofs.Common.{◌≡◌, ap, sym, subst, ◌∙◌, Err, OnOk}
 use Rattle.fx_check.specs.Judging.{judge_of}
 use Rattle.fx_check.specs.Remaining.{goals}
-use Rattle.fx_check.specs.Verdict.{Reading, after_reading, made_after}
+use Rattle.fx_check.specs.FirstRefusal.{LineReading, after_reading, made_after, by_number}
 use Rattle.fx_check.proofs.ItemsRead.{line_says, line_malformed}
 use Rattle.fx_check.proofs.course.Course.take.Goals as goal
 
@@ -18,4 +18,4 @@ returns-clause-after c =
 pub returns-clause-made : goal.returns-clause-made
 returns-clause-made c =
     let is = line_says c.args.line.now.bytes.now c.args.line.now.ended c.in-Ok.item c.if-not-line.false c.requires.short c.in-Ok.ensures.ok in
-    subst (λ (r : Reading). OnOk c.step.result (c.step.new.self.made ≡ made_after c.args.self.now.made r)) (sym is) c.step.ensures.made
+    subst (λ (r : LineReading). OnOk c.step.result (c.step.new.self.made ≡ made_after c.args.self.now.made r)) (sym is) c.step.ensures.made

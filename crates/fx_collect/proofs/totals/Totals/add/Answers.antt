@@ -6,7 +6,7 @@ use Rattle.fx_base.specs.declared.counts.Counts.{Counts}
 use Rattle.fx_layout.specs.Keys.{Layout, HasBits}
 use Rattle.fx_tables.specs.declared.record.Record.{Record}
 use Rattle.fx_machine.specs.States.{add_at}
-use Rattle.fx_collect.specs.Totals.{Totals, added, records_of, AllHaveBits}
+use Rattle.fx_collect.specs.Totals.{Totals, counts_with, records_of, AllHaveBits}
 use Rattle.fx_collect.proofs.MapsOfCounts.{insert_adds, insert_has_bits, put_at, put_new}
 use Rattle.fx_collect.proofs.totals.Totals.add.Goals.{in-Some, in-None+in_ok-insert-in-None}
 use Rattle.fx_collect.proofs.totals.Totals.add.Goals as goal
@@ -30,7 +30,7 @@ invariant_of-self-in_ok-insert-in-None c =
 -- what was put is what was counted before with more
 counted : (t : Totals) (layout : Layout) (es after : List (List ℕ × Counts)) (unassigned : ℕ) (k : List ℕ) (c : Counts)
     → record { layout = layout; entries = records_of layout es; unassigned = unassigned } ≡ t
-    → after ≡ insert_entry bytes_eq es k (added (lookup (bytes_eq k) es) c)
+    → after ≡ insert_entry bytes_eq es k (counts_with (lookup (bytes_eq k) es) c)
     → record { layout = layout; entries = records_of layout after; unassigned = unassigned } ≡ record t { entries = add_at t.entries (record { layout = t.layout; values = k }) c }
 counted t layout es after unassigned k c view is =
     ap (λ (rs : List Record). record { layout = layout; entries = rs; unassigned = unassigned }) (ap (records_of layout) is ∙ insert_adds layout es k c)

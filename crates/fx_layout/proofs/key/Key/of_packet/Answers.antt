@@ -4,7 +4,7 @@ use Rattle.std.specs.List.{list_all}
 use Rattle.fx_elements.specs.Axes.{field, axis_width}
 use Rattle.fx_boxes.specs.Boxes.{IsFields}
 use Rattle.fx_layout.specs.declared.layout.Part.{Part}
-use Rattle.fx_layout.specs.Keys.{Layout, HasBits, can_stand, leading}
+use Rattle.fx_layout.specs.Keys.{Layout, HasBits, can_stand, leading_bits}
 use Rattle.fx_layout.proofs.Layouts.{so_many, all_of, key_has_bits}
 use Rattle.fx_layout.proofs.key.Key.of_packet.Goals as goal
 
@@ -16,6 +16,6 @@ invariant_of-result c =
     let parts = c.parts-part-items in
     let fields : IsFields c.args.fields.now = subst IsFields c.values-numbers.ensures.value c.values-numbers.ensures.kept in
     let stands : list_all can_stand c.args.layout.now ≡ true = subst (λ (l : Layout). list_all can_stand l ≡ true) parts.ensures.value parts.ensures.kept.stands in
-    let g : Part → ℕ = λ part. leading (axis_width part.axis) part.bits (field c.args.fields.now part.axis) in
+    let g : Part → ℕ = λ part. leading_bits (axis_width part.axis) part.bits (field c.args.fields.now part.axis) in
     let all : c.loop-part.values.items ≡ map g c.args.layout.now = all_of g _ _ _ c.loop-part.invariant c.loop-part-test.false ∙ ap (map g) parts.ensures.value in
     subst (λ (vs : List ℕ). HasBits c.copy.result vs) (sym all) (subst (λ (l : Layout). HasBits l (map g c.args.layout.now)) (sym c.copy.ensures) (key_has_bits c.args.layout.now c.args.fields.now stands fields))

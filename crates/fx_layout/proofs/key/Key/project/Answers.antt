@@ -2,7 +2,7 @@
 use Rattle.std.proofs.Common.{◌≡◌, ℕ, List, map, arith, subst, sym, ap, ◌∙◌, true}
 use Rattle.std.specs.List.{list_all}
 use Rattle.fx_layout.specs.declared.layout.Part.{Part}
-use Rattle.fx_layout.specs.Keys.{Layout, Key, HasBits, can_stand, cut}
+use Rattle.fx_layout.specs.Keys.{Layout, Key, HasBits, can_stand, bits_on}
 use Rattle.fx_layout.proofs.Layouts.{so_many, all_of, cut_has_bits}
 use Rattle.fx_layout.proofs.key.Key.project.Goals as goal
 
@@ -14,6 +14,6 @@ invariant_of-result c =
     let parts = c.parts-part-items in
     let stands : list_all can_stand c.args.layout.now ≡ true = subst (λ (l : Layout). list_all can_stand l ≡ true) parts.ensures.value parts.ensures.kept.stands in
     let own : HasBits c.args.self.now.layout c.args.self.now.values = subst (λ (k : Key). HasBits k.layout k.values) c.self.view_is c.self.invariant in
-    let g : Part → ℕ = λ part. cut c.args.self.now part.axis part.bits in
+    let g : Part → ℕ = λ part. bits_on c.args.self.now part.axis part.bits in
     let all : c.loop-part.values.items ≡ map g c.args.layout.now = all_of g _ _ _ c.loop-part.invariant c.loop-part-test.false ∙ ap (map g) parts.ensures.value in
     subst (λ (vs : List ℕ). HasBits c.copy.result vs) (sym all) (subst (λ (l : Layout). HasBits l (map g c.args.layout.now)) (sym c.copy.ensures) (cut_has_bits _ _ c.args.layout.now own stands))

@@ -5,7 +5,7 @@ use Rattle.fx_layout.specs.Keys.{Layout}
 use Rattle.fx_tables.specs.declared.record.Record.{Record}
 use Rattle.fx_tables.specs.declared.holding.Holding.{Holding}
 use Rattle.fx_tables.specs.Network.{Exporter, at_places}
-use Rattle.fx_base.specs.Entries.{numbered}
+use Rattle.fx_base.specs.Entries.{entry_numbered}
 use Rattle.fx_machine.specs.Sends.{put_all, chosen_from}
 use Rattle.fx_machine.specs.Holds.{hold_all}
 use Rattle.fx_machine.specs.Stores.{taken_out}
@@ -24,7 +24,7 @@ returns-in_err-links-clause-err c =
     let cs = c.args.choices.now in
     let h' = c.in_ok-handling.handling in
     let k : Some rs ≡ slice_get in'.carried.items place = c.in-Some-entry_at.ensures ∙ ap (λ (x : List (List Record)). slice_get x place) c.as_slice.ensures.value in
-    let n : Some r ≡ numbered rs c.args.number = ap Some c.copy-entry.ensures ∙ c.in-Some-numbered.ensures in
+    let n : Some r ≡ entry_numbered rs c.args.number = ap Some c.copy-entry.ensures ∙ c.in-Some-record_numbered.ensures in
     let p = err_from_is_err_and c.from_residual-in_err-links.result c.from_residual-in_err-links.ensures.1 in
     rw (p.1, p.2) (elim c.in_err-links.ensures.err [
       | inl a ↦ (ap (λ (f : Fault). f.place) a, inl (ap (λ (f : Fault). f.number) a))
@@ -46,7 +46,7 @@ returns-in_err-log-clause-err c =
     let links = c.in_ok-links.links.items in
     let rest = drop c.in_ok-links.used cs in
     let k : Some rs ≡ slice_get in'.carried.items place = c.in-Some-entry_at.ensures ∙ ap (λ (x : List (List Record)). slice_get x place) c.as_slice.ensures.value in
-    let n : Some r ≡ numbered rs c.args.number = ap Some c.copy-entry.ensures ∙ c.in-Some-numbered.ensures in
+    let n : Some r ≡ entry_numbered rs c.args.number = ap Some c.copy-entry.ensures ∙ c.in-Some-record_numbered.ensures in
     let picked : chosen_from [] (at_places net.exporters h'.exporters.now) cs ≡ Some (record { links = links; rest = rest }) =
     ap (λ (xs : List Exporter). chosen_from [] (at_places xs h'.exporters.now) cs) (sym c.exporters.ensures) ∙ c.in_ok-links.ensures.ok.1 in
     let p = err_from_is_err_and c.from_residual-in_err-log.result c.from_residual-in_err-log.ensures.1 in
@@ -71,7 +71,7 @@ returns-clause-ok c s e =
     let rest = drop c.in_ok-links.used cs in
     let t = h'.tallies in
     let k : Some rs ≡ slice_get in'.carried.items place = c.in-Some-entry_at.ensures ∙ ap (λ (x : List (List Record)). slice_get x place) c.as_slice.ensures.value in
-    let n : Some r ≡ numbered rs c.args.number = ap Some c.copy-entry.ensures ∙ c.in-Some-numbered.ensures in
+    let n : Some r ≡ entry_numbered rs c.args.number = ap Some c.copy-entry.ensures ∙ c.in-Some-record_numbered.ensures in
     let picked : chosen_from [] (at_places net.exporters h'.exporters.now) cs ≡ Some (record { links = links; rest = rest }) =
     ap (λ (xs : List Exporter). chosen_from [] (at_places xs h'.exporters.now) cs) (sym c.exporters.ensures) ∙ c.in_ok-links.ensures.ok.1 in
     let taken : hold_all r.counts h'.holdings.items in'.held.items rest ≡ Some c.hold_all.new.held.items =

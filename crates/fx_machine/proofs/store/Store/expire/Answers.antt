@@ -20,7 +20,7 @@ returns-in_err-links-clause-err c =
     let net = c.args.net.now in
     let place = c.in-Some.place in
     let rs = c.in-Some-entry_at.records.now in
-    let r = c.in-Some-numbered.found.now in
+    let r = c.in-Some-record_numbered.found.now in
     let cs = c.args.choices.now in
     let k : Some rs ≡ slice_get in'.held.items place = c.in-Some-entry_at.ensures ∙ ap (λ (x : List (List Record)). slice_get x place) c.as_slice.ensures.value in
     let p = err_from_is_err_and c.from_residual.result c.from_residual.ensures.1 in
@@ -28,7 +28,7 @@ returns-in_err-links-clause-err c =
       | inl a ↦ (ap (λ (f : Fault). f.place) a, inl (ap (λ (f : Fault). f.number) a))
       | inr b ↦ (
         ap (λ (f : Fault). f.place) b.0,
-        inr (λ s e. expire_is net c.args.holder c.args.number cs (coming_of 1 in'.to_come.items) in'.held.items in'.carried.items in'.totals.items in'.unassigned s (c.self.view_is ∙ e) place rs r None c.in-Some.ensures k c.in-Some-numbered.ensures (chosen net place c.exporters.result.now c.named_by-exporters.result.now cs None c.exporters.ensures c.named_by-exporters.ensures b.1) ∙ ap (λ (f : Fault). Err f.number) (sym b.0)),
+        inr (λ s e. expire_is net c.args.holder c.args.number cs (coming_of 1 in'.to_come.items) in'.held.items in'.carried.items in'.totals.items in'.unassigned s (c.self.view_is ∙ e) place rs r None c.in-Some.ensures k c.in-Some-record_numbered.ensures (chosen net place c.exporters.result.now c.named_by-exporters.result.now cs None c.exporters.ensures c.named_by-exporters.ensures b.1) ∙ ap (λ (f : Fault). Err f.number) (sym b.0)),
       )
     ])
 
@@ -38,7 +38,7 @@ returns-then-used-choices-clause-err c =
     let net = c.args.net.now in
     let place = c.in-Some.place in
     let rs = c.in-Some-entry_at.records.now in
-    let r = c.in-Some-numbered.found.now in
+    let r = c.in-Some-record_numbered.found.now in
     let cs = c.args.choices.now in
     let used = c.in_ok-links.used in
     let k : Some rs ≡ slice_get in'.held.items place = c.in-Some-entry_at.ensures ∙ ap (λ (x : List (List Record)). slice_get x place) c.as_slice.ensures.value in
@@ -46,7 +46,7 @@ returns-then-used-choices-clause-err c =
     let lt : used < length cs = c.if-used-choices.true in
     let picked = chosen net place c.exporters.result.now c.named_by-exporters.result.now cs o c.exporters.ensures c.named_by-exporters.ensures c.in_ok-links.ensures.ok.1 in (
       ap (λ (f : Fault). f.place) c.bare-then-used-choices.ensures,
-      inr (λ s e. expire_is net c.args.holder c.args.number cs (coming_of 1 in'.to_come.items) in'.held.items in'.carried.items in'.totals.items in'.unassigned s (c.self.view_is ∙ e) place rs r o c.in-Some.ensures k c.in-Some-numbered.ensures picked ∙ choices_left cs used (record s { held = taken_out s.held place c.args.number; carried = put_all c.in_ok-links.links.items r s.carried }) lt ∙ ap (λ (f : Fault). Err f.number) (sym c.bare-then-used-choices.ensures)),
+      inr (λ s e. expire_is net c.args.holder c.args.number cs (coming_of 1 in'.to_come.items) in'.held.items in'.carried.items in'.totals.items in'.unassigned s (c.self.view_is ∙ e) place rs r o c.in-Some.ensures k c.in-Some-record_numbered.ensures picked ∙ choices_left cs used (record s { held = taken_out s.held place c.args.number; carried = put_all c.in_ok-links.links.items r s.carried }) lt ∙ ap (λ (f : Fault). Err f.number) (sym c.bare-then-used-choices.ensures)),
     )
 
 pub returns-clause-ok : goal.returns-clause-ok
@@ -55,7 +55,7 @@ returns-clause-ok c s e =
     let net = c.args.net.now in
     let place = c.in-Some.place in
     let rs = c.in-Some-entry_at.records.now in
-    let r = c.in-Some-numbered.found.now in
+    let r = c.in-Some-record_numbered.found.now in
     let cs = c.args.choices.now in
     let used = c.in_ok-links.used in
     let links = c.in_ok-links.links.items in
@@ -64,4 +64,4 @@ returns-clause-ok c s e =
     let all : length cs ≤ used = c.if-used-choices.false in
     let picked = chosen net place c.exporters.result.now c.named_by-exporters.result.now cs o c.exporters.ensures c.named_by-exporters.ensures c.in_ok-links.ensures.ok.1 in
     let carried : c.put_all.new.carried.items ≡ put_all links r in'.carried.items = c.in_default-put_all.ensures.ok ∙ ap₂ (λ (ls : List ℕ) (x : Record). put_all ls x in'.carried.items) c.as_slice-2.ensures.value c.copy-entry.ensures in
-    expired net c.args.holder c.args.number cs (coming_of 1 in'.to_come.items) in'.held.items in'.carried.items in'.totals.items in'.unassigned s (c.self.view_is ∙ e) place rs r links (drop used cs) c.take_out_at.new.lists.items c.put_all.new.carried.items c.in-Some.ensures k c.in-Some-numbered.ensures picked (choices_used cs used all) c.take_out_at.ensures carried
+    expired net c.args.holder c.args.number cs (coming_of 1 in'.to_come.items) in'.held.items in'.carried.items in'.totals.items in'.unassigned s (c.self.view_is ∙ e) place rs r links (drop used cs) c.take_out_at.new.lists.items c.put_all.new.carried.items c.in-Some.ensures k c.in-Some-record_numbered.ensures picked (choices_used cs used all) c.take_out_at.ensures carried

@@ -1,12 +1,12 @@
 use Rattle.std.proofs.Common.{ℕ, ap, List, map}
 use Rattle.std.proofs.lemmas.List.{drop_all}
-use Rattle.fx_tables.specs.Network.{Aggregation}
+use Rattle.fx_tables.specs.Network.{AggregationEntry}
 use Rattle.fx_net.specs.Doings.{Ended, Empties}
 use Rattle.fx_net.proofs.OneAfterAnother.{completed_by}
 use Rattle.fx_net.proofs.contents.Contents.empty_aggregations.Goals as goal
 
-holders : List Aggregation → List ℕ
-holders aggregations = map (λ (a : Aggregation). a.holder) aggregations
+holders : List AggregationEntry → List ℕ
+holders aggregations = map (λ (a : AggregationEntry). a.holder) aggregations
 
 pub returns-clause-ok : goal.returns-clause-ok
 unfolding holders

@@ -1,6 +1,6 @@
 use Rattle.std.proofs.Common.{◌⊎◌, inr, ◌∙◌, ap}
 use Rattle.fx_base.specs.declared.fault.Fault.{Fault}
-use Rattle.fx_net.specs.Running.{Running, FailsOutside, RefusesRun, not_read}
+use Rattle.fx_net.specs.Running.{RunningNetwork, FailsOutside, RefusesRun, not_read}
 use Rattle.fx_net.proofs.Exits.{exit_with}
 use Rattle.fx_net.proofs.FramesRead.{at_line_of, obeys_lent, line_fault}
 use Rattle.fx_net.proofs.network.Network.obey_all.Goals as goal
@@ -18,7 +18,7 @@ loop-self-preserved g c =
     let one = c.in_ok-obey.ensures.ok in
     record {
       obeyed = obeys_lent c.args.self.now c.loop-self.self c.obey.new.self c.args.capture.now c.loop-self.capture c.obey.new.capture c.args.schedule.now c.loop-self.schedule c.advance.new.self (g.L.Links.put_on c.args.links.now) (g.L.Links.put_on c.loop-self.links) (g.L.Links.put_on c.obey.new.links) c.line.result.bytes.now c.loop-self.invariant.obeyed at c.line.ensures.bytes one;
-      faultless = ap (λ (r : Running). r.fault) one.rest ∙ c.loop-self.invariant.faultless;
+      faultless = ap (λ (r : RunningNetwork). r.fault) one.rest ∙ c.loop-self.invariant.faultless;
       going = λ h. c.in_ok-obey.ensures.going (c.loop-self.invariant.going h);
     }
 

@@ -1,6 +1,6 @@
 -- Some lines were obeyed, and the network has answered no fault.
 use Rattle.std.proofs.Common.{◌≡◌, None, false}
-use Rattle.fx_base.specs.Lines.{budget}
+use Rattle.fx_base.specs.Lines.{line_budget}
 use Rattle.fx_net.specs.Running.{HasObeyed}
 use Rattle.fx_net.proofs.network.Network.obey_all.Given as goal
 
@@ -13,4 +13,4 @@ invariant-loop-self g l = record {
 }
 
 abbrev pub decreases-loop-self : goal.decreases-loop-self
-decreases-loop-self g l = budget l.schedule
+decreases-loop-self g l = line_budget l.schedule

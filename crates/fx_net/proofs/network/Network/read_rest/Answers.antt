@@ -1,7 +1,7 @@
 use Rattle.std.proofs.Common.{◌⊎◌, inr, ◌∙◌, ap}
 use Rattle.fx_base.specs.declared.fault.Fault.{Fault}
 use Rattle.fx_net.specs.declared.stop.Stop.{Stop}
-use Rattle.fx_net.specs.Running.{Running, FailsOutside, RefusesClose, capture_cut, fault_of}
+use Rattle.fx_net.specs.Running.{RunningNetwork, FailsOutside, RefusesClose, capture_cut, fault_of}
 use Rattle.fx_net.proofs.Exits.{told_exit, exit_with, close_refused}
 use Rattle.fx_net.proofs.Frames.{at_frame_of}
 use Rattle.fx_net.proofs.FramesRead.{reads_more, goes_more}
@@ -21,7 +21,7 @@ loop-met-preserved g c =
     record {
       read = reads_more c.args.self.now c.loop-met.self c.read_one.new.self c.args.capture.now c.loop-met.capture c.advance.new.self (g.L.Links.put_on c.args.links.now) (g.L.Links.put_on c.loop-met.links) (g.L.Links.put_on c.read_one.new.links) c.loop-met.invariant.read at one;
       gone = goes_more c.args.capture.now c.loop-met.capture c.advance.new.self c.loop-met.invariant.gone at;
-      rest = one.rest ∙ ap (λ (r : Running). record r { contents = c.read_one.new.self.contents }) c.loop-met.invariant.rest;
+      rest = one.rest ∙ ap (λ (r : RunningNetwork). record r { contents = c.read_one.new.self.contents }) c.loop-met.invariant.rest;
       going = λ h. c.in_ok-read_one.ensures.going (c.loop-met.invariant.going h);
     }
 

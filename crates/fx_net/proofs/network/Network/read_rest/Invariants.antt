@@ -1,6 +1,6 @@
 -- Some frames were read, and nothing but the contents has changed.
 use Rattle.std.proofs.Common.{◌≡◌, false}
-use Rattle.fx_pcap.specs.Captures.{budget}
+use Rattle.fx_pcap.specs.Captures.{frame_budget}
 use Rattle.fx_net.specs.Running.{HasGoneOn, HasRead}
 use Rattle.fx_net.proofs.network.Network.read_rest.Given as goal
 
@@ -13,4 +13,4 @@ invariant-loop-met g l = record {
 }
 
 abbrev pub decreases-loop-met : goal.decreases-loop-met
-decreases-loop-met g l = budget l.capture
+decreases-loop-met g l = frame_budget l.capture

@@ -1,5 +1,5 @@
 use Rattle.std.proofs.Common.{◌≡◌, ◌≤◌, None}
-use Rattle.fx_pcap.specs.Captures.{HadAhead, budget, Asks, Gains}
+use Rattle.fx_pcap.specs.Captures.{HadAhead, frame_budget, CallsForFrames, GainsFrames}
 use Rattle.fx_pcap.proofs.capture.Capture.find_frame.Given as goal
 
 abbrev pub invariant-records : goal.invariant-records
@@ -8,10 +8,10 @@ invariant-records g l = record {
   ahead : HadAhead l.fn.self l.self (λ a. a);
   untold : l.fn.self.left ≡ None → l.self.left ≡ None;
   format : l.self.format ≡ l.fn.self.format;
-  asks : Asks l.fn.self l.self;
-  gains : Gains 0 l.fn.self l.self;
-  budget : budget l.self ≤ budget l.fn.self;
+  asks : CallsForFrames l.fn.self l.self;
+  gains : GainsFrames 0 l.fn.self l.self;
+  budget : frame_budget l.self ≤ frame_budget l.fn.self;
 }
 
 abbrev pub decreases-records : goal.decreases-records
-decreases-records g l = budget l.self
+decreases-records g l = frame_budget l.self

@@ -1,5 +1,5 @@
 use Rattle.std.proofs.Common.{◌≡◌, ◌+◌, drop}
-use Rattle.fx_selectors.specs.Feeding.{left}
+use Rattle.fx_selectors.specs.Feeding.{feeds_left}
 use Rattle.fx_selectors.proofs.feeding.FedPairs.next_pair.Given as goal
 
 abbrev pub invariant-loop-place : goal.invariant-loop-place
@@ -10,5 +10,5 @@ invariant-loop-place l =
       device : self.device.now ≡ first.device.now;
       interface : self.interface.now ≡ first.interface.now;
       inwards : self.inwards ≡ first.inwards;
-      left : left l.processes first.interface.now first.inwards (first.point + 1) first.process (drop first.point l.points) ≡ left l.processes first.interface.now first.inwards (l.place + 1) self.process (drop l.place l.points);
+      left : feeds_left l.processes first.interface.now first.inwards (first.point + 1) first.process (drop first.point l.points) ≡ feeds_left l.processes first.interface.now first.inwards (l.place + 1) self.process (drop l.place l.points);
     }

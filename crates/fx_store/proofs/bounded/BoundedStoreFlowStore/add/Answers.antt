@@ -4,7 +4,7 @@ use Rattle.lru.specs.LruCache.{LruCache, put_entries}
 use Rattle.fx_base.specs.declared.counts.Counts.{Counts}
 use Rattle.fx_layout.specs.Keys.{Key, same_key}
 use Rattle.fx_store.specs.Flows.{Entry, Flows, flows_of, Adds, with_more}
-use Rattle.fx_store.specs.Recent.{Recent, IsKept, counts_at, with_latest, pushed_out}
+use Rattle.fx_store.specs.Recent.{Recent, AreKeysOf, counts_at, with_latest, pushed_out}
 use Rattle.fx_store.proofs.Recency.{AreDistinct, adds_recent, adds_if, counted, not_counted}
 use Rattle.fx_store.proofs.Orders.{put_held, kept_held}
 use Rattle.fx_store.proofs.bounded.BoundedStoreFlowStore.add.Goals as goal
@@ -21,7 +21,7 @@ invariant_of-self-in-Some c =
     let p = put_held es n k c.in-Some.before x valid.1 before in
     let now : c.put.new.self.entries ≡ take n (with_latest es k x) = ap (λ (y : LruCache Key Counts). y.entries) c.in_ok-put-in-Some.ensures.entries ∙ ap (put_entries same_key c.self.inside.recent k) c.add.ensures ∙ p.0 in
     let adds : Adds (flows_of es) (flows_of c.put.new.self.entries) k x None = subst (λ (o : Option Entry). Adds (flows_of es) (flows_of c.put.new.self.entries) k x o) p.1 (subst (λ (l : List Entry). Adds (flows_of es) (flows_of l) k x (pushed_out r k x)) (sym now) (adds_recent r k x valid.0 valid.1 valid.2)) in
-    subst (λ (f : Flows). IsKept f c.self.inside.order.keys) (sym adds.flows) (kept_held (flows_of es) k (with_more (get (flows_of es) k) x) c.self.inside.order.keys c.self.invariant (ap is_some (counted k es ∙ before)))
+    subst (λ (f : Flows). AreKeysOf f c.self.inside.order.keys) (sym adds.flows) (kept_held (flows_of es) k (with_more (get (flows_of es) k) x) c.self.inside.order.keys c.self.invariant (ap is_some (counted k es ∙ before)))
 
 pub returns-in_ok-put-in-Some-clause-ok : goal.returns-in_ok-put-in-Some-clause-ok
 returns-in_ok-put-in-Some-clause-ok c =

@@ -4,7 +4,7 @@ use Rattle.fx_base.specs.declared.counts.Counts.{Counts}
 use Rattle.fx_layout.specs.Keys.{Key}
 use Rattle.std.specs.FinMap.{remove}
 use Rattle.fx_store.specs.Flows.{Flows, flows_of}
-use Rattle.fx_store.specs.Recent.{Recent, IsKept, without_key}
+use Rattle.fx_store.specs.Recent.{Recent, AreKeysOf, without_key}
 use Rattle.fx_store.proofs.Recency.{entry_at, without_is}
 use Rattle.fx_store.proofs.Orders.{kept_remove, least_kept, least_of_none, nothing_in, no_answer, answer_key}
 use Rattle.fx_store.proofs.bounded.BoundedStoreFlowStore.take_least.Goals as goal
@@ -50,7 +50,7 @@ invariant_of-self-2 c =
     let es = c.self.inside.recent.entries in
     let k = c.in_ok-key.key in
     let left = ap (λ (y : LruCache Key Counts). flows_of y.entries) c.in_ok-key-2.ensures.entries ∙ without_is k es c.len-held.ensures.valid.0 in
-    subst (λ (f : Flows). IsKept f c.pop_first.new.self.keys) (sym left) (kept_remove (flows_of es) k c.self.inside.order.keys c.pop_first.new.self.keys c.self.invariant c.in_ok-key.ensures.updates.0)
+    subst (λ (f : Flows). AreKeysOf f c.pop_first.new.self.keys) (sym left) (kept_remove (flows_of es) k c.self.inside.order.keys c.pop_first.new.self.keys c.self.invariant c.in_ok-key.ensures.updates.0)
 
 pub returns-clause-value : goal.returns-clause-value
 returns-clause-value c =

@@ -1,6 +1,6 @@
 use Rattle.std.proofs.Common.{None, sym, ◌∙◌, subst}
 use Rattle.fx_store.specs.Flows.{Flows, flows_of}
-use Rattle.fx_store.specs.Recent.{IsKept}
+use Rattle.fx_store.specs.Recent.{AreKeysOf}
 use Rattle.fx_store.proofs.FlowMaps.{remove_is}
 use Rattle.fx_store.proofs.Hashed.{updated_by_order, no_counts, entry_with}
 use Rattle.fx_store.proofs.Orders.{kept_remove, least_kept, least_of_none, nothing_in}
@@ -30,7 +30,7 @@ invariant_of-self-2 c =
     let es = c.self.inside.flows.entries in
     let left = c.swap_remove.new.self.entries in
     let k = c.in_ok-key.key in
-    subst (λ (f : Flows). IsKept f c.pop_first.new.self.keys) (sym (remove_is es left k (updated_by_order es left k None c.in_ok-counts.ensures.updates.0)))
+    subst (λ (f : Flows). AreKeysOf f c.pop_first.new.self.keys) (sym (remove_is es left k (updated_by_order es left k None c.in_ok-counts.ensures.updates.0)))
     (kept_remove (flows_of es) k c.self.inside.order.keys c.pop_first.new.self.keys c.self.invariant c.in_ok-key.ensures.updates.0)
 
 pub returns-clause-value : goal.returns-clause-value

@@ -1,10 +1,10 @@
 use Rattle.std.proofs.Common.{◌≡◌, List, [], ◌∷◌, ◌++◌, not, true, false, sym, ap, ◌∙◌, subst}
 use Rattle.std.proofs.lemmas.Bool.{cond-true, cond-false, not-true, not-false}
-use Rattle.fx_topology.specs.declared.link.Link.{Link}
+use Rattle.fx_topology.specs.declared.link.NamedLink.{NamedLink}
 use Rattle.fx_topology.specs.Links.{starts_there}
 use Rattle.fx_topology.specs.Starts.{AreStarts}
 use Rattle.fx_topology.proofs.StartsFindLinks.{any_starts, start_inserted, starts_more}
-use Rattle.fx_topology.proofs.link_table.Links.add.Goals as goal
+use Rattle.fx_topology.proofs.link_table.LinkTable.add.Goals as goal
 
 pub returns-then-not-branch-clause-answer : goal.returns-then-not-branch-clause-answer
 returns-then-not-branch-clause-answer c =
@@ -33,4 +33,4 @@ pub returns-clause-links : goal.returns-clause-links
 returns-clause-links c =
     let told = any_starts c.self.inside.starts.keys c.args.self.now c.in_ok-start.start c.args.link (subst (AreStarts c.self.inside.starts.keys) c.self.view_is c.self.invariant) c.in_ok-start.ensures in
     let new : starts_there c.args.self.now c.args.link ≡ false = not-true _ (sym (ap not told) ∙ (sym c.in_ok-insert.ensures.added ∙ c.if-not-branch.false)) in
-    c.in_ok-push.ensures.items ∙ (ap (λ (ls : List Link). ls ++ c.args.link ∷ []) (c.in_ok-reserve.ensures.items ∙ c.self.view_is) ∙ sym (cond-false (starts_there c.args.self.now c.args.link) c.args.self.now (c.args.self.now ++ c.args.link ∷ []) new))
+    c.in_ok-push.ensures.items ∙ (ap (λ (ls : List NamedLink). ls ++ c.args.link ∷ []) (c.in_ok-reserve.ensures.items ∙ c.self.view_is) ∙ sym (cond-false (starts_there c.args.self.now c.args.link) c.args.self.now (c.args.self.now ++ c.args.link ∷ []) new))

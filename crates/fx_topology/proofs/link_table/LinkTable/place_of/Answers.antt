@@ -1,7 +1,7 @@
 use Rattle.std.proofs.Common.{◌∙◌, subst}
 use Rattle.fx_topology.specs.Starts.{AreStarts}
 use Rattle.fx_topology.proofs.StartsFindLinks.{place_of_start}
-use Rattle.fx_topology.proofs.link_table.Links.place_of.Goals as goal
+use Rattle.fx_topology.proofs.link_table.LinkTable.place_of.Goals as goal
 
 pub returns : goal.returns
 returns c =

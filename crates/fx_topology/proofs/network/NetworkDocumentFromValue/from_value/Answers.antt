@@ -2,7 +2,7 @@ use Rattle.std.proofs.Common.{refl}
 use Rattle.serde_json.specs.View.{view}
 use Rattle.fx_topology.specs.Networks.{network_rows, devices_of}
 use Rattle.fx_walk.proofs.Faults.{exit, refuses_more}
-use Rattle.fx_topology.proofs.network.NetworkFromValue.from_value.Goals as goal
+use Rattle.fx_topology.proofs.network.NetworkDocumentFromValue.from_value.Goals as goal
 
 pub returns-in_err-object_of : goal.returns-in_err-object_of
 returns-in_err-object_of c =

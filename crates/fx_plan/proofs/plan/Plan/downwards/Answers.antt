@@ -4,7 +4,7 @@ use Rattle.fx_plan.specs.declared.plan.Parts.{Parts}
 use Rattle.fx_ranks.specs.Ranks.{IsDescending}
 use Rattle.fx_plan.specs.Tables.{net_of}
 use Rattle.fx_ranks.proofs.RankedNetworks.{turned}
-use Rattle.fx_plan.proofs.plan.Plan.order.Goals as goal
+use Rattle.fx_plan.proofs.plan.Plan.downwards.Goals as goal
 
 pub returns : goal.returns
 returns c =

@@ -99,17 +99,17 @@ made_by made item.End = made
 abbrev pub Line : Type 0
 Line = List ℕ × Bool
 
-pub data Reading : Type 0 where
-  long : Reading  -- it has more than 4,096 bytes
-  cut : Reading  -- the text ends inside it
-  malformed : Reading  -- no item has this text
-  says : Item → Reading
+pub data LineReading : Type 0 where
+  long : LineReading  -- it has more than 4,096 bytes
+  cut : LineReading  -- the text ends inside it
+  malformed : LineReading  -- no item has this text
+  says : Item → LineReading
 
-abbrev pub said : Option Item → Reading
+abbrev pub said : Option Item → LineReading
 said None = malformed
 said (Some i) = says i
 
-abbrev pub reading_of : Line → Reading
+abbrev pub reading_of : Line → LineReading
 reading_of l = if nat_lt 4096 (length l.0) then long else if l.1 then said (item_of l.0) else cut
 
 -- the fault of a line that is no item's text
@@ -120,13 +120,19 @@ form_fault (opening t ∷ gs) = 402
 form_fault (tree v t b d ∷ gs) = 402
 form_fault (close ∷ gs) = 402
 
-abbrev pub after_reading : Judge → ℕ → List Goal → Reading → Result (List Goal) ℕ
+-- an outcome with the number of what is wrong
+abbrev pub by_number : Result (List Goal) LineFault → Result (List Goal) ℕ
+by_number (Ok gs) = Ok gs
+by_number (Err fault) = Err (number_of fault)
+
+-- what is left to say after a line, or the number of its fault: 903 is the reader's
+abbrev pub after_reading : Judge → ℕ → List Goal → LineReading → Result (List Goal) ℕ
 after_reading judge made gs long = Err 903
 after_reading judge made gs cut = Err 405
 after_reading judge made gs malformed = Err (form_fault gs)
 after_reading judge made gs (says i) = after judge made gs i
 
-abbrev pub made_after : ℕ → Reading → ℕ
+abbrev pub made_after : ℕ → LineReading → ℕ
 made_after made long = made
 made_after made cut = made
 made_after made malformed = made
