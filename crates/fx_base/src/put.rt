@@ -1,8 +1,7 @@
 //! Texts and numbers written into a sink. Nothing here takes memory.
-ghost use Rattle.std.specs.Prelude.{◌≡◌, true, false, OnOk, IfErr, decimal, map};
-ghost use Rattle.fx_base.specs.Device.{Writes};
-ghost use Rattle.fx_base.specs.Fault.{fault_at, fault_text, place_behind, place_text, shown};
-ghost use Rattle.fx_base.specs.declared.fault.Place.TheVariants as places;
+ghost use Rattle.std.specs.Prelude.{OnOk, IfErr, decimal, map};
+ghost use Rattle.fx_base.specs.Device.{Writes, IsWriteFault, KeepsGoing};
+ghost use Rattle.fx_base.specs.Fault.{fault_text, place_behind, place_text, shown};
 
 use crate::fault::{Fault, Place, shown_octet};
 use crate::sink::Sink;
@@ -13,8 +12,8 @@ use itoa::Buffer;
 /// Fails with 902, at no place, where a write fails. How much the sink has taken then is open.
 pub fn put_text<S: Sink>(sink: &mut S, text: &[u8]) -> Result<(), Fault>
     ensures ok { OnOk result (Writes (S.taken sink.old) (S.taken sink.new) text.now) }
-    ensures going { OnOk result (S.failed sink.old ≡ false → S.failed sink.new ≡ false) }
-    ensures err { IfErr result (λ e. (e ≡ fault_at 902 places.None) × (S.failed sink.new ≡ true)) }
+    ensures going { OnOk result (KeepsGoing (S.failed sink.old) (S.failed sink.new)) }
+    ensures err { IfErr result (IsWriteFault (S.failed sink.new)) }
 {
     let mut done = 0;
     while done < text.len() {
@@ -28,8 +27,8 @@ pub fn put_text<S: Sink>(sink: &mut S, text: &[u8]) -> Result<(), Fault>
 /// Fails as [`put_text`].
 pub fn put_number_wide<S: Sink>(sink: &mut S, number: u128) -> Result<(), Fault>
     ensures ok { OnOk result (Writes (S.taken sink.old) (S.taken sink.new) (decimal number)) }
-    ensures going { OnOk result (S.failed sink.old ≡ false → S.failed sink.new ≡ false) }
-    ensures err { IfErr result (λ e. (e ≡ fault_at 902 places.None) × (S.failed sink.new ≡ true)) }
+    ensures going { OnOk result (KeepsGoing (S.failed sink.old) (S.failed sink.new)) }
+    ensures err { IfErr result (IsWriteFault (S.failed sink.new)) }
 {
     let mut buffer = Buffer::new();
     put_text(sink, buffer.format(number).as_bytes())
@@ -40,8 +39,8 @@ pub fn put_number_wide<S: Sink>(sink: &mut S, number: u128) -> Result<(), Fault>
 /// Fails as [`put_text`].
 pub fn put_number<S: Sink>(sink: &mut S, number: u64) -> Result<(), Fault>
     ensures ok { OnOk result (Writes (S.taken sink.old) (S.taken sink.new) (decimal number)) }
-    ensures going { OnOk result (S.failed sink.old ≡ false → S.failed sink.new ≡ false) }
-    ensures err { IfErr result (λ e. (e ≡ fault_at 902 places.None) × (S.failed sink.new ≡ true)) }
+    ensures going { OnOk result (KeepsGoing (S.failed sink.old) (S.failed sink.new)) }
+    ensures err { IfErr result (IsWriteFault (S.failed sink.new)) }
 {
     put_number_wide(sink, u128::from(number))
 }
@@ -49,8 +48,8 @@ pub fn put_number<S: Sink>(sink: &mut S, number: u64) -> Result<(), Fault>
 /// Writes a text with each control character as `?`.
 fn put_shown<S: Sink>(sink: &mut S, text: &[u8]) -> Result<(), Fault>
     ensures ok { OnOk result (Writes (S.taken sink.old) (S.taken sink.new) (map shown text.now)) }
-    ensures going { OnOk result (S.failed sink.old ≡ false → S.failed sink.new ≡ false) }
-    ensures err { IfErr result (λ e. (e ≡ fault_at 902 places.None) × (S.failed sink.new ≡ true)) }
+    ensures going { OnOk result (KeepsGoing (S.failed sink.old) (S.failed sink.new)) }
+    ensures err { IfErr result (IsWriteFault (S.failed sink.new)) }
 {
     for octet in text {
         put_text(sink, &[shown_octet(*octet)])?;
@@ -63,8 +62,8 @@ fn put_shown<S: Sink>(sink: &mut S, text: &[u8]) -> Result<(), Fault>
 /// Fails as [`put_text`].
 pub fn put_place<S: Sink>(sink: &mut S, place: &Place) -> Result<(), Fault>
     ensures ok { OnOk result (Writes (S.taken sink.old) (S.taken sink.new) (place_text place.now)) }
-    ensures going { OnOk result (S.failed sink.old ≡ false → S.failed sink.new ≡ false) }
-    ensures err { IfErr result (λ e. (e ≡ fault_at 902 places.None) × (S.failed sink.new ≡ true)) }
+    ensures going { OnOk result (KeepsGoing (S.failed sink.old) (S.failed sink.new)) }
+    ensures err { IfErr result (IsWriteFault (S.failed sink.new)) }
 {
     match place {
         Place::None => Ok(()),
@@ -84,8 +83,8 @@ pub fn put_place<S: Sink>(sink: &mut S, place: &Place) -> Result<(), Fault>
 fn put_behind<S: Sink>(sink: &mut S, place: &Place) -> Result<(), Fault>
     ensures ok { OnOk result (Writes (S.taken sink.old) (S.taken sink.new)
         (place_behind place.now)) }
-    ensures going { OnOk result (S.failed sink.old ≡ false → S.failed sink.new ≡ false) }
-    ensures err { IfErr result (λ e. (e ≡ fault_at 902 places.None) × (S.failed sink.new ≡ true)) }
+    ensures going { OnOk result (KeepsGoing (S.failed sink.old) (S.failed sink.new)) }
+    ensures err { IfErr result (IsWriteFault (S.failed sink.new)) }
 {
     match place {
         Place::None => Ok(()),
@@ -101,8 +100,8 @@ fn put_behind<S: Sink>(sink: &mut S, place: &Place) -> Result<(), Fault>
 /// Fails as [`put_text`].
 pub fn put_fault<S: Sink>(sink: &mut S, fault: &Fault) -> Result<(), Fault>
     ensures ok { OnOk result (Writes (S.taken sink.old) (S.taken sink.new) (fault_text fault.now)) }
-    ensures going { OnOk result (S.failed sink.old ≡ false → S.failed sink.new ≡ false) }
-    ensures err { IfErr result (λ e. (e ≡ fault_at 902 places.None) × (S.failed sink.new ≡ true)) }
+    ensures going { OnOk result (KeepsGoing (S.failed sink.old) (S.failed sink.new)) }
+    ensures err { IfErr result (IsWriteFault (S.failed sink.new)) }
 {
     put_number(sink, u64::from(fault.number))?;
     put_behind(sink, &fault.place)

@@ -1,7 +1,7 @@
 //! A source read to its end.
 ghost use Rattle.std.specs.Prelude.{◌≡◌, ◌⊎◌, [], None, Some, OnOk, IfOk, IfErr, IfSome};
 ghost use Rattle.fx_base.specs.Device.{MayBeLeft, IsUnread};
-ghost use Rattle.fx_base.specs.Fault.{fault_at};
+ghost use Rattle.fx_base.specs.Fault.{fault_at, IsMemory};
 ghost use Rattle.fx_base.specs.declared.fault.Place.TheVariants as places;
 
 use crate::fault::Fault;
@@ -17,7 +17,7 @@ pub fn read_whole<R: Source>(alloc: Global, source: &mut R) -> Result<Vec<u8>, F
     ensures all { IfOk result (λ octets. MayBeLeft (R.left source.old) octets.items) }
     ensures end { OnOk result (IfSome (R.left source.old) (λ _. R.left source.new ≡ Some [])) }
     ensures untold { R.left source.old ≡ None → R.left source.new ≡ None }
-    ensures err { IfErr result (λ e. (e ≡ fault_at 900 places.None)
+    ensures err { IfErr result (λ e. IsMemory e
         ⊎ ((e ≡ fault_at 901 places.None)
         × IsUnread (R.left source.old) (R.calls source.old) (R.calls source.new)
         (R.failed source.new))) }

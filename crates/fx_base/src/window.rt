@@ -3,7 +3,7 @@ ghost use Rattle.std.specs.Prelude.{◌≡◌, ◌⊎◌, ◌+◌, ◌-◌, ◌�
 ghost use Rattle.std.specs.Io.KnownBytes.{prepend_known};
 ghost use Rattle.fx_base.specs.Limits.{call_limit};
 ghost use Rattle.fx_base.specs.Device.{IsAsked};
-ghost use Rattle.fx_base.specs.Fault.{fault_at};
+ghost use Rattle.fx_base.specs.Fault.{fault_at, IsMemory};
 ghost use Rattle.fx_base.specs.declared.fault.Place.TheVariants as places;
 ghost use Rattle.fx_base.specs.Window.{octets_of, HasFailed};
 
@@ -126,7 +126,7 @@ impl<R: Source> Window<R> {
           calls = 0;
           asked = R.calls source;
         }) }
-        ensures err { IfErr result (λ e. e ≡ fault_at 900 places.None) }
+        ensures err { IfErr result IsMemory }
     {
         Ok(Window {
             source,

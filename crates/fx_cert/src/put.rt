@@ -1,8 +1,6 @@
 //! Writing a line of a certificate.
-ghost use Rattle.std.specs.Prelude.{◌≡◌, ◌++◌, ◌∷◌, [], false, true, OnOk, IfErr};
-ghost use Rattle.fx_base.specs.Device.{Writes};
-ghost use Rattle.fx_base.specs.Fault.{fault_at};
-ghost use Rattle.fx_base.specs.declared.fault.Place.TheVariants as places;
+ghost use Rattle.std.specs.Prelude.{◌≡◌, ◌++◌, ◌∷◌, [], OnOk, IfErr};
+ghost use Rattle.fx_base.specs.Device.{Writes, IsWriteFault, KeepsGoing};
 ghost use Rattle.fx_cert.specs.ItemText.{axis_word, item_text};
 ghost use Rattle.fx_cert.specs.declared.item.Item.TheVariants as items;
 
@@ -30,8 +28,8 @@ pub(crate) fn word(axis: Axis) -> &'static [u8]
 fn put_class<S: Sink>(sink: &mut S, class: u64, path: u64) -> Result<(), Fault>
     ensures ok { OnOk result (Writes (S.taken sink.old) (S.taken sink.new)
         (item_text (items.Class class path))) }
-    ensures going { OnOk result (S.failed sink.old ≡ false → S.failed sink.new ≡ false) }
-    ensures err { IfErr result (λ e. (e ≡ fault_at 902 places.None) × (S.failed sink.new ≡ true)) }
+    ensures going { OnOk result (KeepsGoing (S.failed sink.old) (S.failed sink.new)) }
+    ensures err { IfErr result (IsWriteFault (S.failed sink.new)) }
 {
     put_text(sink, b"class ")?;
     put_number(sink, class)?;
@@ -42,8 +40,8 @@ fn put_class<S: Sink>(sink: &mut S, class: u64, path: u64) -> Result<(), Fault>
 fn put_split<S: Sink>(sink: &mut S, axis: Axis, at: u128) -> Result<(), Fault>
     ensures ok { OnOk result (Writes (S.taken sink.old) (S.taken sink.new)
         (item_text (items.Split axis at))) }
-    ensures going { OnOk result (S.failed sink.old ≡ false → S.failed sink.new ≡ false) }
-    ensures err { IfErr result (λ e. (e ≡ fault_at 902 places.None) × (S.failed sink.new ≡ true)) }
+    ensures going { OnOk result (KeepsGoing (S.failed sink.old) (S.failed sink.new)) }
+    ensures err { IfErr result (IsWriteFault (S.failed sink.new)) }
 {
     put_text(sink, b"S ")?;
     put_text(sink, word(axis))?;
@@ -54,8 +52,8 @@ fn put_split<S: Sink>(sink: &mut S, axis: Axis, at: u128) -> Result<(), Fault>
 fn put_leaf<S: Sink>(sink: &mut S, crossing: u64, point: u64, process: u64) -> Result<(), Fault>
     ensures ok { OnOk result (Writes (S.taken sink.old) (S.taken sink.new)
         (item_text (items.Leaf crossing point process))) }
-    ensures going { OnOk result (S.failed sink.old ≡ false → S.failed sink.new ≡ false) }
-    ensures err { IfErr result (λ e. (e ≡ fault_at 902 places.None) × (S.failed sink.new ≡ true)) }
+    ensures going { OnOk result (KeepsGoing (S.failed sink.old) (S.failed sink.new)) }
+    ensures err { IfErr result (IsWriteFault (S.failed sink.new)) }
 {
     put_text(sink, b"L ")?;
     put_number(sink, crossing)?;
@@ -67,8 +65,8 @@ fn put_leaf<S: Sink>(sink: &mut S, crossing: u64, point: u64, process: u64) -> R
 
 fn put_words<S: Sink>(sink: &mut S, item: &Item) -> Result<(), Fault>
     ensures ok { OnOk result (Writes (S.taken sink.old) (S.taken sink.new) (item_text item.now)) }
-    ensures going { OnOk result (S.failed sink.old ≡ false → S.failed sink.new ≡ false) }
-    ensures err { IfErr result (λ e. (e ≡ fault_at 902 places.None) × (S.failed sink.new ≡ true)) }
+    ensures going { OnOk result (KeepsGoing (S.failed sink.old) (S.failed sink.new)) }
+    ensures err { IfErr result (IsWriteFault (S.failed sink.new)) }
 {
     match item {
         Item::Header(Version::One) => put_text(sink, b"once-certificate 1"),
@@ -91,8 +89,8 @@ fn put_words<S: Sink>(sink: &mut S, item: &Item) -> Result<(), Fault>
 pub fn put_item<S: Sink>(sink: &mut S, item: &Item) -> Result<(), Fault>
     ensures ok { OnOk result (Writes (S.taken sink.old) (S.taken sink.new) (item_text item.now
         ++ 10 ∷ [])) }
-    ensures going { OnOk result (S.failed sink.old ≡ false → S.failed sink.new ≡ false) }
-    ensures err { IfErr result (λ e. (e ≡ fault_at 902 places.None) × (S.failed sink.new ≡ true)) }
+    ensures going { OnOk result (KeepsGoing (S.failed sink.old) (S.failed sink.new)) }
+    ensures err { IfErr result (IsWriteFault (S.failed sink.new)) }
 {
     put_words(sink, item)?;
     put_text(sink, b"\n")

@@ -1,8 +1,6 @@
 //! The text of totals.
-ghost use Rattle.std.specs.Prelude.{◌≡◌, [], ◌∷◌, true, false, OnOk, IfErr};
-ghost use Rattle.fx_base.specs.Device.{Writes};
-ghost use Rattle.fx_base.specs.Fault.{fault_at};
-ghost use Rattle.fx_base.specs.declared.fault.Place.TheVariants as places;
+ghost use Rattle.std.specs.Prelude.{[], ◌∷◌, OnOk, IfErr};
+ghost use Rattle.fx_base.specs.Device.{Writes, IsWriteFault, KeepsGoing};
 ghost use Rattle.fx_layout.specs.Keys.{HasBits, Fits, IsLayout};
 ghost use Rattle.fx_collect.specs.Report.{parts_text, fields_text, number_line, record_line, record_lines, totals_text, KeysAscend};
 
@@ -17,8 +15,8 @@ fn put_parts<S: Sink>(sink: &mut S, parts: &[Part], values: &[u128]) -> Result<(
     requires bits { HasBits parts.now values.now }
     ensures ok { OnOk result (Writes (S.taken sink.old) (S.taken sink.new)
         (parts_text parts.now values.now)) }
-    ensures going { OnOk result (S.failed sink.old ≡ false → S.failed sink.new ≡ false) }
-    ensures err { IfErr result (λ e. (e ≡ fault_at 902 places.None) × (S.failed sink.new ≡ true)) }
+    ensures going { OnOk result (KeepsGoing (S.failed sink.old) (S.failed sink.new)) }
+    ensures err { IfErr result (IsWriteFault (S.failed sink.new)) }
 {
     match parts {
         [] => put_text(sink, b""),
@@ -40,8 +38,8 @@ fn put_fields<S: Sink>(sink: &mut S, layout: &Layout, values: &[u128]) -> Result
     requires { HasBits layout.now values.now }
     ensures ok { OnOk result (Writes (S.taken sink.old) (S.taken sink.new)
         (fields_text layout.now values.now)) }
-    ensures going { OnOk result (S.failed sink.old ≡ false → S.failed sink.new ≡ false) }
-    ensures err { IfErr result (λ e. (e ≡ fault_at 902 places.None) × (S.failed sink.new ≡ true)) }
+    ensures going { OnOk result (KeepsGoing (S.failed sink.old) (S.failed sink.new)) }
+    ensures err { IfErr result (IsWriteFault (S.failed sink.new)) }
 {
     let parts = layout.parts();
     match parts {
@@ -64,8 +62,8 @@ fn put_line<S: Sink>(
           counts =
               counts.now;
         }))) }
-    ensures going { OnOk result (S.failed sink.old ≡ false → S.failed sink.new ≡ false) }
-    ensures err { IfErr result (λ e. (e ≡ fault_at 902 places.None) × (S.failed sink.new ≡ true)) }
+    ensures going { OnOk result (KeepsGoing (S.failed sink.old) (S.failed sink.new)) }
+    ensures err { IfErr result (IsWriteFault (S.failed sink.new)) }
 {
     put_fields(sink, layout, values.as_slice())?;
     put_text(sink, b" packets ")?;
@@ -81,8 +79,8 @@ fn put_line<S: Sink>(
 pub fn put_number_line<S: Sink>(sink: &mut S, word: &[u8], number: u64) -> Result<(), Fault>
     ensures ok { OnOk result (Writes (S.taken sink.old) (S.taken sink.new)
         (number_line word.now number)) }
-    ensures going { OnOk result (S.failed sink.old ≡ false → S.failed sink.new ≡ false) }
-    ensures err { IfErr result (λ e. (e ≡ fault_at 902 places.None) × (S.failed sink.new ≡ true)) }
+    ensures going { OnOk result (KeepsGoing (S.failed sink.old) (S.failed sink.new)) }
+    ensures err { IfErr result (IsWriteFault (S.failed sink.new)) }
 {
     put_text(sink, word)?;
     put_number(sink, number)?;
@@ -94,9 +92,8 @@ impl Totals {
     fn put_lines<S: Sink>(&self, sink: &mut S) -> Result<(), Fault>
         ensures ok { OnOk result (Writes (S.taken sink.old) (S.taken sink.new)
             (record_lines self.now.entries)) }
-        ensures going { OnOk result (S.failed sink.old ≡ false → S.failed sink.new ≡ false) }
-        ensures err { IfErr result (λ e. (e ≡ fault_at 902 places.None)
-            × (S.failed sink.new ≡ true)) }
+        ensures going { OnOk result (KeepsGoing (S.failed sink.old) (S.failed sink.new)) }
+        ensures err { IfErr result (IsWriteFault (S.failed sink.new)) }
     {
         for (values, counts) in self.counts.iter() {
             put_line(sink, &self.layout, values, counts)?;
@@ -115,9 +112,8 @@ impl Totals {
         requires { KeysAscend self.now.entries }
         ensures ok { OnOk result (Writes (S.taken sink.old) (S.taken sink.new)
             (totals_text self.now)) }
-        ensures going { OnOk result (S.failed sink.old ≡ false → S.failed sink.new ≡ false) }
-        ensures err { IfErr result (λ e. (e ≡ fault_at 902 places.None)
-            × (S.failed sink.new ≡ true)) }
+        ensures going { OnOk result (KeepsGoing (S.failed sink.old) (S.failed sink.new)) }
+        ensures err { IfErr result (IsWriteFault (S.failed sink.new)) }
     {
         put_number_line(sink, b"keys ", self.len() as u64)?;
         self.put_lines(sink)?;

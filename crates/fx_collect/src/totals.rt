@@ -1,7 +1,6 @@
 //! What a collector has counted under each key.
 ghost use Rattle.std.specs.Prelude.{◌≡◌, ℕ, ◌+◌, ◌%◌, ◌^◌, None, Some, IsPermutation, IfOk, IfErr, OnOk, length};
-ghost use Rattle.fx_base.specs.Fault.{fault_at};
-ghost use Rattle.fx_base.specs.declared.fault.Place.TheVariants as places;
+ghost use Rattle.fx_base.specs.Fault.{IsMemory};
 ghost use Rattle.fx_layout.specs.Keys.{HasBits};
 ghost use Rattle.fx_machine.specs.States.{add_at};
 ghost use Rattle.fx_machine.specs.Sums.{total_at};
@@ -45,7 +44,7 @@ impl Totals {
     /// Fails with 900, at no place, for want of memory.
     pub fn new(alloc: Global, seed: Seed, layout: Layout) -> Result<Totals, Fault>
         ensures ok { IfOk result (λ totals. totals ≡ nothing layout) }
-        ensures err { IfErr result (λ e. e ≡ fault_at 900 places.None) }
+        ensures err { IfErr result IsMemory }
     {
         Ok(Totals {
             layout,
@@ -61,7 +60,7 @@ impl Totals {
           entries = add_at self.old.entries
               (record { layout = self.old.layout; values = values }) counts.now;
         }) }
-        ensures err { IfErr result (λ e. (e ≡ fault_at 900 places.None) × (self.new ≡ self.old)) }
+        ensures err { IfErr result (λ e. IsMemory e × (self.new ≡ self.old)) }
     {
         match self.counts.get_index_of(&values) {
             Some(place) => {
@@ -81,7 +80,7 @@ impl Totals {
     /// Fails with 900, at no place, for want of memory; the totals are as before then.
     pub fn tally(&mut self, entry: &Record) -> Result<(), Fault>
         ensures ok { OnOk result (self.new ≡ with_record self.old entry.now) }
-        ensures err { IfErr result (λ e. (e ≡ fault_at 900 places.None) × (self.new ≡ self.old)) }
+        ensures err { IfErr result (λ e. IsMemory e × (self.new ≡ self.old)) }
     {
         match entry.key.project(&self.layout) {
             Some(key) => self.add(Values::of(&key), &entry.counts),
@@ -99,7 +98,7 @@ impl Totals {
     pub fn of(alloc: Global, seed: Seed, state: &State<'_>) -> Result<Totals, Fault>
         ensures ok { IfOk result (λ totals. totals
             ≡ totals_of state.now.net.report_layout state.now.state) }
-        ensures err { IfErr result (λ e. e ≡ fault_at 900 places.None) }
+        ensures err { IfErr result IsMemory }
     {
         let mut totals = Totals::new(alloc, seed, state.net().report_layout().copy())?;
         totals.tally_all(state.totals())?;
@@ -110,7 +109,7 @@ impl Totals {
     /// Adds one record after another.
     fn tally_all(&mut self, entries: &[Record]) -> Result<(), Fault>
         ensures ok { OnOk result (self.new ≡ with_records self.old entries.now) }
-        ensures err { IfErr result (λ e. e ≡ fault_at 900 places.None) }
+        ensures err { IfErr result IsMemory }
     {
         for entry in entries {
             self.tally(entry)?;
@@ -149,7 +148,7 @@ impl Totals {
         ensures sorted { OnOk result (KeysAscend self.new.entries) }
         ensures same { OnOk result (IsPermutation self.old.entries self.new.entries
             × (self.new.layout ≡ self.old.layout) × (self.new.unassigned ≡ self.old.unassigned)) }
-        ensures err { IfErr result (λ e. (e ≡ fault_at 900 places.None) × (self.new ≡ self.old)) }
+        ensures err { IfErr result (λ e. IsMemory e × (self.new ≡ self.old)) }
     {
         self.counts.sort_keys()?;
         Ok(())

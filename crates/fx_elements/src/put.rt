@@ -1,8 +1,6 @@
 //! Values as they are printed.
-ghost use Rattle.std.specs.Prelude.{◌≡◌, ◌<◌, ◌≤◌, ◌^◌, ◌-◌, ◌*◌, ◌/◌, ◌%◌, true, false, OnOk, IfErr};
-ghost use Rattle.fx_base.specs.Device.{Writes};
-ghost use Rattle.fx_base.specs.Fault.{fault_at};
-ghost use Rattle.fx_base.specs.declared.fault.Place.TheVariants as places;
+ghost use Rattle.std.specs.Prelude.{◌≡◌, ◌<◌, ◌≤◌, ◌^◌, ◌-◌, ◌*◌, ◌/◌, ◌%◌, OnOk, IfErr};
+ghost use Rattle.fx_base.specs.Device.{Writes, IsWriteFault, KeepsGoing};
 ghost use Rattle.fx_elements.specs.Axes.{axis_width};
 ghost use Rattle.fx_elements.specs.Spelling.{quad};
 ghost use Rattle.fx_elements.specs.Groups.{hex_digit, group, half, groups};
@@ -14,8 +12,8 @@ use fx_base::{Fault, Sink, put_number, put_number_wide, put_text};
 /// Writes an address as a dotted quad.
 fn put_quad<S: Sink>(sink: &mut S, address: u128) -> Result<(), Fault>
     ensures ok { OnOk result (Writes (S.taken sink.old) (S.taken sink.new) (quad address)) }
-    ensures going { OnOk result (S.failed sink.old ≡ false → S.failed sink.new ≡ false) }
-    ensures err { IfErr result (λ e. (e ≡ fault_at 902 places.None) × (S.failed sink.new ≡ true)) }
+    ensures going { OnOk result (KeepsGoing (S.failed sink.old) (S.failed sink.new)) }
+    ensures err { IfErr result (IsWriteFault (S.failed sink.new)) }
 {
     put_number_wide(sink, address / 0x100_0000)?;
     put_text(sink, b".")?;
@@ -42,8 +40,8 @@ fn digit(value: u128) -> u8
 fn put_group<S: Sink>(sink: &mut S, value: u128) -> Result<(), Fault>
     requires { value < 65536 }
     ensures ok { OnOk result (Writes (S.taken sink.old) (S.taken sink.new) (group value)) }
-    ensures going { OnOk result (S.failed sink.old ≡ false → S.failed sink.new ≡ false) }
-    ensures err { IfErr result (λ e. (e ≡ fault_at 902 places.None) × (S.failed sink.new ≡ true)) }
+    ensures going { OnOk result (KeepsGoing (S.failed sink.old) (S.failed sink.new)) }
+    ensures err { IfErr result (IsWriteFault (S.failed sink.new)) }
 {
     let last = digit(value % 16);
     if value < 16 {
@@ -67,8 +65,8 @@ fn put_group<S: Sink>(sink: &mut S, value: u128) -> Result<(), Fault>
 fn put_half<S: Sink>(sink: &mut S, part: u128) -> Result<(), Fault>
     requires { part < 2 ^ 64 }
     ensures ok { OnOk result (Writes (S.taken sink.old) (S.taken sink.new) (half part)) }
-    ensures going { OnOk result (S.failed sink.old ≡ false → S.failed sink.new ≡ false) }
-    ensures err { IfErr result (λ e. (e ≡ fault_at 902 places.None) × (S.failed sink.new ≡ true)) }
+    ensures going { OnOk result (KeepsGoing (S.failed sink.old) (S.failed sink.new)) }
+    ensures err { IfErr result (IsWriteFault (S.failed sink.new)) }
 {
     put_group(sink, part / 0x1_0000_0000_0000)?;
     put_text(sink, b":")?;
@@ -83,8 +81,8 @@ fn put_half<S: Sink>(sink: &mut S, part: u128) -> Result<(), Fault>
 #[tactic(auto, unfolding(crate::specs::Groups::groups))]
 fn put_groups<S: Sink>(sink: &mut S, address: u128) -> Result<(), Fault>
     ensures ok { OnOk result (Writes (S.taken sink.old) (S.taken sink.new) (groups address)) }
-    ensures going { OnOk result (S.failed sink.old ≡ false → S.failed sink.new ≡ false) }
-    ensures err { IfErr result (λ e. (e ≡ fault_at 902 places.None) × (S.failed sink.new ≡ true)) }
+    ensures going { OnOk result (KeepsGoing (S.failed sink.old) (S.failed sink.new)) }
+    ensures err { IfErr result (IsWriteFault (S.failed sink.new)) }
 {
     put_half(sink, address / 0x1_0000_0000_0000_0000)?;
     put_text(sink, b":")?;
@@ -95,8 +93,8 @@ fn put_groups<S: Sink>(sink: &mut S, address: u128) -> Result<(), Fault>
 fn put_whole<S: Sink>(sink: &mut S, axis: Axis, value: u128) -> Result<(), Fault>
     ensures ok { OnOk result (Writes (S.taken sink.old) (S.taken sink.new)
         (value_text axis value)) }
-    ensures going { OnOk result (S.failed sink.old ≡ false → S.failed sink.new ≡ false) }
-    ensures err { IfErr result (λ e. (e ≡ fault_at 902 places.None) × (S.failed sink.new ≡ true)) }
+    ensures going { OnOk result (KeepsGoing (S.failed sink.old) (S.failed sink.new)) }
+    ensures err { IfErr result (IsWriteFault (S.failed sink.new)) }
 {
     if axis.is_wide() {
         put_groups(sink, value)
@@ -122,8 +120,8 @@ fn first_with(axis: Axis, bits: u32, value: u128) -> u128
 /// Writes how many bits a value has, where they are fewer than the axis's.
 fn put_bits<S: Sink>(sink: &mut S, axis: Axis, bits: u32) -> Result<(), Fault>
     ensures ok { OnOk result (Writes (S.taken sink.old) (S.taken sink.new) (bits_text axis bits)) }
-    ensures going { OnOk result (S.failed sink.old ≡ false → S.failed sink.new ≡ false) }
-    ensures err { IfErr result (λ e. (e ≡ fault_at 902 places.None) × (S.failed sink.new ≡ true)) }
+    ensures going { OnOk result (KeepsGoing (S.failed sink.old) (S.failed sink.new)) }
+    ensures err { IfErr result (IsWriteFault (S.failed sink.new)) }
 {
     if bits >= width(axis) {
         return put_text(sink, b"");
@@ -142,8 +140,8 @@ pub fn put_value<S: Sink>(sink: &mut S, axis: Axis, bits: u32, value: u128) -> R
     requires fits { value < 2 ^ bits }
     ensures ok { OnOk result (Writes (S.taken sink.old) (S.taken sink.new)
         (leading_text axis bits value)) }
-    ensures going { OnOk result (S.failed sink.old ≡ false → S.failed sink.new ≡ false) }
-    ensures err { IfErr result (λ e. (e ≡ fault_at 902 places.None) × (S.failed sink.new ≡ true)) }
+    ensures going { OnOk result (KeepsGoing (S.failed sink.old) (S.failed sink.new)) }
+    ensures err { IfErr result (IsWriteFault (S.failed sink.new)) }
 {
     put_whole(sink, axis, first_with(axis, bits, value))?;
     put_bits(sink, axis, bits)

@@ -1,7 +1,6 @@
 //! Room for the verdicts on records that come to the collecting processes.
 ghost use Rattle.std.specs.Prelude.{◌≡◌, ◌≢◌, ◌<◌, ℕ, length, slice_get, Some, IfOk, IfErr};
-ghost use Rattle.fx_base.specs.Fault.{fault_at};
-ghost use Rattle.fx_base.specs.declared.fault.Place.TheVariants as places;
+ghost use Rattle.fx_base.specs.Fault.{IsMemory};
 ghost use Rattle.fx_leaf.specs.Tables as by_table;
 
 use crate::tables::Tables;
@@ -121,7 +120,7 @@ impl Scratch {
     /// Room for the collecting processes of these tables. Fails with 900, for want of memory, alone.
     pub fn new(alloc: Global, tables: &Tables<'_>) -> Result<Scratch, Fault>
         ensures ok { IfOk result (λ scratch. length scratch ≡ length tables.now.net.processes) }
-        ensures err { IfErr result (λ e. e ≡ fault_at 900 places.None) }
+        ensures err { IfErr result IsMemory }
     {
         let count = tables.net().processes().len();
         let rows = empty_rows(alloc, count)?;

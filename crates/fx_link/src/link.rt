@@ -1,13 +1,13 @@
 //! A link: what is being sent on it, the octets that weren't carried yet, and its receiver.
-ghost use Rattle.std.specs.Prelude.{◌≡◌, ◌⊎◌, ◌≤◌, ◌++◌, [], false, true, length, drop, Ok, Some, None, OnOk, OnErr, IfErr, IsSome};
-ghost use Rattle.fx_base.specs.Fault.{fault_at};
-ghost use Rattle.fx_base.specs.declared.fault.Place.TheVariants as places;
+ghost use Rattle.std.specs.Prelude.{◌≡◌, ◌⊎◌, ◌≤◌, ◌++◌, [], true, length, drop, Ok, Some, None, OnOk, OnErr, IfErr, IsSome};
+ghost use Rattle.fx_base.specs.Fault.{IsMemory};
 ghost use Rattle.fx_session.specs.Streams as streams;
 ghost use Rattle.fx_link.specs.Links.{Puts};
 ghost use Rattle.fx_link.specs.Ongoing as ongoing;
 ghost use Rattle.fx_link.specs.Outgoing as outgoing;
 ghost use Rattle.fx_link.specs.Sending as sending;
 ghost use Rattle.fx_link.specs.Wires.{new_wire};
+ghost use Rattle.fx_base.specs.Device.{IsWriteFault, KeepsGoing};
 
 use crate::links::Links;
 use crate::outlet::Outlet;
@@ -82,7 +82,7 @@ impl Link {
         requires room { sending.has_room 2 self.old.outgoing.sender ≡ true }
         ensures ok { OnOk result (self.new
             ≡ record self.old { outgoing = outgoing.with_one time self.old.outgoing flow }) }
-        ensures err { IfErr result (λ e. e ≡ fault_at 900 places.None) }
+        ensures err { IfErr result IsMemory }
     {
         self.outlet.put(time, flow, &mut self.stream)
     }
@@ -95,7 +95,7 @@ impl Link {
             ≡ record self.old { outgoing = outgoing.after_flush time self.old.outgoing }) }
         ensures room { sending.has_room_for self.old.outgoing.batch self.old.outgoing.sender
             ≡ true }
-        ensures err { IfErr result (λ e. e ≡ fault_at 900 places.None) }
+        ensures err { IfErr result IsMemory }
     {
         self.outlet.flush(time, &mut self.stream)
     }
@@ -110,9 +110,9 @@ impl Link {
             (ongoing.to_put time self.old)) }
         ensures room { sending.has_room_for self.old.outgoing.batch self.old.outgoing.sender
             ≡ true }
-        ensures going { OnOk result (L.failed links.old ≡ false → L.failed links.new ≡ false) }
-        ensures err { IfErr result (λ e. (e ≡ fault_at 900 places.None)
-            ⊎ ((e ≡ fault_at 902 places.None) × (L.failed links.new ≡ true))) }
+        ensures going { OnOk result (KeepsGoing (L.failed links.old) (L.failed links.new)) }
+        ensures err { IfErr result (λ e. IsMemory e
+            ⊎ IsWriteFault (L.failed links.new) e) }
     {
         self.flush(time)?;
         let octets = self.stream.as_slice();
@@ -132,7 +132,7 @@ impl Link {
         requires queue { count ≤ length self.old.queue }
         ensures ok { OnOk result (self.new ≡ ongoing.after_carry count self.old) }
         ensures err { (streams.fed self.old.receiver self.old.queue).fault ≡ None
-            → IfErr result (λ e. e ≡ fault_at 900 places.None) }
+            → IfErr result IsMemory }
         ensures fault { OnErr result (IsSome self.new.receiver.fault) }
         ensures rest { OnErr result (self.new ≡ record self.old { receiver = self.new.receiver }) }
     {

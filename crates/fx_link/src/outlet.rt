@@ -1,8 +1,7 @@
 //! Outlets: records gathered into messages.
 ghost use Rattle.std.specs.Prelude.{◌≡◌, ◌&&◌, ◌<◌, ◌+◌, ◌++◌, [], ◌∷◌, true, OnOk, IfErr};
 ghost use Rattle.std.specs.List.{AllByRecursion};
-ghost use Rattle.fx_base.specs.Fault.{fault_at};
-ghost use Rattle.fx_base.specs.declared.fault.Place.TheVariants as places;
+ghost use Rattle.fx_base.specs.Fault.{IsMemory};
 ghost use Rattle.fx_link.specs.Outgoing as outgoing;
 ghost use Rattle.fx_link.specs.Sending as sending;
 
@@ -69,7 +68,7 @@ impl Outlet {
         ensures ok { OnOk result (outgoing.with_octets self.new stream.new.octets.items
             ≡ outgoing.after_flush time (outgoing.with_octets self.old stream.old.octets.items)) }
         ensures room { sending.has_room_for self.old.batch self.old.sender ≡ true }
-        ensures err { IfErr result (λ e. e ≡ fault_at 900 places.None) }
+        ensures err { IfErr result IsMemory }
     {
         if self.batch.is_empty() {
             return Ok(());
@@ -86,7 +85,7 @@ impl Outlet {
         requires { sending.has_room 2 self.old.sender ≡ true }
         ensures ok { OnOk result (outgoing.with_octets self.new stream.new.octets.items
             ≡ outgoing.with_one time (outgoing.with_octets self.old stream.old.octets.items) flow) }
-        ensures err { IfErr result (λ e. e ≡ fault_at 900 places.None) }
+        ensures err { IfErr result IsMemory }
     {
         // What the types of layouts, keys and counts keep is told by these.
         let _parts = flow.layout().parts();

@@ -1,8 +1,7 @@
 //! Senders: records in messages.
-ghost use Rattle.std.specs.Prelude.{◌≡◌, ◌≤◌, ◌<◌, ◌+◌, ◌++◌, ◌^◌, [], ◌∷◌, length, nat_lt, map, Some, OnOk, OnErr, IfErr, true, false};
+ghost use Rattle.std.specs.Prelude.{◌≡◌, ◌≤◌, ◌<◌, ◌+◌, ◌++◌, ◌^◌, [], ◌∷◌, length, nat_lt, map, Some, OnOk, OnErr, IfErr, true};
 ghost use Rattle.std.specs.List.{position_or_len};
-ghost use Rattle.fx_base.specs.Fault.{fault_at};
-ghost use Rattle.fx_base.specs.declared.fault.Place.TheVariants as places;
+ghost use Rattle.fx_base.specs.Fault.{IsMemory};
 ghost use Rattle.fx_layout.specs.Keys.{same_layout};
 ghost use Rattle.fx_wire.specs.Sets.{set_parts};
 ghost use Rattle.fx_wire.specs.Writing.{message_length, message_octets};
@@ -64,7 +63,7 @@ fn put_sets(stream: &mut Stream, header: &Header, sets: &[Set<'_>]) -> Result<()
     requires { message_length (map set_parts sets.now) ≤ 65535 }
     ensures ok { OnOk result (stream.new.octets.items
         ≡ stream.old.octets.items ++ message_octets header.now (map set_parts sets.now)) }
-    ensures err { IfErr result (λ e. e ≡ fault_at 900 places.None) }
+    ensures err { IfErr result IsMemory }
 {
     match put_message(stream, header, sets) {
         Ok(()) => Ok(()),
@@ -118,7 +117,7 @@ impl Sender {
           layouts = sending.layouts_with self.old.layouts (sending.layout_of batch.now);
         }) }
         ensures kept { OnErr result (self.new ≡ self.old) }
-        ensures err { IfErr result (λ e. e ≡ fault_at 900 places.None) }
+        ensures err { IfErr result IsMemory }
     {
         let layout = batch[0].layout();
         let mut content: Vec<u8> = Vec::new(self.alloc);
@@ -153,7 +152,7 @@ impl Sender {
             ≡ stream.old.octets.items ++ sending.batch_octets time self.old batch.now) }
         ensures sender { OnOk result (self.new ≡ sending.after_batch self.old batch.now) }
         ensures kept { OnErr result (self.new ≡ self.old) }
-        ensures err { IfErr result (λ e. e ≡ fault_at 900 places.None) }
+        ensures err { IfErr result IsMemory }
     {
         let header = self.header(time);
         self.put_batch(&header, batch, stream)?;

@@ -1,7 +1,6 @@
 //! Records arrive at collecting processes.
 ghost use Rattle.std.specs.Prelude.{◌≡◌, ◌≤◌, None, OnOk, IfErr, slice_get};
-ghost use Rattle.fx_base.specs.Fault.{fault_at};
-ghost use Rattle.fx_base.specs.declared.fault.Place.TheVariants as places;
+ghost use Rattle.fx_base.specs.Fault.{IsMemory};
 ghost use Rattle.fx_base.specs.Entries.{now_of};
 ghost use Rattle.fx_link.specs.Ongoing as ongoing;
 ghost use Rattle.fx_net.specs.Arriving as arriving;
@@ -56,7 +55,7 @@ fn carry_on(links: &mut Vec<Link>, link: usize, count: usize) -> Result<(), Faul
     requires { count ≤ arriving.queued_on (slice_get links.old.items link) }
     ensures ok { OnOk result (links.new.items
         ≡ contents.with_changed (ongoing.after_carry count) links.old.items link) }
-    ensures err { IfErr result (λ e. e ≡ fault_at 900 places.None) }
+    ensures err { IfErr result IsMemory }
 {
     let Some(link) = links.get_mut(link) else {
         return Ok(());
@@ -73,7 +72,7 @@ impl Contents {
     /// A record is tallied where its link leads to the report's process.
     fn tally(&mut self, net: &Net, link: usize, flow: &Record) -> Result<(), Fault>
         ensures ok { OnOk result (self.new ≡ arriving.after_tally net.now link flow.now self.old) }
-        ensures err { IfErr result (λ e. e ≡ fault_at 900 places.None) }
+        ensures err { IfErr result IsMemory }
     {
         if leads_to_report(net, link) {
             self.totals.tally(flow)?;
@@ -84,7 +83,7 @@ impl Contents {
     /// A record arrives at the end of a link: it is tallied, sent on and taken in.
     fn arrive(&mut self, alloc: Global, net: &Net, link: usize, flow: &Record) -> Result<(), Fault>
         ensures ok { OnOk result (self.new ≡ arriving.after_arrive net.now link flow.now self.old) }
-        ensures err { IfErr result (λ e. e ≡ fault_at 900 places.None) }
+        ensures err { IfErr result IsMemory }
     {
         self.tally(net, link, flow)?;
         let Some(process) = process_behind(net, link) else {
@@ -98,7 +97,7 @@ impl Contents {
     /// All records that the receiver of a link has read are handled, in order.
     fn handle(&mut self, alloc: Global, net: &Net, link: usize) -> Result<(), Fault>
         ensures ok { OnOk result (self.new ≡ arriving.after_handling net.now link self.old) }
-        ensures err { IfErr result (λ e. e ≡ fault_at 900 places.None) }
+        ensures err { IfErr result IsMemory }
     {
         while let Some(flow) = next_record(&mut self.links, link) {
             self.arrive(alloc, net, link, &flow)?;
@@ -119,7 +118,7 @@ impl Contents {
     ) -> Result<(), Fault>
         requires { count ≤ arriving.queued_on (slice_get self.old.links link) }
         ensures ok { OnOk result (self.new ≡ arriving.after_carrying net.now link count self.old) }
-        ensures err { IfErr result (λ e. e ≡ fault_at 900 places.None) }
+        ensures err { IfErr result IsMemory }
     {
         carry_on(&mut self.links, link, count)?;
         self.handle(alloc, net, link)

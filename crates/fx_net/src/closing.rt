@@ -8,6 +8,7 @@ ghost use Rattle.fx_net.specs.declared.stop.Stop.TheVariants as stop;
 ghost use Rattle.fx_net.specs.Arriving.{queued_on};
 ghost use Rattle.fx_net.specs.Doings as doings;
 ghost use Rattle.fx_net.specs.Running as running;
+ghost use Rattle.fx_base.specs.Device.{KeepsGoing};
 
 use crate::arriving::queue_length_of;
 use crate::contents::Contents;
@@ -54,7 +55,7 @@ impl Contents {
     fn empty_out<L: Links>(&mut self, net: &Net, place: usize, links: &mut L) -> Result<(), Fault>
         ensures ok { OnOk result (doings.Ended (doings.Empties net.now place)
             (L.put_on links.old) self.old (L.put_on links.new) self.new) }
-        ensures going { OnOk result (L.failed links.old ≡ false → L.failed links.new ≡ false) }
+        ensures going { OnOk result (KeepsGoing (L.failed links.old) (L.failed links.new)) }
         ensures err { IfErr result (running.FailsOutside (L.failed links.new)) }
     {
         self.empty(net, place)?;
@@ -70,7 +71,7 @@ impl Contents {
     ) -> Result<(), Fault>
         ensures ok { OnOk result (doings.EmptiesAll net.now places.now
             (L.put_on links.old) self.old (L.put_on links.new) self.new) }
-        ensures going { OnOk result (L.failed links.old ≡ false → L.failed links.new ≡ false) }
+        ensures going { OnOk result (KeepsGoing (L.failed links.old) (L.failed links.new)) }
         ensures err { IfErr result (running.FailsOutside (L.failed links.new)) }
     {
         for place in places {
@@ -89,7 +90,7 @@ impl Contents {
         ensures ok { OnOk result (doings.EmptiesAll net.now
             (flat_map (λ (d : network.DeviceEntry). d.caches) devices.now)
             (L.put_on links.old) self.old (L.put_on links.new) self.new) }
-        ensures going { OnOk result (L.failed links.old ≡ false → L.failed links.new ≡ false) }
+        ensures going { OnOk result (KeepsGoing (L.failed links.old) (L.failed links.new)) }
         ensures err { IfErr result (running.FailsOutside (L.failed links.new)) }
     {
         for device in devices {
@@ -108,7 +109,7 @@ impl Contents {
         ensures ok { OnOk result (doings.EmptiesAll net.now
             (map (λ (a : network.AggregationEntry). a.holder) aggregations.now)
             (L.put_on links.old) self.old (L.put_on links.new) self.new) }
-        ensures going { OnOk result (L.failed links.old ≡ false → L.failed links.new ≡ false) }
+        ensures going { OnOk result (KeepsGoing (L.failed links.old) (L.failed links.new)) }
         ensures err { IfErr result (running.FailsOutside (L.failed links.new)) }
     {
         for aggregation in aggregations {
@@ -128,7 +129,7 @@ impl Contents {
     ) -> Result<(), Fault>
         ensures ok { OnOk result (doings.Ended (doings.CarriesWhole net.now link)
             (L.put_on links.old) self.old (L.put_on links.new) self.new) }
-        ensures going { OnOk result (L.failed links.old ≡ false → L.failed links.new ≡ false) }
+        ensures going { OnOk result (KeepsGoing (L.failed links.old) (L.failed links.new)) }
         ensures err { IfErr result (running.FailsOutside (L.failed links.new)) }
     {
         let count = queued_whole(self.links.as_slice(), link);
@@ -147,7 +148,7 @@ impl Contents {
     ) -> Result<(), Fault>
         ensures ok { OnOk result (doings.CarriesInto net.now process link
             (L.put_on links.old) self.old (L.put_on links.new) self.new) }
-        ensures going { OnOk result (L.failed links.old ≡ false → L.failed links.new ≡ false) }
+        ensures going { OnOk result (KeepsGoing (L.failed links.old) (L.failed links.new)) }
         ensures err { IfErr result (running.FailsOutside (L.failed links.new)) }
     {
         if !leads_to(net, link, process) {
@@ -168,7 +169,7 @@ impl Contents {
         ensures ok { OnOk result (doings.Each (doings.CarriesInto net.now process)
             (doings.link_places net.now)
             (L.put_on links.old) self.old (L.put_on links.new) self.new) }
-        ensures going { OnOk result (L.failed links.old ≡ false → L.failed links.new ≡ false) }
+        ensures going { OnOk result (KeepsGoing (L.failed links.old) (L.failed links.new)) }
         ensures err { IfErr result (running.FailsOutside (L.failed links.new)) }
     {
         for link in 0..net.links().len() {
@@ -187,7 +188,7 @@ impl Contents {
     ) -> Result<(), Fault>
         ensures ok { OnOk result (doings.Finishes net.now process
             (L.put_on links.old) self.old (L.put_on links.new) self.new) }
-        ensures going { OnOk result (L.failed links.old ≡ false → L.failed links.new ≡ false) }
+        ensures going { OnOk result (KeepsGoing (L.failed links.old) (L.failed links.new)) }
         ensures err { IfErr result (running.FailsOutside (L.failed links.new)) }
     {
         self.carry_all_into(alloc, net, process, links)?;
@@ -205,7 +206,7 @@ impl Contents {
     ) -> Result<(), Fault>
         ensures ok { OnOk result (doings.Each (doings.Finishes net.now) ranked.now
             (L.put_on links.old) self.old (L.put_on links.new) self.new) }
-        ensures going { OnOk result (L.failed links.old ≡ false → L.failed links.new ≡ false) }
+        ensures going { OnOk result (KeepsGoing (L.failed links.old) (L.failed links.new)) }
         ensures err { IfErr result (running.FailsOutside (L.failed links.new)) }
     {
         for process in ranked {
@@ -224,7 +225,7 @@ impl Contents {
     ) -> Result<(), Fault>
         ensures ok { OnOk result (doings.EmptiesNetwork net.now ranked.now
             (L.put_on links.old) self.old (L.put_on links.new) self.new) }
-        ensures going { OnOk result (L.failed links.old ≡ false → L.failed links.new ≡ false) }
+        ensures going { OnOk result (KeepsGoing (L.failed links.old) (L.failed links.new)) }
         ensures err { IfErr result (running.FailsOutside (L.failed links.new)) }
     {
         self.empty_caches(net, net.devices(), links)?;
@@ -244,7 +245,7 @@ impl<'a> Network<'a> {
     ) -> Result<(), Stop>
         ensures ok { OnOk result (running.ReadsOne self.old self.new capture.now.seen
             (L.put_on links.old) (L.put_on links.new)) }
-        ensures going { OnOk result (L.failed links.old ≡ false → L.failed links.new ≡ false) }
+        ensures going { OnOk result (KeepsGoing (L.failed links.old) (L.failed links.new)) }
         ensures err { IfErr result (λ s. running.FailsOutside (L.failed links.new)
             (running.fault_of s)
             ⊎ ((s ≡ stop.Bare 804) × running.IsOfNone self.old.classes capture.now.seen)) }
@@ -264,7 +265,7 @@ impl<'a> Network<'a> {
     ) -> Result<(), Stop>
         ensures ok { OnOk result (running.ReadsRest self.old self.new capture.old capture.new
             (L.put_on links.old) (L.put_on links.new)) }
-        ensures going { OnOk result (L.failed links.old ≡ false → L.failed links.new ≡ false) }
+        ensures going { OnOk result (KeepsGoing (L.failed links.old) (L.failed links.new)) }
         ensures err { IfErr result (λ s. running.FailsOutside (L.failed links.new)
             (running.fault_of s)
             ⊎ running.RefusesClose self.old capture.old capture.new (running.fault_of s)) }
@@ -284,7 +285,7 @@ impl<'a> Network<'a> {
     ) -> Result<(), Stop>
         ensures ok { OnOk result (running.Closes self.old self.new capture.old capture.new
             (L.put_on links.old) (L.put_on links.new)) }
-        ensures going { OnOk result (L.failed links.old ≡ false → L.failed links.new ≡ false) }
+        ensures going { OnOk result (KeepsGoing (L.failed links.old) (L.failed links.new)) }
         ensures err { IfErr result (λ s. running.FailsOutside (L.failed links.new)
             (running.fault_of s)
             ⊎ running.RefusesClose self.old capture.old capture.new (running.fault_of s)) }
@@ -309,7 +310,7 @@ impl<'a> Network<'a> {
     ) -> Result<(), Fault>
         ensures ok { OnOk result (running.Closes self.old self.new capture.old capture.new
             (L.put_on links.old) (L.put_on links.new)) }
-        ensures going { OnOk result (L.failed links.old ≡ false → L.failed links.new ≡ false) }
+        ensures going { OnOk result (KeepsGoing (L.failed links.old) (L.failed links.new)) }
         ensures err { self.old.fault ≡ None → IfErr result
             (λ e. running.FailsOutside (L.failed links.new) e
             ⊎ running.RefusesClose self.old capture.old capture.new e) }

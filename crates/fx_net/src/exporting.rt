@@ -1,6 +1,6 @@
 //! Exporting processes send records.
 ghost use Rattle.std.specs.Prelude.{◌≡◌, OnOk, IfErr};
-ghost use Rattle.fx_base.specs.Fault.{fault_at};
+ghost use Rattle.fx_base.specs.Fault.{IsMemory};
 ghost use Rattle.fx_base.specs.declared.fault.Place.TheVariants as places;
 ghost use Rattle.fx_machine.specs.Sends as sends;
 ghost use Rattle.fx_runs.specs.Destinations as in_use;
@@ -19,7 +19,7 @@ use fx_tables::{Exporter, Net, Record};
 fn put(links: &mut Vec<Link>, link: usize, time: u32, flow: &Record) -> Result<(), Fault>
     ensures ok { OnOk result (links.new.items
         ≡ contents.with_changed (exporting.with_waiting time flow.now) links.old.items link) }
-    ensures err { IfErr result (λ e. e ≡ fault_at 900 places.None) }
+    ensures err { IfErr result IsMemory }
 {
     let Some(link) = links.get_mut(link) else {
         return Ok(());
@@ -40,7 +40,7 @@ fn put_to(
 ) -> Result<(), Fault>
     ensures ok { OnOk result (links.new.items
         ≡ exporting.put_each time flow.now (sends.link_list destination) links.old.items) }
-    ensures err { IfErr result (λ e. e ≡ fault_at 900 places.None) }
+    ensures err { IfErr result IsMemory }
 {
     match destination {
         None => Ok(()),
@@ -57,7 +57,7 @@ fn put_to_all(
 ) -> Result<(), Fault>
     ensures ok { OnOk result (links.new.items
         ≡ exporting.put_each time flow.now (sends.links_of destinations.now) links.old.items) }
-    ensures err { IfErr result (λ e. e ≡ fault_at 900 places.None) }
+    ensures err { IfErr result IsMemory }
 {
     for destination in destinations {
         put_to(links, *destination, time, flow)?;
@@ -76,7 +76,7 @@ fn put_to_one(
     ensures ok { OnOk result (links.new.items
         ≡ exporting.put_each time flow.now (in_use.link_numbered destinations.now number)
         links.old.items) }
-    ensures err { IfErr result (λ e. e ≡ fault_at 900 places.None) }
+    ensures err { IfErr result IsMemory }
 {
     if number == 0 {
         return Ok(());
@@ -98,7 +98,7 @@ fn export(
     ensures ok { OnOk result (links.new.items
         ≡ exporting.put_each time flow.now (in_use.links_of_exporter exporter.now number)
         links.old.items) }
-    ensures err { IfErr result (λ e. e ≡ fault_at 900 places.None) }
+    ensures err { IfErr result IsMemory }
 {
     if exporter.parallel() {
         put_to_all(links, exporter.destinations(), time, flow)
@@ -129,7 +129,7 @@ fn export_at(
     ensures ok { OnOk result (links.new.items
         ≡ exporting.put_each time flow.now (in_use.used_at net.now chosen.now place)
         links.old.items) }
-    ensures err { IfErr result (λ e. e ≡ fault_at 900 places.None) }
+    ensures err { IfErr result IsMemory }
 {
     match net.exporters().get(place) {
         None => Ok(()),
@@ -149,7 +149,7 @@ fn export_all(
     ensures ok { OnOk result (links.new.items
         ≡ exporting.put_each time flow.now (in_use.links_used net.now chosen.now exporters.now)
         links.old.items) }
-    ensures err { IfErr result (λ e. e ≡ fault_at 900 places.None) }
+    ensures err { IfErr result IsMemory }
 {
     for exporter in exporters {
         export_at(links, net, chosen, *exporter, time, flow)?;
@@ -169,7 +169,7 @@ impl Contents {
     ) -> Result<(), Fault>
         ensures ok { OnOk result (self.new ≡ exporting.after_send net.now exporters.now flow.now
             self.old) }
-        ensures err { IfErr result (λ e. e ≡ fault_at 900 places.None) }
+        ensures err { IfErr result IsMemory }
     {
         let time = self.second;
         export_all(

@@ -1,9 +1,9 @@
 //! What waits on links is put out.
-ghost use Rattle.std.specs.Prelude.{◌≡◌, ◌⊎◌, true, false, map, OnOk, IfErr};
-ghost use Rattle.fx_base.specs.Fault.{fault_at};
-ghost use Rattle.fx_base.specs.declared.fault.Place.TheVariants as places;
+ghost use Rattle.std.specs.Prelude.{◌≡◌, ◌⊎◌, map, OnOk, IfErr};
+ghost use Rattle.fx_base.specs.Fault.{IsMemory};
 ghost use Rattle.fx_link.specs.Ongoing as ongoing;
 ghost use Rattle.fx_net.specs.Finishing as finishing;
+ghost use Rattle.fx_base.specs.Device.{IsWriteFault, KeepsGoing};
 
 use crate::contents::Contents;
 use fx_base::Fault;
@@ -14,9 +14,9 @@ fn finish_all<L: Links>(lines: &mut Vec<Link>, time: u32, links: &mut L) -> Resu
     ensures ok { OnOk result (lines.new.items ≡ map (ongoing.after_finish time) lines.old.items) }
     ensures put { OnOk result (finishing.PutsAll (L.put_on links.old) (L.put_on links.new) time
         lines.old.items) }
-    ensures going { OnOk result (L.failed links.old ≡ false → L.failed links.new ≡ false) }
-    ensures err { IfErr result (λ e. (e ≡ fault_at 900 places.None)
-        ⊎ ((e ≡ fault_at 902 places.None) × (L.failed links.new ≡ true))) }
+    ensures going { OnOk result (KeepsGoing (L.failed links.old) (L.failed links.new)) }
+    ensures err { IfErr result (λ e. IsMemory e
+        ⊎ IsWriteFault (L.failed links.new) e) }
 {
     for place in 0..lines.len() {
         let line = &mut lines[place];
@@ -33,9 +33,9 @@ impl Contents {
         ensures ok { OnOk result (self.new ≡ finishing.after_finishing self.old) }
         ensures put { OnOk result (finishing.PutsAll (L.put_on links.old) (L.put_on links.new)
             self.old.second self.old.links) }
-        ensures going { OnOk result (L.failed links.old ≡ false → L.failed links.new ≡ false) }
-        ensures err { IfErr result (λ e. (e ≡ fault_at 900 places.None)
-            ⊎ ((e ≡ fault_at 902 places.None) × (L.failed links.new ≡ true))) }
+        ensures going { OnOk result (KeepsGoing (L.failed links.old) (L.failed links.new)) }
+        ensures err { IfErr result (λ e. IsMemory e
+            ⊎ IsWriteFault (L.failed links.new) e) }
     {
         finish_all(&mut self.links, self.second, links)
     }

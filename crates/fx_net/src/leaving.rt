@@ -1,7 +1,6 @@
 //! Records leave caches and aggregations.
 ghost use Rattle.std.specs.Prelude.{◌≡◌, is_some, OnOk, IfOk, IfErr};
-ghost use Rattle.fx_base.specs.Fault.{fault_at};
-ghost use Rattle.fx_base.specs.declared.fault.Place.TheVariants as places;
+ghost use Rattle.fx_base.specs.Fault.{IsMemory};
 ghost use Rattle.fx_net.specs.Contents as contents;
 ghost use Rattle.fx_net.specs.Leaving as leaving;
 
@@ -40,7 +39,7 @@ impl Contents {
     /// Fails with 900, at no place, for want of memory.
     pub(crate) fn leave(&mut self, net: &Net, leaver: &Leaver) -> Result<(), Fault>
         ensures ok { OnOk result (self.new ≡ leaving.after_leave net.now leaver.now self.old) }
-        ensures err { IfErr result (λ e. e ≡ fault_at 900 places.None) }
+        ensures err { IfErr result IsMemory }
     {
         self.send(net, net.named_by(leaver.holder), &leaver.flow)
     }
@@ -50,7 +49,7 @@ impl Contents {
     /// Fails with 900, at no place, for want of memory.
     pub(crate) fn leave_all(&mut self, net: &Net, leavers: &[Leaver]) -> Result<(), Fault>
         ensures ok { OnOk result (self.new ≡ leaving.after_leaves net.now leavers.now self.old) }
-        ensures err { IfErr result (λ e. e ≡ fault_at 900 places.None) }
+        ensures err { IfErr result IsMemory }
     {
         for leaver in leavers {
             self.leave(net, leaver)?;
@@ -64,7 +63,7 @@ impl Contents {
     pub(crate) fn expire_least(&mut self, net: &Net, place: usize) -> Result<bool, Fault>
         ensures ok { OnOk result (self.new ≡ leaving.after_least net.now place self.old) }
         ensures there { IfOk result (λ there. there ≡ is_some (leaving.least_at self.old place)) }
-        ensures err { IfErr result (λ e. e ≡ fault_at 900 places.None) }
+        ensures err { IfErr result IsMemory }
     {
         let Some((key, counts)) = take_least(&mut self.stores, place) else {
             return Ok(false);
@@ -82,7 +81,7 @@ impl Contents {
     /// Fails with 900, at no place, for want of memory.
     pub(crate) fn empty(&mut self, net: &Net, place: usize) -> Result<(), Fault>
         ensures ok { OnOk result (self.new ≡ leaving.after_emptying net.now place self.old) }
-        ensures err { IfErr result (λ e. e ≡ fault_at 900 places.None) }
+        ensures err { IfErr result IsMemory }
     {
         let count = count_at(self.stores.as_slice(), place);
         for _done in 0..count {

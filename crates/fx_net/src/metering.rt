@@ -1,7 +1,6 @@
 //! Packets are metered where they cross interfaces.
 ghost use Rattle.std.specs.Prelude.{◌≡◌, OnOk, IfErr};
-ghost use Rattle.fx_base.specs.Fault.{fault_at};
-ghost use Rattle.fx_base.specs.declared.fault.Place.TheVariants as places;
+ghost use Rattle.fx_base.specs.Fault.{IsMemory};
 ghost use Rattle.fx_runs.specs.Making.{intakes_at};
 ghost use Rattle.fx_net.specs.Metering as metering;
 ghost use Rattle.fx_net.specs.Taking as taking;
@@ -27,7 +26,7 @@ impl Contents {
         ensures ok { OnOk result (self.new
             ≡ taking.after_taking net.now counts (intakes_at net.now fields.now crossing.now)
             self.old) }
-        ensures err { IfErr result (λ e. e ≡ fault_at 900 places.None) }
+        ensures err { IfErr result IsMemory }
     {
         met.clear();
         net.push_occurrences(met, crossing, fields)?;
@@ -49,7 +48,7 @@ impl Contents {
     ) -> Result<(), Fault>
         ensures ok { OnOk result (self.new
             ≡ metering.after_path net.now fields.now counts path.now self.old) }
-        ensures err { IfErr result (λ e. e ≡ fault_at 900 places.None) }
+        ensures err { IfErr result IsMemory }
     {
         for crossing in path {
             self.cross(alloc, net, fields, counts, crossing, met)?;

@@ -1,7 +1,6 @@
 //! A running network: what the lines of a schedule do in it.
 ghost use Rattle.std.specs.Prelude.{◌≡◌, ◌<◌, ◌^◌, true, false, position, None, IfOk, IfErr, OnOk};
-ghost use Rattle.fx_base.specs.Fault.{fault_at};
-ghost use Rattle.fx_base.specs.declared.fault.Place.TheVariants as places;
+ghost use Rattle.fx_base.specs.Fault.{IsMemory};
 ghost use Rattle.fx_boxes.specs.Boxes.{holds};
 ghost use Rattle.fx_tables.specs.Classes as traffic;
 ghost use Rattle.fx_pcap.specs.Captures as captures;
@@ -92,7 +91,7 @@ impl<'a> Network<'a> {
           contents = opening.opening_contents plan.now;
           fault = None;
         }) }
-        ensures err { IfErr result (λ e. e ≡ fault_at 900 places.None) }
+        ensures err { IfErr result IsMemory }
     {
         Ok(Network {
             alloc,

@@ -1,5 +1,5 @@
 //! The lines of a schedule are obeyed.
-ghost use Rattle.std.specs.Prelude.{◌≡◌, ◌⊎◌, true, false, Some, None, OnOk, IfErr};
+ghost use Rattle.std.specs.Prelude.{◌≡◌, ◌⊎◌, false, Some, None, OnOk, IfErr};
 ghost use Rattle.fx_pcap.specs.Captures as captures;
 ghost use Rattle.fx_plan.specs.Tables.{net_of};
 ghost use Rattle.fx_net.specs.declared.action.Action.TheVariants as action;
@@ -7,6 +7,7 @@ ghost use Rattle.fx_net.specs.declared.stop.Stop.TheVariants as stop;
 ghost use Rattle.fx_net.specs.Contents.{with_changed};
 ghost use Rattle.fx_net.specs.Doings as doings;
 ghost use Rattle.fx_net.specs.Running as running;
+ghost use Rattle.fx_base.specs.Device.{KeepsGoing};
 
 use crate::action::Action;
 use crate::arriving::queue_length_of;
@@ -225,7 +226,7 @@ impl<'a> Network<'a> {
         ensures ok { OnOk result (running.Obeys line.now.bytes.now self.old self.new capture.old
             capture.new
             (L.put_on links.old) (L.put_on links.new)) }
-        ensures going { OnOk result (L.failed links.old ≡ false → L.failed links.new ≡ false) }
+        ensures going { OnOk result (KeepsGoing (L.failed links.old) (L.failed links.new)) }
         ensures err { IfErr result (λ s. running.FailsOutside (L.failed links.new)
             (running.fault_of s)
             ⊎ running.RefusesLine line.now.bytes.now line.now.number self.old capture.old
@@ -261,7 +262,7 @@ impl<'a> Network<'a> {
         ensures ok { OnOk result (running.Obeys line.now.bytes.now self.old self.new capture.old
             capture.new
             (L.put_on links.old) (L.put_on links.new)) }
-        ensures going { OnOk result (L.failed links.old ≡ false → L.failed links.new ≡ false) }
+        ensures going { OnOk result (KeepsGoing (L.failed links.old) (L.failed links.new)) }
         ensures err { self.old.fault ≡ None → IfErr result
             (λ e. running.FailsOutside (L.failed links.new) e
             ⊎ running.RefusesLine line.now.bytes.now line.now.number self.old capture.old

@@ -1,8 +1,7 @@
 //! A running network before anything is read.
 ghost use Rattle.std.specs.Prelude.{◌≡◌, ◌++◌, map, IfOk, IfErr, OnOk};
 ghost use Rattle.std.specs.List.{flat_map};
-ghost use Rattle.fx_base.specs.Fault.{fault_at};
-ghost use Rattle.fx_base.specs.declared.fault.Place.TheVariants as places;
+ghost use Rattle.fx_base.specs.Fault.{IsMemory};
 ghost use Rattle.fx_plan.specs.Tables.{net_of};
 ghost use Rattle.fx_net.specs.Opening as opening;
 
@@ -21,7 +20,7 @@ use std::alloc::Global;
 /// The store of a cache, and none where it is immediate.
 fn store_of(alloc: Global, seed: Seed, cache: &Cache) -> Result<Option<HolderStore>, Fault>
     ensures ok { IfOk result (λ store. store ≡ opening.store_of cache.now) }
-    ensures err { IfErr result (λ e. e ≡ fault_at 900 places.None) }
+    ensures err { IfErr result IsMemory }
 {
     if cache.kind == CacheKind::Immediate {
         return Ok(None);
@@ -38,7 +37,7 @@ fn push_caches(
 ) -> Result<(), Fault>
     ensures ok { OnOk result (stores.new.items
         ≡ stores.old.items ++ map opening.store_of caches.now) }
-    ensures err { IfErr result (λ e. e ≡ fault_at 900 places.None) }
+    ensures err { IfErr result IsMemory }
 {
     for cache in caches {
         stores.push(store_of(alloc, seed, cache)?)?;
@@ -54,7 +53,7 @@ fn cache_stores(
 ) -> Result<Vec<Option<HolderStore>>, Fault>
     ensures ok { IfOk result (λ stores. stores.items
         ≡ map opening.store_of (flat_map (λ device. device.config.caches) devices.now)) }
-    ensures err { IfErr result (λ e. e ≡ fault_at 900 places.None) }
+    ensures err { IfErr result IsMemory }
 {
     let mut stores: Vec<Option<HolderStore>> = Vec::new(alloc);
     for device in devices {
@@ -72,7 +71,7 @@ fn push_aggregations(
 ) -> Result<(), Fault>
     ensures ok { OnOk result (stores.new.items
         ≡ stores.old.items ++ opening.aggregation_stores aggregations.now) }
-    ensures err { IfErr result (λ e. e ≡ fault_at 900 places.None) }
+    ensures err { IfErr result IsMemory }
 {
     for _aggregation in aggregations {
         stores.push(Some(HolderStore::new(alloc, seed, 0)?))?;
@@ -83,7 +82,7 @@ fn push_aggregations(
 /// The stores of all caches, and behind them of all aggregations.
 fn stores_of(alloc: Global, seed: Seed, plan: &Plan) -> Result<Vec<Option<HolderStore>>, Fault>
     ensures ok { IfOk result (λ stores. stores.items ≡ opening.stores_of plan.now) }
-    ensures err { IfErr result (λ e. e ≡ fault_at 900 places.None) }
+    ensures err { IfErr result IsMemory }
 {
     let mut stores = cache_stores(alloc, seed, plan.network().devices.as_slice())?;
     let holders = plan.net().holders();
@@ -95,7 +94,7 @@ fn stores_of(alloc: Global, seed: Seed, plan: &Plan) -> Result<Vec<Option<Holder
 /// A link that nothing was put on for each of these.
 fn links_of(alloc: Global, processes: &[usize]) -> Result<Vec<Link>, Fault>
     ensures ok { IfOk result (λ links. links.items ≡ opening.new_links processes.now) }
-    ensures err { IfErr result (λ e. e ≡ fault_at 900 places.None) }
+    ensures err { IfErr result IsMemory }
 {
     let mut links: Vec<Link> = Vec::new(alloc);
     for _process in processes {
@@ -107,7 +106,7 @@ fn links_of(alloc: Global, processes: &[usize]) -> Result<Vec<Link>, Fault>
 /// The number of the destination that each exporting process uses in the beginning.
 fn first_destinations(alloc: Global, exporters: &[Exporter]) -> Result<Vec<u64>, Fault>
     ensures ok { IfOk result (λ chosen. chosen.items ≡ opening.first_chosen exporters.now) }
-    ensures err { IfErr result (λ e. e ≡ fault_at 900 places.None) }
+    ensures err { IfErr result IsMemory }
 {
     let mut chosen: Vec<u64> = Vec::new(alloc);
     for _exporter in exporters {
@@ -125,7 +124,7 @@ impl Contents {
         stores: Vec<Option<HolderStore>>,
     ) -> Result<Contents, Fault>
         ensures ok { IfOk result (λ contents. contents ≡ opening.opened_on net.now stores.items) }
-        ensures err { IfErr result (λ e. e ≡ fault_at 900 places.None) }
+        ensures err { IfErr result IsMemory }
     {
         Ok(Contents {
             stores,
@@ -141,7 +140,7 @@ impl Contents {
     /// Fails with 900, at no place, for want of memory.
     pub(crate) fn open(alloc: Global, seed: Seed, plan: &Plan) -> Result<Contents, Fault>
         ensures ok { IfOk result (λ contents. contents ≡ opening.opening_contents plan.now) }
-        ensures err { IfErr result (λ e. e ≡ fault_at 900 places.None) }
+        ensures err { IfErr result IsMemory }
     {
         let stores = stores_of(alloc, seed, plan)?;
         Contents::on(alloc, seed, plan.net(), stores)

@@ -1,7 +1,8 @@
 //! A whole run: the lines of a schedule, and then the closing phase.
-ghost use Rattle.std.specs.Prelude.{◌≡◌, ◌⊎◌, false, None, IfOk, OnOk, IfErr};
+ghost use Rattle.std.specs.Prelude.{◌≡◌, ◌⊎◌, None, IfOk, OnOk, IfErr};
 ghost use Rattle.fx_net.specs.Opening.{opening_contents};
 ghost use Rattle.fx_net.specs.Running as running;
+ghost use Rattle.fx_base.specs.Device.{KeepsGoing};
 
 use crate::network::Network;
 use fx_base::{Fault, LineReader, Source};
@@ -26,7 +27,7 @@ impl<'a> Network<'a> {
             schedule.old schedule.new
             (L.put_on links.old) (L.put_on links.new)) }
         ensures faultless { OnOk result (self.new.fault ≡ None) }
-        ensures going { OnOk result (L.failed links.old ≡ false → L.failed links.new ≡ false) }
+        ensures going { OnOk result (KeepsGoing (L.failed links.old) (L.failed links.new)) }
         ensures err { IfErr result (λ e. running.FailsOutside (L.failed links.new) e
             ⊎ running.RefusesRun self.old capture.old capture.new schedule.old schedule.new
             (L.put_on links.old) e) }
@@ -48,7 +49,7 @@ impl<'a> Network<'a> {
         ensures ok { OnOk result (running.RunsSchedule self.old self.new capture.old capture.new
             schedule.old schedule.new
             (L.put_on links.old) (L.put_on links.new)) }
-        ensures going { OnOk result (L.failed links.old ≡ false → L.failed links.new ≡ false) }
+        ensures going { OnOk result (KeepsGoing (L.failed links.old) (L.failed links.new)) }
         ensures err { IfErr result (λ e. running.FailsOutside (L.failed links.new) e
             ⊎ running.RefusesRun self.old capture.old capture.new schedule.old schedule.new
             (L.put_on links.old) e) }
@@ -82,7 +83,7 @@ pub fn run<R: Source, Q: Source, L: Links>(
     ensures ok { IfOk result (λ totals. running.RunsTo (running.begun plan.now traffic.now)
         capture.old capture.new
         schedule.old schedule.new (L.put_on links.old) (L.put_on links.new) totals) }
-    ensures going { OnOk result (L.failed links.old ≡ false → L.failed links.new ≡ false) }
+    ensures going { OnOk result (KeepsGoing (L.failed links.old) (L.failed links.new)) }
     ensures err { IfErr result (λ e. running.FailsOutside (L.failed links.new) e
         ⊎ running.RefusesRun (running.begun plan.now traffic.now) capture.old capture.new
         schedule.old schedule.new (L.put_on links.old) e) }

@@ -1,8 +1,7 @@
 //! The stores of caches and aggregations: with a bound or without.
 ghost use Rattle.std.specs.Prelude.{◌≡◌, ◌==◌, [], Some, None, OnOk, OnErr, IfOk, IfErr, IfSome, IfNone, IsOk, IsSome};
 ghost use Rattle.std.specs.FinMap as map;
-ghost use Rattle.fx_base.specs.Fault.{fault_at};
-ghost use Rattle.fx_base.specs.declared.fault.Place.TheVariants as places;
+ghost use Rattle.fx_base.specs.Fault.{IsMemory};
 ghost use Rattle.fx_store.specs.Flows.{Adds, least, without};
 ghost use Rattle.fx_net.specs.Stores.{flows_in, makes_room, new_store, with_counts, without_entry};
 
@@ -47,7 +46,7 @@ impl HolderStore {
     /// Fails with 900, at no place, for want of memory.
     pub(crate) fn new(alloc: Global, seed: Seed, max_flows: u32) -> Result<HolderStore, Fault>
         ensures ok { IfOk result (λ s. s ≡ new_store max_flows) }
-        ensures err { IfErr result (λ e. e ≡ fault_at 900 places.None) }
+        ensures err { IfErr result IsMemory }
     {
         if max_flows == 0 {
             return Ok(HolderStore {
@@ -69,7 +68,7 @@ impl FlowStore for HolderStore {
     fn add(&mut self, key: Key, counts: Counts) -> Result<Option<(Key, Counts)>, Fault>
         ensures ok { IfOk result (λ left. Adds (flows_in self.old) (flows_in self.new) key counts
             left) }
-        ensures err { IfErr result (λ e. (e ≡ fault_at 900 places.None)
+        ensures err { IfErr result (λ e. IsMemory e
             × (flows_in self.new ≡ flows_in self.old)) }
         ensures held { IsSome (map.get (flows_in self.old) key) → IsOk result }
         ensures stored { OnOk result (self.new ≡ with_counts self.old key counts) }

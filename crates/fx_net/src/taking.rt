@@ -1,7 +1,6 @@
 //! Caches and aggregations take in what comes to them.
 ghost use Rattle.std.specs.Prelude.{◌≡◌, ◌++◌, [], ◌∷◌, OnOk, IfErr};
-ghost use Rattle.fx_base.specs.Fault.{fault_at};
-ghost use Rattle.fx_base.specs.declared.fault.Place.TheVariants as places;
+ghost use Rattle.fx_base.specs.Fault.{IsMemory};
 ghost use Rattle.fx_tables.specs.Holdings.{met_holdings};
 ghost use Rattle.fx_net.specs.Leaving as leaving;
 ghost use Rattle.fx_net.specs.Taking as taking;
@@ -26,7 +25,7 @@ fn push_leaver(
 ) -> Result<(), Fault>
     ensures ok { OnOk result (leavers.new.items
         ≡ leavers.old.items ++ leaving.leaver holder (key, counts) ∷ []) }
-    ensures err { IfErr result (λ e. e ≡ fault_at 900 places.None) }
+    ensures err { IfErr result IsMemory }
 {
     leavers.push(Leaver {
         holder,
@@ -45,7 +44,7 @@ fn add(
     ensures ok { OnOk result (record { stores = stores.new.items; left = left.new.items }
         ≡ taking.with_holding counts holding
         (record { stores = stores.old.items; left = left.old.items })) }
-    ensures err { IfErr result (λ e. e ≡ fault_at 900 places.None) }
+    ensures err { IfErr result IsMemory }
 {
     let Some(store) = stores.get_mut(holding.holder) else {
         return Ok(());
@@ -69,7 +68,7 @@ fn push_passing(
 ) -> Result<(), Fault>
     ensures ok { OnOk result (passing.new.items
         ≡ passing.old.items ++ taking.leaves_at_once stores.now counts holding.now) }
-    ensures err { IfErr result (λ e. e ≡ fault_at 900 places.None) }
+    ensures err { IfErr result IsMemory }
 {
     if is_immediate(stores, holding.holder) {
         push_leaver(passing, holding.holder, holding.key.copy(), counts)?;
@@ -108,7 +107,7 @@ fn take(
         (record { stores = stores.old.items; left = leavers.old.left.items })) }
     ensures passing { OnOk result (leavers.new.passing.items
         ≡ leavers.old.passing.items ++ taking.leaves_at_once stores.old.items counts holding) }
-    ensures err { IfErr result (λ e. e ≡ fault_at 900 places.None) }
+    ensures err { IfErr result IsMemory }
 {
     push_passing(&mut leavers.passing, stores.as_slice(), &holding, counts)?;
     add(stores, &mut leavers.left, holding, counts)
@@ -127,7 +126,7 @@ fn take_all(
     ensures passing { OnOk result (leavers.new.passing.items
         ≡ leavers.old.passing.items ++ taking.all_leave_at_once stores.old.items counts
         holdings.items) }
-    ensures err { IfErr result (λ e. e ≡ fault_at 900 places.None) }
+    ensures err { IfErr result IsMemory }
 {
     for holding in holdings {
         take(stores, leavers, holding, counts)?;
@@ -150,7 +149,7 @@ fn meet_all(
     ensures passing { OnOk result (leavers.new.passing.items ≡ leavers.old.passing.items
         ++ taking.all_leave_at_once stores.old.items counts
         (met_holdings net.now.holders fields.now met.now)) }
-    ensures err { IfErr result (λ e. e ≡ fault_at 900 places.None) }
+    ensures err { IfErr result IsMemory }
 {
     for occurrence in met {
         take(stores, leavers, net.holding(occurrence, fields), counts)?;
@@ -163,7 +162,7 @@ impl Contents {
     fn leave_both(&mut self, net: &Net, leavers: &Leavers) -> Result<(), Fault>
         ensures ok { OnOk result (self.new ≡ leaving.after_leaves net.now leavers.now.passing.items
             (leaving.after_leaves net.now leavers.now.left.items self.old)) }
-        ensures err { IfErr result (λ e. e ≡ fault_at 900 places.None) }
+        ensures err { IfErr result IsMemory }
     {
         self.leave_all(net, leavers.left.as_slice())?;
         self.leave_all(net, leavers.passing.as_slice())
@@ -181,7 +180,7 @@ impl Contents {
     ) -> Result<(), Fault>
         ensures ok { OnOk result (self.new ≡ taking.after_taking net.now counts holdings.items
             self.old) }
-        ensures err { IfErr result (λ e. e ≡ fault_at 900 places.None) }
+        ensures err { IfErr result IsMemory }
     {
         let mut leavers = Leavers::new(alloc);
         take_all(&mut self.stores, &mut leavers, holdings, counts)?;
@@ -203,7 +202,7 @@ impl Contents {
         ensures ok { OnOk result (self.new
             ≡ taking.after_taking net.now counts (met_holdings net.now.holders fields.now met.now)
             self.old) }
-        ensures err { IfErr result (λ e. e ≡ fault_at 900 places.None) }
+        ensures err { IfErr result IsMemory }
     {
         let mut leavers = Leavers::new(alloc);
         meet_all(&mut self.stores, &mut leavers, net, met, fields, counts)?;

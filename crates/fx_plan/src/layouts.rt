@@ -1,6 +1,6 @@
 //! The layouts of a network, by number.
 ghost use Rattle.std.specs.Prelude.{◌≡◌, ◌⊎◌, ℕ, ◌<◌, ◌≤◌, Some, IfErr, IfOk, length, position, slice_get};
-ghost use Rattle.fx_base.specs.Fault.{fault_at};
+ghost use Rattle.fx_base.specs.Fault.{fault_at, IsMemory};
 ghost use Rattle.fx_base.specs.declared.fault.Place.TheVariants as places;
 ghost use Rattle.fx_layout.specs.Keys.{Fits, same_layout};
 ghost use Rattle.fx_tables.specs.Limits.{layout_limit};
@@ -28,7 +28,7 @@ fn number_in(known: &mut Vec<Layout>, layout: &Layout) -> Result<usize, Fault>
         ≡ layouts.with_layout known.old.items layout.now)
         × (slice_get known.new.items n ≡ Some layout.now)) }
     ensures few { IfOk result (λ n. length known.new.items ≤ layout_limit) }
-    ensures err { IfErr result (λ e. (e ≡ fault_at 900 places.None)
+    ensures err { IfErr result (λ e. IsMemory e
         ⊎ ((e ≡ fault_at 207 places.None) × (layout_limit
         < length (layouts.with_layout known.old.items layout.now)))) }
 {
@@ -62,7 +62,7 @@ fn numbers_of(
     ensures numbers { IfOk result (λ v. layouts.AreNumbers known.new.items holders.now v.items) }
     ensures fits { IfOk result (λ v. (k : ℕ) → Fits (layout_of (slice_get holders.now k))) }
     ensures few { IfOk result (λ v. length known.new.items ≤ layout_limit) }
-    ensures err { IfErr result (λ e. (e ≡ fault_at 900 places.None)
+    ensures err { IfErr result (λ e. IsMemory e
         ⊎ ((e ≡ fault_at 207 places.None) × (layout_limit
         < length (layouts.with_layouts known.old.items (layouts.held_layouts holders.now))))) }
 {
@@ -94,7 +94,7 @@ pub fn numbering_of(alloc: Global, net: &Net) -> Result<Numbering, Fault>
         n.numbers.items) }
     ensures fits { IfOk result (λ n. (k : ℕ) → Fits (layout_of (slice_get net.now.holders k))) }
     ensures few { IfOk result (λ n. length n.layouts.items ≤ layout_limit) }
-    ensures err { IfErr result (λ e. (e ≡ fault_at 900 places.None)
+    ensures err { IfErr result (λ e. IsMemory e
         ⊎ ((e ≡ fault_at 207 places.None) × (layout_limit < length (layouts.layouts_of net.now)))) }
 {
     let mut layouts = Vec::new(alloc);

@@ -1,8 +1,7 @@
 //! The ranks of a network's collecting processes.
-ghost use Rattle.std.specs.Prelude.{◌≡◌, ◌⊎◌, ◌∷◌, [], Bool, true, IfErr, IfOk, reverse};
+ghost use Rattle.std.specs.Prelude.{◌≡◌, ◌⊎◌, ◌∷◌, [], Bool, IfErr, IfOk, reverse};
 ghost use Rattle.std.specs.List.{list_all};
-ghost use Rattle.fx_base.specs.Fault.{fault_at};
-ghost use Rattle.fx_base.specs.declared.fault.Place.TheVariants as places;
+ghost use Rattle.fx_base.specs.Fault.{IsMemory};
 ghost use Rattle.fx_plan.specs.Plans.{IsCycle, IsResolved};
 ghost use Rattle.fx_ranks.specs.Ranks.{IsWhole};
 ghost use Rattle.fx_plan.specs.Tables as tables;
@@ -46,7 +45,7 @@ pub fn ranks_of(alloc: Global, network: &NetworkDocument, net: &Net) -> Result<R
     requires resolved { IsResolved net.now }
     ensures whole { IfOk result (λ r. IsWhole net.now r.ranked.items) }
     ensures order { IfOk result (λ r. r.order.items ≡ reverse r.ranked.items) }
-    ensures err { IfErr result (λ e. (e ≡ fault_at 900 places.None) ⊎ IsCycle network.now e) }
+    ensures err { IfErr result (λ e. IsMemory e ⊎ IsCycle network.now e) }
 {
     let coming = rank_order(alloc, net)?;
     if !all_have_come(coming.come.as_slice()) {

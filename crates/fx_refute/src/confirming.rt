@@ -1,6 +1,6 @@
 //! Whether a run refutes.
 ghost use Rattle.std.specs.Prelude.{◌≡◌, ◌⊎◌, ◌≤◌, ◌↔◌, [], ◌∷◌, length, Ok, IfErr, IfOk, IsTrue, OnOk};
-ghost use Rattle.fx_base.specs.Fault.{fault_at};
+ghost use Rattle.fx_base.specs.Fault.{fault_at, IsMemory};
 ghost use Rattle.fx_base.specs.declared.fault.Place.TheVariants as places;
 ghost use Rattle.fx_tables.specs.Classes as traffic;
 ghost use Rattle.fx_machine.specs.Limits.{step_limit};
@@ -37,7 +37,7 @@ fn open<'a>(
     })
         × traffic.IsOf packet.now (network.entry_numbered classes.now packet.now.class)) }
     ensures err { IfErr result (λ e. ((e ≡ fault_at 502 (places.Line 2))
-        × (traffic.IsOf packet.now (network.entry_numbered classes.now packet.now.class) → ⊥))
+        × (traffic.IsOf packet.now (network.numbered classes.now packet.now.class) → ⊥))
         ⊎ IsMemory e) }
 {
     let packets = vec![in alloc; *packet]?;
@@ -61,7 +61,7 @@ fn make_steps(state: &mut State<'_>, steps: &[Step]) -> Result<(), Fault>
         × (stepping.run state.old.net state.old.classes state.old.packets steps.now s ≡ Ok last)
         × (state.new.state ≡ states.told_state last)) }
     ensures net { OnOk result (state.new.net ≡ state.old.net) }
-    ensures err { IfErr result (λ e. (e ≡ fault_at 900 places.None)
+    ensures err { IfErr result (λ e. IsMemory e
         ⊎ ((s : states.State) → state.old.state ≡ states.told_state s
         → confirming.IsStopped state.old.net state.old.classes state.old.packets steps.now s e)) }
 {
@@ -100,7 +100,7 @@ fn of_one_key() -> Seed
 fn plain_sums(alloc: Global, net: &Net, classes: &Classes, packet: &Packet) -> Result<Totals, Fault>
     ensures ok { IfOk result (λ t. t ≡ confirming.plain_totals net.now.report_layout
         (traffic.to_count classes.now (packet.now ∷ []))) }
-    ensures err { IfErr result (λ e. e ≡ fault_at 900 places.None) }
+    ensures err { IfErr result IsMemory }
 {
     let layout = net.report_layout();
     let mut totals = Totals::new(alloc, of_one_key(), layout.copy())?;
@@ -127,7 +127,7 @@ fn confirm_over(
     ensures refutes { OnOk result (refutations.Refutes net.now classes.now refutation.now) }
     ensures totals { IfOk result (λ t.
         refutations.AreTotals net.now classes.now refutation.now t.0 t.1) }
-    ensures err { IfErr result (λ e. (e ≡ fault_at 900 places.None)
+    ensures err { IfErr result (λ e. IsMemory e
         ⊎ refutations.IsNoRefutation net.now classes.now refutation.now e) }
 {
     let layout = net.report_layout();
@@ -161,7 +161,7 @@ pub fn confirm(
         (net_of plan.now) traffic.now refutation.now) }
     ensures totals { IfOk result (λ t.
         refutations.AreTotals (net_of plan.now) traffic.now refutation.now t.0 t.1) }
-    ensures err { IfErr result (λ e. (e ≡ fault_at 900 places.None)
+    ensures err { IfErr result (λ e. IsMemory e
         ⊎ refutations.IsNoRefutation (net_of plan.now) traffic.now refutation.now e) }
 {
     confirm_over(alloc, plan.net(), traffic.classes(), refutation)

@@ -1,8 +1,6 @@
 //! Writing the text of a refutation.
-ghost use Rattle.std.specs.Prelude.{◌≡◌, false, map, true, OnOk, IfErr};
-ghost use Rattle.fx_base.specs.Device.{Writes};
-ghost use Rattle.fx_base.specs.Fault.{fault_at};
-ghost use Rattle.fx_base.specs.declared.fault.Place.TheVariants as places;
+ghost use Rattle.std.specs.Prelude.{map, OnOk, IfErr};
+ghost use Rattle.fx_base.specs.Device.{Writes, IsWriteFault, KeepsGoing};
 ghost use Rattle.fx_run_text.specs.declared.text_version.TextVersion.TheVariants.{Two};
 ghost use Rattle.fx_refute.specs.RefutationText.{refutation_text, steps_text};
 
@@ -13,8 +11,8 @@ use fx_run_text::{Step, put_packet_line, put_step_line};
 /// Writes the lines of steps.
 fn put_steps<S: Sink>(sink: &mut S, steps: &[Step]) -> Result<(), Fault>
     ensures ok { OnOk result (Writes (S.taken sink.old) (S.taken sink.new) (steps_text steps.now)) }
-    ensures going { OnOk result (S.failed sink.old ≡ false → S.failed sink.new ≡ false) }
-    ensures err { IfErr result (λ e. (e ≡ fault_at 902 places.None) × (S.failed sink.new ≡ true)) }
+    ensures going { OnOk result (KeepsGoing (S.failed sink.old) (S.failed sink.new)) }
+    ensures err { IfErr result (IsWriteFault (S.failed sink.new)) }
 {
     for step in steps {
         put_step_line(sink, step)?;
@@ -29,8 +27,8 @@ fn put_steps<S: Sink>(sink: &mut S, steps: &[Step]) -> Result<(), Fault>
 pub fn put_refutation<S: Sink>(sink: &mut S, refutation: &Refutation) -> Result<(), Fault>
     ensures ok { OnOk result (Writes (S.taken sink.old) (S.taken sink.new)
         (refutation_text Two refutation.now)) }
-    ensures going { OnOk result (S.failed sink.old ≡ false → S.failed sink.new ≡ false) }
-    ensures err { IfErr result (λ e. (e ≡ fault_at 902 places.None) × (S.failed sink.new ≡ true)) }
+    ensures going { OnOk result (KeepsGoing (S.failed sink.old) (S.failed sink.new)) }
+    ensures err { IfErr result (IsWriteFault (S.failed sink.new)) }
 {
     put_text(sink, b"once-refutation 2\n")?;
     put_packet_line(sink, refutation.packet())?;

@@ -1,9 +1,8 @@
 //! Reading the text of a refutation.
 ghost use Rattle.std.specs.Prelude.{◌≡◌, ◌⊎◌, ◌<◌, Ok, Err, None, IfOk, IfErr, OnOk};
 ghost use Rattle.std.specs.Str.{bytes_eq};
-ghost use Rattle.fx_base.specs.Fault.{fault_at};
+ghost use Rattle.fx_base.specs.Fault.{IsMemory};
 ghost use Rattle.fx_base.specs.Lines.{GoesOnToLines, line_budget, Fails};
-ghost use Rattle.fx_base.specs.declared.fault.Place.TheVariants as places;
 ghost use Rattle.fx_refute.specs.ReadingOn.{Leads, NextIsWrong, Says};
 ghost use Rattle.fx_refute.specs.RefutationReading.{MayGive, MayReadRefutation, end_of_lines, only, packet_behind, refutation_in, steps_behind};
 ghost use Rattle.fx_refute.specs.Refutations as refutations;
@@ -53,7 +52,7 @@ fn read_next<R: Source>(
     ensures on { OnOk result (GoesOnToLines lines.old lines.new) }
     ensures ok { IfOk result (λ x. Says version lines.old lines.new x) }
     ensures smaller { OnOk result (line_budget lines.new < line_budget lines.old) }
-    ensures err { IfErr result (λ e. (e ≡ fault_at 900 places.None)
+    ensures err { IfErr result (λ e. IsMemory e
         ⊎ (Fails lines.old lines.new e ⊎ NextIsWrong version lines.old e)) }
 {
     if !lines.advance()? {
@@ -94,7 +93,7 @@ fn read_packet<R: Source>(
     ensures on { OnOk result (GoesOnToLines lines.old lines.new) }
     ensures ok { IfOk result (λ p. Leads lines.old lines.new
         (packet_behind version lines.old.number) (steps_behind version lines.new.number (only p))) }
-    ensures err { IfErr result (λ e. (e ≡ fault_at 900 places.None)
+    ensures err { IfErr result (λ e. IsMemory e
         ⊎ (Fails lines.old lines.new e
         ⊎ MayGive lines.old (packet_behind version lines.old.number) (Err e))) }
 {
@@ -115,7 +114,7 @@ fn read_steps<R: Source>(
     requires { lines.old.stopped ≡ None }
     ensures ok { IfOk result (λ r.
         MayGive lines.old (steps_behind version lines.old.number (only packet)) (Ok r)) }
-    ensures err { IfErr result (λ e. (e ≡ fault_at 900 places.None)
+    ensures err { IfErr result (λ e. IsMemory e
         ⊎ (Fails lines.old lines.new e
         ⊎ MayGive lines.old (steps_behind version lines.old.number (only packet)) (Err e))) }
 {
@@ -150,7 +149,7 @@ pub fn read_refutation<R: Source>(
     lines: &mut LineReader<R>,
 ) -> Result<Refutation, Fault>
     ensures ok { IfOk result (λ r. MayReadRefutation lines.old (Ok r)) }
-    ensures err { IfErr result (λ e. (e ≡ fault_at 900 places.None)
+    ensures err { IfErr result (λ e. IsMemory e
         ⊎ (Fails lines.old lines.new e ⊎ MayReadRefutation lines.old (Err e))) }
 {
     let version = read_first(lines)?;

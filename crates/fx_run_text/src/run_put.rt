@@ -1,8 +1,6 @@
 //! Writing the lines of a run's text.
-ghost use Rattle.std.specs.Prelude.{◌≡◌, ◌++◌, ◌∷◌, [], decimal, false, map, true, OnOk, IfErr};
-ghost use Rattle.fx_base.specs.Device.{Writes};
-ghost use Rattle.fx_base.specs.Fault.{fault_at};
-ghost use Rattle.fx_base.specs.declared.fault.Place.TheVariants as places;
+ghost use Rattle.std.specs.Prelude.{◌++◌, ◌∷◌, [], decimal, map, OnOk, IfErr};
+ghost use Rattle.fx_base.specs.Device.{Writes, IsWriteFault, KeepsGoing};
 ghost use Rattle.fx_elements.specs.Axes.{field};
 ghost use Rattle.fx_elements.specs.Values.{value_text};
 ghost use Rattle.fx_run_text.specs.RunLineText.{run_line_text, spaced_words};
@@ -22,8 +20,8 @@ use fx_tables::{HolderName, Packet};
 fn put_spaced<S: Sink>(sink: &mut S, number: u64) -> Result<(), Fault>
     ensures ok { OnOk result (Writes (S.taken sink.old) (S.taken sink.new) (spaced_words (decimal number
         ∷ []))) }
-    ensures going { OnOk result (S.failed sink.old ≡ false → S.failed sink.new ≡ false) }
-    ensures err { IfErr result (λ e. (e ≡ fault_at 902 places.None) × (S.failed sink.new ≡ true)) }
+    ensures going { OnOk result (KeepsGoing (S.failed sink.old) (S.failed sink.new)) }
+    ensures err { IfErr result (IsWriteFault (S.failed sink.new)) }
 {
     put_text(sink, b" ")?;
     put_number(sink, number)
@@ -34,8 +32,8 @@ fn put_spaced<S: Sink>(sink: &mut S, number: u64) -> Result<(), Fault>
 fn put_field<S: Sink>(sink: &mut S, fields: &Fields, axis: Axis) -> Result<(), Fault>
     ensures ok { OnOk result (Writes (S.taken sink.old) (S.taken sink.new) (spaced_words (value_text axis
         (field fields.now axis) ∷ []))) }
-    ensures going { OnOk result (S.failed sink.old ≡ false → S.failed sink.new ≡ false) }
-    ensures err { IfErr result (λ e. (e ≡ fault_at 902 places.None) × (S.failed sink.new ≡ true)) }
+    ensures going { OnOk result (KeepsGoing (S.failed sink.old) (S.failed sink.new)) }
+    ensures err { IfErr result (IsWriteFault (S.failed sink.new)) }
 {
     let _values = fields.values();
     put_text(sink, b" ")?;
@@ -46,8 +44,8 @@ fn put_field<S: Sink>(sink: &mut S, fields: &Fields, axis: Axis) -> Result<(), F
 fn put_on_axes<S: Sink>(sink: &mut S, fields: &Fields, axes: &[Axis]) -> Result<(), Fault>
     ensures ok { OnOk result (Writes (S.taken sink.old) (S.taken sink.new)
         (spaced_words (map (λ axis. value_text axis (field fields.now axis)) axes.now))) }
-    ensures going { OnOk result (S.failed sink.old ≡ false → S.failed sink.new ≡ false) }
-    ensures err { IfErr result (λ e. (e ≡ fault_at 902 places.None) × (S.failed sink.new ≡ true)) }
+    ensures going { OnOk result (KeepsGoing (S.failed sink.old) (S.failed sink.new)) }
+    ensures err { IfErr result (IsWriteFault (S.failed sink.new)) }
 {
     for axis in axes {
         put_field(sink, fields, *axis)?;
@@ -59,8 +57,8 @@ fn put_on_axes<S: Sink>(sink: &mut S, fields: &Fields, axes: &[Axis]) -> Result<
 fn put_choice<S: Sink>(sink: &mut S, choice: Option<u64>) -> Result<(), Fault>
     ensures ok { OnOk result (Writes (S.taken sink.old) (S.taken sink.new) (spaced_words
         (choice_word choice ∷ []))) }
-    ensures going { OnOk result (S.failed sink.old ≡ false → S.failed sink.new ≡ false) }
-    ensures err { IfErr result (λ e. (e ≡ fault_at 902 places.None) × (S.failed sink.new ≡ true)) }
+    ensures going { OnOk result (KeepsGoing (S.failed sink.old) (S.failed sink.new)) }
+    ensures err { IfErr result (IsWriteFault (S.failed sink.new)) }
 {
     match choice {
         None => put_text(sink, b" n"),
@@ -72,8 +70,8 @@ fn put_choice<S: Sink>(sink: &mut S, choice: Option<u64>) -> Result<(), Fault>
 fn put_choices<S: Sink>(sink: &mut S, choices: &[Option<u64>]) -> Result<(), Fault>
     ensures ok { OnOk result (Writes (S.taken sink.old) (S.taken sink.new) (spaced_words
         (map choice_word choices.now))) }
-    ensures going { OnOk result (S.failed sink.old ≡ false → S.failed sink.new ≡ false) }
-    ensures err { IfErr result (λ e. (e ≡ fault_at 902 places.None) × (S.failed sink.new ≡ true)) }
+    ensures going { OnOk result (KeepsGoing (S.failed sink.old) (S.failed sink.new)) }
+    ensures err { IfErr result (IsWriteFault (S.failed sink.new)) }
 {
     for choice in choices {
         put_choice(sink, *choice)?;
@@ -85,8 +83,8 @@ fn put_choices<S: Sink>(sink: &mut S, choices: &[Option<u64>]) -> Result<(), Fau
 fn put_cache<S: Sink>(sink: &mut S, device: u64, cache: u64) -> Result<(), Fault>
     ensures ok { OnOk result (Writes (S.taken sink.old) (S.taken sink.new) (spaced_words (holder_words
         (holders.Cache device cache)))) }
-    ensures going { OnOk result (S.failed sink.old ≡ false → S.failed sink.new ≡ false) }
-    ensures err { IfErr result (λ e. (e ≡ fault_at 902 places.None) × (S.failed sink.new ≡ true)) }
+    ensures going { OnOk result (KeepsGoing (S.failed sink.old) (S.failed sink.new)) }
+    ensures err { IfErr result (IsWriteFault (S.failed sink.new)) }
 {
     put_text(sink, b" cache")?;
     put_spaced(sink, device)?;
@@ -102,8 +100,8 @@ fn put_aggregation<S: Sink>(
 ) -> Result<(), Fault>
     ensures ok { OnOk result (Writes (S.taken sink.old) (S.taken sink.new)
         (spaced_words (holder_words (holders.Aggregation device process aggregation)))) }
-    ensures going { OnOk result (S.failed sink.old ≡ false → S.failed sink.new ≡ false) }
-    ensures err { IfErr result (λ e. (e ≡ fault_at 902 places.None) × (S.failed sink.new ≡ true)) }
+    ensures going { OnOk result (KeepsGoing (S.failed sink.old) (S.failed sink.new)) }
+    ensures err { IfErr result (IsWriteFault (S.failed sink.new)) }
 {
     put_text(sink, b" aggregation")?;
     put_spaced(sink, device)?;
@@ -115,8 +113,8 @@ fn put_aggregation<S: Sink>(
 fn put_holder<S: Sink>(sink: &mut S, holder: HolderName) -> Result<(), Fault>
     ensures ok { OnOk result (Writes (S.taken sink.old) (S.taken sink.new) (spaced_words
         (holder_words holder))) }
-    ensures going { OnOk result (S.failed sink.old ≡ false → S.failed sink.new ≡ false) }
-    ensures err { IfErr result (λ e. (e ≡ fault_at 902 places.None) × (S.failed sink.new ≡ true)) }
+    ensures going { OnOk result (KeepsGoing (S.failed sink.old) (S.failed sink.new)) }
+    ensures err { IfErr result (IsWriteFault (S.failed sink.new)) }
 {
     match holder {
         HolderName::Cache { device, cache } => put_cache(sink, device, cache),
@@ -132,8 +130,8 @@ fn put_holder<S: Sink>(sink: &mut S, holder: HolderName) -> Result<(), Fault>
 fn put_packet<S: Sink>(sink: &mut S, packet: &Packet) -> Result<(), Fault>
     ensures ok { OnOk result (Writes (S.taken sink.old) (S.taken sink.new) (run_line_text Two
         (line.Packet packet.now))) }
-    ensures going { OnOk result (S.failed sink.old ≡ false → S.failed sink.new ≡ false) }
-    ensures err { IfErr result (λ e. (e ≡ fault_at 902 places.None) × (S.failed sink.new ≡ true)) }
+    ensures going { OnOk result (KeepsGoing (S.failed sink.old) (S.failed sink.new)) }
+    ensures err { IfErr result (IsWriteFault (S.failed sink.new)) }
 {
     put_text(sink, b"packet")?;
     put_spaced(sink, packet.class)?;
@@ -149,8 +147,8 @@ fn put_packet<S: Sink>(sink: &mut S, packet: &Packet) -> Result<(), Fault>
 pub fn put_packet_line<S: Sink>(sink: &mut S, packet: &Packet) -> Result<(), Fault>
     ensures ok { OnOk result (Writes (S.taken sink.old) (S.taken sink.new)
         (run_line_text Two (line.Packet packet.now) ++ 10 ∷ [])) }
-    ensures going { OnOk result (S.failed sink.old ≡ false → S.failed sink.new ≡ false) }
-    ensures err { IfErr result (λ e. (e ≡ fault_at 902 places.None) × (S.failed sink.new ≡ true)) }
+    ensures going { OnOk result (KeepsGoing (S.failed sink.old) (S.failed sink.new)) }
+    ensures err { IfErr result (IsWriteFault (S.failed sink.new)) }
 {
     put_packet(sink, packet)?;
     put_text(sink, b"\n")
@@ -165,8 +163,8 @@ fn put_cross<S: Sink>(
 ) -> Result<(), Fault>
     ensures ok { OnOk result (Writes (S.taken sink.old) (S.taken sink.new)
         (run_line_text Two (line.Step (steps.Cross packet crossing choices.now)))) }
-    ensures going { OnOk result (S.failed sink.old ≡ false → S.failed sink.new ≡ false) }
-    ensures err { IfErr result (λ e. (e ≡ fault_at 902 places.None) × (S.failed sink.new ≡ true)) }
+    ensures going { OnOk result (KeepsGoing (S.failed sink.old) (S.failed sink.new)) }
+    ensures err { IfErr result (IsWriteFault (S.failed sink.new)) }
 {
     put_text(sink, b"cross")?;
     put_spaced(sink, packet)?;
@@ -183,8 +181,8 @@ fn put_expire<S: Sink>(
 ) -> Result<(), Fault>
     ensures ok { OnOk result (Writes (S.taken sink.old) (S.taken sink.new)
         (run_line_text Two (line.Step (steps.Expire holder position choices.now)))) }
-    ensures going { OnOk result (S.failed sink.old ≡ false → S.failed sink.new ≡ false) }
-    ensures err { IfErr result (λ e. (e ≡ fault_at 902 places.None) × (S.failed sink.new ≡ true)) }
+    ensures going { OnOk result (KeepsGoing (S.failed sink.old) (S.failed sink.new)) }
+    ensures err { IfErr result (IsWriteFault (S.failed sink.new)) }
 {
     put_text(sink, b"expire")?;
     put_holder(sink, holder)?;
@@ -201,8 +199,8 @@ fn put_arrive<S: Sink>(
 ) -> Result<(), Fault>
     ensures ok { OnOk result (Writes (S.taken sink.old) (S.taken sink.new)
         (run_line_text Two (line.Step (steps.Arrive link position choices.now)))) }
-    ensures going { OnOk result (S.failed sink.old ≡ false → S.failed sink.new ≡ false) }
-    ensures err { IfErr result (λ e. (e ≡ fault_at 902 places.None) × (S.failed sink.new ≡ true)) }
+    ensures going { OnOk result (KeepsGoing (S.failed sink.old) (S.failed sink.new)) }
+    ensures err { IfErr result (IsWriteFault (S.failed sink.new)) }
 {
     put_text(sink, b"arrive")?;
     put_spaced(sink, link)?;
@@ -214,8 +212,8 @@ fn put_arrive<S: Sink>(
 fn put_step<S: Sink>(sink: &mut S, step: &Step) -> Result<(), Fault>
     ensures ok { OnOk result (Writes (S.taken sink.old) (S.taken sink.new) (run_line_text Two
         (line.Step step.now))) }
-    ensures going { OnOk result (S.failed sink.old ≡ false → S.failed sink.new ≡ false) }
-    ensures err { IfErr result (λ e. (e ≡ fault_at 902 places.None) × (S.failed sink.new ≡ true)) }
+    ensures going { OnOk result (KeepsGoing (S.failed sink.old) (S.failed sink.new)) }
+    ensures err { IfErr result (IsWriteFault (S.failed sink.new)) }
 {
     match step {
         Step::Cross {
@@ -242,8 +240,8 @@ fn put_step<S: Sink>(sink: &mut S, step: &Step) -> Result<(), Fault>
 pub fn put_step_line<S: Sink>(sink: &mut S, step: &Step) -> Result<(), Fault>
     ensures ok { OnOk result (Writes (S.taken sink.old) (S.taken sink.new) (run_line_text Two
         (line.Step step.now) ++ 10 ∷ [])) }
-    ensures going { OnOk result (S.failed sink.old ≡ false → S.failed sink.new ≡ false) }
-    ensures err { IfErr result (λ e. (e ≡ fault_at 902 places.None) × (S.failed sink.new ≡ true)) }
+    ensures going { OnOk result (KeepsGoing (S.failed sink.old) (S.failed sink.new)) }
+    ensures err { IfErr result (IsWriteFault (S.failed sink.new)) }
 {
     put_step(sink, step)?;
     put_text(sink, b"\n")

@@ -1,8 +1,7 @@
 //! Reading the text of a run.
 ghost use Rattle.std.specs.Prelude.{◌≡◌, ◌⊎◌, ◌<◌, ℕ, List, Ok, Err, None, IfOk, IfErr, OnOk};
-ghost use Rattle.fx_base.specs.Fault.{fault_at};
+ghost use Rattle.fx_base.specs.Fault.{IsMemory};
 ghost use Rattle.fx_base.specs.Lines.{GoesOnToLines, text_lines, line_budget, Fails};
-ghost use Rattle.fx_base.specs.declared.fault.Place.TheVariants as places;
 ghost use Rattle.fx_tables.specs.Classes.{Class};
 ghost use Rattle.fx_run_text.specs.declared.text_version.TextVersion.{TextVersion};
 ghost use Rattle.fx_run_text.specs.RunText.{Run, run_text, run_lines, IsWritableRun, AreShort};
@@ -48,7 +47,7 @@ fn read_next<R: Source>(
     ensures on { OnOk result (GoesOnToLines lines.old lines.new) }
     ensures ok { IfOk result (λ x. ReadsNextLine version lines.old lines.new x) }
     ensures smaller { OnOk result (line_budget lines.new < line_budget lines.old) }
-    ensures err { IfErr result (λ e. (e ≡ fault_at 900 places.None) ⊎ (Fails lines.old lines.new e
+    ensures err { IfErr result (λ e. IsMemory e ⊎ (Fails lines.old lines.new e
         ⊎ ((classes : List Class) (run : Run)
         → MayReadBehind version classes lines.old run (Err e)))) }
 {
@@ -101,7 +100,7 @@ pub fn read_run<R: Source>(
     lines: &mut LineReader<R>,
 ) -> Result<Run, Fault>
     ensures ok { IfOk result (λ run. MayReadRun classes.now lines.old (Ok run)) }
-    ensures err { IfErr result (λ e. (e ≡ fault_at 900 places.None)
+    ensures err { IfErr result (λ e. IsMemory e
         ⊎ (Fails lines.old lines.new e ⊎ MayReadRun classes.now lines.old (Err e))) }
 {
     let version = read_first(lines)?;

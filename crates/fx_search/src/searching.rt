@@ -1,6 +1,6 @@
 //! The search: region by region, along the certificate that it would be.
-ghost use Rattle.std.specs.Prelude.{◌≡◌, ◌≢◌, ◌⊎◌, ◌≤◌, ◌<◌, ◌+◌, ℕ, List, ◌∷◌, [], true, length, reverse, min, if◌then◌else◌, Some, None, IfOk, IfErr, IfSome, OnOk};
-ghost use Rattle.fx_base.specs.Fault.{fault_at};
+ghost use Rattle.std.specs.Prelude.{◌≡◌, ◌≢◌, ◌⊎◌, ◌≤◌, ◌<◌, ◌+◌, ℕ, List, ◌∷◌, [], true, length, reverse, min, if◌then◌else◌, Some, None, IfOk, IfErr, IfSome};
+ghost use Rattle.fx_base.specs.Fault.{fault_at, IsMemory};
 ghost use Rattle.fx_base.specs.declared.fault.Place.TheVariants as places;
 ghost use Rattle.fx_leaf.specs.Judgements.{IsJudged};
 ghost use Rattle.fx_leaf.specs.Tables.{AreTables};
@@ -143,7 +143,7 @@ fn refute(
         → IfOk result (found.IsRight tables.now.net classes.now limit) }
     ensures settles { Lies classes.now here.now
         → IfOk result (found.Settles tables.now.net classes.now) }
-    ensures err { IfErr result (λ e. (e ≡ fault_at 900 places.None)
+    ensures err { IfErr result (λ e. IsMemory e
         ⊎ ((e ≡ fault_at 601 places.None)
         × HasNoRun tables.now.net here.now.region.low (path classes.now (least_packet here.now))
         (exempts (entry_numbered classes.now here.now.target.class)))) }
@@ -178,7 +178,7 @@ fn certificate(growth: Growth<'_>) -> Result<Found, Fault>
         → IsGrowing net (targets_of classes) (found.version_for classes)
         (fronts.most_lines limit) growth.entry.items.items growth.entry.lines []
         → IfOk result (found.Settles net classes) }
-    ensures err { IfErr result (λ e. e ≡ fault_at 900 places.None) }
+    ensures err { IfErr result IsMemory }
 {
     certificates_count_once();
     let mut items = growth.items;

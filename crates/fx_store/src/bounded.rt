@@ -1,8 +1,7 @@
 //! A store with a bound, which the least recently added-to entry leaves.
 ghost use Rattle.std.specs.Prelude.{◌≡◌, ◌≤◌, ◌<◌, [], None, Some, length, option_map, OnOk, OnErr, IfOk, IfErr, IfSome, IfNone, IsOk, IsSome};
 ghost use Rattle.std.specs.FinMap as map;
-ghost use Rattle.fx_base.specs.Fault.{fault_at};
-ghost use Rattle.fx_base.specs.declared.fault.Place.TheVariants as places;
+ghost use Rattle.fx_base.specs.Fault.{IsMemory};
 ghost use Rattle.fx_store.specs.Flows.{Adds, flows_of, least, without};
 ghost use Rattle.fx_store.specs.Recent.{after_add, counts_at, pushed_out, without_key};
 
@@ -44,7 +43,7 @@ impl BoundedStore {
     pub fn new(alloc: Global, seed: Seed, capacity: usize) -> Result<BoundedStore, Fault>
         requires { 1 ≤ capacity }
         ensures ok { IfOk result (λ s. s ≡ record { entries = []; capacity = capacity }) }
-        ensures err { IfErr result (λ e. e ≡ fault_at 900 places.None) }
+        ensures err { IfErr result IsMemory }
     {
         let capacity = NonZeroUsize::new(capacity).unwrap();
         let mut recent = LruCache::unbounded_with_hasher(alloc, seed)?;
@@ -60,7 +59,7 @@ impl BoundedStore {
         requires { counts_at self.old.entries key ≡ None }
         ensures recent { OnOk result (self.new ≡ after_add self.old key counts) }
         ensures leaves { IfOk result (λ left. left ≡ pushed_out self.old key counts) }
-        ensures err { IfErr result (λ e. (e ≡ fault_at 900 places.None) × (self.new ≡ self.old)) }
+        ensures err { IfErr result (λ e. IsMemory e × (self.new ≡ self.old)) }
     {
         // Here and below: what `len` ensures, that keys are distinct and fit, the other calls don't.
         let _held = self.recent.len();
@@ -87,7 +86,7 @@ impl FlowStore for BoundedStore {
     fn add(&mut self, key: Key, counts: Counts) -> Result<Option<(Key, Counts)>, Fault>
         ensures ok { IfOk result (λ left. Adds (flows_of self.old.entries)
             (flows_of self.new.entries) key counts left) }
-        ensures err { IfErr result (λ e. (e ≡ fault_at 900 places.None)
+        ensures err { IfErr result (λ e. IsMemory e
             × (flows_of self.new.entries ≡ flows_of self.old.entries)) }
         ensures held { IsSome (map.get (flows_of self.old.entries) key) → IsOk result }
         ensures recent { OnOk result (self.new ≡ after_add self.old key counts) }

@@ -1,8 +1,7 @@
 //! A store that nothing leaves by itself.
 ghost use Rattle.std.specs.Prelude.{◌≡◌, [], None, OnOk, OnErr, IfOk, IfErr, IsOk, IsSome};
 ghost use Rattle.std.specs.FinMap as map;
-ghost use Rattle.fx_base.specs.Fault.{fault_at};
-ghost use Rattle.fx_base.specs.declared.fault.Place.TheVariants as places;
+ghost use Rattle.fx_base.specs.Fault.{IsMemory};
 ghost use Rattle.fx_store.specs.Flows.{Adds, flows_of, least, without};
 ghost use Rattle.fx_store.specs.Recent.{counts_at};
 
@@ -51,7 +50,7 @@ impl ListStore {
     fn add_new(&mut self, key: Ordered, counts: Counts) -> Result<(), Fault>
         requires { counts_at self.old key ≡ None }
         ensures ok { OnOk result (Adds (flows_of self.old) (flows_of self.new) key counts None) }
-        ensures err { IfErr result (λ e. (e ≡ fault_at 900 places.None) × (self.new ≡ self.old)) }
+        ensures err { IfErr result (λ e. IsMemory e × (self.new ≡ self.old)) }
     {
         self.order.insert(key.copy())?;
         match self.flows.insert(key, counts) {
@@ -71,7 +70,7 @@ impl FlowStore for ListStore {
     fn add(&mut self, key: Key, counts: Counts) -> Result<Option<(Key, Counts)>, Fault>
         ensures ok { IfOk result (λ left. Adds (flows_of self.old) (flows_of self.new) key counts
             left) }
-        ensures err { IfErr result (λ e. (e ≡ fault_at 900 places.None)
+        ensures err { IfErr result (λ e. IsMemory e
             × (flows_of self.new ≡ flows_of self.old)) }
         ensures held { IsSome (map.get (flows_of self.old) key) → IsOk result }
         ensures stays { IfOk result (λ left. left ≡ None) }

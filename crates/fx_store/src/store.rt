@@ -1,8 +1,7 @@
 //! What a store of flows does.
 ghost use Rattle.std.specs.Prelude.{◌≡◌, IfOk, IfErr, IsOk, IsSome};
 ghost use Rattle.std.specs.FinMap as map;
-ghost use Rattle.fx_base.specs.Fault.{fault_at};
-ghost use Rattle.fx_base.specs.declared.fault.Place.TheVariants as places;
+ghost use Rattle.fx_base.specs.Fault.{IsMemory};
 ghost use Rattle.fx_store.specs.Flows.{Flows, Adds, least, without};
 
 use fx_base::{Counts, Fault};
@@ -24,7 +23,7 @@ pub trait FlowStore: Drop {
     /// as before then.
     fn add(&mut self, key: Key, counts: Counts) -> Result<Option<(Key, Counts)>, Fault>
         ensures ok { IfOk result (λ left. Adds (flows self.old) (flows self.new) key counts left) }
-        ensures err { IfErr result (λ e. (e ≡ fault_at 900 places.None)
+        ensures err { IfErr result (λ e. IsMemory e
             × (flows self.new ≡ flows self.old)) }
         ensures held { IsSome (map.get (flows self.old) key) → IsOk result };
 

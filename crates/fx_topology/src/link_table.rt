@@ -1,8 +1,7 @@
 //! Links that are found by where they lead from.
 ghost use Rattle.std.specs.Prelude.{◌≡◌, ◌∷◌, ◌++◌, [], IfErr, IfOk, OnOk, if◌then◌else◌, not};
 ghost use Rattle.std.specs.List.{position};
-ghost use Rattle.fx_base.specs.Fault.{fault_at};
-ghost use Rattle.fx_base.specs.declared.fault.Place.TheVariants as places;
+ghost use Rattle.fx_base.specs.Fault.{IsMemory};
 ghost use Rattle.fx_topology.specs.Links.{leads_from, starts_there};
 ghost use Rattle.fx_topology.specs.Starts.{IsStartAt};
 
@@ -100,7 +99,7 @@ impl LinkTable {
     /// Fails with 900, at no place, for want of memory.
     pub(crate) fn add(&mut self, link: NamedLink) -> Result<bool, Fault>
         ensures answer { IfOk result (λ new. new ≡ not (starts_there self.old link)) }
-        ensures err { IfErr result (λ e. e ≡ fault_at 900 places.None) }
+        ensures err { IfErr result IsMemory }
         ensures links { OnOk result (self.new
             ≡ (if starts_there self.old link then self.old else self.old ++ link ∷ [])) }
     {

@@ -1,7 +1,6 @@
 //! The paths of all classes, each of which needs a tree.
 ghost use Rattle.std.specs.Prelude.{◌≡◌, ◌++◌, IfErr, IfOk, OnOk};
-ghost use Rattle.fx_base.specs.Fault.{fault_at};
-ghost use Rattle.fx_base.specs.declared.fault.Place.TheVariants as places;
+ghost use Rattle.fx_base.specs.Fault.{IsMemory};
 ghost use Rattle.fx_traffic.specs.Targets as of_targets;
 
 use crate::traffic::Traffic;
@@ -88,7 +87,7 @@ impl Traffic {
     pub fn targets(&self, alloc: Global) -> Result<Vec<Target<'_>>, Fault>
         ensures items { IfOk result (λ ts. ts.items ≡ of_targets.targets_of self.now) }
         ensures regions { IfOk result (λ ts. of_targets.AreRegions ts.items) }
-        ensures err { IfErr result (λ e. e ≡ fault_at 900 places.None) }
+        ensures err { IfErr result IsMemory }
     {
         let targets = targets_of(alloc, self.classes().as_slice())?;
         Ok(targets)

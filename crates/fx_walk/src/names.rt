@@ -1,7 +1,6 @@
 //! Names that are looked up at once.
 ghost use Rattle.std.specs.Prelude.{◌≡◌, ◌∷◌, ◌++◌, [], List, ℕ, not, if◌then◌else◌, OnOk, OnErr, IfOk, IfErr};
-ghost use Rattle.fx_base.specs.Fault.{fault_at};
-ghost use Rattle.fx_base.specs.declared.fault.Place.TheVariants as places;
+ghost use Rattle.fx_base.specs.Fault.{IsMemory};
 ghost use Rattle.fx_walk.specs.Lists.{is_among, place_in};
 
 use fx_base::{Fault, Name};
@@ -54,7 +53,7 @@ impl Names {
     /// Fails with 900, at no place, for want of memory.
     pub fn add(&mut self, name: &Name) -> Result<bool, Fault>
         ensures answer { IfOk result (λ new. new ≡ not (is_among self.old name.now)) }
-        ensures err { IfErr result (λ e. e ≡ fault_at 900 places.None) }
+        ensures err { IfErr result IsMemory }
         ensures names { OnOk result (self.new
             ≡ (if is_among self.old name.now then self.old else self.old ++ name.now ∷ [])) }
         ensures same { OnErr result (self.new ≡ self.old) }
