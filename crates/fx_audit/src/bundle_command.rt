@@ -25,6 +25,7 @@ use std::alloc::Global;
 fn never_fails(lines: &LineReader<Octets<'_>>)
     ensures { lines.now.failed ≡ false }
 {
+    // For the prover alone: what the type of the source keeps.
     let _text = lines.get_ref();
 }
 

@@ -107,6 +107,7 @@ pub fn replay<S: Sink>(
     let (packets, steps) = run.into_parts();
     let mut state = State::open(alloc, net, classes, packets)?;
     make_steps(&mut state, steps.as_slice())?;
+    // For the prover alone: the report's layout fits its axes.
     let _layout = net.report_layout();
     put_state(alloc, seed, &state, sink)?;
     Ok(Answer::Yes)

@@ -17,7 +17,8 @@ pub(crate) fn read_next<R: Source>(
     requires { calls.old ≤ call_limit }
     ensures count { IfOk result (λ n. n ≤ length buffer.old) }
     ensures octets { IfOk result (λ n.
-        ReadsInto (R.left source.old) (R.left source.new) (length buffer.old) (take n buffer.new) n) }
+        ReadsInto (R.left source.old) (R.left source.new) (length buffer.old) (take n buffer.new)
+        n) }
     ensures counted { OnOk result (calls.new ≡ calls.old + 1) }
     ensures calls { (calls.old ≤ calls.new) × (calls.new ≤ call_limit)
         × (calls.new ≤ calls.old + 1) }

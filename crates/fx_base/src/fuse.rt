@@ -72,7 +72,8 @@ impl<D: Source> Source for Fuse<D> {
     fn read(&mut self, buffer: &mut [u8]) -> Result<usize, Fault>
         ensures count { IfOk result (λ n. n ≤ length buffer.old) }
         ensures ok { OnOk result (self.new.failed ≡ false) }
-        ensures octets { IfOk result (λ n. ReadsInto (D.left self.old.device) (D.left self.new.device)
+        ensures octets { IfOk result (λ n. ReadsInto (D.left self.old.device)
+            (D.left self.new.device)
             (length buffer.old) (take n buffer.new) n) }
         ensures err { IfErr result (λ e. (e ≡ fault_at 901 places.None) × (self.new.failed ≡ true)
             × (D.left self.new.device ≡ D.left self.old.device)) }

@@ -28,7 +28,8 @@ pub trait Source: Drop {
     fn read(&mut self, buffer: &mut [u8]) -> Result<usize, Fault>
         ensures count { IfOk result (λ n. n ≤ length buffer.old) }
         ensures ok { OnOk result (failed self.new ≡ false) }
-        ensures octets { IfOk result (λ n. ReadsInto (left self.old) (left self.new) (length buffer.old)
+        ensures octets { IfOk result (λ n. ReadsInto (left self.old) (left self.new)
+            (length buffer.old)
             (take n buffer.new) n) }
         ensures err { IfErr result (λ e. (e ≡ fault_at 901 places.None) × (failed self.new ≡ true)
             × (left self.new ≡ left self.old)) }

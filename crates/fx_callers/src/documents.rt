@@ -2,7 +2,7 @@
 ghost use Rattle.fx_callers.specs.Sites.{site_faults, site_of};
 
 use fx_base::{Fault, Name};
-use fx_walk::{FromValue, DocumentPath, Sequence, items_member, object_of, required_member};
+use fx_walk::{DocumentPath, FromValue, Sequence, items_member, object_of, required_member};
 use serde_json::Value;
 use std::alloc::Global;
 

@@ -8,7 +8,7 @@ use fx_boxes::Region;
 use fx_layout::{Layout, Seed};
 use fx_plan::read_plan;
 use fx_traffic::read_traffic;
-use fx_walk::{FromValue, DocumentPath};
+use fx_walk::{DocumentPath, FromValue};
 use serde_json::Value;
 use std::alloc::Global;
 use std::test::Fail;

@@ -9,7 +9,7 @@ ghost use Rattle.fx_cert.specs.ItemReading.{axis_of, class_of, split_of, leaf_of
 use crate::item::{Item, Version};
 use crate::put::word;
 use fx_base::{Fault, Line};
-use fx_elements::{Axis, EVERY_AXIS, split_at_byte, is_word, read_number, read_u64, top};
+use fx_elements::{Axis, EVERY_AXIS, is_word, read_number, read_u64, split_at_byte, top};
 
 /// The axis with this word.
 fn read_axis(text: &[u8]) -> Option<Axis>

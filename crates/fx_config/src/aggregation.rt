@@ -7,7 +7,8 @@ use crate::property_match::PropertyMatch;
 use fx_base::{Fault, Name};
 use fx_layout::Layout;
 use fx_walk::{
-    Entry, Named, Names, DocumentPath, Sequence, entries_member, items_member, name_member, object_of,
+    DocumentPath, Entry, Named, Names, Sequence, entries_member, items_member, name_member,
+    object_of,
 };
 use serde_json::Value;
 use std::alloc::Global;

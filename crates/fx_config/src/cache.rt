@@ -11,8 +11,8 @@ use crate::limits::ENTRIES;
 use fx_base::{Fault, Name};
 use fx_layout::Layout;
 use fx_walk::{
-    Entry, Named, Names, DocumentPath, Sequence, Whole, entries_member, name_member, object_of, one_of,
-    optional_member,
+    DocumentPath, Entry, Named, Names, Sequence, Whole, entries_member, name_member, object_of,
+    one_of, optional_member,
 };
 use serde_json::Value;
 use std::alloc::Global;
@@ -97,7 +97,12 @@ fn settings_member(
 {
     match object.get(name) {
         Some(value) => {
-            let settings = read_settings(alloc, &DocumentPath::Member(path, name), value, immediate)?;
+            let settings = read_settings(
+                alloc,
+                &DocumentPath::Member(path, name),
+                value,
+                immediate,
+            )?;
             Ok(Some(settings))
         }
         None => Ok(None),

@@ -11,7 +11,7 @@ use crate::limits::FIELDS;
 use fx_base::{Fault, Name};
 use fx_elements::{Element, width};
 use fx_walk::{
-    Empty, Named, Names, DocumentPath, Sequence, Whole, items_in, name_member, object_of, one_of,
+    DocumentPath, Empty, Named, Names, Sequence, Whole, items_in, name_member, object_of, one_of,
     optional_member, refusal,
 };
 use serde_json::Value;
@@ -33,7 +33,12 @@ fn is_key(immediate: bool, element: Element, marked: bool) -> bool
 }
 
 /// Refuses a total counter (111) and a flow key by which packets can't be told apart (112).
-fn known_use(alloc: Global, path: &DocumentPath<'_>, element: Element, key: bool) -> Result<(), Fault>
+fn known_use(
+    alloc: Global,
+    path: &DocumentPath<'_>,
+    element: Element,
+    key: bool,
+) -> Result<(), Fault>
     ensures { Reads (element_faults element key (pointer path.now)) tt result }
 {
     match element {

@@ -93,7 +93,12 @@ pub fn layout_member(
         (cache_layout_of immediate (member_of (codes "cacheLayout") (view object.now))) result }
 {
     match object.get("cacheLayout") {
-        Some(value) => read_layout(alloc, &DocumentPath::Member(path, "cacheLayout"), value, immediate),
+        Some(value) => read_layout(
+            alloc,
+            &DocumentPath::Member(path, "cacheLayout"),
+            value,
+            immediate,
+        ),
         None => Err(refusal(alloc, 103, path)),
     }
 }

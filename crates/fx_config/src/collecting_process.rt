@@ -5,7 +5,8 @@ use crate::aggregation::Aggregation;
 use crate::limits::ENTRIES;
 use fx_base::{Fault, Name};
 use fx_walk::{
-    Entry, Named, Names, DocumentPath, Refused, Sequence, entries_member, name_member, none_of, object_of,
+    DocumentPath, Entry, Named, Names, Refused, Sequence, entries_member, name_member, none_of,
+    object_of,
 };
 use serde_json::Value;
 use std::alloc::Global;

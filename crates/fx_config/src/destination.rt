@@ -4,7 +4,9 @@ ghost use Rattle.serde_json.specs.View.{view};
 ghost use Rattle.fx_config.specs.Destinations.{destination_faults, destination_of, transport_of};
 
 use fx_base::{Fault, Name};
-use fx_walk::{Entry, Named, Names, DocumentPath, Refused, name_member, none_of, object_of, one_of};
+use fx_walk::{
+    DocumentPath, Entry, Named, Names, Refused, name_member, none_of, object_of, one_of,
+};
 use serde_json::Value;
 use std::alloc::Global;
 

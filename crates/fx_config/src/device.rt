@@ -7,7 +7,7 @@ ghost use Rattle.fx_config.specs.Devices.{device_faults, device_of};
 
 use crate::ipfix::{Device, Ipfix};
 use fx_base::Fault;
-use fx_walk::{FromValue, DocumentPath, document_of, required_member};
+use fx_walk::{DocumentPath, FromValue, document_of, required_member};
 use serde_json::Value;
 use std::alloc::Global;
 

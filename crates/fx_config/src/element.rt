@@ -6,7 +6,7 @@ ghost use Rattle.fx_elements.specs.Elements.{element_named};
 
 use fx_base::Fault;
 use fx_elements::{Element, by_id, by_name};
-use fx_walk::{FromValue, DocumentPath, Whole, refusal};
+use fx_walk::{DocumentPath, FromValue, Whole, refusal};
 use serde_json::Value;
 use std::alloc::Global;
 use std::marker::Model;
@@ -30,7 +30,11 @@ impl FromValue for NamedElement {
 
     ghost meaning = { λ d. element_named (text_of d) };
 
-    fn from_value(alloc: Global, path: &DocumentPath<'_>, value: &Value) -> Result<NamedElement, Fault> {
+    fn from_value(
+        alloc: Global,
+        path: &DocumentPath<'_>,
+        value: &Value,
+    ) -> Result<NamedElement, Fault> {
         match value.as_str() {
             Some(name) => Ok(NamedElement {
                 element: by_name(name),

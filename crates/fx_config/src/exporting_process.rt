@@ -6,7 +6,8 @@ use crate::destination::Destination;
 use crate::limits::ENTRIES;
 use fx_base::{Fault, Name};
 use fx_walk::{
-    Entry, Named, Names, DocumentPath, Sequence, Word, entries_member, name_member, object_of, word_member,
+    DocumentPath, Entry, Named, Names, Sequence, Word, entries_member, name_member, object_of,
+    word_member,
 };
 use serde_json::Value;
 use std::alloc::Global;
@@ -24,11 +25,11 @@ pub enum ExportMode {
 
 /// A mode by its name, which may have the prefix of the module, or parallel.
 impl Word for ExportMode {
-    ghost named = { export_mode_named };
+    ghost meaning_of = { export_mode_named };
 
-    ghost unsaid = { Parallel };
+    ghost meaning_unsaid = { Parallel };
 
-    fn named(text: &str) -> Option<ExportMode> {
+    fn meaning_of(text: &str) -> Option<ExportMode> {
         match text {
             "parallel" | "ietf-ipfix-psamp:parallel" => Some(ExportMode::Parallel),
             "loadBalancing" | "ietf-ipfix-psamp:loadBalancing" => Some(ExportMode::LoadBalancing),
@@ -37,7 +38,7 @@ impl Word for ExportMode {
         }
     }
 
-    fn unsaid() -> ExportMode {
+    fn meaning_unsaid() -> ExportMode {
         ExportMode::Parallel
     }
 }

@@ -12,7 +12,8 @@ use crate::observation_point::ObservationPoint;
 use crate::selection_process::SelectionProcess;
 use fx_base::Fault;
 use fx_walk::{
-    EntryNames, FromValue, DocumentPath, Sequence, entries_member, items_refer, named_member, object_of,
+    DocumentPath, EntryNames, FromValue, Sequence, entries_member, items_refer, named_member,
+    object_of,
 };
 use serde_json::Value;
 use std::alloc::Global;
@@ -45,7 +46,7 @@ fn refers(
     alloc: Global,
     path: &DocumentPath<'_>,
     device: &Device,
-    known: &KnownNames,
+    known: &Known,
 ) -> Result<(), Fault>
     ensures { let names = known.now in
         let faults = references_among names.selecting names.caches names.exporting in

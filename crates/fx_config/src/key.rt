@@ -11,7 +11,7 @@ use crate::key_field::{KeyField, part_of};
 use crate::limits::FIELDS;
 use fx_base::Fault;
 use fx_layout::Layout;
-use fx_walk::{FromValue, DocumentPath, items_in, refusal};
+use fx_walk::{DocumentPath, FromValue, items_in, refusal};
 use serde_json::Value;
 use std::alloc::Global;
 

@@ -8,7 +8,7 @@ use crate::element::{ElementNumber, NamedElement, element_given};
 use fx_base::Fault;
 use fx_elements::{Axis, Element, width};
 use fx_layout::Part;
-use fx_walk::{FromValue, DocumentPath, Whole, object_of, one_of, optional_member, refusal};
+use fx_walk::{DocumentPath, FromValue, Whole, object_of, one_of, optional_member, refusal};
 use serde_json::Value;
 use std::alloc::Global;
 
@@ -82,7 +82,11 @@ impl FromValue for KeyField {
 
     ghost meaning = { key_field_of };
 
-    fn from_value(alloc: Global, path: &DocumentPath<'_>, value: &Value) -> Result<KeyField, Fault> {
+    fn from_value(
+        alloc: Global,
+        path: &DocumentPath<'_>,
+        value: &Value,
+    ) -> Result<KeyField, Fault> {
         object_of(alloc, path, value, &["ieName", "ieId", "prefixLength"])?;
         one_of(alloc, path, value, &["ieName", "ieId"])?;
         let named = optional_member::<NamedElement>(alloc, path, value, "ieName")?;

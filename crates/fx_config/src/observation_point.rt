@@ -5,8 +5,8 @@ ghost use Rattle.fx_config.specs.declared.observation_point.Direction.TheVariant
 use crate::limits::ENTRIES;
 use fx_base::{Fault, Name};
 use fx_walk::{
-    Entry, Named, Names, DocumentPath, Sequence, Whole, Word, entries_member, name_member, object_of,
-    required_member, word_member,
+    DocumentPath, Entry, Named, Names, Sequence, Whole, Word, entries_member, name_member,
+    object_of, required_member, word_member,
 };
 use serde_json::Value;
 use std::alloc::Global;
@@ -24,11 +24,11 @@ pub enum Direction {
 
 /// A direction by its name, or both.
 impl Word for Direction {
-    ghost named = { direction_named };
+    ghost meaning_of = { direction_named };
 
-    ghost unsaid = { Both };
+    ghost meaning_unsaid = { Both };
 
-    fn named(text: &str) -> Option<Direction> {
+    fn meaning_of(text: &str) -> Option<Direction> {
         match text {
             "ingress" => Some(Direction::Ingress),
             "egress" => Some(Direction::Egress),
@@ -37,7 +37,7 @@ impl Word for Direction {
         }
     }
 
-    fn unsaid() -> Direction {
+    fn meaning_unsaid() -> Direction {
         Direction::Both
     }
 }

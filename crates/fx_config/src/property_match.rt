@@ -8,7 +8,7 @@ use crate::element::{ElementNumber, Enterprise, NamedElement, element_given};
 use fx_base::Fault;
 use fx_elements::{Axis, Element, Range, read_value};
 use fx_walk::{
-    FromValue, DocumentPath, Text, object_of, one_of, optional_member, refusal, required_member,
+    DocumentPath, FromValue, Text, object_of, one_of, optional_member, refusal, required_member,
 };
 use serde_json::Value;
 use std::alloc::Global;
@@ -63,7 +63,11 @@ impl FromValue for PropertyMatch {
 
     ghost meaning = { property_match_of };
 
-    fn from_value(alloc: Global, path: &DocumentPath<'_>, value: &Value) -> Result<PropertyMatch, Fault> {
+    fn from_value(
+        alloc: Global,
+        path: &DocumentPath<'_>,
+        value: &Value,
+    ) -> Result<PropertyMatch, Fault> {
         object_of(
             alloc,
             path,

@@ -9,14 +9,19 @@ use crate::collecting_process::CollectingProcess;
 use crate::observation_point::ObservationPoint;
 use crate::selection_process::SelectionProcess;
 use fx_base::{Fault, Name};
-use fx_walk::{Names, DocumentPath, Refers, Sequence, items_refer};
+use fx_walk::{DocumentPath, Names, Refers, Sequence, items_refer};
 use std::alloc::Global;
 
 /// A point names selection processes.
 impl Refers for ObservationPoint {
     ghost faults = { point_references };
 
-    fn refers(&self, alloc: Global, path: &DocumentPath<'_>, processes: &Names) -> Result<(), Fault> {
+    fn refers(
+        &self,
+        alloc: Global,
+        path: &DocumentPath<'_>,
+        processes: &Names,
+    ) -> Result<(), Fault> {
         let names = &self.selection_processes;
         items_refer(alloc, path, "selectionProcess", names, processes)
     }
@@ -50,7 +55,12 @@ fn exporting_refer(
 impl Refers for Cache {
     ghost faults = { cache_references };
 
-    fn refers(&self, alloc: Global, path: &DocumentPath<'_>, exporters: &Names) -> Result<(), Fault> {
+    fn refers(
+        &self,
+        alloc: Global,
+        path: &DocumentPath<'_>,
+        exporters: &Names,
+    ) -> Result<(), Fault> {
         exporting_refer(alloc, path, &self.exporting_processes, exporters)
     }
 }
@@ -59,7 +69,12 @@ impl Refers for Cache {
 impl Refers for Aggregation {
     ghost faults = { aggregation_references };
 
-    fn refers(&self, alloc: Global, path: &DocumentPath<'_>, exporters: &Names) -> Result<(), Fault> {
+    fn refers(
+        &self,
+        alloc: Global,
+        path: &DocumentPath<'_>,
+        exporters: &Names,
+    ) -> Result<(), Fault> {
         exporting_refer(alloc, path, &self.exporting_processes, exporters)
     }
 }
@@ -68,7 +83,12 @@ impl Refers for Aggregation {
 impl Refers for CollectingProcess {
     ghost faults = { collecting_references };
 
-    fn refers(&self, alloc: Global, path: &DocumentPath<'_>, exporters: &Names) -> Result<(), Fault> {
+    fn refers(
+        &self,
+        alloc: Global,
+        path: &DocumentPath<'_>,
+        exporters: &Names,
+    ) -> Result<(), Fault> {
         exporting_refer(alloc, path, &self.exporting_processes, exporters)?;
         let items = &self.aggregations;
         items_refer(alloc, path, "once-audit:aggregation", items, exporters)

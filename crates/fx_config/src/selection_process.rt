@@ -5,7 +5,8 @@ use crate::limits::SELECTORS;
 use crate::selector::Selector;
 use fx_base::{Fault, Name};
 use fx_walk::{
-    Entry, Named, Names, DocumentPath, Sequence, entries_member, name_member, object_of, optional_member,
+    DocumentPath, Entry, Named, Names, Sequence, entries_member, name_member, object_of,
+    optional_member,
 };
 use serde_json::Value;
 use std::alloc::Global;

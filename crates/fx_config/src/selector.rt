@@ -6,8 +6,8 @@ ghost use Rattle.fx_config.specs.Selectors.{all_faults, is_all, method_given, se
 use crate::property_match::PropertyMatch;
 use fx_base::{Fault, Name};
 use fx_walk::{
-    Entry, FromValue, Named, Names, DocumentPath, Refused, is_empty_type, name_member, none_of, object_of,
-    one_of, optional_member, refusal,
+    DocumentPath, Entry, FromValue, Named, Names, Refused, is_empty_type, name_member, none_of,
+    object_of, one_of, optional_member, refusal,
 };
 use serde_json::Value;
 use std::alloc::Global;
@@ -30,7 +30,11 @@ impl FromValue for SelectAll {
 
     ghost meaning = { λ _. record {} };
 
-    fn from_value(alloc: Global, path: &DocumentPath<'_>, value: &Value) -> Result<SelectAll, Fault> {
+    fn from_value(
+        alloc: Global,
+        path: &DocumentPath<'_>,
+        value: &Value,
+    ) -> Result<SelectAll, Fault> {
         if is_all(value) {
             Ok(SelectAll)
         } else {

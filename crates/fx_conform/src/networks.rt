@@ -11,6 +11,7 @@ fn have_layouts(holders: &[Holder])
     ensures { HaveLayouts holders.now }
 {
     for holder in holders {
+        // For the prover alone: what a layout keeps.
         let _parts = holder.layout().parts();
     }
 }
@@ -21,6 +22,7 @@ pub fn plans_are_sound(plan: &Plan)
     ensures { IsSound (net_of plan.now) }
 {
     let net = plan.net();
+    // For the prover alone: what a plan's order of ranks is.
     let _ranked = plan.upwards();
     have_layouts(net.holders());
 }

@@ -4,7 +4,7 @@ ghost use Rattle.fx_elements.specs.Groups.{groups};
 ghost use Rattle.fx_elements.specs.Address6.{any_hex_of, any_group_of, last_of, side_of, cut_at_zeros, address6_of, prefix6_of, IsUncompressed, IsCompressed, no_groups, side_with};
 
 use crate::groups::read_hex;
-use crate::spelling::{split_at_byte, read_number, read_quad};
+use crate::spelling::{read_number, read_quad, split_at_byte};
 
 /// The value of a hexadecimal digit of either case.
 #[tactic(auto, unfolding(crate::specs::Address6::any_hex_of, crate::specs::Groups::hex_of))]

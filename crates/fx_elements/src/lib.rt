@@ -15,6 +15,6 @@ pub use axis::{AXES, Axis, EVERY_AXIS, TOPS, top, width};
 pub use element::{Element, by_id, by_name};
 pub use groups::read_groups;
 pub use put::put_value;
-pub use spelling::{split_at_byte, one_spelling, read_number, read_prefix, read_quad, read_u64};
+pub use spelling::{one_spelling, read_number, read_prefix, read_quad, read_u64, split_at_byte};
 pub use values::{Range, read_on, read_value, read_written, values_fit};
 pub use words::{Words, is_word};

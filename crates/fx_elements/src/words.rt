@@ -5,7 +5,7 @@ ghost use Rattle.fx_elements.specs.Axes.{axis_index, tops};
 ghost use Rattle.fx_elements.specs.Words.{words, none_left, first_word, number_first, value_first};
 
 use crate::axis::Axis;
-use crate::spelling::{split_at_byte, read_u64};
+use crate::spelling::{read_u64, split_at_byte};
 use crate::values::read_written;
 use std::marker::Model;
 

@@ -55,7 +55,7 @@ pub(crate) fn bound_of_match(region: &Region, entries: &[MatchEntry]) -> Option<
     match match_part(region, entries) {
         None => None,
         Some(left) => {
-            // Only for what these say: both ends of what is left are in it.
+            // For the prover alone: both ends of what is left are in it.
             let _ends = (left.corner(), left.far_corner());
             bound(region, &left)
         }

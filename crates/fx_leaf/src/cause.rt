@@ -48,7 +48,7 @@ impl Verdicts<'_, '_> {
         }
     }
 
-    /// The same for one of these destinations.
+    /// The collecting process behind one of these destinations at which there is no verdict.
     fn cause_among_destinations(
         &self,
         number: usize,
@@ -71,7 +71,7 @@ impl Verdicts<'_, '_> {
         None
     }
 
-    /// The same for the exporting process at this place.
+    /// The collecting process behind the exporting process at this place at which there is no verdict.
     fn cause_at_exporter(&self, number: usize, place: usize) -> Option<usize>
         ensures some { let net = self.now.tables.now.net in
             let table = self.now.rows.now in
@@ -88,7 +88,7 @@ impl Verdicts<'_, '_> {
         }
     }
 
-    /// The same for one of the exporting processes at these places.
+    /// The collecting process behind one of the exporting processes at these places at which there is no verdict.
     fn cause_by_exporters(&self, number: usize, places: &[usize]) -> Option<usize>
         ensures some { let net = self.now.tables.now.net in
             let table = self.now.rows.now in
@@ -152,7 +152,7 @@ impl Verdicts<'_, '_> {
         }
     }
 
-    /// The same for one of these aggregations.
+    /// Why there is no verdict on what one of these aggregations takes in.
     fn cause_in_matches(&self, layout: &Layout, aggregations: &[AggregationEntry]) -> Option<Cause>
         requires { AllByRecursion HasEntries aggregations.now }
         ensures some { let t = self.now.tables.now in
@@ -195,7 +195,8 @@ impl Verdicts<'_, '_> {
         }
     }
 
-    /// The same for the collecting process at this place and the layout of this number.
+    /// Why there is no verdict on what the collecting process at this place does with records of the layout of this
+    /// number.
     pub(crate) fn cause_at(&self, process: usize, number: usize) -> Option<Cause>
         requires { by_table.AreTables self.now.tables.now }
         ensures some { let t = self.now.tables.now in

@@ -101,7 +101,7 @@ impl Verdicts<'_, '_> {
         verdict_of_both(forwarded, taken)
     }
 
-    /// The same for the collecting process at this place; never, where there is none.
+    /// The verdict on what the collecting process at this place does with such records; never, where there is none.
     fn handled_verdict_at(&self, number: usize, layout: &Layout, process: usize) -> Option<Fate>
         requires { by_table.AreTables self.now.tables.now }
         ensures { let t = self.now.tables.now in

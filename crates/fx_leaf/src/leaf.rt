@@ -97,7 +97,8 @@ fn path_verdict_in_room(
     reader.path(path)
 }
 
-/// The same in any room that is large enough.
+/// The verdict on the packets of a region that take a path, or a bound of what cuts it, in any room that is large
+/// enough.
 fn path_verdict_in_larger_room(
     rows: &mut Vec<VerdictRow>,
     marks: &mut Vec<u64>,
@@ -123,7 +124,7 @@ fn path_verdict_in_larger_room(
     )
 }
 
-/// The same in a scratch.
+/// The verdict on the packets of a region that take a path, or a bound of what cuts it, worked out in a scratch.
 pub(crate) fn path_verdict(
     scratch: &mut Scratch,
     tables: &Tables<'_>,

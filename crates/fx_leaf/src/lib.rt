@@ -23,6 +23,6 @@ pub use laws::{conservation, exactly_once, fates_along_ranks, verdicts_judge_reg
 pub use leaf::{Counted, fate, never};
 pub use regions::{Overlap, match_overlap, region_overlap, selection_overlap};
 pub use split::cut;
-pub use table::{LAYOUTS, Scratch};
+pub use table::Scratch;
 pub use tables::Tables;
 pub use verdict::{Fate, overlap_verdict, verdict_of_both, verdict_of_either};

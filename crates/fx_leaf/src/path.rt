@@ -106,7 +106,7 @@ impl PathReader<'_, '_> {
         }
     }
 
-    /// The same with the selection processes of a point, up to the first that cuts the region.
+    /// What is known with the selection processes of a point, up to the first that cuts the region.
     fn selections(
         &self,
         known: PathFate,
@@ -141,7 +141,7 @@ impl PathReader<'_, '_> {
         Ok(known)
     }
 
-    /// The same with a point, if it watches the crossing.
+    /// What is known with a point, if it watches the crossing.
     fn point(
         &self,
         known: PathFate,
@@ -174,7 +174,7 @@ impl PathReader<'_, '_> {
         }
     }
 
-    /// The same with these points of the crossing's device.
+    /// What is known with these points of the crossing's device.
     fn points(
         &self,
         known: PathFate,
@@ -206,7 +206,7 @@ impl PathReader<'_, '_> {
         Ok(known)
     }
 
-    /// The same with the points at a crossing of this number.
+    /// What is known with the points at a crossing of this number.
     fn crossing(
         &self,
         known: PathFate,
@@ -232,7 +232,7 @@ impl PathReader<'_, '_> {
         self.points(known, number, crossing, points)
     }
 
-    /// The same with the points along a path.
+    /// What is known with the points along a path.
     fn along(&self, known: PathFate, path: &[Crossing]) -> Result<PathFate, (Axis, u128)>
         requires tables { by_table.AreTables self.now.verdicts.tables.now }
         requires along { let t = self.now.verdicts.tables.now in

@@ -5,9 +5,8 @@ ghost use Rattle.fx_tables.specs.Network as network;
 ghost use Rattle.fx_leaf.specs.Reach as reach;
 ghost use Rattle.fx_leaf.specs.Tables as by_table;
 
-use crate::table::LAYOUTS;
 use crate::tables::Tables;
-use fx_tables::{AggregationEntry, Crossing, Net, Point, Process, Selection};
+use fx_tables::{AggregationEntry, Crossing, LAYOUTS, Net, Point, Process, Selection};
 
 /// These layouts too at the collecting process of this place, if there is one.
 fn mark_at(marks: &mut [u64], layouts: u64, process: usize)
@@ -18,7 +17,7 @@ fn mark_at(marks: &mut [u64], layouts: u64, process: usize)
     }
 }
 
-/// The same for the one to which a destination leads.
+/// These layouts too at the collecting process to which a destination leads, if there is one.
 fn mark_behind(marks: &mut [u64], net: &Net, layouts: u64, destination: Option<usize>)
     ensures { marks.new ≡ reach.marks_behind net.now layouts marks.old destination }
 {
@@ -30,7 +29,7 @@ fn mark_behind(marks: &mut [u64], net: &Net, layouts: u64, destination: Option<u
     }
 }
 
-/// The same for all of these destinations.
+/// These layouts too at the collecting processes to which these destinations lead.
 fn mark_to(marks: &mut [u64], net: &Net, layouts: u64, destinations: &[Option<usize>])
     ensures { marks.new ≡ reach.marks_to net.now layouts marks.old destinations.now }
 {
@@ -39,7 +38,7 @@ fn mark_to(marks: &mut [u64], net: &Net, layouts: u64, destinations: &[Option<us
     }
 }
 
-/// The same for the exporting process at this place.
+/// These layouts too where the exporting process at this place sends.
 fn mark_by_place(marks: &mut [u64], net: &Net, layouts: u64, place: usize)
     ensures { let exporters = network.before (slice_get net.now.exporters place) [] in
         marks.new ≡ reach.marks_by net.now layouts marks.old exporters }
@@ -49,7 +48,7 @@ fn mark_by_place(marks: &mut [u64], net: &Net, layouts: u64, place: usize)
     }
 }
 
-/// The same for the exporting processes at these places.
+/// These layouts too where the exporting processes at these places send.
 fn mark_by(marks: &mut [u64], net: &Net, layouts: u64, places: &[usize])
     ensures { let exporters = network.at_places net.now.exporters places.now in
         marks.new ≡ reach.marks_by net.now layouts marks.old exporters }
@@ -72,7 +71,7 @@ fn mark_by_holder(marks: &mut [u64], tables: &Tables<'_>, holder: usize)
     }
 }
 
-/// The same for the aggregations of a collecting process.
+/// The layouts of these aggregations, where their records are sent.
 fn mark_by_aggregations(marks: &mut [u64], tables: &Tables<'_>, aggregations: &[AggregationEntry])
     requires { by_table.AreTables tables.now }
     ensures { let t = tables.now in
@@ -102,7 +101,8 @@ pub(crate) fn marks_at(marks: &[u64], process: usize) -> u64
     marks[process]
 }
 
-/// The same for the layouts that are marked at the collecting process of this place.
+/// The layouts that are marked at the collecting process of this place, wherever it sends them on, and those of its
+/// aggregations.
 fn mark_from(marks: &mut [u64], tables: &Tables<'_>, process: usize)
     requires tables { by_table.AreTables tables.now }
     requires there { process < length marks.old }
@@ -145,7 +145,7 @@ fn mark_by_selections(marks: &mut [u64], tables: &Tables<'_>, selections: &[Sele
     }
 }
 
-/// The same for those of the points that watch the crossing.
+/// The layouts of the caches behind those of these points that watch the crossing, where their records are sent.
 fn mark_at_points(marks: &mut [u64], tables: &Tables<'_>, points: &[Point], crossing: &Crossing)
     requires { by_table.AreTables tables.now }
     ensures { let t = tables.now in
@@ -159,7 +159,7 @@ fn mark_at_points(marks: &mut [u64], tables: &Tables<'_>, points: &[Point], cros
     }
 }
 
-/// The same for all points along a path.
+/// The layouts of the caches behind all points along a path, where their records are sent.
 fn mark_along(marks: &mut [u64], tables: &Tables<'_>, path: &[Crossing])
     requires { by_table.AreTables tables.now }
     ensures { let t = tables.now in

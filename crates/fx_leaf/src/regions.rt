@@ -22,11 +22,11 @@ pub enum Overlap {
     Nothing,
 }
 
-/// No low of the region is above its high, as its type keeps. It does nothing: it is called so that the prover learns this.
+/// No low of the region is above its high, as its type keeps. It does nothing, and is called for the prover alone.
 pub(crate) fn bounds_hold(region: &Region)
     ensures { boxes.IsRegion region.now }
 {
-    // Only for what `far_corner` says of the region: its value isn't needed.
+    // For the prover alone: `far_corner` says it of the region.
     let _greatest = region.far_corner();
 }
 

@@ -5,11 +5,11 @@ ghost use Rattle.fx_leaf.specs.Reach as reach;
 ghost use Rattle.fx_leaf.specs.Tables as by_table;
 
 use crate::reach::{mark, marks_at};
-use crate::table::{VerdictRow, Verdicts};
+use crate::table::{Row, Verdicts};
 use crate::tables::Tables;
 use crate::verdict::Fate;
 use fx_boxes::Region;
-use fx_tables::Crossing;
+use fx_tables::{Crossing, LAYOUTS};
 
 /// Another entry for the collecting process at this place and the layout of this number.
 fn set_entry(rows: &mut [VerdictRow], process: usize, number: usize, verdict: Option<Fate>)

@@ -90,7 +90,7 @@ impl Verdicts<'_, '_> {
         }
     }
 
-    /// The same for the exporting process at a place of the network's table; never, where there is none.
+    /// The verdict on what the exporting process at a place of the network's table sends; never, where there is none.
     fn send_verdict_at(&self, layout: usize, place: usize) -> Option<Fate>
         ensures { let net = self.now.tables.now.net in
             let table = self.now.rows.now in

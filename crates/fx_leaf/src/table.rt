@@ -7,11 +7,9 @@ use crate::tables::Tables;
 use crate::verdict::Fate;
 use fx_base::Fault;
 use fx_boxes::Region;
+use fx_tables::LAYOUTS;
 use std::alloc::{AllocError, Global};
 use std::marker::Model;
-
-/// How many different layouts the records of a network may have: `layout_limit` of the definitions.
-pub const LAYOUTS: usize = 64;
 
 /// The verdicts on records that come to a collecting process, by the number of their layout.
 #[derive(Debug, Drop)]

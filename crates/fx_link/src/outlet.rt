@@ -87,7 +87,7 @@ impl Outlet {
             ≡ outgoing.with_one time (outgoing.with_octets self.old stream.old.octets.items) flow) }
         ensures err { IfErr result IsMemory }
     {
-        // What the types of layouts, keys and counts keep is told by these.
+        // For the prover alone: what the types of layouts, keys and counts keep.
         let _parts = flow.layout().parts();
         let _values = flow.key.values();
         let _packets = flow.counts.packets;

@@ -76,7 +76,7 @@ fn choose(
     Ok(1)
 }
 
-/// The same for the exporting process at a place of the table.
+/// The links of the exporting process at a place of the table come last, and the number of its choices is answered.
 fn choose_at(
     links: &mut Vec<usize>,
     exporters: &[Exporter],

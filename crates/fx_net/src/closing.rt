@@ -62,7 +62,7 @@ impl Contents {
         self.finish(links)
     }
 
-    /// The same for the holders at these places, one after another.
+    /// The holders at these places are emptied one after another, and what leaves each is put on the links.
     fn empty_all<L: Links>(
         &mut self,
         net: &Net,
@@ -80,7 +80,7 @@ impl Contents {
         Ok(())
     }
 
-    /// The same for the caches of these devices, in order.
+    /// The caches of these devices are emptied in order, and what leaves each is put on the links.
     fn empty_caches<L: Links>(
         &mut self,
         net: &Net,
@@ -99,7 +99,7 @@ impl Contents {
         Ok(())
     }
 
-    /// The same for these aggregations, in order.
+    /// These aggregations are emptied in order, and what leaves each is put on the links.
     fn empty_aggregations<L: Links>(
         &mut self,
         net: &Net,
@@ -137,7 +137,7 @@ impl Contents {
         self.finish(links)
     }
 
-    /// The same where the link leads to this collecting process.
+    /// The link at this place is carried whole, where it leads to this collecting process.
     fn carry_into<L: Links>(
         &mut self,
         alloc: Global,
@@ -196,7 +196,7 @@ impl Contents {
         Ok(())
     }
 
-    /// The same for these collecting processes, one after another.
+    /// These collecting processes are finished one after another: the links into each, and then its aggregations.
     fn finish_processes<L: Links>(
         &mut self,
         alloc: Global,

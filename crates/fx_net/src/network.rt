@@ -66,6 +66,7 @@ fn packet_of(frame: &Frame<'_>, class: u64, path: u64) -> Packet
     ensures frame { doings.IsFrame (running.packet_of (captures.seen_of frame.now) class path)
         (captures.seen_of frame.now) }
 {
+    // For the prover alone: each value stands within its axis.
     let _values = frame.fields.values();
     Packet {
         fields: frame.fields,
@@ -143,7 +144,8 @@ impl<'a> Network<'a> {
         met: &mut Vec<Occurrence>,
     ) -> Result<bool, Stop>
         ensures read { IfOk result (λ there. there ≡ true
-            → doings.ReadsFrame (net_of self.old.network) self.old.classes action.Next capture.now.seen
+            → doings.ReadsFrame (net_of self.old.network) self.old.classes action.Next
+            capture.now.seen
             self.old.contents self.new.contents) }
         ensures none { IfOk result (λ there. there ≡ false
             → running.IsOfNone self.old.classes capture.now.seen) }

@@ -53,7 +53,8 @@ impl<'a> Network<'a> {
     /// The next packet is read. It is of the first class that holds it, and takes that class's first path.
     fn read_next<R: Source>(&mut self, capture: &mut Capture<R>, line: u64) -> Result<(), Stop>
         ensures ok { OnOk result (captures.AtFrame capture.old capture.new
-            × doings.ReadsFrame (net_of self.old.network) self.old.classes action.Next capture.new.seen
+            × doings.ReadsFrame (net_of self.old.network) self.old.classes action.Next
+            capture.new.seen
             self.old.contents self.new.contents) }
         ensures rest { OnOk result (self.new ≡ record self.old { contents = self.new.contents }) }
         ensures err { IfErr result (λ s. (s ≡ stop.Bare 900)
@@ -79,7 +80,8 @@ impl<'a> Network<'a> {
         line: u64,
     ) -> Result<(), Stop>
         ensures ok { OnOk result (captures.AtFrame capture.old capture.new
-            × doings.ReadsFrame (net_of self.old.network) self.old.classes (action.NextOf class path)
+            × doings.ReadsFrame (net_of self.old.network) self.old.classes
+            (action.NextOf class path)
             capture.new.seen
             self.old.contents self.new.contents) }
         ensures rest { OnOk result (self.new ≡ record self.old { contents = self.new.contents }) }

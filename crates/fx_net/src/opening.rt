@@ -14,7 +14,7 @@ use fx_layout::Seed;
 use fx_link::Link;
 use fx_plan::Plan;
 use fx_tables::{Exporter, Holder, Net};
-use fx_topology::{NetworkDocument, NetworkDevice};
+use fx_topology::{NetworkDevice, NetworkDocument};
 use std::alloc::Global;
 
 /// The store of a cache, and none where it is immediate.

@@ -20,6 +20,7 @@ pub fn plans_have_complete_runs(plan: &Plan)
     ensures { (classes : List traffic.Class) (packets : List of_packet.Packet)
         → HasCompleteRun (tables.net_of plan.now) classes packets }
 {
+    // For the prover alone: a plan's network has ranks, and no record is stuck in it.
     let _net = plan.net();
     complete_runs_exist();
 }

@@ -7,10 +7,9 @@ ghost use Rattle.fx_tables.specs.Limits.{layout_limit};
 ghost use Rattle.fx_tables.specs.Network.{layout_of};
 ghost use Rattle.fx_plan.specs.Layouts as layouts;
 
-use crate::limits::LAYOUTS;
 use fx_base::Fault;
 use fx_layout::Layout;
-use fx_tables::{Holder, Net};
+use fx_tables::{Holder, LAYOUTS, Net};
 use std::alloc::Global;
 
 fn position_of(known: &[Layout], layout: &Layout) -> Option<usize>
@@ -47,6 +46,7 @@ fn number_in(known: &mut Vec<Layout>, layout: &Layout) -> Result<usize, Fault>
 fn fits(layout: &Layout)
     ensures { Fits layout.now }
 {
+    // For the prover alone: the parts of a layout fit their axes.
     let _parts = layout.parts();
 }
 

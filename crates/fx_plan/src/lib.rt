@@ -9,12 +9,11 @@ mod holders;
 mod labels;
 mod laws;
 mod layouts;
-mod limits;
 mod plan;
 mod points;
 mod processes;
 mod ranks;
 
-pub use fx_topology::{NamedLink, LinkTable, NetworkDocument, NetworkDevice, Report, read_network};
+pub use fx_topology::{LinkTable, NamedLink, NetworkDevice, NetworkDocument, Report, read_network};
 pub use laws::{documents_name_axes, plans_have_complete_runs};
 pub use plan::{Plan, read_plan};

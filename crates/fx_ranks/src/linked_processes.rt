@@ -51,7 +51,7 @@ fn linked_processes_of(
     Ok(flags)
 }
 
-/// The same of all exporting processes.
+/// For each exporting process, for each collecting process whether one of its destinations is linked to it.
 fn all_linked_processes(alloc: Global, net: &Net) -> Result<Vec<Vec<bool>>, AllocError>
     ensures { IfOk result (λ v. map (λ row. row.items) v.items
         ≡ map (feeding.linked_processes net.now) net.now.exporters) }

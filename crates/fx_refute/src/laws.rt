@@ -27,7 +27,8 @@ pub fn refutations_have_one_text()
     ensures read { (version : TextVersion) (r : Refutation) (n : ℕ)
         → IsRefutation version r → AreShort (refutation_lines version r)
         → refutation_in n (text_lines (refutation_text version r)) ≡ Ok r }
-    ensures only { (text : List ℕ) (r : Refutation) (n : ℕ) → refutation_in n (text_lines text) ≡ Ok r
+    ensures only { (text : List ℕ) (r : Refutation) (n : ℕ)
+        → refutation_in n (text_lines text) ≡ Ok r
         → (version : TextVersion) × (text ≡ refutation_text version r)
         × IsRefutation version r × AreShort (refutation_lines version r) }
 {

@@ -26,7 +26,8 @@ fn read_first<R: Source>(lines: &mut LineReader<R>) -> Result<TextVersion, Fault
     ensures on { OnOk result (GoesOnToLines lines.old lines.new) }
     ensures ok { IfOk result (λ version. Leads lines.old lines.new
         (refutation_in lines.old.number) (packet_behind version lines.new.number)) }
-    ensures err { IfErr result (λ e. Fails lines.old lines.new e ⊎ MayReadRefutation lines.old (Err e)) }
+    ensures err { IfErr result (λ e. Fails lines.old lines.new e
+        ⊎ MayReadRefutation lines.old (Err e)) }
 {
     if !lines.advance()? {
         return Err(Fault::at_line(501, lines.number().saturating_add(1)));
@@ -74,7 +75,8 @@ fn read_end<R: Source>(lines: &mut LineReader<R>) -> Result<(), Fault>
     ensures ok { OnOk result ((r : refutations.Refutation)
         → MayGive lines.old (end_of_lines lines.old.number r) (Ok r)) }
     ensures err { IfErr result (λ e. Fails lines.old lines.new e
-        ⊎ ((r : refutations.Refutation) → MayGive lines.old (end_of_lines lines.old.number r) (Err e))) }
+        ⊎ ((r : refutations.Refutation) → MayGive lines.old (end_of_lines lines.old.number r)
+        (Err e))) }
 {
     if lines.advance()? {
         return Err(Fault::at_line(501, lines.number()));

@@ -18,7 +18,8 @@ use fx_tables::{HolderName, Packet};
 
 /// Writes a number behind a space.
 fn put_spaced<S: Sink>(sink: &mut S, number: u64) -> Result<(), Fault>
-    ensures ok { OnOk result (Writes (S.taken sink.old) (S.taken sink.new) (spaced_words (decimal number
+    ensures ok { OnOk result (Writes (S.taken sink.old) (S.taken sink.new)
+        (spaced_words (decimal number
         ∷ []))) }
     ensures going { OnOk result (KeepsGoing (S.failed sink.old) (S.failed sink.new)) }
     ensures err { IfErr result (IsWriteFault (S.failed sink.new)) }
@@ -30,11 +31,13 @@ fn put_spaced<S: Sink>(sink: &mut S, number: u64) -> Result<(), Fault>
 /// Writes the value on an axis behind a space.
 #[tactic(auto, using(crate::proofs::RunPutting::field_fits))]
 fn put_field<S: Sink>(sink: &mut S, fields: &Fields, axis: Axis) -> Result<(), Fault>
-    ensures ok { OnOk result (Writes (S.taken sink.old) (S.taken sink.new) (spaced_words (value_text axis
+    ensures ok { OnOk result (Writes (S.taken sink.old) (S.taken sink.new)
+        (spaced_words (value_text axis
         (field fields.now axis) ∷ []))) }
     ensures going { OnOk result (KeepsGoing (S.failed sink.old) (S.failed sink.new)) }
     ensures err { IfErr result (IsWriteFault (S.failed sink.new)) }
 {
+    // For the prover alone: each value stands within its axis.
     let _values = fields.values();
     put_text(sink, b" ")?;
     put_value(sink, axis, width(axis), fields.get(axis))
@@ -81,7 +84,8 @@ fn put_choices<S: Sink>(sink: &mut S, choices: &[Option<u64>]) -> Result<(), Fau
 
 /// Writes the words of a cache, each behind a space.
 fn put_cache<S: Sink>(sink: &mut S, device: u64, cache: u64) -> Result<(), Fault>
-    ensures ok { OnOk result (Writes (S.taken sink.old) (S.taken sink.new) (spaced_words (holder_words
+    ensures ok { OnOk result (Writes (S.taken sink.old) (S.taken sink.new)
+        (spaced_words (holder_words
         (holders.Cache device cache)))) }
     ensures going { OnOk result (KeepsGoing (S.failed sink.old) (S.failed sink.new)) }
     ensures err { IfErr result (IsWriteFault (S.failed sink.new)) }

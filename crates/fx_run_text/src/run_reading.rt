@@ -129,6 +129,7 @@ pub fn run_texts()
         → run_in classes n (text_lines (run_text version run)) ≡ Ok run }
     ensures only { (classes : List Class) (text : List ℕ) (run : Run) (n : ℕ)
         → run_in classes n (text_lines text) ≡ Ok run
-        → (version : TextVersion) × (text ≡ run_text version run) × IsWritableRun version classes run
+        → (version : TextVersion) × (text ≡ run_text version run)
+        × IsWritableRun version classes run
         × AreShort (run_lines version run) }
 {}

@@ -46,6 +46,7 @@ impl<'a> Ahead<'a> {
         ensures region { IsRegion self.now.region }
         ensures size { length scratch.new ≡ length scratch.old }
     {
+        // For the prover alone: the bounds of a region hold.
         let _greatest = self.region.far_corner();
         let target = self.target;
         judge(scratch, tables, target.crossings, &self.region)
@@ -127,6 +128,7 @@ fn split_item(region: &Region, axis: Axis, at: u128) -> Item
     ensures is { result ≡ of_item.Split axis at }
     ensures writable { IsWritable result }
 {
+    // For the prover alone: the bounds of a region stand within their axes.
     let _greatest = region.far_corner();
     Item::Split { axis, at }
 }

@@ -205,6 +205,7 @@ pub fn search(alloc: Global, plan: &Plan, traffic: &Traffic, limit: u64) -> Resu
     ensures err { IfErr result (IsGivenUp (net_of plan.now) (targets_of traffic.now)
         (fronts.most_lines limit)) }
 {
+    // For the prover alone: no record is stuck in a plan's network.
     let _runnable = plan.net();
     let tables = tables_of(plan);
     let most = limit.min(LINES);

@@ -44,9 +44,11 @@ fn has_cache(processes: &[SelectionProcess], name: &Name) -> bool
 
 /// The place of the first of the names from a place on whose process has a cache.
 fn next_fed(processes: &[SelectionProcess], names: &[Name], from: usize) -> Option<usize>
-    ensures none { MatchOption result (numbers_with_cache processes.now (from + 1) (drop from names.now)
+    ensures none { MatchOption result (numbers_with_cache processes.now (from
+        + 1) (drop from names.now)
         ≡ []) (λ place. numbers_with_cache processes.now (from + 1) (drop from names.now)
-        ≡ (place + 1) ∷ numbers_with_cache processes.now (place + 1 + 1) (drop (place + 1) names.now)) }
+        ≡ (place + 1) ∷ numbers_with_cache processes.now (place + 1
+        + 1) (drop (place + 1) names.now)) }
     ensures bound { MatchOption result (Unit {0}) (λ place. place < length names.now) }
 {
     for place in from..names.len() {
@@ -74,7 +76,8 @@ impl<'a> Model for FedPairs<'a> {
 
     ghost Value = { List (ℕ × ℕ) };
 
-    ghost view = { λ s. feeds_left s.device.now.selection_processes s.interface.now s.inwards (s.point
+    ghost view = { λ s. feeds_left s.device.now.selection_processes s.interface.now s.inwards
+        (s.point
         + 1) s.process (drop s.point s.device.now.observation_points) };
 }
 

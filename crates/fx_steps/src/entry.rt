@@ -29,10 +29,12 @@ pub(crate) fn held(rows: &[Row], tables: &Tables<'_>, holder: usize) -> Costs
 
 /// Whether all of these entries can be read from a key and hold.
 fn entries_hold(key: &Key, entries: &[MatchEntry]) -> bool
-    ensures { result ≡ list_all (λ e. keys.reads key.now.layout e.axis e.bits && keys.bits_on key.now
+    ensures { result ≡ list_all (λ e. keys.reads key.now.layout e.axis e.bits
+        && keys.bits_on key.now
         e.axis e.bits == e.value) entries.now }
 {
-    entries.iter().all(|e| key.layout().reads(e.axis, e.bits) && key.bits_on(e.axis, e.bits) == e.value)
+    entries.iter().all(|e| key.layout().reads(e.axis, e.bits)
+        && key.bits_on(e.axis, e.bits) == e.value)
 }
 
 /// Whether an aggregation takes a key.

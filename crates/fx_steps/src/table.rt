@@ -7,7 +7,7 @@ ghost use Rattle.fx_steps.specs.CostTables as tabled;
 use crate::costs::Costs;
 use arrayvec::ArrayVec;
 use fx_base::Fault;
-use fx_leaf::LAYOUTS;
+use fx_tables::LAYOUTS;
 use std::alloc::{AllocError, Global};
 use std::marker::Model;
 

@@ -61,7 +61,7 @@ impl BoundedStore {
         ensures leaves { IfOk result (λ left. left ≡ pushed_out self.old key counts) }
         ensures err { IfErr result (λ e. IsMemory e × (self.new ≡ self.old)) }
     {
-        // Here and below: what `len` ensures, that keys are distinct and fit, the other calls don't.
+        // For the prover alone, here and below: `len` says that keys are distinct and fit, the other calls don't.
         let _held = self.recent.len();
         self.order.insert(key.copy())?;
         match self.recent.push(key, counts) {

@@ -89,11 +89,18 @@ fn holder_of(aggregations: &[AggregationEntry], number: u64) -> Option<usize>
 }
 
 /// The place of the holder of this name.
-fn place_of_holder(devices: &[DeviceEntry], processes: &[Process], name: HolderName) -> Option<usize>
+fn place_of_holder(
+    devices: &[DeviceEntry],
+    processes: &[Process],
+    name: HolderName,
+) -> Option<usize>
     ensures { result ≡ network.place_named devices.now processes.now name }
 {
     match name {
-        HolderName::Cache { device, cache } => entry_numbered(caches_of(devices, device), cache).copied(),
+        HolderName::Cache { device, cache } => entry_numbered(
+            caches_of(devices, device),
+            cache,
+        ).copied(),
         HolderName::Aggregation {
             device,
             process,

@@ -160,7 +160,9 @@ impl Net {
         Ok(found)
     }
 
-    /// The same, behind what the list has. Fails for want of memory alone; the list may have some of them then.
+    /// Adds to the list where a packet with these fields is metered at a crossing, as [`Net::occurrences`] answers
+    /// it.
+    /// Fails for want of memory alone; the list may have some of them then.
     pub fn push_occurrences(
         &self,
         found: &mut Vec<Occurrence>,

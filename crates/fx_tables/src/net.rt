@@ -118,6 +118,7 @@ impl Net {
         ensures value { result.now ≡ self.now.report_layout }
         ensures layout { IsLayout self.now.report_layout }
     {
+        // For the prover alone: what a layout keeps.
         let _parts = self.report_layout.parts();
         &self.report_layout
     }

@@ -9,7 +9,9 @@ use fx_boxes::Region;
 use fx_elements::Axis;
 use fx_layout::Layout;
 use fx_leaf::{Counted, Scratch, Tables, cut, fate};
-use fx_tables::{AggregationEntry, Crossing, DeviceEntry, Exporter, Holder, MatchEntry, Net, Process};
+use fx_tables::{
+    AggregationEntry, Crossing, DeviceEntry, Exporter, Holder, MatchEntry, Net, Process,
+};
 use std::alloc::Global;
 use std::test::Fail;
 

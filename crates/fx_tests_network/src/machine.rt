@@ -9,7 +9,8 @@ use fx_machine::{
 };
 use fx_run_text::{Choices, Step};
 use fx_tables::{
-    AggregationEntry, Class, Classes, DeviceEntry, HolderName, MatchEntry, Net, Packet, Path, Process,
+    AggregationEntry, Class, Classes, DeviceEntry, HolderName, MatchEntry, Net, Packet, Path,
+    Process,
 };
 use std::alloc::Global;
 use std::test::Fail;

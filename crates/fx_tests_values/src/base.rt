@@ -338,5 +338,8 @@ fn adds_counts(rt: HostRuntime) {
 #[test]
 fn finds_entries(rt: HostRuntime) {
     let entries = [7u8, 8];
-    assert!(rt; entry_numbered(&entries, 1) == entry_at(&entries, 0) && entry_numbered(&entries, 0).is_none());
+    assert!(rt;
+        entry_numbered(&entries, 1) == entry_at(&entries, 0)
+            && entry_numbered(&entries, 0).is_none()
+    );
 }

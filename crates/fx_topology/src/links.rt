@@ -30,7 +30,12 @@ fn ends_are_there(
 }
 
 /// Puts a link at the path behind these. Refuses it where one of them leads from the same destination (202).
-fn add_alone(alloc: Global, path: &DocumentPath<'_>, earlier: &mut LinkTable, link: NamedLink) -> Result<(), Fault>
+fn add_alone(
+    alloc: Global,
+    path: &DocumentPath<'_>,
+    earlier: &mut LinkTable,
+    link: NamedLink,
+) -> Result<(), Fault>
     ensures reads { Reads (fault_if (starts_there earlier.old link) 202 (pointer path.now)) tt
         result }
     ensures links { OnOk result (earlier.new ≡ earlier.old ++ link ∷ []) }

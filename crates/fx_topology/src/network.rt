@@ -11,7 +11,7 @@ use crate::network_device::NetworkDevice;
 use crate::process_count::processes_are_few;
 use crate::report::{Report, report_member};
 use fx_base::Fault;
-use fx_walk::{FromValue, DocumentPath, Sequence, object_of, required_entries};
+use fx_walk::{DocumentPath, FromValue, Sequence, object_of, required_entries};
 use serde_json::Value;
 use std::alloc::Global;
 
@@ -32,7 +32,11 @@ impl FromValue for NetworkDocument {
 
     ghost meaning = { network_of };
 
-    fn from_value(alloc: Global, path: &DocumentPath<'_>, value: &Value) -> Result<NetworkDocument, Fault> {
+    fn from_value(
+        alloc: Global,
+        path: &DocumentPath<'_>,
+        value: &Value,
+    ) -> Result<NetworkDocument, Fault> {
         object_of(alloc, path, value, &["devices", "links", "report"])?;
         let devices: Sequence<NetworkDevice> = required_entries(
             alloc, path, value, "devices", DEVICES,

@@ -3,7 +3,7 @@ ghost use Rattle.fx_topology.specs.NetworkDevices.{network_device_faults, networ
 
 use fx_base::{Fault, Name};
 use fx_config::Device;
-use fx_walk::{Entry, Named, Names, DocumentPath, name_member, object_of, required_member};
+use fx_walk::{DocumentPath, Entry, Named, Names, name_member, object_of, required_member};
 use serde_json::Value;
 use std::alloc::Global;
 

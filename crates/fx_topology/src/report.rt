@@ -12,7 +12,9 @@ use crate::network_device::NetworkDevice;
 use fx_base::{Fault, Name};
 use fx_config::KeyField;
 use fx_layout::Layout;
-use fx_walk::{DocumentPath, Sequence, object_of, refusal, refuse_if, required_items, required_member};
+use fx_walk::{
+    DocumentPath, Sequence, object_of, refusal, refuse_if, required_items, required_member,
+};
 use serde_json::Value;
 use std::alloc::Global;
 

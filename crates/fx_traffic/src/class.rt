@@ -10,14 +10,15 @@ ghost use Rattle.fx_traffic.specs.Regions.{region_faults, region_given};
 ghost use Rattle.fx_traffic.specs.Classes.{class_faults, exempt_faults, class_name, class_of, list_of_classes_faults, paths_faults};
 
 use crate::limits::CLASSES;
-use crate::list::items_in;
 use crate::path::read_paths;
 use crate::region::{read_region, whole};
-use crate::text::name_member;
 use fx_base::Fault;
 use fx_boxes::Region;
 use fx_tables::{Class, Path};
-use fx_walk::{Named, Names, DocumentPath, Sequence, is_empty_type, object_of, refusal};
+use fx_walk::{
+    DocumentPath, Named, Names, Sequence, is_empty_type, items_by, name_member_by, object_of,
+    refusal,
+};
 use serde_json::Value;
 use std::alloc::Global;
 
@@ -79,7 +80,7 @@ fn read_class<T: Named>(
     ensures names { OnOk result (earlier.new ≡ earlier.old ++ class_name (view value.now) ∷ []) }
 {
     object_of(alloc, path, value, &["name", "region", "paths", "exempt"])?;
-    name_member(alloc, path, value, earlier)?;
+    name_member_by(alloc, path, value, earlier, 302, 301)?;
     let region = region_member(alloc, path, value)?;
     let paths = paths_member(alloc, path, value, devices)?;
     let exempt = exempt_member(alloc, path, value)?;
@@ -119,6 +120,6 @@ pub fn read_list<T: Named>(
         (view value.now)) (map (class_of (map T.name devices.now)) (items_of (view value.now)))
         result }
 {
-    let items = items_in(alloc, path, value, 0, CLASSES)?;
+    let items = items_by(alloc, path, value, 0, CLASSES, 304, 305)?;
     classes_of(alloc, path, items, devices)
 }

@@ -11,7 +11,7 @@ use crate::list::FromValueAmong;
 use crate::text::read_name;
 use fx_base::{Fault, Name};
 use fx_tables::Crossing;
-use fx_walk::{Named, DocumentPath, object_of, place_of, refusal};
+use fx_walk::{DocumentPath, Named, object_of, place_of, refusal};
 use serde_json::Value;
 use std::alloc::Global;
 

@@ -5,25 +5,12 @@ ghost use Rattle.serde_json.specs.View.{view};
 ghost use Rattle.fx_walk.specs.Lists.{items_faults, items_of};
 ghost use Rattle.fx_walk.specs.Pointer.{pointer};
 ghost use Rattle.fx_walk.specs.Walk.{FoundFault, Reads};
-ghost use Rattle.fx_traffic.specs.Lists.{IsTrafficList, list_faults};
+ghost use Rattle.fx_traffic.specs.Lists.{list_faults};
 
 use fx_base::Fault;
-use fx_walk::{Named, DocumentPath, Sequence, items_by};
+use fx_walk::{DocumentPath, Named, Sequence, items_by};
 use serde_json::Value;
 use std::alloc::Global;
-
-/// The items of a list: 104 for another kind of value, 305 for more than `most`, 304 for fewer than `least`.
-pub fn items_in<'v>(
-    alloc: Global,
-    path: &DocumentPath<'_>,
-    value: &'v Value,
-    least: usize,
-    most: usize,
-) -> Result<&'v [Value], Fault>
-    ensures { IsTrafficList least most (pointer path.now) (view value.now) result }
-{
-    items_by(alloc, path, value, least, most, 304, 305)
-}
 
 /// What a value may be read as that names devices.
 pub trait FromValueAmong: Drop {
@@ -80,6 +67,6 @@ pub fn list_among<T: FromValueAmong, D: Named>(
         let meaning = map (T.meaning names) (items_of (view value.now)) in
         Reads (faults (pointer path.now) (view value.now)) meaning result }
 {
-    let items = items_in(alloc, path, value, least, most)?;
+    let items = items_by(alloc, path, value, least, most, 304, 305)?;
     values_among(alloc, path, items, devices)
 }

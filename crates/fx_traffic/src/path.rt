@@ -11,7 +11,7 @@ use crate::limits::{CROSSINGS, PATHS};
 use crate::list::{FromValueAmong, list_among};
 use fx_base::Fault;
 use fx_tables::{Crossing, Path};
-use fx_walk::{Named, DocumentPath, Sequence};
+use fx_walk::{DocumentPath, Named, Sequence};
 use serde_json::Value;
 use std::alloc::Global;
 

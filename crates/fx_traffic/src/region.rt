@@ -12,7 +12,8 @@ ghost use Rattle.fx_traffic.specs.Regions.{IsOn, all_on, axis_name, region_fault
 use fx_base::Fault;
 use fx_boxes::{Fields, Region};
 use fx_elements::{
-    AXES, Axis, EVERY_AXIS, Element, Range, TOPS, split_at_byte, read_on, read_value, top, values_fit, width,
+    AXES, Axis, EVERY_AXIS, Element, Range, TOPS, read_on, read_value, split_at_byte, top,
+    values_fit, width,
 };
 use fx_walk::{DocumentPath, object_of, refusal};
 use serde_json::Value;
@@ -80,7 +81,12 @@ fn all_on(axis: Axis) -> Range
 }
 
 /// Values on the axis: 104 for no text, 302 for a text that spells none.
-fn values_at(alloc: Global, path: &DocumentPath<'_>, value: &Value, axis: Axis) -> Result<Range, Fault>
+fn values_at(
+    alloc: Global,
+    path: &DocumentPath<'_>,
+    value: &Value,
+    axis: Axis,
+) -> Result<Range, Fault>
     ensures answer { Reads (values_faults axis (pointer path.now) (view value.now))
         (values_in axis (view value.now)) result }
     ensures bound { IfOk result (IsOn axis) }
@@ -116,7 +122,12 @@ fn axis_name(axis: Axis) -> &'static str
 }
 
 /// The values on the axis that an object's member gives; all where it isn't there.
-fn axis_member(alloc: Global, path: &DocumentPath<'_>, object: &Value, axis: Axis) -> Result<Range, Fault>
+fn axis_member(
+    alloc: Global,
+    path: &DocumentPath<'_>,
+    object: &Value,
+    axis: Axis,
+) -> Result<Range, Fault>
     ensures answer { Reads ((optional (axis_name axis) (values_faults axis)).faults
         (pointer path.now) (view object.now))
         (values_given axis (get (axis_name axis) (view object.now))) result }

@@ -53,6 +53,7 @@ fn add_paths<'a>(
         → of_targets.AreRegions targets.new.items) }
 {
     let region = class.region();
+    // For the prover alone: the bounds of a region hold.
     let _greatest = region.far_corner();
     let exempt = class.exempt();
     let paths = class.paths();

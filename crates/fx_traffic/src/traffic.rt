@@ -11,7 +11,7 @@ use crate::class::read_list;
 use fx_base::Fault;
 use fx_plan::Plan;
 use fx_tables::{Class, Classes};
-use fx_walk::{Named, DocumentPath, Sequence, object_of, refusal};
+use fx_walk::{DocumentPath, Named, Sequence, object_of, refusal};
 use serde_json::Value;
 use std::alloc::Global;
 use std::marker::Model;
@@ -52,7 +52,12 @@ fn classes_member<T: Named>(
         (items_of (member_of (codes "classes") (view object.now)))) result }
 {
     match object.get("classes") {
-        Some(value) => read_list(alloc, &DocumentPath::Member(path, "classes"), value, devices),
+        Some(value) => read_list(
+            alloc,
+            &DocumentPath::Member(path, "classes"),
+            value,
+            devices,
+        ),
         None => Err(refusal(alloc, 103, path)),
     }
 }

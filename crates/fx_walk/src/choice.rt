@@ -29,7 +29,12 @@ fn how_many_named(value: &Value, names: &[&str]) -> usize
 }
 
 /// Refuses an object with none of these members (103), or with several (105).
-pub fn one_of(alloc: Global, path: &DocumentPath<'_>, object: &Value, names: &[&str]) -> Result<(), Fault>
+pub fn one_of(
+    alloc: Global,
+    path: &DocumentPath<'_>,
+    object: &Value,
+    names: &[&str],
+) -> Result<(), Fault>
     ensures { Reads ((one_of (map (λ n. n.now) names.now)).faults (pointer path.now)
         (view object.now)) tt result }
 {

@@ -87,6 +87,33 @@ pub fn unique_name(
     unique_name_by(alloc, path, value, earlier, 105, 106)
 }
 
+/// An object's member `name`, which differs from those of earlier entries: 103 at the object where it isn't there, 104
+/// for no text, `wrong` for a text that is no name, `twice` for one of those.
+pub fn name_member_by(
+    alloc: Global,
+    path: &DocumentPath<'_>,
+    object: &Value,
+    earlier: &mut Names,
+    wrong: u16,
+    twice: u16,
+) -> Result<Name, Fault>
+    ensures reads { Reads ((required_row (codes "name")
+        (name_once_by wrong twice earlier.old)).faults
+        (pointer path.now) (view object.now)) (text_of (member_of (codes "name") (view object.now)))
+        result }
+    ensures names { OnOk result (earlier.new
+        ≡ earlier.old ++ text_of (member_of (codes "name") (view object.now)) ∷ []) }
+    ensures same { OnErr result (earlier.new ≡ earlier.old) }
+{
+    match object.get("name") {
+        Some(value) => {
+            let path = DocumentPath::Member(path, "name");
+            unique_name_by(alloc, &path, value, earlier, wrong, twice)
+        }
+        None => Err(refusal(alloc, 103, path)),
+    }
+}
+
 /// An entry's member `name`, which differs from those of earlier entries.
 pub fn name_member(
     alloc: Global,
@@ -101,10 +128,7 @@ pub fn name_member(
         ≡ earlier.old ++ text_of (member_of (codes "name") (view object.now)) ∷ []) }
     ensures same { OnErr result (earlier.new ≡ earlier.old) }
 {
-    match object.get("name") {
-        Some(value) => unique_name(alloc, &DocumentPath::Member(path, "name"), value, earlier),
-        None => Err(refusal(alloc, 103, path)),
-    }
+    name_member_by(alloc, path, object, earlier, 105, 106)
 }
 
 impl Named for Name {
@@ -227,7 +251,7 @@ pub fn named_member<T: Entry>(
     }
 }
 
-/// The same without the names.
+/// A member that is a list of entries as [`named_member`] reads it, without their names.
 pub fn entries_member<T: Entry>(
     alloc: Global,
     path: &DocumentPath<'_>,

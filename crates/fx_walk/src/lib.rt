@@ -22,8 +22,8 @@ mod word;
 
 pub use choice::{Refused, none_of, one_of};
 pub use entries::{
-    Entries, Entry, EntryNames, Named, entries_member, name_member, named_member, unique_name,
-    unique_name_by,
+    Entries, Entry, EntryNames, Named, entries_member, name_member, name_member_by, named_member,
+    unique_name, unique_name_by,
 };
 pub use list::{items_by, items_in, items_member};
 pub use member::{FromValue, optional_member, required_member};

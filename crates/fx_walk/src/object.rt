@@ -76,7 +76,7 @@ fn first_refused<'v>(
         || is_foreign(home, name.as_str())))
 }
 
-/// The same as [`object_of`], but members with the prefix of another module than this one are left unread
+/// An object as [`object_of`] reads it, but members with the prefix of another module than this one are left unread
 /// (RFC 7951, section 4).
 pub fn document_of(
     alloc: Global,

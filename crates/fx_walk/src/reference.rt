@@ -36,7 +36,7 @@ impl Refers for Name {
     }
 }
 
-/// The same for all items of the list at the path.
+/// Refuses the first name in an item of the list at the path that is none of these (107).
 fn each_refers<T: Refers>(
     alloc: Global,
     path: &DocumentPath<'_>,
@@ -53,7 +53,8 @@ fn each_refers<T: Refers>(
     Ok(())
 }
 
-/// The same for all items of the list that is the member `name` of the object at the path.
+/// Refuses the first name in an item of the list `name`, a member of the object at the path, that is none of these
+/// (107).
 pub fn items_refer<T: Refers>(
     alloc: Global,
     path: &DocumentPath<'_>,
@@ -64,7 +65,12 @@ pub fn items_refer<T: Refers>(
     ensures { let faults = member_references (T.faults known.now) in
         Reads (faults (pointer path.now) name.now items.now) tt result }
 {
-    each_refers(alloc, &DocumentPath::Member(path, name), items.as_slice(), known)
+    each_refers(
+        alloc,
+        &DocumentPath::Member(path, name),
+        items.as_slice(),
+        known,
+    )
 }
 
 /// Whether an entry has the name.

@@ -7,7 +7,12 @@ use fx_base::Fault;
 use std::alloc::Global;
 
 /// Refuses with this number at the path where something fails.
-pub fn refuse_if(alloc: Global, path: &DocumentPath<'_>, number: u16, fails: bool) -> Result<(), Fault>
+pub fn refuse_if(
+    alloc: Global,
+    path: &DocumentPath<'_>,
+    number: u16,
+    fails: bool,
+) -> Result<(), Fault>
     ensures { Reads (fault_if fails number (pointer path.now)) tt result }
 {
     if fails {

@@ -33,7 +33,7 @@ pub fn required_items<T: FromValue>(
     }
 }
 
-/// The same for a list of entries whose names differ.
+/// A member that is a list of at most `most` entries whose names differ: 103 at the object where it isn't there.
 pub fn required_entries<T: Entry>(
     alloc: Global,
     path: &DocumentPath<'_>,

@@ -16,7 +16,12 @@ use std::alloc::Global;
 use std::marker::Model;
 
 /// A name: 104 for no text, and this number for a text that is no name.
-pub fn read_name(alloc: Global, path: &DocumentPath<'_>, value: &Value, wrong: u16) -> Result<Name, Fault>
+pub fn read_name(
+    alloc: Global,
+    path: &DocumentPath<'_>,
+    value: &Value,
+    wrong: u16,
+) -> Result<Name, Fault>
     ensures { Reads (text_that wrong is_name (pointer path.now) (view value.now))
         (text_of (view value.now)) result }
 {

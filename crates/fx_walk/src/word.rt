@@ -14,29 +14,29 @@ use std::alloc::Global;
 /// What is written as one of a few words.
 pub trait Word: Drop {
     /// What a text stands for.
-    ghost named: { List ℕ → Option Self };
+    ghost meaning_of: { List ℕ → Option Self };
 
     /// What is meant where no word is given.
-    ghost unsaid: { Self };
+    ghost meaning_unsaid: { Self };
 
     /// What the text stands for.
-    fn named(text: &str) -> Option<Self>
-        ensures { result ≡ named text.now };
+    fn meaning_of(text: &str) -> Option<Self>
+        ensures { result ≡ meaning_of text.now };
 
     /// What is meant where no word is given.
-    fn unsaid() -> Self
-        ensures { result ≡ unsaid };
+    fn meaning_unsaid() -> Self
+        ensures { result ≡ meaning_unsaid };
 }
 
 /// What a word stands for: 104 for no text, 105 for another text.
 fn read_word<T: Word>(alloc: Global, path: &DocumentPath<'_>, value: &Value) -> Result<T, Fault>
-    ensures { let meaning = meaning_of_word T.named T.unsaid (view value.now) in
-        Reads (word_faults T.named (pointer path.now) (view value.now)) meaning result }
+    ensures { let meaning = meaning_of_word T.meaning_of T.meaning_unsaid (view value.now) in
+        Reads (word_faults T.meaning_of (pointer path.now) (view value.now)) meaning result }
 {
     let Some(text) = value.as_str() else {
         return Err(refusal(alloc, 104, path));
     };
-    match T::named(text) {
+    match T::meaning_of(text) {
         Some(meaning) => Ok(meaning),
         None => Err(refusal(alloc, 105, path)),
     }
@@ -49,12 +49,12 @@ pub fn word_member<T: Word>(
     object: &Value,
     name: &str,
 ) -> Result<T, Fault>
-    ensures { let faults = (optional name.now (word_faults T.named)).faults in
-        let meaning = word_given T.named T.unsaid (get name.now (view object.now)) in
+    ensures { let faults = (optional name.now (word_faults T.meaning_of)).faults in
+        let meaning = word_given T.meaning_of T.meaning_unsaid (get name.now (view object.now)) in
         Reads (faults (pointer path.now) (view object.now)) meaning result }
 {
     match object.get(name) {
         Some(value) => read_word(alloc, &DocumentPath::Member(path, name), value),
-        None => Ok(T::unsaid()),
+        None => Ok(T::meaning_unsaid()),
     }
 }
