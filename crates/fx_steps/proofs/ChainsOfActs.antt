@@ -22,7 +22,7 @@ module _ (net : Net) where
   append (Chain.hold holder key xs f h k m is d c) ys g n e =
       let more : suc (k + (m + n)) ≡ suc (k + m) + n = omega arith in
       as_is _ _ _ _ _ (sym (both_assoc f h g)) more (Chain.hold holder key (xs ++ ys) f (both h g) k (m + n) is d (append c ys g n e))
-  append (Chain.sent key xs f m d) ys g n e = Chain.sent key (xs ++ ys) (both f g) (m + n) (append d ys g n e)
+  append (Chain.send_end key xs f m d) ys g n e = Chain.send_end key (xs ++ ys) (both f g) (m + n) (append d ys g n e)
   append (Chain.send_out ds key xs f m d) ys g n e = Chain.send_out ds key (xs ++ ys) (both f g) (m + n) (append d ys g n e)
   append (Chain.send_on link ds key xs f h k m lt d c) ys g n e =
       let more : suc (k + (m + n)) ≡ suc (k + m) + n = omega arith in
@@ -50,7 +50,7 @@ module _ (net : Net) where
       as_is _ _ _ _ _ (both_never f) same (Chain.hold holder key [] f Never n 0 is (chained d) Chain.no_act)
   chained (Comes.to_all e key f n h d) = is_all e key f n h (chained d)
   chained (Comes.to_any e key number d f n h at c) = is_any e key f n h (Chain.choose e.destinations number d key [] f n at (chained c))
-  chained (Comes.no_destination key) = Chain.sent key [] Never 0 Chain.no_act
+  chained (Comes.no_destination key) = Chain.send_end key [] Never 0 Chain.no_act
   chained (Comes.to_outside key ds f n d) = Chain.send_out ds key [] f n (chained d)
   chained (Comes.to_link key link ds f g m n lt d e) =
       let same : suc (m + n) ≡ suc m + n = omega arith in

@@ -6,7 +6,7 @@ use Rattle.fx_leaf.specs.declared.verdict.Fate.TheVariants.{Never, Once, Many, D
 use Rattle.fx_leaf.specs.Fates.{both}
 use Rattle.fx_steps.specs.declared.costs.Costs.{Costs}
 use Rattle.fx_machine.specs.Limits.{step_limit}
-use Rattle.fx_steps.specs.Costs.{over, plus, least, cost_of, pairs, both_cost, both_costs, either, next, nothing, counted, lost, no_way, Tells}
+use Rattle.fx_steps.specs.Costs.{over_limit, limited_sum, least_number, cost_of, pairs, both_cost, both_costs, either_costs, one_step_more, costs_of_never, costs_of_once, costs_of_unassigned, costs_of_no_way, Tells}
 
 -- ---- least numbers
 
@@ -19,18 +19,18 @@ pub smaller : (a b : ℕ) → (min a b ≡ a) ⊎ (min a b ≡ b)
 smaller a b = grind arith
 
 module _ (v : Fate × Fate → ℕ) where
-  least_of : (g h : Fate) (ps : List (Fate × Fate)) → Among g h ps → least (map v ps) ≤ v (g, h)
+  least_of : (g h : Fate) (ps : List (Fate × Fate)) → Among g h ps → least_number (map v ps) ≤ v (g, h)
   least_of g h [] i = absurd i
   least_of g h (p ∷ ps) (inl (a, b)) =
       let same : v p ≡ v (g, h) = ap₂ (λ (x y : Fate). v (x, y)) a b in
       omega arith
   least_of g h (p ∷ ps) (inr i) = let k = least_of g h ps i in omega arith
 
-  pub least_at : (ps : List (Fate × Fate)) → least (map v ps) ≤ step_limit → (g : Fate) × (h : Fate) × Among g h ps × (v (g, h) ≡ least (map v ps))
+  pub least_at : (ps : List (Fate × Fate)) → least_number (map v ps) ≤ step_limit → (g : Fate) × (h : Fate) × Among g h ps × (v (g, h) ≡ least_number (map v ps))
   least_at [] le = absurd (omega arith)
   least_at (p ∷ ps) le =
-      elim (smaller (least (map v ps)) (v p)) [
-        | inl e ↦ let k = least_at ps (let d : least (map v ps) ≤ step_limit = omega arith in d) in (k.0, k.1, inr k.2, k.3 ∙ sym e)
+      elim (smaller (least_number (map v ps)) (v p)) [
+        | inl e ↦ let k = least_at ps (let d : least_number (map v ps) ≤ step_limit = omega arith in d) in (k.0, k.1, inr k.2, k.3 ∙ sym e)
         | inr e ↦ (p.0, p.1, inl (refl, refl), sym e)
       ]
 
@@ -83,14 +83,14 @@ cost_both a b Many = refl
 cost_both a b Unassigned = refl
 cost_both a b Differing = refl
 
-pub cost_either : (a b : Costs) (f : Fate) → cost_of (either a b) f ≡ min (cost_of a f) (cost_of b f)
+pub cost_either : (a b : Costs) (f : Fate) → cost_of (either_costs a b) f ≡ min (cost_of a f) (cost_of b f)
 cost_either a b Never = refl
 cost_either a b Once = refl
 cost_either a b Many = refl
 cost_either a b Unassigned = refl
 cost_either a b Differing = refl
 
-pub cost_next : (a : Costs) (f : Fate) → cost_of (next a) f ≡ plus 1 (cost_of a f)
+pub cost_next : (a : Costs) (f : Fate) → cost_of (one_step_more a) f ≡ limited_sum 1 (cost_of a f)
 cost_next a Never = refl
 cost_next a Once = refl
 cost_next a Many = refl
@@ -124,7 +124,7 @@ module _ (A B C : Fate → ℕ → Type 0) where
           let x = to f n c in
           let i = subst (λ (g : Fate). Among x.first x.second (pairs g)) (sym x.fate) (settled_pair x.first x.second (no_first x.first x.here x.one) (no_second x.second x.there x.other)) in
           let e = cost_both a b f in
-          let l : both_cost a b f ≤ plus (cost_of a x.first) (cost_of b x.second) = least_of (λ (p : Fate × Fate). plus (cost_of a p.0) (cost_of b p.1)) x.first x.second (pairs f) i in
+          let l : both_cost a b f ≤ limited_sum (cost_of a x.first) (cost_of b x.second) = least_of (λ (p : Fate × Fate). limited_sum (cost_of a p.0) (cost_of b p.1)) x.first x.second (pairs f) i in
           let s = x.steps in
           let p = ta.least x.first x.here x.one in
           let q = tb.least x.second x.there x.other in
@@ -133,8 +133,8 @@ module _ (A B C : Fate → ℕ → Type 0) where
       reached' : (f : Fate) → cost_of (both_costs a b) f ≤ step_limit → C f (cost_of (both_costs a b) f)
       reached' f le =
           let e = cost_both a b f in
-          let k = least_at (λ (p : Fate × Fate). plus (cost_of a p.0) (cost_of b p.1)) (pairs f) (let d : both_cost a b f ≤ step_limit = omega arith in d) in
-          let sum : plus (cost_of a k.0) (cost_of b k.1) ≡ both_cost a b f = k.3 in
+          let k = least_at (λ (p : Fate × Fate). limited_sum (cost_of a p.0) (cost_of b p.1)) (pairs f) (let d : both_cost a b f ≤ step_limit = omega arith in d) in
+          let sum : limited_sum (cost_of a k.0) (cost_of b k.1) ≡ both_cost a b f = k.3 in
           let one = ta.reached k.0 (let d : cost_of a k.0 ≤ step_limit = omega arith in d) in
           let other = tb.reached k.1 (let d : cost_of b k.1 ≤ step_limit = omega arith in d) in
           let n : cost_of a k.0 + cost_of b k.1 ≡ cost_of (both_costs a b) f = omega arith in
@@ -145,26 +145,26 @@ module _ (A B C : Fate → ℕ → Type 0) where
           let x = to Differing n c in
           subst (λ (g : Fate). Among x.first x.second (pairs g)) (sym x.fate) (settled_pair x.first x.second (no_first x.first x.here x.one) (no_second x.second x.there x.other))
 
-  pub either_tells : (a b : Costs) → Tells a A → Tells b B → ((f : Fate) (n : ℕ) → C f n → A f n ⊎ B f n) → ((f : Fate) (n : ℕ) → A f n → C f n) → ((f : Fate) (n : ℕ) → B f n → C f n) → Tells (either a b) C
+  pub either_tells : (a b : Costs) → Tells a A → Tells b B → ((f : Fate) (n : ℕ) → C f n → A f n ⊎ B f n) → ((f : Fate) (n : ℕ) → A f n → C f n) → ((f : Fate) (n : ℕ) → B f n → C f n) → Tells (either_costs a b) C
   either_tells a b ta tb to one other = record {
     least = λ f n c. let e = cost_either a b f in elim (to f n c) [
       | inl x ↦ let k = ta.least f n x in omega arith
       | inr x ↦ let k = tb.least f n x in omega arith
     ];
     reached = λ f le. let e = cost_either a b f in elim (smaller (cost_of a f) (cost_of b f)) [
-      | inl d ↦ let n : cost_of a f ≡ cost_of (either a b) f = omega arith in subst (λ (m : ℕ). C f m) n (one f (cost_of a f) (ta.reached f (let k : cost_of a f ≤ step_limit = omega arith in k)))
-      | inr d ↦ let n : cost_of b f ≡ cost_of (either a b) f = omega arith in subst (λ (m : ℕ). C f m) n (other f (cost_of b f) (tb.reached f (let k : cost_of b f ≤ step_limit = omega arith in k)))
+      | inl d ↦ let n : cost_of a f ≡ cost_of (either_costs a b) f = omega arith in subst (λ (m : ℕ). C f m) n (one f (cost_of a f) (ta.reached f (let k : cost_of a f ≤ step_limit = omega arith in k)))
+      | inr d ↦ let n : cost_of b f ≡ cost_of (either_costs a b) f = omega arith in subst (λ (m : ℕ). C f m) n (other f (cost_of b f) (tb.reached f (let k : cost_of b f ≤ step_limit = omega arith in k)))
     ];
     settled = λ n c. elim (to Differing n c) [ inl x ↦ ta.settled n x | inr x ↦ tb.settled n x ];
   }
 
 module _ (A C : Fate → ℕ → Type 0) where
-  pub next_tells : (a : Costs) → Tells a A → ((f : Fate) (n : ℕ) → C f n → (m : ℕ) × A f m × (n ≡ suc m)) → ((f : Fate) (n : ℕ) → A f n → C f (suc n)) → Tells (next a) C
+  pub next_tells : (a : Costs) → Tells a A → ((f : Fate) (n : ℕ) → C f n → (m : ℕ) × A f m × (n ≡ suc m)) → ((f : Fate) (n : ℕ) → A f n → C f (suc n)) → Tells (one_step_more a) C
   next_tells a ta to from = record {
     least = λ f n c. let x = to f n c in let e = cost_next a f in let k = ta.least f x.0 x.1 in let s = x.2 in omega arith;
     reached = λ f le.
         let e = cost_next a f in
-        let n : suc (cost_of a f) ≡ cost_of (next a) f = omega arith in
+        let n : suc (cost_of a f) ≡ cost_of (one_step_more a) f = omega arith in
         subst (λ (m : ℕ). C f m) n (from f (cost_of a f) (ta.reached f (let k : cost_of a f ≤ step_limit = omega arith in k)));
     settled = λ n c. let x = to Differing n c in ta.settled x.0 x.1;
   }
@@ -177,59 +177,59 @@ module _ (A C : Fate → ℕ → Type 0) where
   }
 
 module _ (C : Fate → ℕ → Type 0) where
-  too_many : (f : Fate) → over ≤ step_limit → C f over
+  too_many : (f : Fate) → over_limit ≤ step_limit → C f over_limit
   too_many f le = absurd (omega arith)
 
-  pub no_way_tells : ((f : Fate) (n : ℕ) → C f n → ⊥) → Tells no_way C
+  pub no_way_tells : ((f : Fate) (n : ℕ) → C f n → ⊥) → Tells costs_of_no_way C
   no_way_tells none = record {
     least = λ f n c. absurd (none f n c);
     reached = λ f le. absurd (none_within f le);
     settled = λ n c. none Differing n c;
   }
     where
-      none_within : (f : Fate) → cost_of no_way f ≤ step_limit → ⊥
+      none_within : (f : Fate) → cost_of costs_of_no_way f ≤ step_limit → ⊥
       none_within Never le = omega arith
       none_within Once le = omega arith
       none_within Many le = omega arith
       none_within Unassigned le = omega arith
       none_within Differing le = omega arith
 
-  pub nothing_tells : C Never 0 → ((f : Fate) (n : ℕ) → C f n → f ≡ Never) → Tells nothing C
-  nothing_tells here alone = record {
-    least = λ f n c. subst (λ (g : Fate). cost_of nothing g ≤ n) (sym (alone f n c)) (omega arith);
+  pub never_tells : C Never 0 → ((f : Fate) (n : ℕ) → C f n → f ≡ Never) → Tells costs_of_never C
+  never_tells here alone = record {
+    least = λ f n c. subst (λ (g : Fate). cost_of costs_of_never g ≤ n) (sym (alone f n c)) (omega arith);
     reached = only;
     settled = λ n c. let e : Differing ≡ Never = alone Differing n c in absurd (cc);
   }
     where
-      only : (f : Fate) → cost_of nothing f ≤ step_limit → C f (cost_of nothing f)
+      only : (f : Fate) → cost_of costs_of_never f ≤ step_limit → C f (cost_of costs_of_never f)
       only Never le = here
       only Once le = too_many Once le
       only Many le = too_many Many le
       only Unassigned le = too_many Unassigned le
       only Differing le = too_many Differing le
 
-  pub counted_tells : C Once 0 → ((f : Fate) (n : ℕ) → C f n → f ≡ Once) → Tells counted C
-  counted_tells here alone = record {
-    least = λ f n c. subst (λ (g : Fate). cost_of counted g ≤ n) (sym (alone f n c)) (omega arith);
+  pub once_tells : C Once 0 → ((f : Fate) (n : ℕ) → C f n → f ≡ Once) → Tells costs_of_once C
+  once_tells here alone = record {
+    least = λ f n c. subst (λ (g : Fate). cost_of costs_of_once g ≤ n) (sym (alone f n c)) (omega arith);
     reached = only;
     settled = λ n c. let e : Differing ≡ Once = alone Differing n c in absurd (cc);
   }
     where
-      only : (f : Fate) → cost_of counted f ≤ step_limit → C f (cost_of counted f)
+      only : (f : Fate) → cost_of costs_of_once f ≤ step_limit → C f (cost_of costs_of_once f)
       only Never le = too_many Never le
       only Once le = here
       only Many le = too_many Many le
       only Unassigned le = too_many Unassigned le
       only Differing le = too_many Differing le
 
-  pub lost_tells : C Unassigned 0 → ((f : Fate) (n : ℕ) → C f n → f ≡ Unassigned) → Tells lost C
-  lost_tells here alone = record {
-    least = λ f n c. subst (λ (g : Fate). cost_of lost g ≤ n) (sym (alone f n c)) (omega arith);
+  pub unassigned_tells : C Unassigned 0 → ((f : Fate) (n : ℕ) → C f n → f ≡ Unassigned) → Tells costs_of_unassigned C
+  unassigned_tells here alone = record {
+    least = λ f n c. subst (λ (g : Fate). cost_of costs_of_unassigned g ≤ n) (sym (alone f n c)) (omega arith);
     reached = only;
     settled = λ n c. let e : Differing ≡ Unassigned = alone Differing n c in absurd (cc);
   }
     where
-      only : (f : Fate) → cost_of lost f ≤ step_limit → C f (cost_of lost f)
+      only : (f : Fate) → cost_of costs_of_unassigned f ≤ step_limit → C f (cost_of costs_of_unassigned f)
       only Never le = too_many Never le
       only Once le = too_many Once le
       only Many le = too_many Many le

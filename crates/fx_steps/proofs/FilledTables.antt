@@ -16,8 +16,8 @@ use Rattle.fx_leaf.proofs.FateLaws.{Every}
 use Rattle.fx_leaf.proofs.Ranks.{every_of_all}
 use Rattle.fx_leaf.proofs.RowsGrow.{set_elsewhere, set_here}
 use Rattle.fx_steps.specs.declared.costs.Costs.{Costs}
-use Rattle.fx_steps.specs.Costs.{Tells, nothing}
-use Rattle.fx_steps.specs.CostTables.{CostTable, or_nothing, cost_in, cost_entry, cost_from, cost_row, cost_fill}
+use Rattle.fx_steps.specs.Costs.{Tells, costs_of_never}
+use Rattle.fx_steps.specs.CostTables.{CostTable, or_never, cost_in, cost_entry, cost_entry_from, cost_row, cost_fill}
 use Rattle.fx_tables.specs.Runnable.{IsHolder}
 use Rattle.fx_steps.specs.Ways.{acts}
 use Rattle.fx_steps.proofs.WholeNetworks.{IsWhole, HasLinks, HasHolders}
@@ -45,15 +45,15 @@ all_at_places P xs (place ∷ places) all = one_before P (slice_get xs place) (a
 
 -- ---- rows
 
-row_at : (table : CostTable) (net : Net) (n : Numbering) (fields : Fields) (process first : ℕ) (layouts : List Layout) (k : ℕ) (layout : Layout) → slice_get layouts k ≡ Some layout → slice_get (cost_row table net n fields process first layouts) k ≡ Some (cost_from table net n fields process (first + k) layout)
+row_at : (table : CostTable) (net : Net) (n : Numbering) (fields : Fields) (process first : ℕ) (layouts : List Layout) (k : ℕ) (layout : Layout) → slice_get layouts k ≡ Some layout → slice_get (cost_row table net n fields process first layouts) k ≡ Some (cost_entry_from table net n fields process (first + k) layout)
 row_at table net n fields process first [] k layout h = absurd (cc)
 row_at table net n fields process first (l ∷ ls) zero layout h =
     let same : l ≡ layout = cc in
     let e : first ≡ first + 0 = omega arith in
-    ap₂ (λ (i : ℕ) (x : Layout). Some (cost_from table net n fields process i x)) e same
+    ap₂ (λ (i : ℕ) (x : Layout). Some (cost_entry_from table net n fields process i x)) e same
 row_at table net n fields process first (l ∷ ls) (suc k) layout h =
     let e : suc first + k ≡ first + suc k = omega arith in
-    row_at table net n fields process (suc first) ls k layout h ∙ ap (λ i. Some (cost_from table net n fields process i layout)) e
+    row_at table net n fields process (suc first) ls k layout h ∙ ap (λ i. Some (cost_entry_from table net n fields process i layout)) e
 
 module _ (net : Net) (n : Numbering) (fields : Fields) (network : IsNetwork net) (numbers : Numbers net n) (whole : IsWhole net) (reports : net.report < length net.processes) where
   abbrev pub Told : CostTable → ℕ → Type 0
@@ -99,7 +99,7 @@ module _ (net : Net) (n : Numbering) (fields : Fields) (network : IsNetwork net)
   not_there table q size le number layout is fits =
       let none : slice_get table q ≡ None = slice_get_past table q (omega (arith, size, le)) in
       let key : Key = key_of layout fields in
-      subst (λ o. Tells (cost_in o number) (Of net (acts ((cond (q == net.report) (Tally key ∷ []) []) ++ acts_of net key (slice_get net.processes q))))) (sym none) (subst (λ b. Tells nothing (Of net (acts ((cond b (Tally key ∷ []) []) ++ acts_of net key (slice_get net.processes q))))) (sym (other_process q le)) (subst (λ o. Tells nothing (Of net (acts (acts_of net key o)))) (sym (slice_get_past net.processes q le)) (no_acts_tell net n fields network numbers table)))
+      subst (λ o. Tells (cost_in o number) (Of net (acts ((cond (q == net.report) (Tally key ∷ []) []) ++ acts_of net key (slice_get net.processes q))))) (sym none) (subst (λ b. Tells costs_of_never (Of net (acts ((cond b (Tally key ∷ []) []) ++ acts_of net key (slice_get net.processes q))))) (sym (other_process q le)) (subst (λ o. Tells costs_of_never (Of net (acts (acts_of net key o)))) (sym (slice_get_past net.processes q le)) (no_acts_tell net n fields network numbers table)))
 
   abbrev filled : CostTable → ℕ → CostTable
   filled table process = slice_set table process (cost_row table net n fields process 0 n.layouts)
@@ -110,7 +110,7 @@ module _ (net : Net) (n : Numbering) (fields : Fields) (network : IsNetwork net)
       let here : slice_get (filled table process) process ≡ Some row = set_here table process row (omega (arith, size, lt)) in
       let at = row_at table net n fields process 0 n.layouts number layout is in
       let first : 0 + number ≡ number = omega arith in
-      let e : cost_entry (filled table process) process number ≡ cost_from table net n fields process number layout = ap (λ o. cost_in o number) here ∙ ap or_nothing at ∙ ap (λ i. cost_from table net n fields process i layout) first in
+      let e : cost_entry (filled table process) process number ≡ cost_entry_from table net n fields process number layout = ap (λ o. cost_in o number) here ∙ ap or_never at ∙ ap (λ i. cost_entry_from table net n fields process i layout) first in
       subst (λ (c : Costs). Tells c (Of net (acts (coming_to net (key_of layout fields) process)))) (sym e) (entry_tells net n fields network numbers table number layout is fits process (good_process table process later))
 
   old_row : (table : CostTable) (process q : ℕ) → process ≢ q → Told table q → Told (filled table process) q

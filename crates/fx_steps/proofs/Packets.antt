@@ -1,12 +1,11 @@
 -- A complete run of one packet, from the way in which it comes to a fate.
-use Rattle.std.proofs.Common.{◌≡◌, ◌≢◌, ℕ, zero, suc, ◌+◌, ◌^◌, ◌<◌, ◌≤◌, Bool, true, false, not, cond, List, [], ◌∷◌, ◌++◌, map, length, length-append, append_assoc, append-nil, Some, None, Ok, refl, sym, ap, ap₂, ◌∙◌, arith, slice_get, eq-eqb}
+use Rattle.std.proofs.Common.{◌≡◌, ◌≢◌, ℕ, zero, suc, ◌+◌, ◌^◌, ◌<◌, ◌≤◌, Bool, true, false, not, cond, List, [], ◌∷◌, ◌++◌, length, length-append, append_assoc, append-nil, Some, None, Ok, refl, sym, ap, ap₂, ◌∙◌, arith, slice_get, eq-eqb}
 use Rattle.fx_base.specs.declared.counts.Counts.{Counts}
 use Rattle.fx_layout.specs.Keys.{Key, key_of}
 use Rattle.fx_tables.specs.declared.packet.Packet.{Packet}
 use Rattle.fx_run_text.specs.declared.step.Step.{Step}
 use Rattle.fx_run_text.specs.declared.step.Step.TheVariants.{Cross}
 use Rattle.fx_tables.specs.declared.traffic.Crossing.{Crossing}
-use Rattle.fx_tables.specs.declared.observation.Occurrence.{Occurrence}
 use Rattle.fx_tables.specs.Network.{Net}
 use Rattle.fx_base.specs.Entries.{entry_numbered}
 use Rattle.fx_tables.specs.Classes.{Class, path, exempts, to_count}
@@ -14,7 +13,7 @@ use Rattle.fx_machine.specs.Claim.{CountsEachOnce}
 use Rattle.fx_tables.specs.Occurrences.{occurrences}
 use Rattle.fx_machine.specs.States.{State, Coming, crossings_from, nothing_at, opening, all_empty}
 use Rattle.fx_machine.specs.Acts.{Choices, Outcome, all_acts}
-use Rattle.fx_machine.specs.Steps.{run, then_run, after, after_cross, later, place, crossing_acts, meet, one_packet}
+use Rattle.fx_machine.specs.Steps.{run, then_run, after, after_cross, later, place, crossing_acts, one_packet}
 use Rattle.fx_machine.specs.Sums.{total_at, one_more, plain_sum}
 use Rattle.fx_tables.specs.Ranks.{IsNetwork}
 use Rattle.fx_leaf.specs.declared.verdict.Fate.{Fate}
@@ -22,7 +21,7 @@ use Rattle.fx_leaf.specs.Fates.{both, wanted_fate}
 use Rattle.fx_leaf.specs.Laws.{IsSized}
 use Rattle.fx_machine.proofs.Lists.{length_nothing}
 use Rattle.fx_leaf.proofs.Totals.{same_key_refl}
-use Rattle.fx_steps.specs.Playing.{add_times, fate_of, RunOf}
+use Rattle.fx_steps.specs.Playing.{totals_with, fate_of, RunOf}
 use Rattle.fx_steps.specs.Ways.{PacketComes}
 use Rattle.fx_steps.specs.Ways.PacketComes.{no_crossing, cross}
 use Rattle.fx_steps.proofs.Places.{next_here}
@@ -107,10 +106,10 @@ module _ (net : Net) (classes : List Class) (p : Packet) (network : IsNetwork ne
   abbrev counts_of : Bool → List Packet
   counts_of exempt = cond (not exempt) (p ∷ []) []
 
-  tallied_once : (t : ℕ) → suc t < 2 ^ 64 → (c : Counts) × (total_at (add_times (suc t) own_key (one_packet p) []) own_key ≡ Some c) × (c.packets ≡ 1 + t)
+  tallied_once : (t : ℕ) → suc t < 2 ^ 64 → (c : Counts) × (total_at (totals_with (suc t) own_key (one_packet p) []) own_key ≡ Some c) × (c.packets ≡ 1 + t)
   tallied_once t few = let one = one_packet p in total_of_times t own_key one one refl (let e : 1 + t < 2 ^ 64 = omega arith in e)
 
-  not_counted : (exempt : Bool) (t u : ℕ) → t < 2 ^ 64 → fate_of t u ≢ wanted_fate exempt → (last : State) → last.totals ≡ add_times t own_key (one_packet p) [] → last.unassigned ≡ 0 + u → CountsEachOnce net (counts_of exempt) last → ⊥
+  not_counted : (exempt : Bool) (t u : ℕ) → t < 2 ^ 64 → fate_of t u ≢ wanted_fate exempt → (last : State) → last.totals ≡ totals_with t own_key (one_packet p) [] → last.unassigned ≡ 0 + u → CountsEachOnce net (counts_of exempt) last → ⊥
   not_counted exempt t (suc u) few wrong last totals lost counts = let k = counts.assigned in absurd (omega arith)
   not_counted false zero zero few wrong last totals lost counts =
       let none : total_at last.totals own_key ≡ None = ap (λ ts. total_at ts own_key) totals in
@@ -133,7 +132,7 @@ module _ (net : Net) (classes : List Class) (p : Packet) (network : IsNetwork ne
   -- where another fate was wanted, the packet isn't counted as it should be
   pub is_wrong : (t u : ℕ) → t < 2 ^ 64 → (s : State) → s.totals ≡ [] → s.unassigned ≡ 0 → fate_of t u ≢ wanted_fate (exempts (entry_numbered classes p.class)) → CountsEachOnce net (to_count classes (p ∷ [])) (counted t u s) → ⊥
   is_wrong t u few s totals lost wrong =
-      not_counted (exempts (entry_numbered classes p.class)) t u few wrong (counted t u s) (ap (add_times t own_key (one_packet p)) totals) (ap (λ n. n + u) lost)
+      not_counted (exempts (entry_numbered classes p.class)) t u few wrong (counted t u s) (ap (totals_with t own_key (one_packet p)) totals) (ap (λ n. n + u) lost)
 
   -- ---- the law
 

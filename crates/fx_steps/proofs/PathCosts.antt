@@ -15,12 +15,12 @@ use Rattle.fx_leaf.specs.declared.verdict.Fate.TheVariants.{Never}
 use Rattle.fx_leaf.specs.Fates.{both}
 use Rattle.fx_leaf.specs.Tables.{Numbering, Numbers, Tables, AreTables}
 use Rattle.fx_leaf.proofs.FateLaws.{Every, every_append}
-use Rattle.fx_steps.specs.Costs.{Tells, next}
-use Rattle.fx_steps.specs.CostTables.{CostTable, cost_fill, held_costs, met_costs, path_costs}
+use Rattle.fx_steps.specs.Costs.{Tells, one_step_more}
+use Rattle.fx_steps.specs.CostTables.{CostTable, cost_fill, holder_costs, occurrence_costs, path_costs}
 use Rattle.fx_tables.specs.Runnable.{IsHolder, IsRunnable}
 use Rattle.fx_steps.specs.Ways.{Comes, PacketComes, acts}
 use Rattle.fx_steps.proofs.WholeNetworks.{whole, IsWhole, HasLinks, HasCaches}
-use Rattle.fx_steps.proofs.CostsTell.{Both, both_tells, next_tells, nothing_tells}
+use Rattle.fx_steps.proofs.CostsTell.{Both, both_tells, next_tells, never_tells}
 use Rattle.fx_steps.proofs.HowWaysBegin.{Of, next_tells_acts}
 use Rattle.fx_steps.proofs.EntriesTell.{ToldAt, GoodTo, GoodBy, no_acts_tell, held_tells}
 use Rattle.fx_steps.proofs.FilledTables.{all_at, all_at_places, table_tells}
@@ -79,18 +79,18 @@ module _ (net : Net) (n : Numbering) (fields : Fields) (network : IsNetwork net)
 
   -- ---- costs
 
-  met_tell : (os : List Occurrence) → Every InCache os → Tells (met_costs table net n os) (Of net (acts (map (meet net fields) os)))
+  met_tell : (os : List Occurrence) → Every InCache os → Tells (occurrence_costs table net n os) (Of net (acts (map (meet net fields) os)))
   met_tell [] h = no_acts_tell net n fields network numbers table
   met_tell (o ∷ os) h =
-      next_tells_acts net (meet net fields o) (map (meet net fields) os) (held_costs table net n o.holder) (met_costs table net n os) (held_tells net n fields network numbers table o.holder (h.0, each_good (exporters_of net (slice_get net.holders o.holder)) (all_at_places (HasLinks net) net.exporters (named_by (slice_get net.holders o.holder)) whole.links))) (met_tell os h.1)
+      next_tells_acts net (meet net fields o) (map (meet net fields) os) (holder_costs table net n o.holder) (occurrence_costs table net n os) (held_tells net n fields network numbers table o.holder (h.0, each_good (exporters_of net (slice_get net.holders o.holder)) (all_at_places (HasLinks net) net.exporters (named_by (slice_get net.holders o.holder)) whole.links))) (met_tell os h.1)
 
   -- a crossing alone, by its own step
   abbrev Crosses : Crossing → Fate → ℕ → Type 0
   Crosses c f k = (m : ℕ) × Comes net (acts (crossing_acts net fields (Some c))) f m × (k ≡ suc m)
 
-  crosses_tell : (c : Crossing) → Tells (next (met_costs table net n (occurrences net c fields))) (Crosses c)
+  crosses_tell : (c : Crossing) → Tells (one_step_more (occurrence_costs table net n (occurrences net c fields))) (Crosses c)
   crosses_tell c =
-      next_tells (Of net (acts (crossing_acts net fields (Some c)))) (Crosses c) (met_costs table net n (occurrences net c fields)) (met_tell (occurrences net c fields) (caches_met c)) (λ f k x. x) (λ f k x. (k, x, refl))
+      next_tells (Of net (acts (crossing_acts net fields (Some c)))) (Crosses c) (occurrence_costs table net n (occurrences net c fields)) (met_tell (occurrences net c fields) (caches_met c)) (λ f k x. x) (λ f k x. (k, x, refl))
 
   of_cross : {c : Crossing} {cs : List Crossing} {f : Fate} {k : ℕ} → PacketComes net fields (c ∷ cs) f k → Both (Crosses c) (PacketComes net fields cs) (PacketComes net fields (c ∷ cs)) f k
   of_cross (PacketComes.cross c cs f g m k d e) = record { first = f; second = g; here = suc m; there = k; one = (m, d, refl); other = e; fate = refl; steps = refl }
@@ -102,9 +102,9 @@ module _ (net : Net) (n : Numbering) (fields : Fields) (network : IsNetwork net)
   of_no_crossing PacketComes.no_crossing = refl
 
   pub path_tells : (cs : List Crossing) → Tells (path_costs table net n fields cs) (PacketComes net fields cs)
-  path_tells [] = nothing_tells (PacketComes net fields []) PacketComes.no_crossing (λ f k c. of_no_crossing c)
+  path_tells [] = never_tells (PacketComes net fields []) PacketComes.no_crossing (λ f k c. of_no_crossing c)
   path_tells (c ∷ cs) =
-      both_tells (Crosses c) (PacketComes net fields cs) (PacketComes net fields (c ∷ cs)) (next (met_costs table net n (occurrences net c fields))) (path_costs table net n fields cs) (crosses_tell c) (path_tells cs) (λ f k x. of_cross x) (λ f g m k x e. to_cross c cs f g m k x e)
+      both_tells (Crosses c) (PacketComes net fields cs) (PacketComes net fields (c ∷ cs)) (one_step_more (occurrence_costs table net n (occurrences net c fields))) (path_costs table net n fields cs) (crosses_tell c) (path_tells cs) (λ f k x. of_cross x) (λ f g m k x e. to_cross c cs f g m k x e)
 
 pub least_tell : (t : Tables) (are : AreTables t) → IsRunnable t.net → (fields : Fields) (table : CostTable) → length table ≡ length t.net.processes → (path : List Crossing) → Tells (path_costs (cost_fill t.net t.numbering fields t.order table) t.net t.numbering fields path) (PacketComes t.net fields path)
 least_tell t are is fields table size path =

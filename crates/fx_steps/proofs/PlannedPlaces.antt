@@ -19,10 +19,10 @@ use Rattle.fx_leaf.specs.Tables.{Numbering, Numbers, number_of_layout}
 use Rattle.fx_leaf.proofs.FateLaws.{Every, every_append}
 use Rattle.fx_steps.specs.declared.pending.Pending.{Pending}
 use Rattle.fx_steps.specs.declared.pending.Pending.TheVariants.{AtHolder, OnLink}
-use Rattle.fx_steps.specs.Building.{put, put_each, tally_each}
-use Rattle.fx_steps.specs.CostTables.{CostTable, link_costs, all_costs, send_costs, sent_costs, held_costs, taken_costs, met_costs}
-use Rattle.fx_steps.specs.Planning.{on_links, sends, takings, handles, behind, meets, arrives, layout_in, planned_of, chosen_of, tallied_of, item_of, pending_items, IsThere, Steps}
-use Rattle.fx_steps.specs.Spread.{SentRecord, pick, sent_on, spread_to, chosen_on, choice_of, spread_by}
+use Rattle.fx_steps.specs.Building.{with_item, with_items, with_tallies}
+use Rattle.fx_steps.specs.CostTables.{CostTable, destination_costs, all_destinations_costs, send_costs, sent_costs, holder_costs, all_taken_costs, occurrence_costs}
+use Rattle.fx_steps.specs.Planning.{pending_on_links, sent_pending, all_taken_pending, handled_pending, fate_behind_tally, occurrence_pending, arrival_pending, layout_in, step_pending, step_choices, step_keys, item_of, pending_items, IsThere, Steps}
+use Rattle.fx_steps.specs.Spread.{SentRecord, shares, records_to_destination, records_to_all, records_to_one, choice_of, records_by_exporter}
 use Rattle.fx_tables.specs.Runnable.{IsHolder}
 use Rattle.fx_steps.proofs.WholeNetworks.{IsWhole, HasLinks, HasHolders}
 use Rattle.fx_steps.proofs.FilledTables.{all_at, all_at_places}
@@ -37,51 +37,51 @@ module _ (table : CostTable) (net : Net) (n : Numbering) where
   InRange d = IfSome d (λ link. link < length net.links)
 
   module _ (number : ℕ) where
-    on_there : (d : Option ℕ) (f : Fate) → InRange d → Every LinkThere (sent_on d f)
+    on_there : (d : Option ℕ) (f : Fate) → InRange d → Every LinkThere (records_to_destination d f)
     on_there None f h = tt
     on_there (Some link) f h = (h, tt)
 
-    to_there : (ds : List (Option ℕ)) (f : Fate) → AllByRecursion InRange ds → Every LinkThere (spread_to table net number ds f)
+    to_there : (ds : List (Option ℕ)) (f : Fate) → AllByRecursion InRange ds → Every LinkThere (records_to_all table net number ds f)
     to_there [] f all = tt
     to_there (d ∷ ds) f all =
-        let p = pick (link_costs table net number d) (all_costs table net number ds) f in
-        every_append LinkThere (sent_on d p.0) (spread_to table net number ds p.1) (on_there d p.0 all.0) (to_there ds p.1 all.1)
+        let p = shares (destination_costs table net number d) (all_destinations_costs table net number ds) f in
+        every_append LinkThere (records_to_destination d p.0) (records_to_all table net number ds p.1) (on_there d p.0 all.0) (to_there ds p.1 all.1)
 
-    chosen_there : (o : Option (Option ℕ)) (f : Fate) → ((d : Option ℕ) → o ≡ Some d → InRange d) → Every LinkThere (chosen_on o f)
+    chosen_there : (o : Option (Option ℕ)) (f : Fate) → ((d : Option ℕ) → o ≡ Some d → InRange d) → Every LinkThere (records_to_one o f)
     chosen_there None f h = tt
     chosen_there (Some d) f h = on_there d f (h d refl)
 
-    by_there : (e : Exporter) (f : Fate) → AllByRecursion InRange e.destinations → Every LinkThere (spread_by table net number e f)
+    by_there : (e : Exporter) (f : Fate) → AllByRecursion InRange e.destinations → Every LinkThere (records_by_exporter table net number e f)
     by_there e f all =
         let k = choice_of table net number e.destinations f in
-        elim e.parallel as (λ b. Every LinkThere (cond b (spread_to table net number e.destinations f) (chosen_on (slice_get e.destinations k) f))) [
+        elim e.parallel as (λ b. Every LinkThere (cond b (records_to_all table net number e.destinations f) (records_to_one (slice_get e.destinations k) f))) [
           | true ↦ to_there e.destinations f all
           | false ↦ chosen_there (slice_get e.destinations k) f (λ d h. all_at InRange e.destinations k d all h)
         ]
 
     module _ (layout : Layout) (is : slice_get n.layouts number ≡ Some layout) (fits : Fits layout) where
-      links_there : (xs : List SentRecord) → Every LinkThere xs → Every (IsThere net n) (on_links number xs)
+      links_there : (xs : List SentRecord) → Every LinkThere xs → Every (IsThere net n) (pending_on_links number xs)
       links_there [] h = tt
       links_there (x ∷ xs) h = ((h.0, (layout, is, fits)), links_there xs h.1)
 
-      pub sends_there : (es : List Exporter) (f : Fate) → AllByRecursion (HasLinks net) es → Every (IsThere net n) (sends table net number es f)
+      pub sends_there : (es : List Exporter) (f : Fate) → AllByRecursion (HasLinks net) es → Every (IsThere net n) (sent_pending table net number es f)
       sends_there [] f all = tt
       sends_there (e ∷ es) f all =
-          let p = pick (send_costs table net number e) (sent_costs table net number es) f in
-          every_append (IsThere net n) (on_links number (spread_by table net number e p.0)) (sends table net number es p.1) (links_there (spread_by table net number e p.0) (by_there e p.0 all.0)) (sends_there es p.1 all.1)
+          let p = shares (send_costs table net number e) (sent_costs table net number es) f in
+          every_append (IsThere net n) (pending_on_links number (records_by_exporter table net number e p.0)) (sent_pending table net number es p.1) (links_there (records_by_exporter table net number e p.0) (by_there e p.0 all.0)) (sends_there es p.1 all.1)
 
-  takings_there : (key : Key) (as' : List AggregationEntry) (f : Fate) → AllByRecursion (λ (a : AggregationEntry). IsHolder net a.holder) as' → Every (IsThere net n) (takings table net n key as' f)
+  takings_there : (key : Key) (as' : List AggregationEntry) (f : Fate) → AllByRecursion (λ (a : AggregationEntry). IsHolder net a.holder) as' → Every (IsThere net n) (all_taken_pending table net n key as' f)
   takings_there key [] f all = tt
   takings_there key (a ∷ as') f all =
-      let p = pick (held_costs table net n a.holder) (taken_costs table net n key as') f in
-      elim (takes net key a) as (λ b. Every (IsThere net n) (cond b (AtHolder a.holder p.0 ∷ takings table net n key as' p.1) (takings table net n key as' f))) [
+      let p = shares (holder_costs table net n a.holder) (all_taken_costs table net n key as') f in
+      elim (takes net key a) as (λ b. Every (IsThere net n) (cond b (AtHolder a.holder p.0 ∷ all_taken_pending table net n key as' p.1) (all_taken_pending table net n key as' f))) [
         | true ↦ (all.0, takings_there key as' p.1 all.1)
         | false ↦ takings_there key as' f all.1
       ]
 
-  pub meets_there : (os : List Occurrence) (f : Fate) → Every (λ (o : Occurrence). IsHolder net o.holder) os → Every (IsThere net n) (meets table net n os f)
+  pub meets_there : (os : List Occurrence) (f : Fate) → Every (λ (o : Occurrence). IsHolder net o.holder) os → Every (IsThere net n) (occurrence_pending table net n os f)
   meets_there [] f all = tt
-  meets_there (o ∷ os) f all = (all.0, meets_there os (pick (held_costs table net n o.holder) (met_costs table net n os) f).1 all.1)
+  meets_there (o ∷ os) f all = (all.0, meets_there os (shares (holder_costs table net n o.holder) (occurrence_costs table net n os) f).1 all.1)
 
   -- ---- what comes of a record on its way
 
@@ -89,34 +89,34 @@ module _ (table : CostTable) (net : Net) (n : Numbering) where
     links_at : (places : List ℕ) → AllByRecursion (HasLinks net) (at_places net.exporters places)
     links_at places = all_at_places (HasLinks net) net.exporters places whole.links
 
-    handles_there : (number : ℕ) (layout : Layout) → slice_get n.layouts number ≡ Some layout → Fits layout → (o : Option Process) (f : Fate) → ((p : Process) → o ≡ Some p → HasHolders net p) → Every (IsThere net n) (handles table net n fields number layout o f)
+    handles_there : (number : ℕ) (layout : Layout) → slice_get n.layouts number ≡ Some layout → Fits layout → (o : Option Process) (f : Fate) → ((p : Process) → o ≡ Some p → HasHolders net p) → Every (IsThere net n) (handled_pending table net n fields number layout o f)
     handles_there number layout is fits None f h = tt
     handles_there number layout is fits (Some p) f h =
         let key = key_of layout fields in
         let es = at_places net.exporters p.exporters in
-        let q = pick (sent_costs table net number es) (taken_costs table net n key p.aggregations) f in
-        every_append (IsThere net n) (sends table net number es q.0) (takings table net n key p.aggregations q.1) (sends_there number layout is fits es q.0 (links_at p.exporters)) (takings_there key p.aggregations q.1 (h p refl))
+        let q = shares (sent_costs table net number es) (all_taken_costs table net n key p.aggregations) f in
+        every_append (IsThere net n) (sent_pending table net number es q.0) (all_taken_pending table net n key p.aggregations q.1) (sends_there number layout is fits es q.0 (links_at p.exporters)) (takings_there key p.aggregations q.1 (h p refl))
 
-    arrives_there : (number : ℕ) (layout : Layout) → slice_get n.layouts number ≡ Some layout → Fits layout → (o : Option ℕ) (f : Fate) → Every (IsThere net n) (arrives table net n fields number layout o f)
+    arrives_there : (number : ℕ) (layout : Layout) → slice_get n.layouts number ≡ Some layout → Fits layout → (o : Option ℕ) (f : Fate) → Every (IsThere net n) (arrival_pending table net n fields number layout o f)
     arrives_there number layout is fits None f = tt
     arrives_there number layout is fits (Some q) f =
-        handles_there number layout is fits (slice_get net.processes q) (behind table net n fields q number layout f) (λ p e. all_at (HasHolders net) net.processes q p whole.aggregations e)
+        handles_there number layout is fits (slice_get net.processes q) (fate_behind_tally table net n fields q number layout f) (λ p e. all_at (HasHolders net) net.processes q p whole.aggregations e)
 
-    pub planned_there : (x : Pending) → IsThere net n x → Every (IsThere net n) (planned_of table net n fields x)
+    pub planned_there : (x : Pending) → IsThere net n x → Every (IsThere net n) (step_pending table net n fields x)
     planned_there (AtHolder holder f) is =
         sends_there (number_of_layout n holder) _ (own_number net n fields network numbers table holder is.there) (network.fits holder) (exporters_of net (slice_get net.holders holder)) f (links_at (named_by (slice_get net.holders holder)))
     planned_there (OnLink link number f) is =
         let same : is.1.0 ≡ layout_in (slice_get n.layouts number) = sym (ap layout_in is.1.1) in
-        subst (λ (l : Layout). Every (IsThere net n) (arrives table net n fields number l (slice_get net.links link) f)) same (arrives_there number is.1.0 is.1.1 is.1.2 (slice_get net.links link) f)
+        subst (λ (l : Layout). Every (IsThere net n) (arrival_pending table net n fields number l (slice_get net.links link) f)) same (arrives_there number is.1.0 is.1.1 is.1.2 (slice_get net.links link) f)
 
 -- ---- in the machine
 
 module _ (table : CostTable) (net : Net) (n : Numbering) (classes : List Class) (p : Packet) (network : IsNetwork net) where
-  pub leaves : (holder : ℕ) (f : Fate) (name : HolderName) → holder_place net name ≡ Some holder → holder < length net.holders → Steps table net n p.fields (AtHolder holder f) → (s : State) → IsSized net s → (rs : List Record) → slice_get s.held holder ≡ Some rs → after net classes (p ∷ []) (Expire name (suc (length rs)) (chosen_of table net n p.fields (AtHolder holder f))) (put (one_packet p) (item_of net n p.fields (AtHolder holder f)) s) ≡ Ok (put_each (one_packet p) (pending_items net n p.fields (planned_of table net n p.fields (AtHolder holder f))) (tally_each net (one_packet p) (tallied_of net n p.fields (AtHolder holder f)) s))
+  pub leaves : (holder : ℕ) (f : Fate) (name : HolderName) → holder_place net name ≡ Some holder → holder < length net.holders → Steps table net n p.fields (AtHolder holder f) → (s : State) → IsSized net s → (rs : List Record) → slice_get s.held holder ≡ Some rs → after net classes (p ∷ []) (Expire name (suc (length rs)) (step_choices table net n p.fields (AtHolder holder f))) (with_item (one_packet p) (item_of net n p.fields (AtHolder holder f)) s) ≡ Ok (with_items (one_packet p) (pending_items net n p.fields (step_pending table net n p.fields (AtHolder holder f))) (with_tallies net (one_packet p) (step_keys net n p.fields (AtHolder holder f)) s))
   leaves holder f name named lt x s z rs at =
       held_leaves net classes p network holder (record { name = name; named = named; there = lt }) _ _ _ _ s rs x.spreads z at
 
-  pub comes_in : (link number : ℕ) (f : Fate) → Steps table net n p.fields (OnLink link number f) → (s : State) → IsSized net s → (rs : List Record) → slice_get s.carried link ≡ Some rs → after net classes (p ∷ []) (Arrive (suc link) (suc (length rs)) (chosen_of table net n p.fields (OnLink link number f))) (put (one_packet p) (item_of net n p.fields (OnLink link number f)) s) ≡ Ok (put_each (one_packet p) (pending_items net n p.fields (planned_of table net n p.fields (OnLink link number f))) (tally_each net (one_packet p) (tallied_of net n p.fields (OnLink link number f)) s))
+  pub comes_in : (link number : ℕ) (f : Fate) → Steps table net n p.fields (OnLink link number f) → (s : State) → IsSized net s → (rs : List Record) → slice_get s.carried link ≡ Some rs → after net classes (p ∷ []) (Arrive (suc link) (suc (length rs)) (step_choices table net n p.fields (OnLink link number f))) (with_item (one_packet p) (item_of net n p.fields (OnLink link number f)) s) ≡ Ok (with_items (one_packet p) (pending_items net n p.fields (step_pending table net n p.fields (OnLink link number f))) (with_tallies net (one_packet p) (step_keys net n p.fields (OnLink link number f)) s))
   comes_in link number f x s z rs at = carried_arrives net classes p network link _ _ _ _ s rs x.spreads z at
 
 pub all_of_every : {A : Type 0} (P : A → Type 0) (xs : List A) → Every P xs → AllByRecursion P xs

@@ -16,7 +16,7 @@ use Rattle.fx_leaf.specs.Tables.{Numbering}
 use Rattle.fx_leaf.proofs.Verdicts.{both_never}
 use Rattle.fx_machine.specs.Limits.{step_limit}
 use Rattle.fx_steps.specs.Playing.{fate_of}
-use Rattle.fx_steps.specs.UnderWay.{reached, UnderWay}
+use Rattle.fx_steps.specs.UnderWay.{state_of_tallies, UnderWay}
 use Rattle.fx_steps.specs.WrongRun.{IsWrongRun}
 use Rattle.fx_steps.proofs.Packets
 
@@ -33,7 +33,7 @@ module _ (net : Net) (n : Numbering) (classes : List Class) (p : Packet) where
   begins = record {
     tallies = 0;
     unassigned = 0;
-    runs = ap (λ coming. Ok (reached net p 0 0 coming)) (append-nil (crossings_from 1 1 (path classes p)));
+    runs = ap (λ coming. Ok (state_of_tallies net p 0 0 coming)) (append-nil (crossings_from 1 1 (path classes p)));
     joint = refl;
     few = omega arith;
   }
@@ -42,11 +42,11 @@ module _ (net : Net) (n : Numbering) (classes : List Class) (p : Packet) where
   pub ends_wrong : IsNetwork net → (f : Fate) (steps : List Step) → length steps ≤ step_limit → f ≢ wanted_fate (exempts (entry_numbered classes p.class)) → UnderWay net n classes p [] f steps [] → IsWrongRun net classes p steps
   ends_wrong network f steps few wrong way =
       let more : way.unassigned ≡ 0 + way.unassigned = omega arith in
-      let last = reached net p way.tallies way.unassigned [] in
+      let last = state_of_tallies net p way.tallies way.unassigned [] in
       record {
-        last = reached net p way.tallies way.unassigned [];
+        last = state_of_tallies net p way.tallies way.unassigned [];
         runs = way.runs;
         complete = record { crossed = refl; nothing_held = nothing_empty net.holders; nothing_carried = nothing_empty net.links };
-        wrong = λ counts. Packets.is_wrong net classes p network way.tallies way.unassigned (let k = way.few in omega arith) (reached net p 0 0 []) refl refl (λ e. wrong (sym way.joint ∙ both_never (fate_of way.tallies way.unassigned) ∙ e)) (subst (λ m. CountsEachOnce net (to_count classes (p ∷ [])) (record last { unassigned = m })) more counts);
+        wrong = λ counts. Packets.is_wrong net classes p network way.tallies way.unassigned (let k = way.few in omega arith) (state_of_tallies net p 0 0 []) refl refl (λ e. wrong (sym way.joint ∙ both_never (fate_of way.tallies way.unassigned) ∙ e)) (subst (λ m. CountsEachOnce net (to_count classes (p ∷ [])) (record last { unassigned = m })) more counts);
         few = few;
       }

@@ -24,11 +24,11 @@ use Rattle.fx_leaf.proofs.FateLaws.{Every, every_append}
 use Rattle.fx_leaf.proofs.Steps.{every_map, every_map_filter}
 use Rattle.fx_machine.proofs.Lists.{length_put_last}
 use Rattle.fx_machine.proofs.TallyCounts.{arriving_count, leaving_count, tally_count}
-use Rattle.fx_steps.specs.Playing.{add_times, fate_of}
+use Rattle.fx_steps.specs.Playing.{totals_with, fate_of}
 use Rattle.fx_tables.specs.Runnable.{IsHolder}
 use Rattle.fx_steps.specs.Ways.{tally_fate}
 use Rattle.fx_steps.specs.Chains.{Chain, all_of, any_of}
-use Rattle.fx_steps.specs.Chains.Chain.{no_act, tally, hold, sent, send_out, send_on, choose}
+use Rattle.fx_steps.specs.Chains.Chain.{no_act, tally, hold, send_end, send_out, send_on, choose}
 use Rattle.fx_steps.proofs.Places.{there, set_here, set_back, last_here, last_removed, put_here, put_back}
 use Rattle.fx_steps.proofs.Tallies.{times_on, fate_once, fates_both}
 
@@ -38,7 +38,7 @@ module _ (net : Net) (classes : List Class) (p : Packet) (network : IsNetwork ne
 
   -- the packet was tallied so many times, and so many of its records were unassigned
   abbrev pub counted : ℕ → ℕ → State → State
-  counted t u s = record s { totals = add_times t own_key (one_packet p) s.totals; unassigned = s.unassigned + u }
+  counted t u s = record s { totals = totals_with t own_key (one_packet p) s.totals; unassigned = s.unassigned + u }
 
   abbrev pub goes : List Step → State → Outcome
   goes steps s = run net classes (p ∷ []) steps s
@@ -199,7 +199,7 @@ module _ (net : Net) (classes : List Class) (p : Packet) (network : IsNetwork ne
         steps = r.steps;
         tallies = r.tallies;
         lost = suc r.lost;
-        ends = r.ends ∙ ap (λ (n : ℕ). Ok (record s { totals = add_times r.tallies own_key (one_packet p) s.totals; unassigned = n })) more;
+        ends = r.ends ∙ ap (λ (n : ℕ). Ok (record s { totals = totals_with r.tallies own_key (one_packet p) s.totals; unassigned = n })) more;
         number = r.number;
         fate_is = ap (λ g. both g f) (sym fate);
         few = let k = r.few in omega arith;
@@ -273,7 +273,7 @@ module _ (net : Net) (classes : List Class) (p : Packet) (network : IsNetwork ne
   play no_act own = λ s z. nothing_played s
   play (tally key acts f n d) own = tally_played key acts f n own.0 (play d own.1) (refines key.layout net.report_layout) refl
   play (hold holder key acts f g m n h d e) own = hold_played acts f g m n holder key h (play d (leaving_own holder key own.0)) (play e own.1)
-  play (sent key acts f n d) own = λ s z. same_played (Send (all_of []) key ∷ acts) acts f n s (play d own.1 s z) (play d own.1 s z).choices refl refl
+  play (send_end key acts f n d) own = λ s z. same_played (Send (all_of []) key ∷ acts) acts f n s (play d own.1 s z) (play d own.1 s z).choices refl refl
   play (send_out ds key acts f n d) own = λ s z. same_played (Send (all_of (None ∷ ds)) key ∷ acts) (Send (all_of ds) key ∷ acts) f n s (play d own s z) (play d own s z).choices refl refl
   play (send_on link ds key acts f g m n lt d e) own = on_played acts f g m n link ds key lt (play d (arriving_own key own.0 (slice_get net.links link))) (play e own)
   play (choose ds number d key acts f n at e) own = choice_played acts f n ds number d key at (play e own)

@@ -3,8 +3,8 @@ use Rattle.std.proofs.Common.{◌≡◌, ℕ, suc, ◌≤◌, true, false, cond,
 use Rattle.std.specs.List.{AllByRecursion}
 use Rattle.fx_tables.specs.Occurrences.{occurrences}
 use Rattle.fx_tables.specs.declared.traffic.Crossing.{Crossing}
-use Rattle.fx_steps.specs.CostTables.{met_costs, CostTable, cost_entry, cost_fill, coming_costs, link_costs, sent_costs, held_costs, tally_costs, handled_costs, cost_from}
-use Rattle.fx_steps.specs.Planning.{Crosses, sends, layout_in, total_cost, total_fate, pending_items, pending_cost, keys_fate, IsThere, Steps, arrives, arrives_choose, arrives_tallied}
+use Rattle.fx_steps.specs.CostTables.{occurrence_costs, CostTable, cost_entry, cost_fill, process_costs, destination_costs, sent_costs, holder_costs, tally_costs, handled_costs, cost_entry_from}
+use Rattle.fx_steps.specs.Planning.{Crosses, sent_pending, layout_in, total_cost, total_fate, pending_items, pending_cost, keys_fate, IsThere, Steps, arrival_pending, arrival_choices, arrival_keys}
 use Rattle.fx_steps.proofs.PlansMeetFates.{meets_meet, sends_meet, handles_meet}
 use Rattle.fx_steps.proofs.PlansCanBeDone.{meets_spread, HasAll, leaving_spreads, coming_spreads, tally_is, tally_comes, same_cost}
 use Rattle.fx_steps.proofs.PathCosts.{caches_met, each_good}
@@ -24,7 +24,7 @@ use Rattle.fx_steps.specs.declared.pending.Pending.TheVariants.{AtHolder, OnLink
 use Rattle.fx_steps.specs.Building.{Spreads}
 use Rattle.fx_machine.specs.Limits.{step_limit}
 use Rattle.fx_steps.specs.Costs.{cost_of, both_costs}
-use Rattle.fx_steps.specs.Spread.{pick}
+use Rattle.fx_steps.specs.Spread.{shares}
 use Rattle.fx_tables.specs.Runnable.{IsHolder, IsRunnable}
 use Rattle.fx_steps.specs.Ways.{acts, tally_fate}
 use Rattle.fx_steps.proofs.WholeNetworks.{whole, IsWhole, HasLinks, HasHolders}
@@ -47,7 +47,7 @@ module _ (net : Net) (n : Numbering) (fields : Fields) (network : IsNetwork net)
 
   -- ---- a record leaves a holder
 
-  pub holder_steps : (holder : ℕ) (f : Fate) → IsHolder net holder → cost_of (held_costs table net n holder) f ≤ step_limit → Steps table net n fields (AtHolder holder f)
+  pub holder_steps : (holder : ℕ) (f : Fate) → IsHolder net holder → cost_of (holder_costs table net n holder) f ≤ step_limit → Steps table net n fields (AtHolder holder f)
   holder_steps holder f is le =
       let es = exporters_of net (slice_get net.holders holder) in
       let number = number_of_layout n holder in
@@ -57,7 +57,7 @@ module _ (net : Net) (n : Numbering) (fields : Fields) (network : IsNetwork net)
       record {
         spreads = leaving_spreads table net n fields network numbers holder f is.there (links_at (named_by (slice_get net.holders holder))) small;
         cost = let k = m.cost in omega arith;
-        fate = never_both (total_fate (sends table net number es f)) ∙ m.fate;
+        fate = never_both (total_fate (sent_pending table net number es f)) ∙ m.fate;
       }
 
   -- ---- a record leaves a link
@@ -70,11 +70,11 @@ module _ (net : Net) (n : Numbering) (fields : Fields) (network : IsNetwork net)
       by (Some p) e = (links_at p.exporters, all_at (HasHolders net) net.processes q p whole.aggregations e)
 
     -- an entry tells of the same ways as the costs from the table as it is
-    entry_is : (q : ℕ) (f : Fate) → cost_of (cost_entry table q number) f ≤ step_limit → cost_of (cost_entry table q number) f ≡ cost_of (cost_from table net n fields q number layout) f
+    entry_is : (q : ℕ) (f : Fate) → cost_of (cost_entry table q number) f ≤ step_limit → cost_of (cost_entry table q number) f ≡ cost_of (cost_entry_from table net n fields q number layout) f
     entry_is q f le =
-        same_cost (Of net (acts (coming_to net (key_of layout fields) q))) (cost_entry table q number) (cost_from table net n fields q number layout) f (told q number layout is fits) (entry_tells net n fields network numbers table number layout is fits q (λ p e. (good_at p.exporters, good_in p.aggregations (all_at (HasHolders net) net.processes q p whole.aggregations e)))) le
+        same_cost (Of net (acts (coming_to net (key_of layout fields) q))) (cost_entry table q number) (cost_entry_from table net n fields q number layout) f (told q number layout is fits) (entry_tells net n fields network numbers table number layout is fits q (λ p e. (good_at p.exporters, good_in p.aggregations (all_at (HasHolders net) net.processes q p whole.aggregations e)))) le
 
-    keys_come : (q : ℕ) → keys_fate net (arrives_tallied net fields layout (Some q)) ≡ tally_comes table net n fields network numbers number layout is fits q
+    keys_come : (q : ℕ) → keys_fate net (arrival_keys net fields layout (Some q)) ≡ tally_comes table net n fields network numbers number layout is fits q
     keys_come q =
         elim (q == net.report) as (λ b. keys_fate net (cond b (key_of layout fields ∷ []) []) ≡ cond b (tally_fate net (key_of layout fields)) Never) [
           | true ↦ both_never (tally_fate net (key_of layout fields))
@@ -83,11 +83,11 @@ module _ (net : Net) (n : Numbering) (fields : Fields) (network : IsNetwork net)
 
     -- what comes of a record that arrives at a collecting process
     pub record Comes (o : Option ℕ) (f : Fate) : Type 0 where
-      pub spreads : Spreads net (acts (acts_of_arrival net (key_of layout fields) o)) (arrives_choose table net n fields number layout o f) (pending_items net n fields (arrives table net n fields number layout o f)) (arrives_tallied net fields layout o)
-      pub cost : total_cost table net n (arrives table net n fields number layout o f) ≡ cost_of (coming_costs table number o) f
-      pub fate : both (keys_fate net (arrives_tallied net fields layout o)) (total_fate (arrives table net n fields number layout o f)) ≡ f
+      pub spreads : Spreads net (acts (acts_of_arrival net (key_of layout fields) o)) (arrival_choices table net n fields number layout o f) (pending_items net n fields (arrival_pending table net n fields number layout o f)) (arrival_keys net fields layout o)
+      pub cost : total_cost table net n (arrival_pending table net n fields number layout o f) ≡ cost_of (process_costs table number o) f
+      pub fate : both (keys_fate net (arrival_keys net fields layout o)) (total_fate (arrival_pending table net n fields number layout o f)) ≡ f
 
-    arrival_comes : (o : Option ℕ) (f : Fate) → cost_of (coming_costs table number o) f ≤ step_limit → Comes o f
+    arrival_comes : (o : Option ℕ) (f : Fate) → cost_of (process_costs table number o) f ≤ step_limit → Comes o f
     arrival_comes None f le = let a = alone f le in record { spreads = Spreads.no_act; cost = sym a.1; fate = sym a.0 }
     arrival_comes (Some q) f le =
         let o = slice_get net.processes q in
@@ -96,28 +96,28 @@ module _ (net : Net) (n : Numbering) (fields : Fields) (network : IsNetwork net)
         let e = entry_is q f le in
         let small : cost_of (both_costs a b) f ≤ step_limit = omega arith in
         let p = pick_is a b f small in
-        let t = tally_is table net n fields network numbers number layout is fits q (pick a b f).0 p.first in
-        let m = handles_meet table net n fields number layout o (pick a b f).1 p.second in
+        let t = tally_is table net n fields network numbers number layout is fits q (shares a b f).0 p.first in
+        let m = handles_meet table net n fields number layout o (shares a b f).1 p.second in
         record {
-          spreads = coming_spreads table net n fields network numbers number layout is fits q (pick a b f).1 (has_all q) p.second;
+          spreads = coming_spreads table net n fields network numbers number layout is fits q (shares a b f).1 (has_all q) p.second;
           cost = let k = m.cost in let z = t.1 in let s = p.sum in omega arith;
           fate = ap₂ both (keys_come q ∙ sym t.0) m.fate ∙ p.fate;
         }
 
-    link_comes : (link : ℕ) (f : Fate) → cost_of (link_costs table net number (Some link)) f ≤ step_limit → Comes (slice_get net.links link) f × (suc (cost_of (coming_costs table number (slice_get net.links link)) f) ≡ cost_of (link_costs table net number (Some link)) f)
+    link_comes : (link : ℕ) (f : Fate) → cost_of (destination_costs table net number (Some link)) f ≤ step_limit → Comes (slice_get net.links link) f × (suc (cost_of (process_costs table number (slice_get net.links link)) f) ≡ cost_of (destination_costs table net number (Some link)) f)
     link_comes link f le =
-        let e = cost_next (coming_costs table number (slice_get net.links link)) f in
-        (arrival_comes (slice_get net.links link) f (let k : cost_of (coming_costs table number (slice_get net.links link)) f ≤ step_limit = omega arith in k), omega arith)
+        let e = cost_next (process_costs table number (slice_get net.links link)) f in
+        (arrival_comes (slice_get net.links link) f (let k : cost_of (process_costs table number (slice_get net.links link)) f ≤ step_limit = omega arith in k), omega arith)
 
-  pub link_steps : (link number : ℕ) (f : Fate) (layout : Layout) → slice_get n.layouts number ≡ Some layout → Fits layout → cost_of (link_costs table net number (Some link)) f ≤ step_limit → Steps table net n fields (OnLink link number f)
+  pub link_steps : (link number : ℕ) (f : Fate) (layout : Layout) → slice_get n.layouts number ≡ Some layout → Fits layout → cost_of (destination_costs table net number (Some link)) f ≤ step_limit → Steps table net n fields (OnLink link number f)
   link_steps link number f layout is fits le =
       let x = link_comes number layout is fits link f le in
       let same : layout ≡ layout_in (slice_get n.layouts number) = sym (ap layout_in is) in
       let o = slice_get net.links link in
       record {
-        spreads = subst (λ (l : Layout). Spreads net (acts (acts_of_arrival net (key_of l fields) o)) (arrives_choose table net n fields number l o f) (pending_items net n fields (arrives table net n fields number l o f)) (arrives_tallied net fields l o)) same x.0.spreads;
-        cost = ap (λ (l : Layout). suc (total_cost table net n (arrives table net n fields number l o f))) (sym same) ∙ ap suc x.0.cost ∙ x.1;
-        fate = ap (λ (l : Layout). both (keys_fate net (arrives_tallied net fields l o)) (total_fate (arrives table net n fields number l o f))) (sym same) ∙ x.0.fate;
+        spreads = subst (λ (l : Layout). Spreads net (acts (acts_of_arrival net (key_of l fields) o)) (arrival_choices table net n fields number l o f) (pending_items net n fields (arrival_pending table net n fields number l o f)) (arrival_keys net fields l o)) same x.0.spreads;
+        cost = ap (λ (l : Layout). suc (total_cost table net n (arrival_pending table net n fields number l o f))) (sym same) ∙ ap suc x.0.cost ∙ x.1;
+        fate = ap (λ (l : Layout). both (keys_fate net (arrival_keys net fields l o)) (total_fate (arrival_pending table net n fields number l o f))) (sym same) ∙ x.0.fate;
       }
 
   pub steps : (x : Pending) → IsThere net n x → pending_cost table net n x ≤ step_limit → Steps table net n fields x
@@ -128,7 +128,7 @@ pub each_steps : (t : Tables) (are : AreTables t) → IsRunnable t.net → (fiel
 each_steps t are runs fields table size x is le =
     steps t.net t.numbering fields are.network are.numbers (whole t.net runs) (cost_fill t.net t.numbering fields t.order table) (table_tells t are (whole t.net runs) fields table size) x is le
 
-pub each_crosses : (t : Tables) (are : AreTables t) → IsRunnable t.net → (fields : Fields) (table : CostTable) → length table ≡ length t.net.processes → (c : Crossing) (f : Fate) → cost_of (met_costs (cost_fill t.net t.numbering fields t.order table) t.net t.numbering (occurrences t.net c fields)) f ≤ step_limit → Crosses (cost_fill t.net t.numbering fields t.order table) t.net t.numbering fields c f
+pub each_crosses : (t : Tables) (are : AreTables t) → IsRunnable t.net → (fields : Fields) (table : CostTable) → length table ≡ length t.net.processes → (c : Crossing) (f : Fate) → cost_of (occurrence_costs (cost_fill t.net t.numbering fields t.order table) t.net t.numbering (occurrences t.net c fields)) f ≤ step_limit → Crosses (cost_fill t.net t.numbering fields t.order table) t.net t.numbering fields c f
 each_crosses t are runs fields table size c f le =
     let filled = cost_fill t.net t.numbering fields t.order table in
     let os = occurrences t.net c fields in

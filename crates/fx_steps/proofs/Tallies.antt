@@ -11,13 +11,13 @@ use Rattle.fx_leaf.specs.declared.verdict.Fate.TheVariants.{Never, Once, Many, D
 use Rattle.fx_leaf.specs.Fates.{both}
 use Rattle.fx_leaf.proofs.Totals.{same_key_refl}
 use Rattle.fx_leaf.proofs.Verdicts.{never_both}
-use Rattle.fx_steps.specs.Playing.{add_times, fate_of}
+use Rattle.fx_steps.specs.Playing.{totals_with, fate_of}
 
-pub times_on : (a b : ℕ) (key : Key) (counts : Counts) (ts : List Record) → add_times b key counts (add_times a key counts ts) ≡ add_times (a + b) key counts ts
-times_on zero b key counts ts = let e : b ≡ 0 + b = omega arith in ap (λ n. add_times n key counts ts) e
+pub times_on : (a b : ℕ) (key : Key) (counts : Counts) (ts : List Record) → totals_with b key counts (totals_with a key counts ts) ≡ totals_with (a + b) key counts ts
+times_on zero b key counts ts = let e : b ≡ 0 + b = omega arith in ap (λ n. totals_with n key counts ts) e
 times_on (suc a) b key counts ts =
     let e : suc (a + b) ≡ suc a + b = omega arith in
-    times_on a b key counts (add_at ts key counts) ∙ ap (λ n. add_times n key counts ts) e
+    times_on a b key counts (add_at ts key counts) ∙ ap (λ n. totals_with n key counts ts) e
 
 -- ---- fates
 
@@ -54,7 +54,7 @@ fates_both (suc (suc t)) zero (suc (suc v)) zero = ap (λ n. fate_of n 0) (let e
 -- ---- totals
 
 -- at a key that stands alone the packets add up, while they are below 2 to the 64
-pub total_of_times : (t : ℕ) (key : Key) (counts : Counts) (old : Counts) → counts.packets ≡ 1 → old.packets + t < 2 ^ 64 → (c : Counts) × (total_at (add_times t key counts (record { key = key; counts = old } ∷ [])) key ≡ Some c) × (c.packets ≡ old.packets + t)
+pub total_of_times : (t : ℕ) (key : Key) (counts : Counts) (old : Counts) → counts.packets ≡ 1 → old.packets + t < 2 ^ 64 → (c : Counts) × (total_at (totals_with t key counts (record { key = key; counts = old } ∷ [])) key ≡ Some c) × (c.packets ≡ old.packets + t)
 total_of_times zero key counts old one lt =
     (old, ap (λ b. cond b (Some old) None) (same_key_refl key), omega arith)
 total_of_times (suc t) key counts old one lt =
@@ -62,4 +62,4 @@ total_of_times (suc t) key counts old one lt =
     let small : next.packets ≡ old.packets + counts.packets = mod-eq_of_lt (let k : old.packets + counts.packets < 2 ^ 64 = omega arith in k) in
     let rest = total_of_times t key counts next one (omega arith) in
     let added : add_at (record { key = key; counts = old } ∷ []) key counts ≡ record { key = key; counts = next } ∷ [] = ap (λ b. cond b (record { key = key; counts = next } ∷ []) (record { key = key; counts = old } ∷ add_at [] key counts)) (same_key_refl key) in
-    (rest.0, subst (λ ts. total_at (add_times t key counts ts) key ≡ Some rest.0) (sym added) rest.1, omega arith)
+    (rest.0, subst (λ ts. total_at (totals_with t key counts ts) key ≡ Some rest.0) (sym added) rest.1, omega arith)

@@ -14,16 +14,16 @@ pub data Item : Type 0 where
   Carried : (link : ℕ) (key : Key) → Item
 
 -- it comes last at its place
-abbrev pub put : Counts → Item → State → State
-put counts (Held holder key) s = record s { held = put_last s.held holder (record { key = key; counts = counts }) }
-put counts (Carried link key) s = record s { carried = put_last s.carried link (record { key = key; counts = counts }) }
+abbrev pub with_item : Counts → Item → State → State
+with_item counts (Held holder key) s = record s { held = put_last s.held holder (record { key = key; counts = counts }) }
+with_item counts (Carried link key) s = record s { carried = put_last s.carried link (record { key = key; counts = counts }) }
 
 -- one after another; the last of them is on top
-abbrev pub put_each : Counts → List Item → State → State
-put_each counts [] s = s
-put_each counts (i ∷ is) s = put_each counts is (put counts i s)
+abbrev pub with_items : Counts → List Item → State → State
+with_items counts [] s = s
+with_items counts (i ∷ is) s = with_items counts is (with_item counts i s)
 
--- all these keys are tallied
+-- all these keys are after_tally
 abbrev pub with_tallies : Net → Counts → List Key → State → State
 with_tallies net counts [] s = s
 with_tallies net counts (k ∷ ks) s = with_tallies net counts ks (after_tally net k counts s)

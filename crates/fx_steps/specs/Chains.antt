@@ -1,4 +1,4 @@
--- The same along one list of acts, as a run goes.
+-- In how many steps a packet may come to be counted so often, along one list of acts, as a run goes.
 use Rattle.std.specs.Prelude.{◌≡◌, true, false, ℕ, suc, ◌+◌, ◌<◌, List, [], ◌∷◌, length, Option, Some, None, slice_get}
 use Rattle.fx_layout.specs.Keys.{Key}
 use Rattle.fx_tables.specs.Network.{Net, Exporter}
@@ -22,7 +22,7 @@ pub data Chain (net : Net) : List Act → Fate → ℕ → Type 0 where
   no_act : Chain net [] Never 0
   tally : (key : Key) (acts : List Act) (f : Fate) (n : ℕ) → Chain net acts f n → Chain net (Tally key ∷ acts) (both (tally_fate net key) f) n
   hold : (holder : ℕ) (key : Key) (acts : List Act) (f g : Fate) (m n : ℕ) → IsHolder net holder → Chain net (acts_of_leaving net holder key) f m → Chain net acts g n → Chain net (Hold holder key ∷ acts) (both f g) (suc (m + n))
-  sent : (key : Key) (acts : List Act) (f : Fate) (n : ℕ) → Chain net acts f n → Chain net (Send (all_of []) key ∷ acts) f n
+  send_end : (key : Key) (acts : List Act) (f : Fate) (n : ℕ) → Chain net acts f n → Chain net (Send (all_of []) key ∷ acts) f n
   send_out : (ds : List (Option ℕ)) (key : Key) (acts : List Act) (f : Fate) (n : ℕ) → Chain net (Send (all_of ds) key ∷ acts) f n → Chain net (Send (all_of (None ∷ ds)) key ∷ acts) f n
   send_on : (link : ℕ) (ds : List (Option ℕ)) (key : Key) (acts : List Act) (f g : Fate) (m n : ℕ) → link < length net.links → Chain net (acts_of_arrival net key (slice_get net.links link)) f m → Chain net (Send (all_of ds) key ∷ acts) g n → Chain net (Send (all_of (Some link ∷ ds)) key ∷ acts) (both f g) (suc (m + n))
   choose : (ds : List (Option ℕ)) (number : ℕ) (d : Option ℕ) (key : Key) (acts : List Act) (f : Fate) (n : ℕ) → entry_numbered ds number ≡ Some d → Chain net (Send (all_of (d ∷ [])) key ∷ acts) f n → Chain net (Send (any_of ds) key ∷ acts) f n

@@ -6,22 +6,22 @@ use Rattle.fx_leaf.specs.declared.verdict.Fate.TheVariants.{Never, Once, Many, D
 use Rattle.fx_steps.specs.declared.costs.Costs.{Costs}
 
 -- more steps than a run may have
-abbrev pub over : ℕ
-over = 1000001
+abbrev pub over_limit : ℕ
+over_limit = 1000001
 
-abbrev pub plus : ℕ → ℕ → ℕ
-plus a b = min (a + b) over
+abbrev pub limited_sum : ℕ → ℕ → ℕ
+limited_sum a b = min (a + b) over_limit
 
-abbrev pub least : List ℕ → ℕ
-least [] = over
-least (x ∷ xs) = min (least xs) x
+abbrev pub least_number : List ℕ → ℕ
+least_number [] = over_limit
+least_number (x ∷ xs) = min (least_number xs) x
 
 abbrev pub cost_of : Costs → Fate → ℕ
 cost_of c Never = c.never
 cost_of c Once = c.once
 cost_of c Many = c.many
 cost_of c Unassigned = c.unassigned
-cost_of c Differing = over
+cost_of c Differing = over_limit
 
 -- the pairs of fates that are this one together
 abbrev pub pairs : Fate → List (Fate × Fate)
@@ -32,28 +32,28 @@ pairs Unassigned = (Unassigned, Never) ∷ (Unassigned, Once) ∷ (Unassigned, M
 pairs Differing = []
 
 abbrev pub both_cost : Costs → Costs → Fate → ℕ
-both_cost a b f = least (map (λ (p : Fate × Fate). plus (cost_of a p.0) (cost_of b p.1)) (pairs f))
+both_cost a b f = least_number (map (λ (p : Fate × Fate). limited_sum (cost_of a p.0) (cost_of b p.1)) (pairs f))
 
 abbrev pub both_costs : Costs → Costs → Costs
 both_costs a b = record { never = both_cost a b Never; once = both_cost a b Once; many = both_cost a b Many; unassigned = both_cost a b Unassigned }
 
-abbrev pub either : Costs → Costs → Costs
-either a b = record { never = min a.never b.never; once = min a.once b.once; many = min a.many b.many; unassigned = min a.unassigned b.unassigned }
+abbrev pub either_costs : Costs → Costs → Costs
+either_costs a b = record { never = min a.never b.never; once = min a.once b.once; many = min a.many b.many; unassigned = min a.unassigned b.unassigned }
 
-abbrev pub next : Costs → Costs
-next c = record { never = plus 1 c.never; once = plus 1 c.once; many = plus 1 c.many; unassigned = plus 1 c.unassigned }
+abbrev pub one_step_more : Costs → Costs
+one_step_more c = record { never = limited_sum 1 c.never; once = limited_sum 1 c.once; many = limited_sum 1 c.many; unassigned = limited_sum 1 c.unassigned }
 
-abbrev pub nothing : Costs
-nothing = record { never = 0; once = over; many = over; unassigned = over }
+abbrev pub costs_of_never : Costs
+costs_of_never = record { never = 0; once = over_limit; many = over_limit; unassigned = over_limit }
 
-abbrev pub counted : Costs
-counted = record { never = over; once = 0; many = over; unassigned = over }
+abbrev pub costs_of_once : Costs
+costs_of_once = record { never = over_limit; once = 0; many = over_limit; unassigned = over_limit }
 
-abbrev pub lost : Costs
-lost = record { never = over; once = over; many = over; unassigned = 0 }
+abbrev pub costs_of_unassigned : Costs
+costs_of_unassigned = record { never = over_limit; once = over_limit; many = over_limit; unassigned = 0 }
 
-abbrev pub no_way : Costs
-no_way = record { never = over; once = over; many = over; unassigned = over }
+abbrev pub costs_of_no_way : Costs
+costs_of_no_way = record { never = over_limit; once = over_limit; many = over_limit; unassigned = over_limit }
 
 -- the least number of steps to each fate, where it is within the limit
 pub record Tells (c : Costs) (comes : Fate → ℕ → Type 0) : Type 0 where

@@ -16,9 +16,9 @@ use Rattle.fx_leaf.specs.declared.verdict.Fate.TheVariants.{Never, Once, Many, U
 use Rattle.fx_leaf.specs.Fates.{wanted_fate}
 
 -- the counts tallied so many times under a key
-abbrev pub add_times : ℕ → Key → Counts → List Record → List Record
-add_times zero key counts ts = ts
-add_times (suc n) key counts ts = add_times n key counts (add_at ts key counts)
+abbrev pub totals_with : ℕ → Key → Counts → List Record → List Record
+totals_with zero key counts ts = ts
+totals_with (suc n) key counts ts = totals_with n key counts (add_at ts key counts)
 
 -- the fate of what was tallied so many times, with so many of its records unassigned
 abbrev pub fate_of : ℕ → ℕ → Fate

@@ -13,25 +13,28 @@ use Rattle.fx_machine.specs.States.{State, Coming, opening, nothing_at}
 use Rattle.fx_machine.specs.Steps.{run, one_packet}
 use Rattle.fx_leaf.specs.declared.verdict.Fate.{Fate}
 use Rattle.fx_leaf.specs.Fates.{both}
-use Rattle.fx_leaf.specs.Tables.{Numbering, Tables}
+use Rattle.fx_leaf.specs.Tables.{Numbering, Tables, AreTables}
 use Rattle.fx_steps.specs.declared.pending.Pending.{Pending}
 use Rattle.fx_steps.specs.declared.pending.Pending.TheVariants.{AtHolder, OnLink}
 use Rattle.fx_steps.specs.declared.waiting.Waiting.{Waiting}
-use Rattle.fx_steps.specs.Building.{put_each}
+use Rattle.fx_steps.specs.declared.building.Building.{Building}
+use Rattle.fx_tables.specs.Runnable.{IsRunnable}
+use Rattle.fx_steps.specs.Names.{NameAll}
+use Rattle.fx_steps.specs.Building.{with_items}
 use Rattle.fx_machine.specs.Limits.{step_limit}
-use Rattle.fx_steps.specs.CostTables.{CostTable, cost_fill}
-use Rattle.fx_steps.specs.Planning.{pending_items, total_fate, total_cost, chosen_of, IsThere}
-use Rattle.fx_steps.specs.Playing.{add_times, fate_of}
-use Rattle.fx_steps.specs.Waiting.{Wait, nobody, holders_with, links_with}
+use Rattle.fx_steps.specs.CostTables.{CostTable, PacketCosts, cost_fill}
+use Rattle.fx_steps.specs.Planning.{pending_items, total_fate, total_cost, step_choices, IsThere, step_pending}
+use Rattle.fx_steps.specs.Playing.{totals_with, fate_of}
+use Rattle.fx_steps.specs.Waiting.{Wait, zeros_for, holder_counts, link_counts}
 
 -- nothing is held or on a link, these crossings are to come, and the packet was tallied so many times, with so many of
 -- its records unassigned
-abbrev pub reached : Net → Packet → ℕ → ℕ → List Coming → State
-reached net p tallies unassigned coming = record {
+abbrev pub state_of_tallies : Net → Packet → ℕ → ℕ → List Coming → State
+state_of_tallies net p tallies unassigned coming = record {
   coming = coming;
   held = nothing_at net.holders;
   carried = nothing_at net.links;
-  totals = add_times tallies (key_of net.report_layout p.fields) (one_packet p) [];
+  totals = totals_with tallies (key_of net.report_layout p.fields) (one_packet p) [];
   unassigned = unassigned;
 }
 
@@ -40,7 +43,7 @@ reached net p tallies unassigned coming = record {
 pub record UnderWay (net : Net) (n : Numbering) (classes : List Class) (p : Packet) (coming : List Coming) (fate : Fate) (steps : List Step) (xs : List Pending) : Type 0 where
   pub tallies : ℕ
   pub unassigned : ℕ
-  pub runs : run net classes (p ∷ []) steps (opening net classes (p ∷ [])) ≡ Ok (put_each (one_packet p) (pending_items net n p.fields xs) (reached net p tallies unassigned coming))
+  pub runs : run net classes (p ∷ []) steps (opening net classes (p ∷ [])) ≡ Ok (with_items (one_packet p) (pending_items net n p.fields xs) (state_of_tallies net p tallies unassigned coming))
   pub joint : both (fate_of tallies unassigned) (total_fate xs) ≡ fate
   pub few : tallies ≤ length steps
 
@@ -49,6 +52,13 @@ pub record HasCosts (t : Tables) (fields : Fields) (table : CostTable) : Type 0 
   pub before : CostTable
   pub room : length before ≡ length t.net.processes
   pub filled : table ≡ cost_fill t.net t.numbering fields t.order before
+
+-- all is there that a run of the packet is built by: the table was filled for it, and these are the holders' names
+pub record IsPrepared (c : PacketCosts) (names : List HolderName) : Type 0 where
+  pub tables : AreTables c.tables
+  pub runnable : IsRunnable c.tables.net
+  pub filled : HasCosts c.tables c.packet.fields c.table
+  pub named : NameAll c.tables.net names
 
 -- these records can leave, after so many steps, within the limit
 pub record CanLeave (table : CostTable) (net : Net) (n : Numbering) (steps : ℕ) (xs : List Pending) (w : Waiting) : Type 0 where
@@ -59,14 +69,21 @@ pub record CanLeave (table : CostTable) (net : Net) (n : Numbering) (steps : ℕ
 -- this is the step of a record that came behind all of these
 abbrev pub IsStepOf : CostTable → Net → Numbering → Fields → List Pending → Pending → Step → Type 0
 IsStepOf table net n fields xs (AtHolder holder f) step =
-    (name : HolderName) × (count : ℕ) × (holder_place net name ≡ Some holder) × (slice_get (holders_with (nobody net.holders) xs) holder ≡ Some count)
-    × (step ≡ Expire name (suc count) (chosen_of table net n fields (AtHolder holder f)))
+    (name : HolderName) × (count : ℕ) × (holder_place net name ≡ Some holder) × (slice_get (holder_counts (zeros_for net.holders) xs) holder ≡ Some count)
+    × (step ≡ Expire name (suc count) (step_choices table net n fields (AtHolder holder f)))
 IsStepOf table net n fields xs (OnLink link number f) step =
-    (count : ℕ) × (slice_get (links_with (nobody net.links) xs) link ≡ Some count)
-    × (step ≡ Arrive (suc link) (suc count) (chosen_of table net n fields (OnLink link number f)))
+    (count : ℕ) × (slice_get (link_counts (zeros_for net.links) xs) link ≡ Some count)
+    × (step ≡ Arrive (suc link) (suc count) (step_choices table net n fields (OnLink link number f)))
 
 -- this step was made, and these records are on their way behind it
-pub record Left (table : CostTable) (net : Net) (n : Numbering) (fields : Fields) (xs : List Pending) (x : Pending) (old new : List Step) : Type 0 where
+pub record Leaves (table : CostTable) (net : Net) (n : Numbering) (fields : Fields) (xs : List Pending) (x : Pending) (old new : List Step) : Type 0 where
   pub step : Step
   pub is : IsStepOf table net n fields xs x step
   pub last : new ≡ old ++ step ∷ []
+
+-- this is the step by which a record left that came behind all others; what comes of it is on its way behind them, and
+-- doesn't wait yet
+pub record TopLeaves (c : PacketCosts) (old new : Building) (x : Pending) (step : Step) : Type 0 where
+  pub is : IsStepOf c.table c.tables.net c.tables.numbering c.packet.fields old.plan.pending.items x step
+  pub pending : new.plan.pending.items ≡ old.plan.pending.items ++ step_pending c.table c.tables.net c.tables.numbering c.packet.fields x
+  pub waiting : Wait c.tables.net old.plan.pending.items new.waiting

@@ -1,34 +1,45 @@
 -- How many records wait at each holder and on each link.
-use Rattle.std.specs.Prelude.{◌≡◌, ℕ, zero, suc, ◌+◌, ◌<◌, List, [], ◌∷◌, length, replicate}
+use Rattle.std.specs.Prelude.{◌≡◌, ℕ, zero, suc, ◌+◌, ◌<◌, List, [], ◌∷◌, length, replicate, Some, slice_get}
 use Rattle.fx_tables.specs.Network.{Net}
 use Rattle.fx_steps.specs.declared.pending.Pending.{Pending}
 use Rattle.fx_steps.specs.declared.pending.Pending.TheVariants.{AtHolder, OnLink}
 use Rattle.fx_steps.specs.declared.waiting.Waiting.{Waiting}
 
 -- none at any of these
-abbrev pub nobody : {A : Type 0} → List A → List ℕ
-nobody xs = replicate (length xs) 0
+abbrev pub zeros_for : {A : Type 0} → List A → List ℕ
+zeros_for xs = replicate (length xs) 0
 
 abbrev pub total : List ℕ → ℕ
 total [] = 0
 total (count ∷ counts) = count + total counts
 
 -- one more at this place
-abbrev pub raised : List ℕ → ℕ → List ℕ
-raised [] n = []
-raised (count ∷ counts) zero = suc count ∷ counts
-raised (count ∷ counts) (suc n) = count ∷ raised counts n
+abbrev pub one_more_at : List ℕ → ℕ → List ℕ
+one_more_at [] n = []
+one_more_at (count ∷ counts) zero = suc count ∷ counts
+one_more_at (count ∷ counts) (suc n) = count ∷ one_more_at counts n
+
+-- someone waits at this place
+pub record HasOneMore (counts : List ℕ) (place : ℕ) : Type 0 where
+  pub before : List ℕ
+  pub inside : place < length before
+  pub is : counts ≡ one_more_at before place
+
+-- the one that came last to this place leaves it, from this position
+pub record LastLeaves (old new : List ℕ) (place position : ℕ) : Type 0 where
+  pub left : (before : List ℕ) → place < length before → old ≡ one_more_at before place → new ≡ before
+  pub last : (before : List ℕ) (count : ℕ) → slice_get before place ≡ Some count → old ≡ one_more_at before place → position ≡ suc count
 
 -- these come to the holders, and to the links
-abbrev pub holders_with : List ℕ → List Pending → List ℕ
-holders_with counts [] = counts
-holders_with counts (AtHolder holder f ∷ xs) = holders_with (raised counts holder) xs
-holders_with counts (OnLink link number f ∷ xs) = holders_with counts xs
+abbrev pub holder_counts : List ℕ → List Pending → List ℕ
+holder_counts counts [] = counts
+holder_counts counts (AtHolder holder f ∷ xs) = holder_counts (one_more_at counts holder) xs
+holder_counts counts (OnLink link number f ∷ xs) = holder_counts counts xs
 
-abbrev pub links_with : List ℕ → List Pending → List ℕ
-links_with counts [] = counts
-links_with counts (AtHolder holder f ∷ xs) = links_with counts xs
-links_with counts (OnLink link number f ∷ xs) = links_with (raised counts link) xs
+abbrev pub link_counts : List ℕ → List Pending → List ℕ
+link_counts counts [] = counts
+link_counts counts (AtHolder holder f ∷ xs) = link_counts counts xs
+link_counts counts (OnLink link number f ∷ xs) = link_counts (one_more_at counts link) xs
 
 -- its place is one of so many
 abbrev pub HasPlace : ℕ → ℕ → Pending → Type 0
@@ -37,5 +48,5 @@ HasPlace holders links (OnLink link number f) = link < links
 
 -- these records wait in the network, and no others
 pub record Wait (net : Net) (xs : List Pending) (w : Waiting) : Type 0 where
-  pub held : w.held.items ≡ holders_with (nobody net.holders) xs
-  pub carried : w.carried.items ≡ links_with (nobody net.links) xs
+  pub held : w.held.items ≡ holder_counts (zeros_for net.holders) xs
+  pub carried : w.carried.items ≡ link_counts (zeros_for net.links) xs

@@ -1,18 +1,16 @@
 //! A run of one packet in the making.
-ghost use Rattle.std.specs.Prelude.{◌≡◌, ◌≤◌, ◌<◌, ◌+◌, ◌++◌, ◌∷◌, [], ℕ, suc, List, length, take, drop, Some, IfOk, OnOk, slice_get};
+ghost use Rattle.std.specs.Prelude.{◌≡◌, ◌≤◌, ◌<◌, ◌+◌, ◌++◌, ◌∷◌, [], List, length, take, drop, Some, IfOk, OnOk, slice_get};
 ghost use Rattle.std.specs.List.{AllByRecursion};
-ghost use Rattle.fx_elements.specs.Axes as axes;
-ghost use Rattle.fx_leaf.specs.Tables as by_table;
 ghost use Rattle.fx_leaf.specs.declared.verdict.Fate as of_fate;
 ghost use Rattle.fx_machine.specs.Limits.{step_limit};
 ghost use Rattle.fx_tables.specs.Classes as traffic;
 ghost use Rattle.fx_leaf.specs.Fates.{both};
 ghost use Rattle.fx_tables.specs.Network as network;
 ghost use Rattle.fx_machine.specs.States as states;
-ghost use Rattle.fx_tables.specs.Runnable.{IsHolder, IsRunnable};
+ghost use Rattle.fx_tables.specs.Runnable.{IsHolder};
 ghost use Rattle.fx_tables.specs.declared.observation.Occurrence as of_occurrence;
 ghost use Rattle.fx_run_text.specs.declared.step.Step.TheVariants as of_step;
-ghost use Rattle.fx_steps.specs.Costs as costs;
+ghost use Rattle.fx_steps.specs.Costs as by_fate;
 ghost use Rattle.fx_steps.specs.CostTables as tabled;
 ghost use Rattle.fx_steps.specs.Names.{NameAll};
 ghost use Rattle.fx_steps.specs.Planning as planning;
@@ -20,24 +18,20 @@ ghost use Rattle.fx_steps.specs.UnderWay as under_way;
 ghost use Rattle.fx_steps.specs.Waiting.{Wait, HasPlace};
 ghost use Rattle.fx_steps.specs.declared.pending.Pending.TheVariants as pendings;
 
-use crate::path::along;
-use crate::pending::Pending;
-use crate::planning::{met, plan_meets};
-use crate::sharing::pick;
-use crate::stepping::{arrive, leave};
-use crate::table::Row;
+use crate::pending::{Pending, StepPlan};
+use crate::sharing::shares;
+use crate::table::PacketCosts;
 use crate::waiting::Waiting;
-use fx_boxes::Fields;
-use fx_leaf::{Fate, Tables};
+use fx_leaf::Fate;
 use fx_run_text::{Choices, Step};
-use fx_tables::{Crossing, HolderName, Net, Occurrence, Packet};
+use fx_tables::{Crossing, HolderName, Net, Occurrence};
 use std::alloc::{AllocError, Global};
 
 /// The steps so far, the records on their way, of which the last leaves first, and how many wait where.
 #[derive(Debug, Drop)]
 pub(crate) struct Building {
     steps: Vec<Step>,
-    pending: Vec<Pending>,
+    plan: StepPlan,
     waiting: Waiting,
 }
 
@@ -52,13 +46,13 @@ fn name_at(names: &[HolderName], holder: usize) -> HolderName
 impl Building {
     /// No step so far, and nothing on its way.
     pub(crate) fn new(alloc: Global, net: &Net) -> Result<Building, AllocError>
-        ensures { IfOk result (λ new. (new.steps.items ≡ []) × (new.pending.items ≡ [])
+        ensures { IfOk result (λ new. (new.steps.items ≡ []) × (new.plan.pending.items ≡ [])
             × Wait net.now [] new.waiting) }
     {
         Ok(Building {
             steps: Vec::new(alloc),
-            pending: Vec::new(alloc),
-            waiting: Waiting::nowhere(alloc, net)?,
+            plan: StepPlan::new(alloc),
+            waiting: Waiting::new(alloc, net)?,
         })
     }
 
@@ -66,118 +60,80 @@ impl Building {
     fn leave_holder(
         &mut self,
         alloc: Global,
-        rows: &[Row],
-        tables: &Tables<'_>,
+        costs: &PacketCosts<'_, '_>,
         names: &[HolderName],
         holder: usize,
         fate: Fate,
     ) -> Result<Step, AllocError>
-        requires names { NameAll tables.now.net names.now }
-        requires there { IsHolder tables.now.net holder }
-        requires waiting { Wait tables.now.net (self.old.pending.items
+        requires names { let c = costs.now in NameAll c.tables.net names.now }
+        requires there { let c = costs.now in IsHolder c.tables.net holder }
+        requires waiting { let c = costs.now in
+            Wait c.tables.net (self.old.plan.pending.items
             ++ pendings.AtHolder holder fate ∷ []) self.old.waiting }
-        ensures step { (fields : axes.Fields) → IfOk result (under_way.IsStepOf rows.now
-            tables.now.net tables.now.numbering fields self.old.pending.items (pendings.AtHolder
-            holder fate)) }
-        ensures pending { (fields : axes.Fields) → OnOk result (self.new.pending.items
-            ≡ self.old.pending.items ++ planning.planned_of rows.now tables.now.net
-            tables.now.numbering fields (pendings.AtHolder holder fate)) }
-        ensures waiting { OnOk result
-            (Wait tables.now.net self.old.pending.items self.new.waiting) }
+        ensures leaves { IfOk result (under_way.TopLeaves costs.now self.old self.new
+            (pendings.AtHolder holder fate)) }
         ensures steps { self.new.steps.items ≡ self.old.steps.items }
     {
         let position = self.waiting.leave_holder(holder);
-        leave(
-            alloc,
-            &mut self.pending,
-            rows,
-            tables,
-            holder,
-            fate,
-            name_at(names, holder),
-            position,
-        )
+        self.plan.leave(alloc, costs, holder, fate, name_at(names, holder), position)
     }
 
     /// The step of a record that waits on this link behind all that are pending; what comes of it comes last.
     fn leave_link(
         &mut self,
         alloc: Global,
-        rows: &[Row],
-        tables: &Tables<'_>,
-        fields: &Fields,
+        costs: &PacketCosts<'_, '_>,
         link: usize,
         layout: usize,
         fate: Fate,
     ) -> Result<Step, AllocError>
-        requires there { link < length tables.now.net.links }
-        requires waiting { Wait tables.now.net (self.old.pending.items
+        requires there { let c = costs.now in link < length c.tables.net.links }
+        requires waiting { let c = costs.now in
+            Wait c.tables.net (self.old.plan.pending.items
             ++ pendings.OnLink link layout fate ∷ []) self.old.waiting }
-        ensures step { IfOk result (under_way.IsStepOf rows.now tables.now.net tables.now.numbering
-            fields.now self.old.pending.items (pendings.OnLink link layout fate)) }
-        ensures pending { OnOk result (self.new.pending.items ≡ self.old.pending.items
-            ++ planning.planned_of rows.now tables.now.net tables.now.numbering fields.now
+        ensures leaves { IfOk result (under_way.TopLeaves costs.now self.old self.new
             (pendings.OnLink link layout fate)) }
-        ensures waiting { OnOk result
-            (Wait tables.now.net self.old.pending.items self.new.waiting) }
         ensures steps { self.new.steps.items ≡ self.old.steps.items }
     {
         let position = self.waiting.leave_link(link);
-        arrive(
-            alloc,
-            &mut self.pending,
-            rows,
-            tables,
-            fields,
-            link,
-            layout,
-            fate,
-            position,
-        )
+        self.plan.arrive(alloc, costs, link, layout, fate, position)
     }
 
     /// What was put behind so many pending records waits, too.
     fn count_behind(&mut self, net: &Net, from: usize)
-        requires behind { from ≤ length self.old.pending.items }
-        requires waiting { Wait net.now (take from self.old.pending.items) self.old.waiting }
+        requires behind { from ≤ length self.old.plan.pending.items }
+        requires waiting { Wait net.now (take from self.old.plan.pending.items) self.old.waiting }
         requires there { AllByRecursion (HasPlace (length net.now.holders) (length net.now.links))
-            (drop from self.old.pending.items) }
-        requires few { length self.old.pending.items ≤ step_limit }
-        ensures waiting { Wait net.now self.new.pending.items self.new.waiting }
-        ensures pending { self.new.pending.items ≡ self.old.pending.items }
+            (drop from self.old.plan.pending.items) }
+        requires few { length self.old.plan.pending.items ≤ step_limit }
+        ensures waiting { Wait net.now self.new.plan.pending.items self.new.waiting }
+        ensures pending { self.new.plan.pending.items ≡ self.old.plan.pending.items }
         ensures steps { self.new.steps.items ≡ self.old.steps.items }
     {
-        self.waiting.add_all(&self.pending.as_slice()[from..]);
+        self.waiting.add_all(&self.plan.pending.as_slice()[from..]);
     }
 
     /// The step of a record that is behind all that are pending; what comes of it comes last.
     fn step_of(
         &mut self,
         alloc: Global,
-        rows: &[Row],
-        tables: &Tables<'_>,
+        costs: &PacketCosts<'_, '_>,
         names: &[HolderName],
-        fields: &Fields,
         top: Pending,
     ) -> Result<Step, AllocError>
-        requires names { NameAll tables.now.net names.now }
-        requires there { planning.IsThere tables.now.net tables.now.numbering top }
-        requires waiting { Wait tables.now.net (self.old.pending.items
-            ++ top ∷ []) self.old.waiting }
-        ensures step { IfOk result (under_way.IsStepOf rows.now tables.now.net tables.now.numbering
-            fields.now self.old.pending.items top) }
-        ensures pending { OnOk result (self.new.pending.items ≡ self.old.pending.items
-            ++ planning.planned_of rows.now tables.now.net tables.now.numbering fields.now top) }
-        ensures waiting { OnOk result
-            (Wait tables.now.net self.old.pending.items self.new.waiting) }
+        requires names { let c = costs.now in NameAll c.tables.net names.now }
+        requires there { let c = costs.now in planning.IsThere c.tables.net c.tables.numbering top }
+        requires waiting { let c = costs.now in
+            Wait c.tables.net (self.old.plan.pending.items ++ top ∷ []) self.old.waiting }
+        ensures leaves { IfOk result (under_way.TopLeaves costs.now self.old self.new top) }
         ensures steps { self.new.steps.items ≡ self.old.steps.items }
     {
         match top {
             Pending::AtHolder { holder, fate } => {
-                self.leave_holder(alloc, rows, tables, names, holder, fate)
+                self.leave_holder(alloc, costs, names, holder, fate)
             }
             Pending::OnLink { link, layout, fate } => {
-                self.leave_link(alloc, rows, tables, fields, link, layout, fate)
+                self.leave_link(alloc, costs, link, layout, fate)
             }
         }
     }
@@ -186,29 +142,28 @@ impl Building {
     fn advance(
         &mut self,
         alloc: Global,
-        rows: &[Row],
-        tables: &Tables<'_>,
+        costs: &PacketCosts<'_, '_>,
         names: &[HolderName],
-        fields: &Fields,
         top: Pending,
     ) -> Result<(), AllocError>
-        requires tables { by_table.AreTables tables.now }
-        requires runnable { IsRunnable tables.now.net }
-        requires filled { under_way.HasCosts tables.now fields.now rows.now }
-        requires names { NameAll tables.now.net names.now }
-        requires leaves { under_way.CanLeave rows.now tables.now.net tables.now.numbering (length
-            self.old.steps.items) (self.old.pending.items ++ top ∷ []) self.old.waiting }
-        ensures left { OnOk result (under_way.Left rows.now tables.now.net tables.now.numbering
-            fields.now self.old.pending.items top self.old.steps.items self.new.steps.items) }
-        ensures pending { OnOk result (self.new.pending.items ≡ self.old.pending.items
-            ++ planning.planned_of rows.now tables.now.net tables.now.numbering fields.now top) }
-        ensures leaves { OnOk result (under_way.CanLeave rows.now tables.now.net
-            tables.now.numbering (length self.new.steps.items) self.new.pending.items
-            self.new.waiting) }
+        requires prepared { under_way.IsPrepared costs.now names.now }
+        requires leaves { let c = costs.now in
+            under_way.CanLeave c.table c.tables.net c.tables.numbering (length self.old.steps.items)
+            (self.old.plan.pending.items ++ top ∷ []) self.old.waiting }
+        ensures left { let c = costs.now in
+            OnOk result (under_way.Leaves c.table c.tables.net c.tables.numbering c.packet.fields
+            self.old.plan.pending.items top self.old.steps.items self.new.steps.items) }
+        ensures pending { let c = costs.now in
+            OnOk result (self.new.plan.pending.items
+            ≡ self.old.plan.pending.items ++ planning.step_pending c.table c.tables.net
+            c.tables.numbering c.packet.fields top) }
+        ensures leaves { let c = costs.now in
+            OnOk result (under_way.CanLeave c.table c.tables.net c.tables.numbering
+            (length self.new.steps.items) self.new.plan.pending.items self.new.waiting) }
     {
-        let from = self.pending.as_slice().len();
-        let step = self.step_of(alloc, rows, tables, names, fields, top)?;
-        self.count_behind(tables.net(), from);
+        let from = self.plan.pending.as_slice().len();
+        let step = self.step_of(alloc, costs, names, top)?;
+        self.count_behind(costs.net(), from);
         self.steps.push(step)?;
         Ok(())
     }
@@ -217,30 +172,28 @@ impl Building {
     pub(crate) fn finish(
         &mut self,
         alloc: Global,
-        rows: &[Row],
-        tables: &Tables<'_>,
+        costs: &PacketCosts<'_, '_>,
         names: &[HolderName],
-        packet: &Packet,
     ) -> Result<(), AllocError>
-        requires tables { by_table.AreTables tables.now }
-        requires runnable { IsRunnable tables.now.net }
-        requires filled { under_way.HasCosts tables.now packet.now.fields rows.now }
-        requires names { NameAll tables.now.net names.now }
-        requires leaves { under_way.CanLeave rows.now tables.now.net tables.now.numbering (length
-            self.old.steps.items) self.old.pending.items self.old.waiting }
-        ensures nothing { OnOk result (self.new.pending.items ≡ []) }
-        ensures waiting { OnOk result (Wait tables.now.net [] self.new.waiting) }
-        ensures number { OnOk result (length self.new.steps.items
-            ≡ length self.old.steps.items + planning.total_cost rows.now tables.now.net
-            tables.now.numbering self.old.pending.items) }
-        ensures way { OnOk result ((classes : List traffic.Class) (coming : List states.Coming) (f
-            : of_fate.Fate) → under_way.UnderWay tables.now.net tables.now.numbering classes
-            packet.now coming f self.old.steps.items self.old.pending.items
-            → under_way.UnderWay tables.now.net tables.now.numbering classes packet.now coming f
+        requires prepared { under_way.IsPrepared costs.now names.now }
+        requires leaves { let c = costs.now in
+            under_way.CanLeave c.table c.tables.net c.tables.numbering (length self.old.steps.items)
+            self.old.plan.pending.items self.old.waiting }
+        ensures nothing { OnOk result (self.new.plan.pending.items ≡ []) }
+        ensures waiting { let c = costs.now in OnOk result (Wait c.tables.net [] self.new.waiting) }
+        ensures number { let c = costs.now in
+            OnOk result (length self.new.steps.items
+            ≡ length self.old.steps.items + planning.total_cost c.table c.tables.net
+            c.tables.numbering self.old.plan.pending.items) }
+        ensures way { let c = costs.now in
+            OnOk result ((classes : List traffic.Class) (coming : List states.Coming)
+            (f : of_fate.Fate) → under_way.UnderWay c.tables.net c.tables.numbering classes c.packet
+            coming f self.old.steps.items self.old.plan.pending.items
+            → under_way.UnderWay c.tables.net c.tables.numbering classes c.packet coming f
             self.new.steps.items []) }
     {
-        while let Some(top) = self.pending.pop() {
-            self.advance(alloc, rows, tables, names, &packet.fields, top)?;
+        while let Some(top) = self.plan.pending.pop() {
+            self.advance(alloc, costs, names, top)?;
         }
         Ok(())
     }
@@ -248,40 +201,37 @@ impl Building {
     /// The packet makes the crossing of this number, where it meets the caches of these occurrences.
     pub(crate) fn cross(
         &mut self,
-        rows: &[Row],
-        tables: &Tables<'_>,
-        mut choices: Vec<Option<u64>>,
+        alloc: Global,
+        costs: &PacketCosts<'_, '_>,
         number: u64,
         occurrences: &[Occurrence],
         fate: Fate,
     ) -> Result<(), AllocError>
-        requires none { choices.items ≡ [] }
-        requires nothing { self.old.pending.items ≡ [] }
-        requires waiting { Wait tables.now.net [] self.old.waiting }
-        requires there { AllByRecursion (λ (o : of_occurrence.Occurrence). IsHolder tables.now.net
-            o.holder) occurrences.now }
-        requires cheap { costs.cost_of (tabled.met_costs rows.now tables.now.net
-            tables.now.numbering occurrences.now) fate ≤ step_limit }
-        ensures pending { OnOk result (self.new.pending.items
-            ≡ planning.meets rows.now tables.now.net tables.now.numbering occurrences.now fate) }
-        ensures waiting { OnOk result
-            (Wait tables.now.net self.new.pending.items self.new.waiting) }
+        requires nothing { self.old.plan.pending.items ≡ [] }
+        requires waiting { let c = costs.now in Wait c.tables.net [] self.old.waiting }
+        requires there { let c = costs.now in
+            AllByRecursion (λ (o : of_occurrence.Occurrence). IsHolder c.tables.net o.holder)
+            occurrences.now }
+        requires cheap { let c = costs.now in
+            by_fate.cost_of (tabled.occurrence_costs c.table c.tables.net c.tables.numbering
+            occurrences.now) fate ≤ step_limit }
+        ensures pending { let c = costs.now in
+            OnOk result (self.new.plan.pending.items
+            ≡ planning.occurrence_pending c.table c.tables.net c.tables.numbering occurrences.now
+            fate) }
+        ensures waiting { let c = costs.now in
+            OnOk result (Wait c.tables.net self.new.plan.pending.items self.new.waiting) }
         ensures steps { OnOk result (self.new.steps.items ≡ self.old.steps.items
-            ++ of_step.Cross 1 number (planning.meets_choose occurrences.now) ∷ []) }
+            ++ of_step.Cross 1 number (planning.occurrence_choices occurrences.now) ∷ []) }
     {
-        plan_meets(
-            &mut self.pending,
-            &mut choices,
-            rows,
-            tables,
-            occurrences,
-            fate,
-        )?;
-        self.count_behind(tables.net(), 0);
+        self.plan.begin();
+        self.plan.add_meetings(costs, occurrences, fate)?;
+        let choices = Choices::new(self.plan.take_choices(alloc));
+        self.count_behind(costs.net(), 0);
         self.steps.push(Step::Cross {
             packet: 1,
             crossing: number,
-            choices: Choices::new(choices),
+            choices,
         })?;
         Ok(())
     }
@@ -291,10 +241,8 @@ impl Building {
     pub(crate) fn make_crossing(
         &mut self,
         alloc: Global,
-        rows: &[Row],
-        tables: &Tables<'_>,
+        costs: &PacketCosts<'_, '_>,
         names: &[HolderName],
-        packet: &Packet,
         number: u64,
         crossing: &Crossing,
         rest: &[Crossing],
@@ -317,21 +265,20 @@ impl Building {
             c.packet.fields (crossing.now ∷ rest.now)) left) }
         ensures way { let c = costs.now in
             IfOk result (λ later. (classes : List traffic.Class) (coming : List states.Coming)
-            (f : of_fate.Fate) → network.entry_numbered (traffic.path classes c.packet) number
+            (f : of_fate.Fate) → network.numbered (traffic.path classes c.packet) number
             ≡ Some crossing.now → under_way.UnderWay c.tables.net c.tables.numbering classes
             c.packet (record { packet = 1; crossing = number } ∷ coming) f self.old.steps.items []
             → (g : of_fate.Fate) × (both g later ≡ both f left)
-            × under_way.UnderWay tables.now.net tables.now.numbering classes packet.now coming
-            g self.new.steps.items []) }
+            × under_way.UnderWay c.tables.net c.tables.numbering classes c.packet coming g
+            self.new.steps.items []) }
     {
-        let occurrences = tables.net().occurrences(alloc, crossing, &packet.fields)?;
+        let occurrences = costs.net().occurrences(alloc, crossing, costs.fields())?;
         let occurrences = occurrences.as_slice();
-        let here = met(rows, tables, occurrences).next();
-        let others = along(rows, tables, &packet.fields, rest);
-        let (now, later) = pick(here, others, left);
-        let choices: Vec<Option<u64>> = Vec::new(alloc);
-        self.cross(rows, tables, choices, number, occurrences, now)?;
-        self.finish(alloc, rows, tables, names, packet)?;
+        let here = costs.occurrence_costs(occurrences).one_step_more();
+        let others = costs.path_costs(rest);
+        let (now, later) = shares(here, others, left);
+        self.cross(alloc, costs, number, occurrences, now)?;
+        self.finish(alloc, costs, names)?;
         Ok(later)
     }
 

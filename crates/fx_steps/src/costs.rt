@@ -1,10 +1,10 @@
 //! Least numbers of steps.
-ghost use Rattle.std.specs.Prelude.{◌≡◌, List};
+ghost use Rattle.std.specs.Prelude.{◌≡◌};
 ghost use Rattle.fx_leaf.specs.declared.verdict.Fate.TheVariants as fate;
 ghost use Rattle.fx_steps.specs.Costs as costs;
 
 /// More steps than a run may have.
-pub(crate) const OVER: u32 = 1_000_001;
+pub(crate) const OVER_LIMIT: u32 = 1_000_001;
 
 /// The least numbers of steps in which something comes to each fate, where they are at most 1,000,000; else 1,000,001.
 #[derive(Clone, Copy, Debug, Default, PartialEq, Eq)]
@@ -16,86 +16,86 @@ pub(crate) struct Costs {
 }
 
 /// Both numbers together.
-pub(crate) fn plus(one: u32, other: u32) -> u32
-    ensures { result ≡ costs.plus one other }
+pub(crate) fn limited_sum(one: u32, other: u32) -> u32
+    ensures { result ≡ costs.limited_sum one other }
 {
-    one.saturating_add(other).min(OVER)
+    one.saturating_add(other).min(OVER_LIMIT)
 }
 
 /// The least of these numbers.
-fn least(numbers: &[u32]) -> u32
-    ensures { result ≡ costs.least numbers.now }
+fn least_number(numbers: &[u32]) -> u32
+    ensures { result ≡ costs.least_number numbers.now }
 {
     match numbers {
-        [] => OVER,
-        [first, rest @ ..] => least(rest).min(*first),
+        [] => OVER_LIMIT,
+        [first, rest @ ..] => least_number(rest).min(*first),
     }
 }
 
 impl Costs {
     /// Nothing happens.
-    pub(crate) fn nothing() -> Costs
-        ensures { result ≡ costs.nothing }
+    pub(crate) fn of_never() -> Costs
+        ensures { result ≡ costs.costs_of_never }
     {
         Costs {
             never: 0,
-            once: OVER,
-            many: OVER,
-            unassigned: OVER,
+            once: OVER_LIMIT,
+            many: OVER_LIMIT,
+            unassigned: OVER_LIMIT,
         }
     }
 
     /// It is counted.
-    pub(crate) fn counted() -> Costs
-        ensures { result ≡ costs.counted }
+    pub(crate) fn of_once() -> Costs
+        ensures { result ≡ costs.costs_of_once }
     {
         Costs {
-            never: OVER,
+            never: OVER_LIMIT,
             once: 0,
-            many: OVER,
-            unassigned: OVER,
+            many: OVER_LIMIT,
+            unassigned: OVER_LIMIT,
         }
     }
 
     /// It is unassigned.
-    pub(crate) fn lost() -> Costs
-        ensures { result ≡ costs.lost }
+    pub(crate) fn of_unassigned() -> Costs
+        ensures { result ≡ costs.costs_of_unassigned }
     {
         Costs {
-            never: OVER,
-            once: OVER,
-            many: OVER,
+            never: OVER_LIMIT,
+            once: OVER_LIMIT,
+            many: OVER_LIMIT,
             unassigned: 0,
         }
     }
 
     /// There is no way.
-    pub(crate) fn no_way() -> Costs
-        ensures { result ≡ costs.no_way }
+    pub(crate) fn of_no_way() -> Costs
+        ensures { result ≡ costs.costs_of_no_way }
     {
         Costs {
-            never: OVER,
-            once: OVER,
-            many: OVER,
-            unassigned: OVER,
+            never: OVER_LIMIT,
+            once: OVER_LIMIT,
+            many: OVER_LIMIT,
+            unassigned: OVER_LIMIT,
         }
     }
 
     /// By one step more.
-    pub(crate) fn next(self) -> Costs
-        ensures { result ≡ costs.next self }
+    pub(crate) fn one_step_more(self) -> Costs
+        ensures { result ≡ costs.one_step_more self }
     {
         Costs {
-            never: plus(1, self.never),
-            once: plus(1, self.once),
-            many: plus(1, self.many),
-            unassigned: plus(1, self.unassigned),
+            never: limited_sum(1, self.never),
+            once: limited_sum(1, self.once),
+            many: limited_sum(1, self.many),
+            unassigned: limited_sum(1, self.unassigned),
         }
     }
 
     /// One of both happens.
     pub(crate) fn either(self, other: Costs) -> Costs
-        ensures { result ≡ costs.either self other }
+        ensures { result ≡ costs.either_costs self other }
     {
         Costs {
             never: self.never.min(other.never),
@@ -110,8 +110,11 @@ impl Costs {
         ensures { result ≡ costs.both_costs self other }
     {
         Costs {
-            never: least(&[plus(self.never, other.never)]),
-            once: least(&[plus(self.never, other.once), plus(self.once, other.never)]),
+            never: least_number(&[limited_sum(self.never, other.never)]),
+            once: least_number(&[
+                limited_sum(self.never, other.once),
+                limited_sum(self.once, other.never),
+            ]),
             many: self.both_many(other),
             unassigned: self.both_unassigned(other),
         }
@@ -121,13 +124,13 @@ impl Costs {
     fn both_many(self, other: Costs) -> u32
         ensures { result ≡ costs.both_cost self other fate.Many }
     {
-        least(&[
-            plus(self.never, other.many),
-            plus(self.many, other.never),
-            plus(self.once, other.once),
-            plus(self.once, other.many),
-            plus(self.many, other.once),
-            plus(self.many, other.many),
+        least_number(&[
+            limited_sum(self.never, other.many),
+            limited_sum(self.many, other.never),
+            limited_sum(self.once, other.once),
+            limited_sum(self.once, other.many),
+            limited_sum(self.many, other.once),
+            limited_sum(self.many, other.many),
         ])
     }
 
@@ -135,14 +138,14 @@ impl Costs {
     fn both_unassigned(self, other: Costs) -> u32
         ensures { result ≡ costs.both_cost self other fate.Unassigned }
     {
-        least(&[
-            plus(self.unassigned, other.never),
-            plus(self.unassigned, other.once),
-            plus(self.unassigned, other.many),
-            plus(self.unassigned, other.unassigned),
-            plus(self.never, other.unassigned),
-            plus(self.once, other.unassigned),
-            plus(self.many, other.unassigned),
+        least_number(&[
+            limited_sum(self.unassigned, other.never),
+            limited_sum(self.unassigned, other.once),
+            limited_sum(self.unassigned, other.many),
+            limited_sum(self.unassigned, other.unassigned),
+            limited_sum(self.never, other.unassigned),
+            limited_sum(self.once, other.unassigned),
+            limited_sum(self.many, other.unassigned),
         ])
     }
 }

@@ -6,26 +6,9 @@ ghost use Rattle.fx_tables.specs.Network as network;
 ghost use Rattle.fx_steps.specs.CostTables as tabled;
 
 use crate::costs::Costs;
-use crate::sending::sent;
-use crate::table::Row;
-use fx_boxes::Fields;
+use crate::table::PacketCosts;
 use fx_layout::{Key, Layout};
-use fx_leaf::Tables;
 use fx_tables::{AggregationEntry, MatchEntry, Net, Process};
-
-/// Of a record that a holder takes in.
-pub(crate) fn held(rows: &[Row], tables: &Tables<'_>, holder: usize) -> Costs
-    ensures { result ≡ tabled.held_costs rows.now tables.now.net tables.now.numbering holder }
-{
-    let net = tables.net();
-    sent(
-        rows,
-        net,
-        tables.number_of_layout(holder),
-        net.named_by(holder),
-    )
-    .next()
-}
 
 /// Whether all of these entries can be read from a key and hold.
 fn entries_hold(key: &Key, entries: &[MatchEntry]) -> bool
@@ -45,90 +28,87 @@ pub(crate) fn takes(net: &Net, key: &Key, aggregation: &AggregationEntry) -> boo
         && entries_hold(key, aggregation.matches())
 }
 
-/// Of what these aggregations take in.
-pub(crate) fn taken(
-    rows: &[Row],
-    tables: &Tables<'_>,
-    key: &Key,
-    aggregations: &[AggregationEntry],
-) -> Costs
-    ensures { result ≡ tabled.taken_costs rows.now tables.now.net tables.now.numbering key.now
-        aggregations.now }
-{
-    match aggregations {
-        [] => Costs::nothing(),
-        [first, rest @ ..] => {
-            let others = taken(rows, tables, key, rest);
-            if takes(tables.net(), key, first) {
-                held(rows, tables, first.holder()).both(others)
-            } else {
-                others
-            }
-        }
-    }
-}
-
-/// Of what a collecting process does with records of this key, whose layout has this number.
-fn handled(
-    rows: &[Row],
-    tables: &Tables<'_>,
-    fields: &Fields,
-    number: usize,
-    layout: &Layout,
-    process: &Process,
-) -> Costs
-    ensures { result ≡ tabled.handled_costs rows.now tables.now.net tables.now.numbering fields.now
-        number layout.now (Some process.now) }
-{
-    let forwarded = sent(rows, tables.net(), number, process.exporters());
-    forwarded.both(taken(rows, tables, &layout.key_of(fields), process.aggregations()))
-}
-
-/// The same for the collecting process at this place; nothing, where there is none.
-pub(crate) fn handled_at(
-    rows: &[Row],
-    tables: &Tables<'_>,
-    fields: &Fields,
-    number: usize,
-    layout: &Layout,
-    process: usize,
-) -> Costs
-    ensures { result ≡ tabled.handled_costs rows.now tables.now.net tables.now.numbering fields.now
-        number layout.now (slice_get tables.now.net.processes process) }
-{
-    match tables.net().processes().get(process) {
-        None => Costs::nothing(),
-        Some(process) => handled(rows, tables, fields, number, layout, process),
-    }
-}
-
-/// Of what is counted of records that come to the collecting process at this place.
-pub(crate) fn tallied(net: &Net, layout: &Layout, process: usize) -> Costs
+/// The costs of what is counted of records that come to the collecting process at this place.
+pub(crate) fn tally_costs(net: &Net, layout: &Layout, process: usize) -> Costs
     ensures { result ≡ tabled.tally_costs net.now layout.now process }
 {
     if process != net.report() {
-        Costs::nothing()
+        Costs::of_never()
     } else if layout.refines(net.report_layout()) {
-        Costs::counted()
+        Costs::of_once()
     } else {
-        Costs::lost()
+        Costs::of_unassigned()
     }
 }
 
-/// The entry for the collecting process at this place and the layout of this number, from the rows of the processes
-/// that it feeds.
-pub(crate) fn entry_from(
-    rows: &[Row],
-    tables: &Tables<'_>,
-    fields: &Fields,
-    process: usize,
-    number: usize,
-    layout: &Layout,
-) -> Costs
-    ensures { result ≡ tabled.cost_from rows.now tables.now.net tables.now.numbering fields.now
-        process number layout.now }
-{
-    tallied(tables.net(), layout, process).both(handled_at(
-        rows, tables, fields, number, layout, process,
-    ))
+impl PacketCosts<'_, '_> {
+    /// The costs of a record that the holder at this place takes in.
+    pub(crate) fn holder_costs(&self, holder: usize) -> Costs
+        ensures { let c = self.now in
+            result ≡ tabled.holder_costs c.table c.tables.net c.tables.numbering holder }
+    {
+        let named = self.net().named_by(holder);
+        let number = self.number_of_layout(holder);
+        self.sent_costs(number, named).one_step_more()
+    }
+
+    /// The costs of what these aggregations take in.
+    pub(crate) fn all_taken_costs(&self, key: &Key, aggregations: &[AggregationEntry]) -> Costs
+        ensures { let c = self.now in
+            result ≡ tabled.all_taken_costs c.table c.tables.net c.tables.numbering key.now
+            aggregations.now }
+    {
+        match aggregations {
+            [] => Costs::of_never(),
+            [first, rest @ ..] => {
+                let others = self.all_taken_costs(key, rest);
+                if takes(self.net(), key, first) {
+                    self.holder_costs(first.holder()).both(others)
+                } else {
+                    others
+                }
+            }
+        }
+    }
+
+    /// The packet's key of this layout.
+    pub(crate) fn key_of(&self, layout: &Layout) -> Key
+        ensures { result ≡ keys.key_of layout.now self.now.packet.fields }
+    {
+        layout.key_of(self.fields())
+    }
+
+    /// The costs of what a collecting process does with records of the layout of this number.
+    fn handled_costs(&self, number: usize, layout: &Layout, process: &Process) -> Costs
+        ensures { let c = self.now in
+            result ≡ tabled.handled_costs c.table c.tables.net c.tables.numbering c.packet.fields
+            number layout.now (Some process.now) }
+    {
+        let key = self.key_of(layout);
+        let forwarded = self.sent_costs(number, process.exporters());
+        forwarded.both(self.all_taken_costs(&key, process.aggregations()))
+    }
+
+    /// The costs of what the collecting process at this place does with them; of nothing, where there is none.
+    pub(crate) fn handled_costs_at(&self, number: usize, layout: &Layout, process: usize) -> Costs
+        ensures { let c = self.now in
+            result ≡ tabled.handled_costs c.table c.tables.net c.tables.numbering c.packet.fields
+            number layout.now (slice_get c.tables.net.processes process) }
+    {
+        match self.net().processes().get(process) {
+            None => Costs::of_never(),
+            Some(process) => self.handled_costs(number, layout, process),
+        }
+    }
+
+    /// The entry for the collecting process at this place and the layout of this number, from the rows of the processes
+    /// that it feeds.
+    pub(crate) fn entry_from(&self, process: usize, number: usize, layout: &Layout) -> Costs
+        ensures { let c = self.now in
+            result ≡ tabled.cost_entry_from c.table c.tables.net c.tables.numbering c.packet.fields
+            process number layout.now }
+    {
+        let counted = tally_costs(self.net(), layout, process);
+        counted.both(self.handled_costs_at(number, layout, process))
+    }
 }

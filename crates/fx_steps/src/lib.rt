@@ -10,7 +10,7 @@ mod path;
 mod pending;
 mod planning;
 mod rows;
-mod sending;
+mod sends;
 mod sharing;
 mod stepping;
 mod table;

@@ -20,7 +20,7 @@ fn note(names: &mut [HolderName], net: &Net, name: HolderName)
     }
 }
 
-/// The same of so many caches of a device.
+/// Each of so many caches of a device, if it is there, has its name.
 fn note_caches(names: &mut [HolderName], net: &Net, device: u64, count: usize)
     ensures kept { naming.Keep net.now names.old names.new }
     ensures noted { (cache : ℕ) → cache < count → naming.Note net.now names.new (variants.Cache
@@ -32,7 +32,7 @@ fn note_caches(names: &mut [HolderName], net: &Net, device: u64, count: usize)
     }
 }
 
-/// The same of so many aggregations of a collecting process.
+/// Each of so many aggregations of a collecting process, if it is there, has its name.
 fn note_aggregations(names: &mut [HolderName], net: &Net, device: u64, process: u64, count: usize)
     ensures kept { naming.Keep net.now names.old names.new }
     ensures noted { (aggregation : ℕ) → aggregation < count
@@ -58,7 +58,7 @@ fn count_aggregations(net: &Net, place: usize) -> usize
     }
 }
 
-/// The same of all aggregations of the collecting processes at these places.
+/// Each aggregation of the collecting processes at these places has its name.
 fn note_processes(names: &mut [HolderName], net: &Net, device: u64, places: &[usize])
     ensures kept { naming.Keep net.now names.old names.new }
     ensures noted { (process place aggregation : ℕ) → slice_get places.now process ≡ Some place
@@ -72,7 +72,7 @@ fn note_processes(names: &mut [HolderName], net: &Net, device: u64, places: &[us
     }
 }
 
-/// The same of all holders of the device of this number.
+/// Each holder of the device of this number has its name.
 fn note_device(names: &mut [HolderName], net: &Net, number: u64, device: &DeviceEntry)
     requires { network.entry_numbered net.now.devices number ≡ Some device.now }
     ensures kept { naming.Keep net.now names.old names.new }
@@ -97,7 +97,7 @@ fn no_names(alloc: Global, count: usize) -> Result<Vec<HolderName>, AllocError>
     Ok(names)
 }
 
-/// The same of all devices of the network.
+/// Each holder of each device of the network has its name.
 fn note_devices(names: &mut [HolderName], net: &Net)
     requires { length names.old ≡ length net.now.holders }
     ensures { naming.NameAll net.now names.new }

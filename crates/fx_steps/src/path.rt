@@ -1,7 +1,6 @@
 //! The least numbers of steps of a packet that takes a path.
-ghost use Rattle.std.specs.Prelude.{◌≡◌, ◌≤◌, ◌++◌, [], ◌∷◌, List, ℕ, length, if◌then◌else◌};
+ghost use Rattle.std.specs.Prelude.{◌≡◌, ◌++◌, [], List, ℕ, length, if◌then◌else◌};
 ghost use Rattle.fx_leaf.specs.Tables as by_table;
-ghost use Rattle.fx_tables.specs.Network as network;
 ghost use Rattle.fx_tables.specs.Occurrences as met;
 ghost use Rattle.fx_tables.specs.Runnable.{IsRunnable};
 ghost use Rattle.fx_tables.specs.declared.observation.Occurrence as of_occurrence;
@@ -11,12 +10,11 @@ ghost use Rattle.fx_steps.specs.UnderWay as under_way;
 ghost use Rattle.fx_steps.specs.Ways as ways;
 
 use crate::costs::Costs;
-use crate::entry::held;
 use crate::rows::fill;
-use crate::table::{PacketCosts, CostRow};
+use crate::table::{PacketCosts, Row};
 use fx_boxes::{Fields, Region};
 use fx_leaf::Tables;
-use fx_tables::{Crossing, Point, Selection};
+use fx_tables::{Crossing, Occurrence, Packet, Point, Selection};
 
 /// Whether a selection process with this region, if any, selects a packet with these fields.
 fn selects(region: Option<Region>, fields: &Fields) -> bool
@@ -28,133 +26,136 @@ fn selects(region: Option<Region>, fields: &Fields) -> bool
     }
 }
 
-/// Of a packet that a selection process meets, if it selects it and has a cache, and of something else.
-fn with_selection(
-    rows: &[Row],
-    tables: &Tables<'_>,
-    fields: &Fields,
-    selection: Selection,
-    others: Costs,
-) -> Costs
-    ensures { (point : ℕ) (process : ℕ) (os : List of_occurrence.Occurrence) → others
-        ≡ tabled.met_costs rows.now tables.now.net tables.now.numbering os
-        → result ≡ tabled.met_costs rows.now tables.now.net tables.now.numbering ((if met.selects
-        selection.region fields.now then met.occurrence point process selection.holder else [])
-        ++ os) }
-{
-    if !selects(selection.region, fields) {
-        return others;
+impl PacketCosts<'_, '_> {
+    /// The costs of the packet, where a selection process meets it, if it selects it and has a cache, and of something
+    /// else.
+    fn with_selection(&self, selection: Selection, others: Costs) -> Costs
+        ensures { let c = self.now in
+            let costs = tabled.occurrence_costs c.table c.tables.net c.tables.numbering in
+            (point : ℕ) (process : ℕ) (os : List of_occurrence.Occurrence) → others ≡ costs os
+            → result ≡ costs ((if met.selects selection.region c.packet.fields
+            then met.occurrence point process selection.holder else []) ++ os) }
+    {
+        if !selects(selection.region, self.fields()) {
+            return others;
+        }
+        match selection.holder {
+            None => others,
+            Some(holder) => self.holder_costs(holder).both(others),
+        }
     }
-    match selection.holder {
-        None => others,
-        Some(holder) => held(rows, tables, holder).both(others),
-    }
-}
 
-/// The same for these selection processes of a point.
-fn with_selections(
-    rows: &[Row],
-    tables: &Tables<'_>,
-    fields: &Fields,
-    selections: &[Selection],
-    others: Costs,
-) -> Costs
-    ensures { (point : ℕ) (process : ℕ) (os : List of_occurrence.Occurrence) → others
-        ≡ tabled.met_costs rows.now tables.now.net tables.now.numbering os
-        → result ≡ tabled.met_costs rows.now tables.now.net tables.now.numbering (met.met_by point
-        process selections.now fields.now ++ os) }
-{
-    match selections {
-        [] => others,
-        [first, rest @ ..] => {
-            let behind = with_selections(rows, tables, fields, rest, others);
-            with_selection(rows, tables, fields, *first, behind)
+    /// The costs of the packet, where these selection processes of a point meet it, and of something else.
+    fn with_selections(&self, selections: &[Selection], others: Costs) -> Costs
+        ensures { let c = self.now in
+            let costs = tabled.occurrence_costs c.table c.tables.net c.tables.numbering in
+            (point : ℕ) (process : ℕ) (os : List of_occurrence.Occurrence) → others ≡ costs os
+            → result ≡ costs (met.met_by point process selections.now c.packet.fields ++ os) }
+    {
+        match selections {
+            [] => others,
+            [first, rest @ ..] => {
+                let behind = self.with_selections(rest, others);
+                self.with_selection(*first, behind)
+            }
+        }
+    }
+
+    /// The costs of the packet, where a point of the crossing's device meets it, if it watches the crossing, and of
+    /// something else.
+    fn with_point(&self, crossing: &Crossing, point: &Point, others: Costs) -> Costs
+        ensures { let c = self.now in
+            let costs = tabled.occurrence_costs c.table c.tables.net c.tables.numbering in
+            (number : ℕ) (os : List of_occurrence.Occurrence) → others ≡ costs os
+            → result ≡ costs ((if met.watches point.now crossing.now
+            then met.met_by number 1 point.now.selections c.packet.fields else []) ++ os) }
+    {
+        if point.watches(crossing) {
+            self.with_selections(point.selections(), others)
+        } else {
+            others
+        }
+    }
+
+    /// The costs of the packet, where these points of the crossing's device meet it.
+    fn points_costs(&self, crossing: &Crossing, points: &[Point]) -> Costs
+        ensures { let c = self.now in
+            (number : ℕ) → result ≡ tabled.occurrence_costs c.table c.tables.net c.tables.numbering
+            (met.met_at number points.now crossing.now c.packet.fields) }
+    {
+        match points {
+            [] => Costs::of_never(),
+            [first, rest @ ..] => {
+                let others = self.points_costs(crossing, rest);
+                self.with_point(crossing, first, others)
+            }
+        }
+    }
+
+    /// The costs of the packet, where it makes a crossing.
+    fn crossing_costs(&self, crossing: &Crossing) -> Costs
+        ensures { let c = self.now in
+            result ≡ tabled.occurrence_costs c.table c.tables.net c.tables.numbering
+            (met.occurrences c.tables.net crossing.now c.packet.fields) }
+    {
+        let points = self.net().points_of(crossing.device);
+        self.points_costs(crossing, points)
+    }
+
+    /// The costs of what the caches of these occurrences take in.
+    pub(crate) fn occurrence_costs(&self, occurrences: &[Occurrence]) -> Costs
+        ensures { let c = self.now in
+            result ≡ tabled.occurrence_costs c.table c.tables.net c.tables.numbering
+            occurrences.now }
+    {
+        match occurrences {
+            [] => Costs::of_never(),
+            [first, rest @ ..] => {
+                let others = self.occurrence_costs(rest);
+                self.holder_costs(first.holder).both(others)
+            }
+        }
+    }
+
+    /// The costs of the packet, where it makes these crossings.
+    pub(crate) fn path_costs(&self, path: &[Crossing]) -> Costs
+        ensures { let c = self.now in
+            result ≡ tabled.path_costs c.table c.tables.net c.tables.numbering c.packet.fields
+            path.now }
+    {
+        match path {
+            [] => Costs::of_never(),
+            [first, rest @ ..] => {
+                let others = self.path_costs(rest);
+                self.crossing_costs(first).one_step_more().both(others)
+            }
         }
     }
 }
 
-/// The same for a point of the crossing's device, if it watches the crossing.
-fn with_point(
-    rows: &[Row],
-    tables: &Tables<'_>,
-    fields: &Fields,
-    crossing: &Crossing,
-    point: &Point,
-    others: Costs,
-) -> Costs
-    ensures { (number : ℕ) (os : List of_occurrence.Occurrence) → others
-        ≡ tabled.met_costs rows.now tables.now.net tables.now.numbering os
-        → result ≡ tabled.met_costs rows.now tables.now.net tables.now.numbering ((if met.watches
-        point.now crossing.now then met.met_by number 1 point.now.selections fields.now else
-        []) ++ os) }
-{
-    if point.watches(crossing) {
-        with_selections(rows, tables, fields, point.selections(), others)
-    } else {
-        others
-    }
-}
-
-/// Of a packet that these points of the crossing's device meet.
-fn at_points(
-    rows: &[Row],
-    tables: &Tables<'_>,
-    fields: &Fields,
-    crossing: &Crossing,
-    points: &[Point],
-) -> Costs
-    ensures { (number : ℕ) → result ≡ tabled.met_costs rows.now tables.now.net tables.now.numbering
-        (met.met_at number points.now crossing.now fields.now) }
-{
-    match points {
-        [] => Costs::nothing(),
-        [first, rest @ ..] => {
-            let others = at_points(rows, tables, fields, crossing, rest);
-            with_point(rows, tables, fields, crossing, first, others)
-        }
-    }
-}
-
-/// Of a packet that makes a crossing.
-fn at_crossing(rows: &[Row], tables: &Tables<'_>, fields: &Fields, crossing: &Crossing) -> Costs
-    ensures { result ≡ tabled.met_costs rows.now tables.now.net tables.now.numbering
-        (met.occurrences tables.now.net crossing.now fields.now) }
-{
-    let points = tables.net().points_of(crossing.device);
-    at_points(rows, tables, fields, crossing, points)
-}
-
-/// Of a packet that makes these crossings.
-pub(crate) fn along(rows: &[Row], tables: &Tables<'_>, fields: &Fields, path: &[Crossing]) -> Costs
-    ensures { result ≡ tabled.path_costs rows.now tables.now.net tables.now.numbering fields.now
-        path.now }
-{
-    match path {
-        [] => Costs::nothing(),
-        [first, rest @ ..] => {
-            let others = along(rows, tables, fields, rest);
-            at_crossing(rows, tables, fields, first).next().both(others)
-        }
-    }
-}
-
-/// The least numbers of steps in which a packet with these fields, on this path, comes to each fate, where they are at
-/// most 1,000,000. The rows are filled for the packet, whatever they held. It takes no memory.
+/// The least numbers of steps in which a packet, on this path, comes to each fate, where they are at most 1,000,000. The
+/// rows are filled for the packet, whatever they held. It takes no memory.
 pub(crate) fn least_steps(
     rows: &mut [CostRow],
     tables: &Tables<'_>,
-    fields: &Fields,
+    packet: &Packet,
     path: &[Crossing],
 ) -> Costs
     requires tables { by_table.AreTables tables.now }
     requires runnable { IsRunnable tables.now.net }
     requires room { length rows.old ≡ length tables.now.net.processes }
-    ensures filled { under_way.HasCosts tables.now fields.now rows.new }
+    ensures filled { under_way.HasCosts tables.now packet.now.fields rows.new }
     ensures costs { result ≡ tabled.path_costs rows.new tables.now.net tables.now.numbering
-        fields.now path.now }
-    ensures tells { costs.Tells result (ways.PacketComes tables.now.net fields.now path.now) }
+        packet.now.fields path.now }
+    ensures tells { costs.Tells result (ways.PacketComes tables.now.net packet.now.fields
+        path.now) }
     ensures size { length rows.new ≡ length rows.old }
 {
-    fill(rows, tables, fields);
-    along(rows, tables, fields, path)
+    fill(rows, tables, packet);
+    let costs = PacketCosts {
+        tables: &*tables,
+        packet: &*packet,
+        rows: &*rows,
+    };
+    costs.path_costs(path)
 }

@@ -3,26 +3,26 @@ ghost use Rattle.std.specs.Prelude.{◌≡◌, ◌<◌, length, slice_set};
 ghost use Rattle.fx_leaf.specs.Tables as by_table;
 ghost use Rattle.fx_steps.specs.CostTables as tabled;
 
-use crate::table::{PacketCosts, CostRow};
+use crate::table::{PacketCosts, Row};
 use fx_leaf::Tables;
+use fx_tables::Packet;
 
 impl PacketCosts<'_, '_> {
     /// The row for the collecting process at this place, from the rows of the processes that it feeds.
-    fn row_from(&self, process: usize) -> CostRow
+    fn row_from(&self, process: usize) -> Row
         requires { by_table.AreTables self.now.tables }
         ensures { let c = self.now in
             result ≡ tabled.cost_row c.table c.tables.net c.tables.numbering c.packet.fields process
             0 c.tables.numbering.layouts }
     {
         let layouts = self.layouts();
-        let mut row = CostRow::new();
+        let mut row = Row::new();
         for number in 0..layouts.len() {
             let layout = &layouts[number];
             row.push(self.entry_from(process, number, layout));
         }
         row
     }
-    row
 }
 
 /// Another row for the collecting process at this place.
@@ -34,14 +34,19 @@ fn set_row(rows: &mut [CostRow], process: usize, row: CostRow)
 }
 
 /// Each row is filled, behind those of the processes that its own feeds.
-pub(crate) fn fill(rows: &mut [CostRow], tables: &Tables<'_>, packet: &Packet)
+pub(crate) fn fill(rows: &mut [Row], tables: &Tables<'_>, packet: &Packet)
     requires tables { by_table.AreTables tables.now }
     requires room { length rows.old ≡ length tables.now.net.processes }
-    ensures { rows.new ≡ tabled.cost_fill tables.now.net tables.now.numbering fields.now
+    ensures { rows.new ≡ tabled.cost_fill tables.now.net tables.now.numbering packet.now.fields
         tables.now.order rows.old }
 {
     for process in tables.order() {
-        let row = row_from(rows, tables, fields, *process);
+        let costs = PacketCosts {
+            tables: &*tables,
+            packet: &*packet,
+            rows: &*rows,
+        };
+        let row = costs.row_from(*process);
         set_row(rows, *process, row);
     }
 }

@@ -1,52 +1,22 @@
 //! The step of a record on its way.
 ghost use Rattle.std.specs.Prelude.{◌≡◌, ◌<◌, ◌++◌, suc, length, IfOk, OnOk, slice_get};
-ghost use Rattle.fx_elements.specs.Axes as axes;
 ghost use Rattle.fx_run_text.specs.declared.step.Step.TheVariants as of_step;
 ghost use Rattle.fx_steps.specs.Planning as planning;
 ghost use Rattle.fx_steps.specs.declared.pending.Pending.TheVariants as of_pending;
 
-use crate::pending::Pending;
-use crate::planning::{plan_arrival, plan_leaving};
-use crate::table::Row;
-use fx_boxes::Fields;
+use crate::pending::StepPlan;
+use crate::table::PacketCosts;
 use fx_layout::Layout;
-use fx_leaf::{Fate, Tables};
+use fx_leaf::Fate;
 use fx_run_text::{Choices, Step};
 use fx_tables::{HolderName, Net};
 use std::alloc::{AllocError, Global};
 
-/// The record in this position leaves the holder of this name; what comes of it comes last.
-pub(crate) fn leave(
-    alloc: Global,
-    pending: &mut Vec<Pending>,
-    rows: &[Row],
-    tables: &Tables<'_>,
-    holder: usize,
-    fate: Fate,
-    name: HolderName,
-    position: u64,
-) -> Result<Step, AllocError>
-    ensures planned { (fields : axes.Fields) → OnOk result (pending.new.items
-        ≡ pending.old.items ++ planning.planned_of rows.now tables.now.net tables.now.numbering
-        fields (of_pending.AtHolder holder fate)) }
-    ensures step { (fields : axes.Fields) → IfOk result (λ step. step
-        ≡ of_step.Expire name position (planning.chosen_of rows.now tables.now.net
-        tables.now.numbering fields (of_pending.AtHolder holder fate))) }
-{
-    let mut choices: Vec<Option<u64>> = Vec::new(alloc);
-    plan_leaving(pending, &mut choices, rows, tables, holder, fate)?;
-    Ok(Step::Expire {
-        holder: name,
-        position,
-        choices: Choices::new(choices),
-    })
-}
-
 /// The layout of this number.
-fn layout_in(tables: &Tables<'_>, number: usize) -> Layout
-    ensures { result ≡ planning.layout_in (slice_get tables.now.numbering.layouts number) }
+fn layout_in(layouts: &[Layout], number: usize) -> Layout
+    ensures { result ≡ planning.layout_in (slice_get layouts.now number) }
 {
-    match tables.layouts().get(number) {
+    match layouts.get(number) {
         None => Layout::new(),
         Some(layout) => layout.copy(),
     }
@@ -70,7 +40,7 @@ impl StepPlan {
         fate: Fate,
     ) -> Result<(), AllocError>
         ensures { let c = costs.now in
-            OnOk result (planning.AddsPlan self.old self.new
+            OnOk result (planning.Adds self.old self.new
             (planning.arrival_pending c.table c.tables.net c.tables.numbering c.packet.fields number
             layout.now process fate) (planning.arrival_choices c.table c.tables.net
             c.tables.numbering c.packet.fields number layout.now process fate)) }
@@ -141,47 +111,4 @@ impl StepPlan {
             choices: Choices::new(self.take_choices(alloc)),
         })
     }
-}
-
-/// The record in this position leaves the link; what comes of it comes last.
-pub(crate) fn arrive(
-    alloc: Global,
-    pending: &mut Vec<Pending>,
-    rows: &[Row],
-    tables: &Tables<'_>,
-    fields: &Fields,
-    link: usize,
-    number: usize,
-    fate: Fate,
-    position: u64,
-) -> Result<Step, AllocError>
-    requires { link < length tables.now.net.links }
-    ensures planned { OnOk result (pending.new.items ≡ pending.old.items
-        ++ planning.planned_of rows.now tables.now.net tables.now.numbering fields.now
-        (of_pending.OnLink link number fate)) }
-    ensures step { IfOk result (λ step. step ≡ of_step.Arrive (suc link) position
-        (planning.chosen_of rows.now tables.now.net tables.now.numbering fields.now
-        (of_pending.OnLink link number fate))) }
-{
-    let layout = layout_in(tables, number);
-    let process = end_of(tables.net(), link);
-    let mut choices: Vec<Option<u64>> = Vec::new(alloc);
-    let links = tables.net().links().len();
-    prove!(link < links);
-    plan_end(
-        pending,
-        &mut choices,
-        rows,
-        tables,
-        fields,
-        number,
-        &layout,
-        process,
-        fate,
-    )?;
-    Ok(Step::Arrive {
-        link: link as u64 + 1,
-        position,
-        choices: Choices::new(choices),
-    })
 }

@@ -1,13 +1,15 @@
 //! Room for the least numbers of steps of records that come to the collecting processes.
-ghost use Rattle.std.specs.Prelude.{◌≡◌, ◌<◌, ◌++◌, [], ◌∷◌, length, slice_get, IfOk, IfErr};
-ghost use Rattle.fx_base.specs.Fault.{fault_at};
-ghost use Rattle.fx_base.specs.declared.fault.Place.TheVariants as places;
+ghost use Rattle.std.specs.Prelude.{◌≡◌, ◌<◌, ◌++◌, [], ◌∷◌, length, slice_get, IfOk};
+ghost use Rattle.fx_leaf.specs.Tables as by_table;
 ghost use Rattle.fx_steps.specs.CostTables as tabled;
 
 use crate::costs::Costs;
 use arrayvec::ArrayVec;
 use fx_base::Fault;
-use fx_tables::LAYOUTS;
+use fx_boxes::Fields;
+use fx_layout::Layout;
+use fx_leaf::Tables;
+use fx_tables::{LAYOUTS, Net, Packet};
 use std::alloc::{AllocError, Global};
 use std::marker::Model;
 
@@ -46,10 +48,10 @@ impl CostRow {
 
     /// The entry for the layout of this number, from 0.
     pub(crate) fn at(&self, layout: usize) -> Costs
-        ensures { result ≡ tabled.or_nothing (slice_get self.now layout) }
+        ensures { result ≡ tabled.or_never (slice_get self.now layout) }
     {
         match self.entries.as_slice().get(layout) {
-            None => Costs::nothing(),
+            None => Costs::of_never(),
             Some(costs) => *costs,
         }
     }
@@ -61,7 +63,7 @@ impl CostRow {
 pub(crate) struct PacketCosts<'a, 't> {
     pub(crate) tables: &'a Tables<'t>,
     pub(crate) packet: &'a Packet,
-    pub(crate) rows: &'a [CostRow],
+    pub(crate) rows: &'a [Row],
 }
 
 impl<'a, 't> Model for PacketCosts<'a, 't> {

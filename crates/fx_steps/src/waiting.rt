@@ -1,8 +1,7 @@
 //! How many records wait at each holder and on each link.
-ghost use Rattle.std.specs.Prelude.{◌≡◌, ◌+◌, ◌<◌, ◌^◌, ◌∷◌, [], ℕ, suc, List, length, IfOk, slice_get, Some, replicate};
+ghost use Rattle.std.specs.Prelude.{◌≡◌, ◌+◌, ◌<◌, ◌^◌, ◌∷◌, [], List, length, IfOk, replicate};
 ghost use Rattle.std.specs.List.{AllByRecursion};
 ghost use Rattle.fx_steps.specs.Waiting as waits;
-ghost use Rattle.fx_steps.specs.declared.pending.Pending.TheVariants as of_pending;
 
 use crate::pending::Pending;
 use fx_tables::Net;
@@ -30,7 +29,7 @@ fn zeros(alloc: Global, count: usize) -> Result<Vec<u64>, AllocError>
 fn raise(counts: &mut [u64], place: usize)
     requires there { place < length counts.old }
     requires room { waits.total counts.old < 2 ^ 63 }
-    ensures { counts.new ≡ waits.raised counts.old place }
+    ensures { counts.new ≡ waits.one_more_at counts.old place }
 {
     counts[place] += 1;
 }
@@ -38,12 +37,8 @@ fn raise(counts: &mut [u64], place: usize)
 /// The number of those that wait at this place, of which one leaves.
 fn lower(counts: &mut [u64], place: usize) -> u64
     requires there { place < length counts.old }
-    requires some { (before : List ℕ) × (place < length before) × (counts.old
-        ≡ waits.raised before place) }
-    ensures left { (before : List ℕ) → place < length before → counts.old
-        ≡ waits.raised before place → counts.new ≡ before }
-    ensures last { (before : List ℕ) (count : ℕ) → slice_get before place ≡ Some count
-        → counts.old ≡ waits.raised before place → result ≡ suc count }
+    requires some { waits.HasOneMore counts.old place }
+    ensures { waits.LastLeaves counts.old counts.new place result }
 {
     let count = counts[place];
     counts[place] = count - 1;
@@ -52,7 +47,7 @@ fn lower(counts: &mut [u64], place: usize) -> u64
 
 impl Waiting {
     /// None waits anywhere in the network.
-    pub(crate) fn nowhere(alloc: Global, net: &Net) -> Result<Waiting, AllocError>
+    pub(crate) fn new(alloc: Global, net: &Net) -> Result<Waiting, AllocError>
         ensures { IfOk result (waits.Wait net.now []) }
     {
         Ok(Waiting {
@@ -67,8 +62,9 @@ impl Waiting {
             self.old.carried.items) pending }
         requires held { waits.total self.old.held.items < 2 ^ 63 }
         requires carried { waits.total self.old.carried.items < 2 ^ 63 }
-        ensures held { self.new.held.items ≡ waits.holders_with self.old.held.items (pending ∷ []) }
-        ensures carried { self.new.carried.items ≡ waits.links_with self.old.carried.items (pending
+        ensures held { self.new.held.items ≡ waits.holder_counts self.old.held.items (pending
+            ∷ []) }
+        ensures carried { self.new.carried.items ≡ waits.link_counts self.old.carried.items (pending
             ∷ []) }
     {
         match pending {
@@ -83,8 +79,8 @@ impl Waiting {
             self.old.carried.items)) pending.now }
         requires held { waits.total self.old.held.items + length pending.now < 2 ^ 63 }
         requires carried { waits.total self.old.carried.items + length pending.now < 2 ^ 63 }
-        ensures held { self.new.held.items ≡ waits.holders_with self.old.held.items pending.now }
-        ensures carried { self.new.carried.items ≡ waits.links_with self.old.carried.items
+        ensures held { self.new.held.items ≡ waits.holder_counts self.old.held.items pending.now }
+        ensures carried { self.new.carried.items ≡ waits.link_counts self.old.carried.items
             pending.now }
     {
         for one in pending {
@@ -95,12 +91,8 @@ impl Waiting {
     /// The number of those that wait at this holder, of which one leaves.
     pub(crate) fn leave_holder(&mut self, holder: usize) -> u64
         requires there { holder < length self.old.held.items }
-        requires some { (before : List ℕ) × (holder < length before) × (self.old.held.items
-            ≡ waits.raised before holder) }
-        ensures left { (before : List ℕ) → holder < length before → self.old.held.items
-            ≡ waits.raised before holder → self.new.held.items ≡ before }
-        ensures last { (before : List ℕ) (count : ℕ) → slice_get before holder ≡ Some count
-            → self.old.held.items ≡ waits.raised before holder → result ≡ suc count }
+        requires some { waits.HasOneMore self.old.held.items holder }
+        ensures leaves { waits.LastLeaves self.old.held.items self.new.held.items holder result }
         ensures carried { self.new.carried.items ≡ self.old.carried.items }
     {
         lower(self.held.as_mut_slice(), holder)
@@ -109,12 +101,9 @@ impl Waiting {
     /// The number of those that wait on this link, of which one leaves.
     pub(crate) fn leave_link(&mut self, link: usize) -> u64
         requires there { link < length self.old.carried.items }
-        requires some { (before : List ℕ) × (link < length before) × (self.old.carried.items
-            ≡ waits.raised before link) }
-        ensures left { (before : List ℕ) → link < length before → self.old.carried.items
-            ≡ waits.raised before link → self.new.carried.items ≡ before }
-        ensures last { (before : List ℕ) (count : ℕ) → slice_get before link ≡ Some count
-            → self.old.carried.items ≡ waits.raised before link → result ≡ suc count }
+        requires some { waits.HasOneMore self.old.carried.items link }
+        ensures leaves { waits.LastLeaves self.old.carried.items self.new.carried.items link
+            result }
         ensures held { self.new.held.items ≡ self.old.held.items }
     {
         lower(self.carried.as_mut_slice(), link)

@@ -10,18 +10,17 @@ ghost use Rattle.fx_machine.specs.Limits.{step_limit};
 ghost use Rattle.fx_tables.specs.Classes as traffic;
 ghost use Rattle.fx_tables.specs.Network as network;
 ghost use Rattle.fx_tables.specs.Runnable.{IsRunnable};
-ghost use Rattle.fx_steps.specs.Costs as costs;
+ghost use Rattle.fx_steps.specs.Costs as by_fate;
 ghost use Rattle.fx_steps.specs.CostTables as tabled;
-ghost use Rattle.fx_steps.specs.Names.{NameAll};
 ghost use Rattle.fx_steps.specs.UnderWay as under_way;
 ghost use Rattle.fx_steps.specs.WrongRun.{IsWrongRun, IsLeast, HasNoRun};
 
 use crate::building::Building;
-use crate::costs::{Costs, OVER};
+use crate::costs::{Costs, OVER_LIMIT};
 use crate::names::names_of;
 use crate::path::least_steps;
 use crate::sharing::cost_of;
-use crate::table::{Row, empty_rows};
+use crate::table::{PacketCosts, empty_rows};
 use fx_base::Fault;
 use fx_leaf::{Fate, Tables};
 use fx_run_text::Step;
@@ -29,10 +28,10 @@ use fx_tables::{Classes, Crossing, HolderName, Packet};
 use std::alloc::{AllocError, Global};
 
 /// Of two fates the one that costs less, and the first where they cost as much.
-fn cheaper(told: Costs, one: Fate, other: Fate) -> Fate
+fn cheaper_fate(told: Costs, one: Fate, other: Fate) -> Fate
     ensures either { (result ≡ one) ⊎ (result ≡ other) }
-    ensures one { costs.cost_of told result ≤ costs.cost_of told one }
-    ensures other { costs.cost_of told result ≤ costs.cost_of told other }
+    ensures one { by_fate.cost_of told result ≤ by_fate.cost_of told one }
+    ensures other { by_fate.cost_of told result ≤ by_fate.cost_of told other }
 {
     if cost_of(told, other) < cost_of(told, one) {
         other
@@ -42,49 +41,49 @@ fn cheaper(told: Costs, one: Fate, other: Fate) -> Fate
 }
 
 /// Of all fates but the wanted one, a fate that costs least.
-fn least_unwanted(told: Costs, exempt: bool) -> Fate
+fn least_unwanted_fate(told: Costs, exempt: bool) -> Fate
     ensures unwanted { result ≢ wanted_fate exempt }
     ensures least { (f : of_fate.Fate) → f ≢ wanted_fate exempt → f ≢ fates.Differing
-        → costs.cost_of told result ≤ costs.cost_of told f }
+        → by_fate.cost_of told result ≤ by_fate.cost_of told f }
 {
     let uncounted = if exempt { Fate::Once } else { Fate::Never };
-    cheaper(told, cheaper(told, uncounted, Fate::Many), Fate::Unassigned)
+    cheaper_fate(
+        told,
+        cheaper_fate(told, uncounted, Fate::Many),
+        Fate::Unassigned,
+    )
 }
 
 /// The steps of a run of this packet alone, on this path, that comes to the fate with as few steps as any.
 fn build(
     alloc: Global,
-    rows: &[Row],
-    tables: &Tables<'_>,
+    costs: &PacketCosts<'_, '_>,
     names: &[HolderName],
-    packet: &Packet,
     path: &[Crossing],
     fate: Fate,
 ) -> Result<Vec<Step>, AllocError>
-    requires tables { by_table.AreTables tables.now }
-    requires runnable { IsRunnable tables.now.net }
-    requires filled { under_way.HasCosts tables.now packet.now.fields rows.now }
-    requires names { NameAll tables.now.net names.now }
-    requires cheap { costs.cost_of (tabled.path_costs rows.now tables.now.net tables.now.numbering
-        packet.now.fields path.now) fate ≤ step_limit }
-    ensures number { IfOk result (λ steps. length steps.items
-        ≡ costs.cost_of (tabled.path_costs rows.now tables.now.net tables.now.numbering
-        packet.now.fields path.now) fate) }
+    requires prepared { under_way.IsPrepared costs.now names.now }
+    requires cheap { let c = costs.now in
+        by_fate.cost_of (tabled.path_costs c.table c.tables.net c.tables.numbering c.packet.fields
+        path.now) fate ≤ step_limit }
+    ensures number { let c = costs.now in
+        IfOk result (λ steps. length steps.items
+        ≡ by_fate.cost_of (tabled.path_costs c.table c.tables.net c.tables.numbering c.packet.fields
+        path.now) fate) }
     ensures few { IfOk result (λ steps. length steps.items ≤ step_limit) }
-    ensures way { IfOk result (λ steps. (classes : List traffic.Class)
-        → traffic.path classes packet.now ≡ path.now
-        → under_way.UnderWay tables.now.net tables.now.numbering classes packet.now [] fate
-        steps.items []) }
+    ensures way { let c = costs.now in
+        IfOk result (λ steps. (classes : List traffic.Class)
+        → traffic.path classes c.packet ≡ path.now
+        → under_way.UnderWay c.tables.net c.tables.numbering classes c.packet [] fate steps.items
+        []) }
 {
-    let mut building = Building::new(alloc, tables.net())?;
+    let mut building = Building::new(alloc, costs.net())?;
     let mut left = fate;
     for number in 0..path.len() {
         left = building.make_crossing(
             alloc,
-            rows,
-            tables,
+            costs,
             names,
-            packet,
             number as u64 + 1,
             &path[number],
             &path[number + 1..],
@@ -120,20 +119,17 @@ pub fn wrong_run(
     let net = tables.net();
     let path = classes.path_of(packet);
     let mut rows = empty_rows(alloc, net.processes().len())?;
-    let told = least_steps(rows.as_mut_slice(), tables, &packet.fields, path);
-    let fate = least_unwanted(told, classes.exempts(packet));
-    if cost_of(told, fate) >= OVER {
+    let told = least_steps(rows.as_mut_slice(), tables, packet, path);
+    let fate = least_unwanted_fate(told, classes.exempts(packet));
+    if cost_of(told, fate) >= OVER_LIMIT {
         return Ok(None);
     }
     let names = names_of(alloc, net)?;
-    let steps = build(
-        alloc,
-        rows.as_slice(),
-        tables,
-        names.as_slice(),
-        packet,
-        path,
-        fate,
-    )?;
+    let costs = PacketCosts {
+        tables: &*tables,
+        packet: &*packet,
+        rows: rows.as_slice(),
+    };
+    let steps = build(alloc, &costs, names.as_slice(), path, fate)?;
     Ok(Some(steps))
 }

@@ -5,11 +5,10 @@ use Rattle.fx_steps.proofs.waiting.lower.Goals as goal
 pub overflow_sub-counts : goal.overflow_sub-counts
 overflow_sub-counts c =
     let some = c.requires.some in
-    subst (λ (cs : List ℕ). 1 ≤ slice_index_or cs c.args.place 0) (sym some.2) (some_raised some.0 c.args.place some.1)
+    subst (λ (cs : List ℕ). 1 ≤ slice_index_or cs c.args.place 0) (sym some.is) (some_raised some.before c.args.place some.inside)
 
-pub returns-clause-left : goal.returns-clause-left
-returns-clause-left c before lt is =
-    subst (λ (cs : List ℕ). slice_set cs c.args.place (slice_index_or cs c.args.place 0 - 1) ≡ before) (sym is) (set_back before c.args.place lt)
-
-pub returns-clause-last : goal.returns-clause-last
-returns-clause-last c before count at is = ap (λ (cs : List ℕ). slice_index_or cs c.args.place 0) is ∙ count_raised before c.args.place count at
+pub returns : goal.returns
+returns c = record {
+  left = λ before lt is. subst (λ (cs : List ℕ). slice_set cs c.args.place (slice_index_or cs c.args.place 0 - 1) ≡ before) (sym is) (set_back before c.args.place lt);
+  last = λ before count at is. ap (λ (cs : List ℕ). slice_index_or cs c.args.place 0) is ∙ count_raised before c.args.place count at;
+}

@@ -6,7 +6,11 @@ use Rattle.fx_base.specs.Entries.{entry_numbered}
 use Rattle.fx_machine.specs.States.{Coming, crossings_from}
 use Rattle.fx_tables.specs.declared.traffic.Crossing.{Crossing}
 use Rattle.fx_machine.specs.Limits.{step_limit}
-use Rattle.fx_steps.specs.Costs.{cost_of, nothing}
+use Rattle.fx_run_text.specs.declared.step.Step.{Step}
+use Rattle.fx_leaf.specs.declared.verdict.Fate.{Fate}
+use Rattle.fx_leaf.specs.Fates.{both}
+use Rattle.fx_leaf.proofs.Verdicts.{both_never}
+use Rattle.fx_steps.specs.Costs.{cost_of, costs_of_never}
 use Rattle.fx_steps.specs.CostTables.{path_costs}
 use Rattle.fx_steps.specs.UnderWay.{UnderWay}
 use Rattle.fx_steps.proofs.RecordsBehind.{rest_is}
@@ -16,10 +20,10 @@ use Rattle.fx_steps.proofs.wrong.build.Goals as goal
 
 pub loop-number-preserved : goal.loop-number-preserved
 loop-number-preserved c =
-    let net = c.args.tables.now.net in
-    let n = c.args.tables.now.numbering in
-    let p = c.args.packet.now in
-    let rows = c.args.rows.now in
+    let net = c.args.costs.now.tables.net in
+    let n = c.args.costs.now.tables.numbering in
+    let p = c.args.costs.now.packet in
+    let rows = c.args.costs.now.table in
     let xs = c.args.path.now in
     let k = c.loop-number.number in
     let old = c.loop-number.building in
@@ -48,17 +52,35 @@ loop-number-preserved c =
 
 pub returns-clause-number : goal.returns-clause-number
 returns-clause-number c =
-    let net = c.args.tables.now.net in
-    let n = c.args.tables.now.numbering in
-    let p = c.args.packet.now in
-    let rows = c.args.rows.now in
+    let net = c.args.costs.now.tables.net in
+    let n = c.args.costs.now.tables.numbering in
+    let p = c.args.costs.now.packet in
+    let rows = c.args.costs.now.table in
     let xs = c.args.path.now in
     let left = c.loop-number.left in
     let end : drop c.loop-number.number xs ≡ [] = drop_of_length-le xs (omega (arith, c.loop-number-test.false, c.loop-number.auto.number-end)) in
-    let all : length c.loop-number.building.steps.items + cost_of nothing left ≡ cost_of (path_costs rows net n p.fields xs) c.args.fate =
+    let all : length c.loop-number.building.steps.items + cost_of costs_of_never left ≡ cost_of (path_costs rows net n p.fields xs) c.args.fate =
     ap (λ (cs : List Crossing). length c.loop-number.building.steps.items + cost_of (path_costs rows net n p.fields cs) left) (sym end) ∙ c.loop-number.invariant.2 in
-    let small : cost_of nothing left ≤ step_limit = omega (arith, all, c.requires.cheap) in
+    let small : cost_of costs_of_never left ≤ step_limit = omega (arith, all, c.requires.cheap) in
     omega (arith, ap length c.into_steps.ensures, all, (alone left small).1)
 
 pub returns-clause-few : goal.returns-clause-few
 returns-clause-few c = omega (arith, returns-clause-number c, c.requires.cheap)
+
+pub returns-clause-way : goal.returns-clause-way
+returns-clause-way c classes same =
+    let net = c.args.costs.now.tables.net in
+    let n = c.args.costs.now.tables.numbering in
+    let p = c.args.costs.now.packet in
+    let rows = c.args.costs.now.table in
+    let xs = c.args.path.now in
+    let left = c.loop-number.left in
+    let steps = c.loop-number.building.steps.items in
+    let way = c.loop-number.invariant.3 classes same in
+    let end : drop c.loop-number.number xs ≡ [] = drop_of_length-le xs (omega (arith, c.loop-number-test.false, c.loop-number.auto.number-end)) in
+    let all : length steps + cost_of costs_of_never left ≡ cost_of (path_costs rows net n p.fields xs) c.args.fate =
+    ap (λ (cs : List Crossing). length steps + cost_of (path_costs rows net n p.fields cs) left) (sym end) ∙ c.loop-number.invariant.2 in
+    let small : cost_of costs_of_never left ≤ step_limit = omega (arith, all, c.requires.cheap) in
+    let fate : way.0 ≡ c.args.fate = sym (both_never way.0) ∙ ap (both way.0) (sym (alone left small).0) ∙ way.1 in
+    let made = subst (λ (cs : List Crossing). UnderWay net n classes p (crossings_from 1 (suc c.loop-number.number) cs) way.0 steps []) end way.2 in
+    subst (λ (ss : List Step). UnderWay net n classes p [] c.args.fate ss []) (sym c.into_steps.ensures) (subst (λ (f : Fate). UnderWay net n classes p [] f steps []) fate made)

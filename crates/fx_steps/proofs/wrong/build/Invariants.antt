@@ -11,9 +11,9 @@ use Rattle.fx_steps.proofs.wrong.build.Given as goal
 
 abbrev pub invariant-loop-number : goal.invariant-loop-number
 invariant-loop-number l =
-    let net = l.tables.net in
-    let n = l.tables.numbering in
-    (l.building.pending.items ≡ [])
+    let net = l.costs.tables.net in
+    let n = l.costs.tables.numbering in
+    (l.building.plan.pending.items ≡ [])
     × Wait net [] l.building.waiting
-    × (length l.building.steps.items + cost_of (path_costs l.rows net n l.packet.fields (drop l.number l.path)) l.left ≡ cost_of (path_costs l.rows net n l.packet.fields l.path) l.fn.fate)
-    × ((classes : List Class) → path classes l.packet ≡ l.path → (f : Fate) × (both f l.left ≡ l.fn.fate) × UnderWay net n classes l.packet (crossings_from 1 (suc l.number) (drop l.number l.path)) f l.building.steps.items [])
+    × (length l.building.steps.items + cost_of (path_costs l.costs.table net n l.costs.packet.fields (drop l.number l.path)) l.left ≡ cost_of (path_costs l.costs.table net n l.costs.packet.fields l.path) l.fn.fate)
+    × ((classes : List Class) → path classes l.costs.packet ≡ l.path → (f : Fate) × (both f l.left ≡ l.fn.fate) × UnderWay net n classes l.costs.packet (crossings_from 1 (suc l.number) (drop l.number l.path)) f l.building.steps.items [])

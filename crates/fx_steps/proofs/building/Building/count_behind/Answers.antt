@@ -2,14 +2,14 @@ use Rattle.std.proofs.Common.{◌∙◌, ap, sym, subst, List, length, length-ap
 use Rattle.std.proofs.lemmas.List.{take-append-drop}
 use Rattle.std.specs.List.{AllByRecursion}
 use Rattle.fx_steps.specs.declared.pending.Pending.{Pending}
-use Rattle.fx_steps.specs.Waiting.{Wait, HasPlace, holders_with, links_with}
+use Rattle.fx_steps.specs.Waiting.{Wait, HasPlace, holder_counts, link_counts}
 use Rattle.fx_steps.proofs.RecordsBehind.{rest_is, sizes, few_wait, wait_behind}
 use Rattle.fx_steps.proofs.building.Building.count_behind.Goals as goal
 
 pub add_all-requires-clause-there : goal.add_all-requires-clause-there
 add_all-requires-clause-there c =
     let net = c.args.net.now in
-    let xs = c.args.self.now.pending.items in
+    let xs = c.args.self.now.plan.pending.items in
     let k = c.args.from in
     let w = c.args.self.now.waiting in
     let rest = rest_is k c.as_slice.result.now ∙ ap (drop k) c.as_slice.ensures.value in
@@ -20,7 +20,7 @@ add_all-requires-clause-there c =
 
 pub add_all-requires-clause-held : goal.add_all-requires-clause-held
 add_all-requires-clause-held c =
-    let xs = c.args.self.now.pending.items in
+    let xs = c.args.self.now.plan.pending.items in
     let k = c.args.from in
     let rest = rest_is k c.as_slice.result.now ∙ ap (drop k) c.as_slice.ensures.value in
     let few = few_wait c.args.net.now (take k xs) c.args.self.now.waiting c.requires.waiting in
@@ -28,7 +28,7 @@ add_all-requires-clause-held c =
 
 pub add_all-requires-clause-carried : goal.add_all-requires-clause-carried
 add_all-requires-clause-carried c =
-    let xs = c.args.self.now.pending.items in
+    let xs = c.args.self.now.plan.pending.items in
     let k = c.args.from in
     let rest = rest_is k c.as_slice.result.now ∙ ap (drop k) c.as_slice.ensures.value in
     let few = few_wait c.args.net.now (take k xs) c.args.self.now.waiting c.requires.waiting in
@@ -37,9 +37,9 @@ add_all-requires-clause-carried c =
 pub returns-clause-waiting : goal.returns-clause-waiting
 returns-clause-waiting c =
     let net = c.args.net.now in
-    let xs = c.args.self.now.pending.items in
+    let xs = c.args.self.now.plan.pending.items in
     let k = c.args.from in
     let w = c.args.self.now.waiting in
     let new = c.add_all.new.self in
     let rest = rest_is k c.as_slice.result.now ∙ ap (drop k) c.as_slice.ensures.value in
-    subst (λ (ys : List Pending). Wait net ys new) (take-append-drop k xs) (wait_behind net (take k xs) (drop k xs) w new c.requires.waiting (c.add_all.ensures.held ∙ ap (holders_with w.held.items) rest) (c.add_all.ensures.carried ∙ ap (links_with w.carried.items) rest))
+    subst (λ (ys : List Pending). Wait net ys new) (take-append-drop k xs) (wait_behind net (take k xs) (drop k xs) w new c.requires.waiting (c.add_all.ensures.held ∙ ap (holder_counts w.held.items) rest) (c.add_all.ensures.carried ∙ ap (link_counts w.carried.items) rest))

@@ -1,5 +1,0 @@
-use Rattle.std.proofs.Common.{length}
-use Rattle.fx_steps.proofs.path.+with_selections.Given as goal
-
-abbrev pub decreases-with_selections : goal.decreases-with_selections
-decreases-with_selections l = length l.selections.now
