@@ -10,9 +10,9 @@ use Rattle.fx_base.specs.declared.fault.Fault.{Fault}
 use Rattle.fx_tables.specs.declared.record.Record.{Record}
 use Rattle.fx_collect.specs.Report.{number_line}
 use Rattle.fx_collect.specs.Totals.{Totals, with_record, with_records}
-use Rattle.fx_session.proofs.InFront.{fed-behind}
-use Rattle.fx_session.proofs.StreamSteps.{all_none, fed_off, pieces}
-use Rattle.fx_session.specs.Streams.{IsNextRecord, SessionState, answer_of, behind, fed, start}
+use Rattle.fx_session.proofs.InFront.{after_piece-behind}
+use Rattle.fx_session.proofs.StreamSteps.{all_none, after_piece-off, pieces}
+use Rattle.fx_session.specs.Streams.{IsNextRecord, SessionState, answer_of, behind, after_piece, start}
 use Rattle.fx_audit.specs.Streams.{IsTallied, drained, stream_read}
 
 -- ---- one record after another
@@ -42,21 +42,21 @@ with_more t [] more = refl
 with_more t (r ∷ rs) more = with_more (with_record t r) rs more
 
 -- reading on, with the records taken out, is reading on and taking them out
-read_on : (st : SessionState) (piece : List ℕ) → fed st piece ≡ behind st.known.waiting (fed (drained st) piece)
-read_on st piece = ap (λ (s : SessionState). fed s piece) (same st) ∙ fed-behind st.known.waiting (drained st) piece where
+read_on : (st : SessionState) (piece : List ℕ) → after_piece st piece ≡ behind st.known.waiting (after_piece (drained st) piece)
+read_on st piece = ap (λ (s : SessionState). after_piece s piece) (same st) ∙ after_piece-behind st.known.waiting (drained st) piece where
   same : (st : SessionState) → st ≡ behind st.known.waiting (drained st)
   same st = ap (λ (rs : List Record). let other : SessionState = record { known = record { domains = st.known.domains; waiting = rs; gaps = st.known.gaps; skipped = st.known.skipped }; place = st.place; rest = st.rest; fault = st.fault } in other) (sym (append-nil st.known.waiting))
 
 -- what is read of a stream after a piece more
-stream_on : (seen piece : List ℕ) (session : SessionState) → session ≡ drained (stream_read seen) → stream_read (seen ++ piece) ≡ behind (stream_read seen).known.waiting (fed session piece)
+stream_on : (seen piece : List ℕ) (session : SessionState) → session ≡ drained (stream_read seen) → stream_read (seen ++ piece) ≡ behind (stream_read seen).known.waiting (after_piece session piece)
 stream_on seen piece session is =
-    sym (pieces start seen piece) ∙ read_on (stream_read seen) piece ∙ ap (λ (s : SessionState). behind (stream_read seen).known.waiting (fed s piece)) (sym is)
+    sym (pieces start seen piece) ∙ read_on (stream_read seen) piece ∙ ap (λ (s : SessionState). behind (stream_read seen).known.waiting (after_piece s piece)) (sym is)
 
-piece_tallied : (seen piece : List ℕ) (before totals totals' : Totals) (session session' : SessionState) → IsTallied seen before session totals → session' ≡ drained (fed session piece) → session'.fault ≡ None
-    → totals' ≡ with_records totals (fed session piece).known.waiting → IsTallied (seen ++ piece) before session' totals'
+piece_tallied : (seen piece : List ℕ) (before totals totals' : Totals) (session session' : SessionState) → IsTallied seen before session totals → session' ≡ drained (after_piece session piece) → session'.fault ≡ None
+    → totals' ≡ with_records totals (after_piece session piece).known.waiting → IsTallied (seen ++ piece) before session' totals'
 piece_tallied seen piece before totals totals' session session' t is none are =
     let on = stream_on seen piece session t.session_is in
-    let more = (fed session piece).known.waiting in
+    let more = (after_piece session piece).known.waiting in
     record {
       session_is = is ∙ sym (ap drained on);
       faultless = ap (λ (s : SessionState). s.fault) on ∙ sym (ap (λ (s : SessionState). s.fault) is) ∙ none;
@@ -88,7 +88,7 @@ begun all before session calls none_made is =
       nothing_held (Some octets) = refl
 
 pub read_further : (all left left' : Option (List ℕ)) (before totals totals' : Totals) (session session' : SessionState) (calls calls' : ℕ) (piece : List ℕ) → IsReadOn all left before session totals calls → calls' ≡ calls + 1 → prepend_known piece left' ≡ left
-    → 1 ≤ length piece → session' ≡ drained (fed session piece) → session'.fault ≡ None → totals' ≡ with_records totals (fed session piece).known.waiting → IsReadOn all left' before session' totals' calls'
+    → 1 ≤ length piece → session' ≡ drained (after_piece session piece) → session'.fault ≡ None → totals' ≡ with_records totals (after_piece session piece).known.waiting → IsReadOn all left' before session' totals' calls'
 read_further all left left' before totals totals' session session' calls calls' piece h one reads some is none are = record {
   seen = h.seen ++ piece;
   parts = read_more h.seen piece left left' reads ∙ h.parts;
@@ -101,13 +101,13 @@ faulty : (place : ℕ) (o : Option ℕ) (e : Fault) → answer_of place o ≡ Er
 faulty place (Some n) e h = (n, refl)
 faulty place None e h = absurd cc
 
-still_refused : (seen piece later : List ℕ) (before totals : Totals) (session : SessionState) (e : Fault) → IsTallied seen before session totals → answer_of (fed session piece).place (fed session piece).fault ≡ Err e
+still_refused : (seen piece later : List ℕ) (before totals : Totals) (session : SessionState) (e : Fault) → IsTallied seen before session totals → answer_of (after_piece session piece).place (after_piece session piece).fault ≡ Err e
     → answer_of (stream_read (seen ++ (piece ++ later))).place (stream_read (seen ++ (piece ++ later))).fault ≡ Err e
 still_refused seen piece later before totals session e t h =
     let on = stream_on seen piece session t.session_is in
-    let f = faulty (fed session piece).place (fed session piece).fault e h in
+    let f = faulty (after_piece session piece).place (after_piece session piece).fault e h in
     let now = stream_read (seen ++ piece) in
-    let stays = ap stream_read (sym (append_assoc seen piece later)) ∙ sym (pieces start (seen ++ piece) later) ∙ fed_off now later f.0 (ap (λ (s : SessionState). s.fault) on ∙ f.1) in
+    let stays = ap stream_read (sym (append_assoc seen piece later)) ∙ sym (pieces start (seen ++ piece) later) ∙ after_piece-off now later f.0 (ap (λ (s : SessionState). s.fault) on ∙ f.1) in
     ap (λ (s : SessionState). answer_of s.place s.fault) (stays ∙ on) ∙ h
 
 -- what may be left behind a piece, and the piece and what was read before it
@@ -116,14 +116,14 @@ left_behind seen piece rest left None is behind = rw (← is) tt
 left_behind seen piece rest left (Some l) is behind = rw (← is) (ap (λ (xs : List ℕ). seen ++ (piece ++ xs)) behind)
 
 pub read_refused : (all left left' : Option (List ℕ)) (before totals : Totals) (session : SessionState) (calls : ℕ) (piece : List ℕ) (e : Fault) → IsReadOn all left before session totals calls → prepend_known piece left' ≡ left
-    → answer_of (fed session piece).place (fed session piece).fault ≡ Err e → MayHaveLeft all (λ octets. answer_of (stream_read octets).place (stream_read octets).fault ≡ Err e)
+    → answer_of (after_piece session piece).place (after_piece session piece).fault ≡ Err e → MayHaveLeft all (λ octets. answer_of (stream_read octets).place (stream_read octets).fault ≡ Err e)
 read_refused all left left' before totals session calls piece e h reads refused =
     let later = something_left left' in
     let octets : List ℕ = h.seen ++ (piece ++ later.0) in
     (octets, subst (λ (o : Option (List ℕ)). MayBeLeft o octets) h.parts (left_behind h.seen piece later.0 left left' reads later.1), still_refused h.seen piece later.0 before totals session e h.tallied refused)
 
 pub piece_refused : (all left left' : Option (List ℕ)) (before totals : Totals) (session : SessionState) (calls : ℕ) (piece : List ℕ) (e : Fault) (M F : Type 0) → IsReadOn all left before session totals calls → prepend_known piece left' ≡ left
-    → M ⊎ (answer_of (fed session piece).place (fed session piece).fault ≡ Err e) → M ⊎ (F ⊎ MayHaveLeft all (λ octets. answer_of (stream_read octets).place (stream_read octets).fault ≡ Err e))
+    → M ⊎ (answer_of (after_piece session piece).place (after_piece session piece).fault ≡ Err e) → M ⊎ (F ⊎ MayHaveLeft all (λ octets. answer_of (stream_read octets).place (stream_read octets).fault ≡ Err e))
 piece_refused all left left' before totals session calls piece e M F h reads refused =
     elim refused [ inl m ↦ inl m | inr r ↦ inr (inr (read_refused all left left' before totals session calls piece e h reads r)) ]
 

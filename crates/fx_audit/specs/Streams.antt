@@ -7,11 +7,11 @@ use Rattle.fx_collect.specs.Totals.{Totals, nothing, with_records}
 use Rattle.fx_collect.specs.Report.{KeysAscend, number_line, totals_text}
 use Rattle.fx_layout.specs.Keys.{Layout}
 use Rattle.fx_session.specs.Messages.{Known}
-use Rattle.fx_session.specs.Streams.{SessionState, answer_of, fed, start}
+use Rattle.fx_session.specs.Streams.{SessionState, answer_of, after_piece, start}
 
 -- what a session has read that is fed a whole stream
 abbrev pub stream_read : List ℕ → SessionState
-stream_read octets = fed start octets
+stream_read octets = after_piece start octets
 
 -- no message is refused, and the last one ends with the stream
 abbrev pub EndsWithMessage : SessionState → Type 0

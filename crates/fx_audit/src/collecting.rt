@@ -33,13 +33,14 @@ fn tally_waiting(session: &mut Session, totals: &mut Totals) -> Result<(), Fault
 /// Reads on with a piece of a stream, and tallies the records that it completes.
 fn take_piece(session: &mut Session, totals: &mut Totals, piece: &[u8]) -> Result<(), Fault>
     requires { session.old.fault ≡ None }
-    ensures session { OnOk result (session.new ≡ drained (streams.fed session.old piece.now)) }
+    ensures session { OnOk result (session.new
+        ≡ drained (streams.after_piece session.old piece.now)) }
     ensures faultless { OnOk result (session.new.fault ≡ None) }
     ensures totals { OnOk result (totals.new
-        ≡ with_records totals.old (streams.fed session.old piece.now).known.waiting) }
+        ≡ with_records totals.old (streams.after_piece session.old piece.now).known.waiting) }
     ensures err { IfErr result (λ e. (e ≡ fault_at 900 places.None)
-        ⊎ (streams.answer_of (streams.fed session.old piece.now).place
-        (streams.fed session.old piece.now).fault ≡ Err e)) }
+        ⊎ (streams.answer_of (streams.after_piece session.old piece.now).place
+        (streams.after_piece session.old piece.now).fault ≡ Err e)) }
 {
     session.feed(piece)?;
     tally_waiting(session, totals)

@@ -1,6 +1,6 @@
 //! The flow records of a stream.
 ghost use Rattle.std.specs.Prelude.{◌≡◌, IfOk};
-ghost use Rattle.fx_session.specs.Streams.{fed, start};
+ghost use Rattle.fx_session.specs.Streams.{after_piece, start};
 
 use fx_base::Fault;
 use fx_session::Session;
@@ -11,7 +11,8 @@ use std::alloc::Global;
 ///
 /// Fails as [`Session::feed`] where a message is refused, and with 900 for want of memory.
 pub fn records_of(alloc: Global, stream: &[u8]) -> Result<Vec<Record>, Fault>
-    ensures { IfOk result (λ records. records.items ≡ (fed start stream.now).known.waiting) }
+    ensures { IfOk result (λ records. records.items
+        ≡ (after_piece start stream.now).known.waiting) }
 {
     let mut session = Session::new(alloc)?;
     session.feed(stream)?;

@@ -3,7 +3,6 @@ use Rattle.std.proofs.Common.{◌≡◌, ℕ, zero, suc, ◌+◌, ◌<◌, ◌�
 use Rattle.std.proofs.Math.Seq.{drop-cons}
 use Rattle.fx_elements.specs.Axes.{axis_index}
 use Rattle.fx_elements.specs.declared.axis.Axis.{Axis}
-use Rattle.fx_boxes.specs.Boxes.{Bounds, below_part, above_part}
 use Rattle.fx_leaf.specs.declared.leaf.Counted.{Counted}
 use Rattle.fx_check.specs.Judging.{Judge}
 use Rattle.fx_cert.specs.declared.item.Item.{Item}
@@ -16,10 +15,13 @@ use Rattle.fx_check.specs.declared.course.Stage.TheVariants as stage
 use Rattle.fx_check.specs.FirstRefusal.{Goal, tree, ahead, may_say_never, after, leaf_answer, split_answer, form_fault, at_end, at_line, Refusal}
 use Rattle.fx_base.specs.Lines.{next_number}
 use Rattle.fx_check.specs.Remaining.{below_waits, above_waits, waiting_goals, tree_goals, goals_at, rest_of_tree, AreDeepFrom, AreDeep, IsConsistentAt, IsInTree}
+use Rattle.fx_check.specs.LineFaults.{number_of}
+use Rattle.fx_check.specs.declared.line_fault.LineFault.{LineFault}
+use Rattle.fx_check.specs.declared.line_fault.LineFault.TheVariants as faults
 
 -- where the text ends behind the line n, and something is still to be said
 abbrev ended_early : ℕ → Refusal
-ended_early n = record { fault = at_line 405 (next_number n); last = n; behind = [] }
+ended_early n = record { fault = at_line (number_of faults.Cut) (next_number n); last = n; behind = [] }
 
 -- no line of a tree
 abbrev IsNoTree : Item → Type 0
@@ -47,13 +49,13 @@ target_next z ts at lt = rw add-one (go ts at lt) where
   go (t ∷ ts) zero lt = refl
   go (t ∷ ts) (suc at) lt = go ts at (omega arith)
 
-pub leaf_is : (z : Version) (judge : Judge) (made : ℕ) (ts : List Target) (at : ℕ) (ws : List WaitingRegion) (s : Stage) (w : WaitingRegion) (l : Counted) (t : Target) → s ≡ stage.Tree w → IsConsistentAt ts at ws s → t ≡ get_or ts at t
+pub leaf_is : (z : Version) (judge : Judge) (made : ℕ) (ts : List Target) (at : ℕ) (ws : List Waiting) (s : Stage) (w : Waiting) (l : Counted) (t : Target) → s ≡ stage.Tree w → IsConsistentAt ts at ws s → t ≡ get_or ts at t
     → after judge made (goals_at z ts at ws s) (item.Leaf l.crossing l.point l.process) ≡ cond t.exempt (Err faults.Place) (leaf_answer made (judge t w.region (Some l)) (rest_of_tree z (drop at ts) ws))
 leaf_is z judge made ts at ws s w l t e h is =
     let k : IsConsistentAt ts at ws (stage.Tree w) = subst (λ (x : Stage). IsConsistentAt ts at ws x) e h in
     rw (e, drop-cons ts at t k.0, ← is) refl
 
-pub never_is : (z : Version) (judge : Judge) (made : ℕ) (ts : List Target) (at : ℕ) (ws : List WaitingRegion) (s : Stage) (w : WaitingRegion) (t : Target) → s ≡ stage.Tree w → IsConsistentAt ts at ws s → t ≡ get_or ts at t
+pub never_is : (z : Version) (judge : Judge) (made : ℕ) (ts : List Target) (at : ℕ) (ws : List Waiting) (s : Stage) (w : Waiting) (t : Target) → s ≡ stage.Tree w → IsConsistentAt ts at ws s → t ≡ get_or ts at t
     → after judge made (goals_at z ts at ws s) item.Never ≡ cond (may_say_never z t) (leaf_answer made (judge t w.region None) (rest_of_tree z (drop at ts) ws)) (Err faults.Place)
 never_is z judge made ts at ws s w t e h is =
     let k : IsConsistentAt ts at ws (stage.Tree w) = subst (λ (x : Stage). IsConsistentAt ts at ws x) e h in
@@ -100,7 +102,7 @@ split_goal z judge made ts at ws s w a v h e =
     let k : IsConsistentAt ts at ws (stage.Tree w) = subst (λ (x : Stage). IsConsistentAt ts at ws x) e h in
     rw e (split_on z judge made (drop at ts) ws w a v (omega (arith, length-drop at ts, k.0)))
 
-pub split_end : (z : Version) (judge : Judge) (made : ℕ) (ts : List Target) (at : ℕ) (ws after_push : List WaitingRegion) (s : Stage) (w below above : WaitingRegion) (a : Axis) (v : ℕ) (r : Result (List Goal) LineFault) → IsConsistentAt ts at ws s → s ≡ stage.Tree w
+pub split_end : (z : Version) (judge : Judge) (made : ℕ) (ts : List Target) (at : ℕ) (ws after_push : List Waiting) (s : Stage) (w below above : Waiting) (a : Axis) (v : ℕ) (r : Result (List Goal) LineFault) → IsConsistentAt ts at ws s → s ≡ stage.Tree w
     → below ≡ below_waits w (axis_index a) v → above ≡ above_waits w (axis_index a) v → after_push ≡ ws ++ above ∷ []
     → split_answer made w.region w.depth (axis_index a) v (tree_goals z (drop at ts) below after_push) ≡ r → after judge made (goals_at z ts at ws s) (item.Split a v) ≡ r
 split_end z judge made ts at ws after_push s w below above a v r h e lower upper pushed is =
@@ -119,11 +121,11 @@ region_of stage.Between h = absurd h
 region_of (stage.Tree w) h = (w, refl)
 region_of stage.Ended h = absurd h
 
-pub refuses_tree : (z : Version) (judge : Judge) (made : ℕ) (ts : List Target) (at : ℕ) (ws : List WaitingRegion) (s : Stage) (w : WaitingRegion) (i : Item) → IsConsistentAt ts at ws s → s ≡ stage.Tree w → IsNoTree i → after judge made (goals_at z ts at ws s) i ≡ Err faults.Place
+pub refuses_tree : (z : Version) (judge : Judge) (made : ℕ) (ts : List Target) (at : ℕ) (ws : List Waiting) (s : Stage) (w : Waiting) (i : Item) → IsConsistentAt ts at ws s → s ≡ stage.Tree w → IsNoTree i → after judge made (goals_at z ts at ws s) i ≡ Err faults.Place
 refuses_tree z judge made ts at ws s w i h e other =
     let k : IsConsistentAt ts at ws (stage.Tree w) = subst (λ (x : Stage). IsConsistentAt ts at ws x) e h in
     rw e (go (drop at ts) i (omega (arith, length-drop at ts, k.0)) other) where
-      go : (ts : List Target) (i : Item) → 0 < length ts → IsNoTree i → after judge made (tree_goals z ts w ws) i ≡ Err 403
+      go : (ts : List Target) (i : Item) → 0 < length ts → IsNoTree i → after judge made (tree_goals z ts w ws) i ≡ Err faults.Place
       go [] i some other = absurd (omega arith)
       go (t ∷ ts) (item.Header v) some other = refl
       go (t ∷ ts) (item.Class c m) some other = refl
@@ -132,11 +134,11 @@ refuses_tree z judge made ts at ws s w i h e other =
       go (t ∷ ts) item.Never some other = absurd other
       go (t ∷ ts) item.End some other = refl
 
-pub between_402 : (z : Version) (xs : List Target) → form_fault (ahead z xs) ≡ 402
-between_402 z [] = refl
-between_402 z (t ∷ ts) = refl
+pub form_fault-ahead : (z : Version) (xs : List Target) → form_fault (ahead z xs) ≡ faults.Form
+form_fault-ahead z [] = refl
+form_fault-ahead z (t ∷ ts) = refl
 
-pub form_fault-tree_goals : (z : Version) (xs : List Target) (w : WaitingRegion) (ws : List WaitingRegion) → 0 < length xs → form_fault (tree_goals z xs w ws) ≡ faults.Form
+pub form_fault-tree_goals : (z : Version) (xs : List Target) (w : Waiting) (ws : List Waiting) → 0 < length xs → form_fault (tree_goals z xs w ws) ≡ faults.Form
 form_fault-tree_goals z [] w ws some = absurd (omega arith)
 form_fault-tree_goals z (t ∷ ts) w ws some = refl
 
@@ -152,13 +154,13 @@ not_ended z ts at ws (stage.Tree w) n h ne = go (drop at ts) (omega (arith, leng
   go (t ∷ ts) some = refl
 not_ended z ts at ws stage.Ended n h ne = absurd (ne refl)
 
-pub form_fault_between : (z : Version) (ts : List Target) (at : ℕ) (ws : List WaitingRegion) (s : Stage) → s ≡ stage.Between → faults.Form ≡ form_fault (goals_at z ts at ws s)
+pub form_fault_between : (z : Version) (ts : List Target) (at : ℕ) (ws : List Waiting) (s : Stage) → s ≡ stage.Between → faults.Form ≡ form_fault (goals_at z ts at ws s)
 form_fault_between z ts at ws s e = rw e (sym (form_fault-ahead z (drop at ts)))
 
-pub form_fault_tree : (z : Version) (ts : List Target) (at : ℕ) (ws : List WaitingRegion) (s : Stage) (w : WaitingRegion) → IsConsistentAt ts at ws s → s ≡ stage.Tree w → faults.Form ≡ form_fault (goals_at z ts at ws s)
+pub form_fault_tree : (z : Version) (ts : List Target) (at : ℕ) (ws : List Waiting) (s : Stage) (w : Waiting) → IsConsistentAt ts at ws s → s ≡ stage.Tree w → faults.Form ≡ form_fault (goals_at z ts at ws s)
 form_fault_tree z ts at ws s w h e =
     let k : IsConsistentAt ts at ws (stage.Tree w) = subst (λ (x : Stage). IsConsistentAt ts at ws x) e h in
-    rw e (sym (tree_402 z (drop at ts) w ws (omega (arith, length-drop at ts, k.0))))
+    rw e (sym (form_fault-tree_goals z (drop at ts) w ws (omega (arith, length-drop at ts, k.0))))
 
 pub no_tree : (i : Item) → ((crossing point process : ℕ) → i ≢ item.Leaf crossing point process) → ((a : Axis) (v : ℕ) → i ≢ item.Split a v) → i ≢ item.Never → IsNoTree i
 no_tree (item.Header v) f g h = tt

@@ -9,8 +9,8 @@ use Rattle.fx_base.proofs.GoingOn.{cut_off_behind, may_follow, nothing_left, som
 use Rattle.fx_run_text.proofs.RunLines.{long_first}
 use Rattle.fx_check.specs.Judging.{Judge}
 use Rattle.fx_check.specs.Outcomes.{Continues, IsRefusal, StandsBehind}
-use Rattle.fx_check.specs.FirstRefusal as verdict
-use Rattle.fx_check.specs.FirstRefusal.{Goal, Line, Refusal, at_line, refusal_at, at_end, goes_on, first_refusal, reading_of, after_reading, made_after}
+use Rattle.fx_check.specs.Verdict as verdict
+use Rattle.fx_check.specs.Verdict.{Goal, Line, Refusal, at_line, refusal_at, at_end, goes_on, first_refusal, reading_of, after_reading, made_after}
 
 one_on : (judge : Judge) (n m made : ℕ) (gs left : List Goal) (l : Line) (ls : List Line) → m ≡ next_number n → after_reading judge made gs (reading_of l) ≡ Ok left
     → first_refusal judge n made gs (l ∷ ls) ≡ first_refusal judge m (made_after made (reading_of l)) left ls
@@ -45,9 +45,9 @@ refuses_line judge first old new all gs made k e before at after fault =
     let some = something_follows old new at in
     let line = at.lines some.0 some.1 in
     let whole = before line.0 line.1 in
-    let is : first_refusal judge old.number made gs (text_lines line.0) ≡ Some (refused k (next_number old.number) (text_lines some.0)) =
+    let is : first_refusal judge old.number made gs (text_lines line.0) ≡ Some (refusal_at k (next_number old.number) (text_lines some.0)) =
     ap (first_refusal judge old.number made gs) line.2 ∙ ap (goes_on (next_number old.number) (text_lines some.0) (λ left. first_refusal judge (next_number old.number) (made_after made (reading_of (new.line, new.ended))) left (text_lines some.0))) after in
-    let stands : StandsBehind new (refused k (next_number old.number) (text_lines some.0)) = inr (at.going.1, at.number, (some.0, some.1.0, refl)) in
+    let stands : StandsBehind new (refusal_at k (next_number old.number) (text_lines some.0)) = inr (at.going.1, at.number, (some.0, some.1.0, refl)) in
     (whole.0, whole.1, subst (IsRefusal e new) (sym (whole.2 ∙ is)) (fault ∙ ap (at_line k) at.number, stands))
 
 -- ---- the end
@@ -78,7 +78,7 @@ too_long : (judge : Judge) (first old new : Lines) (all gs : List Goal) (made : 
 too_long judge first old new all gs made e before stopped fault text left long =
     let f = long_first text long in
     let whole = before text left in
-    let is : first_refusal judge old.number made gs (text_lines text) ≡ Some (refused 903 (next_number old.number) f.1) = rw (f.2, f.3) refl in
+    let is : first_refusal judge old.number made gs (text_lines text) ≡ Some (refusal_at 903 (next_number old.number) f.1) = rw (f.2, f.3) refl in
     (whole.0, whole.1, subst (IsRefusal e new) (sym (whole.2 ∙ is)) (fault, inl (refl, stopped ∙ ap (λ (x : Fault). Some x) fault)))
 
 pub reader_refuses : (judge : Judge) (first old new : Lines) (all gs : List Goal) (made : ℕ) (e : Fault) → Continues judge first all old made gs → GoesOnToLines first old → ((f : Fault) → old.stopped ≡ Some f → first.stopped ≡ Some f) → RefusesText old new e

@@ -11,8 +11,10 @@ use Rattle.fx_leaf.specs.declared.leaf.Counted.{Counted}
 use Rattle.fx_leaf.specs.Certificates.{Tree, Leaf, Uncounted, Split}
 use Rattle.fx_check.specs.Judging.{Judge}
 use Rattle.fx_traffic.specs.Targets.{Target}
-use Rattle.fx_check.specs.FirstRefusal.{Goal, header, opening, tree, close, ahead, whole, line_limit, depth_limit, may_say_never, leaf_answer, split_answer, parts, after, made_by, LineReading, long, cut, malformed, says, after_reading, made_after, by_number}
+use Rattle.fx_check.specs.Verdict.{Goal, header, opening, tree, close, ahead, whole, line_limit, depth_limit, may_say_never, leaf_answer, split_answer, parts, after, made_by, Reading, long, cut, malformed, says, after_reading, made_after, by_number}
 use Rattle.fx_check.specs.Certificates.{tree_items, size, sizes, body_items, certificate_items}
+use Rattle.fx_check.specs.declared.line_fault.LineFault.{LineFault}
+use Rattle.fx_check.specs.declared.line_fault.LineFault.TheVariants as faults
 
 abbrev lines : List Item → List LineReading
 lines is = map says is
@@ -68,31 +70,31 @@ both : (a b : Bool) → (a && b) ≡ true → (a ≡ true) × (b ≡ true)
 both true b h = (refl, h)
 both false b h = absurd cc
 
-abbrev good : List Goal → Result (List Goal) ℕ
+abbrev good : List Goal → Result (List Goal) LineFault
 good gs = Ok gs
 
-abbrev bad : ℕ → Result (List Goal) ℕ
-bad n = Err n
+abbrev bad : LineFault → Result (List Goal) LineFault
+bad fault = Err fault
 
 leaf_ok : (made : ℕ) (wrong : Option ℕ) (gs left : List Goal) → leaf_answer made wrong gs ≡ Ok left → (made < line_limit) × (wrong ≡ None) × (gs ≡ left)
 leaf_ok made None gs left e =
-    elim (chosen (leb line_limit made) (bad 414) (good gs) (good left) e) [
+    elim (chosen (leb line_limit made) (bad faults.LineCount) (good gs) (good left) e) [
       | inl h ↦ absurd cc
       | inr h ↦ (leb-false line_limit made h.0, refl, cc)
     ]
 leaf_ok made (Some n) gs left e =
-    elim (chosen (leb line_limit made) (bad 414) (bad n) (good left) e) [
+    elim (chosen (leb line_limit made) (bad faults.LineCount) (bad (faults.Leaf n)) (good left) e) [
       | inl h ↦ absurd cc
       | inr h ↦ absurd cc
     ]
 
 split_ok : (made : ℕ) (b : Bounds) (d k at : ℕ) (gs left : List Goal) → split_answer made b d k at gs ≡ Ok left → (made < line_limit) × (d < depth_limit) × IsStrictlyInside b k at × (gs ≡ left)
 split_ok made b d k at gs left e =
-    elim (chosen (leb line_limit made) (bad 414) _ (good left) e) [
+    elim (chosen (leb line_limit made) (bad faults.LineCount) _ (good left) e) [
       | inl h ↦ absurd cc
-      | inr h ↦ elim (chosen (leb depth_limit d) (bad 412) _ (good left) h.1) [
+      | inr h ↦ elim (chosen (leb depth_limit d) (bad faults.SplitDepth) _ (good left) h.1) [
         | inl i ↦ absurd cc
-        | inr i ↦ elim (chosen (ltb _ at && leb at _) (good gs) (bad 404) (good left) i.1) [
+        | inr i ↦ elim (chosen (ltb _ at && leb at _) (good gs) (bad faults.SplitPlace) (good left) i.1) [
           | inl j ↦ let w = both _ _ j.0 in (leb-false line_limit made h.0, leb-false depth_limit d i.0, (ltb-true _ _ w.0, leb-true _ _ w.1), cc)
           | inr j ↦ absurd cc
         ]
@@ -129,7 +131,7 @@ fulfils_more judge made (header ts ∷ gs) left item.Never rs n e le f = absurd 
 fulfils_more judge made (header ts ∷ gs) left item.End rs n e le f = absurd cc
 fulfils_more judge made (opening t ∷ gs) left (item.Header v) rs n e le f = absurd cc
 fulfils_more judge made (opening t ∷ gs) left (item.Class c m) rs n e le f =
-    elim (chosen (eqb c t.class && eqb m t.path) (good gs) (bad 403) (good left) e) [
+    elim (chosen (eqb c t.class && eqb m t.path) (good gs) (bad faults.Place) (good left) e) [
       | inl h ↦
           let w = both (eqb c t.class) (eqb m t.path) h.0 in let k : gs ≡ left = cc in
           let same : says (item.Class c m) ∷ rs ≡ says (item.Class t.class t.path) ∷ rs = rw (eqb-true c t.class w.0, eqb-true m t.path w.1) refl in
@@ -143,7 +145,7 @@ fulfils_more judge made (opening t ∷ gs) left item.End rs n e le f = absurd cc
 fulfils_more judge made (tree z t b d ∷ gs) left (item.Header v) rs n e le f = absurd cc
 fulfils_more judge made (tree z t b d ∷ gs) left (item.Class c m) rs n e le f = absurd cc
 fulfils_more judge made (tree z t b d ∷ gs) left (item.Leaf crossing point process) rs n e le f =
-    elim (chosen t.exempt (bad 403) (leaf_answer made (judge t b (Some (leaf_named crossing point process))) gs) (good left) e) [
+    elim (chosen t.exempt (bad faults.Place) (leaf_answer made (judge t b (Some (leaf_named crossing point process))) gs) (good left) e) [
       | inl h ↦ absurd cc
       | inr h ↦
           let k = leaf_ok made (judge t b (Some (leaf_named crossing point process))) gs left h.1 in
@@ -153,7 +155,7 @@ fulfils_more judge made (tree z t b d ∷ gs) left (item.Split a v) rs n e le f 
     let k = split_ok made b d (axis_index a) v (parts z t b d (axis_index a) v gs) left e in
     (1 + n, λ h. omega (arith, bounded (made + 1) n line_limit (omega (arith, k.0)) le), split_fulfils judge z t b d a v gs rs n k.1 k.2 (subst (λ (g : List Goal). Fulfils judge g rs n) (sym k.3) f))
 fulfils_more judge made (tree z t b d ∷ gs) left item.Never rs n e le f =
-    elim (chosen (may_say_never z t) (leaf_answer made (judge t b None) gs) (bad 403) (good left) e) [
+    elim (chosen (may_say_never z t) (leaf_answer made (judge t b None) gs) (bad faults.Place) (good left) e) [
       | inl h ↦
           let k = leaf_ok made (judge t b None) gs left h.1 in
           (1 + n, λ z. omega (arith, bounded (made + 1) n line_limit (omega (arith, k.0)) le), (Uncounted, rs, n, refl, (h.0, k.1), refl, subst (λ (g : List Goal). Fulfils judge g rs n) (sym k.2) f))
@@ -179,7 +181,7 @@ fulfils judge made gs (cut ∷ rs) e = absurd cc
 fulfils judge made gs (malformed ∷ rs) e = absurd cc
 fulfils judge made gs (says i ∷ rs) e = go (λ left h. fulfils judge (made_by made i) left rs h) (after judge made gs i) refl e where
   go : ((left : List Goal) → verdict judge (made_by made i) left rs ≡ None → (n : ℕ) × (0 < n → made_by made i + n ≤ line_limit) × Fulfils judge left rs n)
-      → (r : Result (List Goal) ℕ) → after judge made gs i ≡ r → on (λ left. verdict judge (made_by made i) left rs) r ≡ None → (n : ℕ) × (0 < n → made + n ≤ line_limit) × Fulfils judge gs (says i ∷ rs) n
+      → (r : Result (List Goal) LineFault) → after judge made gs i ≡ r → on (λ left. verdict judge (made_by made i) left rs) (by_number r) ≡ None → (n : ℕ) × (0 < n → made + n ≤ line_limit) × Fulfils judge gs (says i ∷ rs) n
   go more (Ok left) is e = let f = more left e in fulfils_more judge made gs left i rs f.0 is f.1 f.2
   go more (Err n) is e = absurd cc
 
@@ -209,7 +211,7 @@ right_only judge ts (says item.End ∷ rs) e = absurd cc
 
 -- ---- back
 
-goes : (judge : Judge) (made : ℕ) (gs left : List Goal) (i : Item) (rs : List LineReading) → after judge made gs i ≡ Ok left → verdict judge (made_by made i) left rs ≡ None → verdict judge made gs (says i ∷ rs) ≡ None
+goes : (judge : Judge) (made : ℕ) (gs left : List Goal) (i : Item) (rs : List Reading) → after judge made gs i ≡ Ok left → verdict judge (made_by made i) left rs ≡ None → verdict judge made gs (says i ∷ rs) ≡ None
 goes judge made gs left i rs e h = ap (λ (r : Result (List Goal) LineFault). on (λ left. verdict judge (made_by made i) left rs) (by_number r)) e ∙ h
 
 first : {A : Type 0} (b : Bool) (x z : A) → b ≡ true → cond b x z ≡ x
@@ -227,11 +229,11 @@ tree_all : (judge : Judge) (z : Version) (t : Target) (x : Tree) (b : Bounds) (d
     → verdict judge (made + size x) gs rest ≡ None → verdict judge made (tree z t b d ∷ gs) (lines (tree_items x) ++ rest) ≡ None
 tree_all judge z t (Leaf crossing point process) b d made gs rest right le then =
     let answer = leaf_answer made (judge t b (Some (leaf_named crossing point process))) gs in
-    let e : cond t.exempt (bad 403) answer ≡ Ok gs = second t.exempt (bad 403) answer right.0 ∙ leaf_goes made (judge t b (Some (leaf_named crossing point process))) gs (omega arith) right.1 in
+    let e : cond t.exempt (bad faults.Place) answer ≡ Ok gs = second t.exempt (bad faults.Place) answer right.0 ∙ leaf_goes made (judge t b (Some (leaf_named crossing point process))) gs (omega arith) right.1 in
     goes judge made (tree z t b d ∷ gs) gs (item.Leaf crossing point process) rest e then
 tree_all judge z t Uncounted b d made gs rest right le then =
     let answer = leaf_answer made (judge t b None) gs in
-    let e : cond (may_say_never z t) answer (bad 403) ≡ Ok gs = first (may_say_never z t) answer (bad 403) right.0 ∙ leaf_goes made (judge t b None) gs (omega arith) right.1 in
+    let e : cond (may_say_never z t) answer (bad faults.Place) ≡ Ok gs = first (may_say_never z t) answer (bad faults.Place) right.0 ∙ leaf_goes made (judge t b None) gs (omega arith) right.1 in
     goes judge made (tree z t b d ∷ gs) gs item.Never rest e then
 tree_all judge z t (Split a at x y) b d made gs rest right le then =
     let k = axis_index a in
@@ -248,7 +250,7 @@ body_all judge z [] (x ∷ xs) made right le = absurd right
 body_all judge z (t ∷ ts) [] made right le = absurd right
 body_all judge z (t ∷ ts) (x ∷ xs) made right le =
     let left : List Goal = tree z t t.region 0 ∷ ahead z ts in
-    let e : cond (eqb t.class t.class && eqb t.path t.path) (good left) (bad 403) ≡ Ok left = rw (eq-eqb t.class t.class refl, eq-eqb t.path t.path refl) refl in
+    let e : cond (eqb t.class t.class && eqb t.path t.path) (good left) (bad faults.Place) ≡ Ok left = rw (eq-eqb t.class t.class refl, eq-eqb t.path t.path refl) refl in
     goes judge made (ahead z (t ∷ ts)) left (item.Class t.class t.path) (lines (tree_items x ++ body_items ts xs)) e
     (rw (← joined (tree_items x) (body_items ts xs))
     (tree_all judge z t x t.region 0 made (ahead z ts) (lines (body_items ts xs)) right.0 (omega arith) (body_all judge z ts xs (made + size x) right.1 (omega arith))))

@@ -13,6 +13,9 @@ use Rattle.fx_cert.specs.declared.item.Version.TheVariants.{One, Two}
 use Rattle.fx_cert.specs.ItemReading.{item_of}
 use Rattle.fx_traffic.specs.Targets.{Target}
 use Rattle.fx_check.specs.Judging.{Judge}
+use Rattle.fx_check.specs.LineFaults.{number_of}
+use Rattle.fx_check.specs.declared.line_fault.LineFault.{LineFault}
+use Rattle.fx_check.specs.declared.line_fault.LineFault.TheVariants as faults
 
 -- ---- goals
 
@@ -43,20 +46,20 @@ abbrev pub depth_limit : ℕ
 depth_limit = 512
 
 -- nothing is wrong, or something that has this number
-abbrev pub unless_wrong : Option ℕ → List Goal → Result (List Goal) ℕ
+abbrev pub unless_wrong : Option ℕ → List Goal → Result (List Goal) LineFault
 unless_wrong None gs = Ok gs
-unless_wrong (Some n) gs = Err n
+unless_wrong (Some n) gs = Err (faults.Leaf n)
 
-abbrev pub leaf_answer : ℕ → Option ℕ → List Goal → Result (List Goal) ℕ
-leaf_answer made wrong gs = if nat_le line_limit made then Err 414 else unless_wrong wrong gs
+abbrev pub leaf_answer : ℕ → Option ℕ → List Goal → Result (List Goal) LineFault
+leaf_answer made wrong gs = if nat_le line_limit made then Err faults.LineCount else unless_wrong wrong gs
 
 -- a split of a region at a depth, at a value of the axis at k
-abbrev pub split_answer : ℕ → Bounds → ℕ → ℕ → ℕ → List Goal → Result (List Goal) ℕ
+abbrev pub split_answer : ℕ → Bounds → ℕ → ℕ → ℕ → List Goal → Result (List Goal) LineFault
 split_answer made b d k at gs =
-    if nat_le line_limit made then Err 414
-    else if nat_le depth_limit d then Err 412
+    if nat_le line_limit made then Err faults.LineCount
+    else if nat_le depth_limit d then Err faults.SplitDepth
     else if nat_lt (slice_index b.low k) at && nat_le at (slice_index b.high k) then Ok gs
-    else Err 404
+    else Err faults.SplitPlace
 
 -- the trees of the two parts, that of the lower one first
 abbrev pub parts : Version → Target → Bounds → ℕ → ℕ → ℕ → List Goal → List Goal
@@ -67,22 +70,22 @@ abbrev pub may_say_never : Version → Target → Bool
 may_say_never One t = false
 may_say_never Two t = t.exempt
 
--- what is left to say after an item, or the number of its fault; so many split and leaf lines came before
-abbrev pub after : Judge → ℕ → List Goal → Item → Result (List Goal) ℕ
-after judge made [] i = Err 411
+-- what is left to say after an item, or what is wrong with it; so many split and leaf lines came before
+abbrev pub after : Judge → ℕ → List Goal → Item → Result (List Goal) LineFault
+after judge made [] i = Err faults.BehindEnd
 after judge made (header ts ∷ gs) (item.Header v) = Ok (ahead v ts ++ gs)
-after judge made (header ts ∷ gs) _ = Err 401
-after judge made (opening t ∷ gs) (item.Class c m) = if c == t.class && m == t.path then Ok gs else Err 403
-after judge made (opening t ∷ gs) _ = Err 403
+after judge made (header ts ∷ gs) _ = Err faults.Header
+after judge made (opening t ∷ gs) (item.Class c m) = if c == t.class && m == t.path then Ok gs else Err faults.Place
+after judge made (opening t ∷ gs) _ = Err faults.Place
 after judge made (tree v t b d ∷ gs) (item.Leaf crossing point process) =
-    if t.exempt then Err 403 else leaf_answer made (judge t b (Some (record { crossing = crossing; point = point; process = process }))) gs
+    if t.exempt then Err faults.Place else leaf_answer made (judge t b (Some (record { crossing = crossing; point = point; process = process }))) gs
 after judge made (tree v t b d ∷ gs) item.Never =
-    if may_say_never v t then leaf_answer made (judge t b None) gs else Err 403
+    if may_say_never v t then leaf_answer made (judge t b None) gs else Err faults.Place
 after judge made (tree v t b d ∷ gs) (item.Split a at) =
     split_answer made b d (axis_index a) at (parts v t b d (axis_index a) at gs)
-after judge made (tree v t b d ∷ gs) _ = Err 403
+after judge made (tree v t b d ∷ gs) _ = Err faults.Place
 after judge made (close ∷ gs) item.End = Ok gs
-after judge made (close ∷ gs) _ = Err 403
+after judge made (close ∷ gs) _ = Err faults.Place
 
 -- the split and leaf lines, with this item's
 abbrev pub made_by : ℕ → Item → ℕ
@@ -113,12 +116,12 @@ abbrev pub reading_of : Line → LineReading
 reading_of l = if nat_lt 4096 (length l.0) then long else if l.1 then said (item_of l.0) else cut
 
 -- the fault of a line that is no item's text
-abbrev pub form_fault : List Goal → ℕ
-form_fault [] = 411
-form_fault (header ts ∷ gs) = 401
-form_fault (opening t ∷ gs) = 402
-form_fault (tree v t b d ∷ gs) = 402
-form_fault (close ∷ gs) = 402
+abbrev pub form_fault : List Goal → LineFault
+form_fault [] = faults.BehindEnd
+form_fault (header ts ∷ gs) = faults.Header
+form_fault (opening t ∷ gs) = faults.Form
+form_fault (tree v t b d ∷ gs) = faults.Form
+form_fault (close ∷ gs) = faults.Form
 
 -- an outcome with the number of what is wrong
 abbrev pub by_number : Result (List Goal) LineFault → Result (List Goal) ℕ
@@ -126,11 +129,11 @@ by_number (Ok gs) = Ok gs
 by_number (Err fault) = Err (number_of fault)
 
 -- what is left to say after a line, or the number of its fault: 903 is the reader's
-abbrev pub after_reading : Judge → ℕ → List Goal → LineReading → Result (List Goal) ℕ
+abbrev pub after_reading : Judge → ℕ → List Goal → Reading → Result (List Goal) ℕ
 after_reading judge made gs long = Err 903
-after_reading judge made gs cut = Err 405
-after_reading judge made gs malformed = Err (form_fault gs)
-after_reading judge made gs (says i) = after judge made gs i
+after_reading judge made gs cut = by_number (Err faults.Cut)
+after_reading judge made gs malformed = by_number (Err (form_fault gs))
+after_reading judge made gs (says i) = by_number (after judge made gs i)
 
 abbrev pub made_after : ℕ → LineReading → ℕ
 made_after made long = made
@@ -149,17 +152,17 @@ pub record Refusal : Type 0 where
 abbrev pub at_line : ℕ → ℕ → Fault
 at_line number n = fault_at number (places.Line n)
 
-abbrev pub refused : ℕ → ℕ → List Line → Refusal
-refused number n ls = record { fault = at_line number n; last = n; behind = ls }
+abbrev pub refusal_at : ℕ → ℕ → List Line → Refusal
+refusal_at number n ls = record { fault = at_line number n; last = n; behind = ls }
 
 -- the text ends behind the line n: something may still have to be said
 abbrev pub at_end : ℕ → List Goal → Option Refusal
 at_end n [] = None
-at_end n (g ∷ gs) = Some (record { fault = at_line 405 (next_number n); last = n; behind = [] })
+at_end n (g ∷ gs) = Some (record { fault = at_line (number_of faults.Cut) (next_number n); last = n; behind = [] })
 
 -- the refusal of the line n, or that of what `next` says of the lines behind it
 abbrev pub goes_on : ℕ → List Line → (List Goal → Option Refusal) → Result (List Goal) ℕ → Option Refusal
-goes_on n ls next (Err number) = Some (refused number n ls)
+goes_on n ls next (Err number) = Some (refusal_at number n ls)
 goes_on n ls next (Ok left) = next left
 
 -- the first refusal of the lines behind the line n, if there is one

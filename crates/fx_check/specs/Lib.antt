@@ -1,3 +1,4 @@
+pub mod LineFaults
 pub mod Judging
 pub mod FirstRefusal
 pub mod Certificates

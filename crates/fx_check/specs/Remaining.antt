@@ -7,7 +7,7 @@ use Rattle.fx_check.specs.declared.stack.WaitingRegion.{WaitingRegion}
 use Rattle.fx_check.specs.declared.course.Course.{Course}
 use Rattle.fx_check.specs.declared.course.Stage.{Stage}
 use Rattle.fx_check.specs.declared.course.Stage.TheVariants as stage
-use Rattle.fx_check.specs.FirstRefusal.{Goal, header, tree, ahead}
+use Rattle.fx_check.specs.Verdict.{Goal, header, tree, ahead}
 use Rattle.fx_check.specs.declared.line_fault.LineFault.{LineFault}
 
 -- the two parts of a region that waits, a step deeper
@@ -69,6 +69,6 @@ abbrev pub rest_goals : List Target → Course → List Goal
 rest_goals ts c = rest_of_tree c.version (drop c.current ts) c.waiting
 
 -- a call's outcome, with what is left to say
-abbrev pub map_result : {A : Type 0} → Result A ℕ → List Goal → Result (List Goal) ℕ
+abbrev pub map_result : {A : Type 0} → Result A LineFault → List Goal → Result (List Goal) LineFault
 map_result (Ok x) gs = Ok gs
-map_result (Err n) gs = Err n
+map_result (Err fault) gs = Err fault

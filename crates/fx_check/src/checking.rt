@@ -41,8 +41,8 @@ fn take_lines<R: Source>(
         if !lines.advance()? {
             return course.end(targets, lines.number());
         }
-        if let Err(number) = course.take(scratch, tables, targets, &lines.line()) {
-            return Err(Fault::at_line(number, lines.number()));
+        if let Err(fault) = course.take(scratch, tables, targets, &lines.line()) {
+            return Err(Fault::at_line(fault.number(), lines.number()));
         }
     }
 }

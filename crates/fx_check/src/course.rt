@@ -5,11 +5,11 @@ ghost use Rattle.fx_elements.specs.Axes.{axis_index};
 ghost use Rattle.fx_leaf.specs.Tables.{AreTables};
 ghost use Rattle.fx_check.specs.Judging.{Judge, judge_of};
 ghost use Rattle.fx_check.specs.Remaining.{goals, rest_goals, IsConsistent, IsInTree, map_result, below_waits, above_waits};
-ghost use Rattle.fx_check.specs.FirstRefusal.{Goal, after, after_reading, split_answer, made_by, made_after, form_fault, reading_of, at_end, by_number};
+ghost use Rattle.fx_check.specs.Verdict.{Goal, after, after_reading, split_answer, made_by, made_after, form_fault, reading_of, at_end, by_number};
 
 use crate::judging::{leaf_fault, never_fault};
 use crate::line_fault::LineFault;
-use crate::stack::{Stack, WaitingRegion};
+use crate::stack::{Stack, Waiting};
 use fx_base::{Fault, Line};
 use fx_cert::{Item, Version, read_item};
 use fx_elements::Axis;
@@ -63,7 +63,7 @@ impl Course {
     }
 
     /// Takes an item between the trees.
-    fn between(&mut self, targets: &[Target<'_>], item: &Item) -> Result<(), u16>
+    fn between(&mut self, targets: &[Target<'_>], item: &Item) -> Result<(), LineFault>
         requires consistent { IsConsistent targets.now self.old }
         requires stage { self.old.stage ≡ Stage.Between }
         ensures after { (judge : Judge) → after judge self.old.made (goals targets.now self.old)
@@ -82,13 +82,13 @@ impl Course {
                     return Ok(());
                 }
             }
-            return Err(403);
+            return Err(LineFault::Place);
         }
         if let Item::End = item {
             self.stage = Stage::Ended;
             return Ok(());
         }
-        Err(403)
+        Err(LineFault::Place)
     }
 
     /// Ends the tree of a region: that of the region on top comes next, or the target is done.
@@ -118,7 +118,7 @@ impl Course {
         tables: &Tables<'_>,
         targets: &[Target<'_>],
         leaf: &Counted,
-    ) -> Result<(), u16>
+    ) -> Result<(), LineFault>
         requires tables { AreTables tables.now }
         requires room { length tables.now.net.processes ≤ length scratch.old }
         requires consistent { IsConsistent targets.now self.old }
@@ -132,16 +132,16 @@ impl Course {
     {
         let target = &targets[self.current];
         if target.exempt {
-            return Err(403);
+            return Err(LineFault::Place);
         }
         if self.made >= LINES {
-            return Err(414);
+            return Err(LineFault::LineCount);
         }
         let Stage::Tree(here) = &self.stage else {
             unreachable!();
         };
         if let Some(number) = leaf_fault(scratch, tables, target, &here.region, leaf) {
-            return Err(number);
+            return Err(LineFault::Leaf(number));
         }
         self.made += 1;
         self.close_region(targets);
@@ -154,7 +154,7 @@ impl Course {
         scratch: &mut Scratch,
         tables: &Tables<'_>,
         targets: &[Target<'_>],
-    ) -> Result<(), u16>
+    ) -> Result<(), LineFault>
         requires tables { AreTables tables.now }
         requires room { length tables.now.net.processes ≤ length scratch.old }
         requires consistent { IsConsistent targets.now self.old }
@@ -167,16 +167,16 @@ impl Course {
     {
         let target = &targets[self.current];
         if self.version == Version::One || !target.exempt {
-            return Err(403);
+            return Err(LineFault::Place);
         }
         if self.made >= LINES {
-            return Err(414);
+            return Err(LineFault::LineCount);
         }
         let Stage::Tree(here) = &self.stage else {
             unreachable!();
         };
         if let Some(number) = never_fault(scratch, tables, target, &here.region) {
-            return Err(number);
+            return Err(LineFault::Leaf(number));
         }
         self.made += 1;
         self.close_region(targets);
@@ -184,7 +184,7 @@ impl Course {
     }
 
     /// Takes a split of a region: its lower part comes next, and its upper part waits.
-    fn split(&mut self, targets: &[Target<'_>], axis: Axis, at: u128) -> Result<(), u16>
+    fn split(&mut self, targets: &[Target<'_>], axis: Axis, at: u128) -> Result<(), LineFault>
         requires consistent { IsConsistent targets.now self.old }
         requires stage { IsInTree self.old.stage }
         ensures after { (judge : Judge) → after judge self.old.made (goals targets.now self.old)
@@ -208,7 +208,7 @@ impl Course {
         tables: &Tables<'_>,
         targets: &[Target<'_>],
         item: &Item,
-    ) -> Result<(), u16>
+    ) -> Result<(), LineFault>
         requires tables { AreTables tables.now }
         requires room { length tables.now.net.processes ≤ length scratch.old }
         requires consistent { IsConsistent targets.now self.old }
@@ -234,7 +234,7 @@ impl Course {
             }
             Item::Never => self.never(scratch, tables, targets),
             Item::Split { axis, at } => self.split(targets, *axis, *at),
-            _ => Err(403),
+            _ => Err(LineFault::Place),
         }
     }
 
@@ -245,7 +245,7 @@ impl Course {
         tables: &Tables<'_>,
         targets: &[Target<'_>],
         item: &Item,
-    ) -> Result<(), u16>
+    ) -> Result<(), LineFault>
         requires tables { AreTables tables.now }
         requires room { length tables.now.net.processes ≤ length scratch.old }
         requires consistent { IsConsistent targets.now self.old }
@@ -256,59 +256,58 @@ impl Course {
         ensures size { length scratch.new ≡ length scratch.old }
     {
         match self.stage {
-            Stage::Ended => Err(411),
+            Stage::Ended => Err(LineFault::BehindEnd),
             Stage::Header => match item {
                 Item::Header(version) => {
                     self.version = *version;
                     self.stage = Stage::Between;
                     Ok(())
                 }
-                _ => Err(401),
+                _ => Err(LineFault::Header),
             },
             Stage::Between => self.between(targets, item),
             Stage::Tree(_) => self.within(scratch, tables, targets, item),
         }
     }
 
-    /// The number of the fault of a line that is no item's text.
-    fn form_fault(&self, targets: &[Target<'_>]) -> u16
+    /// What is wrong with a line that is no item's text.
+    fn form_fault(&self, targets: &[Target<'_>]) -> LineFault
         requires { IsConsistent targets.now self.now }
         ensures { result ≡ form_fault (goals targets.now self.now) }
     {
         match self.stage {
-            Stage::Header => 401,
-            Stage::Between => 402,
-            Stage::Tree(_) => 402,
-            Stage::Ended => 411,
+            Stage::Header => LineFault::Header,
+            Stage::Between => LineFault::Form,
+            Stage::Tree(_) => LineFault::Form,
+            Stage::Ended => LineFault::BehindEnd,
         }
     }
 
-    /// Takes a line, or answers the number of its fault: 405 where no line feed ends it, 411 behind the last line,
-    /// 401 where the first line isn't `once-certificate` with its version, 402 where another is no item's text, 403 where an item
-    /// isn't in its place or a leaf tells where exempt packets are counted, 414 where split and leaf lines are too
-    /// many, 412 where a split is too deep, 404 where it isn't strictly inside its region, or what is wrong with a
-    /// leaf.
+    /// Takes a line, or answers what is wrong with it, in this order: no line feed ends it, it stands behind the last
+    /// line, the first line isn't `once-certificate` with its version, another is no item's text, an item isn't in its
+    /// place or a leaf tells where exempt packets are counted, split and leaf lines are too many, a split is too deep or
+    /// isn't strictly inside its region, or something is wrong with a leaf.
     pub(crate) fn take(
         &mut self,
         scratch: &mut Scratch,
         tables: &Tables<'_>,
         targets: &[Target<'_>],
         line: &Line<'_>,
-    ) -> Result<(), u16>
+    ) -> Result<(), LineFault>
         requires tables { AreTables tables.now }
         requires room { length tables.now.net.processes ≤ length scratch.old }
         requires consistent { IsConsistent targets.now self.old }
         requires short { length line.now.bytes.now ≤ 4096 }
         ensures after { after_reading (judge_of tables.now.net) self.old.made
             (goals targets.now self.old) (reading_of (line.now.bytes.now, line.now.ended))
-            ≡ map_result result (goals targets.now self.new) }
+            ≡ by_number (map_result result (goals targets.now self.new)) }
         ensures consistent { OnOk result (IsConsistent targets.now self.new) }
         ensures made { OnOk result (self.new.made
             ≡ made_after self.old.made (reading_of (line.now.bytes.now, line.now.ended))) }
         ensures size { length scratch.new ≡ length scratch.old }
     {
         if !line.ended {
-            return Err(405);
+            return Err(LineFault::Cut);
         }
         let Ok(item) = read_item(line) else {
             return Err(self.form_fault(targets));
@@ -325,13 +324,13 @@ impl Course {
     {
         match self.stage {
             Stage::Ended => Ok(()),
-            _ => Err(Fault::at_line(405, number.saturating_add(1))),
+            _ => Err(Fault::at_line(LineFault::Cut.number(), number.saturating_add(1))),
         }
     }
 }
 
 /// Where a split may stand, keeps the lower part of a region and answers the upper one, each a step deeper.
-fn split_waiting(made: u32, here: &mut WaitingRegion, axis: Axis, at: u128) -> Result<WaitingRegion, LineFault>
+fn split_waiting(made: u32, here: &mut Waiting, axis: Axis, at: u128) -> Result<Waiting, LineFault>
     ensures answer { (gs : List Goal)
         → split_answer made here.old.region here.old.depth (axis_index axis) at gs
         ≡ map_result result gs }
@@ -340,13 +339,13 @@ fn split_waiting(made: u32, here: &mut WaitingRegion, axis: Axis, at: u128) -> R
     ensures bounds { OnOk result ((here.old.depth < 512) × (made < 1000000)) }
 {
     if made >= LINES {
-        return Err(414);
+        return Err(LineFault::LineCount);
     }
     if here.depth >= 512 {
-        return Err(412);
+        return Err(LineFault::SplitDepth);
     }
     if !here.region.can_split(axis, at) {
-        return Err(404);
+        return Err(LineFault::SplitPlace);
     }
     let above = here.region.split_off(axis, at);
     here.depth += 1;

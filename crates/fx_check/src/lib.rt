@@ -5,6 +5,7 @@ mod checking;
 mod course;
 mod judging;
 mod laws;
+mod line_fault;
 mod stack;
 mod tables;
 

@@ -4,7 +4,7 @@ use Rattle.std.specs.Prelude.{slice_get}
 use Rattle.fx_tables.specs.declared.record.Record.{Record}
 use Rattle.fx_machine.proofs.ClaimExamples.{source, first}
 use Rattle.fx_session.specs.Streams.{SessionState}
-use Rattle.fx_session.proofs.StreamSteps.{fed_on, all_none}
+use Rattle.fx_session.proofs.StreamSteps.{after_piece-on, all_none}
 use Rattle.fx_link.specs.Sending.{IsSent}
 use Rattle.fx_link.specs.Wires.{new_wire}
 use Rattle.fx_link.specs.Ongoing.{Ongoing, at_rest, to_put, after_finish}
@@ -61,7 +61,7 @@ abbrev busy : Ongoing
 busy = record { outgoing = (at_rest new_wire).outgoing; queue = 0 ∷ 10 ∷ []; receiver = holding }
 
 arrived_there : arrivals 1 0 (at_rest new_wire ∷ busy ∷ []) ≡ first ∷ []
-arrived_there = ap (λ (x : SessionState). x.known.waiting) (fed_on holding [] refl ∙ all_none holding.known holding.place)
+arrived_there = ap (λ (x : SessionState). x.known.waiting) (after_piece-on holding [] refl ∙ all_none holding.known holding.place)
 
 -- no link has this number
 arrived_nowhere : arrivals 2 0 (at_rest new_wire ∷ busy ∷ []) ≡ []

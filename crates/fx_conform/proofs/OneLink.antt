@@ -3,9 +3,9 @@ use Rattle.std.proofs.Common.{◌≡◌, ℕ, ◌+◌, ◌^◌, ◌<◌, ◌≤�
 use Rattle.std.specs.List.{AllByRecursion}
 use Rattle.std.proofs.lemmas.List.{take-append-drop}
 use Rattle.fx_tables.specs.declared.record.Record.{Record}
-use Rattle.fx_session.specs.Streams.{SessionState, start, fed, behind}
-use Rattle.fx_session.proofs.StreamSteps.{pieces, fed_on, all_none}
-use Rattle.fx_session.proofs.InFront.{fed-behind}
+use Rattle.fx_session.specs.Streams.{SessionState, start, after_piece, behind}
+use Rattle.fx_session.proofs.StreamSteps.{pieces, after_piece-on, all_none}
+use Rattle.fx_session.proofs.InFront.{after_piece-behind}
 use Rattle.fx_link.specs.Sending.{Sender, IsSent, KeepsUp, layout_of, knows, joins, after_batch, after_sent, sent_octets, has_room_for}
 use Rattle.fx_link.specs.Outgoing.{Outgoing, after_flush, with_one, with_all}
 use Rattle.fx_link.specs.Ongoing.{Ongoing, at_rest, to_put, after_finish, after_carry}
@@ -19,8 +19,8 @@ use Rattle.fx_conform.proofs.LinkPlaces.{all_both, all_later, putting, with_more
 
 -- ---- at the beginning
 
-start_settled : fed start [] ≡ start
-start_settled = fed_on start [] refl ∙ all_none start.known start.place
+start_settled : after_piece start [] ≡ start
+start_settled = after_piece-on start [] refl ∙ all_none start.known start.place
 
 nothing_read : AreRead [] []
 nothing_read = record {
@@ -116,8 +116,8 @@ kept_sent : (time : ℕ) (wire : Wire) (history : List ℕ) (before put : List R
     → IsLinkAtRest (sent_on time put wire) (history ++ sent_octets time wire.sender put) (before ++ put)
 kept_sent time wire history before put h k s few =
     let octets : List ℕ = sent_octets time wire.sender put in
-    let back = records_back time wire.sender (fed start history) put h k.in_step.sender s few k.keeps_up in
-    let whole : fed (fed start history) octets ≡ fed start (history ++ octets) = pieces start history octets in
+    let back = records_back time wire.sender (after_piece start history) put h k.in_step.sender s few k.keeps_up in
+    let whole : after_piece (after_piece start history) octets ≡ after_piece start (history ++ octets) = pieces start history octets in
     record {
       in_step = (sending_adds time put wire h k.in_step s few).0;
       settled = k.settled;
@@ -152,21 +152,21 @@ finishing_stills time history all o rs h c room =
 
 -- so many octets reach the receiver, and all records that were read are handled
 abbrev carrying : ℕ → Wire → Wire
-carrying n wire = record { sender = wire.sender; queue = drop n wire.queue; receiver = without_waiting (fed wire.receiver (take n wire.queue)) }
+carrying n wire = record { sender = wire.sender; queue = drop n wire.queue; receiver = without_waiting (after_piece wire.receiver (take n wire.queue)) }
 
 -- a session stands behind the records that it has read
 behind_emptied : (st : SessionState) → behind st.known.waiting (without_waiting st) ≡ st
 behind_emptied st = ap (λ (w : List Record). let x : SessionState = record st { known = record st.known { waiting = w } } in x) (append-nil st.known.waiting)
 
 carrying_takes : (n : ℕ) (wire : Wire) → InStep wire
-    → InStep (carrying n wire) × (on_link wire ≡ (fed wire.receiver (take n wire.queue)).known.waiting ++ on_link (carrying n wire))
+    → InStep (carrying n wire) × (on_link wire ≡ (after_piece wire.receiver (take n wire.queue)).known.waiting ++ on_link (carrying n wire))
 carrying_takes n wire step =
     let front : List ℕ = take n wire.queue in
     let rest : List ℕ = drop n wire.queue in
-    let st : SessionState = fed wire.receiver front in
-    let all : fed st rest ≡ fed wire.receiver wire.queue = pieces wire.receiver front rest ∙ ap (fed wire.receiver) (take-append-drop n wire.queue) in
-    let split : fed st rest ≡ behind st.known.waiting (fed (without_waiting st) rest) = ap (λ (x : SessionState). fed x rest) (sym (behind_emptied st)) ∙ fed-behind st.known.waiting (without_waiting st) rest in
-    let same : fed wire.receiver wire.queue ≡ behind st.known.waiting (fed (without_waiting st) rest) = sym all ∙ split in (
+    let st : SessionState = after_piece wire.receiver front in
+    let all : after_piece st rest ≡ after_piece wire.receiver wire.queue = pieces wire.receiver front rest ∙ ap (after_piece wire.receiver) (take-append-drop n wire.queue) in
+    let split : after_piece st rest ≡ behind st.known.waiting (after_piece (without_waiting st) rest) = ap (λ (x : SessionState). after_piece x rest) (sym (behind_emptied st)) ∙ after_piece-behind st.known.waiting (without_waiting st) rest in
+    let same : after_piece wire.receiver wire.queue ≡ behind st.known.waiting (after_piece (without_waiting st) rest) = sym all ∙ split in (
       record {
         sender = step.sender;
         keeps_up = record {
@@ -184,28 +184,28 @@ none_behind [] ys e = e
 none_behind (x ∷ xs) ys e = none_behind xs ys (let h : xs ++ ys ≡ xs = cc in h)
 
 -- what completes nothing more without new octets doesn't once its records are handled
-settled_emptied : (st : SessionState) → fed st [] ≡ st → fed (without_waiting st) [] ≡ without_waiting st
+settled_emptied : (st : SessionState) → after_piece st [] ≡ st → after_piece (without_waiting st) [] ≡ without_waiting st
 settled_emptied st e =
-    let x : SessionState = fed (without_waiting st) [] in
-    let same : behind st.known.waiting x ≡ st = sym (fed-behind st.known.waiting (without_waiting st) []) ∙ ap (λ (y : SessionState). fed y []) (behind_emptied st) ∙ e in
+    let x : SessionState = after_piece (without_waiting st) [] in
+    let same : behind st.known.waiting x ≡ st = sym (after_piece-behind st.known.waiting (without_waiting st) []) ∙ ap (λ (y : SessionState). after_piece y []) (behind_emptied st) ∙ e in
     let none : x.known.waiting ≡ [] = none_behind st.known.waiting x.known.waiting (ap (λ (y : SessionState). y.known.waiting) same) in
     ap (λ (w : List Record). let y : SessionState = record x { known = record x.known { waiting = w } } in y) none ∙ ap without_waiting same
 
-settled_after : (n : ℕ) (wire : Wire) → fed (fed wire.receiver (take n wire.queue)) [] ≡ fed wire.receiver (take n wire.queue)
-settled_after n wire = pieces wire.receiver (take n wire.queue) [] ∙ ap (fed wire.receiver) (append-nil (take n wire.queue))
+settled_after : (n : ℕ) (wire : Wire) → after_piece (after_piece wire.receiver (take n wire.queue)) [] ≡ after_piece wire.receiver (take n wire.queue)
+settled_after n wire = pieces wire.receiver (take n wire.queue) [] ∙ ap (after_piece wire.receiver) (append-nil (take n wire.queue))
 
 pub octets_arrive : (time n : ℕ) (history : List ℕ) (all : List Record) (o : Ongoing) (rs : List Record) → IsStill history all o rs → IsCarried time (waiting_on (Some (after_carry n o))) history all (with_left [] (after_carry n o)) rs
 octets_arrive time n history all o rs s =
     let w : Wire = carrying n s.wire in
     let takes = carrying_takes n s.wire s.kept.in_step in
-    let come : (fed s.wire.receiver (take n s.wire.queue)).known.waiting ≡ (after_carry n o).receiver.known.waiting = ap (λ (x : Ongoing). (after_carry n x).receiver.known.waiting) (sym s.ongoing_is) in
+    let come : (after_piece s.wire.receiver (take n s.wire.queue)).known.waiting ≡ (after_carry n o).receiver.known.waiting = ap (λ (x : Ongoing). (after_carry n x).receiver.known.waiting) (sym s.ongoing_is) in
     record {
       wire = w;
       before = all;
       put = [];
       kept = record {
         in_step = takes.0;
-        settled = settled_emptied (fed s.wire.receiver (take n s.wire.queue)) (settled_after n s.wire);
+        settled = settled_emptied (after_piece s.wire.receiver (take n s.wire.queue)) (settled_after n s.wire);
         keeps_up = s.kept.keeps_up;
         read = s.kept.read;
       };
@@ -230,4 +230,4 @@ module _ (time : ℕ) (history : List ℕ) (all : List Record) (o : Ongoing) (rs
   pub nothing_carried : IsStill history all o rs → o.queue ≡ [] → rs ≡ []
   nothing_carried s e =
       let none : s.wire.queue ≡ [] = ap (λ (x : Ongoing). x.queue) (sym s.ongoing_is) ∙ e in
-      s.records_are ∙ ap (λ (l : List ℕ). (fed s.wire.receiver l).known.waiting) none ∙ ap (λ (x : SessionState). x.known.waiting) s.kept.settled ∙ s.kept.in_step.handled
+      s.records_are ∙ ap (λ (l : List ℕ). (after_piece s.wire.receiver l).known.waiting) none ∙ ap (λ (x : SessionState). x.known.waiting) s.kept.settled ∙ s.kept.in_step.handled

@@ -4,7 +4,7 @@ use Rattle.std.specs.List.{AllByRecursion}
 use Rattle.fx_tables.specs.declared.record.Record.{Record}
 use Rattle.fx_machine.specs.Sends.{put_all}
 use Rattle.fx_machine.specs.States.{all_empty, nothing_at}
-use Rattle.fx_session.specs.Streams.{start, fed}
+use Rattle.fx_session.specs.Streams.{start, after_piece}
 use Rattle.fx_link.specs.Ongoing.{Ongoing, at_rest, after_finish, after_carry}
 use Rattle.fx_link.specs.Outgoing.{with_all}
 use Rattle.fx_link.specs.Sending.{IsSent, KeepsUp}
@@ -19,18 +19,18 @@ use Rattle.fx_net.specs.Opening.{new_links}
 -- A session that reads these octets from the start reads just these records, without gap, skipped record, unfinished
 -- octet or fault.
 pub record AreRead (octets : List ℕ) (rs : List Record) : Type 0 where
-  pub waiting : (fed start octets).known.waiting ≡ rs
-  pub gaps : (fed start octets).known.gaps ≡ 0
-  pub skipped : (fed start octets).known.skipped ≡ 0
-  pub rest : (fed start octets).rest ≡ []
-  pub fault : (fed start octets).fault ≡ None
+  pub waiting : (after_piece start octets).known.waiting ≡ rs
+  pub gaps : (after_piece start octets).known.gaps ≡ 0
+  pub skipped : (after_piece start octets).known.skipped ≡ 0
+  pub rest : (after_piece start octets).rest ≡ []
+  pub fault : (after_piece start octets).fault ≡ None
 
 -- A link between two times at which nothing is on its way, on which all these octets were put since the start.
 pub record IsLinkAtRest (wire : Wire) (history : List ℕ) (before : List Record) : Type 0 where
   pub in_step : InStep wire
   -- no octet that has reached the receiver completes anything more
-  pub settled : fed wire.receiver [] ≡ wire.receiver
-  pub keeps_up : KeepsUp wire.sender (fed start history)
+  pub settled : after_piece wire.receiver [] ≡ wire.receiver
+  pub keeps_up : KeepsUp wire.sender (after_piece start history)
   pub read : AreRead history before
 
 -- ---- a link

@@ -21,16 +21,17 @@ use Rattle.fx_session.specs.TemplateSets.{template_set}
 use Rattle.fx_session.specs.DataSets.{Taken, flow_set}
 use Rattle.fx_session.specs.Messages.{Reading, Known, with_templates, with_taken, data_by, set_read, sets_read, new_domain, gaps_after, with_domain, known_after, message_read}
 use Rattle.fx_session.specs.Messages as messages
-use Rattle.fx_session.specs.Streams.{SessionState, waits, moved, read_all, fed}
+use Rattle.fx_session.specs.Streams.{SessionState, waits, place_after, read_all, after_piece}
 use Rattle.fx_session.specs.declared.domain.Domain.{Domain}
 use Rattle.fx_session.proofs.MessageSteps.{sets_read-first, sets_read-end}
-use Rattle.fx_session.proofs.StreamSteps.{fed_on, all_goes, all_none}
+use Rattle.fx_session.proofs.StreamSteps.{after_piece-on, all_goes, all_none}
 use Rattle.fx_link.specs.Records.{axis_octets, is_whole, whole_octets, prefix_of, fields_of, specifiers_octets, value_octets, key_octets, record_octets, records_octets, template_octets}
 use Rattle.fx_link.specs.Sending.{Sender, layout_of, knows, template_id, message_sets, header_at, batch_octets, layouts_with, after_batch, IsSendable, IsBatch, IsSender, template_of, templates_from, domain_of, domains_of, KeepsUp, ReadsMore}
 use Rattle.fx_link.proofs.DataTrip.{with_flows, flows_back}
 use Rattle.fx_link.proofs.TemplateTrip.{template_back, few_fields}
 use Rattle.fx_link.proofs.RecordTrip.{length-bytes}
 use Rattle.fx_link.proofs.TableTrip.{at_past, with_new, at_template, id_few}
+use Rattle.fx_session.specs.declared.stream_fault.StreamFault.{StreamFault}
 
 -- ---- sets
 
@@ -78,7 +79,7 @@ sets_back layouts batch t few b h = by (knows layouts (layout_of batch)) refl wh
       let d : SetParts = record { id = template_id layouts (layout_of batch); content = records_octets batch } in
       let set : template_set (templates_for layouts) kinds.Plain (template_octets (256 + length layouts) (layout_of batch)) ≡ Ok (templates_for new) =
       template_back (templates_for layouts) (256 + length layouts) (layout_of batch) b.layout (omega arith) few (at_past 256 (256 + length layouts) layouts (omega arith)) refl
-      ∙ ap (λ (p : List (ℕ × Template)). let o : Result Templates ℕ = Ok (record { plain = p; options = [] }) in o) (with_new layouts (layout_of batch)) in
+      ∙ ap (λ (p : List (ℕ × Template)). let o : Result Templates StreamFault = Ok (record { plain = p; options = [] }) in o) (with_new layouts (layout_of batch)) in
       sets_read-first r (record { templates = templates_for new; taken = t }) s (d ∷ []) (s ∷ d ∷ []) refl (template_read r (template_octets (256 + length layouts) (layout_of batch)) (templates_for new) set)
       ∙ data_back new (ap (λ (u : Bool). at_number (templates_from 256 (cond u layouts (layouts ++ layout_of batch ∷ []))) (template_id layouts (layout_of batch))) (sym k) ∙ at_template layouts (layout_of batch))
 
@@ -120,7 +121,7 @@ message_of time s batch = record { octets = message_length (message_sets s.layou
 abbrev known_then : Known → Sender → List Record → Known
 known_then k s batch = record { domains = domains_of (after_batch s batch); waiting = k.waiting ++ batch; gaps = k.gaps; skipped = k.skipped }
 
-abbrev known_shape : Known → Taken → List (ℕ × Domain) → ℕ → Result Known ℕ
+abbrev known_shape : Known → Taken → List (ℕ × Domain) → ℕ → Result Known StreamFault
 known_shape k t domains gaps = Ok (record { domains = domains; waiting = t.waiting; gaps = gaps; skipped = t.skipped })
 
 abbrev domain_shape : List Layout → ℕ → Domain
@@ -210,7 +211,7 @@ ids_are layouts batch h = by (knows layouts (layout_of batch)) where
 -- ---- the law
 
 waits_then : (st : SessionState) (time : ℕ) (s : Sender) (batch : List Record) → time < 2 ^ 32 → IsSender s → IsBatch batch → KeepsUp s st
-    → (place : ℕ) × (fed st (batch_octets time s batch) ≡ waits (known_then st.known s batch) place [])
+    → (place : ℕ) × (after_piece st (batch_octets time s batch) ≡ waits (known_then st.known s batch) place [])
 unfolding batch_octets
 waits_then st time s batch h is b up =
     let m : Message = message_of time s batch in
@@ -218,17 +219,17 @@ waits_then st time s batch h is b up =
     let whole : IsMessage (header_at time s) (message_sets s.layouts batch) = record { time = h; sequence = is.sent; domain = omega arith; ids = ids_are s.layouts batch is.few; length_is = sets_few s.layouts batch b } in
     let first : front bs ≡ complete m = message_back (header_at time s) (message_sets s.layouts batch) whole in
     let end : drop m.octets bs ≡ [] = drop_all m.octets bs (omega (arith, message_octets-length (header_at time s) (message_sets s.layouts batch))) in (
-      moved st.place m.octets,
-      fed_on st bs up.fault ∙ ap (λ (r : List ℕ). read_all st.known st.place (r ++ bs)) up.rest
+      place_after st.place m.octets,
+      after_piece-on st bs up.fault ∙ ap (λ (r : List ℕ). read_all st.known st.place (r ++ bs)) up.rest
           ∙ all_goes st.known (known_then st.known s batch) st.place m bs first (message_done st.known time s batch up.domains is b)
-          ∙ ap (read_all (known_then st.known s batch) (moved st.place m.octets)) end ∙ all_none (known_then st.known s batch) (moved st.place m.octets),
+          ∙ ap (read_all (known_then st.known s batch) (place_after st.place m.octets)) end ∙ all_none (known_then st.known s batch) (place_after st.place m.octets),
     )
 
 pub batch_back : (time : ℕ) (s : Sender) (st : SessionState) (batch : List Record) → time < 2 ^ 32 → IsSender s → IsBatch batch → KeepsUp s st
-    → KeepsUp (after_batch s batch) (fed st (batch_octets time s batch)) × ReadsMore st (fed st (batch_octets time s batch)) batch
+    → KeepsUp (after_batch s batch) (after_piece st (batch_octets time s batch)) × ReadsMore st (after_piece st (batch_octets time s batch)) batch
 batch_back time s st batch h is b up =
     let w = waits_then st time s batch h is b up in
-    let known : (fed st (batch_octets time s batch)).known ≡ known_then st.known s batch = ap (λ (x : SessionState). x.known) w.1 in (
+    let known : (after_piece st (batch_octets time s batch)).known ≡ known_then st.known s batch = ap (λ (x : SessionState). x.known) w.1 in (
       record { domains = ap (λ (k : Known). k.domains) known; rest = ap (λ (x : SessionState). x.rest) w.1; fault = ap (λ (x : SessionState). x.fault) w.1 },
       record { waiting = ap (λ (k : Known). k.waiting) known; gaps = ap (λ (k : Known). k.gaps) known; skipped = ap (λ (k : Known). k.skipped) known },
     )

@@ -16,6 +16,7 @@ use Rattle.fx_link.specs.Records.{specifier, axis_octets, is_whole, part_fields,
 use Rattle.fx_link.specs.Sending.{IsSendable}
 use Rattle.fx_link.proofs.RecordTrip.{key_values, counts_values, record_back}
 use Rattle.fx_link.proofs.FlowTrip.{flow_back}
+use Rattle.fx_session.specs.declared.stream_fault.StreamFault.{StreamFault}
 
 -- ---- one record
 
@@ -30,7 +31,7 @@ at_front layout r rest s =
 flow_is : (layout : Layout) (r : Record) → IsLayout layout → IsSendable layout r → flow_in (key_values layout r.key.values ++ counts_values r.counts) ≡ Ok (Some r)
 flow_is layout r is s =
     flow_back layout r.key.values r.counts is s.bits s.packets s.octets
-    ∙ ap (λ (l : Layout). let o : Result (Option Record) ℕ = Ok (Some (record { key = record { layout = l; values = r.key.values }; counts = r.counts })) in o) (sym s.layout_is)
+    ∙ ap (λ (l : Layout). let o : Result (Option Record) StreamFault = Ok (Some (record { key = record { layout = l; values = r.key.values }; counts = r.counts })) in o) (sym s.layout_is)
 
 record_taken : (layout : Layout) (t : Taken) (r : Record) (rest : List ℕ) → IsLayout layout → IsSendable layout r → flow_record (fields_of layout) t (record_octets r ++ rest) ≡ Ok (with_flow t (Some r), rest)
 record_taken layout t r rest is s =
@@ -70,11 +71,11 @@ pub flows_back : (layout : Layout) (t : Taken) (rs : List Record) → IsLayout l
     → flow_set (fields_of layout) t (records_octets rs) ≡ Ok (with_flows t rs)
 flows_back layout t [] is s h =
     flow_set-padding (fields_of layout) t [] (shortest-some layout) (let e : 1 ≤ shortest_record (fields_of layout) = shortest-some layout in omega arith)
-    ∙ ap (λ (u : Taken). let o : Result Taken ℕ = Ok u in o) (sym (taken_same t))
+    ∙ ap (λ (u : Taken). let o : Result Taken StreamFault = Ok u in o) (sym (taken_same t))
 flows_back layout t (r ∷ rs) is s h =
     let some : 1 ≤ shortest_record (fields_of layout) = shortest-some layout in
     let long : length (records_octets rs) + shortest_record (fields_of layout) ≤ length (record_octets r ++ records_octets rs) =
     record_at-shorter (fields_of layout) (record_octets r ++ records_octets rs) (key_values layout r.key.values ++ counts_values r.counts, records_octets rs) (at_front layout r (records_octets rs) s.0) in
     (flow_set-more (fields_of layout) t (record_octets r ++ records_octets rs) (with_flow t (Some r), records_octets rs) some (omega arith) (record_taken layout t r (records_octets rs) is s.0)).0
     ∙ flows_back layout (with_flow t (Some r)) rs is s.1 (omega arith)
-    ∙ ap (λ (u : Taken). let o : Result Taken ℕ = Ok u in o) (taken_on t r rs h)
+    ∙ ap (λ (u : Taken). let o : Result Taken StreamFault = Ok u in o) (taken_on t r rs h)

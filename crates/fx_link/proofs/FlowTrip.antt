@@ -12,11 +12,13 @@ use Rattle.fx_layout.specs.declared.layout.Part.{Part}
 use Rattle.fx_layout.specs.Keys.{Layout, Key, HasBits, IsLayout, leading_bits, key_of, can_stand}
 use Rattle.fx_tables.specs.declared.record.Record.{Record}
 use Rattle.fx_wire.specs.Values.{Value}
-use Rattle.fx_session.specs.Flows.{Found, prefix_part, part_on, found_in, part_of, value_of, layout_of, fields_of, key_along, known, is_refused, key_by, counted, flow_by, first_where, is_prefix, is_prefix_length, is_packets, flow_in}
+use Rattle.fx_session.specs.Flows.{Found, prefix_part, part_on, found_in, part_of, value_of, layout_of, fields_of, key_along, found_or_none, is_refused, key_by, with_counts, flow_by, first_where, is_prefix, is_prefix_length, is_packets, flow_in}
 use Rattle.fx_link.specs.Records.{is_whole, prefix_of}
 use Rattle.fx_link.proofs.RecordTrip.{key_values, counts_values}
 use Rattle.fx_link.proofs.OnAxes.{Held, held, part_in, Stands, held_stands, Gives, parts_are, values_are}
 use Rattle.fx_link.proofs.KeyTrip.{eq-is, stands_some, stands_few, stands_address, prefix_fits, whole_in, prefix_in, length_in, NotedOn, axis_noted, octets_noted, packets_noted}
+use Rattle.fx_session.specs.declared.stream_fault.StreamFault.{StreamFault}
+use Rattle.fx_session.specs.declared.stream_fault.StreamFault.TheVariants as faults
 
 -- ---- what is found on an axis
 
@@ -35,8 +37,8 @@ prefix_found axis value bits a some few =
     let zero_no : (bits == 0) ≡ false = grind (arith, nat_tests) in
     let large_no : ltb (axis_width axis) bits ≡ false = le-ltb (axis_width axis) bits few in
     ap (λ (t : Bool). cond t (prefix_part axis (Some value) (Some bits)) (Ok None)) a
-    ∙ ap (λ (t : Bool). cond t (Ok None) (cond (ltb (axis_width axis) bits) (Err 620) (Ok (Some (record { bits = bits; value = value }))))) zero_no
-    ∙ ap (λ (t : Bool). cond t (Err 620) (Ok (Some (record { bits = bits; value = value })))) large_no
+    ∙ ap (λ (t : Bool). cond t (Ok None) (cond (ltb (axis_width axis) bits) (Err faults.PrefixLength) (Ok (Some (record { bits = bits; value = value }))))) zero_no
+    ∙ ap (λ (t : Bool). cond t (Err faults.PrefixLength) (Ok (Some (record { bits = bits; value = value })))) large_no
 
 held_found : (axis : Axis) (o : Held) → Stands axis o → part_on axis (whole_in o) (prefix_in o) (length_in o) ≡ Ok (own axis o)
 held_found axis None s = nothing_found axis
@@ -97,13 +99,13 @@ same_each f g [] h = refl
 same_each f g (x ∷ xs) h = cc (h x, same_each f g xs h)
 
 -- what is refused on no axis makes the key of what is known
-key_found : (found : Axis → Result Found ℕ) (own : Axis → Found) → ((axis : Axis) → found axis ≡ Ok (own axis)) → key_by found ≡ Ok (key_of (layout_of own) (fields_of own))
+key_found : (found : Axis → Result Found StreamFault) (own : Axis → Found) → ((axis : Axis) → found axis ≡ Ok (own axis)) → key_by found ≡ Ok (key_of (layout_of own) (fields_of own))
 key_found found own h =
-    ap (λ (t : Bool). cond t (Err 620) (Ok (key_along (λ axis. known (found axis))))) (on_no_axis (λ axis. is_refused (found axis)) (λ axis. ap is_refused (h axis)))
-    ∙ ap (λ (l : Layout). let r : Result Key ℕ = Ok (key_of l (fields_of (λ axis. known (found axis)))) in r)
-    (same_along (λ axis. part_of axis (known (found axis))) (λ axis. part_of axis (own axis)) axes (λ axis. ap (λ (r : Result Found ℕ). part_of axis (known r)) (h axis)))
-    ∙ ap (λ (f : Fields). let r : Result Key ℕ = Ok (key_of (layout_of own) f) in r)
-    (same_each (λ axis. value_of axis (known (found axis))) (λ axis. value_of axis (own axis)) axes (λ axis. ap (λ (r : Result Found ℕ). value_of axis (known r)) (h axis)))
+    ap (λ (t : Bool). cond t (Err faults.PrefixLength) (Ok (key_along (λ axis. found_or_none (found axis))))) (on_no_axis (λ axis. is_refused (found axis)) (λ axis. ap is_refused (h axis)))
+    ∙ ap (λ (l : Layout). let r : Result Key StreamFault = Ok (key_of l (fields_of (λ axis. found_or_none (found axis)))) in r)
+    (same_along (λ axis. part_of axis (found_or_none (found axis))) (λ axis. part_of axis (own axis)) axes (λ axis. ap (λ (r : Result Found StreamFault). part_of axis (found_or_none r)) (h axis)))
+    ∙ ap (λ (f : Fields). let r : Result Key StreamFault = Ok (key_of (layout_of own) f) in r)
+    (same_each (λ axis. value_of axis (found_or_none (found axis))) (λ axis. value_of axis (own axis)) axes (λ axis. ap (λ (r : Result Found StreamFault). value_of axis (found_or_none r)) (h axis)))
 
 key_back : (layout : Layout) (values : List ℕ) → IsLayout layout → HasBits layout values
     → key_of (layout_of (λ axis. own axis (held layout values axis))) (fields_of (λ axis. own axis (held layout values axis))) ≡ record { layout = layout; values = values }
@@ -119,10 +121,10 @@ key_back layout values is h =
 
 -- ---- the record
 
-counted_back : (counts : Counts) (key : Key) → counts.octets < 2 ^ 64 → counts.packets < 2 ^ 64 → counted counts.octets counts.packets (Ok key) ≡ Ok (Some (record { key = key; counts = counts }))
-counted_back counts key octets packets =
-    ap (λ (n : ℕ). let r : Result (Option Record) ℕ = Ok (Some (record { key = key; counts = record { packets = n; octets = counts.octets % 2 ^ 64 } })) in r) (mod-eq_of_lt packets)
-    ∙ ap (λ (n : ℕ). let r : Result (Option Record) ℕ = Ok (Some (record { key = key; counts = record { packets = counts.packets; octets = n } })) in r) (mod-eq_of_lt octets)
+with_counts-back : (counts : Counts) (key : Key) → counts.octets < 2 ^ 64 → counts.packets < 2 ^ 64 → with_counts counts.octets counts.packets (Ok key) ≡ Ok (Some (record { key = key; counts = counts }))
+with_counts-back counts key octets packets =
+    ap (λ (n : ℕ). let r : Result (Option Record) StreamFault = Ok (Some (record { key = key; counts = record { packets = n; octets = counts.octets % 2 ^ 64 } })) in r) (mod-eq_of_lt packets)
+    ∙ ap (λ (n : ℕ). let r : Result (Option Record) StreamFault = Ok (Some (record { key = key; counts = record { packets = counts.packets; octets = n } })) in r) (mod-eq_of_lt octets)
 
 pub flow_back : (layout : Layout) (values : List ℕ) (counts : Counts) → IsLayout layout → HasBits layout values → counts.packets < 2 ^ 64 → counts.octets < 2 ^ 64
     → flow_in (key_values layout values ++ counts_values counts) ≡ Ok (Some (record { key = record { layout = layout; values = values }; counts = counts }))
@@ -133,6 +135,6 @@ flow_back layout values counts is h packets octets =
     λ axis. axis_found axis layout values all (axis_noted axis layout values counts is.stands is.ascends h octets packets) (held_stands layout values axis is.stands h) in
     ap (λ (o : Option ℕ). flow_by o (first_where is_packets all) (key_by (found_in all))) (octets_noted layout values counts is.stands h octets packets)
     ∙ ap (λ (o : Option ℕ). flow_by (Some counts.octets) o (key_by (found_in all))) (packets_noted layout values counts is.stands h octets packets)
-    ∙ ap (counted counts.octets counts.packets) (key_found (found_in all) (λ axis. own axis (held layout values axis)) found
-    ∙ ap (λ (k : Key). let r : Result Key ℕ = Ok k in r) (key_back layout values is h))
-    ∙ counted_back counts (record { layout = layout; values = values }) octets packets
+    ∙ ap (with_counts counts.octets counts.packets) (key_found (found_in all) (λ axis. own axis (held layout values axis)) found
+    ∙ ap (λ (k : Key). let r : Result Key StreamFault = Ok k in r) (key_back layout values is h))
+    ∙ with_counts-back counts (record { layout = layout; values = values }) octets packets

@@ -7,8 +7,8 @@ use Rattle.fx_layout.specs.Keys.{Layout, IsLayout, same_layout}
 use Rattle.fx_layout.proofs.Projections.{same_layout_is, and_true}
 use Rattle.fx_tables.specs.declared.record.Record.{Record}
 use Rattle.fx_session.specs.Messages.{Known}
-use Rattle.fx_session.specs.Streams.{SessionState, waits, read_all, fed}
-use Rattle.fx_session.proofs.StreamSteps.{pieces, fed_on, all_none}
+use Rattle.fx_session.specs.Streams.{SessionState, waits, read_all, after_piece}
+use Rattle.fx_session.proofs.StreamSteps.{pieces, after_piece-on, all_none}
 use Rattle.fx_link.specs.Sending.{Sender, layout_of, knows, batch_octets, after_batch, most, joins, one_batch, batches_from, batches_of, after_batches, stream_octets, IsSendable, IsBatch, IsSender, IsSent, Begun, KeepsUp, ReadsMore, sent_octets, after_sent}
 use Rattle.fx_link.proofs.BatchTrip.{batch_back}
 
@@ -43,10 +43,10 @@ joined [] = []
 joined (b ∷ bs) = b ++ joined bs
 
 -- nothing is read where nothing comes
-nothing_read : (s : Sender) (st : SessionState) → KeepsUp s st → KeepsUp s (fed st []) × ReadsMore st (fed st []) []
+nothing_read : (s : Sender) (st : SessionState) → KeepsUp s st → KeepsUp s (after_piece st []) × ReadsMore st (after_piece st []) []
 nothing_read s st up =
-    let same : fed st [] ≡ waits st.known st.place [] = fed_on st [] up.fault ∙ ap (λ (r : List ℕ). read_all st.known st.place (r ++ [])) up.rest ∙ all_none st.known st.place in
-    let known : (fed st []).known ≡ st.known = ap (λ (x : SessionState). x.known) same in (
+    let same : after_piece st [] ≡ waits st.known st.place [] = after_piece-on st [] up.fault ∙ ap (λ (r : List ℕ). read_all st.known st.place (r ++ [])) up.rest ∙ all_none st.known st.place in
+    let known : (after_piece st []).known ≡ st.known = ap (λ (x : SessionState). x.known) same in (
       record { domains = ap (λ (k : Known). k.domains) known ∙ up.domains; rest = ap (λ (x : SessionState). x.rest) same; fault = ap (λ (x : SessionState). x.fault) same },
       record { waiting = ap (λ (k : Known). k.waiting) known ∙ sym (append-nil st.known.waiting); gaps = ap (λ (k : Known). k.gaps) known; skipped = ap (λ (k : Known). k.skipped) known },
     )
@@ -59,14 +59,14 @@ then_on a b c xs ys p q = record {
 }
 
 batches_back : (time : ℕ) (s : Sender) (st : SessionState) (batches : List (List Record)) → time < 2 ^ 32 → IsSender s → AllByRecursion IsBatch batches → 256 + length (after_batches s batches).layouts < 2 ^ 16 → KeepsUp s st
-    → KeepsUp (after_batches s batches) (fed st (stream_octets time s batches)) × ReadsMore st (fed st (stream_octets time s batches)) (joined batches)
+    → KeepsUp (after_batches s batches) (after_piece st (stream_octets time s batches)) × ReadsMore st (after_piece st (stream_octets time s batches)) (joined batches)
 batches_back time s st [] h is bs few up = nothing_read s st up
 batches_back time s st (b ∷ bs) h is all few up =
     let first = batch_back time s st b h is all.0 up in
-    let mid : SessionState = fed st (batch_octets time s b) in
+    let mid : SessionState = after_piece st (batch_octets time s b) in
     let grown : length (after_batch s b).layouts ≤ length (after_batches (after_batch s b) bs).layouts = layouts_grow_on (after_batch s b) bs in
     let rest = batches_back time (after_batch s b) mid bs h (after_is s b is all.0 (omega arith)) all.1 few first.0 in
-    let last : SessionState = fed mid (stream_octets time (after_batch s b) bs) in
+    let last : SessionState = after_piece mid (stream_octets time (after_batch s b) bs) in
     let both : KeepsUp (after_batches s (b ∷ bs)) last × ReadsMore st last (b ++ joined bs) = (rest.0, then_on st mid last b (joined bs) first.1 rest.1) in
     subst (λ (x : SessionState). KeepsUp (after_batches s (b ∷ bs)) x × ReadsMore st x (b ++ joined bs)) (pieces st (batch_octets time s b) (stream_octets time (after_batch s b) bs)) both
 
@@ -121,10 +121,10 @@ batches_are batch (r ∷ rs) b h =
       by on new false e = closed_are batch (batches_from (r ∷ []) rs) b new
 
 pub records_back : (time : ℕ) (s : Sender) (st : SessionState) (rs : List Record) → time < 2 ^ 32 → IsSender s → AllByRecursion IsSent rs → 256 + length (after_sent s rs).layouts < 2 ^ 16 → KeepsUp s st
-    → KeepsUp (after_sent s rs) (fed st (sent_octets time s rs)) × ReadsMore st (fed st (sent_octets time s rs)) rs
+    → KeepsUp (after_sent s rs) (after_piece st (sent_octets time s rs)) × ReadsMore st (after_piece st (sent_octets time s rs)) rs
 records_back time s st rs h is all few up =
     let back = batches_back time s st (batches_of rs) h is (batches_are [] rs tt all) few up in
-    (back.0, subst (λ (l : List Record). ReadsMore st (fed st (sent_octets time s rs)) l) (batches-joined [] rs) back.1)
+    (back.0, subst (λ (l : List Record). ReadsMore st (after_piece st (sent_octets time s rs)) l) (batches-joined [] rs) back.1)
 
 -- ---- a sender stays one
 

@@ -22,7 +22,7 @@ use Rattle.fx_wire.specs.declared.field.FieldSpecifier.{FieldSpecifier}
 use Rattle.fx_wire.specs.declared.template.TemplateKind.TheVariants as kinds
 use Rattle.fx_wire.specs.declared.template.TemplateHeading.TheVariants.{Declaration}
 use Rattle.fx_wire.proofs.FieldSteps.{fields_in-none, fields_in-first}
-use Rattle.fx_session.specs.Templates.{Template, Templates, at_number, with_entry, declared}
+use Rattle.fx_session.specs.Templates.{Template, Templates, at_number, with_entry, after_declaration}
 use Rattle.fx_session.specs.TemplateSets as sets
 use Rattle.fx_session.specs.TemplateSets.{is_counter, is_narrow, has_narrow, template_record, template_set, with_heading, with_fields}
 use Rattle.fx_session.proofs.TemplateSteps.{template_set-more, template_set-padding}
@@ -30,6 +30,8 @@ use Rattle.fx_link.specs.Records.{specifier, axis_octets, is_whole, part_fields,
 use Rattle.fx_link.specs.Sending.{template_of}
 use Rattle.fx_link.proofs.RecordTrip.{width_small}
 use Rattle.fx_link.proofs.KeyTrip.{stands_address, whole_element, prefix_element, length_element}
+use Rattle.fx_session.specs.declared.stream_fault.StreamFault.TheVariants as faults
+use Rattle.fx_wire.specs.declared.malformed.Malformed.TheVariants as malformed
 
 -- ---- fields
 
@@ -64,7 +66,7 @@ specifier_back f rest i =
 
 field_back : (f : FieldSpecifier) (rest : List ℕ) → IsField f → field_at (specifier_octets f ++ rest) ≡ Ok (f, rest)
 field_back f rest i =
-    ap checked_field (specifier_back f rest i) ∙ ap (λ (t : Bool). cond t (Ok (f, rest)) (Err 614)) i.stands_is
+    ap checked_field (specifier_back f rest i) ∙ ap (λ (t : Bool). cond t (Ok (f, rest)) (Err malformed.Template)) i.stands_is
 
 fields_back : (fs : List FieldSpecifier) (rest : List ℕ) → AllByRecursion IsField fs → fields_in (length fs) (specifiers_octets fs ++ rest) ≡ Ok (fs, rest)
 fields_back [] rest h = fields_in-none rest
@@ -153,7 +155,7 @@ heading_back id count rest from below some few =
       neither false false x y z e f = refl
 
 declared_back : (ts : Templates) (id : ℕ) (new : Template) → at_number ts.plain id ≡ None → at_number ts.options id ≡ None
-    → declared ts kinds.Plain id new ≡ Ok (record { plain = with_entry ts.plain id new; options = ts.options })
+    → after_declaration ts kinds.Plain id new ≡ Ok (record { plain = with_entry ts.plain id new; options = ts.options })
 declared_back ts id new p o = rw (p, o) refl
 
 record_back : (ts : Templates) (id : ℕ) (layout : Layout) → IsLayout layout → 256 ≤ id → id < 2 ^ 16 → at_number ts.plain id ≡ None → at_number ts.options id ≡ None
@@ -167,7 +169,7 @@ record_back ts id layout is from below p o =
     ap (fields_in count) (sym (append-nil (specifiers_octets (fields_of layout)))) ∙ fields_back (fields_of layout) [] (fields_are layout is.stands) in
     ap (with_heading ts kinds.Plain) (heading_back id count (specifiers_octets (fields_of layout)) from below (omega arith) (omega arith))
     ∙ ap (with_fields ts kinds.Plain id 0) back
-    ∙ ap (λ (t : Bool). cond t (Err 618) (sets.followed_by [] (declared ts kinds.Plain id (template_of layout)))) (none_narrow (fields_of layout) (fields_are layout is.stands))
+    ∙ ap (λ (t : Bool). cond t (Err faults.CounterLength) (sets.followed_by [] (after_declaration ts kinds.Plain id (template_of layout)))) (none_narrow (fields_of layout) (fields_are layout is.stands))
     ∙ ap (sets.followed_by []) (declared_back ts id (template_of layout) p o)
 
 pub template_back : (ts : Templates) (id : ℕ) (layout : Layout) → IsLayout layout → 256 ≤ id → id < 2 ^ 16 → at_number ts.plain id ≡ None → at_number ts.options id ≡ None

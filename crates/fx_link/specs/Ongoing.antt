@@ -1,7 +1,7 @@
 -- A link in the middle of what is done.
 use Rattle.std.specs.Prelude.{◌≡◌, ℕ, List, [], ◌++◌, take, drop}
 use Rattle.fx_tables.specs.declared.record.Record.{Record}
-use Rattle.fx_session.specs.Streams.{SessionState, fed}
+use Rattle.fx_session.specs.Streams.{SessionState, after_piece}
 use Rattle.fx_link.specs.Outgoing.{Outgoing, after_flush, with_all}
 use Rattle.fx_link.specs.Wires.{Wire, sent_on}
 
@@ -33,7 +33,7 @@ after_finish time o = record {
 
 -- so many octets reach the receiver
 abbrev pub after_carry : ℕ → Ongoing → Ongoing
-after_carry n o = record o { queue = drop n o.queue; receiver = fed o.receiver (take n o.queue) }
+after_carry n o = record o { queue = drop n o.queue; receiver = after_piece o.receiver (take n o.queue) }
 
 -- ---- the law
 

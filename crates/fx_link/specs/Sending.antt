@@ -6,7 +6,7 @@ use Rattle.fx_tables.specs.declared.record.Record.{Record}
 use Rattle.fx_wire.specs.Sets.{SetParts}
 use Rattle.fx_wire.specs.Writing.{message_octets}
 use Rattle.fx_wire.specs.declared.header.Header.{Header}
-use Rattle.fx_session.specs.Streams.{SessionState, fed}
+use Rattle.fx_session.specs.Streams.{SessionState, after_piece}
 use Rattle.fx_session.specs.Templates.{Template}
 use Rattle.fx_session.specs.declared.domain.Domain.{Domain}
 use Rattle.fx_link.specs.Records.{fields_of, template_octets, records_octets}
@@ -174,13 +174,13 @@ abbrev pub BatchesAreRead : Type 0
 BatchesAreRead =
     (time : ℕ) (s : Sender) (st : SessionState) (batch : List Record)
     → time < 2 ^ 32 → IsSender s → IsBatch batch → KeepsUp s st
-    → KeepsUp (after_batch s batch) (fed st (batch_octets time s batch))
-    × ReadsMore st (fed st (batch_octets time s batch)) batch
+    → KeepsUp (after_batch s batch) (after_piece st (batch_octets time s batch))
+    × ReadsMore st (after_piece st (batch_octets time s batch)) batch
 
 -- Whatever records are sent together, in messages of one layout and of 64 records at most, just they are read, in order.
 abbrev pub RecordsAreRead : Type 0
 RecordsAreRead =
     (time : ℕ) (s : Sender) (st : SessionState) (rs : List Record)
     → time < 2 ^ 32 → IsSender s → AllByRecursion IsSent rs → 256 + length (after_sent s rs).layouts < 2 ^ 16 → KeepsUp s st
-    → KeepsUp (after_sent s rs) (fed st (sent_octets time s rs))
-    × ReadsMore st (fed st (sent_octets time s rs)) rs
+    → KeepsUp (after_sent s rs) (after_piece st (sent_octets time s rs))
+    × ReadsMore st (after_piece st (sent_octets time s rs)) rs

@@ -2,7 +2,7 @@
 use Rattle.std.specs.Prelude.{◌≡◌, ℕ, zero, suc, ◌+◌, ◌^◌, ◌<◌, List, [], ◌++◌, length, take, drop}
 use Rattle.std.specs.List.{AllByRecursion}
 use Rattle.fx_tables.specs.declared.record.Record.{Record}
-use Rattle.fx_session.specs.Streams.{SessionState, start, fed}
+use Rattle.fx_session.specs.Streams.{SessionState, start, after_piece}
 use Rattle.fx_link.specs.Sending.{Sender, new_sender, IsSender, IsSent, KeepsUp, sent_octets, after_sent}
 
 -- a link: what its sender keeps, the octets that haven't been carried yet, and what its receiver has read
@@ -17,7 +17,7 @@ new_wire = record { sender = new_sender; queue = []; receiver = start }
 
 -- the records on a link: those that the receiver would read, were all octets carried
 abbrev pub on_link : Wire → List Record
-on_link wire = (fed wire.receiver wire.queue).known.waiting
+on_link wire = (after_piece wire.receiver wire.queue).known.waiting
 
 -- what has been read leaves
 abbrev pub without_waiting : SessionState → SessionState
@@ -28,7 +28,7 @@ abbrev pub after_octets : ℕ → Wire → Wire
 after_octets zero wire = wire
 after_octets (suc n) wire = record wire {
   queue = drop (suc n) wire.queue;
-  receiver = without_waiting (fed wire.receiver (take (suc n) wire.queue));
+  receiver = without_waiting (after_piece wire.receiver (take (suc n) wire.queue));
 }
 
 -- these records are sent, in messages of this export time
@@ -41,7 +41,7 @@ sent_on time rs wire = record wire {
 -- The receiver would read all that was put on the link, and has handled all that it read.
 pub record InStep (wire : Wire) : Type 0 where
   pub sender : IsSender wire.sender
-  pub keeps_up : KeepsUp wire.sender (fed wire.receiver wire.queue)
+  pub keeps_up : KeepsUp wire.sender (after_piece wire.receiver wire.queue)
   pub handled : wire.receiver.known.waiting ≡ []
 
 -- ---- the laws
@@ -58,4 +58,4 @@ abbrev pub CarryingTakes : Type 0
 CarryingTakes =
     (n : ℕ) (wire : Wire) → InStep wire
     → InStep (after_octets (suc n) wire)
-    × (on_link wire ≡ (fed wire.receiver (take (suc n) wire.queue)).known.waiting ++ on_link (after_octets (suc n) wire))
+    × (on_link wire ≡ (after_piece wire.receiver (take (suc n) wire.queue)).known.waiting ++ on_link (after_octets (suc n) wire))

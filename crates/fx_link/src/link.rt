@@ -131,7 +131,7 @@ impl Link {
     pub fn carry(&mut self, count: usize) -> Result<(), Fault>
         requires queue { count ≤ length self.old.queue }
         ensures ok { OnOk result (self.new ≡ ongoing.after_carry count self.old) }
-        ensures err { (streams.fed self.old.receiver self.old.queue).fault ≡ None
+        ensures err { (streams.after_piece self.old.receiver self.old.queue).fault ≡ None
             → IfErr result IsMemory }
         ensures fault { OnErr result (IsSome self.new.receiver.fault) }
         ensures rest { OnErr result (self.new ≡ record self.old { receiver = self.new.receiver }) }

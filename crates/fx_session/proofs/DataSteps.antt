@@ -11,6 +11,8 @@ use Rattle.fx_wire.specs.declared.field.FieldSpecifier.{FieldSpecifier}
 use Rattle.fx_session.specs.Flows.{flow_in}
 use Rattle.fx_session.specs.DataSets.{Taken, after_flow, after_values, flow_record, flow_records, flow_set, option_records, option_set}
 use Rattle.fx_session.specs.Calls.{Grows}
+use Rattle.fx_session.specs.declared.stream_fault.StreamFault.{StreamFault}
+use Rattle.fx_session.specs.declared.stream_fault.StreamFault.TheVariants as faults
 
 -- ---- what values and records take up
 
@@ -62,13 +64,13 @@ record_at-shorter (f ∷ fs) bs p e = by (λ rest q k. record_at-shorter fs rest
 
 -- ---- data sets
 
-abbrev rest_or : Result (Taken × List ℕ) ℕ → List ℕ
+abbrev rest_or : Result (Taken × List ℕ) StreamFault → List ℕ
 rest_or (Ok p) = p.1
 rest_or (Err n) = []
 
 flow_record-shorter : (fields : List FieldSpecifier) (t : Taken) (bs : List ℕ) (p : Taken × List ℕ) → flow_record fields t bs ≡ Ok p → length p.1 + shortest_record fields ≤ length bs
 flow_record-shorter fields t bs p e = by (record_at fields bs) refl e where
-  by_flow : (q : List Value × List ℕ) → length q.1 + shortest_record fields ≤ length bs → (r : Result (Option Record) ℕ) → after_flow t q.1 r ≡ Ok p → length p.1 + shortest_record fields ≤ length bs
+  by_flow : (q : List Value × List ℕ) → length q.1 + shortest_record fields ≤ length bs → (r : Result (Option Record) StreamFault) → after_flow t q.1 r ≡ Ok p → length p.1 + shortest_record fields ≤ length bs
   by_flow q h (Ok o) m = let d = ap rest_or m in omega (arith, h, ap length d)
   by_flow q h (Err n) m = absurd cc
 
@@ -76,7 +78,7 @@ flow_record-shorter fields t bs p e = by (record_at fields bs) refl e where
   by (Some q) k m = by_flow q (record_at-shorter fields bs q k) (flow_in q.0) m
   by None k m = absurd cc
 
-abbrev pub flow_turn : ℕ → List FieldSpecifier → Result (Taken × List ℕ) ℕ → Result Taken ℕ
+abbrev pub flow_turn : ℕ → List FieldSpecifier → Result (Taken × List ℕ) StreamFault → Result Taken StreamFault
 flow_turn turns fields (Ok p) = flow_records turns fields p.0 p.1
 flow_turn turns fields (Err n) = Err n
 
@@ -87,7 +89,7 @@ flows_same zero zero fields t bs s h l = refl
 flows_same zero (suc k) fields t bs s h l = ap (λ (b : Bool). cond b (Ok t) (flow_turn k fields (flow_record fields t bs))) (sym (lt-ltb (length bs) (shortest_record fields) (omega arith)))
 flows_same (suc j) zero fields t bs s h l = ap (λ (b : Bool). cond b (Ok t) (flow_turn j fields (flow_record fields t bs))) (lt-ltb (length bs) (shortest_record fields) (omega arith))
 flows_same (suc j) (suc k) fields t bs s h l = by (λ p less. flows_same j k fields p.0 p.1 s (omega arith) (omega arith)) (ltb (length bs) (shortest_record fields)) where
-  by_record : ((p : Taken × List ℕ) → length p.1 < length bs → flow_records j fields p.0 p.1 ≡ flow_records k fields p.0 p.1) → (r : Result (Taken × List ℕ) ℕ) → flow_record fields t bs ≡ r
+  by_record : ((p : Taken × List ℕ) → length p.1 < length bs → flow_records j fields p.0 p.1 ≡ flow_records k fields p.0 p.1) → (r : Result (Taken × List ℕ) StreamFault) → flow_record fields t bs ≡ r
       → flow_turn j fields r ≡ flow_turn k fields r
   by_record ih (Ok p) e = ih p (omega (arith, flow_record-shorter fields t bs p e))
   by_record ih (Err n) e = refl
@@ -109,7 +111,7 @@ flow_set-more fields t bs p s h e =
     let less = flow_record-shorter fields t bs p e in
     (flow_one fields t bs s h ∙ ap (flow_turn (length bs) fields) e ∙ flows_same (length bs) (length p.1) fields p.0 p.1 s (omega arith) (omega arith), omega arith)
 
-pub flow_set-refused : (fields : List FieldSpecifier) (t : Taken) (bs : List ℕ) (n : ℕ) → 1 ≤ shortest_record fields → shortest_record fields ≤ length bs → flow_record fields t bs ≡ Err n → flow_set fields t bs ≡ Err n
+pub flow_set-refused : (fields : List FieldSpecifier) (t : Taken) (bs : List ℕ) (n : StreamFault) → 1 ≤ shortest_record fields → shortest_record fields ≤ length bs → flow_record fields t bs ≡ Err n → flow_set fields t bs ≡ Err n
 flow_set-refused fields t bs n s h e = flow_one fields t bs s h ∙ ap (flow_turn (length bs) fields) e
 
 pub flow_set-padding : (fields : List FieldSpecifier) (t : Taken) (bs : List ℕ) → 1 ≤ shortest_record fields → length bs < shortest_record fields → flow_set fields t bs ≡ Ok t
@@ -128,9 +130,9 @@ after_record-shorter fields bs rest e = by (record_at fields bs) refl e where
 abbrev pub passed : Taken → Taken
 passed t = record { waiting = t.waiting; skipped = t.skipped; count = (t.count + 1) % 2 ^ 32 }
 
-abbrev pub option_turn : ℕ → List FieldSpecifier → Taken → Option (List ℕ) → Result Taken ℕ
+abbrev pub option_turn : ℕ → List FieldSpecifier → Taken → Option (List ℕ) → Result Taken StreamFault
 option_turn turns fields t (Some rest) = option_records turns fields (passed t) rest
-option_turn turns fields t None = Err 619
+option_turn turns fields t None = Err faults.CutRecord
 
 options_same : (j k : ℕ) (fields : List FieldSpecifier) (t : Taken) (bs : List ℕ) → 1 ≤ shortest_record fields → length bs ≤ j → length bs ≤ k → option_records j fields t bs ≡ option_records k fields t bs
 unfolding option_records
@@ -160,7 +162,7 @@ option_set-more fields t bs rest s h e =
     let less = after_record-shorter fields bs rest (sym e) in
     (option_one fields t bs s h ∙ ap (option_turn (length bs) fields t) (sym e) ∙ options_same (length bs) (length rest) fields (passed t) rest s (omega arith) (omega arith), omega arith)
 
-pub option_set-refused : (fields : List FieldSpecifier) (t : Taken) (bs : List ℕ) → 1 ≤ shortest_record fields → shortest_record fields ≤ length bs → None ≡ after_record fields bs → option_set fields t bs ≡ Err 619
+pub option_set-refused : (fields : List FieldSpecifier) (t : Taken) (bs : List ℕ) → 1 ≤ shortest_record fields → shortest_record fields ≤ length bs → None ≡ after_record fields bs → option_set fields t bs ≡ Err faults.CutRecord
 option_set-refused fields t bs s h e = option_one fields t bs s h ∙ ap (option_turn (length bs) fields t) (sym e)
 
 pub option_set-padding : (fields : List FieldSpecifier) (t : Taken) (bs : List ℕ) → 1 ≤ shortest_record fields → length bs < shortest_record fields → option_set fields t bs ≡ Ok t

@@ -10,7 +10,8 @@ use Rattle.fx_session.specs.TemplateSets.{has_narrow, template_record, template_
 use Rattle.fx_session.specs.Flows.{number_in, flow_in}
 use Rattle.fx_session.specs.DataSets.{flow_records, flow_set}
 use Rattle.fx_session.specs.Messages.{set_read, sets_read, message_read}
-use Rattle.fx_session.specs.Streams.{read_in, read_all, fed, start}
+use Rattle.fx_session.specs.Streams.{read_in, read_all, after_piece, start}
+use Rattle.fx_session.specs.declared.stream_fault.StreamFault.TheVariants as faults
 
 -- a template of a source address and the two counters, and a record: 10.0.0.1, 300 octets, 2 packets
 abbrev first : List ℕ
@@ -27,15 +28,15 @@ flow packets = record {
   counts = record { packets = packets; octets = 300 };
 }
 
-reads_two_messages : (fed start (first ++ second)).known.waiting ≡ flow 2 ∷ flow 1 ∷ []
+reads_two_messages : (after_piece start (first ++ second)).known.waiting ≡ flow 2 ∷ flow 1 ∷ []
 unfolding sets_of sets_in element_of fields_in record_at same_fields has_narrow template_record template_records template_set number_in flow_in flow_records flow_set set_read sets_read message_read read_in read_all
 reads_two_messages = refl
 
-counts_a_gap : (fed start (first ++ first)).known.gaps ≡ 1
+counts_a_gap : (after_piece start (first ++ first)).known.gaps ≡ 1
 unfolding sets_of sets_in element_of fields_in record_at same_fields has_narrow template_record template_records template_set number_in flow_in flow_records flow_set set_read sets_read message_read read_in read_all
 counts_a_gap = refl
 
-needs_a_template : (fed start second).fault ≡ Some 617
+needs_a_template : (after_piece start second).fault ≡ Some 617
 unfolding sets_of sets_in set_read sets_read message_read read_in read_all
 needs_a_template = refl
 
@@ -55,6 +56,6 @@ reads_a_prefix : flow_in (prefix 32) ≡ Ok (Some (record {
 unfolding flow_in number_in element_of
 reads_a_prefix = refl
 
-refuses_129_bits : flow_in (prefix 129) ≡ Err 620
+refuses_129_bits : flow_in (prefix 129) ≡ Err faults.PrefixLength
 unfolding flow_in number_in element_of
 refuses_129_bits = refl

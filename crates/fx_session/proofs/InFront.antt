@@ -2,11 +2,11 @@
 use Rattle.std.proofs.Common.{◌≡◌, ℕ, zero, suc, ◌+◌, ◌%◌, ◌^◌, Bool, true, false, ◌==◌, cond, ltb, List, [], ◌∷◌, ◌++◌, length, drop, refl, sym, ap, ◌∙◌, append_assoc, Option, Some, None, Result, Ok, Err}
 use Rattle.fx_tables.specs.declared.record.Record.{Record}
 use Rattle.fx_session.proofs.DataSteps.{flow_turn, option_turn}
-use Rattle.fx_session.proofs.StreamSteps.{fed_on, fed_off}
+use Rattle.fx_session.proofs.StreamSteps.{after_piece-on, after_piece-off}
 use Rattle.fx_session.specs.DataSets.{Taken, with_flow, after_flow, after_values, flow_record, flow_records, flow_set, option_records, option_set}
 use Rattle.fx_session.specs.Flows.{flow_in}
 use Rattle.fx_session.specs.Messages.{Known, Reading, with_templates, with_taken, data_by, set_read, sets_read, domain_of, known_after, message_read}
-use Rattle.fx_session.specs.Streams.{SessionState, moved, waits, fails, known_behind, behind, read_in, read_all, fed}
+use Rattle.fx_session.specs.Streams.{SessionState, place_after, waits, fails, known_behind, behind, read_in, read_all, after_piece}
 use Rattle.fx_session.specs.TemplateSets.{template_set}
 use Rattle.fx_session.specs.Templates.{Template, Templates, at_number}
 use Rattle.fx_session.specs.declared.domain.Domain.{Domain}
@@ -15,8 +15,10 @@ use Rattle.fx_wire.specs.Sets.{SetParts}
 use Rattle.fx_wire.specs.Values.{Value, record_at, after_record, shortest_record}
 use Rattle.fx_wire.specs.declared.field.FieldSpecifier.{FieldSpecifier}
 use Rattle.fx_wire.specs.declared.template.TemplateKind.TheVariants as kinds
+use Rattle.fx_session.specs.declared.stream_fault.StreamFault.{StreamFault}
+use Rattle.fx_session.specs.declared.stream_fault.StreamFault.TheVariants as faults
 
-abbrev mapped : {A B : Type 0} → (A → B) → Result A ℕ → Result B ℕ
+abbrev mapped : {A B : Type 0} → (A → B) → Result A StreamFault → Result B StreamFault
 mapped f (Ok x) = Ok (f x)
 mapped f (Err n) = Err n
 
@@ -33,8 +35,8 @@ with_flow-behind rs t None = refl
 abbrev pair_behind : List Record → Taken × List ℕ → Taken × List ℕ
 pair_behind rs p = (taken_behind rs p.0, p.1)
 
-after_flow-behind : (rs : List Record) (t : Taken) (rest : List ℕ) (r : Result (Option Record) ℕ) → after_flow (taken_behind rs t) rest r ≡ mapped (pair_behind rs) (after_flow t rest r)
-after_flow-behind rs t rest (Ok o) = ap (λ (u : Taken). let r : Result (Taken × List ℕ) ℕ = Ok (u, rest) in r) (with_flow-behind rs t o)
+after_flow-behind : (rs : List Record) (t : Taken) (rest : List ℕ) (r : Result (Option Record) StreamFault) → after_flow (taken_behind rs t) rest r ≡ mapped (pair_behind rs) (after_flow t rest r)
+after_flow-behind rs t rest (Ok o) = ap (λ (u : Taken). let r : Result (Taken × List ℕ) StreamFault = Ok (u, rest) in r) (with_flow-behind rs t o)
 after_flow-behind rs t rest (Err n) = refl
 
 after_values-behind : (rs : List Record) (t : Taken) (o : Option (List Value × List ℕ)) → after_values (taken_behind rs t) o ≡ mapped (pair_behind rs) (after_values t o)
@@ -46,7 +48,7 @@ flow_records-behind : (turns : ℕ) (fields : List FieldSpecifier) (rs : List Re
 unfolding flow_records
 flow_records-behind zero fields rs t octets = refl
 flow_records-behind (suc turns) fields rs t octets = by (λ u rest. flow_records-behind turns fields rs u rest) (ltb (length octets) (shortest_record fields)) where
-  by_record : ((u : Taken) (rest : List ℕ) → flow_records turns fields (taken_behind rs u) rest ≡ mapped (taken_behind rs) (flow_records turns fields u rest)) → (r : Result (Taken × List ℕ) ℕ)
+  by_record : ((u : Taken) (rest : List ℕ) → flow_records turns fields (taken_behind rs u) rest ≡ mapped (taken_behind rs) (flow_records turns fields u rest)) → (r : Result (Taken × List ℕ) StreamFault)
       → flow_turn turns fields (mapped (pair_behind rs) r) ≡ mapped (taken_behind rs) (flow_turn turns fields r)
   by_record ih (Ok p) = ih p.0 p.1
   by_record ih (Err n) = refl
@@ -85,11 +87,11 @@ data_by-behind rs None None t content = refl
 abbrev reading_behind : List Record → Reading → Reading
 reading_behind rs r = record { templates = r.templates; taken = taken_behind rs r.taken }
 
-with_templates-behind : (rs : List Record) (t : Taken) (ts : Result Templates ℕ) → with_templates (taken_behind rs t) ts ≡ mapped (reading_behind rs) (with_templates t ts)
+with_templates-behind : (rs : List Record) (t : Taken) (ts : Result Templates StreamFault) → with_templates (taken_behind rs t) ts ≡ mapped (reading_behind rs) (with_templates t ts)
 with_templates-behind rs t (Ok ts) = refl
 with_templates-behind rs t (Err n) = refl
 
-with_taken-behind : (rs : List Record) (ts : Templates) (t : Result Taken ℕ) → with_taken ts (mapped (taken_behind rs) t) ≡ mapped (reading_behind rs) (with_taken ts t)
+with_taken-behind : (rs : List Record) (ts : Templates) (t : Result Taken StreamFault) → with_taken ts (mapped (taken_behind rs) t) ≡ mapped (reading_behind rs) (with_taken ts t)
 with_taken-behind rs ts (Ok t) = refl
 with_taken-behind rs ts (Err n) = refl
 
@@ -114,7 +116,7 @@ set_read-behind rs r s = by (s.id == 2) (s.id == 3) where
   by false true = with_templates-behind rs r.taken (template_set r.templates kinds.Options s.content)
   by false false = by_data
 
-abbrev sets_turn : List SetParts → Result Reading ℕ → Result Reading ℕ
+abbrev sets_turn : List SetParts → Result Reading StreamFault → Result Reading StreamFault
 sets_turn ss (Ok next) = sets_read next ss
 sets_turn ss (Err n) = Err n
 
@@ -122,14 +124,14 @@ sets_read-behind : (rs : List Record) (r : Reading) (ss : List SetParts) → set
 unfolding sets_read
 sets_read-behind rs r [] = refl
 sets_read-behind rs r (s ∷ ss) = ap (sets_turn ss) (set_read-behind rs r s) ∙ by (λ next. sets_read-behind rs next ss) (set_read r s) where
-  by : ((next : Reading) → sets_read (reading_behind rs next) ss ≡ mapped (reading_behind rs) (sets_read next ss)) → (x : Result Reading ℕ)
+  by : ((next : Reading) → sets_read (reading_behind rs next) ss ≡ mapped (reading_behind rs) (sets_read next ss)) → (x : Result Reading StreamFault)
       → sets_turn ss (mapped (reading_behind rs) x) ≡ mapped (reading_behind rs) (sets_turn ss x)
   by ih (Ok next) = ih next
   by ih (Err n) = refl
 
 -- ---- messages
 
-known_after-behind : (rs : List Record) (k : Known) (m : Message) (domain : Domain) (r : Result Reading ℕ)
+known_after-behind : (rs : List Record) (k : Known) (m : Message) (domain : Domain) (r : Result Reading StreamFault)
     → known_after (known_behind rs k) m domain (mapped (reading_behind rs) r) ≡ mapped (known_behind rs) (known_after k m domain r)
 known_after-behind rs k m domain (Ok r) = refl
 known_after-behind rs k m domain (Err n) = refl
@@ -143,22 +145,22 @@ message_read-behind rs k m =
 
 -- ---- streams
 
-abbrev taken_on : ℕ → Known → ℕ → List ℕ → ℕ → Result Known ℕ → SessionState
-taken_on turns k place bs n (Ok next) = read_in turns next (moved place n) (drop n bs)
+abbrev taken_on : ℕ → Known → ℕ → List ℕ → ℕ → Result Known StreamFault → SessionState
+taken_on turns k place bs n (Ok next) = read_in turns next (place_after place n) (drop n bs)
 taken_on turns k place bs n (Err number) = fails k place number
 
 abbrev turn : ℕ → Known → ℕ → List ℕ → Front → SessionState
 turn turns k place bs needs_more = waits k place bs
-turn turns k place bs (refusal number) = fails k place number
+turn turns k place bs (refusal why) = fails k place (faults.Malformed why)
 turn turns k place bs (complete m) = taken_on turns k place bs m.octets (message_read k m)
 
 read_in-behind : (turns : ℕ) (rs : List Record) (k : Known) (place : ℕ) (bs : List ℕ) → read_in turns (known_behind rs k) place bs ≡ behind rs (read_in turns k place bs)
 unfolding read_in
 read_in-behind zero rs k place bs = refl
 read_in-behind (suc turns) rs k place bs = by (λ next later rest. read_in-behind turns rs next later rest) (front bs) where
-  by_message : ((next : Known) (later : ℕ) (rest : List ℕ) → read_in turns (known_behind rs next) later rest ≡ behind rs (read_in turns next later rest)) → (n : ℕ) (x : Result Known ℕ)
+  by_message : ((next : Known) (later : ℕ) (rest : List ℕ) → read_in turns (known_behind rs next) later rest ≡ behind rs (read_in turns next later rest)) → (n : ℕ) (x : Result Known StreamFault)
       → taken_on turns (known_behind rs k) place bs n (mapped (known_behind rs) x) ≡ behind rs (taken_on turns k place bs n x)
-  by_message ih n (Ok next) = ih next (moved place n) (drop n bs)
+  by_message ih n (Ok next) = ih next (place_after place n) (drop n bs)
   by_message ih n (Err number) = refl
 
   by : ((next : Known) (later : ℕ) (rest : List ℕ) → read_in turns (known_behind rs next) later rest ≡ behind rs (read_in turns next later rest)) → (f : Front)
@@ -172,8 +174,8 @@ unfolding read_all
 read_all-behind rs k place bs = read_in-behind (length bs) rs k place bs
 
 -- reading on behind records that wait
-pub fed-behind : (rs : List Record) (st : SessionState) (piece : List ℕ) → fed (behind rs st) piece ≡ behind rs (fed st piece)
-fed-behind rs st piece = by st.fault refl where
-  by : (o : Option ℕ) → st.fault ≡ o → fed (behind rs st) piece ≡ behind rs (fed st piece)
-  by (Some n) e = fed_off (behind rs st) piece n e ∙ sym (ap (behind rs) (fed_off st piece n e))
-  by None e = fed_on (behind rs st) piece e ∙ read_all-behind rs st.known st.place (st.rest ++ piece) ∙ sym (ap (behind rs) (fed_on st piece e))
+pub after_piece-behind : (rs : List Record) (st : SessionState) (piece : List ℕ) → after_piece (behind rs st) piece ≡ behind rs (after_piece st piece)
+after_piece-behind rs st piece = by st.fault refl where
+  by : (o : Option ℕ) → st.fault ≡ o → after_piece (behind rs st) piece ≡ behind rs (after_piece st piece)
+  by (Some n) e = after_piece-off (behind rs st) piece n e ∙ sym (ap (behind rs) (after_piece-off st piece n e))
+  by None e = after_piece-on (behind rs st) piece e ∙ read_all-behind rs st.known st.place (st.rest ++ piece) ∙ sym (ap (behind rs) (after_piece-on st piece e))

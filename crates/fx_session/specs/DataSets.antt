@@ -4,6 +4,8 @@ use Rattle.fx_tables.specs.declared.record.Record.{Record}
 use Rattle.fx_wire.specs.Values.{Value, record_at, after_record, shortest_record}
 use Rattle.fx_wire.specs.declared.field.FieldSpecifier.{FieldSpecifier}
 use Rattle.fx_session.specs.Flows.{flow_in}
+use Rattle.fx_session.specs.declared.stream_fault.StreamFault.{StreamFault}
+use Rattle.fx_session.specs.declared.stream_fault.StreamFault.TheVariants as faults
 
 -- what was taken so far: the records that wait, how many were skipped, and how many data records the message had
 pub record Taken : Type 0 where
@@ -15,39 +17,39 @@ abbrev pub with_flow : Taken → Option Record → Taken
 with_flow t (Some r) = record { waiting = t.waiting ++ r ∷ []; skipped = t.skipped; count = (t.count + 1) % 2 ^ 32 }
 with_flow t None = record { waiting = t.waiting; skipped = (t.skipped + 1) % 2 ^ 64; count = (t.count + 1) % 2 ^ 32 }
 
-abbrev pub after_flow : Taken → List ℕ → Result (Option Record) ℕ → Result (Taken × List ℕ) ℕ
+abbrev pub after_flow : Taken → List ℕ → Result (Option Record) StreamFault → Result (Taken × List ℕ) StreamFault
 after_flow t rest (Ok o) = Ok (with_flow t o, rest)
-after_flow t rest (Err n) = Err n
+after_flow t rest (Err fault) = Err fault
 
-abbrev pub after_values : Taken → Option (List Value × List ℕ) → Result (Taken × List ℕ) ℕ
+abbrev pub after_values : Taken → Option (List Value × List ℕ) → Result (Taken × List ℕ) StreamFault
 after_values t (Some p) = after_flow t p.1 (flow_in p.0)
-after_values t None = Err 619
+after_values t None = Err faults.CutRecord
 
 -- the data record at the front, and what follows it: 619 goes before 620
-abbrev pub flow_record : List FieldSpecifier → Taken → List ℕ → Result (Taken × List ℕ) ℕ
+abbrev pub flow_record : List FieldSpecifier → Taken → List ℕ → Result (Taken × List ℕ) StreamFault
 flow_record fields t octets = after_values t (record_at fields octets)
 
 -- Record after record; fewer octets than a record can have are padding. Each has octets, so as many turns do as there are octets.
-unfoldable pub flow_records : ℕ → List FieldSpecifier → Taken → List ℕ → Result Taken ℕ
+unfoldable pub flow_records : ℕ → List FieldSpecifier → Taken → List ℕ → Result Taken StreamFault
 flow_records zero fields t octets = Ok t
 flow_records (suc turns) fields t octets =
     if nat_lt (length octets) (shortest_record fields) then Ok t
-    else elim (flow_record fields t octets) [ Ok p ↦ flow_records turns fields p.0 p.1 | Err n ↦ Err n ]
+    else elim (flow_record fields t octets) [ Ok p ↦ flow_records turns fields p.0 p.1 | Err fault ↦ Err fault ]
 
-unfoldable pub flow_set : List FieldSpecifier → Taken → List ℕ → Result Taken ℕ
+unfoldable pub flow_set : List FieldSpecifier → Taken → List ℕ → Result Taken StreamFault
 flow_set fields t octets = flow_records (length octets) fields t octets
 
 -- records under an options template are counted and not read
-unfoldable pub option_records : ℕ → List FieldSpecifier → Taken → List ℕ → Result Taken ℕ
+unfoldable pub option_records : ℕ → List FieldSpecifier → Taken → List ℕ → Result Taken StreamFault
 option_records zero fields t octets = Ok t
 option_records (suc turns) fields t octets =
     if nat_lt (length octets) (shortest_record fields) then Ok t
     else elim (after_record fields octets) [
       | Some rest ↦ option_records turns fields (record { waiting = t.waiting; skipped = t.skipped; count = (t.count + 1) % 2 ^ 32 }) rest
-      | None ↦ Err 619
+      | None ↦ Err faults.CutRecord
     ]
 
-unfoldable pub option_set : List FieldSpecifier → Taken → List ℕ → Result Taken ℕ
+unfoldable pub option_set : List FieldSpecifier → Taken → List ℕ → Result Taken StreamFault
 option_set fields t octets = option_records (length octets) fields t octets
 
 -- the first record that waits leaves, if there is one

@@ -10,6 +10,8 @@ use Rattle.fx_tables.specs.declared.record.Record.{Record}
 use Rattle.fx_session.specs.declared.key.Leading.{Leading}
 use Rattle.fx_wire.specs.Fields.{element_of}
 use Rattle.fx_wire.specs.Values.{Value}
+use Rattle.fx_session.specs.declared.stream_fault.StreamFault.{StreamFault}
+use Rattle.fx_session.specs.declared.stream_fault.StreamFault.TheVariants as faults
 
 -- ---- what is read of a data record
 
@@ -50,16 +52,16 @@ abbrev pub Found : Type 0
 Found = Option Leading
 
 -- a prefix without its length is not read, one of length 0 tells nothing, and one longer than the address is refused
-abbrev pub prefix_part : Axis → Option ℕ → Option ℕ → Result Found ℕ
-prefix_part axis (Some value) (Some bits) = if bits == 0 then Ok None else if nat_lt (axis_width axis) bits then Err 620 else Ok (Some (record { bits = bits; value = value }))
+abbrev pub prefix_part : Axis → Option ℕ → Option ℕ → Result Found StreamFault
+prefix_part axis (Some value) (Some bits) = if bits == 0 then Ok None else if nat_lt (axis_width axis) bits then Err faults.PrefixLength else Ok (Some (record { bits = bits; value = value }))
 prefix_part axis _ _ = Ok None
 
 -- a value goes before a prefix, which only addresses have
-abbrev pub part_on : Axis → Option ℕ → Option ℕ → Option ℕ → Result Found ℕ
+abbrev pub part_on : Axis → Option ℕ → Option ℕ → Option ℕ → Result Found StreamFault
 part_on axis (Some value) prefix bits = Ok (Some (record { bits = axis_width axis; value = value }))
 part_on axis None prefix bits = if is_address axis then prefix_part axis prefix bits else Ok None
 
-abbrev pub found_in : List Value → Axis → Result Found ℕ
+abbrev pub found_in : List Value → Axis → Result Found StreamFault
 found_in values axis = part_on axis (first_where (is_value axis) values) (first_where (is_prefix axis) values) (first_where (is_prefix_length axis) values)
 
 abbrev pub part_of : Axis → Found → Layout
@@ -81,29 +83,29 @@ fields_of found = map (λ axis. value_of axis (found axis)) axes
 abbrev pub key_along : (Axis → Found) → Key
 key_along found = key_of (layout_of found) (fields_of found)
 
-abbrev pub known : Result Found ℕ → Found
-known (Ok found) = found
-known (Err n) = None
+abbrev pub found_or_none : Result Found StreamFault → Found
+found_or_none (Ok found) = found
+found_or_none (Err fault) = None
 
-abbrev pub is_refused : Result Found ℕ → Bool
+abbrev pub is_refused : Result Found StreamFault → Bool
 is_refused (Ok found) = false
-is_refused (Err n) = true
+is_refused (Err fault) = true
 
 -- the key of what is known on the axes, if it is refused on none
-abbrev pub key_by : (Axis → Result Found ℕ) → Result Key ℕ
+abbrev pub key_by : (Axis → Result Found StreamFault) → Result Key StreamFault
 key_by found =
-    if list_any (λ axis. is_refused (found axis)) axes then Err 620 else Ok (key_along (λ axis. known (found axis)))
+    if list_any (λ axis. is_refused (found axis)) axes then Err faults.PrefixLength else Ok (key_along (λ axis. found_or_none (found axis)))
 
 -- ---- records
 
-abbrev pub counted : ℕ → ℕ → Result Key ℕ → Result (Option Record) ℕ
-counted octets packets (Ok key) = Ok (Some (record { key = key; counts = record { packets = packets % 2 ^ 64; octets = octets % 2 ^ 64 } }))
-counted octets packets (Err n) = Err n
+abbrev pub with_counts : ℕ → ℕ → Result Key StreamFault → Result (Option Record) StreamFault
+with_counts octets packets (Ok key) = Ok (Some (record { key = key; counts = record { packets = packets % 2 ^ 64; octets = octets % 2 ^ 64 } }))
+with_counts octets packets (Err fault) = Err fault
 
-abbrev pub flow_by : Option ℕ → Option ℕ → Result Key ℕ → Result (Option Record) ℕ
-flow_by (Some octets) (Some packets) key = counted octets packets key
+abbrev pub flow_by : Option ℕ → Option ℕ → Result Key StreamFault → Result (Option Record) StreamFault
+flow_by (Some octets) (Some packets) key = with_counts octets packets key
 flow_by _ _ key = Ok None
 
 -- the flow record of a data record; none without both counters
-unfoldable pub flow_in : List Value → Result (Option Record) ℕ
+unfoldable pub flow_in : List Value → Result (Option Record) StreamFault
 flow_in values = flow_by (first_where is_octets values) (first_where is_packets values) (key_by (found_in values))

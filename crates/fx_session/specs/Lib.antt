@@ -1,3 +1,4 @@
+pub mod StreamFaults
 pub mod Templates
 pub mod TemplateSets
 pub mod TemplateReading

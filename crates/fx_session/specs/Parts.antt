@@ -4,7 +4,9 @@ use Rattle.std.specs.List.{flat_map}
 use Rattle.fx_elements.specs.declared.axis.Axis.{Axis}
 use Rattle.fx_elements.specs.Axes.{axes, axis_index}
 use Rattle.fx_layout.specs.Keys.{Layout, can_stand}
-use Rattle.fx_session.specs.Flows.{Found, is_refused, known, value_of}
+use Rattle.fx_session.specs.Flows.{Found, is_refused, found_or_none, value_of}
+use Rattle.fx_session.specs.declared.stream_fault.StreamFault.{StreamFault}
+use Rattle.fx_session.specs.declared.stream_fault.StreamFault.TheVariants as faults
 
 -- all parts are of axes before this place
 abbrev pub AllBefore : Layout → ℕ → Type 0
@@ -16,9 +18,9 @@ abbrev pub Stands : Axis → Found → Type 0
 Stands axis (Some leading) = can_stand (record { axis = axis; bits = leading.bits }) ≡ true
 Stands axis None = Unit {0}
 
-abbrev pub PartStands : Axis → Result Found ℕ → Type 0
+abbrev pub PartStands : Axis → Result Found StreamFault → Type 0
 PartStands axis (Ok found) = Stands axis found
-PartStands axis (Err n) = n ≡ 620
+PartStands axis (Err fault) = fault ≡ faults.PrefixLength
 
 -- how many leading bits are known, 0 where none is
 abbrev pub bits_of : Found → ℕ
@@ -26,16 +28,16 @@ bits_of (Some leading) = leading.bits
 bits_of None = 0
 
 -- what is known of an axis is at its place: so many leading bits, 0 where nothing is, and the value
-pub record IsTold (bits values : List ℕ) (axis : Axis) (part : Result Found ℕ) : Type 0 where
-  pub read : part ≡ Ok (known part)
-  pub stands : Stands axis (known part)
-  pub leading : slice_index bits (axis_index axis) ≡ bits_of (known part)
-  pub value : slice_index values (axis_index axis) ≡ value_of axis (known part)
+pub record IsTold (bits values : List ℕ) (axis : Axis) (part : Result Found StreamFault) : Type 0 where
+  pub read : part ≡ Ok (found_or_none part)
+  pub stands : Stands axis (found_or_none part)
+  pub leading : slice_index bits (axis_index axis) ≡ bits_of (found_or_none part)
+  pub value : slice_index values (axis_index axis) ≡ value_of axis (found_or_none part)
 
 -- what is read on each axis, or the refusal on one
-abbrev pub Gathers : (Axis → Result Found ℕ) → List ℕ → List ℕ → Result (Unit {0}) ℕ → Type 0
+abbrev pub Gathers : (Axis → Result Found StreamFault) → List ℕ → List ℕ → Result (Unit {0}) StreamFault → Type 0
 Gathers part bits values (Ok done) = (axis : Axis) → IsTold bits values axis (part axis)
-Gathers part bits values (Err n) = (n ≡ 620) × (axis : Axis) × (is_refused (part axis) ≡ true)
+Gathers part bits values (Err fault) = (fault ≡ faults.PrefixLength) × (axis : Axis) × (is_refused (part axis) ≡ true)
 
 -- a layout may have so many bits of the axis, if there are any
 abbrev pub BitsStand : Axis → ℕ → Type 0

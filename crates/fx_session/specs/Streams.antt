@@ -1,11 +1,14 @@
 -- A stream is messages, one after another, however it is cut.
-use Rattle.std.specs.Prelude.{◌≡◌, ◌∷◌, ℕ, zero, suc, ◌+◌, ◌==◌, if◌then◌else◌, min, List, [], ◌++◌, length, take, drop, Option, Some, None, Result, Ok, Err}
+use Rattle.std.specs.Prelude.{◌≡◌, ◌∷◌, ℕ, zero, suc, ◌+◌, ◌==◌, if◌then◌else◌, min, List, [], ◌++◌, length, take, drop, Option, Some, None, option_map, Result, Ok, Err}
 use Rattle.fx_base.specs.Fault.{fault_at}
 use Rattle.fx_base.specs.declared.fault.Fault.{Fault}
 use Rattle.fx_base.specs.declared.fault.Place.TheVariants as places
 use Rattle.fx_tables.specs.declared.record.Record.{Record}
 use Rattle.fx_wire.specs.Messages.{front, needs_more, complete, refusal}
-use Rattle.fx_session.specs.Messages.{Known, message_read, forgotten}
+use Rattle.fx_session.specs.Messages.{Known, message_read, without_domains}
+use Rattle.fx_session.specs.StreamFaults.{number_of}
+use Rattle.fx_session.specs.declared.stream_fault.StreamFault.{StreamFault}
+use Rattle.fx_session.specs.declared.stream_fault.StreamFault.TheVariants as faults
 
 -- What a session is seen as: what it knows, the place of the first octet of the unfinished message, that message's octets, and
 -- the number of the fault that it answers from now on.
@@ -19,23 +22,23 @@ abbrev pub start : SessionState
 start = record { known = record { domains = []; waiting = []; gaps = 0; skipped = 0 }; place = 0; rest = []; fault = None }
 
 -- places stay at the last that there is
-abbrev pub moved : ℕ → ℕ → ℕ
-moved place n = min (place + n) 18446744073709551615
+abbrev pub place_after : ℕ → ℕ → ℕ
+place_after place n = min (place + n) 18446744073709551615
 
 abbrev pub waits : Known → ℕ → List ℕ → SessionState
 waits k place octets = record { known = k; place = place; rest = octets; fault = None }
 
 -- Nothing of a message that is refused is kept, nor of what follows it, nor any template.
-abbrev pub fails : Known → ℕ → ℕ → SessionState
-fails k place number = record { known = forgotten k; place = place; rest = []; fault = Some number }
+abbrev pub fails : Known → ℕ → StreamFault → SessionState
+fails k place fault = record { known = without_domains k; place = place; rest = []; fault = Some (number_of fault) }
 
 -- Reading message after message. Each has octets, so as many turns do as there are octets.
 unfoldable pub read_in : ℕ → Known → ℕ → List ℕ → SessionState
 read_in zero k place octets = waits k place octets
 read_in (suc turns) k place octets = elim (front octets) [
   | needs_more ↦ waits k place octets
-  | refusal number ↦ fails k place number
-  | complete m ↦ elim (message_read k m) [ Ok next ↦ read_in turns next (moved place m.octets) (drop m.octets octets) | Err number ↦ fails k place number ]
+  | refusal why ↦ fails k place (faults.Malformed why)
+  | complete m ↦ elim (message_read k m) [ Ok next ↦ read_in turns next (place_after place m.octets) (drop m.octets octets) | Err fault ↦ fails k place fault ]
 ]
 
 -- all whole messages of the octets
@@ -43,8 +46,8 @@ unfoldable pub read_all : Known → ℕ → List ℕ → SessionState
 read_all k place octets = read_in (length octets) k place octets
 
 -- A piece: the unfinished octets are read on with it. A session that has answered a fault stays as it is.
-abbrev pub fed : SessionState → List ℕ → SessionState
-fed st piece = elim st.fault [ Some number ↦ st | None ↦ read_all st.known st.place (st.rest ++ piece) ]
+abbrev pub after_piece : SessionState → List ℕ → SessionState
+after_piece st piece = elim st.fault [ Some number ↦ st | None ↦ read_all st.known st.place (st.rest ++ piece) ]
 
 -- the same behind records that wait already
 abbrev pub known_behind : List Record → Known → Known
@@ -68,22 +71,22 @@ ReadsAll old place octets new later = read_all old place octets ≡ waits new la
 -- Want of memory: some first messages of the unfinished octets and the piece are read, and then the session stops, as at a
 -- refused message.
 abbrev pub Starves : SessionState → List ℕ → SessionState → Type 0
-Starves old piece new = (count : ℕ) × (read : Known) × (ReadsAll old.known old.place (take count (old.rest ++ piece)) read new.place) × (new ≡ fails read new.place 900)
+Starves old piece new = (count : ℕ) × (read : Known) × (ReadsAll old.known old.place (take count (old.rest ++ piece)) read new.place) × (new ≡ fails read new.place faults.OutOfMemory)
 
 -- ---- what the code keeps
 
-abbrev pub rest_of : List ℕ → ℕ → Option ℕ → List ℕ
+abbrev pub rest_of : List ℕ → ℕ → Option StreamFault → List ℕ
 rest_of octets count None = drop count octets
-rest_of octets count (Some number) = []
+rest_of octets count (Some fault) = []
 
 -- so many octets were read, and this fault came
-abbrev pub left_by : Known → ℕ → List ℕ → ℕ × Option ℕ → SessionState
-left_by k place octets answer = record { known = k; place = place; rest = rest_of octets answer.0 answer.1; fault = answer.1 }
+abbrev pub left_by : Known → ℕ → List ℕ → ℕ × Option StreamFault → SessionState
+left_by k place octets answer = record { known = k; place = place; rest = rest_of octets answer.0 answer.1; fault = option_map number_of answer.1 }
 
 -- where a fault came, the messages before it were read, and then all domains were forgotten
-abbrev pub Stops : Known → ℕ → List ℕ → Option ℕ → Known → ℕ → Type 0
+abbrev pub Stops : Known → ℕ → List ℕ → Option StreamFault → Known → ℕ → Type 0
 Stops old place octets None new later = Unit {0}
-Stops old place octets (Some number) new later = (read : Known) × (ReadsAll old place octets read later) × (new ≡ forgotten read)
+Stops old place octets (Some fault) new later = (read : Known) × (ReadsAll old place octets read later) × (new ≡ without_domains read)
 
 -- the first record that waits leaves, if there is one
 abbrev pub FirstLeaves : Known → Known → Option Record → Type 0

@@ -3,8 +3,11 @@ use Rattle.std.specs.Prelude.{◌≡◌, ◌≢◌, ℕ, ◌≤◌, ◌<◌, Lis
 use Rattle.std.specs.Borrow.{Bor}
 use Rattle.fx_wire.specs.Fields.{fields_in}
 use Rattle.fx_wire.specs.Values.{shortest_record}
+use Rattle.fx_wire.specs.declared.malformed.Malformed.{Malformed}
 use Rattle.fx_wire.specs.declared.field.FieldSpecifier.{FieldSpecifier}
 use Rattle.fx_session.specs.Templates.{Templates}
+use Rattle.fx_session.specs.declared.stream_fault.StreamFault.{StreamFault}
+use Rattle.fx_session.specs.declared.stream_fault.StreamFault.TheVariants as faults
 
 -- all fields and the octets after them; a field has an octet at least
 pub record ReadsFields (count : ℕ) (octets : List ℕ) (fields : List FieldSpecifier) (rest : List ℕ) : Type 0 where
@@ -13,15 +16,20 @@ pub record ReadsFields (count : ℕ) (octets : List ℕ) (fields : List FieldSpe
   pub some : count ≤ shortest_record fields
   pub shorter : length rest ≤ length octets
 
+-- the fields are refused so; want of memory may come in place of what is defined
+abbrev pub RefusesFields : Result (List FieldSpecifier × List ℕ) Malformed → StreamFault → Type 0
+RefusesFields defined (faults.Malformed why) = defined ≡ Err why
+RefusesFields defined fault = fault ≡ faults.OutOfMemory
+
 -- what is defined is done, and these octets follow; want of memory may come in its place
-abbrev pub Follows : Result (Templates × List ℕ) ℕ → Templates → Result (Bor (List ℕ)) ℕ → Type 0
+abbrev pub Follows : Result (Templates × List ℕ) StreamFault → Templates → Result (Bor (List ℕ)) StreamFault → Type 0
 Follows defined new (Ok rest) = defined ≡ Ok (new, rest.now)
-Follows defined new (Err n) = n ≢ 900 → defined ≡ Err n
+Follows defined new (Err fault) = fault ≢ faults.OutOfMemory → defined ≡ Err fault
 
-abbrev pub IsNoLonger : List ℕ → Result (Bor (List ℕ)) ℕ → Type 0
+abbrev pub IsNoLonger : List ℕ → Result (Bor (List ℕ)) StreamFault → Type 0
 IsNoLonger octets (Ok rest) = length rest.now ≤ length octets
-IsNoLonger octets (Err n) = Unit {0}
+IsNoLonger octets (Err fault) = Unit {0}
 
-abbrev pub IsShorter : List ℕ → Result (Bor (List ℕ)) ℕ → Type 0
+abbrev pub IsShorter : List ℕ → Result (Bor (List ℕ)) StreamFault → Type 0
 IsShorter octets (Ok rest) = length rest.now < length octets
-IsShorter octets (Err n) = Unit {0}
+IsShorter octets (Err fault) = Unit {0}

@@ -9,7 +9,10 @@ use Rattle.fx_wire.specs.declared.template.TemplateKind.{TemplateKind}
 use Rattle.fx_wire.specs.declared.template.TemplateKind.TheVariants as kinds
 use Rattle.fx_wire.specs.declared.template.TemplateHeading.{TemplateHeading}
 use Rattle.fx_wire.specs.declared.template.TemplateHeading.TheVariants.{Withdrawal, WithdrawalOfAll, Declaration}
-use Rattle.fx_session.specs.Templates.{Templates, declared, withdrawn, all_withdrawn}
+use Rattle.fx_session.specs.Templates.{Templates, after_declaration, after_withdrawal, after_withdrawal_of_all}
+use Rattle.fx_session.specs.declared.stream_fault.StreamFault.{StreamFault}
+use Rattle.fx_session.specs.declared.stream_fault.StreamFault.TheVariants as faults
+use Rattle.fx_wire.specs.declared.malformed.Malformed.{Malformed}
 
 abbrev pub is_counter : Element → Bool
 is_counter OctetDeltaCount = true
@@ -29,32 +32,32 @@ abbrev pub narrow_in : TemplateKind → List FieldSpecifier → Bool
 narrow_in kinds.Plain fields = has_narrow fields
 narrow_in kinds.Options fields = false
 
-abbrev pub followed_by : List ℕ → Result Templates ℕ → Result (Templates × List ℕ) ℕ
+abbrev pub followed_by : List ℕ → Result Templates StreamFault → Result (Templates × List ℕ) StreamFault
 followed_by octets (Ok ts) = Ok (ts, octets)
-followed_by octets (Err n) = Err n
+followed_by octets (Err fault) = Err fault
 
-abbrev pub with_fields : Templates → TemplateKind → ℕ → ℕ → Result (List FieldSpecifier × List ℕ) ℕ → Result (Templates × List ℕ) ℕ
-with_fields ts kind id scope (Ok p) = if narrow_in kind p.0 then Err 618 else followed_by p.1 (declared ts kind id (record { scope = scope; fields = p.0 }))
-with_fields ts kind id scope (Err n) = Err n
+abbrev pub with_fields : Templates → TemplateKind → ℕ → ℕ → Result (List FieldSpecifier × List ℕ) Malformed → Result (Templates × List ℕ) StreamFault
+with_fields ts kind id scope (Ok p) = if narrow_in kind p.0 then Err faults.CounterLength else followed_by p.1 (after_declaration ts kind id (record { scope = scope; fields = p.0 }))
+with_fields ts kind id scope (Err why) = Err (faults.Malformed why)
 
-abbrev pub with_heading : Templates → TemplateKind → Result (TemplateHeading × List ℕ) ℕ → Result (Templates × List ℕ) ℕ
+abbrev pub with_heading : Templates → TemplateKind → Result (TemplateHeading × List ℕ) Malformed → Result (Templates × List ℕ) StreamFault
 with_heading ts kind (Ok p) = elim p.0 [
-  | Withdrawal id ↦ Ok (withdrawn ts id, p.1)
-  | WithdrawalOfAll ↦ Ok (all_withdrawn ts kind, p.1)
+  | Withdrawal id ↦ Ok (after_withdrawal ts id, p.1)
+  | WithdrawalOfAll ↦ Ok (after_withdrawal_of_all ts kind, p.1)
   | Declaration new ↦ with_fields ts kind new.id new.scope (fields_in new.count p.1)
 ]
-with_heading ts kind (Err n) = Err n
+with_heading ts kind (Err why) = Err (faults.Malformed why)
 
 -- what the template record at the front leaves, and the octets after it: 614 goes before 618, and 618 before 616
-unfoldable pub template_record : Templates → TemplateKind → List ℕ → Result (Templates × List ℕ) ℕ
+unfoldable pub template_record : Templates → TemplateKind → List ℕ → Result (Templates × List ℕ) StreamFault
 template_record ts kind octets = with_heading ts kind (heading_at kind octets)
 
 -- Record after record; fewer than four octets are padding (section 3.3.1). Each has octets, so as many turns do as there are octets.
-unfoldable pub template_records : ℕ → Templates → TemplateKind → List ℕ → Result Templates ℕ
+unfoldable pub template_records : ℕ → Templates → TemplateKind → List ℕ → Result Templates StreamFault
 template_records zero ts kind octets = Ok ts
 template_records (suc turns) ts kind octets =
     if nat_lt (length octets) 4 then Ok ts
-    else elim (template_record ts kind octets) [ Ok p ↦ template_records turns p.0 kind p.1 | Err n ↦ Err n ]
+    else elim (template_record ts kind octets) [ Ok p ↦ template_records turns p.0 kind p.1 | Err fault ↦ Err fault ]
 
-unfoldable pub template_set : Templates → TemplateKind → List ℕ → Result Templates ℕ
+unfoldable pub template_set : Templates → TemplateKind → List ℕ → Result Templates StreamFault
 template_set ts kind octets = template_records (length octets) ts kind octets

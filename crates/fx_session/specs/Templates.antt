@@ -6,6 +6,8 @@ use Rattle.std.specs.Ordering.{nat_cmp}
 use Rattle.fx_wire.specs.declared.field.FieldSpecifier.{FieldSpecifier}
 use Rattle.fx_wire.specs.declared.template.TemplateKind.{TemplateKind}
 use Rattle.fx_wire.specs.declared.template.TemplateKind.TheVariants as kinds
+use Rattle.fx_session.specs.declared.stream_fault.StreamFault.{StreamFault}
+use Rattle.fx_session.specs.declared.stream_fault.StreamFault.TheVariants as faults
 
 -- ---- tables: entries by number, ascending
 
@@ -54,26 +56,26 @@ no_templates = record { plain = []; options = [] }
 -- ---- changes (section 8.1)
 
 -- a live template is declared again as it is; a new one stands for no id that the other kind has
-abbrev pub in_table : Option Template → Bool → List (ℕ × Template) → ℕ → Template → Result (List (ℕ × Template)) ℕ
-in_table (Some old) other table id new = if same_template old new then Ok table else Err 616
-in_table None other table id new = if other then Err 616 else Ok (with_entry table id new)
+abbrev pub in_table : Option Template → Bool → List (ℕ × Template) → ℕ → Template → Result (List (ℕ × Template)) StreamFault
+in_table (Some old) other table id new = if same_template old new then Ok table else Err faults.TemplateIdInUse
+in_table None other table id new = if other then Err faults.TemplateIdInUse else Ok (with_entry table id new)
 
-abbrev pub with_plain : Templates → Result (List (ℕ × Template)) ℕ → Result Templates ℕ
+abbrev pub with_plain : Templates → Result (List (ℕ × Template)) StreamFault → Result Templates StreamFault
 with_plain ts (Ok table) = Ok (record { plain = table; options = ts.options })
-with_plain ts (Err n) = Err n
+with_plain ts (Err fault) = Err fault
 
-abbrev pub with_options : Templates → Result (List (ℕ × Template)) ℕ → Result Templates ℕ
+abbrev pub with_options : Templates → Result (List (ℕ × Template)) StreamFault → Result Templates StreamFault
 with_options ts (Ok table) = Ok (record { plain = ts.plain; options = table })
-with_options ts (Err n) = Err n
+with_options ts (Err fault) = Err fault
 
-abbrev pub declared : Templates → TemplateKind → ℕ → Template → Result Templates ℕ
-declared ts kinds.Plain id new = with_plain ts (in_table (at_number ts.plain id) (is_some (at_number ts.options id)) ts.plain id new)
-declared ts kinds.Options id new = with_options ts (in_table (at_number ts.options id) (is_some (at_number ts.plain id)) ts.options id new)
+abbrev pub after_declaration : Templates → TemplateKind → ℕ → Template → Result Templates StreamFault
+after_declaration ts kinds.Plain id new = with_plain ts (in_table (at_number ts.plain id) (is_some (at_number ts.options id)) ts.plain id new)
+after_declaration ts kinds.Options id new = with_options ts (in_table (at_number ts.options id) (is_some (at_number ts.plain id)) ts.options id new)
 
 -- withdrawing what isn't there changes nothing
-abbrev pub withdrawn : Templates → ℕ → Templates
-withdrawn ts id = record { plain = without_entry ts.plain id; options = without_entry ts.options id }
+abbrev pub after_withdrawal : Templates → ℕ → Templates
+after_withdrawal ts id = record { plain = without_entry ts.plain id; options = without_entry ts.options id }
 
-abbrev pub all_withdrawn : Templates → TemplateKind → Templates
-all_withdrawn ts kinds.Plain = record { plain = []; options = ts.options }
-all_withdrawn ts kinds.Options = record { plain = ts.plain; options = [] }
+abbrev pub after_withdrawal_of_all : Templates → TemplateKind → Templates
+after_withdrawal_of_all ts kinds.Plain = record { plain = []; options = ts.options }
+after_withdrawal_of_all ts kinds.Options = record { plain = ts.plain; options = [] }

@@ -7,6 +7,7 @@ use Rattle.fx_wire.specs.Values.{Value}
 use Rattle.fx_session.specs.declared.seen.Numbers.{Numbers}
 use Rattle.fx_session.specs.declared.seen.Seen.{Seen}
 use Rattle.fx_session.specs.Flows.{Found, first_where, is_value, is_prefix, is_prefix_length, is_octets, is_packets, part_on}
+use Rattle.fx_session.specs.declared.stream_fault.StreamFault.{StreamFault}
 
 abbrev pub Values : Type 0
 Values = List Value
@@ -30,5 +31,5 @@ pub record Notes (seen : Seen) (values : Values) : Type 0 where
   pub packets : seen.packets ≡ first_where is_packets values
 
 -- what is noted of an axis
-abbrev pub noted : Seen → Axis → Result Found ℕ
-noted seen axis = part_on axis (number_on seen.numbers axis) (number_on seen.prefixes axis) (number_on seen.lengths axis)
+abbrev pub noted_part : Seen → Axis → Result Found StreamFault
+noted_part seen axis = part_on axis (number_on seen.numbers axis) (number_on seen.prefixes axis) (number_on seen.lengths axis)

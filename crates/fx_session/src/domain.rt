@@ -1,10 +1,10 @@
 //! Observation domains.
-ghost use Rattle.std.specs.Prelude.{◌≡◌, OnOk, IfErr};
+ghost use Rattle.std.specs.Prelude.{◌≡◌, OnOk};
 ghost use Rattle.fx_session.specs.Messages as messages;
 ghost use Rattle.fx_session.specs.Templates as templates;
 
 use crate::templates::Templates;
-use std::alloc::Global;
+use std::alloc::{AllocError, Global};
 use std::collections::BTreeMap;
 
 /// An observation domain: its templates, and the sequence number that comes next, if it had a message.
@@ -28,18 +28,15 @@ pub(crate) fn take_domain(alloc: Global, domains: &mut BTreeMap<u32, Domain>, nu
     }
 }
 
-/// A domain comes to its place. Fails with 900 for want of memory.
+/// A domain comes to its place.
 pub(crate) fn put_domain(
     domains: &mut BTreeMap<u32, Domain>,
     number: u32,
     domain: Domain,
-) -> Result<(), u16>
-    ensures ok { OnOk result (domains.new.entries
+) -> Result<(), AllocError>
+    ensures { OnOk result (domains.new.entries
         ≡ templates.with_entry domains.old.entries number domain) }
-    ensures err { IfErr result (λ n. n ≡ 900) }
 {
-    match domains.insert(number, domain) {
-        Ok(_) => Ok(()),
-        Err(_) => Err(900),
-    }
+    domains.insert(number, domain)?;
+    Ok(())
 }

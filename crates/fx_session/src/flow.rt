@@ -6,6 +6,7 @@ ghost use Rattle.fx_session.specs.Values as values;
 
 use crate::key::{LastLayout, Leading, bits_of, prefix_part, value_of};
 use crate::seen::Seen;
+use crate::stream_fault::StreamFault;
 use fx_base::Counts;
 use fx_boxes::Fields;
 use fx_elements::{AXES, Axis, EVERY_AXIS, width};
@@ -13,9 +14,9 @@ use fx_tables::Record;
 
 /// What is known on the axis: its value, or what a prefix of it tells.
 ///
-/// Fails with 620 where a prefix that is read is longer than the address.
-fn noted_on(axis: Axis, seen: &Seen) -> Result<Option<Leading>, u16>
-    ensures part { result ≡ values.noted seen.now axis }
+/// Fails where a prefix that is read is longer than the address.
+fn noted_part(axis: Axis, seen: &Seen) -> Result<Option<Leading>, StreamFault>
+    ensures part { result ≡ values.noted_part seen.now axis }
     ensures stands { parts.PartStands axis result }
 {
     if let Some(value) = seen.numbers.get(axis) {
@@ -33,28 +34,28 @@ fn noted_on(axis: Axis, seen: &Seen) -> Result<Option<Leading>, u16>
 
 /// What is known on each axis is written down: how many leading bits, 0 where nothing is, and the value.
 ///
-/// Fails with 620 where a prefix that is read is longer than the address.
-fn gather(seen: &Seen, bits: &mut [u32; AXES], numbers: &mut [u128; AXES]) -> Result<(), u16>
-    ensures { parts.Gathers (values.noted seen.now) bits.new numbers.new result }
+/// Fails where a prefix that is read is longer than the address.
+fn gather(
+    seen: &Seen,
+    bits: &mut [u32; AXES],
+    numbers: &mut [u128; AXES],
+) -> Result<(), StreamFault>
+    ensures { parts.Gathers (values.noted_part seen.now) bits.new numbers.new result }
 {
     for axis in EVERY_AXIS {
-        match noted_on(axis, seen) {
-            Ok(found) => {
-                let place = axis.index();
-                bits[place] = bits_of(&found);
-                numbers[place] = value_of(axis, found);
-            }
-            Err(number) => return Err(number),
-        }
+        let found = noted_part(axis, seen)?;
+        let place = axis.index();
+        bits[place] = bits_of(&found);
+        numbers[place] = value_of(axis, found);
     }
     Ok(())
 }
 
 /// The flow record of a data record of which this is noted, None without both counters.
 ///
-/// Fails with 620 where a prefix that is read is longer than the address.
+/// Fails where a prefix that is read is longer than the address.
 #[tactic(auto, unfolding(crate::specs::Flows::flow_in))]
-pub(crate) fn flow_of(last: &mut LastLayout, seen: &Seen) -> Result<Option<Record>, u16>
+pub(crate) fn flow_of(last: &mut LastLayout, seen: &Seen) -> Result<Option<Record>, StreamFault>
     ensures { (vs : values.Values) → values.Notes seen.now vs → result ≡ flows.flow_in vs }
 {
     let Some(octets) = seen.octets else {
@@ -65,14 +66,12 @@ pub(crate) fn flow_of(last: &mut LastLayout, seen: &Seen) -> Result<Option<Recor
     };
     let mut bits = [0; AXES];
     let mut numbers = [0; AXES];
-    match gather(seen, &mut bits, &mut numbers) {
-        Ok(()) => Ok(Some(Record {
-            key: last.key_of(&bits, &Fields::of(numbers)),
-            counts: Counts {
-                packets: (packets % (1u128 << 64)) as u64,
-                octets: (octets % (1u128 << 64)) as u64,
-            },
-        })),
-        Err(number) => Err(number),
-    }
+    gather(seen, &mut bits, &mut numbers)?;
+    Ok(Some(Record {
+        key: last.key_of(&bits, &Fields::of(numbers)),
+        counts: Counts {
+            packets: (packets % (1u128 << 64)) as u64,
+            octets: (octets % (1u128 << 64)) as u64,
+        },
+    }))
 }

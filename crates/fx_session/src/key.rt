@@ -6,6 +6,7 @@ ghost use Rattle.fx_layout.specs.Keys as keys;
 ghost use Rattle.fx_session.specs.Flows as flows;
 ghost use Rattle.fx_session.specs.Parts as parts;
 
+use crate::stream_fault::StreamFault;
 use fx_boxes::Fields;
 use fx_elements::{AXES, Axis, EVERY_AXIS, top, width};
 use fx_layout::{Key, Layout};
@@ -20,12 +21,12 @@ pub(crate) struct Leading {
 
 /// What is known of an address by a prefix and its length.
 ///
-/// Fails with 620 where the prefix is longer than the address.
+/// Fails where the prefix is longer than the address.
 pub(crate) fn prefix_part(
     axis: Axis,
     prefix: Option<u128>,
     bits: Option<u128>,
-) -> Result<Option<Leading>, u16>
+) -> Result<Option<Leading>, StreamFault>
     ensures part { result ≡ flows.prefix_part axis prefix bits }
     ensures stands { every.is_address axis ≡ true → parts.PartStands axis result }
 {
@@ -36,7 +37,7 @@ pub(crate) fn prefix_part(
         return Ok(None);
     }
     if bits > u128::from(width(axis)) {
-        return Err(620);
+        return Err(StreamFault::PrefixLength);
     }
     Ok(Some(Leading {
         bits: bits as u32,

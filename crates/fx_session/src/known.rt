@@ -6,6 +6,7 @@ ghost use Rattle.fx_session.specs.Streams as streams;
 
 use crate::domain::{Domain, put_domain, take_domain};
 use crate::sets::take_sets;
+use crate::stream_fault::StreamFault;
 use crate::taken::Taken;
 use fx_tables::Record;
 use fx_wire::Message;
@@ -54,7 +55,7 @@ fn gaps_after(gaps: u64, next: Option<u32>, sequence: u32) -> u64
 
 /// A message is read: its domain, what is taken and the number of gaps change.
 ///
-/// Fails as the first set that does, and with 900 for want of memory.
+/// Fails as the first set that does, and for want of memory.
 #[tactic(auto, unfolding(crate::specs::Messages::message_read))]
 fn read_message(
     alloc: Global,
@@ -62,7 +63,7 @@ fn read_message(
     taken: &mut Taken,
     gaps: &mut u64,
     message: &Message<'_>,
-) -> Result<(), u16>
+) -> Result<(), StreamFault>
     ensures done { Does result
         (messages.message_read (record {
           domains = domains.old.entries;
@@ -86,18 +87,12 @@ fn read_message(
     let next = domain.next;
     let mut templates = domain.templates;
     taken.start();
-    match take_sets(alloc, &mut templates, taken, message.sets()) {
-        Ok(()) => {}
-        Err(fault) => return Err(fault),
-    }
+    take_sets(alloc, &mut templates, taken, message.sets())?;
     let read = Domain {
         templates,
         next: Some(sequence.wrapping_add(taken.count())),
     };
-    match put_domain(domains, number, read) {
-        Ok(()) => {}
-        Err(fault) => return Err(fault),
-    }
+    put_domain(domains, number, read)?;
     *gaps = gaps_after(*gaps, next, sequence);
     Ok(())
 }
@@ -116,17 +111,17 @@ impl Known {
 
     /// All domains are forgotten.
     pub fn forget(&mut self)
-        ensures { self.new ≡ messages.forgotten self.old }
+        ensures { self.new ≡ messages.without_domains self.old }
     {
         self.domains.clear();
     }
 
     /// A message is read. Where it is refused nothing of it stays, and all domains are forgotten.
     ///
-    /// Fails as its first set that does, and with 900 for want of memory.
-    pub fn take_message(&mut self, alloc: Global, message: &Message<'_>) -> Result<(), u16>
+    /// Fails as its first set that does, and for want of memory.
+    pub fn take_message(&mut self, alloc: Global, message: &Message<'_>) -> Result<(), StreamFault>
         ensures done { Does result (messages.message_read self.old message.now) self.new }
-        ensures forgets { OnErr result (self.new ≡ messages.forgotten self.old) }
+        ensures forgets { OnErr result (self.new ≡ messages.without_domains self.old) }
     {
         let waiting = self.taken.waiting();
         let skipped = self.taken.skipped();

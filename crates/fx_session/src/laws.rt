@@ -9,23 +9,24 @@ ghost use Rattle.fx_session.specs.Messages as messages;
 ghost use Rattle.fx_session.specs.Streams as streams;
 ghost use Rattle.fx_session.specs.TemplateSets as template_sets;
 ghost use Rattle.fx_session.specs.Templates as of_templates;
+ghost use Rattle.fx_session.specs.declared.stream_fault.StreamFault as of_fault;
 
 /// The records of sets and the messages of streams are those that the cases say, and no others: that functions which
 /// count their turns define what is read changes nothing.
 pub fn sets_by_cases()
     ensures flows { (fields : List of_field.FieldSpecifier) (taken : data_sets.Taken)
         (octets : List ℕ)
-        (result : Result data_sets.Taken ℕ) → 1 ≤ values.shortest_record fields
+        (result : Result data_sets.Taken of_fault.StreamFault) → 1 ≤ values.shortest_record fields
         → cases.AreFlowRecords fields taken octets result
         ↔ (result ≡ data_sets.flow_set fields taken octets) }
     ensures options { (fields : List of_field.FieldSpecifier) (taken : data_sets.Taken)
         (octets : List ℕ)
-        (result : Result data_sets.Taken ℕ) → 1 ≤ values.shortest_record fields
+        (result : Result data_sets.Taken of_fault.StreamFault) → 1 ≤ values.shortest_record fields
         → cases.AreOptionRecords fields taken octets result
         ↔ (result ≡ data_sets.option_set fields taken octets) }
     ensures templates { (kind : of_kind.TemplateKind) (live : of_templates.Templates)
         (octets : List ℕ)
-        (result : Result of_templates.Templates ℕ)
+        (result : Result of_templates.Templates of_fault.StreamFault)
         → cases.AreTemplateRecords kind live octets result
         ↔ (result ≡ template_sets.template_set live kind octets) }
     ensures messages { (known : messages.Known) (place : ℕ) (octets : List ℕ)

@@ -11,6 +11,7 @@ mod number;
 mod seen;
 mod session;
 mod sets;
+mod stream_fault;
 mod taken;
 mod template;
 mod template_set;

@@ -1,9 +1,12 @@
 //! Sessions: a stream in pieces.
 ghost use Rattle.std.specs.Prelude.{◌≡◌, ◌≢◌, ◌≤◌, ◌++◌, ℕ, List, length, take, drop, Ok, Err, Some, None, IsSome};
 ghost use Rattle.fx_tables.specs.declared.record.Record.{Record};
+ghost use Rattle.fx_session.specs.StreamFaults.{number_of};
 ghost use Rattle.fx_session.specs.Streams as streams;
+ghost use Rattle.fx_session.specs.declared.stream_fault.StreamFault.TheVariants as faults;
 
 use crate::known::Known;
+use crate::stream_fault::StreamFault;
 use fx_base::Fault;
 use fx_tables::Record;
 use fx_wire::{Parsed, parse};
@@ -16,8 +19,9 @@ fn take_messages(
     known: &mut Known,
     place: &mut u64,
     octets: &[u8],
-) -> (usize, Option<u16>)
-    ensures read { result.1 ≢ Some 900 → streams.read_all known.old place.old octets.now
+) -> (usize, Option<StreamFault>)
+    ensures read { result.1 ≢ Some faults.OutOfMemory
+        → streams.read_all known.old place.old octets.now
         ≡ streams.left_by known.new place.new octets.now result }
     ensures bound { result.0 ≤ length octets.now }
     ensures stops { streams.Stops known.old place.old (take result.0 octets.now) result.1 known.new
@@ -28,9 +32,9 @@ fn take_messages(
         let rest = octets.split_at(at).1;
         match parse(rest) {
             Parsed::NeedsMore => return (at, None),
-            Parsed::Refused(number) => {
+            Parsed::Refused(why) => {
                 known.forget();
-                return (at, Some(number));
+                return (at, Some(StreamFault::Malformed(why)));
             }
             Parsed::Message(message) => {
                 let count = message.octets();
@@ -39,7 +43,7 @@ fn take_messages(
                         at += count;
                         *place = place.saturating_add(count as u64);
                     }
-                    Err(number) => return (at, Some(number)),
+                    Err(fault) => return (at, Some(fault)),
                 }
             }
         }
@@ -70,10 +74,12 @@ pub struct Session {
     known: Known,
     place: u64,
     octets: Vec<u8>,
-    fault: Option<u16>,
+    fault: Option<StreamFault>,
 }
 
 impl Model for Session {
+    ghost use Rattle.std.specs.Prelude.{option_map};
+    ghost use Rattle.fx_session.specs.StreamFaults.{number_of};
     ghost use Rattle.fx_session.specs.Streams as streams;
 
     ghost Value = { streams.SessionState };
@@ -82,19 +88,17 @@ impl Model for Session {
       known = s.known;
       place = s.place;
       rest = s.octets.items;
-      fault =
-          s.fault;
+      fault = option_map number_of s.fault;
     } };
 }
 
-/// The fault of this number where the first octet of the refused message is at this place.
-fn fault_of(place: u64, number: u16) -> Fault
-    ensures { result ≡ streams.fault_of place number }
+/// The fault where the first octet of the refused message is at this place.
+fn fault_of(place: u64, fault: StreamFault) -> Fault
+    ensures { result ≡ streams.fault_of place (number_of fault) }
 {
-    if number == 900 {
-        Fault::bare(900)
-    } else {
-        Fault::at_octet(number, place)
+    match fault {
+        StreamFault::OutOfMemory => Fault::bare(900),
+        _ => Fault::at_octet(fault.number(), place),
     }
 }
 
@@ -122,19 +126,20 @@ impl Session {
     /// later call; the records of the messages before it wait on, and there are none of the refused message.
     pub fn feed(&mut self, piece: &[u8]) -> Result<(), Fault>
         ensures answer { result ≡ streams.answer_of self.new.place self.new.fault }
-        ensures fed { self.new.fault ≢ Some 900 → self.new ≡ streams.fed self.old piece.now }
+        ensures fed { self.new.fault ≢ Some 900
+            → self.new ≡ streams.after_piece self.old piece.now }
         ensures again { IsSome self.old.fault → self.new ≡ self.old }
         ensures starves { self.old.fault ≡ None → self.new.fault ≡ Some 900
             → streams.Starves self.old piece.now self.new }
     {
-        if let Some(number) = self.fault {
-            return Err(fault_of(self.place, number));
+        if let Some(fault) = self.fault {
+            return Err(fault_of(self.place, fault));
         }
         if let Err(_) = self.octets.extend_from_slice(piece) {
-            self.fault = Some(900);
+            self.fault = Some(StreamFault::OutOfMemory);
             self.octets.clear();
             self.known.forget();
-            return Err(fault_of(self.place, 900));
+            return Err(fault_of(self.place, StreamFault::OutOfMemory));
         }
         let (at, fault) = take_messages(
             self.alloc,
@@ -148,9 +153,9 @@ impl Session {
                 remove_front(&mut self.octets, at);
                 Ok(())
             }
-            Some(number) => {
+            Some(fault) => {
                 self.octets.clear();
-                Err(fault_of(self.place, number))
+                Err(fault_of(self.place, fault))
             }
         }
     }
@@ -196,13 +201,13 @@ impl Session {
 /// One piece and then another are both as one, for every session: it doesn't matter how a stream is cut.
 pub fn pieces()
     ensures { (st : streams.SessionState) (a : List ℕ) (b : List ℕ)
-        → streams.fed (streams.fed st a) b ≡ streams.fed st (a ++ b) }
+        → streams.after_piece (streams.after_piece st a) b ≡ streams.after_piece st (a ++ b) }
 {}
 
 /// Records that wait stand before those that a piece adds, and change nothing else, for every session: it doesn't
 /// matter when they are taken out.
 pub fn waiting()
     ensures { (before : List Record) (st : streams.SessionState) (piece : List ℕ)
-        → streams.fed (streams.behind before st) piece
-        ≡ streams.behind before (streams.fed st piece) }
+        → streams.after_piece (streams.behind before st) piece
+        ≡ streams.behind before (streams.after_piece st piece) }
 {}

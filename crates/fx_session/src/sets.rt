@@ -6,6 +6,7 @@ ghost use Rattle.fx_session.specs.Messages as messages;
 ghost use Rattle.fx_session.specs.Templates as tables;
 
 use crate::data_set::{pass_records, take_flows};
+use crate::stream_fault::StreamFault;
 use crate::taken::Taken;
 use crate::template_set::take_templates;
 use crate::templates::Templates;
@@ -14,8 +15,13 @@ use std::alloc::Global;
 
 /// The records of a data set are taken, under the template of its id.
 ///
-/// Fails with 617 where there is none, and as the first record that does.
-fn take_data(templates: &Templates, taken: &mut Taken, id: u16, content: &[u8]) -> Result<(), u16>
+/// Fails where there is none, and as the first record that does.
+fn take_data(
+    templates: &Templates,
+    taken: &mut Taken,
+    id: u16,
+    content: &[u8],
+) -> Result<(), StreamFault>
     ensures done { Does result (messages.data_by (tables.at_number templates.now.plain id)
         (tables.at_number templates.now.options id) taken.old content.now) taken.new }
     ensures grows { Grows taken.old.waiting taken.new.waiting }
@@ -26,20 +32,19 @@ fn take_data(templates: &Templates, taken: &mut Taken, id: u16, content: &[u8]) 
     if let Some(template) = templates.options(id) {
         return pass_records(template, taken, content);
     }
-    Err(617)
+    Err(StreamFault::NoTemplate)
 }
 
 /// A set is read.
 ///
-/// Fails as the first of its records that does, with 617 where a data set has no template, and with 900 for want of
-/// memory.
+/// Fails as the first of its records that does, where a data set has no template, and for want of memory.
 #[tactic(auto, unfolding(crate::specs::Messages::set_read))]
 fn take_set(
     alloc: Global,
     templates: &mut Templates,
     taken: &mut Taken,
     set: &Set<'_>,
-) -> Result<(), u16>
+) -> Result<(), StreamFault>
     ensures done { Does result (messages.set_read
         (record { templates = templates.old; taken = taken.old }) (wire.set_parts set.now))
         (record { templates = templates.new; taken = taken.new }) }
@@ -62,7 +67,7 @@ pub(crate) fn take_sets(
     templates: &mut Templates,
     taken: &mut Taken,
     sets: Sets<'_>,
-) -> Result<(), u16>
+) -> Result<(), StreamFault>
     ensures done { Does result (messages.sets_read
         (record { templates = templates.old; taken = taken.old }) sets.entry)
         (record { templates = templates.new; taken = taken.new }) }
@@ -70,10 +75,7 @@ pub(crate) fn take_sets(
 {
     let mut left = sets;
     while let Some(set) = left.next() {
-        match take_set(alloc, templates, taken, &set) {
-            Ok(()) => {}
-            Err(number) => return Err(number),
-        }
+        take_set(alloc, templates, taken, &set)?;
     }
     Ok(())
 }

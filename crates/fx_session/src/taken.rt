@@ -1,10 +1,10 @@
 //! What is taken from messages.
-ghost use Rattle.std.specs.Prelude.{◌≡◌, ◌+◌, ◌%◌, ◌^◌, ◌≤◌, [], ◌∷◌, ◌++◌, length, take, OnOk, OnErr, IfErr, Some, None};
+ghost use Rattle.std.specs.Prelude.{◌≡◌, ◌+◌, ◌%◌, ◌^◌, ◌≤◌, [], ◌∷◌, ◌++◌, length, take, OnOk, OnErr, Some, None};
 ghost use Rattle.fx_session.specs.DataSets as sets;
 ghost use Rattle.fx_session.specs.Calls.{Grows};
 
 use fx_tables::Record;
-use std::alloc::Global;
+use std::alloc::{AllocError, Global};
 use std::collections::VecDeque;
 use std::marker::Model;
 
@@ -55,19 +55,14 @@ impl Taken {
 
     /// A data record whose flow record waits, or that is skipped.
     ///
-    /// Fails with 900 for want of memory, and then nothing is taken.
-    pub fn take(&mut self, flow: Option<Record>) -> Result<(), u16>
+    /// Fails for want of memory, and then nothing is taken.
+    pub fn take(&mut self, flow: Option<Record>) -> Result<(), AllocError>
         ensures ok { OnOk result (self.new ≡ sets.with_flow self.old flow) }
-        ensures err { IfErr result (λ n. n ≡ 900) }
         ensures same { OnErr result (self.new ≡ self.old) }
         ensures grows { Grows self.old.waiting self.new.waiting }
     {
         match flow {
-            Some(entry) => {
-                if let Err(_) = self.waiting.push_back(entry) {
-                    return Err(900);
-                }
-            }
+            Some(entry) => self.waiting.push_back(entry)?,
             None => self.skipped = self.skipped.wrapping_add(1),
         }
         self.pass();

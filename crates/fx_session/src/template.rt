@@ -1,12 +1,12 @@
 //! Templates.
-ghost use Rattle.std.specs.Prelude.{◌≡◌, ◌≤◌, ◌&&◌, ◌==◌, length, map, IfOk, IfErr};
+ghost use Rattle.std.specs.Prelude.{◌≡◌, ◌≤◌, ◌&&◌, ◌==◌, length, map, IfOk};
 ghost use Rattle.fx_wire.specs.Fields.{element_of};
 ghost use Rattle.fx_wire.specs.Values.{shortest_record};
 ghost use Rattle.fx_session.specs.Templates as templates;
 
 use fx_elements::Element;
 use fx_wire::FieldSpecifier;
-use std::alloc::Global;
+use std::alloc::{AllocError, Global};
 use std::marker::Model;
 
 /// How many fields of a template are scope fields, its fields and their elements, and how few octets a record can have.
@@ -69,33 +69,29 @@ fn same_fields(a: &[FieldSpecifier], b: &[FieldSpecifier]) -> bool
     true
 }
 
-/// The element of each field. Fails with 900 for want of memory.
-fn elements_of(alloc: Global, fields: &[FieldSpecifier]) -> Result<Vec<Element>, u16>
-    ensures ok { IfOk result (λ elements. elements.items ≡ map element_of fields.now) }
-    ensures err { IfErr result (λ n. n ≡ 900) }
+/// The element of each field.
+fn elements_of(alloc: Global, fields: &[FieldSpecifier]) -> Result<Vec<Element>, AllocError>
+    ensures { IfOk result (λ elements. elements.items ≡ map element_of fields.now) }
 {
     let mut elements: Vec<Element> = Vec::new(alloc);
     for field in fields {
-        if let Err(_) = elements.push(field.element()) {
-            return Err(900);
-        }
+        elements.push(field.element())?;
     }
     elements.shrink_to_fit();
     Ok(elements)
 }
 
 impl Template {
-    /// A template of these fields, whose records have `shortest` octets at least. Fails with 900 for want of memory.
+    /// A template of these fields, whose records have `shortest` octets at least.
     pub fn new(
         alloc: Global,
         scope: u16,
         fields: Vec<FieldSpecifier>,
         shortest: usize,
-    ) -> Result<Template, u16>
+    ) -> Result<Template, AllocError>
         requires shortest { shortest ≡ shortest_record fields.items }
         requires some { 1 ≤ shortest }
-        ensures ok { IfOk result (λ t. t ≡ record { scope = scope; fields = fields.items }) }
-        ensures err { IfErr result (λ n. n ≡ 900) }
+        ensures { IfOk result (λ t. t ≡ record { scope = scope; fields = fields.items }) }
     {
         let elements = elements_of(alloc, fields.as_slice())?;
         let body = Body {
@@ -104,10 +100,9 @@ impl Template {
             elements,
             shortest,
         };
-        match Box::new(alloc, body) {
-            Ok(body) => Ok(Template { body }),
-            Err(_) => Err(900),
-        }
+        Ok(Template {
+            body: Box::new(alloc, body)?,
+        })
     }
 
     /// The fields.

@@ -1,10 +1,12 @@
 //! Template sets and options template sets.
-ghost use Rattle.std.specs.Prelude.{◌≡◌, ◌≢◌, ◌+◌, ◌≤◌, ◌<◌, ◌&&◌, not, ◌==◌, Ok, Err, [], ◌∷◌, ◌++◌, length, OnOk, IfOk, IfErr};
+ghost use Rattle.std.specs.Prelude.{◌≡◌, ◌≢◌, ◌+◌, ◌≤◌, ◌<◌, ◌&&◌, not, ◌==◌, Ok, Err, [], ◌∷◌, ◌++◌, length, IfOk, IfErr};
 ghost use Rattle.fx_wire.specs.Fields as fields;
 ghost use Rattle.fx_session.specs.Calls.{Does};
 ghost use Rattle.fx_session.specs.TemplateSets as sets;
 ghost use Rattle.fx_session.specs.TemplateReading as reading;
+ghost use Rattle.fx_session.specs.declared.stream_fault.StreamFault.TheVariants as faults;
 
+use crate::stream_fault::StreamFault;
 use crate::template::Template;
 use crate::templates::Templates;
 use fx_elements::Element;
@@ -37,38 +39,22 @@ fn has_narrow(fields: &[FieldSpecifier]) -> bool
     false
 }
 
-/// A field comes behind the others. Fails with 900 for want of memory.
-fn push_field(fields: &mut Vec<FieldSpecifier>, field: FieldSpecifier) -> Result<(), u16>
-    ensures ok { OnOk result (fields.new.items ≡ fields.old.items ++ field ∷ []) }
-    ensures err { IfErr result (λ n. n ≡ 900) }
-{
-    match fields.push(field) {
-        Ok(()) => Ok(()),
-        Err(_) => Err(900),
-    }
-}
-
 /// The fields of a template, and the octets behind them.
 ///
-/// Fails with 614 where a field is cut or can't have its length, and with 900 for want of memory.
+/// Fails where a field is cut or can't have its length, and for want of memory.
 fn read_fields(
     alloc: Global,
     count: u16,
     octets: &[u8],
-) -> Result<(Vec<FieldSpecifier>, &[u8]), u16>
+) -> Result<(Vec<FieldSpecifier>, &[u8]), StreamFault>
     requires { 1 ≤ count }
     ensures ok { IfOk result (λ p. reading.ReadsFields count octets.now p.0.items p.1.now) }
-    ensures err { IfErr result (λ n. n ≢ 900 → fields.fields_in count octets.now ≡ Err n) }
+    ensures err { IfErr result (reading.RefusesFields (fields.fields_in count octets.now)) }
 {
     let mut found: Vec<FieldSpecifier> = Vec::new(alloc);
     let mut left = FieldSpecifiers::new(count, octets);
     while let Some(next) = left.next() {
-        match next {
-            Ok(field) => {
-                push_field(&mut found, field)?;
-            }
-            Err(number) => return Err(number),
-        }
+        found.push(next?)?;
     }
     Ok((found, left.rest()))
 }
@@ -80,7 +66,7 @@ fn declare<'a>(
     kind: TemplateKind,
     new: NewTemplate,
     octets: &'a [u8],
-) -> Result<&'a [u8], u16>
+) -> Result<&'a [u8], StreamFault>
     requires { 1 ≤ new.count }
     ensures done { reading.Follows (sets.with_fields templates.old kind new.id new.scope
         (fields.fields_in new.count octets.now)) templates.new result }
@@ -88,7 +74,7 @@ fn declare<'a>(
 {
     let (mut fields, rest) = read_fields(alloc, new.count, octets)?;
     if kind == TemplateKind::Plain && has_narrow(fields.as_slice()) {
-        return Err(618);
+        return Err(StreamFault::CounterLength);
     }
     let shortest = shortest_record(fields.as_slice());
     fields.shrink_to_fit();
@@ -99,14 +85,14 @@ fn declare<'a>(
 
 /// What the template record at the front says is done; answers the octets behind it.
 ///
-/// Fails with 614, 618 and 616, in this order, and with 900 for want of memory.
+/// Fails by its form, by its counters and by its id, in this order, and for want of memory.
 #[tactic(auto, unfolding(crate::specs::TemplateSets::template_record))]
 fn take_record<'a>(
     alloc: Global,
     templates: &mut Templates,
     kind: TemplateKind,
     octets: &'a [u8],
-) -> Result<&'a [u8], u16>
+) -> Result<&'a [u8], StreamFault>
     requires { 4 ≤ length octets.now }
     ensures done { reading.Follows (sets.template_record templates.old kind octets.now)
         templates.new result }
@@ -134,15 +120,12 @@ pub(crate) fn take_templates(
     templates: &mut Templates,
     kind: TemplateKind,
     octets: &[u8],
-) -> Result<(), u16>
+) -> Result<(), StreamFault>
     ensures { Does result (sets.template_set templates.old kind octets.now) templates.new }
 {
     let mut rest = octets;
     while rest.len() >= 4 {
-        match take_record(alloc, templates, kind, rest) {
-            Ok(behind) => rest = behind,
-            Err(number) => return Err(number),
-        }
+        rest = take_record(alloc, templates, kind, rest)?;
     }
     Ok(())
 }

@@ -3,6 +3,7 @@ ghost use Rattle.std.specs.Prelude.{◌≡◌, ◌≢◌, [], Ok, Err, Option, i
 ghost use Rattle.fx_session.specs.Calls.{Does};
 ghost use Rattle.fx_session.specs.Templates as templates;
 
+use crate::stream_fault::StreamFault;
 use crate::template::Template;
 use fx_wire::TemplateKind;
 use std::alloc::Global;
@@ -26,26 +27,27 @@ impl Model for Templates {
 
 /// A template comes into its table, where the id stands for no other one.
 ///
-/// Fails with 616 where it does, and with 900 for want of memory.
+/// Fails where it does, and for want of memory.
 fn declare_in(
     table: &mut BTreeMap<u16, Template>,
     other: bool,
     id: u16,
     new: Template,
-) -> Result<(), u16>
+) -> Result<(), StreamFault>
     ensures { Does result (templates.in_table (templates.at_number table.old.entries id) other
         table.old.entries id new) table.new.entries }
 {
     if let Some(old) = table.get(&id) {
-        return if old.same(&new) { Ok(()) } else { Err(616) };
+        if !old.same(&new) {
+            return Err(StreamFault::TemplateIdInUse);
+        }
+        return Ok(());
     }
     if other {
-        return Err(616);
+        return Err(StreamFault::TemplateIdInUse);
     }
-    match table.insert(id, new) {
-        Ok(_) => Ok(()),
-        Err(_) => Err(900),
-    }
+    table.insert(id, new)?;
+    Ok(())
 }
 
 impl Templates {
@@ -75,9 +77,9 @@ impl Templates {
 
     /// A template is declared.
     ///
-    /// Fails with 616 where the id stands for another one, and with 900 for want of memory.
-    pub fn declare(&mut self, kind: TemplateKind, id: u16, new: Template) -> Result<(), u16>
-        ensures { Does result (templates.declared self.old kind id new) self.new }
+    /// Fails where the id stands for another one, and for want of memory.
+    pub fn declare(&mut self, kind: TemplateKind, id: u16, new: Template) -> Result<(), StreamFault>
+        ensures { Does result (templates.after_declaration self.old kind id new) self.new }
     {
         match kind {
             TemplateKind::Plain => {
@@ -93,7 +95,7 @@ impl Templates {
 
     /// The template of this id is withdrawn, of either kind, if there is one.
     pub fn withdraw(&mut self, id: u16)
-        ensures { self.new ≡ templates.withdrawn self.old id }
+        ensures { self.new ≡ templates.after_withdrawal self.old id }
     {
         self.plain.remove(&id);
         self.options.remove(&id);
@@ -101,7 +103,7 @@ impl Templates {
 
     /// All templates of the kind are withdrawn.
     pub fn withdraw_all(&mut self, kind: TemplateKind)
-        ensures { self.new ≡ templates.all_withdrawn self.old kind }
+        ensures { self.new ≡ templates.after_withdrawal_of_all self.old kind }
     {
         match kind {
             TemplateKind::Plain => self.plain.clear(),

@@ -2,9 +2,9 @@
 use fx_base::Room;
 use fx_elements::{Axis, Element};
 use fx_wire::{
-    FieldSpecifier, FieldSpecifiers, Header, Parsed, Set, Sets, TemplateHeading, TemplateKind,
-    VARIABLE, can_have, cut_record, cut_value, message_length, messages_are_read, parse,
-    put_message, read_heading, shortest_record,
+    FieldSpecifier, FieldSpecifiers, Header, Malformed, Parsed, Set, Sets, TemplateHeading,
+    TemplateKind, VARIABLE, can_have, cut_record, cut_value, message_length, messages_are_read,
+    parse, put_message, read_heading, shortest_record,
 };
 use std::test::Fail;
 
@@ -59,7 +59,7 @@ fn needs_all_octets(rt: HostRuntime) {
 /// The number with which a message is refused; 0 where it isn't.
 fn refusal(octets: &[u8]) -> u16 {
     match parse(octets) {
-        Parsed::Refused(number) => number,
+        Parsed::Refused(why) => why.number(),
         _ => 0,
     }
 }
@@ -148,7 +148,8 @@ fn reads_a_template(rt: HostRuntime) {
 fn refuses_a_short_address(rt: HostRuntime) {
     let mut fields = FieldSpecifiers::new(1, &[0, 8, 0, 3]);
     assert!(rt;
-        fields.next() == Some(Err(614)) && !can_have(Element::OnAxis(Axis::Source), VARIABLE)
+        fields.next() == Some(Err(Malformed::Template))
+            && !can_have(Element::OnAxis(Axis::Source), VARIABLE)
     );
 }
 

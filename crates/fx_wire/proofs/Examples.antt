@@ -9,6 +9,7 @@ use Rattle.fx_wire.specs.Templates.{heading_at}
 use Rattle.fx_wire.specs.Values.{record_at}
 use Rattle.fx_wire.specs.declared.template.TemplateKind.TheVariants as kinds
 use Rattle.fx_wire.specs.declared.template.TemplateHeading.TheVariants.{Declaration, WithdrawalOfAll}
+use Rattle.fx_wire.specs.declared.malformed.Malformed.TheVariants as malformed
 
 -- a template of a source address and the two counters
 abbrev template : List ℕ
@@ -32,10 +33,10 @@ reads_a_message = refl
 needs_the_last_octet : front (take 59 stream) ≡ needs_more
 needs_the_last_octet = refl
 
-refuses_a_version : front (0 ∷ 9 ∷ drop 2 stream) ≡ refusal 611
+refuses_a_version : front (0 ∷ 9 ∷ drop 2 stream) ≡ refusal malformed.Version
 refuses_a_version = refl
 
-refuses_a_cut_set : front (0 ∷ 10 ∷ 0 ∷ 20 ∷ drop 4 (take 20 stream)) ≡ refusal 613
+refuses_a_cut_set : front (0 ∷ 10 ∷ 0 ∷ 20 ∷ drop 4 (take 20 stream)) ≡ refusal malformed.SetLength
 unfolding sets_of sets_in
 refuses_a_cut_set = refl
 

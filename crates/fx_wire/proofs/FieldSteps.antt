@@ -13,6 +13,8 @@ use Rattle.fx_wire.specs.Numbers.{number_at}
 use Rattle.fx_wire.specs.Fields.{specifier_at, checked_field, field_at, fields_in, before_fields, can_have, stands, element_of}
 use Rattle.fx_wire.specs.Values.{shortest_value, shortest_record}
 use Rattle.fx_wire.specs.declared.field.FieldSpecifier.{FieldSpecifier}
+use Rattle.fx_wire.specs.declared.malformed.Malformed.{Malformed}
+use Rattle.fx_wire.specs.declared.malformed.Malformed.TheVariants as malformed
 use Rattle.fx_wire.proofs.SetLists.{chosen}
 
 and_first : (a b : Bool) → (a && b) ≡ true → a ≡ true
@@ -81,7 +83,7 @@ specifier_at-shorter bs p e =
 checked : (bs : List ℕ) (o : Option (FieldSpecifier × List ℕ)) (p : FieldSpecifier × List ℕ) → specifier_at bs ≡ o → checked_field o ≡ Ok p → (o ≡ Some p) × (stands p.0 ≡ true)
 checked bs None p e f = absurd cc
 checked bs (Some q) p e f =
-    elim (chosen (stands q.0) (Ok q) (Err 614) (Ok p) f) [
+    elim (chosen (stands q.0) (Ok q) (Err malformed.Template) (Ok p) f) [
       | inl h ↦ let same : q ≡ p = cc in (ap Some same, sym (ap (λ (x : FieldSpecifier × List ℕ). stands x.0) same) ∙ h.0)
       | inr h ↦ absurd cc
     ]
@@ -92,7 +94,7 @@ field_at-shorter bs p e =
     let c = checked bs (specifier_at bs) p refl e in
     (specifier_at-shorter bs p c.0, shortest_value-some p.0 (can_have-some (element_of p.0) p.0.field_length c.1))
 
-abbrev turn : ℕ → Result (FieldSpecifier × List ℕ) ℕ → Result (List FieldSpecifier × List ℕ) ℕ
+abbrev turn : ℕ → Result (FieldSpecifier × List ℕ) Malformed → Result (List FieldSpecifier × List ℕ) Malformed
 turn n (Ok f) = before_fields (f.0 ∷ []) (fields_in n f.1)
 turn n (Err e) = Err e
 
@@ -104,16 +106,16 @@ pub fields_in-first : (m n : ℕ) (bs : List ℕ) (p : FieldSpecifier × List �
 unfolding fields_in
 fields_in-first m n bs p k e = ap (λ (x : ℕ). fields_in x bs) (k ∙ add-one n) ∙ ap (turn n) e
 
-pub fields_in-refused : (m n : ℕ) (bs : List ℕ) (e : ℕ) → n + 1 ≤ m → field_at bs ≡ Err e → fields_in m bs ≡ Err e
+pub fields_in-refused : (m n : ℕ) (bs : List ℕ) (e : Malformed) → n + 1 ≤ m → field_at bs ≡ Err e → fields_in m bs ≡ Err e
 unfolding fields_in
 fields_in-refused zero n bs e k h = absurd (omega arith)
 fields_in-refused (suc m) n bs e k h = ap (turn m) h
 
-pub before_fields-none : (r : Result (List FieldSpecifier × List ℕ) ℕ) → before_fields [] r ≡ r
+pub before_fields-none : (r : Result (List FieldSpecifier × List ℕ) Malformed) → before_fields [] r ≡ r
 before_fields-none (Ok p) = refl
 before_fields-none (Err n) = refl
 
-pub before_fields-again : (xs : List FieldSpecifier) (f : FieldSpecifier) (r : Result (List FieldSpecifier × List ℕ) ℕ) → before_fields xs (before_fields (f ∷ []) r) ≡ before_fields (xs ++ f ∷ []) r
+pub before_fields-again : (xs : List FieldSpecifier) (f : FieldSpecifier) (r : Result (List FieldSpecifier × List ℕ) Malformed) → before_fields xs (before_fields (f ∷ []) r) ≡ before_fields (xs ++ f ∷ []) r
 before_fields-again xs f (Ok p) = ap (λ (l : List FieldSpecifier). Ok (l, p.1)) (sym (append_assoc xs (f ∷ []) p.0))
 before_fields-again xs f (Err n) = refl
 

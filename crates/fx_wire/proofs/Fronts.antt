@@ -3,10 +3,12 @@ use Rattle.std.proofs.Common.{◌≡◌, ◌≢◌, ℕ, ◌+◌, ◌≤◌, Boo
 use Rattle.std.specs.Int.{Width, w16, w32, byte_len, from_be_bytes}
 use Rattle.std.proofs.lemmas.List.{take-append-le, drop-append-le, take-append-drop, length-take-le}
 use Rattle.fx_wire.specs.Numbers.{number_at}
-use Rattle.fx_wire.specs.Headers.{Framed, more, whole, refused, frame_of, framed, header_of}
+use Rattle.fx_wire.specs.Headers.{Frame, more, whole, refused, frame_of, frame_at, header_of}
 use Rattle.fx_wire.specs.Sets.{SetParts, sets_of}
 use Rattle.fx_wire.specs.Messages.{Message, needs_more, complete, with_sets, front_by, front}
 use Rattle.fx_wire.specs.declared.header.Header.{Header}
+use Rattle.fx_wire.specs.declared.malformed.Malformed.{Malformed}
+use Rattle.fx_wire.specs.declared.malformed.Malformed.TheVariants as malformed
 use Rattle.fx_wire.proofs.SetLists.{chosen}
 
 -- the length of a whole message
@@ -14,9 +16,9 @@ whole_size : (there version size n : ℕ) → frame_of there version size ≡ wh
 whole_size there version size n e =
     elim (chosen (ltb there 16) more _ (whole n) e) [
       | inl h ↦ absurd cc
-      | inr h ↦ elim (chosen (not (eqb version 10)) (refused 611) _ (whole n) h.1) [
+      | inr h ↦ elim (chosen (not (eqb version 10)) (refused malformed.Version) _ (whole n) h.1) [
         | inl i ↦ absurd cc
-        | inr i ↦ elim (chosen (ltb size 16) (refused 612) _ (whole n) i.1) [
+        | inr i ↦ elim (chosen (ltb size 16) (refused malformed.MessageLength) _ (whole n) i.1) [
           | inl j ↦ absurd cc
           | inr j ↦ elim (chosen (ltb there size) more (whole size) (whole n) j.1) [
             | inl k ↦ absurd cc
@@ -52,19 +54,19 @@ header_front bs cs le =
     let d = number_front w32 12 bs cs (omega arith) in
     cc (a, b, d)
 
-framed_more : (bs cs : List ℕ) → framed bs ≢ more → framed (bs ++ cs) ≡ framed bs
-framed_more bs cs ne =
+frame_at-more : (bs cs : List ℕ) → frame_at bs ≢ more → frame_at (bs ++ cs) ≡ frame_at bs
+frame_at-more bs cs ne =
     let f = frame_more (length bs) (length (bs ++ cs)) (number_at w16 0 bs) (number_at w16 2 bs) (omega (arith, length-append bs cs)) ne in
     rw (number_front w16 0 bs cs (omega (arith, f.0)), number_front w16 2 bs cs (omega (arith, f.0))) f.1
 
-message_size : (n : ℕ) (h : Header) (r : Result (List SetParts) ℕ) (m : Message) → with_sets n h r ≡ complete m → n ≡ m.octets
+message_size : (n : ℕ) (h : Header) (r : Result (List SetParts) Malformed) (m : Message) → with_sets n h r ≡ complete m → n ≡ m.octets
 message_size n h (Ok ss) m e = cc
 message_size n h (Err k) m e = absurd cc
 
 -- a whole message has 16 octets at least, and they are there
 pub front_size : (bs : List ℕ) (m : Message) → front bs ≡ complete m → (16 ≤ m.octets) × (m.octets ≤ length bs)
-front_size bs m e = by (framed bs) refl e where
-  by : (f : Framed) → framed bs ≡ f → front_by bs f ≡ complete m → (16 ≤ m.octets) × (m.octets ≤ length bs)
+front_size bs m e = by (frame_at bs) refl e where
+  by : (f : Frame) → frame_at bs ≡ f → front_by bs f ≡ complete m → (16 ≤ m.octets) × (m.octets ≤ length bs)
   by more k d = absurd cc
   by (refused n) k d = absurd cc
   by (whole n) k d =
@@ -74,16 +76,16 @@ front_size bs m e = by (framed bs) refl e where
 
 -- octets behind what stands at the front don't change it, if it needs no more
 pub front_more : (bs cs : List ℕ) → front bs ≢ needs_more → front (bs ++ cs) ≡ front bs
-front_more bs cs ne = by (framed bs) refl where
-  by : (f : Framed) → framed bs ≡ f → front (bs ++ cs) ≡ front bs
+front_more bs cs ne = by (frame_at bs) refl where
+  by : (f : Frame) → frame_at bs ≡ f → front (bs ++ cs) ≡ front bs
   by more k = absurd (ne (ap (front_by bs) k))
   by (refused n) k =
-      let apart : framed bs ≢ more = λ h. cc in
-      ap (front_by (bs ++ cs)) (framed_more bs cs apart ∙ k) ∙ sym (ap (front_by bs) k)
+      let apart : frame_at bs ≢ more = λ h. cc in
+      ap (front_by (bs ++ cs)) (frame_at-more bs cs apart ∙ k) ∙ sym (ap (front_by bs) k)
   by (whole n) k =
-      let apart : framed bs ≢ more = λ h. cc in
+      let apart : frame_at bs ≢ more = λ h. cc in
       let w = whole_size (length bs) (number_at w16 0 bs) (number_at w16 2 bs) n k in
-      ap (front_by (bs ++ cs)) (framed_more bs cs apart ∙ k)
+      ap (front_by (bs ++ cs)) (frame_at-more bs cs apart ∙ k)
       ∙ ap (λ (h : Header). with_sets n h (sets_of (drop 16 (take n (bs ++ cs))))) (header_front bs cs w.0)
       ∙ ap (λ (body : List ℕ). with_sets n (header_of bs) (sets_of (drop 16 body))) (take-append-le n bs cs w.2)
       ∙ sym (ap (front_by bs) k)
@@ -92,9 +94,9 @@ frame_exact : (there version size n : ℕ) → frame_of there version size ≡ w
 frame_exact there version size n e =
     elim (chosen (ltb there 16) more _ (whole n) e) [
       | inl h ↦ absurd cc
-      | inr h ↦ elim (chosen (not (eqb version 10)) (refused 611) _ (whole n) h.1) [
+      | inr h ↦ elim (chosen (not (eqb version 10)) (refused malformed.Version) _ (whole n) h.1) [
         | inl i ↦ absurd cc
-        | inr i ↦ elim (chosen (ltb size 16) (refused 612) _ (whole n) i.1) [
+        | inr i ↦ elim (chosen (ltb size 16) (refused malformed.MessageLength) _ (whole n) i.1) [
           | inl j ↦ absurd cc
           | inr j ↦ elim (chosen (ltb there size) more (whole size) (whole n) j.1) [
             | inl k ↦ absurd cc
@@ -108,14 +110,14 @@ frame_exact there version size n e =
       ]
     ]
 
-never_more : (n : ℕ) (h : Header) (r : Result (List SetParts) ℕ) → with_sets n h r ≡ needs_more → ⊥
+never_more : (n : ℕ) (h : Header) (r : Result (List SetParts) Malformed) → with_sets n h r ≡ needs_more → ⊥
 never_more n h (Ok ss) e = cc
 never_more n h (Err k) e = cc
 
 -- a message stands alone as it stands at the front of a stream
 pub front_alone : (bs : List ℕ) (m : Message) → front bs ≡ complete m → front (take m.octets bs) ≡ complete m
-front_alone bs m e = by (framed bs) refl e where
-  by : (f : Framed) → framed bs ≡ f → front_by bs f ≡ complete m → front (take m.octets bs) ≡ complete m
+front_alone bs m e = by (frame_at bs) refl e where
+  by : (f : Frame) → frame_at bs ≡ f → front_by bs f ≡ complete m → front (take m.octets bs) ≡ complete m
   by more k d = absurd cc
   by (refused n) k d = absurd cc
   by (whole n) k d =
@@ -125,7 +127,7 @@ front_alone bs m e = by (framed bs) refl e where
       let size : length (take n bs) ≡ n = length-take-le n bs w.2 in
       let version : number_at w16 0 (take n bs) ≡ number_at w16 0 bs = sym (number_front w16 0 (take n bs) (drop n bs) (omega (arith, size, w.1))) ∙ ap (number_at w16 0) parts in
       let long : number_at w16 2 (take n bs) ≡ number_at w16 2 bs = sym (number_front w16 2 (take n bs) (drop n bs) (omega (arith, size, w.1))) ∙ ap (number_at w16 2) parts in
-      let alone : framed (take n bs) ≡ whole n = ap (λ (x : ℕ). frame_of x (number_at w16 0 (take n bs)) (number_at w16 2 (take n bs))) size ∙ ap (λ (x : ℕ). frame_of n x (number_at w16 2 (take n bs))) version
+      let alone : frame_at (take n bs) ≡ whole n = ap (λ (x : ℕ). frame_of x (number_at w16 0 (take n bs)) (number_at w16 2 (take n bs))) size ∙ ap (λ (x : ℕ). frame_of n x (number_at w16 2 (take n bs))) version
       ∙ ap (λ (x : ℕ). frame_of n (number_at w16 0 bs) x) long ∙ frame_exact (length bs) (number_at w16 0 bs) (number_at w16 2 bs) n k in
       let apart : front (take n bs) ≢ needs_more = λ h. never_more n (header_of (take n bs)) (sets_of (drop 16 (take n (take n bs)))) (sym (ap (front_by (take n bs)) alone) ∙ h) in
       ap (λ (x : ℕ). front (take x bs)) (sym s) ∙ sym (front_more (take n bs) (drop n bs) apart) ∙ ap front parts ∙ e

@@ -5,17 +5,19 @@ use Rattle.std.proofs.lemmas.Nat.{from_be_bytes-to_be_bytes_2, from_be_bytes-to_
 use Rattle.std.proofs.lemmas.List.{take_all, drop-drop}
 use Rattle.std.proofs.Math.Seq.{take-append_seam, drop-append_seam}
 use Rattle.fx_wire.specs.Numbers.{number_at}
-use Rattle.fx_wire.specs.Headers.{whole, frame_of, framed, header_of}
+use Rattle.fx_wire.specs.Headers.{whole, frame_of, frame_at, header_of}
 use Rattle.fx_wire.specs.Sets.{SetParts, set_at, sets_of, before_sets, is_reserved}
 use Rattle.fx_wire.specs.Messages.{front, front_by, with_sets, complete}
 use Rattle.fx_wire.specs.Writing.{set_length, set_octets, sets_length, sets_octets, message_length, version_octets, origin_octets, message_octets, HasId, HaveIds, IsMessage}
 use Rattle.fx_wire.specs.declared.header.Header.{Header}
+use Rattle.fx_wire.specs.declared.malformed.Malformed.{Malformed}
+use Rattle.fx_wire.specs.declared.malformed.Malformed.TheVariants as malformed
 use Rattle.fx_wire.proofs.SetLists.{sets_of-none, sets_of-first}
 
 -- ---- sets
 
-abbrev shape : Bool → Bool → Bool → Bool → SetParts → List ℕ → Result (SetParts × List ℕ) ℕ
-shape short low past reserved s rest = cond short (Err 613) (cond (low || past) (Err 613) (cond reserved (Err 615) (Ok (s, rest))))
+abbrev shape : Bool → Bool → Bool → Bool → SetParts → List ℕ → Result (SetParts × List ℕ) Malformed
+shape short low past reserved s rest = cond short (Err malformed.SetLength) (cond (low || past) (Err malformed.SetLength) (cond reserved (Err malformed.SetId) (Ok (s, rest))))
 
 set_back_from : (bs content rest : List ℕ) (id len : ℕ) → number_at w16 0 bs ≡ id → number_at w16 2 bs ≡ len → length bs ≡ len + length rest → len ≡ 4 + length content
     → drop 4 bs ≡ content ++ rest → is_reserved id ≡ false → set_at bs ≡ Ok (record { id = id; content = content }, rest)
@@ -65,11 +67,11 @@ header_back bs h time sequence domain =
 frame_back : (n : ℕ) → 16 ≤ n → frame_of n 10 n ≡ whole n
 frame_back n h = rw (le-ltb n 16 h, le-ltb n n (omega arith)) refl
 
-framed_back : (bs : List ℕ) (n : ℕ) → number_at w16 0 bs ≡ 10 → number_at w16 2 bs ≡ n → length bs ≡ n → 16 ≤ n → framed bs ≡ whole n
-framed_back bs n version size there h =
+frame_at-back : (bs : List ℕ) (n : ℕ) → number_at w16 0 bs ≡ 10 → number_at w16 2 bs ≡ n → length bs ≡ n → 16 ≤ n → frame_at bs ≡ whole n
+frame_at-back bs n version size there h =
     ap (λ (x : ℕ). frame_of x (number_at w16 0 bs) (number_at w16 2 bs)) there ∙ ap (λ (x : ℕ). frame_of n x (number_at w16 2 bs)) version ∙ ap (λ (x : ℕ). frame_of n 10 x) size ∙ frame_back n h
 
-front_back : (bs body : List ℕ) (h : Header) (n : ℕ) (parts : List SetParts) → framed bs ≡ whole n → header_of bs ≡ h → length bs ≡ n → drop 16 bs ≡ body → sets_of body ≡ Ok parts
+front_back : (bs body : List ℕ) (h : Header) (n : ℕ) (parts : List SetParts) → frame_at bs ≡ whole n → header_of bs ≡ h → length bs ≡ n → drop 16 bs ≡ body → sets_of body ≡ Ok parts
     → front bs ≡ complete (record { octets = n; header = h; sets = parts })
 front_back bs body h n parts f g there d e =
     ap (front_by bs) f ∙ ap (λ (x : Header). with_sets n x (sets_of (drop 16 (take n bs)))) g
@@ -85,6 +87,6 @@ message_back h ss m =
     let bs : List ℕ = message_octets h ss in
     let there : length bs ≡ message_length ss = message_octets-length h ss in
     front_back bs (sets_octets ss) h (message_length ss) ss
-    (framed_back bs (message_length ss) refl (from_be_bytes-to_be_bytes_2 (message_length ss) (omega (arith, m.length_is))) there (omega arith))
+    (frame_at-back bs (message_length ss) refl (from_be_bytes-to_be_bytes_2 (message_length ss) (omega (arith, m.length_is))) there (omega arith))
     (header_back bs h (from_be_bytes-to_be_bytes_4 h.export_time m.time) (from_be_bytes-to_be_bytes_4 h.sequence_number m.sequence) (from_be_bytes-to_be_bytes_4 h.observation_domain m.domain))
     there refl (sets_back ss m.ids (omega (arith, m.length_is)))

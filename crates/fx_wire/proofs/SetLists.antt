@@ -4,7 +4,9 @@ use Rattle.std.proofs.lemmas.Bool.Decides.{nat_tests}
 use Rattle.std.specs.Int.{w16}
 use Rattle.std.specs.Prelude.{is_ok}
 use Rattle.fx_wire.specs.Numbers.{number_at}
-use Rattle.fx_wire.specs.Sets.{SetParts, set_at, sets_in, sets_of, before_sets, is_reserved, told}
+use Rattle.fx_wire.specs.Sets.{SetParts, set_at, sets_in, sets_of, before_sets, is_reserved, sets_or_none}
+use Rattle.fx_wire.specs.declared.malformed.Malformed.{Malformed}
+use Rattle.fx_wire.specs.declared.malformed.Malformed.TheVariants as malformed
 
 pub chosen : {A : Type 0} (t : Bool) (x y z : A) → cond t x y ≡ z → ((t ≡ true) × (x ≡ z)) ⊎ ((t ≡ false) × (y ≡ z))
 chosen true x y z e = inl (refl, e)
@@ -14,7 +16,7 @@ pub or_false : (a b : Bool) → (a || b) ≡ false → (a ≡ false) × (b ≡ f
 or_false true b e = absurd cc
 or_false false b e = (refl, e)
 
-abbrev rest_or : List ℕ → Result (SetParts × List ℕ) ℕ → List ℕ
+abbrev rest_or : List ℕ → Result (SetParts × List ℕ) Malformed → List ℕ
 rest_or other (Ok p) = p.1
 rest_or other (Err n) = other
 
@@ -22,11 +24,11 @@ rest_or other (Err n) = other
 pub shorter : (bs : List ℕ) (p : SetParts × List ℕ) → set_at bs ≡ Ok p → (n : ℕ) × (4 ≤ n) × (n ≤ length bs) × (drop n bs ≡ p.1)
 shorter bs p e =
     let s : ℕ = number_at w16 2 bs in
-    elim (chosen (ltb (length bs) 4) (Err 613) _ (Ok p) e) [
+    elim (chosen (ltb (length bs) 4) (Err malformed.SetLength) _ (Ok p) e) [
       | inl h ↦ absurd cc
-      | inr h ↦ elim (chosen (ltb s 4 || ltb (length bs) s) (Err 613) _ (Ok p) h.1) [
+      | inr h ↦ elim (chosen (ltb s 4 || ltb (length bs) s) (Err malformed.SetLength) _ (Ok p) h.1) [
         | inl i ↦ absurd cc
-        | inr i ↦ elim (chosen (is_reserved (number_at w16 0 bs)) (Err 615) _ (Ok p) i.1) [
+        | inr i ↦ elim (chosen (is_reserved (number_at w16 0 bs)) (Err malformed.SetId) _ (Ok p) i.1) [
           | inl j ↦ absurd cc
           | inr j ↦ let o = or_false (ltb s 4) (ltb (length bs) s) i.0 in (s, ltb-false s 4 o.0, ltb-false (length bs) s o.1, ap (rest_or []) j.1)
         ]
@@ -34,12 +36,12 @@ shorter bs p e =
     ]
 
 -- one turn, by the set at the front
-abbrev turn : ℕ → Result (SetParts × List ℕ) ℕ → Result (List SetParts) ℕ
+abbrev turn : ℕ → Result (SetParts × List ℕ) Malformed → Result (List SetParts) Malformed
 turn turns (Ok first) = before_sets first.0 (sets_in turns first.1)
 turn turns (Err n) = Err n
 
 step_same : (j k : ℕ) (bs : List ℕ) → ((rest : List ℕ) → length rest < length bs → sets_in j rest ≡ sets_in k rest)
-    → (r : Result (SetParts × List ℕ) ℕ) → set_at bs ≡ r → turn j r ≡ turn k r
+    → (r : Result (SetParts × List ℕ) Malformed) → set_at bs ≡ r → turn j r ≡ turn k r
 step_same j k bs ih (Ok p) e =
     let s = shorter bs p e in
     ap (before_sets p.0) (ih p.1 (omega (arith, s.1, s.2, ap length s.3, length-drop s.0 bs)))
@@ -70,20 +72,20 @@ sets_of-first (b ∷ bs) p e =
     let less : length p.1 < length (b ∷ bs) = omega (arith, s.1, s.2, ap length s.3, length-drop s.0 (b ∷ bs)) in
     (ap (turn (length bs)) e ∙ ap (before_sets p.0) (turns_same (length bs) (length p.1) p.1 (omega arith) (omega arith)), less)
 
-pub sets_of-refused : (bs : List ℕ) (n : ℕ) → 0 < length bs → set_at bs ≡ Err n → sets_of bs ≡ Err n
+pub sets_of-refused : (bs : List ℕ) (n : Malformed) → 0 < length bs → set_at bs ≡ Err n → sets_of bs ≡ Err n
 unfolding sets_of sets_in
 sets_of-refused [] n h e = absurd (omega arith)
 sets_of-refused (b ∷ bs) n h e = ap (turn (length bs)) e
 
-pub is_ok-before : (first : SetParts) (r : Result (List SetParts) ℕ) → is_ok (before_sets first r) ≡ is_ok r
+pub is_ok-before : (first : SetParts) (r : Result (List SetParts) Malformed) → is_ok (before_sets first r) ≡ is_ok r
 is_ok-before first (Ok ss) = refl
 is_ok-before first (Err n) = refl
 
-pub told-before : (first : SetParts) (r : Result (List SetParts) ℕ) → is_ok r ≡ true → told (before_sets first r) ≡ first ∷ told r
-told-before first (Ok ss) e = refl
-told-before first (Err n) e = absurd cc
+pub sets_or_none-before : (first : SetParts) (r : Result (List SetParts) Malformed) → is_ok r ≡ true → sets_or_none (before_sets first r) ≡ first ∷ sets_or_none r
+sets_or_none-before first (Ok ss) e = refl
+sets_or_none-before first (Err n) e = absurd cc
 
-pub err_before : (first : SetParts) (r : Result (List SetParts) ℕ) (n : ℕ) → r ≡ Err n → before_sets first r ≡ Err n
+pub err_before : (first : SetParts) (r : Result (List SetParts) Malformed) (n : Malformed) → r ≡ Err n → before_sets first r ≡ Err n
 err_before first (Ok ss) n e = absurd cc
 err_before first (Err m) n e = e
 

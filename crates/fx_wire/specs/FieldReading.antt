@@ -3,14 +3,15 @@ use Rattle.std.specs.Prelude.{◌≡◌, ℕ, ◌+◌, ◌≤◌, List, Option, 
 use Rattle.std.specs.Borrow.{Bor}
 use Rattle.fx_wire.specs.Fields.{field_at}
 use Rattle.fx_wire.specs.declared.field.FieldSpecifier.{FieldSpecifier}
+use Rattle.fx_wire.specs.declared.malformed.Malformed.{Malformed}
 
 abbrev pub with_rest : Option (FieldSpecifier × Bor (List ℕ)) → Option (FieldSpecifier × List ℕ)
 with_rest None = None
 with_rest (Some p) = Some (p.0, p.1.now)
 
-abbrev pub field_with_rest : Result (FieldSpecifier × Bor (List ℕ)) ℕ → Result (FieldSpecifier × List ℕ) ℕ
+abbrev pub field_with_rest : Result (FieldSpecifier × Bor (List ℕ)) Malformed → Result (FieldSpecifier × List ℕ) Malformed
 field_with_rest (Ok p) = Ok (p.0, p.1.now)
-field_with_rest (Err n) = Err n
+field_with_rest (Err why) = Err why
 
 -- the fields that are still to come: how many, and the octets from the first one on
 pub record FieldsLeft : Type 0 where
@@ -18,7 +19,7 @@ pub record FieldsLeft : Type 0 where
   pub octets : List ℕ
 
 -- a step gives the field at the front, or its refusal, after which none is left
-abbrev pub IsNextField : FieldsLeft → Option (Result FieldSpecifier ℕ) → FieldsLeft → Type 0
+abbrev pub IsNextField : FieldsLeft → Option (Result FieldSpecifier Malformed) → FieldsLeft → Type 0
 IsNextField old None new = (old.count ≡ 0) × (new ≡ old)
 IsNextField old (Some (Ok f)) new = (old.count ≡ new.count + 1) × (field_at old.octets ≡ Ok (f, new.octets))
-IsNextField old (Some (Err n)) new = (new.count + 1 ≤ old.count) × (field_at old.octets ≡ Err n) × (new.count ≡ 0)
+IsNextField old (Some (Err why)) new = (new.count + 1 ≤ old.count) × (field_at old.octets ≡ Err why) × (new.count ≡ 0)

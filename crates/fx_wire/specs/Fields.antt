@@ -7,6 +7,8 @@ use Rattle.fx_elements.specs.Axes.{is_address, axis_width}
 use Rattle.fx_elements.specs.Elements.{element_numbered}
 use Rattle.fx_wire.specs.Numbers.{number_at}
 use Rattle.fx_wire.specs.declared.field.FieldSpecifier.{FieldSpecifier}
+use Rattle.fx_wire.specs.declared.malformed.Malformed.{Malformed}
+use Rattle.fx_wire.specs.declared.malformed.Malformed.TheVariants as malformed
 
 -- the specifier at the front and the octets after it, if it isn't cut
 abbrev pub specifier_at : List ℕ → Option (FieldSpecifier × List ℕ)
@@ -35,19 +37,19 @@ can_have _ n = nat_le 1 n
 abbrev pub stands : FieldSpecifier → Bool
 stands f = can_have (element_of f) f.field_length
 
-abbrev pub checked_field : Option (FieldSpecifier × List ℕ) → Result (FieldSpecifier × List ℕ) ℕ
-checked_field None = Err 614
-checked_field (Some p) = if stands p.0 then Ok p else Err 614
+abbrev pub checked_field : Option (FieldSpecifier × List ℕ) → Result (FieldSpecifier × List ℕ) Malformed
+checked_field None = Err malformed.Template
+checked_field (Some p) = if stands p.0 then Ok p else Err malformed.Template
 
--- the field at the front of what follows, or 614
-abbrev pub field_at : List ℕ → Result (FieldSpecifier × List ℕ) ℕ
+-- the field at the front of what follows, if it stands
+abbrev pub field_at : List ℕ → Result (FieldSpecifier × List ℕ) Malformed
 field_at octets = checked_field (specifier_at octets)
 
-abbrev pub before_fields : List FieldSpecifier → Result (List FieldSpecifier × List ℕ) ℕ → Result (List FieldSpecifier × List ℕ) ℕ
+abbrev pub before_fields : List FieldSpecifier → Result (List FieldSpecifier × List ℕ) Malformed → Result (List FieldSpecifier × List ℕ) Malformed
 before_fields firsts (Ok p) = Ok (firsts ++ p.0, p.1)
-before_fields firsts (Err n) = Err n
+before_fields firsts (Err why) = Err why
 
 -- so many fields and the octets after them, or the refusal of the first that doesn't stand
-unfoldable pub fields_in : ℕ → List ℕ → Result (List FieldSpecifier × List ℕ) ℕ
+unfoldable pub fields_in : ℕ → List ℕ → Result (List FieldSpecifier × List ℕ) Malformed
 fields_in zero octets = Ok ([], octets)
-fields_in (suc n) octets = elim (field_at octets) [ Ok f ↦ before_fields (f.0 ∷ []) (fields_in n f.1) | Err e ↦ Err e ]
+fields_in (suc n) octets = elim (field_at octets) [ Ok f ↦ before_fields (f.0 ∷ []) (fields_in n f.1) | Err why ↦ Err why ]

@@ -4,26 +4,28 @@ use Rattle.std.specs.Prelude.{ℕ, not, ◌==◌, nat_lt, if◌then◌else◌, L
 use Rattle.std.specs.Int.{w16, w32}
 use Rattle.fx_wire.specs.Numbers.{number_at}
 use Rattle.fx_wire.specs.declared.header.Header.{Header}
+use Rattle.fx_wire.specs.declared.malformed.Malformed.{Malformed}
+use Rattle.fx_wire.specs.declared.malformed.Malformed.TheVariants as malformed
 
 -- what the header at the front of a stream tells: that more octets are needed, how long the whole message that is there is,
 -- or why it is refused
-pub data Framed : Type 0 where
-  more : Framed
-  whole : ℕ → Framed
-  refused : ℕ → Framed
+pub data Frame : Type 0 where
+  more : Frame
+  whole : ℕ → Frame
+  refused : Malformed → Frame
 
 -- by how many octets there are, the version and the length that the header gives
-abbrev pub frame_of : ℕ → ℕ → ℕ → Framed
+abbrev pub frame_of : ℕ → ℕ → ℕ → Frame
 frame_of there version size =
     if nat_lt there 16 then more
-    else if not (version == 10) then refused 611
-    else if nat_lt size 16 then refused 612
+    else if not (version == 10) then refused malformed.Version
+    else if nat_lt size 16 then refused malformed.MessageLength
     else if nat_lt there size then more
     else whole size
 
 -- Fewer than 16 octets need more, whatever they are; so does a header whose message isn't all there yet.
-abbrev pub framed : List ℕ → Framed
-framed octets = frame_of (length octets) (number_at w16 0 octets) (number_at w16 2 octets)
+abbrev pub frame_at : List ℕ → Frame
+frame_at octets = frame_of (length octets) (number_at w16 0 octets) (number_at w16 2 octets)
 
 abbrev pub header_of : List ℕ → Header
 header_of octets = record {

@@ -7,4 +7,4 @@ use Rattle.fx_wire.specs.declared.message.Parsed.TheVariants as parsed
 abbrev pub front_of : Parsed → Front
 front_of parsed.NeedsMore = needs_more
 front_of (parsed.Message m) = complete m
-front_of (parsed.Refused n) = refusal n
+front_of (parsed.Refused why) = refusal why

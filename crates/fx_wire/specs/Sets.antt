@@ -3,6 +3,8 @@ use Rattle.std.specs.Prelude.{ℕ, zero, suc, ◌-◌, ◌&&◌, ◌||◌, Bool,
 use Rattle.std.specs.Int.{w16}
 use Rattle.fx_wire.specs.Numbers.{number_at}
 use Rattle.fx_wire.specs.declared.set.Set.{Set}
+use Rattle.fx_wire.specs.declared.malformed.Malformed.{Malformed}
+use Rattle.fx_wire.specs.declared.malformed.Malformed.TheVariants as malformed
 
 -- a set is its id and the octets after its header
 pub record SetParts : Type 0 where
@@ -17,28 +19,28 @@ set_parts s = record { id = s.id; content = s.content.now }
 abbrev pub is_reserved : ℕ → Bool
 is_reserved id = nat_lt id 256 && (not (id == 2) && not (id == 3))
 
--- the set at the front and the octets after it, or the number of the refusal
-abbrev pub set_at : List ℕ → Result (SetParts × List ℕ) ℕ
+-- the set at the front and the octets after it, or what is refused
+abbrev pub set_at : List ℕ → Result (SetParts × List ℕ) Malformed
 set_at octets =
-    if nat_lt (length octets) 4 then Err 613
-    else if nat_lt (number_at w16 2 octets) 4 || nat_lt (length octets) (number_at w16 2 octets) then Err 613
-    else if is_reserved (number_at w16 0 octets) then Err 615
+    if nat_lt (length octets) 4 then Err malformed.SetLength
+    else if nat_lt (number_at w16 2 octets) 4 || nat_lt (length octets) (number_at w16 2 octets) then Err malformed.SetLength
+    else if is_reserved (number_at w16 0 octets) then Err malformed.SetId
     else Ok (record { id = number_at w16 0 octets; content = take (number_at w16 2 octets - 4) (drop 4 octets) }, drop (number_at w16 2 octets) octets)
 
-abbrev pub before_sets : SetParts → Result (List SetParts) ℕ → Result (List SetParts) ℕ
+abbrev pub before_sets : SetParts → Result (List SetParts) Malformed → Result (List SetParts) Malformed
 before_sets first (Ok others) = Ok (first ∷ others)
-before_sets first (Err n) = Err n
+before_sets first (Err why) = Err why
 
 -- The sets, one after another, or the first refusal. Each has an octet at least, so as many turns do as there are octets.
-unfoldable pub sets_in : ℕ → List ℕ → Result (List SetParts) ℕ
+unfoldable pub sets_in : ℕ → List ℕ → Result (List SetParts) Malformed
 sets_in turns [] = Ok []
-sets_in zero (b ∷ bs) = Err 613
-sets_in (suc turns) (b ∷ bs) = elim (set_at (b ∷ bs)) [ Ok first ↦ before_sets first.0 (sets_in turns first.1) | Err n ↦ Err n ]
+sets_in zero (b ∷ bs) = Err malformed.SetLength
+sets_in (suc turns) (b ∷ bs) = elim (set_at (b ∷ bs)) [ Ok first ↦ before_sets first.0 (sets_in turns first.1) | Err why ↦ Err why ]
 
-unfoldable pub sets_of : List ℕ → Result (List SetParts) ℕ
+unfoldable pub sets_of : List ℕ → Result (List SetParts) Malformed
 sets_of octets = sets_in (length octets) octets
 
--- the sets where there is no refusal
-abbrev pub told : Result (List SetParts) ℕ → List SetParts
-told (Ok sets) = sets
-told (Err n) = []
+-- the sets, none where one is refused
+abbrev pub sets_or_none : Result (List SetParts) Malformed → List SetParts
+sets_or_none (Ok sets) = sets
+sets_or_none (Err why) = []

@@ -6,6 +6,8 @@ use Rattle.fx_wire.specs.declared.template.TemplateKind.{TemplateKind}
 use Rattle.fx_wire.specs.declared.template.TemplateKind.TheVariants as kinds
 use Rattle.fx_wire.specs.declared.template.TemplateHeading.{TemplateHeading}
 use Rattle.fx_wire.specs.declared.template.TemplateHeading.TheVariants.{Withdrawal, WithdrawalOfAll, Declaration}
+use Rattle.fx_wire.specs.declared.malformed.Malformed.{Malformed}
+use Rattle.fx_wire.specs.declared.malformed.Malformed.TheVariants as malformed
 
 -- the id of the sets with templates of a kind
 abbrev pub set_id : TemplateKind → ℕ
@@ -13,24 +15,24 @@ set_id kinds.Plain = 2
 set_id kinds.Options = 3
 
 -- a field count of 0 withdraws the template of an id, or all of the set's kind where the id is the set's own
-abbrev pub withdrawal : TemplateKind → ℕ → Result TemplateHeading ℕ
-withdrawal kind id = if nat_le 256 id then Ok (Withdrawal id) else if id == set_id kind then Ok WithdrawalOfAll else Err 614
+abbrev pub withdrawal : TemplateKind → ℕ → Result TemplateHeading Malformed
+withdrawal kind id = if nat_le 256 id then Ok (Withdrawal id) else if id == set_id kind then Ok WithdrawalOfAll else Err malformed.Template
 
 -- an options template tells how many of its fields are scope fields: at least one
-abbrev pub declaration : TemplateKind → ℕ → ℕ → List ℕ → Result (TemplateHeading × List ℕ) ℕ
+abbrev pub declaration : TemplateKind → ℕ → ℕ → List ℕ → Result (TemplateHeading × List ℕ) Malformed
 declaration kinds.Plain id count octets = Ok (Declaration (record { id = id; scope = 0; count = count }), drop 4 octets)
 declaration kinds.Options id count octets =
-    if nat_lt (length octets) 6 then Err 614
-    else if number_at w16 4 octets == 0 || nat_lt count (number_at w16 4 octets) then Err 614
+    if nat_lt (length octets) 6 then Err malformed.Template
+    else if number_at w16 4 octets == 0 || nat_lt count (number_at w16 4 octets) then Err malformed.Template
     else Ok (Declaration (record { id = id; scope = number_at w16 4 octets; count = count }), drop 6 octets)
 
-abbrev pub followed_by : List ℕ → Result TemplateHeading ℕ → Result (TemplateHeading × List ℕ) ℕ
+abbrev pub followed_by : List ℕ → Result TemplateHeading Malformed → Result (TemplateHeading × List ℕ) Malformed
 followed_by octets (Ok heading) = Ok (heading, octets)
-followed_by octets (Err n) = Err n
+followed_by octets (Err why) = Err why
 
--- what a template record of at least four octets begins with, and the octets after that, or 614
-abbrev pub heading_at : TemplateKind → List ℕ → Result (TemplateHeading × List ℕ) ℕ
+-- what a template record of at least four octets begins with, and the octets after that
+abbrev pub heading_at : TemplateKind → List ℕ → Result (TemplateHeading × List ℕ) Malformed
 heading_at kind octets =
     if number_at w16 2 octets == 0 then followed_by (drop 4 octets) (withdrawal kind (number_at w16 0 octets))
-    else if nat_lt (number_at w16 0 octets) 256 then Err 614
+    else if nat_lt (number_at w16 0 octets) 256 then Err malformed.Template
     else declaration kind (number_at w16 0 octets) (number_at w16 2 octets) octets

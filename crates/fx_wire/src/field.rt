@@ -4,6 +4,7 @@ ghost use Rattle.std.specs.Iterator.{at_most};
 ghost use Rattle.fx_wire.specs.Fields as fields;
 ghost use Rattle.fx_wire.specs.FieldReading as reading;
 
+use crate::malformed::Malformed;
 use crate::number::{u16_at, u32_at};
 use fx_elements::{Element, by_id, width};
 use std::marker::Model;
@@ -84,19 +85,15 @@ fn read_specifier(octets: &[u8]) -> Option<(FieldSpecifier, &[u8])>
 
 /// The field at the front and the octets behind it.
 ///
-/// Fails with 614 where it is cut or its element can't have its length.
-fn read_field(octets: &[u8]) -> Result<(FieldSpecifier, &[u8]), u16>
+/// Fails with [`Malformed::Template`] where it is cut or its element can't have its length.
+fn read_field(octets: &[u8]) -> Result<(FieldSpecifier, &[u8]), Malformed>
     ensures { reading.field_with_rest result ≡ fields.field_at octets.now }
 {
-    match read_specifier(octets) {
-        None => Err(614),
-        Some((field, rest)) => {
-            if can_have(field.element(), field.field_length) {
-                Ok((field, rest))
-            } else {
-                Err(614)
-            }
-        }
+    let (field, rest) = read_specifier(octets).ok_or(Malformed::Template)?;
+    if can_have(field.element(), field.field_length) {
+        Ok((field, rest))
+    } else {
+        Err(Malformed::Template)
     }
 }
 
@@ -135,14 +132,15 @@ impl<'a> FieldSpecifiers<'a> {
 }
 
 impl Iterator for FieldSpecifiers<'_> {
-    type Item = Result<FieldSpecifier, u16>;
+    type Item = Result<FieldSpecifier, Malformed>;
 
     ghost next_gives = { reading.IsNextField };
 
     ghost remaining = { λ f. at_most f.count };
 
-    /// The next field; 614 where it is cut or its element can't have its length, and then none follows.
-    fn next(&mut self) -> Option<Result<FieldSpecifier, u16>> {
+    /// The next field; [`Malformed::Template`] (614) where it is cut or its element can't have its length, and then
+    /// none follows.
+    fn next(&mut self) -> Option<Result<FieldSpecifier, Malformed>> {
         if self.left == 0 {
             return None;
         }
@@ -151,9 +149,9 @@ impl Iterator for FieldSpecifiers<'_> {
                 *self = FieldSpecifiers::new(self.left - 1, behind);
                 Some(Ok(field))
             }
-            Err(number) => {
+            Err(why) => {
                 self.left = 0;
-                Some(Err(number))
+                Some(Err(why))
             }
         }
     }

@@ -4,6 +4,7 @@
 
 mod field;
 mod header;
+mod malformed;
 mod message;
 mod number;
 mod put;
@@ -13,6 +14,7 @@ mod value;
 
 pub use field::{FieldSpecifier, FieldSpecifiers, can_have};
 pub use header::Header;
+pub use malformed::Malformed;
 pub use message::{Message, Parsed, parse};
 pub use put::{message_length, messages_are_read, put_message};
 pub use set::{Set, Sets};

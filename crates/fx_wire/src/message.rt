@@ -1,10 +1,11 @@
 //! Messages, lent from their octets.
 ghost use Rattle.std.specs.Prelude.{◌≡◌, ◌+◌, ◌≤◌, length, true, is_ok};
-ghost use Rattle.fx_wire.specs.Sets.{sets_of, told};
+ghost use Rattle.fx_wire.specs.Sets.{sets_of, sets_or_none};
 ghost use Rattle.fx_wire.specs.Messages as messages;
 ghost use Rattle.fx_wire.specs.MessageReading as reading;
 
 use crate::header::Header;
+use crate::malformed::Malformed;
 use crate::number::u16_at;
 use crate::set::{Sets, check_sets};
 use std::marker::Model;
@@ -18,7 +19,7 @@ pub struct Message<'a> {
 
 impl<'a> Model for Message<'a> {
     ghost use Rattle.std.specs.Prelude.{◌≡◌, ◌+◌, length, true, is_ok};
-    ghost use Rattle.fx_wire.specs.Sets.{sets_of, told};
+    ghost use Rattle.fx_wire.specs.Sets.{sets_of, sets_or_none};
     ghost use Rattle.fx_wire.specs.Messages as messages;
 
     ghost Value = { messages.Message };
@@ -27,7 +28,7 @@ impl<'a> Model for Message<'a> {
       octets = 16
           + length m.body.now;
       header = m.header;
-      sets = told (sets_of m.body.now);
+      sets = sets_or_none (sets_of m.body.now);
     } };
 
     ghost invariant = { λ m. is_ok (sets_of m.body.now) ≡ true };
@@ -40,9 +41,8 @@ pub enum Parsed<'a> {
     NeedsMore,
     /// A whole message.
     Message(Message<'a>),
-    /// Why there is no message: 611 a version other than 10, 612 a message length below 16, 613 a set's length,
-    /// 615 a reserved set id.
-    Refused(u16),
+    /// Why there is no message: its version, its length, a set's length or a set's id.
+    Refused(Malformed),
 }
 
 impl<'a> Message<'a> {
@@ -80,18 +80,18 @@ pub fn parse(octets: &[u8]) -> Parsed<'_>
         return Parsed::NeedsMore;
     }
     if u16_at(octets, 0) != 10 {
-        return Parsed::Refused(611);
+        return Parsed::Refused(Malformed::Version);
     }
     let length = u16_at(octets, 2) as usize;
     if length < 16 {
-        return Parsed::Refused(612);
+        return Parsed::Refused(Malformed::MessageLength);
     }
     if octets.len() < length {
         return Parsed::NeedsMore;
     }
     let body = octets.split_at(length).0.split_at(16).1;
-    if let Err(number) = check_sets(body) {
-        return Parsed::Refused(number);
+    if let Err(why) = check_sets(body) {
+        return Parsed::Refused(why);
     }
     Parsed::Message(Message {
         header: Header::read(octets),

@@ -2,8 +2,9 @@
 ghost use Rattle.std.specs.Prelude.{◌≡◌, ◌-◌, ◌&&◌, not, ◌==◌, nat_lt, length, Ok, Err, true, is_ok};
 ghost use Rattle.std.specs.Iterator.{YieldsFirstBy, item_count};
 ghost use Rattle.fx_wire.specs.Parsing.{IsSetAt, SetsStand};
-ghost use Rattle.fx_wire.specs.Sets.{set_parts, sets_of, told, is_reserved};
+ghost use Rattle.fx_wire.specs.Sets.{set_parts, sets_of, sets_or_none, is_reserved};
 
+use crate::malformed::Malformed;
 use crate::number::u16_at;
 use std::marker::Model;
 
@@ -25,21 +26,21 @@ fn is_reserved_id(id: u16) -> bool
 
 /// The set at the front and the octets behind it.
 ///
-/// Fails with 613 where the octets are fewer than four, or the set's length is below four or past them, and
-/// otherwise with 615 where its id is reserved.
-pub(crate) fn read_set(octets: &[u8]) -> Result<(Set<'_>, &[u8]), u16>
+/// Fails with [`Malformed::SetLength`] where the octets are fewer than four, or the set's length is below four or past
+/// them, and otherwise with [`Malformed::SetId`] where its id is reserved.
+pub(crate) fn read_set(octets: &[u8]) -> Result<(Set<'_>, &[u8]), Malformed>
     ensures { IsSetAt octets.now result }
 {
     if octets.len() < 4 {
-        return Err(613);
+        return Err(Malformed::SetLength);
     }
     let length = u16_at(octets, 2) as usize;
     if length < 4 || octets.len() < length {
-        return Err(613);
+        return Err(Malformed::SetLength);
     }
     let id = u16_at(octets, 0);
     if is_reserved_id(id) {
-        return Err(615);
+        return Err(Malformed::SetId);
     }
     let (set, rest) = octets.split_at(length);
     let content = set.split_at(4).1;
@@ -47,15 +48,12 @@ pub(crate) fn read_set(octets: &[u8]) -> Result<(Set<'_>, &[u8]), u16>
 }
 
 /// Whether the octets are sets, or the refusal of the first that isn't.
-pub(crate) fn check_sets(octets: &[u8]) -> Result<(), u16>
+pub(crate) fn check_sets(octets: &[u8]) -> Result<(), Malformed>
     ensures { SetsStand octets.now result }
 {
     let mut rest = octets;
     while !rest.is_empty() {
-        match read_set(rest) {
-            Ok((_set, behind)) => rest = behind,
-            Err(number) => return Err(number),
-        }
+        rest = read_set(rest)?.1;
     }
     Ok(())
 }
@@ -68,11 +66,11 @@ pub struct Sets<'a> {
 
 impl<'a> Model for Sets<'a> {
     ghost use Rattle.std.specs.Prelude.{◌≡◌, List, true, is_ok};
-    ghost use Rattle.fx_wire.specs.Sets.{SetParts, sets_of, told};
+    ghost use Rattle.fx_wire.specs.Sets.{SetParts, sets_of, sets_or_none};
 
     ghost Value = { List SetParts };
 
-    ghost view = { λ s. told (sets_of s.rest.now) };
+    ghost view = { λ s. sets_or_none (sets_of s.rest.now) };
 
     ghost invariant = { λ s. is_ok (sets_of s.rest.now) ≡ true };
 }
@@ -81,7 +79,7 @@ impl<'a> Sets<'a> {
     /// The sets in these octets, which are sets.
     pub(crate) fn new(octets: &'a [u8]) -> Sets<'a>
         requires { is_ok (sets_of octets.now) ≡ true }
-        ensures { result ≡ told (sets_of octets.now) }
+        ensures { result ≡ sets_or_none (sets_of octets.now) }
     {
         Sets { rest: octets }
     }

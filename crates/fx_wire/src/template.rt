@@ -3,6 +3,7 @@ ghost use Rattle.std.specs.Prelude.{◌≡◌, ◌≤◌, length};
 ghost use Rattle.fx_wire.specs.Templates as templates;
 ghost use Rattle.fx_wire.specs.TemplateReading as reading;
 
+use crate::malformed::Malformed;
 use crate::number::u16_at;
 
 /// What the records of a template are of.
@@ -35,7 +36,7 @@ pub enum TemplateHeading {
 }
 
 /// What a withdrawal of this id says.
-fn withdrawal(kind: TemplateKind, id: u16) -> Result<TemplateHeading, u16>
+fn withdrawal(kind: TemplateKind, id: u16) -> Result<TemplateHeading, Malformed>
     ensures { result ≡ templates.withdrawal kind id }
 {
     if id >= 256 {
@@ -48,7 +49,7 @@ fn withdrawal(kind: TemplateKind, id: u16) -> Result<TemplateHeading, u16>
     if id == own {
         Ok(TemplateHeading::WithdrawalOfAll)
     } else {
-        Err(614)
+        Err(Malformed::Template)
     }
 }
 
@@ -58,7 +59,7 @@ fn declaration(
     id: u16,
     count: u16,
     octets: &[u8],
-) -> Result<(TemplateHeading, &[u8]), u16>
+) -> Result<(TemplateHeading, &[u8]), Malformed>
     requires { 4 ≤ length octets.now }
     ensures { reading.with_rest result ≡ templates.declaration kind id count octets.now }
 {
@@ -73,11 +74,11 @@ fn declaration(
         }
         TemplateKind::Options => {
             if octets.len() < 6 {
-                return Err(614);
+                return Err(Malformed::Template);
             }
             let scope = u16_at(octets, 4);
             if scope == 0 || count < scope {
-                return Err(614);
+                return Err(Malformed::Template);
             }
             let new = NewTemplate { id, scope, count };
             Ok((TemplateHeading::Declaration(new), octets.split_at(6).1))
@@ -88,22 +89,23 @@ fn declaration(
 /// What the template record at the front begins with, and the octets behind that: those of its fields where it is a
 /// template, else the next record's.
 ///
-/// Fails with 614 where an id below 256 doesn't stand for the withdrawal of all templates of the kind, where the
-/// octets end before the fields, or where the number of scope fields is none or more than that of the fields.
-pub fn read_heading(kind: TemplateKind, octets: &[u8]) -> Result<(TemplateHeading, &[u8]), u16>
+/// Fails with [`Malformed::Template`] (614) where an id below 256 doesn't stand for the withdrawal of all templates of
+/// the kind, where the octets end before the fields, or where the number of scope fields is none or more than that of
+/// the fields.
+pub fn read_heading(
+    kind: TemplateKind,
+    octets: &[u8],
+) -> Result<(TemplateHeading, &[u8]), Malformed>
     requires { 4 ≤ length octets.now }
     ensures { reading.with_rest result ≡ templates.heading_at kind octets.now }
 {
     let id = u16_at(octets, 0);
     let count = u16_at(octets, 2);
     if count == 0 {
-        return match withdrawal(kind, id) {
-            Ok(heading) => Ok((heading, octets.split_at(4).1)),
-            Err(number) => Err(number),
-        };
+        return Ok((withdrawal(kind, id)?, octets.split_at(4).1));
     }
     if id < 256 {
-        return Err(614);
+        return Err(Malformed::Template);
     }
     declaration(kind, id, count, octets)
 }

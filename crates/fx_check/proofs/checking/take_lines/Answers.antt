@@ -1,6 +1,7 @@
 use Rattle.std.proofs.Common.{◌≡◌, ℕ, Some, [], sym, ap, ◌∙◌, inr, subst}
 use Rattle.std.proofs.lemmas.Result.{err_from_is_err_and}
 use Rattle.fx_check.specs.Judging.{judge_of}
+use Rattle.fx_check.specs.LineFaults.{number_of}
 use Rattle.fx_check.specs.Remaining.{goals}
 use Rattle.fx_check.specs.FirstRefusal.{after_reading, at_end, at_line, made_after, reading_of, whole}
 use Rattle.fx_base.proofs.GoingOn.{goes_then, to_line}
@@ -24,7 +25,7 @@ returns-then-not-branch-clause-numbers g c =
 
 pub returns-in-Err-clause-numbers : goal.returns-in-Err-clause-numbers
 returns-in-Err-clause-numbers g c =
-    inr (rw c.at_line.ensures (line_fault c.args.tables.now.net c.lines.course.made (goals c.args.targets.now c.lines.course) (reading_of (c.line.result.bytes.now, c.line.result.ended)) c.in-Err.number _ c.in-Err.ensures.after))
+    inr (rw (c.at_line.ensures, c.number-in-Err.ensures) (line_fault c.args.tables.now.net c.lines.course.made (goals c.args.targets.now c.lines.course) (reading_of (c.line.result.bytes.now, c.line.result.ended)) (number_of c.in-Err.fault) _ c.in-Err.ensures.after))
 
 pub lines-preserved : goal.lines-preserved
 lines-preserved g c =
@@ -58,4 +59,4 @@ returns-in-Err-clause-err g c =
     let judge = judge_of c.args.tables.now.net in
     let gs = goals c.args.targets.now c.lines.course in
     let wrong = lent_line (λ l. after_reading judge c.lines.course.made gs (reading_of l)) new c.line.result.bytes.now c.line.result.ended c.line.ensures.bytes c.line.ensures.ended ∙ c.in-Err.ensures.after in
-    inr (refuses_line judge c.args.lines.now c.lines.lines new (whole c.args.targets.now) gs c.lines.course.made c.in-Err.number c.at_line.result c.lines.invariant.reads at wrong (c.at_line.ensures ∙ ap (at_line c.in-Err.number) c.number-in-Err.ensures))
+    inr (refuses_line judge c.args.lines.now c.lines.lines new (whole c.args.targets.now) gs c.lines.course.made (number_of c.in-Err.fault) c.at_line.result c.lines.invariant.reads at wrong (c.at_line.ensures ∙ ap (λ (number : ℕ). at_line number c.number-in-Err-2.result) c.number-in-Err.ensures ∙ ap (at_line (number_of c.in-Err.fault)) c.number-in-Err-2.ensures))

@@ -5,9 +5,9 @@ use Rattle.fx_session.specs.DataSets.{Taken, option_set}
 use Rattle.fx_session.proofs.DataSteps.{option_set-more, option_set-refused, option_set-padding}
 use Rattle.fx_session.proofs.data_set.pass_records.Goals as goal
 
-pub returns-in-None-clause-done : goal.returns-in-None-clause-done
-returns-in-None-clause-done c = λ _.
-    let done = c.in-None.ensures ∙ ap (λ (fs : List FieldSpecifier). after_record fs c.loop-rest.rest.now) c.fields.ensures in
+pub returns-in_default-clause-done : goal.returns-in_default-clause-done
+returns-in_default-clause-done c = λ _.
+    let done = c.in_default.ensures ∙ ap (λ (fs : List FieldSpecifier). after_record fs c.loop-rest.rest.now) c.fields.ensures in
     c.loop-rest.invariant.same ∙ option_set-refused c.args.template.now.fields c.loop-rest.taken c.loop-rest.rest.now (omega arith) (omega arith) done
 
 pub loop-rest-smaller : goal.loop-rest-smaller

@@ -1,5 +1,7 @@
 use Rattle.std.proofs.Common.{◌∙◌, refl, ap, sym, drop, Some, [], arith}
 use Rattle.fx_session.specs.Messages.{Known}
+use Rattle.fx_session.specs.StreamFaults.{number_of}
+use Rattle.fx_session.specs.declared.stream_fault.StreamFault.TheVariants as faults
 use Rattle.fx_session.proofs.StreamSteps.{all_more, all_refused, goes_by, after_err, before_goes, all_none}
 use Rattle.fx_session.proofs.session.take_messages.Goals as goal
 
@@ -8,8 +10,8 @@ returns-in-NeedsMore-clause-read c = λ _. c.each.invariant.same ∙ all_more c.
 
 pub returns-in-Refused-clause-read : goal.returns-in-Refused-clause-read
 returns-in-Refused-clause-read c = λ _.
-    c.each.invariant.same ∙ all_refused c.each.known c.each.place c.in-Refused.number (drop c.each.at c.args.octets.now) (rw c.split_at.ensures.back at (sym c.in-Refused.ensures))
-    ∙ ap (λ (k : Known). record { known = k; place = c.each.place; rest = []; fault = Some c.in-Refused.number }) (sym c.forget.ensures)
+    c.each.invariant.same ∙ all_refused c.each.known c.each.place c.in-Refused.why (drop c.each.at c.args.octets.now) (rw c.split_at.ensures.back at (sym c.in-Refused.ensures))
+    ∙ ap (λ (k : Known). record { known = k; place = c.each.place; rest = []; fault = Some (number_of (faults.Malformed c.in-Refused.why)) }) (sym c.forget.ensures)
 
 pub each-preserved : goal.each-preserved
 each-preserved c =
@@ -27,7 +29,7 @@ each-smaller c =
 
 pub returns-in-Err-clause-read : goal.returns-in-Err-clause-read
 returns-in-Err-clause-read c = λ ne.
-    c.each.invariant.same ∙ after_err c.each.known c.take_message.new.self c.each.place c.each.at c.in-Message.message c.args.octets.now c.split_at.result.1.now c.in-Err.number c.split_at.ensures.back (sym c.in-Message.ensures) (c.in-Err.ensures.done (λ e. ne (ap Some e))) c.in-Err.ensures.forgets
+    c.each.invariant.same ∙ after_err c.each.known c.take_message.new.self c.each.place c.each.at c.in-Message.message c.args.octets.now c.split_at.result.1.now c.in-Err.fault c.split_at.ensures.back (sym c.in-Message.ensures) (c.in-Err.ensures.done (λ e. ne (ap Some e))) c.in-Err.ensures.forgets
 
 pub each-init : goal.each-init
 each-init c = record { bound = omega arith; before = all_none c.args.known.now c.args.place.now; same = refl }

@@ -1,0 +1,45 @@
+//! What is wrong with a line of a certificate.
+ghost use Rattle.std.specs.Prelude.{◌≡◌};
+ghost use Rattle.fx_check.specs.LineFaults.{number_of};
+
+/// Why a line of a certificate is refused.
+#[derive(Clone, Copy, Debug, PartialEq, Eq)]
+pub(crate) enum LineFault {
+    /// The first line isn't the one that certificates begin with.
+    Header,
+    /// The line is no item's text.
+    Form,
+    /// The item isn't in its place, or a leaf is of another kind than its class wants.
+    Place,
+    /// A split isn't strictly inside its region.
+    SplitPlace,
+    /// The text ends inside the line, or before the last one.
+    Cut,
+    /// The line stands behind the last one.
+    BehindEnd,
+    /// A split is too deep.
+    SplitDepth,
+    /// There are too many split and leaf lines.
+    LineCount,
+    /// A leaf isn't the sound one: the number of what is wrong with it.
+    Leaf(u16),
+}
+
+impl LineFault {
+    /// The fault's number: 401 to 405, 411, 412 and 414 in the variants' order, and the leaf's.
+    pub(crate) fn number(self) -> u16
+        ensures { result ≡ number_of self }
+    {
+        match self {
+            LineFault::Header => 401,
+            LineFault::Form => 402,
+            LineFault::Place => 403,
+            LineFault::SplitPlace => 404,
+            LineFault::Cut => 405,
+            LineFault::BehindEnd => 411,
+            LineFault::SplitDepth => 412,
+            LineFault::LineCount => 414,
+            LineFault::Leaf(number) => number,
+        }
+    }
+}

@@ -1,0 +1,72 @@
+//! What messages of a stream are refused for.
+ghost use Rattle.std.specs.Prelude.{◌≡◌};
+ghost use Rattle.fx_session.specs.StreamFaults.{number_of};
+
+use fx_wire::Malformed;
+use std::alloc::{AllocError, AllocFailed};
+
+/// Why a message of a stream is refused (RFC 7011), or couldn't be read for want of memory.
+#[derive(Clone, Copy, Debug, PartialEq, Eq)]
+pub(crate) enum StreamFault {
+    /// Its octets, or those of a template record, are no such thing.
+    Malformed(Malformed),
+    /// A template is declared under an id that stands for another one (section 8.1).
+    TemplateIdInUse,
+    /// A data set has no template (section 9).
+    NoTemplate,
+    /// A counter of flows has another length than 8 octets.
+    CounterLength,
+    /// A data record passes its set's end.
+    CutRecord,
+    /// A prefix is longer than its address.
+    PrefixLength,
+    /// There was no memory for what the message says.
+    OutOfMemory,
+}
+
+impl StreamFault {
+    /// The fault's number: that of what is malformed, 616 to 620 in the variants' order, and 900 for want of memory.
+    pub fn number(self) -> u16
+        ensures { result ≡ number_of self }
+    {
+        match self {
+            StreamFault::Malformed(why) => why.number(),
+            StreamFault::TemplateIdInUse => 616,
+            StreamFault::NoTemplate => 617,
+            StreamFault::CounterLength => 618,
+            StreamFault::CutRecord => 619,
+            StreamFault::PrefixLength => 620,
+            StreamFault::OutOfMemory => 900,
+        }
+    }
+}
+
+impl From<Malformed> for StreamFault {
+    ghost use Rattle.fx_session.specs.declared.stream_fault.StreamFault.TheVariants as faults;
+
+    ghost from_gives = { λ why fault. fault ≡ faults.Malformed why };
+
+    fn from(why: Malformed) -> StreamFault {
+        StreamFault::Malformed(why)
+    }
+}
+
+impl From<AllocError> for StreamFault {
+    ghost use Rattle.fx_session.specs.declared.stream_fault.StreamFault.TheVariants as faults;
+
+    ghost from_gives = { λ _ fault. fault ≡ faults.OutOfMemory };
+
+    fn from(_error: AllocError) -> StreamFault {
+        StreamFault::OutOfMemory
+    }
+}
+
+impl<T: Drop> From<AllocFailed<T>> for StreamFault {
+    ghost use Rattle.fx_session.specs.declared.stream_fault.StreamFault.TheVariants as faults;
+
+    ghost from_gives = { λ _ fault. fault ≡ faults.OutOfMemory };
+
+    fn from(_error: AllocFailed<T>) -> StreamFault {
+        StreamFault::OutOfMemory
+    }
+}
