@@ -1,11 +1,11 @@
 -- What a collection over octets comes to.
-use Rattle.std.proofs.Common.{◌≡◌, ◌⊎◌, ℕ, List, [], Option, Some, None, Result, Ok, Err, IfSome, IfOk, IfErr, unwrap_or, sym, ap, ◌∙◌, subst, inl, inr, arith}
+use Rattle.std.proofs.Common.{◌≡◌, ◌⊎◌, ℕ, List, [], Option, Some, None, Result, Ok, Err, IfOk, IfErr, unwrap_or, sym, ap, ◌∙◌, subst, inl, inr, arith}
 use Rattle.serde_json.specs.Data.{Data}
 use Rattle.serde_json.specs.Read.{read}
 use Rattle.fx_base.specs.declared.fault.Fault.{Fault}
 use Rattle.fx_base.specs.declared.fault.Place.{Place}
 use Rattle.fx_base.specs.declared.fault.Place.TheVariants as places
-use Rattle.fx_base.specs.Device.{MayHaveLeft}
+use Rattle.fx_base.specs.Device.{MayHaveLeft, Writes}
 use Rattle.fx_walk.specs.Walk.{FoundFault}
 use Rattle.fx_tables.specs.Classes.{Class}
 use Rattle.fx_tables.specs.Network.{Net}
@@ -17,31 +17,32 @@ use Rattle.fx_traffic.specs.Classes.{traffic_faults, traffic_of}
 use Rattle.fx_audit.specs.declared.answer.Answer.{Answer}
 use Rattle.fx_audit.specs.declared.answer.Answer.TheVariants.{Yes}
 use Rattle.fx_audit.specs.Commands.{IsCollected, IsRefusedCollect}
-use Rattle.fx_audit.specs.Documents.{IsDocument, IsFirstFault, IsNetworkDocument, IsPlannable, IsRefusedByDocuments, IsRefusedNetwork, IsTraffic, by_walk, by_plan, is_found}
+use Rattle.fx_audit.specs.Documents.{BothMayHaveLeft, IfDocumentsRefused, IfNetworkRefused, IsDocument, IsFirstFault, IsNetworkDocument, IsPlannable, IsRefusedByDocuments, IsRefusedNetwork, IsTraffic, by_walk, by_plan, is_found}
+use Rattle.fx_audit.specs.Outputs.{Prints}
 use Rattle.fx_audit.specs.Streams.{IsRefusedStream, IsStreamText, EndsWithMessage, stream_read}
 use Rattle.fx_audit.proofs.Documents.{both_told, first_told}
 
 -- ---- a stream at the report of a network
 
-abbrev Collects : Net → (List ℕ → Type 0) → List ℕ → Type 0
-Collects net W octets = EndsWithMessage (stream_read octets) × ((text : List ℕ) × IsStreamText net.report_layout (stream_read octets).known text × W text)
+abbrev Collects : Net → Option (List ℕ) → Option (List ℕ) → List ℕ → Type 0
+Collects net old new octets = EndsWithMessage (stream_read octets) × Prints (IsStreamText net.report_layout (stream_read octets).known) old new
 
-pub collect_done : (left_n left_s : Option (List ℕ)) (network : NetworkDocument) (net : Net) (W : List ℕ → Type 0) (result : Result Answer Fault) → net ≡ net_of network → MayHaveLeft left_n (λ n. IsNetworkDocument n network)
-    → IfOk result (λ a. (a ≡ Yes) × MayHaveLeft left_s (λ octets. Collects net W octets)) → IfOk result (λ a. (a ≡ Yes) × MayHaveLeft left_n (λ n. MayHaveLeft left_s (λ octets. (text : List ℕ) × IsCollected n octets text × W text)))
-collect_done left_n left_s network net W (Err e) is n h = cc
-collect_done left_n left_s network net W (Ok a) is n h =
-    (h.0, both_told left_n left_s (λ o. IsNetworkDocument o network) (Collects net W) (λ o octets. (text : List ℕ) × IsCollected o octets text × W text) n h.1 (λ o octets p c. told o octets p c)) where
-      told : (o octets : List ℕ) → IsNetworkDocument o network → Collects net W octets → (text : List ℕ) × IsCollected o octets text × W text
+pub collect_done : (left_n left_s : Option (List ℕ)) (network : NetworkDocument) (net : Net) (old new : Option (List ℕ)) (result : Result Answer Fault) → net ≡ net_of network → MayHaveLeft left_n (λ n. IsNetworkDocument n network)
+    → IfOk result (λ a. (a ≡ Yes) × MayHaveLeft left_s (λ octets. Collects net old new octets)) → IfOk result (λ a. (a ≡ Yes) × BothMayHaveLeft left_n left_s (λ n octets. Prints (IsCollected n octets) old new))
+collect_done left_n left_s network net old new (Err e) is n h = cc
+collect_done left_n left_s network net old new (Ok a) is n h =
+    (h.0, both_told left_n left_s (λ o. IsNetworkDocument o network) (Collects net old new) (λ o octets. Prints (IsCollected o octets) old new) n h.1 (λ o octets p c. told o octets p c)) where
+      told : (o octets : List ℕ) → IsNetworkDocument o network → Collects net old new octets → Prints (IsCollected o octets) old new
       told o octets p c =
           let text = c.1.0 in
           let is_text : IsStreamText net.report_layout (stream_read octets).known text = c.1.1 in
           let here : IsStreamText (net_of network).report_layout (stream_read octets).known text = subst (λ (x : Net). IsStreamText x.report_layout (stream_read octets).known text) is is_text in
-          let written : W text = c.1.2 in
+          let written : Writes old new text = c.1.2 in
           (text, record { network = network; network_is = p; whole = c.0; text_is = here }, written)
 
 pub collect_refused : (left_n left_s : Option (List ℕ)) (network : NetworkDocument) (N F W : Fault → Type 0) (M : Fault → Type 0) (result : Result Answer Fault) → MayHaveLeft left_n (λ n. IsNetworkDocument n network)
     → IfErr result (λ e. M e ⊎ (F e ⊎ (W e ⊎ MayHaveLeft left_s (λ octets. IsRefusedStream (stream_read octets) e))))
-    → IfErr result (λ e. M e ⊎ (N e ⊎ (F e ⊎ (W e ⊎ MayHaveLeft left_n (λ n. MayHaveLeft left_s (λ octets. IsRefusedCollect n octets e))))))
+    → IfErr result (λ e. M e ⊎ (N e ⊎ (F e ⊎ (W e ⊎ BothMayHaveLeft left_n left_s (λ n octets. IsRefusedCollect n octets e)))))
 collect_refused left_n left_s network N F W M (Ok a) n h = cc
 collect_refused left_n left_s network N F W M (Err e) n h =
     elim h [
@@ -83,25 +84,25 @@ not_refused octets network e n (by_plan other document refuses) =
     unrefused network e n.plannable (subst (λ (x : NetworkDocument). RefusesNetwork x e) (same_network octets network other n.document document) refuses)
 
 -- so what holds of a network that is refused holds where the network was read
-pub network_faultless : (left : Option (List ℕ)) (network : NetworkDocument) (A : Type 0) → MayHaveLeft left (λ n. IsNetworkDocument n network) → IfSome left (λ n. (e : Fault) → IsRefusedNetwork n e → A)
+pub network_faultless : (left : Option (List ℕ)) (network : NetworkDocument) (A : Type 0) → MayHaveLeft left (λ n. IsNetworkDocument n network) → IfNetworkRefused left A
 network_faultless None network A h = tt
 network_faultless (Some octets) network A h = λ e f. absurd (not_refused octets network e (subst (λ (n : List ℕ). IsNetworkDocument n network) h.1 h.2) f)
 
--- the same for two documents
+-- two documents that are read have no fault either
 not_refused_by : (n t : List ℕ) (network : NetworkDocument) (classes : List Class) (e : Fault) → IsNetworkDocument n network → IsTraffic network t classes → IsRefusedByDocuments n t e → ⊥
 not_refused_by n t network classes e is of (inl h) = not_refused n network e is h
 not_refused_by n t network classes e is of (inr h) =
     let same = same_network n network h.0 is.document h.1.document in
     faultless (traffic_faults (device_names network) []) (traffic_of (device_names network)) t classes e of (subst (λ (x : NetworkDocument). IsFirstFault (traffic_faults (device_names x) []) t e) same h.2)
 
-pub documents_faultless : (left_n left_t : Option (List ℕ)) (network : NetworkDocument) (classes : List Class) (A : Type 0) → MayHaveLeft left_n (λ n. IsNetworkDocument n network) → MayHaveLeft left_t (λ t. IsTraffic network t classes) → IfSome left_n (λ n. IfSome left_t (λ t. (e : Fault) → IsRefusedByDocuments n t e → A))
+pub documents_faultless : (left_n left_t : Option (List ℕ)) (network : NetworkDocument) (classes : List Class) (A : Type 0) → MayHaveLeft left_n (λ n. IsNetworkDocument n network) → MayHaveLeft left_t (λ t. IsTraffic network t classes) → IfDocumentsRefused left_n left_t A
 documents_faultless None left_t network classes A n t = tt
 documents_faultless (Some x) None network classes A n t = tt
 documents_faultless (Some x) (Some y) network classes A n t = λ e f.
     absurd (not_refused_by x y network classes e (subst (λ (o : List ℕ). IsNetworkDocument o network) n.1 n.2) (subst (λ (o : List ℕ). IsTraffic network o classes) t.1 t.2) f)
 
 -- the network's document is refused
-pub collect_unread : (left_n left_s : Option (List ℕ)) (e : Fault) (M N T W : Type 0) → M ⊎ (N ⊎ MayHaveLeft left_n (λ n. IsRefusedNetwork n e)) → M ⊎ (N ⊎ (T ⊎ (W ⊎ MayHaveLeft left_n (λ n. MayHaveLeft left_s (λ o. IsRefusedCollect n o e)))))
+pub collect_unread : (left_n left_s : Option (List ℕ)) (e : Fault) (M N T W : Type 0) → M ⊎ (N ⊎ MayHaveLeft left_n (λ n. IsRefusedNetwork n e)) → M ⊎ (N ⊎ (T ⊎ (W ⊎ BothMayHaveLeft left_n left_s (λ n o. IsRefusedCollect n o e))))
 collect_unread left_n left_s e M N T W h =
     elim h [
       | inl m ↦ inl m

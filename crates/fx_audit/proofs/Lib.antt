@@ -1,6 +1,7 @@
 pub mod Commands
 pub mod Documents
 pub mod Marks
+pub mod Refusals
 pub mod Replays
 pub mod Streams
 pub mod Collects

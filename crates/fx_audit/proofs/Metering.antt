@@ -2,7 +2,7 @@
 use Rattle.std.proofs.Common.{◌≡◌, ◌⊎◌, ℕ, Bool, List, [], drop, Option, Some, None, Result, Ok, Err, IfSome, IfOk, IfErr, refl, sym, subst, inl, inr}
 use Rattle.fx_base.specs.declared.fault.Fault.{Fault}
 use Rattle.fx_base.specs.declared.fault.Place.TheVariants as places
-use Rattle.fx_base.specs.Device.{MayBeLeft, MayHaveLeft}
+use Rattle.fx_base.specs.Device.{MayBeLeft, MayHaveLeft, Writes}
 use Rattle.fx_base.specs.Fault.{fault_at}
 use Rattle.fx_base.specs.Lines.{Lines}
 use Rattle.fx_tables.specs.Classes.{Class}
@@ -20,8 +20,9 @@ use Rattle.fx_conform.proofs.Paths.{declarations_have_paths}
 use Rattle.fx_conform.proofs.WholeRuns.{runs_are_complete}
 use Rattle.fx_audit.specs.declared.answer.Answer.{Answer}
 use Rattle.fx_audit.specs.declared.answer.Answer.TheVariants.{Yes}
-use Rattle.fx_audit.specs.Documents.{IsNetworkDocument, IsRefusedByDocuments, IsTraffic}
-use Rattle.fx_audit.specs.Metering.{IsMetered, IsMeteredIn, IsRefusedIn, IsRefusedMetering}
+use Rattle.fx_audit.specs.Documents.{BothMayHaveLeft, IsNetworkDocument, IsRefusedByDocuments, IsTraffic}
+use Rattle.fx_audit.specs.Metering.{IsMetered, IsMeteredIn, IsRefusedOver, IsRefusedMetering}
+use Rattle.fx_audit.specs.Outputs.{Prints}
 use Rattle.fx_audit.proofs.Documents.{both_mapped, both_told}
 
 -- ---- a capture that was opened
@@ -39,7 +40,7 @@ header_faultless (Some c) asked at A h = λ e refused.
 
 -- a run over it is refused
 pub refused_behind : (network : NetworkDocument) (classes : List Class) (left : Option (List ℕ)) (asked : ℕ) (unread : Type 0) (at to : CaptureState) (from last : Lines) (before : Put) (failed : Bool) (e : Fault) → IsOpened left asked at
-    → FailsOutside failed e ⊎ RefusesRun (begun network classes) at to from last before e → FailsOutside failed e ⊎ IsRefusedIn network classes left asked unread from last before e
+    → FailsOutside failed e ⊎ RefusesRun (begun network classes) at to from last before e → FailsOutside failed e ⊎ IsRefusedOver network classes left asked unread from last before e
 refused_behind network classes left asked unread at to from last before failed e opened (inl outside) = inl outside
 refused_behind network classes left asked unread at to from last before failed e opened (inr refused) = inr (inr (at, to, opened, refused))
 
@@ -58,22 +59,22 @@ run_complete network classes left asked from last before after text traffic_octe
     let paths : HavePaths classes = subst HavePaths (sym traffic.means) (declarations_have_paths (device_names network) [] traffic.value traffic.faultless) in
     runs_are_complete network classes metered.ran.at metered.ran.to from last before after metered.totals sound paths metered.ran.runs
 
-pub run_done : (left_n left_t left : Option (List ℕ)) (asked : ℕ) (network : NetworkDocument) (classes : List Class) (from last : Lines) (before after : Put) (W : List ℕ → Type 0) (result : Result Answer Fault)
+pub run_done : (left_n left_t left : Option (List ℕ)) (asked : ℕ) (network : NetworkDocument) (classes : List Class) (from last : Lines) (before after : Put) (old new : Option (List ℕ)) (result : Result Answer Fault)
     → IsSound (net_of network) → MayHaveLeft left_n (λ n. IsNetworkDocument n network) → MayHaveLeft left_t (λ t. IsTraffic network t classes)
-    → IfOk result (λ a. (a ≡ Yes) × ((text : List ℕ) × IsMeteredIn network classes left asked from last before after text × W text))
-    → IfOk result (λ a. (a ≡ Yes) × MayHaveLeft left_n (λ n. MayHaveLeft left_t (λ t. (text : List ℕ) × IsMetered n t left asked from last before after text × W text)))
-run_done left_n left_t left asked network classes from last before after W (Err e) sound n t h = tt
-run_done left_n left_t left asked network classes from last before after W (Ok a) sound n t h =
+    → IfOk result (λ a. (a ≡ Yes) × Prints (IsMeteredIn network classes left asked from last before after) old new)
+    → IfOk result (λ a. (a ≡ Yes) × BothMayHaveLeft left_n left_t (λ n t. Prints (IsMetered n t left asked from last before after) old new))
+run_done left_n left_t left asked network classes from last before after old new (Err e) sound n t h = tt
+run_done left_n left_t left asked network classes from last before after old new (Ok a) sound n t h =
     let text = h.1.0 in
     let metered : IsMeteredIn network classes left asked from last before after text = h.1.1 in
-    let written : W text = h.1.2 in
-    (h.0, both_told left_n left_t (λ o. IsNetworkDocument o network) (λ o. IsTraffic network o classes) (λ x y. (text' : List ℕ) × IsMetered x y left asked from last before after text' × W text') n t (λ x y p q. (text, record { network = network; classes = classes; network_is = p; traffic_is = q; metered = metered; complete = run_complete network classes left asked from last before after text y sound q metered }, written)))
+    let written : Writes old new text = h.1.2 in
+    (h.0, both_told left_n left_t (λ o. IsNetworkDocument o network) (λ o. IsTraffic network o classes) (λ x y. Prints (IsMetered x y left asked from last before after) old new) n t (λ x y p q. (text, record { network = network; classes = classes; network_is = p; traffic_is = q; metered = metered; complete = run_complete network classes left asked from last before after text y sound q metered }, written)))
 
 -- the run is refused, in the network and traffic that were read
 pub run_refused : (left_n left_t left : Option (List ℕ)) (asked : ℕ) (unread : Type 0) (network : NetworkDocument) (classes : List Class) (from last : Lines) (before : Put) (M N T W : Fault → Type 0) (result : Result Answer Fault)
     → MayHaveLeft left_n (λ n. IsNetworkDocument n network) → MayHaveLeft left_t (λ t. IsTraffic network t classes)
-    → IfErr result (λ e. M e ⊎ (W e ⊎ IsRefusedIn network classes left asked unread from last before e))
-    → IfErr result (λ e. M e ⊎ (N e ⊎ (T e ⊎ (W e ⊎ MayHaveLeft left_n (λ n. MayHaveLeft left_t (λ t. IsRefusedMetering n t left asked unread from last before e))))))
+    → IfErr result (λ e. M e ⊎ (W e ⊎ IsRefusedOver network classes left asked unread from last before e))
+    → IfErr result (λ e. M e ⊎ (N e ⊎ (T e ⊎ (W e ⊎ BothMayHaveLeft left_n left_t (λ n t. IsRefusedMetering n t left asked unread from last before e)))))
 run_refused left_n left_t left asked unread network classes from last before M N T W (Ok a) n t h = tt
 run_refused left_n left_t left asked unread network classes from last before M N T W (Err e) n t h =
     elim h [
@@ -85,8 +86,8 @@ run_refused left_n left_t left asked unread network classes from last before M N
 
 -- a document is refused
 pub run_unread : (left_n left_t left : Option (List ℕ)) (asked : ℕ) (unread : Type 0) (from last : Lines) (before : Put) (failed : Bool) (e : Fault) (N T W : Type 0)
-    → (e ≡ fault_at 900 places.None) ⊎ (N ⊎ (T ⊎ MayHaveLeft left_n (λ n. MayHaveLeft left_t (λ t. IsRefusedByDocuments n t e))))
-    → FailsOutside failed e ⊎ (N ⊎ (T ⊎ (W ⊎ MayHaveLeft left_n (λ n. MayHaveLeft left_t (λ t. IsRefusedMetering n t left asked unread from last before e)))))
+    → (e ≡ fault_at 900 places.None) ⊎ (N ⊎ (T ⊎ BothMayHaveLeft left_n left_t (λ n t. IsRefusedByDocuments n t e)))
+    → FailsOutside failed e ⊎ (N ⊎ (T ⊎ (W ⊎ BothMayHaveLeft left_n left_t (λ n t. IsRefusedMetering n t left asked unread from last before e))))
 run_unread left_n left_t left asked unread from last before failed e N T W h =
     elim h [
       | inl m ↦ inl (inl m)

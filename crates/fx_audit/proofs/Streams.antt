@@ -13,15 +13,15 @@ use Rattle.fx_collect.specs.Totals.{Totals, with_record, with_records}
 use Rattle.fx_session.proofs.InFront.{after_piece-behind}
 use Rattle.fx_session.proofs.StreamSteps.{all_none, after_piece-off, pieces}
 use Rattle.fx_session.specs.Streams.{IsNextRecord, SessionState, answer_of, behind, after_piece, start}
-use Rattle.fx_audit.specs.Streams.{IsTallied, drained, stream_read}
+use Rattle.fx_audit.specs.Streams.{IsTallied, without_waiting, stream_read}
 
 -- ---- one record after another
 
 pub next_tallied : (t : Totals) (r : Record) (old new : SessionState) → IsNextRecord old new (Some r) → with_records (with_record t r) new.known.waiting ≡ with_records t old.known.waiting
 next_tallied t r old new e = ap (λ (st : SessionState). with_records t st.known.waiting) (sym e)
 
-pub next_drained : (r : Record) (old new : SessionState) → IsNextRecord old new (Some r) → drained new ≡ drained old
-next_drained r old new e = ap drained (sym e)
+pub next_without_waiting : (r : Record) (old new : SessionState) → IsNextRecord old new (Some r) → without_waiting new ≡ without_waiting old
+next_without_waiting r old new e = ap without_waiting (sym e)
 
 pub next_smaller : (r : Record) (old new : SessionState) → IsNextRecord old new (Some r) → length new.known.waiting < length old.known.waiting
 next_smaller r old new e = let d = ap (λ (st : SessionState). length st.known.waiting) e in omega (arith, d)
@@ -30,9 +30,9 @@ pub none_tallied : (t : Totals) (old new : SessionState) → IsNextRecord old ne
 none_tallied t old new h = ap (with_records t) (sym h.0)
 
 -- a session in which no record waits
-pub none_drained : (old new : SessionState) → IsNextRecord old new None → new ≡ drained old
-none_drained old new h = h.1 ∙ empty old h.0 where
-  empty : (st : SessionState) → st.known.waiting ≡ [] → st ≡ drained st
+pub none_waiting : (old new : SessionState) → IsNextRecord old new None → new ≡ without_waiting old
+none_waiting old new h = h.1 ∙ empty old h.0 where
+  empty : (st : SessionState) → st.known.waiting ≡ [] → st ≡ without_waiting st
   empty st e = ap (λ (rs : List Record). let other : SessionState = record { known = record { domains = st.known.domains; waiting = rs; gaps = st.known.gaps; skipped = st.known.skipped }; place = st.place; rest = st.rest; fault = st.fault } in other) e
 
 -- ---- piece after piece
@@ -42,23 +42,23 @@ with_more t [] more = refl
 with_more t (r ∷ rs) more = with_more (with_record t r) rs more
 
 -- reading on, with the records taken out, is reading on and taking them out
-read_on : (st : SessionState) (piece : List ℕ) → after_piece st piece ≡ behind st.known.waiting (after_piece (drained st) piece)
-read_on st piece = ap (λ (s : SessionState). after_piece s piece) (same st) ∙ after_piece-behind st.known.waiting (drained st) piece where
-  same : (st : SessionState) → st ≡ behind st.known.waiting (drained st)
+read_on : (st : SessionState) (piece : List ℕ) → after_piece st piece ≡ behind st.known.waiting (after_piece (without_waiting st) piece)
+read_on st piece = ap (λ (s : SessionState). after_piece s piece) (same st) ∙ after_piece-behind st.known.waiting (without_waiting st) piece where
+  same : (st : SessionState) → st ≡ behind st.known.waiting (without_waiting st)
   same st = ap (λ (rs : List Record). let other : SessionState = record { known = record { domains = st.known.domains; waiting = rs; gaps = st.known.gaps; skipped = st.known.skipped }; place = st.place; rest = st.rest; fault = st.fault } in other) (sym (append-nil st.known.waiting))
 
 -- what is read of a stream after a piece more
-stream_on : (seen piece : List ℕ) (session : SessionState) → session ≡ drained (stream_read seen) → stream_read (seen ++ piece) ≡ behind (stream_read seen).known.waiting (after_piece session piece)
+stream_on : (seen piece : List ℕ) (session : SessionState) → session ≡ without_waiting (stream_read seen) → stream_read (seen ++ piece) ≡ behind (stream_read seen).known.waiting (after_piece session piece)
 stream_on seen piece session is =
     sym (pieces start seen piece) ∙ read_on (stream_read seen) piece ∙ ap (λ (s : SessionState). behind (stream_read seen).known.waiting (after_piece s piece)) (sym is)
 
-piece_tallied : (seen piece : List ℕ) (before totals totals' : Totals) (session session' : SessionState) → IsTallied seen before session totals → session' ≡ drained (after_piece session piece) → session'.fault ≡ None
+piece_tallied : (seen piece : List ℕ) (before totals totals' : Totals) (session session' : SessionState) → IsTallied seen before session totals → session' ≡ without_waiting (after_piece session piece) → session'.fault ≡ None
     → totals' ≡ with_records totals (after_piece session piece).known.waiting → IsTallied (seen ++ piece) before session' totals'
 piece_tallied seen piece before totals totals' session session' t is none are =
     let on = stream_on seen piece session t.session_is in
     let more = (after_piece session piece).known.waiting in
     record {
-      session_is = is ∙ sym (ap drained on);
+      session_is = is ∙ sym (ap without_waiting on);
       faultless = ap (λ (s : SessionState). s.fault) on ∙ sym (ap (λ (s : SessionState). s.fault) is) ∙ none;
       totals_are = are ∙ ap (λ (x : Totals). with_records x more) t.totals_are ∙ sym (with_more before (stream_read seen).known.waiting more) ∙ sym (ap (λ (s : SessionState). with_records before s.known.waiting) on);
     }
@@ -77,7 +77,7 @@ begun all before session calls none_made is =
       seen = [];
       parts = nothing_held all;
       tallied = record {
-        session_is = is ∙ sym (ap drained none);
+        session_is = is ∙ sym (ap without_waiting none);
         faultless = ap (λ (s : SessionState). s.fault) none;
         totals_are = sym (ap (λ (s : SessionState). with_records before s.known.waiting) none);
       };
@@ -88,7 +88,7 @@ begun all before session calls none_made is =
       nothing_held (Some octets) = refl
 
 pub read_further : (all left left' : Option (List ℕ)) (before totals totals' : Totals) (session session' : SessionState) (calls calls' : ℕ) (piece : List ℕ) → IsReadOn all left before session totals calls → calls' ≡ calls + 1 → prepend_known piece left' ≡ left
-    → 1 ≤ length piece → session' ≡ drained (after_piece session piece) → session'.fault ≡ None → totals' ≡ with_records totals (after_piece session piece).known.waiting → IsReadOn all left' before session' totals' calls'
+    → 1 ≤ length piece → session' ≡ without_waiting (after_piece session piece) → session'.fault ≡ None → totals' ≡ with_records totals (after_piece session piece).known.waiting → IsReadOn all left' before session' totals' calls'
 read_further all left left' before totals totals' session session' calls calls' piece h one reads some is none are = record {
   seen = h.seen ++ piece;
   parts = read_more h.seen piece left left' reads ∙ h.parts;

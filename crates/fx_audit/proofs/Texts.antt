@@ -1,5 +1,5 @@
 -- The text of an answer is of the answer's kind.
-use Rattle.std.proofs.Common.{ℕ, List, Result, Ok, Err, IfOk, inl, inr, ◌≡◌}
+use Rattle.std.proofs.Common.{ℕ, List, Option, Result, Ok, Err, IfOk, inl, inr, ◌≡◌, refl, sym, subst}
 use Rattle.fx_base.specs.declared.fault.Fault.{Fault}
 use Rattle.fx_base.specs.Lines.{Lines}
 use Rattle.fx_check.specs.FirstRefusal.{line_limit}
@@ -11,36 +11,46 @@ use Rattle.fx_audit.specs.declared.answer.Answer.{Answer}
 use Rattle.fx_audit.specs.declared.answer.Answer.TheVariants.{Yes, No, Unknown}
 use Rattle.fx_audit.specs.declared.bundle.Command.{Command}
 use Rattle.fx_audit.specs.declared.bundle.Command.TheVariants.{Audit, Replay, Check, Confirm}
+use Rattle.fx_audit.specs.Audits.{IsAuditedIn}
 use Rattle.fx_audit.specs.Checks.{IsAnswered}
 use Rattle.fx_audit.specs.Commands.{IsDone, IsReplayedIn}
-use Rattle.fx_audit.proofs.Audits.{audit_text}
-use Rattle.fx_audit.proofs.Confirms.{confirm_text}
-use Rattle.fx_audit.specs.Texts.{IsBundleText, IsCheckText, IsReplayText}
+use Rattle.fx_audit.specs.Confirms.{IsConfirmedIn}
+use Rattle.fx_audit.specs.Outputs.{Prints}
+use Rattle.fx_audit.specs.Texts.{IsAuditText, IsBundleText, IsCheckText, IsConfirmText, IsReplayText}
 
-check_text : (network : NetworkDocument) (classes : List Class) (lines : Lines) (answer : Answer) (text : List ℕ) → IsAnswered network classes lines answer text → IsCheckText answer text
+pub check_text : (network : NetworkDocument) (classes : List Class) (lines : Lines) (answer : Answer) (text : List ℕ) → IsAnswered network classes lines answer text → IsCheckText answer text
 check_text network classes lines Yes text h = h.text_is
 check_text network classes lines No text h = (h.fault, h.means_no, h.text_is)
 check_text network classes lines Unknown text h = absurd h
 
-replay_text : (network : NetworkDocument) (classes : List Class) (lines : Lines) (answer : Answer) (text : List ℕ) → answer ≡ Yes → IsReplayedIn network classes lines text → IsReplayText answer text
-replay_text network classes lines answer text done h = (done, ((net_of network).report_layout, told_state h.last, h.text_is))
+pub confirm_text : (network : NetworkDocument) (classes : List Class) (lines : Lines) (answer : Answer) (text : List ℕ) → IsConfirmedIn network classes lines answer text → IsConfirmText answer text
+confirm_text network classes lines Yes text h = (h.ran, h.plain, h.text_is)
+confirm_text network classes lines No text h = (h.fault, h.means_no, h.text_is)
+confirm_text network classes lines Unknown text h = absurd h
 
-bundle_text : (command : Command) (n t : List ℕ) (lines : Lines) (answer : Answer) (text : List ℕ) → IsDone command n t lines answer text → IsBundleText answer text
-bundle_text Replay n t lines answer text h = inl (replay_text h.1.network h.1.classes lines answer text h.0 h.1.replayed)
-bundle_text Check n t lines answer text h = inr (inl (check_text h.network h.classes lines answer text h.answered))
-bundle_text Confirm n t lines answer text h = inr (inr (inl (confirm_text h.network h.classes lines answer text h.answered)))
-bundle_text Audit n t lines answer text h = inr (inr (inr (audit_text h.network h.classes line_limit answer text h.audited)))
+pub audit_text : (network : NetworkDocument) (classes : List Class) (limit : ℕ) (answer : Answer) (text : List ℕ) → IsAuditedIn network classes limit answer text → IsAuditText answer text
+audit_text network classes limit Yes text h = (h.items, h.text_is)
+audit_text network classes limit No text h = (h.refutation, h.text_is)
+audit_text network classes limit Unknown text h = h.text_is
+
+pub replay_text : (network : NetworkDocument) (classes : List Class) (lines : Lines) (text : List ℕ) → IsReplayedIn network classes lines text → IsReplayText Yes text
+replay_text network classes lines text h = (refl, ((net_of network).report_layout, told_state h.last, h.text_is))
+
+pub bundle_text : (command : Command) (n t : List ℕ) (lines : Lines) (answer : Answer) (text : List ℕ) → IsDone command n t lines answer text → IsBundleText answer text
+bundle_text Replay n t lines answer text h = inl (subst (λ (a : Answer). IsReplayText a text) (sym h.0) (replay_text h.1.network h.1.classes lines text h.1.holds))
+bundle_text Check n t lines answer text h = inr (inl (check_text h.network h.classes lines answer text h.holds))
+bundle_text Confirm n t lines answer text h = inr (inr (inl (confirm_text h.network h.classes lines answer text h.holds)))
+bundle_text Audit n t lines answer text h = inr (inr (inr (audit_text h.network h.classes line_limit answer text h.holds)))
 
 -- ---- as the commands answer
 
-pub check_told : (network : NetworkDocument) (classes : List Class) (lines : Lines) (W : List ℕ → Type 0) (result : Result Answer Fault) → IfOk result (λ a. (text : List ℕ) × IsAnswered network classes lines a text × W text) → IfOk result (λ a. (text : List ℕ) × IsCheckText a text × W text)
-check_told network classes lines W (Err e) h = tt
-check_told network classes lines W (Ok a) h = (h.0, check_text network classes lines a h.0 h.1, h.2)
+-- an answer with a text of one kind is one with a text of another that it always is of too
+pub told_as : (P Q : Answer → List ℕ → Type 0) (old new : Option (List ℕ)) (result : Result Answer Fault) → ((a : Answer) (text : List ℕ) → P a text → Q a text)
+    → IfOk result (λ a. Prints (P a) old new) → IfOk result (λ a. Prints (Q a) old new)
+told_as P Q old new (Err e) means h = tt
+told_as P Q old new (Ok a) means h = (h.0, means a h.0 h.1, h.2)
 
-pub replay_told : (network : NetworkDocument) (classes : List Class) (lines : Lines) (W : List ℕ → Type 0) (result : Result Answer Fault) → IfOk result (λ a. (a ≡ Yes) × ((text : List ℕ) × IsReplayedIn network classes lines text × W text)) → IfOk result (λ a. (text : List ℕ) × IsReplayText a text × W text)
-replay_told network classes lines W (Err e) h = tt
-replay_told network classes lines W (Ok a) h = (h.1.0, replay_text network classes lines a h.1.0 h.0 h.1.1, h.1.2)
-
-pub bundle_told : (command : Command) (n t : List ℕ) (lines : Lines) (W : List ℕ → Type 0) (result : Result Answer Fault) → IfOk result (λ a. (text : List ℕ) × IsDone command n t lines a text × W text) → IfOk result (λ a. (text : List ℕ) × IsBundleText a text × W text)
-bundle_told command n t lines W (Err e) h = tt
-bundle_told command n t lines W (Ok a) h = (h.0, bundle_text command n t lines a h.0 h.1, h.2)
+pub yes_told_as : (P : List ℕ → Type 0) (Q : Answer → List ℕ → Type 0) (old new : Option (List ℕ)) (result : Result Answer Fault) → ((text : List ℕ) → P text → Q Yes text)
+    → IfOk result (λ a. (a ≡ Yes) × Prints P old new) → IfOk result (λ a. Prints (Q a) old new)
+yes_told_as P Q old new (Err e) means h = tt
+yes_told_as P Q old new (Ok a) means h = (h.1.0, subst (λ (x : Answer). Q x h.1.0) (sym h.0) (means h.1.0 h.1.1), h.1.2)

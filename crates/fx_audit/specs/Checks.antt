@@ -26,9 +26,13 @@ no_line e = codes "no " ++ (fault_text e ++ 10 ∷ [])
 
 -- ---- what is answered
 
+-- the number is one of these
+abbrev pub IsWithin : ℕ → ℕ → ℕ → Type 0
+IsWithin first last number = (first ≤ number) × (number ≤ last)
+
 -- a refusal with this number makes the answer no
 abbrev pub MeansNo : ℕ → Type 0
-MeansNo number = (401 ≤ number) × (number ≤ 415)
+MeansNo number = IsWithin 401 415 number
 
 abbrev pub IsFaultOf : Fault → Option Refusal → Type 0
 IsFaultOf e None = ⊥

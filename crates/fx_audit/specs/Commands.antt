@@ -20,7 +20,7 @@ use Rattle.fx_audit.specs.Checks.{IsAnswered, IsRefusedCertificate}
 use Rattle.fx_audit.specs.Confirms.{IsConfirmedIn, IsRefusedOtherwise}
 use Rattle.fx_audit.specs.declared.bundle.Command.{Command}
 use Rattle.fx_audit.specs.declared.bundle.Command.TheVariants.{Audit, Replay, Check, Confirm}
-use Rattle.fx_audit.specs.Documents.{IsNetworkDocument, IsRefusedByDocuments, IsRefusedNetwork, IsTraffic}
+use Rattle.fx_audit.specs.Documents.{InDocuments, IsNetworkDocument, IsRefusedByDocuments, IsRefusedIn, IsRefusedNetwork}
 use Rattle.fx_audit.specs.Replay.{IsRefused, IsTextOf}
 use Rattle.fx_audit.specs.Streams.{IsRefusedStream, IsStreamText, EndsWithMessage, stream_read}
 
@@ -34,13 +34,9 @@ pub record IsReplayedIn (network : NetworkDocument) (classes : List Class) (line
   pub steps : run (net_of network) classes run_read.packets run_read.steps (opening (net_of network) classes run_read.packets) ≡ Ok last
   pub text_is : IsTextOf (net_of network).report_layout (told_state last) text
 
--- the same in the network and traffic that two documents say
-pub record IsReplayed (network_octets traffic_octets : List ℕ) (lines : Lines) (text : List ℕ) : Type 0 where
-  pub network : NetworkDocument
-  pub classes : List Class
-  pub network_is : IsNetworkDocument network_octets network
-  pub traffic_is : IsTraffic network traffic_octets classes
-  pub replayed : IsReplayedIn network classes lines text
+-- the text that a replay prints in the network and traffic that two documents say
+abbrev pub IsReplayed : List ℕ → List ℕ → Lines → List ℕ → Type 0
+IsReplayed network_octets traffic_octets lines text = InDocuments (λ network classes. IsReplayedIn network classes lines text) network_octets traffic_octets
 
 -- the run's text is refused, in this network and traffic, or the run
 abbrev pub IsRefusedRun : NetworkDocument → List Class → Lines → Fault → Type 0
@@ -49,10 +45,7 @@ IsRefusedRun network classes lines e =
 
 -- the first refusal of a replay: that of the documents, then the run's
 abbrev pub IsRefusedReplay : List ℕ → List ℕ → Lines → Fault → Type 0
-IsRefusedReplay network_octets traffic_octets lines e =
-    IsRefusedByDocuments network_octets traffic_octets e
-    ⊎ ((network : NetworkDocument) × (classes : List Class) × IsNetworkDocument network_octets network × IsTraffic network traffic_octets classes
-    × IsRefusedRun network classes lines e)
+IsRefusedReplay network_octets traffic_octets lines e = IsRefusedIn (λ network classes. IsRefusedRun network classes lines e) network_octets traffic_octets e
 
 -- ---- a stream that is collected
 
@@ -72,46 +65,28 @@ IsRefusedCollect network_octets stream_octets e =
 -- ---- a certificate that is checked
 
 -- the answer to a certificate in the network and traffic that two documents say
-pub record IsChecked (network_octets traffic_octets : List ℕ) (lines : Lines) (answer : Answer) (text : List ℕ) : Type 0 where
-  pub network : NetworkDocument
-  pub classes : List Class
-  pub network_is : IsNetworkDocument network_octets network
-  pub traffic_is : IsTraffic network traffic_octets classes
-  pub answered : IsAnswered network classes lines answer text
+abbrev pub IsChecked : List ℕ → List ℕ → Lines → Answer → List ℕ → Type 0
+IsChecked network_octets traffic_octets lines answer text = InDocuments (λ network classes. IsAnswered network classes lines answer text) network_octets traffic_octets
 
 -- the first refusal of a check that is no answer: that of the documents, then the certificate's
 abbrev pub IsRefusedCheck : List ℕ → List ℕ → Lines → Fault → Type 0
-IsRefusedCheck network_octets traffic_octets lines e =
-    IsRefusedByDocuments network_octets traffic_octets e
-    ⊎ ((network : NetworkDocument) × (classes : List Class) × IsNetworkDocument network_octets network × IsTraffic network traffic_octets classes
-    × IsRefusedCertificate network classes lines e)
+IsRefusedCheck network_octets traffic_octets lines e = IsRefusedIn (λ network classes. IsRefusedCertificate network classes lines e) network_octets traffic_octets e
 
 -- ---- a refutation that is confirmed
 
 -- the answer to a refutation in the network and traffic that two documents say
-pub record IsConfirmed (network_octets traffic_octets : List ℕ) (lines : Lines) (answer : Answer) (text : List ℕ) : Type 0 where
-  pub network : NetworkDocument
-  pub classes : List Class
-  pub network_is : IsNetworkDocument network_octets network
-  pub traffic_is : IsTraffic network traffic_octets classes
-  pub answered : IsConfirmedIn network classes lines answer text
+abbrev pub IsConfirmed : List ℕ → List ℕ → Lines → Answer → List ℕ → Type 0
+IsConfirmed network_octets traffic_octets lines answer text = InDocuments (λ network classes. IsConfirmedIn network classes lines answer text) network_octets traffic_octets
 
 -- the first refusal of a confirmation that is no answer: that of the documents, then the refutation's
 abbrev pub IsRefusedConfirm : List ℕ → List ℕ → Lines → Fault → Type 0
-IsRefusedConfirm network_octets traffic_octets lines e =
-    IsRefusedByDocuments network_octets traffic_octets e
-    ⊎ ((network : NetworkDocument) × (classes : List Class) × IsNetworkDocument network_octets network × IsTraffic network traffic_octets classes
-    × IsRefusedOtherwise network classes lines e)
+IsRefusedConfirm network_octets traffic_octets lines e = IsRefusedIn (λ network classes. IsRefusedOtherwise network classes lines e) network_octets traffic_octets e
 
 -- ---- an audit
 
 -- the answer of an audit of the network and traffic that two documents say
-pub record IsAudited (network_octets traffic_octets : List ℕ) (limit : ℕ) (answer : Answer) (text : List ℕ) : Type 0 where
-  pub network : NetworkDocument
-  pub classes : List Class
-  pub network_is : IsNetworkDocument network_octets network
-  pub traffic_is : IsTraffic network traffic_octets classes
-  pub audited : IsAuditedIn network classes limit answer text
+abbrev pub IsAudited : List ℕ → List ℕ → ℕ → Answer → List ℕ → Type 0
+IsAudited network_octets traffic_octets limit answer text = InDocuments (λ network classes. IsAuditedIn network classes limit answer text) network_octets traffic_octets
 
 -- ---- a bundle
 

@@ -1,5 +1,5 @@
 -- What a refutation is answered with, and what is printed.
-use Rattle.std.specs.Prelude.{◌≡◌, ◌⊎◌, ℕ, ◌≤◌, List, ◌++◌, codes, Some, Ok, Err, IsPermutation}
+use Rattle.std.specs.Prelude.{◌≡◌, ◌⊎◌, ℕ, List, ◌++◌, codes, Some, Ok, Err, IsPermutation}
 use Rattle.fx_base.specs.declared.fault.Fault.{Fault}
 use Rattle.fx_base.specs.Lines.{Lines}
 use Rattle.fx_tables.specs.Classes.{Class}
@@ -11,7 +11,7 @@ use Rattle.fx_refute.specs.RefutationReading.{MayReadRefutation}
 use Rattle.fx_refute.specs.Refutations.{AreTotals, IsNoRefutation, Refutation, Refutes}
 use Rattle.fx_audit.specs.declared.answer.Answer.{Answer}
 use Rattle.fx_audit.specs.declared.answer.Answer.TheVariants.{Yes, No, Unknown}
-use Rattle.fx_audit.specs.Checks.{no_line}
+use Rattle.fx_audit.specs.Checks.{IsWithin, no_line}
 
 -- ---- what is printed
 
@@ -24,7 +24,7 @@ refuted_text ran plain =
 
 -- a refusal with this number makes the answer no
 abbrev pub RefutesNothing : ℕ → Type 0
-RefutesNothing number = (501 ≤ number) × (number ≤ 505)
+RefutesNothing number = IsWithin 501 505 number
 
 -- the same totals, with their keys in ascending order
 pub record IsInOrder (t sorted : Totals) : Type 0 where

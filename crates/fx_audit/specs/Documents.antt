@@ -1,11 +1,11 @@
 -- Documents as octets: JSON texts in UTF-8 (RFC 8259), and what a command's two documents say.
-use Rattle.std.specs.Prelude.{◌≡◌, ◌⊎◌, ℕ, ◌≤◌, Bool, List, [], length, IsUtf8, Option, Some, string_bytes}
+use Rattle.std.specs.Prelude.{◌≡◌, ◌⊎◌, ℕ, ◌≤◌, Bool, List, [], length, IsUtf8, IfSome, Option, Some, string_bytes}
 use Rattle.serde_json.specs.Data.{Data}
 use Rattle.serde_json.specs.Read.{read}
 use Rattle.fx_base.specs.declared.fault.Fault.{Fault}
 use Rattle.fx_base.specs.declared.fault.Place.{Place}
 use Rattle.fx_base.specs.declared.fault.Place.TheVariants as places
-use Rattle.fx_base.specs.Device.{IsUnread}
+use Rattle.fx_base.specs.Device.{IsUnread, MayHaveLeft}
 use Rattle.fx_base.specs.Fault.{fault_at}
 use Rattle.fx_walk.specs.Walk.{FoundFault, first}
 use Rattle.fx_tables.specs.Classes.{Class}
@@ -21,6 +21,10 @@ use Rattle.fx_traffic.specs.Classes.{traffic_faults, traffic_of}
 -- a source can't be read to its end: its last call failed, or it was called 2 to the 32 times and hasn't ended
 abbrev pub ReadFails : Option (List ℕ) → ℕ → ℕ → Bool → Fault → Type 0
 ReadFails left before after failed e = (e ≡ fault_at 901 places.None) × IsUnread left before after failed
+
+-- this source can't, by what it has left, how many calls were made of it and whether the last one failed
+abbrev pub CannotRead : {R : Type 0} → (R → Option (List ℕ)) → (R → ℕ) → (R → Bool) → R → R → Fault → Type 0
+CannotRead left calls failed old new e = ReadFails (left old) (calls old) (calls new) (failed new) e
 
 -- the octets are the text of this value
 abbrev pub IsJson : List ℕ → Data → Type 0
@@ -66,3 +70,30 @@ abbrev pub IsRefusedByDocuments : List ℕ → List ℕ → Fault → Type 0
 IsRefusedByDocuments network_octets traffic_octets e =
     IsRefusedNetwork network_octets e
     ⊎ ((network : NetworkDocument) × IsNetworkDocument network_octets network × IsFirstFault (traffic_faults (device_names network) []) traffic_octets e)
+
+-- what holds of octets that two sources may have left
+abbrev pub BothMayHaveLeft : Option (List ℕ) → Option (List ℕ) → (List ℕ → List ℕ → Type 0) → Type 0
+BothMayHaveLeft left_n left_t P = MayHaveLeft left_n (λ n. MayHaveLeft left_t (λ t. P n t))
+
+-- what holds where a network's document that is left is refused, and where one of two documents is
+abbrev pub IfNetworkRefused : Option (List ℕ) → Type 0 → Type 0
+IfNetworkRefused left P = IfSome left (λ n. (e : Fault) → IsRefusedNetwork n e → P)
+
+abbrev pub IfDocumentsRefused : Option (List ℕ) → Option (List ℕ) → Type 0 → Type 0
+IfDocumentsRefused left_n left_t P = IfSome left_n (λ n. IfSome left_t (λ t. (e : Fault) → IsRefusedByDocuments n t e → P))
+
+-- ---- the network and the traffic that two documents say
+
+-- what holds in them
+pub record InDocuments (P : NetworkDocument → List Class → Type 0) (network_octets traffic_octets : List ℕ) : Type 0 where
+  pub network : NetworkDocument
+  pub classes : List Class
+  pub network_is : IsNetworkDocument network_octets network
+  pub traffic_is : IsTraffic network traffic_octets classes
+  pub holds : P network classes
+
+-- the first refusal: that of the documents, then what is refused in their network and traffic
+abbrev pub IsRefusedIn : (NetworkDocument → List Class → Type 0) → List ℕ → List ℕ → Fault → Type 0
+IsRefusedIn Refused network_octets traffic_octets e =
+    IsRefusedByDocuments network_octets traffic_octets e
+    ⊎ ((network : NetworkDocument) × (classes : List Class) × IsNetworkDocument network_octets network × IsTraffic network traffic_octets classes × Refused network classes)

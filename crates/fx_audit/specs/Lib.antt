@@ -3,6 +3,7 @@ pub mod Checks
 pub mod Confirms
 pub mod Commands
 pub mod Documents
+pub mod Outputs
 pub mod Replay
 pub mod Streams
 pub mod Texts

@@ -13,7 +13,7 @@ use Rattle.fx_topology.specs.declared.network.NetworkDocument.{NetworkDocument}
 use Rattle.fx_plan.specs.Tables.{net_of}
 use Rattle.fx_net.specs.Running.{RefusesRun, RunsTo, begun}
 use Rattle.fx_conform.specs.Whole.{IsRunOf}
-use Rattle.fx_audit.specs.Documents.{IsNetworkDocument, IsRefusedByDocuments, IsTraffic}
+use Rattle.fx_audit.specs.Documents.{IsNetworkDocument, IsRefusedIn, IsTraffic}
 
 -- ---- the text
 
@@ -49,8 +49,8 @@ pub record IsMeteredIn (network : NetworkDocument) (classes : List Class) (left 
   pub text_is : IsMeteredText totals skipped.other skipped.malformed text
 
 -- the capture isn't opened, since its source can't be read or for its header, or the run over it is refused
-abbrev pub IsRefusedIn : NetworkDocument → List Class → Option (List ℕ) → ℕ → Type 0 → Lines → Lines → Put → Fault → Type 0
-IsRefusedIn network classes left asked unread from last before e =
+abbrev pub IsRefusedOver : NetworkDocument → List Class → Option (List ℕ) → ℕ → Type 0 → Lines → Lines → Put → Fault → Type 0
+IsRefusedOver network classes left asked unread from last before e =
     IsRefusedCapture left unread e
     ⊎ ((at : CaptureState) × (to : CaptureState) × IsOpened left asked at × RefusesRun (begun network classes) at to from last before e)
 
@@ -68,6 +68,4 @@ pub record IsMetered (network_octets traffic_octets : List ℕ) (left : Option (
 -- the first refusal: that of the documents, then the capture's file header's, then the run's
 abbrev pub IsRefusedMetering : List ℕ → List ℕ → Option (List ℕ) → ℕ → Type 0 → Lines → Lines → Put → Fault → Type 0
 IsRefusedMetering network_octets traffic_octets left asked unread from last before e =
-    IsRefusedByDocuments network_octets traffic_octets e
-    ⊎ ((network : NetworkDocument) × (classes : List Class) × IsNetworkDocument network_octets network × IsTraffic network traffic_octets classes
-    × IsRefusedIn network classes left asked unread from last before e)
+    IsRefusedIn (λ network classes. IsRefusedOver network classes left asked unread from last before e) network_octets traffic_octets e

@@ -39,8 +39,8 @@ IsStreamText layout k text = IsTotalsText (with_records (nothing layout) k.waiti
 -- ---- what is kept while a stream is read
 
 -- no record waits any more
-abbrev pub drained : SessionState → SessionState
-drained st = record {
+abbrev pub without_waiting : SessionState → SessionState
+without_waiting st = record {
   known = record { domains = st.known.domains; waiting = []; gaps = st.known.gaps; skipped = st.known.skipped };
   place = st.place;
   rest = st.rest;
@@ -49,6 +49,6 @@ drained st = record {
 
 -- a session that has read these octets, and whose records were tallied
 pub record IsTallied (octets : List ℕ) (before : Totals) (session : SessionState) (totals : Totals) : Type 0 where
-  pub session_is : session ≡ drained (stream_read octets)
+  pub session_is : session ≡ without_waiting (stream_read octets)
   pub faultless : (stream_read octets).fault ≡ None
   pub totals_are : totals ≡ with_records before (stream_read octets).known.waiting

@@ -1,4 +1,11 @@
 //! What a command answers.
+ghost use Rattle.std.specs.Prelude.{◌≡◌, ◌⊎◌, IfOk, IfErr};
+ghost use Rattle.fx_base.specs.Device.{Writes};
+ghost use Rattle.fx_audit.specs.Checks.{IsWithin, no_line};
+ghost use Rattle.fx_audit.specs.Outputs.{FailsQuietly, IsWriteFault, PutsText};
+ghost use Rattle.fx_audit.specs.declared.answer.Answer.TheVariants.{No};
+
+use fx_base::{Fault, Sink, put_fault, put_text};
 
 /// What a command answers once it has written its text.
 #[derive(Clone, Copy, Debug, PartialEq, Eq)]
@@ -9,4 +16,33 @@ pub enum Answer {
     No,
     /// It can't tell within its limits.
     Unknown,
+}
+
+/// Writes the line of an answer of no: the number of the refusal and its place.
+pub(crate) fn put_no<S: Sink>(sink: &mut S, fault: &Fault) -> Result<(), Fault>
+    ensures { PutsText S.taken S.failed (no_line fault.now) sink.old sink.new result }
+{
+    put_text(sink, b"no ")?;
+    put_fault(sink, fault)?;
+    put_text(sink, b"\n")
+}
+
+/// Answers a refusal: no, where its number is one of `first` to `last`, or the refusal itself.
+pub(crate) fn answer_refusal<S: Sink>(
+    sink: &mut S,
+    fault: Fault,
+    first: u16,
+    last: u16,
+) -> Result<Answer, Fault>
+    ensures ok { IfOk result (λ answer. (answer ≡ No) × IsWithin first last fault.number
+        × Writes (S.taken sink.old) (S.taken sink.new) (no_line fault)) }
+    ensures err { IfErr result (λ e. ((e ≡ fault) × (IsWithin first last fault.number → ⊥))
+        ⊎ IsWriteFault (S.failed sink.new) e) }
+    ensures quiet { FailsQuietly S.failed sink.old sink.new result }
+{
+    if !(first..=last).contains(&fault.number) {
+        return Err(fault);
+    }
+    put_no(sink, &fault)?;
+    Ok(Answer::No)
 }

@@ -1,13 +1,13 @@
 //! The command that audits a network, from octets to octets.
-ghost use Rattle.std.specs.Prelude.{◌≡◌, ◌⊎◌, ℕ, List, OnOk, IfOk, IfErr, IfSome, true, false};
-ghost use Rattle.fx_base.specs.Device.{MayHaveLeft, Writes};
+ghost use Rattle.std.specs.Prelude.{◌≡◌, ◌⊎◌, IfOk, IfErr};
+ghost use Rattle.fx_base.specs.Device.{Writes};
 ghost use Rattle.fx_base.specs.Fault.{fault_at};
-ghost use Rattle.fx_base.specs.declared.fault.Fault.{Fault};
 ghost use Rattle.fx_base.specs.declared.fault.Place.TheVariants as places;
 ghost use Rattle.fx_search.specs.Found.{certificate_text};
 ghost use Rattle.fx_audit.specs.Audits.{IsAuditedIn, IsFoundText, unknown_line};
 ghost use Rattle.fx_audit.specs.Commands.{IsAudited};
-ghost use Rattle.fx_audit.specs.Documents.{IsRefusedByDocuments, IsRefusedNetwork, ReadFails};
+ghost use Rattle.fx_audit.specs.Documents.{BothMayHaveLeft, CannotRead, IfNetworkRefused, IsRefusedByDocuments};
+ghost use Rattle.fx_audit.specs.Outputs.{AnswersWith, FailsQuietly, IsWriteFault, Prints, PutsText};
 ghost use Rattle.fx_audit.specs.Texts.{IsAuditText};
 ghost use Rattle.fx_audit.specs.declared.answer.Answer.TheVariants.{Unknown};
 
@@ -25,10 +25,7 @@ pub const AUDIT_LIMIT: u64 = 1_000_000;
 
 /// Writes the lines of a certificate.
 fn put_items<S: Sink>(sink: &mut S, items: &[Item]) -> Result<(), Fault>
-    ensures ok { OnOk result (Writes (S.taken sink.old) (S.taken sink.new)
-        (certificate_text items.now)) }
-    ensures going { OnOk result (S.failed sink.old ≡ false → S.failed sink.new ≡ false) }
-    ensures err { IfErr result (λ e. (e ≡ fault_at 902 places.None) × (S.failed sink.new ≡ true)) }
+    ensures { PutsText S.taken S.failed (certificate_text items.now) sink.old sink.new result }
 {
     for item in items {
         put_item(sink, item)?;
@@ -38,10 +35,9 @@ fn put_items<S: Sink>(sink: &mut S, items: &[Item]) -> Result<(), Fault>
 
 /// Writes what was found, and answers yes or no.
 fn put_found<S: Sink>(sink: &mut S, found: &Found) -> Result<Answer, Fault>
-    ensures ok { IfOk result (λ answer. (text : List ℕ)
-        × IsFoundText found.now answer text × Writes (S.taken sink.old) (S.taken sink.new) text) }
-    ensures going { OnOk result (S.failed sink.old ≡ false → S.failed sink.new ≡ false) }
-    ensures err { IfErr result (λ e. (e ≡ fault_at 902 places.None) × (S.failed sink.new ≡ true)) }
+    ensures answers { AnswersWith S.taken S.failed (IsFoundText found.now) sink.old sink.new
+        result }
+    ensures err { IfErr result (IsWriteFault (S.failed sink.new)) }
 {
     match found {
         Found::Certificate(items) => {
@@ -59,11 +55,9 @@ fn put_found<S: Sink>(sink: &mut S, found: &Found) -> Result<Answer, Fault>
 fn answer_none<S: Sink>(sink: &mut S, fault: Fault) -> Result<Answer, Fault>
     ensures ok { IfOk result (λ answer. (answer ≡ Unknown) × (fault.number ≡ 601)
         × Writes (S.taken sink.old) (S.taken sink.new) unknown_line) }
-    ensures going { OnOk result (S.failed sink.old ≡ false → S.failed sink.new ≡ false) }
     ensures err { IfErr result (λ e. ((e ≡ fault) × (fault.number ≡ 601 → ⊥))
-        ⊎ ((e ≡ fault_at 902 places.None) × (S.failed sink.new ≡ true))) }
-    ensures quiet { IfErr result (λ e. ((e ≡ fault_at 902 places.None) × (S.failed sink.new ≡ true))
-        ⊎ (sink.new ≡ sink.old)) }
+        ⊎ IsWriteFault (S.failed sink.new) e) }
+    ensures quiet { FailsQuietly S.failed sink.old sink.new result }
 {
     if fault.number != 601 {
         return Err(fault);
@@ -79,14 +73,10 @@ fn audit<S: Sink>(
     limit: u64,
     sink: &mut S,
 ) -> Result<Answer, Fault>
-    ensures ok { IfOk result (λ answer. (text : List ℕ)
-        × IsAuditedIn documents.now.plan documents.now.traffic limit answer text
-        × Writes (S.taken sink.old) (S.taken sink.new) text) }
-    ensures going { OnOk result (S.failed sink.old ≡ false → S.failed sink.new ≡ false) }
+    ensures answers { AnswersWith S.taken S.failed
+        (IsAuditedIn documents.now.plan documents.now.traffic limit) sink.old sink.new result }
     ensures err { IfErr result (λ e. (e ≡ fault_at 900 places.None)
-        ⊎ ((e ≡ fault_at 902 places.None) × (S.failed sink.new ≡ true))) }
-    ensures quiet { IfErr result (λ e. ((e ≡ fault_at 902 places.None) × (S.failed sink.new ≡ true))
-        ⊎ (sink.new ≡ sink.old)) }
+        ⊎ IsWriteFault (S.failed sink.new) e) }
 {
     match search(alloc, &documents.plan, &documents.traffic, limit) {
         Ok(found) => put_found(sink, &found),
@@ -112,25 +102,17 @@ pub fn audit_bytes<N: Source, T: Source, S: Sink>(
     sink: &mut S,
 ) -> Result<Answer, Fault>
     // Yes: each packet is counted once. No: not every complete run counts each packet once.
-    ensures ok { IfOk result (λ answer. MayHaveLeft (N.left network.old) (λ n.
-        MayHaveLeft (T.left traffic.old) (λ t.
-        (text : List ℕ) × IsAudited n t limit answer text
-        × Writes (S.taken sink.old) (S.taken sink.new) text))) }
-    ensures going { OnOk result (S.failed sink.old ≡ false → S.failed sink.new ≡ false) }
+    ensures ok { IfOk result (λ answer.
+        BothMayHaveLeft (N.left network.old) (T.left traffic.old) (λ n t.
+        Prints (IsAudited n t limit answer) (S.taken sink.old) (S.taken sink.new))) }
     ensures err { IfErr result (λ e. (e ≡ fault_at 900 places.None)
-        ⊎ (ReadFails (N.left network.old) (N.calls network.old) (N.calls network.new)
-        (N.failed network.new) e
-        ⊎ (ReadFails (T.left traffic.old) (T.calls traffic.old) (T.calls traffic.new)
-        (T.failed traffic.new) e
-        ⊎ (((e ≡ fault_at 902 places.None) × (S.failed sink.new ≡ true))
-        ⊎ MayHaveLeft (N.left network.old) (λ n. MayHaveLeft (T.left traffic.old) (λ t.
-        IsRefusedByDocuments n t e)))))) }
-    ensures told { IfOk result (λ answer. (text : List ℕ)
-        × IsAuditText answer text × Writes (S.taken sink.old) (S.taken sink.new) text) }
-    ensures order { IfSome (N.left network.old) (λ n. (e : Fault)
-        → IsRefusedNetwork n e → traffic.new ≡ traffic.old) }
-    ensures quiet { IfErr result (λ e. ((e ≡ fault_at 902 places.None) × (S.failed sink.new ≡ true))
-        ⊎ (sink.new ≡ sink.old)) }
+        ⊎ (CannotRead N.left N.calls N.failed network.old network.new e
+        ⊎ (CannotRead T.left T.calls T.failed traffic.old traffic.new e
+        ⊎ (IsWriteFault (S.failed sink.new) e
+        ⊎ BothMayHaveLeft (N.left network.old) (T.left traffic.old)
+        (λ n t. IsRefusedByDocuments n t e))))) }
+    ensures answers { AnswersWith S.taken S.failed IsAuditText sink.old sink.new result }
+    ensures order { IfNetworkRefused (N.left network.old) (traffic.new ≡ traffic.old) }
 {
     let documents = read_documents(alloc, network, traffic)?;
     audit(alloc, &documents, limit, sink)

@@ -1,15 +1,15 @@
 //! Bundles read from octets, and what their commands do.
-ghost use Rattle.std.specs.Prelude.{◌≡◌, ◌⊎◌, ℕ, List, Some, OnOk, IfOk, IfErr, IfSome, true, false};
-ghost use Rattle.fx_base.specs.Device.{MayHaveLeft, Writes};
+ghost use Rattle.std.specs.Prelude.{◌≡◌, ◌⊎◌, ℕ, List, IfOk, IfErr, false};
+ghost use Rattle.fx_base.specs.Device.{MayHaveLeft};
 ghost use Rattle.fx_base.specs.Fault.{fault_at};
-ghost use Rattle.fx_base.specs.Lines.{lines_in};
+ghost use Rattle.fx_base.specs.Lines.{Fails, lines_in};
 ghost use Rattle.fx_base.specs.declared.fault.Place.TheVariants as places;
 ghost use Rattle.fx_audit.specs.Bundle.{IsBundle};
-ghost use Rattle.fx_audit.specs.Commands.{IsDone, IsRefusedBundle, IsRefusedThere};
-ghost use Rattle.fx_audit.specs.Documents.{ReadFails};
+ghost use Rattle.fx_audit.specs.Commands.{IsDone, IsRefusedBundle, IsRefusedBy, IsRefusedThere};
+ghost use Rattle.fx_audit.specs.Documents.{BothMayHaveLeft, CannotRead};
+ghost use Rattle.fx_audit.specs.Outputs.{AnswersWith, FailsBy, FailsQuietly, IsWriteFault, Prints};
 ghost use Rattle.fx_audit.specs.Texts.{IsBundleText};
 ghost use Rattle.fx_audit.specs.declared.bundle.Command.{Command};
-ghost use Rattle.fx_audit.specs.declared.bundle.Command.TheVariants as commands;
 
 use crate::answer::Answer;
 use crate::audit_command::{AUDIT_LIMIT, audit_bytes};
@@ -29,94 +29,33 @@ fn never_fails(lines: &LineReader<Octets<'_>>)
     let _text = lines.get_ref();
 }
 
-/// Replays the run of a bundle.
-fn replay_texts<S: Sink>(
+/// Does what a command does with a network document, a traffic declaration and a third text, of which an audit reads
+/// nothing.
+fn answer_texts<N: Source, T: Source, R: Source, S: Sink>(
     alloc: Global,
     seed: Seed,
-    bundle: &Bundle<'_>,
+    command: Command,
+    network: &mut N,
+    traffic: &mut T,
+    third: &mut LineReader<R>,
     sink: &mut S,
 ) -> Result<Answer, Fault>
-    ensures ok { IfOk result (λ answer. (text : List ℕ)
-        × IsDone commands.Replay bundle.now.network.now bundle.now.traffic.now
-        (lines_in bundle.now.third.now) answer text
-        × Writes (S.taken sink.old) (S.taken sink.new) text) }
-    ensures going { OnOk result (S.failed sink.old ≡ false → S.failed sink.new ≡ false) }
-    ensures err { IfErr result (λ e. (e ≡ fault_at 900 places.None)
-        ⊎ (((e ≡ fault_at 902 places.None) × (S.failed sink.new ≡ true))
-        ⊎ IsRefusedThere commands.Replay bundle.now.network.now bundle.now.traffic.now
-        bundle.now.third.now e)) }
-    ensures quiet { IfErr result (λ e. ((e ≡ fault_at 902 places.None) × (S.failed sink.new ≡ true))
-        ⊎ (sink.new ≡ sink.old)) }
+    ensures ok { IfOk result (λ answer.
+        BothMayHaveLeft (N.left network.old) (T.left traffic.old) (λ n t.
+        Prints (IsDone command n t third.old answer) (S.taken sink.old) (S.taken sink.new))) }
+    ensures err { IfErr result (FailsBy (CannotRead N.left N.calls N.failed network.old network.new)
+        (CannotRead T.left T.calls T.failed traffic.old traffic.new)
+        (Fails third.old third.new) (S.failed sink.new)
+        (λ e. BothMayHaveLeft (N.left network.old) (T.left traffic.old)
+        (λ n t. IsRefusedBy command n t third.old e))) }
+    ensures quiet { FailsQuietly S.failed sink.old sink.new result }
 {
-    let mut network = Octets::new(bundle.network);
-    let mut traffic = Octets::new(bundle.traffic);
-    let mut run = LineReader::new(alloc, Octets::new(bundle.third))?;
-    let answer = replay_bytes(alloc, seed, &mut network, &mut traffic, &mut run, sink);
-    never_fails(&run);
-    answer
-}
-
-/// Checks the certificate of a bundle.
-fn check_texts<S: Sink>(alloc: Global, bundle: &Bundle<'_>, sink: &mut S) -> Result<Answer, Fault>
-    ensures ok { IfOk result (λ answer. (text : List ℕ)
-        × IsDone commands.Check bundle.now.network.now bundle.now.traffic.now
-        (lines_in bundle.now.third.now) answer text
-        × Writes (S.taken sink.old) (S.taken sink.new) text) }
-    ensures going { OnOk result (S.failed sink.old ≡ false → S.failed sink.new ≡ false) }
-    ensures err { IfErr result (λ e. (e ≡ fault_at 900 places.None)
-        ⊎ (((e ≡ fault_at 902 places.None) × (S.failed sink.new ≡ true))
-        ⊎ IsRefusedThere commands.Check bundle.now.network.now bundle.now.traffic.now
-        bundle.now.third.now e)) }
-    ensures quiet { IfErr result (λ e. ((e ≡ fault_at 902 places.None) × (S.failed sink.new ≡ true))
-        ⊎ (sink.new ≡ sink.old)) }
-{
-    let mut network = Octets::new(bundle.network);
-    let mut traffic = Octets::new(bundle.traffic);
-    let mut certificate = LineReader::new(alloc, Octets::new(bundle.third))?;
-    let answer = check_bytes(alloc, &mut network, &mut traffic, &mut certificate, sink);
-    never_fails(&certificate);
-    answer
-}
-
-/// Confirms the refutation of a bundle.
-fn confirm_texts<S: Sink>(alloc: Global, bundle: &Bundle<'_>, sink: &mut S) -> Result<Answer, Fault>
-    ensures ok { IfOk result (λ answer. (text : List ℕ)
-        × IsDone commands.Confirm bundle.now.network.now bundle.now.traffic.now
-        (lines_in bundle.now.third.now) answer text
-        × Writes (S.taken sink.old) (S.taken sink.new) text) }
-    ensures going { OnOk result (S.failed sink.old ≡ false → S.failed sink.new ≡ false) }
-    ensures err { IfErr result (λ e. (e ≡ fault_at 900 places.None)
-        ⊎ (((e ≡ fault_at 902 places.None) × (S.failed sink.new ≡ true))
-        ⊎ IsRefusedThere commands.Confirm bundle.now.network.now bundle.now.traffic.now
-        bundle.now.third.now e)) }
-    ensures quiet { IfErr result (λ e. ((e ≡ fault_at 902 places.None) × (S.failed sink.new ≡ true))
-        ⊎ (sink.new ≡ sink.old)) }
-{
-    let mut network = Octets::new(bundle.network);
-    let mut traffic = Octets::new(bundle.traffic);
-    let mut refutation = LineReader::new(alloc, Octets::new(bundle.third))?;
-    let answer = confirm_bytes(alloc, &mut network, &mut traffic, &mut refutation, sink);
-    never_fails(&refutation);
-    answer
-}
-
-/// Audits the network and the traffic of a bundle.
-fn audit_texts<S: Sink>(alloc: Global, bundle: &Bundle<'_>, sink: &mut S) -> Result<Answer, Fault>
-    ensures ok { IfOk result (λ answer. (text : List ℕ)
-        × IsDone commands.Audit bundle.now.network.now bundle.now.traffic.now
-        (lines_in bundle.now.third.now) answer text
-        × Writes (S.taken sink.old) (S.taken sink.new) text) }
-    ensures going { OnOk result (S.failed sink.old ≡ false → S.failed sink.new ≡ false) }
-    ensures err { IfErr result (λ e. (e ≡ fault_at 900 places.None)
-        ⊎ (((e ≡ fault_at 902 places.None) × (S.failed sink.new ≡ true))
-        ⊎ IsRefusedThere commands.Audit bundle.now.network.now bundle.now.traffic.now
-        bundle.now.third.now e)) }
-    ensures quiet { IfErr result (λ e. ((e ≡ fault_at 902 places.None) × (S.failed sink.new ≡ true))
-        ⊎ (sink.new ≡ sink.old)) }
-{
-    let mut network = Octets::new(bundle.network);
-    let mut traffic = Octets::new(bundle.traffic);
-    audit_bytes(alloc, &mut network, &mut traffic, AUDIT_LIMIT, sink)
+    match command {
+        Command::Replay => replay_bytes(alloc, seed, network, traffic, third, sink),
+        Command::Check => check_bytes(alloc, network, traffic, third, sink),
+        Command::Confirm => confirm_bytes(alloc, network, traffic, third, sink),
+        Command::Audit => audit_bytes(alloc, network, traffic, AUDIT_LIMIT, sink),
+    }
 }
 
 /// Does what a bundle's command does with its texts.
@@ -126,24 +65,29 @@ fn answer_bundle<S: Sink>(
     bundle: &Bundle<'_>,
     sink: &mut S,
 ) -> Result<Answer, Fault>
-    ensures ok { IfOk result (λ answer. (text : List ℕ)
-        × IsDone bundle.now.command bundle.now.network.now bundle.now.traffic.now
-        (lines_in bundle.now.third.now) answer text
-        × Writes (S.taken sink.old) (S.taken sink.new) text) }
-    ensures going { OnOk result (S.failed sink.old ≡ false → S.failed sink.new ≡ false) }
+    ensures answers { AnswersWith S.taken S.failed
+        (IsDone bundle.now.command bundle.now.network.now bundle.now.traffic.now
+        (lines_in bundle.now.third.now)) sink.old sink.new result }
     ensures err { IfErr result (λ e. (e ≡ fault_at 900 places.None)
-        ⊎ (((e ≡ fault_at 902 places.None) × (S.failed sink.new ≡ true))
+        ⊎ (IsWriteFault (S.failed sink.new) e
         ⊎ IsRefusedThere bundle.now.command bundle.now.network.now bundle.now.traffic.now
         bundle.now.third.now e)) }
-    ensures quiet { IfErr result (λ e. ((e ≡ fault_at 902 places.None) × (S.failed sink.new ≡ true))
-        ⊎ (sink.new ≡ sink.old)) }
 {
-    match bundle.command {
-        Command::Replay => replay_texts(alloc, seed, bundle, sink),
-        Command::Check => check_texts(alloc, bundle, sink),
-        Command::Confirm => confirm_texts(alloc, bundle, sink),
-        Command::Audit => audit_texts(alloc, bundle, sink),
-    }
+    let mut network = Octets::new(bundle.network);
+    let mut traffic = Octets::new(bundle.traffic);
+    let mut third = LineReader::new(alloc, Octets::new(bundle.third))?;
+    let command = bundle.command;
+    let answer = answer_texts(
+        alloc,
+        seed,
+        command,
+        &mut network,
+        &mut traffic,
+        &mut third,
+        sink,
+    );
+    never_fails(&third);
+    answer
 }
 
 /// Reads a bundle, a command with its texts, and does what the command does with them; an audit has the limit
@@ -160,19 +104,14 @@ pub fn bundle_bytes<B: Source, S: Sink>(
 ) -> Result<Answer, Fault>
     ensures ok { IfOk result (λ answer. MayHaveLeft (B.left bundle.old) (λ octets.
         (command : Command) × (network : List ℕ) × (traffic : List ℕ) × (third : List ℕ)
-        × (text : List ℕ) × IsBundle octets command network traffic third
-        × IsDone command network traffic (lines_in third) answer text
-        × Writes (S.taken sink.old) (S.taken sink.new) text)) }
-    ensures going { OnOk result (S.failed sink.old ≡ false → S.failed sink.new ≡ false) }
+        × IsBundle octets command network traffic third
+        × Prints (IsDone command network traffic (lines_in third) answer)
+        (S.taken sink.old) (S.taken sink.new))) }
     ensures err { IfErr result (λ e. (e ≡ fault_at 900 places.None)
-        ⊎ (ReadFails (B.left bundle.old) (B.calls bundle.old) (B.calls bundle.new)
-        (B.failed bundle.new) e
-        ⊎ (((e ≡ fault_at 902 places.None) × (S.failed sink.new ≡ true))
+        ⊎ (CannotRead B.left B.calls B.failed bundle.old bundle.new e
+        ⊎ (IsWriteFault (S.failed sink.new) e
         ⊎ MayHaveLeft (B.left bundle.old) (λ octets. IsRefusedBundle octets e)))) }
-    ensures told { IfOk result (λ answer. (text : List ℕ)
-        × IsBundleText answer text × Writes (S.taken sink.old) (S.taken sink.new) text) }
-    ensures quiet { IfErr result (λ e. ((e ≡ fault_at 902 places.None) × (S.failed sink.new ≡ true))
-        ⊎ (sink.new ≡ sink.old)) }
+    ensures answers { AnswersWith S.taken S.failed IsBundleText sink.old sink.new result }
 {
     let octets = read_whole(alloc, bundle)?;
     let Some(bundle) = read_bundle(octets.as_slice()) else {

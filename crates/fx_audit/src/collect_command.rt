@@ -1,11 +1,10 @@
 //! The command that collects a stream, from octets to octets.
-ghost use Rattle.std.specs.Prelude.{◌≡◌, ◌⊎◌, ℕ, List, OnOk, IfOk, IfErr, IfSome, true, false};
-ghost use Rattle.fx_base.specs.Device.{MayHaveLeft, Writes};
+ghost use Rattle.std.specs.Prelude.{◌≡◌, ◌⊎◌, IfOk, IfErr};
 ghost use Rattle.fx_base.specs.Fault.{fault_at};
-ghost use Rattle.fx_base.specs.declared.fault.Fault.{Fault};
 ghost use Rattle.fx_base.specs.declared.fault.Place.TheVariants as places;
 ghost use Rattle.fx_audit.specs.Commands.{IsCollected, IsRefusedCollect};
-ghost use Rattle.fx_audit.specs.Documents.{IsRefusedNetwork, ReadFails};
+ghost use Rattle.fx_audit.specs.Documents.{BothMayHaveLeft, CannotRead, IfNetworkRefused};
+ghost use Rattle.fx_audit.specs.Outputs.{AnswersWith, IsWriteFault, Prints};
 ghost use Rattle.fx_audit.specs.Texts.{IsCollectText};
 ghost use Rattle.fx_audit.specs.declared.answer.Answer.TheVariants.{Yes};
 
@@ -32,24 +31,16 @@ pub fn collect_bytes<N: Source, R: Source, S: Sink>(
     sink: &mut S,
 ) -> Result<Answer, Fault>
     ensures ok { IfOk result (λ answer. (answer ≡ Yes)
-        × MayHaveLeft (N.left network.old) (λ n. MayHaveLeft (R.left stream.old) (λ octets.
-        (text : List ℕ) × IsCollected n octets text
-        × Writes (S.taken sink.old) (S.taken sink.new) text))) }
-    ensures going { OnOk result (S.failed sink.old ≡ false → S.failed sink.new ≡ false) }
+        × BothMayHaveLeft (N.left network.old) (R.left stream.old) (λ n octets.
+        Prints (IsCollected n octets) (S.taken sink.old) (S.taken sink.new))) }
     ensures err { IfErr result (λ e. (e ≡ fault_at 900 places.None)
-        ⊎ (ReadFails (N.left network.old) (N.calls network.old) (N.calls network.new)
-        (N.failed network.new) e
-        ⊎ (ReadFails (R.left stream.old) (R.calls stream.old) (R.calls stream.new)
-        (R.failed stream.new) e
-        ⊎ (((e ≡ fault_at 902 places.None) × (S.failed sink.new ≡ true))
-        ⊎ MayHaveLeft (N.left network.old) (λ n. MayHaveLeft (R.left stream.old)
-        (λ octets. IsRefusedCollect n octets e)))))) }
-    ensures told { IfOk result (λ answer. (text : List ℕ)
-        × IsCollectText answer text × Writes (S.taken sink.old) (S.taken sink.new) text) }
-    ensures untouched { IfSome (N.left network.old) (λ n. (e : Fault) → IsRefusedNetwork n e
-        → stream.new ≡ stream.old) }
-    ensures quiet { IfErr result (λ e. ((e ≡ fault_at 902 places.None) × (S.failed sink.new ≡ true))
-        ⊎ (sink.new ≡ sink.old)) }
+        ⊎ (CannotRead N.left N.calls N.failed network.old network.new e
+        ⊎ (CannotRead R.left R.calls R.failed stream.old stream.new e
+        ⊎ (IsWriteFault (S.failed sink.new) e
+        ⊎ BothMayHaveLeft (N.left network.old) (R.left stream.old)
+        (λ n octets. IsRefusedCollect n octets e))))) }
+    ensures answers { AnswersWith S.taken S.failed IsCollectText sink.old sink.new result }
+    ensures untouched { IfNetworkRefused (N.left network.old) (stream.new ≡ stream.old) }
 {
     let plan = network_from(alloc, network)?;
     collect(alloc, seed, plan.net(), stream, sink)

@@ -1,12 +1,13 @@
 //! A stream's records, tallied as they come.
-ghost use Rattle.std.specs.Prelude.{◌≡◌, ◌⊎◌, ℕ, List, true, false, None, Err, OnOk, IfOk, IfErr};
-ghost use Rattle.fx_base.specs.Device.{MayHaveLeft, Writes};
+ghost use Rattle.std.specs.Prelude.{◌≡◌, ◌⊎◌, None, Err, OnOk, IfOk, IfErr};
+ghost use Rattle.fx_base.specs.Device.{MayHaveLeft};
 ghost use Rattle.fx_base.specs.Fault.{fault_at};
 ghost use Rattle.fx_base.specs.declared.fault.Place.TheVariants as places;
 ghost use Rattle.fx_collect.specs.Totals.{with_records};
 ghost use Rattle.fx_session.specs.Streams as streams;
-ghost use Rattle.fx_audit.specs.Documents.{ReadFails};
-ghost use Rattle.fx_audit.specs.Streams.{drained, stream_read, IsRefusedStream, IsStreamText, IsTallied, IsTotalsText, EndsWithMessage};
+ghost use Rattle.fx_audit.specs.Documents.{CannotRead};
+ghost use Rattle.fx_audit.specs.Outputs.{AnswersWith, FailsQuietly, IsWriteFault, Prints};
+ghost use Rattle.fx_audit.specs.Streams.{without_waiting, stream_read, IsRefusedStream, IsStreamText, IsTallied, IsTotalsText, EndsWithMessage};
 ghost use Rattle.fx_audit.specs.Texts.{IsCollectText};
 ghost use Rattle.fx_audit.specs.declared.answer.Answer.TheVariants.{Yes};
 
@@ -21,7 +22,7 @@ use std::alloc::Global;
 /// Tallies the records that wait.
 fn tally_waiting(session: &mut Session, totals: &mut Totals) -> Result<(), Fault>
     ensures totals { OnOk result (totals.new ≡ with_records totals.old session.old.known.waiting) }
-    ensures session { OnOk result (session.new ≡ drained session.old) }
+    ensures session { OnOk result (session.new ≡ without_waiting session.old) }
     ensures err { IfErr result (λ e. e ≡ fault_at 900 places.None) }
 {
     while let Some(entry) = session.next_record() {
@@ -34,7 +35,7 @@ fn tally_waiting(session: &mut Session, totals: &mut Totals) -> Result<(), Fault
 fn take_piece(session: &mut Session, totals: &mut Totals, piece: &[u8]) -> Result<(), Fault>
     requires { session.old.fault ≡ None }
     ensures session { OnOk result (session.new
-        ≡ drained (streams.after_piece session.old piece.now)) }
+        ≡ without_waiting (streams.after_piece session.old piece.now)) }
     ensures faultless { OnOk result (session.new.fault ≡ None) }
     ensures totals { OnOk result (totals.new
         ≡ with_records totals.old (streams.after_piece session.old piece.now).known.waiting) }
@@ -56,8 +57,7 @@ fn tally_stream<R: Source>(
     ensures ok { OnOk result (MayHaveLeft (R.left stream.old)
         (λ octets. IsTallied octets totals.old session.new totals.new)) }
     ensures err { IfErr result (λ e. (e ≡ fault_at 900 places.None)
-        ⊎ (ReadFails (R.left stream.old) (R.calls stream.old) (R.calls stream.new)
-        (R.failed stream.new) e
+        ⊎ (CannotRead R.left R.calls R.failed stream.old stream.new e
         ⊎ MayHaveLeft (R.left stream.old) (λ octets. streams.answer_of (stream_read octets).place
         (stream_read octets).fault ≡ Err e))) }
 {
@@ -73,14 +73,12 @@ fn tally_stream<R: Source>(
 ///
 /// Fails with 900 for want of memory and with 902 where a write fails, each at no place.
 fn put_collected<S: Sink>(session: &Session, totals: &mut Totals, sink: &mut S) -> Result<(), Fault>
-    ensures ok { OnOk result ((text : List ℕ)
-        × IsTotalsText totals.old session.now.known.gaps session.now.known.skipped text
-        × Writes (S.taken sink.old) (S.taken sink.new) text) }
-    ensures going { OnOk result (S.failed sink.old ≡ false → S.failed sink.new ≡ false) }
+    ensures ok { OnOk result (Prints
+        (IsTotalsText totals.old session.now.known.gaps session.now.known.skipped)
+        (S.taken sink.old) (S.taken sink.new)) }
     ensures err { IfErr result (λ e. (e ≡ fault_at 900 places.None)
-        ⊎ ((e ≡ fault_at 902 places.None) × (S.failed sink.new ≡ true))) }
-    ensures quiet { IfErr result (λ e. ((e ≡ fault_at 902 places.None) × (S.failed sink.new ≡ true))
-        ⊎ (sink.new ≡ sink.old)) }
+        ⊎ IsWriteFault (S.failed sink.new) e) }
+    ensures quiet { FailsQuietly S.failed sink.old sink.new result }
 {
     totals.sort()?;
     totals.put_report(sink)?;
@@ -105,18 +103,13 @@ pub fn collect<R: Source, S: Sink>(
 ) -> Result<Answer, Fault>
     ensures ok { IfOk result (λ answer. (answer ≡ Yes)
         × MayHaveLeft (R.left stream.old) (λ octets. EndsWithMessage (stream_read octets)
-        × ((text : List ℕ) × IsStreamText net.now.report_layout (stream_read octets).known text
-        × Writes (S.taken sink.old) (S.taken sink.new) text))) }
-    ensures going { OnOk result (S.failed sink.old ≡ false → S.failed sink.new ≡ false) }
+        × Prints (IsStreamText net.now.report_layout (stream_read octets).known)
+        (S.taken sink.old) (S.taken sink.new))) }
     ensures err { IfErr result (λ e. (e ≡ fault_at 900 places.None)
-        ⊎ (ReadFails (R.left stream.old) (R.calls stream.old) (R.calls stream.new)
-        (R.failed stream.new) e
-        ⊎ (((e ≡ fault_at 902 places.None) × (S.failed sink.new ≡ true))
+        ⊎ (CannotRead R.left R.calls R.failed stream.old stream.new e
+        ⊎ (IsWriteFault (S.failed sink.new) e
         ⊎ MayHaveLeft (R.left stream.old) (λ octets. IsRefusedStream (stream_read octets) e)))) }
-    ensures told { IfOk result (λ answer. (text : List ℕ)
-        × IsCollectText answer text × Writes (S.taken sink.old) (S.taken sink.new) text) }
-    ensures quiet { IfErr result (λ e. ((e ≡ fault_at 902 places.None) × (S.failed sink.new ≡ true))
-        ⊎ (sink.new ≡ sink.old)) }
+    ensures answers { AnswersWith S.taken S.failed IsCollectText sink.old sink.new result }
 {
     let mut session = Session::new(alloc)?;
     let mut totals = Totals::new(alloc, seed, net.report_layout().copy())?;

@@ -1,20 +1,17 @@
 //! The command that confirms a refutation, from octets to octets.
-ghost use Rattle.std.specs.Prelude.{◌≡◌, ◌⊎◌, ℕ, List, OnOk, IfOk, IfErr, IfSome, true, false};
-ghost use Rattle.fx_base.specs.Device.{MayHaveLeft, Writes};
+ghost use Rattle.std.specs.Prelude.{◌≡◌, ◌⊎◌, IfOk, IfErr};
 ghost use Rattle.fx_base.specs.Fault.{fault_at};
-ghost use Rattle.fx_base.specs.declared.fault.Fault.{Fault};
 ghost use Rattle.fx_base.specs.declared.fault.Place.TheVariants as places;
-ghost use Rattle.fx_collect.specs.Report.{KeysAscend};
 ghost use Rattle.fx_base.specs.Lines.{Fails};
-ghost use Rattle.fx_audit.specs.Checks.{no_line};
+ghost use Rattle.fx_collect.specs.Report.{KeysAscend};
 ghost use Rattle.fx_audit.specs.Commands.{IsConfirmed, IsRefusedConfirm};
-ghost use Rattle.fx_audit.specs.Confirms.{IsConfirmedIn, IsRefusedOtherwise, IsRefusedRefutation, IsRefuted, RefutesNothing, refuted_text};
-ghost use Rattle.fx_audit.specs.Documents.{IsRefusedByDocuments, IsRefusedNetwork, ReadFails};
+ghost use Rattle.fx_audit.specs.Confirms.{IsConfirmedIn, IsRefusedOtherwise, IsRefusedRefutation, IsRefuted, refuted_text};
+ghost use Rattle.fx_audit.specs.Documents.{BothMayHaveLeft, CannotRead, IfDocumentsRefused, IfNetworkRefused};
+ghost use Rattle.fx_audit.specs.Outputs.{AnswersWith, FailsBy, IsWriteFault, Prints, PutsText};
 ghost use Rattle.fx_audit.specs.Texts.{IsConfirmText};
 ghost use Rattle.fx_audit.specs.declared.answer.Answer.TheVariants.{Yes, No};
 
-use crate::answer::Answer;
-use crate::check_command::put_no;
+use crate::answer::{Answer, answer_refusal};
 use crate::document::{Documents, read_documents};
 use fx_base::{Fault, LineReader, Sink, Source, put_text};
 use fx_collect::Totals;
@@ -23,7 +20,7 @@ use std::alloc::Global;
 
 /// The totals of the run of the refutation that a reader's lines say, and the plain sums over its packet, both with
 /// their keys in ascending order.
-fn refuted<C: Source>(
+fn totals_of_refutation<C: Source>(
     alloc: Global,
     documents: &Documents,
     refutation: &mut LineReader<C>,
@@ -45,32 +42,12 @@ fn refuted<C: Source>(
 fn put_refuted<S: Sink>(sink: &mut S, ran: &Totals, plain: &Totals) -> Result<(), Fault>
     requires ran { KeysAscend ran.now.entries }
     requires plain { KeysAscend plain.now.entries }
-    ensures ok { OnOk result (Writes (S.taken sink.old) (S.taken sink.new)
-        (refuted_text ran.now plain.now)) }
-    ensures going { OnOk result (S.failed sink.old ≡ false → S.failed sink.new ≡ false) }
-    ensures err { IfErr result (λ e. (e ≡ fault_at 902 places.None) × (S.failed sink.new ≡ true)) }
+    ensures { PutsText S.taken S.failed (refuted_text ran.now plain.now) sink.old sink.new result }
 {
     put_text(sink, b"refuted\nrun\n")?;
     ran.put_report(sink)?;
     put_text(sink, b"plain\n")?;
     plain.put_report(sink)
-}
-
-/// Answers the refusal of a refutation: no, by its number, or the refusal itself.
-fn answer_refusal<S: Sink>(sink: &mut S, fault: Fault) -> Result<Answer, Fault>
-    ensures ok { IfOk result (λ answer. (answer ≡ No) × RefutesNothing fault.number
-        × Writes (S.taken sink.old) (S.taken sink.new) (no_line fault)) }
-    ensures going { OnOk result (S.failed sink.old ≡ false → S.failed sink.new ≡ false) }
-    ensures err { IfErr result (λ e. ((e ≡ fault) × (RefutesNothing fault.number → ⊥))
-        ⊎ ((e ≡ fault_at 902 places.None) × (S.failed sink.new ≡ true))) }
-    ensures quiet { IfErr result (λ e. ((e ≡ fault_at 902 places.None) × (S.failed sink.new ≡ true))
-        ⊎ (sink.new ≡ sink.old)) }
-{
-    if !(501..=505).contains(&fault.number) {
-        return Err(fault);
-    }
-    put_no(sink, &fault)?;
-    Ok(Answer::No)
 }
 
 /// Confirms the refutation that a reader's lines say, and writes the answer.
@@ -81,23 +58,20 @@ fn confirm_lines<C: Source, S: Sink>(
     sink: &mut S,
 ) -> Result<Answer, Fault>
     ensures answer { IfOk result (λ answer. (answer ≡ Yes) ⊎ (answer ≡ No)) }
-    ensures ok { IfOk result (λ answer. (text : List ℕ)
-        × IsConfirmedIn documents.now.plan documents.now.traffic refutation.old answer text
-        × Writes (S.taken sink.old) (S.taken sink.new) text) }
-    ensures going { OnOk result (S.failed sink.old ≡ false → S.failed sink.new ≡ false) }
+    ensures answers { AnswersWith S.taken S.failed
+        (IsConfirmedIn documents.now.plan documents.now.traffic refutation.old)
+        sink.old sink.new result }
     ensures err { IfErr result (λ e. (e ≡ fault_at 900 places.None)
         ⊎ (Fails refutation.old refutation.new e
-        ⊎ (((e ≡ fault_at 902 places.None) × (S.failed sink.new ≡ true))
+        ⊎ (IsWriteFault (S.failed sink.new) e
         ⊎ IsRefusedOtherwise documents.now.plan documents.now.traffic refutation.old e))) }
-    ensures quiet { IfErr result (λ e. ((e ≡ fault_at 902 places.None) × (S.failed sink.new ≡ true))
-        ⊎ (sink.new ≡ sink.old)) }
 {
-    match refuted(alloc, documents, refutation) {
+    match totals_of_refutation(alloc, documents, refutation) {
         Ok((ran, plain)) => {
             put_refuted(sink, &ran, &plain)?;
             Ok(Answer::Yes)
         }
-        Err(fault) => answer_refusal(sink, fault),
+        Err(fault) => answer_refusal(sink, fault, 501, 505),
     }
 }
 
@@ -120,28 +94,18 @@ pub fn confirm_bytes<N: Source, T: Source, C: Source, S: Sink>(
 ) -> Result<Answer, Fault>
     ensures answer { IfOk result (λ answer. (answer ≡ Yes) ⊎ (answer ≡ No)) }
     // Yes: not every complete run counts each packet exactly once.
-    ensures ok { IfOk result (λ answer. MayHaveLeft (N.left network.old) (λ n.
-        MayHaveLeft (T.left traffic.old) (λ t.
-        (text : List ℕ) × IsConfirmed n t refutation.old answer text
-        × Writes (S.taken sink.old) (S.taken sink.new) text))) }
-    ensures going { OnOk result (S.failed sink.old ≡ false → S.failed sink.new ≡ false) }
-    ensures err { IfErr result (λ e. (e ≡ fault_at 900 places.None)
-        ⊎ (ReadFails (N.left network.old) (N.calls network.old) (N.calls network.new)
-        (N.failed network.new) e
-        ⊎ (ReadFails (T.left traffic.old) (T.calls traffic.old) (T.calls traffic.new)
-        (T.failed traffic.new) e
-        ⊎ (Fails refutation.old refutation.new e
-        ⊎ (((e ≡ fault_at 902 places.None) × (S.failed sink.new ≡ true))
-        ⊎ MayHaveLeft (N.left network.old) (λ n. MayHaveLeft (T.left traffic.old) (λ t.
-        IsRefusedConfirm n t refutation.old e))))))) }
-    ensures told { IfOk result (λ answer. (text : List ℕ)
-        × IsConfirmText answer text × Writes (S.taken sink.old) (S.taken sink.new) text) }
-    ensures order { IfSome (N.left network.old) (λ n. (e : Fault)
-        → IsRefusedNetwork n e → traffic.new ≡ traffic.old) }
-    ensures untouched { IfSome (N.left network.old) (λ n. IfSome (T.left traffic.old) (λ t.
-        (e : Fault) → IsRefusedByDocuments n t e → refutation.new ≡ refutation.old)) }
-    ensures quiet { IfErr result (λ e. ((e ≡ fault_at 902 places.None) × (S.failed sink.new ≡ true))
-        ⊎ (sink.new ≡ sink.old)) }
+    ensures ok { IfOk result (λ answer.
+        BothMayHaveLeft (N.left network.old) (T.left traffic.old) (λ n t.
+        Prints (IsConfirmed n t refutation.old answer) (S.taken sink.old) (S.taken sink.new))) }
+    ensures err { IfErr result (FailsBy (CannotRead N.left N.calls N.failed network.old network.new)
+        (CannotRead T.left T.calls T.failed traffic.old traffic.new)
+        (Fails refutation.old refutation.new) (S.failed sink.new)
+        (λ e. BothMayHaveLeft (N.left network.old) (T.left traffic.old)
+        (λ n t. IsRefusedConfirm n t refutation.old e))) }
+    ensures answers { AnswersWith S.taken S.failed IsConfirmText sink.old sink.new result }
+    ensures order { IfNetworkRefused (N.left network.old) (traffic.new ≡ traffic.old) }
+    ensures untouched { IfDocumentsRefused (N.left network.old) (T.left traffic.old)
+        (refutation.new ≡ refutation.old) }
 {
     let documents = read_documents(alloc, network, traffic)?;
     confirm_lines(alloc, &documents, refutation, sink)

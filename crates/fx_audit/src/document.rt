@@ -8,7 +8,7 @@ ghost use Rattle.fx_base.specs.declared.fault.Fault.{Fault};
 ghost use Rattle.fx_base.specs.declared.fault.Place.TheVariants as places;
 ghost use Rattle.fx_topology.specs.Networks.{device_names};
 ghost use Rattle.fx_traffic.specs.Classes.{traffic_faults};
-ghost use Rattle.fx_audit.specs.Documents.{IsFirstFault, IsJson, IsNetworkDocument, IsRefusedByDocuments, IsRefusedNetwork, IsTraffic, ReadFails};
+ghost use Rattle.fx_audit.specs.Documents.{BothMayHaveLeft, CannotRead, IfNetworkRefused, IsFirstFault, IsJson, IsNetworkDocument, IsRefusedByDocuments, IsRefusedNetwork, IsTraffic};
 
 use fx_base::{Fault, Source, read_whole};
 use fx_plan::{Plan, read_plan};
@@ -52,8 +52,7 @@ pub(crate) fn network_from<R: Source>(alloc: Global, source: &mut R) -> Result<P
     ensures ok { IfOk result (λ plan. MayHaveLeft (R.left source.old)
         (λ octets. IsNetworkDocument octets plan)) }
     ensures err { IfErr result (λ e. (e ≡ fault_at 900 places.None)
-        ⊎ (ReadFails (R.left source.old) (R.calls source.old) (R.calls source.new)
-        (R.failed source.new) e
+        ⊎ (CannotRead R.left R.calls R.failed source.old source.new e
         ⊎ MayHaveLeft (R.left source.old) (λ octets. IsRefusedNetwork octets e))) }
 {
     let octets = read_whole(alloc, source)?;
@@ -68,8 +67,7 @@ fn traffic_from<R: Source>(alloc: Global, source: &mut R, plan: &Plan) -> Result
     ensures ok { IfOk result (λ traffic. MayHaveLeft (R.left source.old)
         (λ octets. IsTraffic plan.now octets traffic)) }
     ensures err { IfErr result (λ e. (e ≡ fault_at 900 places.None)
-        ⊎ (ReadFails (R.left source.old) (R.calls source.old) (R.calls source.new)
-        (R.failed source.new) e
+        ⊎ (CannotRead R.left R.calls R.failed source.old source.new e
         ⊎ MayHaveLeft (R.left source.old) (λ octets. IsFirstFault
         (traffic_faults (device_names plan.now) []) octets e))) }
 {
@@ -92,14 +90,11 @@ pub fn read_documents<N: Source, T: Source>(
     ensures traffic { IfOk result (λ documents. MayHaveLeft (T.left traffic.old)
         (λ octets. IsTraffic documents.plan octets documents.traffic)) }
     ensures err { IfErr result (λ e. (e ≡ fault_at 900 places.None)
-        ⊎ (ReadFails (N.left network.old) (N.calls network.old) (N.calls network.new)
-        (N.failed network.new) e
-        ⊎ (ReadFails (T.left traffic.old) (T.calls traffic.old) (T.calls traffic.new)
-        (T.failed traffic.new) e
-        ⊎ MayHaveLeft (N.left network.old) (λ n. MayHaveLeft (T.left traffic.old)
-        (λ t. IsRefusedByDocuments n t e))))) }
-    ensures order { IfSome (N.left network.old) (λ n. (e : Fault)
-        → IsRefusedNetwork n e → traffic.new ≡ traffic.old) }
+        ⊎ (CannotRead N.left N.calls N.failed network.old network.new e
+        ⊎ (CannotRead T.left T.calls T.failed traffic.old traffic.new e
+        ⊎ BothMayHaveLeft (N.left network.old) (T.left traffic.old)
+        (λ n t. IsRefusedByDocuments n t e)))) }
+    ensures order { IfNetworkRefused (N.left network.old) (traffic.new ≡ traffic.old) }
 {
     let plan = network_from(alloc, network)?;
     let traffic = traffic_from(alloc, traffic, &plan)?;

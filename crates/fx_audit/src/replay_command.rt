@@ -1,12 +1,11 @@
 //! The command that replays a run, from octets to octets.
-ghost use Rattle.std.specs.Prelude.{◌≡◌, ◌⊎◌, ℕ, List, OnOk, IfOk, IfErr, IfSome, true, false};
-ghost use Rattle.fx_base.specs.Device.{MayHaveLeft, Writes};
+ghost use Rattle.std.specs.Prelude.{◌≡◌, ◌⊎◌, IfOk, IfErr};
 ghost use Rattle.fx_base.specs.Fault.{fault_at};
-ghost use Rattle.fx_base.specs.declared.fault.Fault.{Fault};
 ghost use Rattle.fx_base.specs.declared.fault.Place.TheVariants as places;
 ghost use Rattle.fx_base.specs.Lines.{Fails};
 ghost use Rattle.fx_audit.specs.Commands.{IsRefusedReplay, IsRefusedRun, IsReplayed, IsReplayedIn};
-ghost use Rattle.fx_audit.specs.Documents.{IsRefusedByDocuments, IsRefusedNetwork, ReadFails};
+ghost use Rattle.fx_audit.specs.Documents.{BothMayHaveLeft, CannotRead, IfDocumentsRefused, IfNetworkRefused};
+ghost use Rattle.fx_audit.specs.Outputs.{AnswersWith, FailsBy, FailsQuietly, IsWriteFault, Prints};
 ghost use Rattle.fx_audit.specs.Texts.{IsReplayText};
 ghost use Rattle.fx_audit.specs.declared.answer.Answer.TheVariants.{Yes};
 
@@ -26,16 +25,14 @@ fn replay_lines<R: Source, S: Sink>(
     run: &mut LineReader<R>,
     sink: &mut S,
 ) -> Result<Answer, Fault>
-    ensures ok { IfOk result (λ answer. (answer ≡ Yes) × ((text : List ℕ)
-        × IsReplayedIn documents.now.plan documents.now.traffic run.old text
-        × Writes (S.taken sink.old) (S.taken sink.new) text)) }
-    ensures going { OnOk result (S.failed sink.old ≡ false → S.failed sink.new ≡ false) }
+    ensures ok { IfOk result (λ answer. (answer ≡ Yes)
+        × Prints (IsReplayedIn documents.now.plan documents.now.traffic run.old)
+        (S.taken sink.old) (S.taken sink.new)) }
     ensures err { IfErr result (λ e. (e ≡ fault_at 900 places.None)
         ⊎ (Fails run.old run.new e
-        ⊎ (((e ≡ fault_at 902 places.None) × (S.failed sink.new ≡ true))
+        ⊎ (IsWriteFault (S.failed sink.new) e
         ⊎ IsRefusedRun documents.now.plan documents.now.traffic run.old e))) }
-    ensures quiet { IfErr result (λ e. ((e ≡ fault_at 902 places.None) × (S.failed sink.new ≡ true))
-        ⊎ (sink.new ≡ sink.old)) }
+    ensures quiet { FailsQuietly S.failed sink.old sink.new result }
 {
     let classes = documents.traffic.classes();
     let run = read_run(alloc, classes, run)?;
@@ -59,27 +56,17 @@ pub fn replay_bytes<N: Source, T: Source, R: Source, S: Sink>(
     sink: &mut S,
 ) -> Result<Answer, Fault>
     ensures ok { IfOk result (λ answer. (answer ≡ Yes)
-        × MayHaveLeft (N.left network.old) (λ n. MayHaveLeft (T.left traffic.old) (λ t.
-        (text : List ℕ) × IsReplayed n t run.old text
-        × Writes (S.taken sink.old) (S.taken sink.new) text))) }
-    ensures going { OnOk result (S.failed sink.old ≡ false → S.failed sink.new ≡ false) }
-    ensures err { IfErr result (λ e. (e ≡ fault_at 900 places.None)
-        ⊎ (ReadFails (N.left network.old) (N.calls network.old) (N.calls network.new)
-        (N.failed network.new) e
-        ⊎ (ReadFails (T.left traffic.old) (T.calls traffic.old) (T.calls traffic.new)
-        (T.failed traffic.new) e
-        ⊎ (Fails run.old run.new e
-        ⊎ (((e ≡ fault_at 902 places.None) × (S.failed sink.new ≡ true))
-        ⊎ MayHaveLeft (N.left network.old) (λ n. MayHaveLeft (T.left traffic.old)
-        (λ t. IsRefusedReplay n t run.old e))))))) }
-    ensures told { IfOk result (λ answer. (text : List ℕ)
-        × IsReplayText answer text × Writes (S.taken sink.old) (S.taken sink.new) text) }
-    ensures order { IfSome (N.left network.old) (λ n. (e : Fault)
-        → IsRefusedNetwork n e → traffic.new ≡ traffic.old) }
-    ensures untouched { IfSome (N.left network.old) (λ n. IfSome (T.left traffic.old) (λ t.
-        (e : Fault) → IsRefusedByDocuments n t e → run.new ≡ run.old)) }
-    ensures quiet { IfErr result (λ e. ((e ≡ fault_at 902 places.None) × (S.failed sink.new ≡ true))
-        ⊎ (sink.new ≡ sink.old)) }
+        × BothMayHaveLeft (N.left network.old) (T.left traffic.old) (λ n t.
+        Prints (IsReplayed n t run.old) (S.taken sink.old) (S.taken sink.new))) }
+    ensures err { IfErr result (FailsBy (CannotRead N.left N.calls N.failed network.old network.new)
+        (CannotRead T.left T.calls T.failed traffic.old traffic.new)
+        (Fails run.old run.new) (S.failed sink.new)
+        (λ e. BothMayHaveLeft (N.left network.old) (T.left traffic.old)
+        (λ n t. IsRefusedReplay n t run.old e))) }
+    ensures answers { AnswersWith S.taken S.failed IsReplayText sink.old sink.new result }
+    ensures order { IfNetworkRefused (N.left network.old) (traffic.new ≡ traffic.old) }
+    ensures untouched { IfDocumentsRefused (N.left network.old) (T.left traffic.old)
+        (run.new ≡ run.old) }
 {
     let documents = read_documents(alloc, network, traffic)?;
     replay_lines(alloc, seed, &documents, run, sink)

@@ -7,6 +7,7 @@ ghost use Rattle.fx_machine.specs.States as states;
 ghost use Rattle.fx_machine.specs.Steps as stepping;
 ghost use Rattle.fx_collect.specs.Totals.{totals_of, totals_in};
 ghost use Rattle.fx_collect.specs.Report.{totals_text, KeysAscend};
+ghost use Rattle.fx_audit.specs.Outputs.{FailsQuietly, IsWriteFault, Prints, PutsText};
 ghost use Rattle.fx_audit.specs.Replay.{complete_line, IsRefused, IsTextOf};
 ghost use Rattle.fx_audit.specs.declared.answer.Answer.TheVariants.{Yes};
 
@@ -39,10 +40,7 @@ fn make_steps(state: &mut State<'_>, steps: &[Step]) -> Result<(), Fault>
 
 /// Writes the line that says whether a run is complete.
 fn put_complete<S: Sink>(sink: &mut S, complete: bool) -> Result<(), Fault>
-    ensures ok { OnOk result (Writes (S.taken sink.old) (S.taken sink.new)
-        (complete_line complete)) }
-    ensures going { OnOk result (S.failed sink.old ≡ false → S.failed sink.new ≡ false) }
-    ensures err { IfErr result (λ e. (e ≡ fault_at 902 places.None) × (S.failed sink.new ≡ true)) }
+    ensures { PutsText S.taken S.failed (complete_line complete) sink.old sink.new result }
 {
     if complete {
         put_text(sink, b"complete yes\n")
@@ -63,14 +61,11 @@ fn put_state<S: Sink>(
 ) -> Result<(), Fault>
     requires own { totals_of state.now.net.report_layout state.now.state
         ≡ totals_in state.now.net.report_layout state.now.state }
-    ensures ok { OnOk result ((text : List ℕ)
-        × IsTextOf state.now.net.report_layout state.now.state text
-        × Writes (S.taken sink.old) (S.taken sink.new) text) }
-    ensures going { OnOk result (S.failed sink.old ≡ false → S.failed sink.new ≡ false) }
+    ensures ok { OnOk result (Prints (IsTextOf state.now.net.report_layout state.now.state)
+        (S.taken sink.old) (S.taken sink.new)) }
     ensures err { IfErr result (λ e. (e ≡ fault_at 900 places.None)
-        ⊎ ((e ≡ fault_at 902 places.None) × (S.failed sink.new ≡ true))) }
-    ensures quiet { IfErr result (λ e. ((e ≡ fault_at 902 places.None) × (S.failed sink.new ≡ true))
-        ⊎ (sink.new ≡ sink.old)) }
+        ⊎ IsWriteFault (S.failed sink.new) e) }
+    ensures quiet { FailsQuietly S.failed sink.old sink.new result }
 {
     let mut totals = Totals::of(alloc, seed, state)?;
     totals.sort()?;
@@ -97,12 +92,9 @@ pub fn replay<S: Sink>(
         (states.opening net.now classes.now run.packets) ≡ Ok last)
         × IsTextOf net.now.report_layout (states.told_state last) text
         × Writes (S.taken sink.old) (S.taken sink.new) text)) }
-    ensures going { OnOk result (S.failed sink.old ≡ false → S.failed sink.new ≡ false) }
     ensures err { IfErr result (λ e. IsRefused net.now classes.now run e
-        ⊎ ((e ≡ fault_at 900 places.None) ⊎ ((e ≡ fault_at 902 places.None)
-        × (S.failed sink.new ≡ true)))) }
-    ensures quiet { IfErr result (λ e. ((e ≡ fault_at 902 places.None) × (S.failed sink.new ≡ true))
-        ⊎ (sink.new ≡ sink.old)) }
+        ⊎ ((e ≡ fault_at 900 places.None) ⊎ IsWriteFault (S.failed sink.new) e)) }
+    ensures quiet { FailsQuietly S.failed sink.old sink.new result }
 {
     let (packets, steps) = run.into_parts();
     let mut state = State::open(alloc, net, classes, packets)?;

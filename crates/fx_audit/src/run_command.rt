@@ -7,8 +7,9 @@ ghost use Rattle.fx_base.specs.declared.fault.Place.TheVariants as places;
 ghost use Rattle.fx_pcap.specs.Captures.{IsUnreadable};
 ghost use Rattle.fx_pcap.specs.Records.{format_of};
 ghost use Rattle.fx_net.specs.Running.{FailsOutside};
-ghost use Rattle.fx_audit.specs.Documents.{IsRefusedByDocuments, IsRefusedNetwork, ReadFails};
-ghost use Rattle.fx_audit.specs.Metering.{IsMetered, IsMeteredIn, IsMeteredText, IsRun, skipped_line, IsRefusedIn, IsRefusedMetering};
+ghost use Rattle.fx_audit.specs.Documents.{BothMayHaveLeft, CannotRead, IfDocumentsRefused, IfNetworkRefused};
+ghost use Rattle.fx_audit.specs.Metering.{IsMetered, IsMeteredIn, IsMeteredText, IsRun, skipped_line, IsRefusedOver, IsRefusedMetering};
+ghost use Rattle.fx_audit.specs.Outputs.{AnswersWith, FailsQuietly, IsWriteFault, Prints, PutsText};
 ghost use Rattle.fx_audit.specs.Texts.{IsRunText};
 ghost use Rattle.fx_audit.specs.declared.answer.Answer.TheVariants.{Yes};
 
@@ -45,7 +46,7 @@ fn meter<C: Source, Q: Source, L: Links>(
         metered.totals metered.skipped) }
     ensures going { OnOk result (L.failed links.old ≡ false → L.failed links.new ≡ false) }
     ensures err { IfErr result (λ e. FailsOutside (L.failed links.new) e
-        ⊎ IsRefusedIn documents.now.plan documents.now.traffic (C.left capture) (C.calls capture)
+        ⊎ IsRefusedOver documents.now.plan documents.now.traffic (C.left capture) (C.calls capture)
         (IsUnreadable C.calls C.failed (C.left capture) (C.calls capture))
         schedule.old schedule.new (L.put_on links.old) e) }
     ensures untouched { IfSome (C.left capture) (λ c. (e : Fault)
@@ -69,10 +70,8 @@ fn meter<C: Source, Q: Source, L: Links>(
 
 /// Writes the line that says how many frames were skipped.
 fn put_skipped<S: Sink>(sink: &mut S, skipped: Skipped) -> Result<(), Fault>
-    ensures ok { OnOk result (Writes (S.taken sink.old) (S.taken sink.new)
-        (skipped_line skipped.other skipped.malformed)) }
-    ensures going { OnOk result (S.failed sink.old ≡ false → S.failed sink.new ≡ false) }
-    ensures err { IfErr result (λ e. (e ≡ fault_at 902 places.None) × (S.failed sink.new ≡ true)) }
+    ensures { PutsText S.taken S.failed (skipped_line skipped.other skipped.malformed) sink.old
+        sink.new result }
 {
     put_text(sink, b"skipped other ")?;
     put_number(sink, skipped.other)?;
@@ -84,14 +83,12 @@ fn put_skipped<S: Sink>(sink: &mut S, skipped: Skipped) -> Result<(), Fault>
 ///
 /// Fails with 900 for want of memory and with 902 where a write fails, each at no place.
 fn put_metered<S: Sink>(metered: Metered, sink: &mut S) -> Result<(), Fault>
-    ensures ok { OnOk result ((text : List ℕ)
-        × IsMeteredText metered.totals metered.skipped.other metered.skipped.malformed text
-        × Writes (S.taken sink.old) (S.taken sink.new) text) }
-    ensures going { OnOk result (S.failed sink.old ≡ false → S.failed sink.new ≡ false) }
+    ensures ok { OnOk result (Prints
+        (IsMeteredText metered.totals metered.skipped.other metered.skipped.malformed)
+        (S.taken sink.old) (S.taken sink.new)) }
     ensures err { IfErr result (λ e. (e ≡ fault_at 900 places.None)
-        ⊎ ((e ≡ fault_at 902 places.None) × (S.failed sink.new ≡ true))) }
-    ensures quiet { IfErr result (λ e. ((e ≡ fault_at 902 places.None) × (S.failed sink.new ≡ true))
-        ⊎ (sink.new ≡ sink.old)) }
+        ⊎ IsWriteFault (S.failed sink.new) e) }
+    ensures quiet { FailsQuietly S.failed sink.old sink.new result }
 {
     let Metered {
         mut totals,
@@ -112,21 +109,19 @@ fn run_capture<C: Source, Q: Source, L: Links, S: Sink>(
     links: &mut L,
     sink: &mut S,
 ) -> Result<Answer, Fault>
-    ensures ok { IfOk result (λ answer. (answer ≡ Yes) × ((text : List ℕ)
-        × IsMeteredIn documents.now.plan documents.now.traffic (C.left capture) (C.calls capture)
-        schedule.old schedule.new (L.put_on links.old) (L.put_on links.new) text
-        × Writes (S.taken sink.old) (S.taken sink.new) text)) }
-    ensures going { OnOk result (S.failed sink.old ≡ false → S.failed sink.new ≡ false) }
+    ensures ok { IfOk result (λ answer. (answer ≡ Yes)
+        × Prints (IsMeteredIn documents.now.plan documents.now.traffic (C.left capture)
+        (C.calls capture) schedule.old schedule.new (L.put_on links.old) (L.put_on links.new))
+        (S.taken sink.old) (S.taken sink.new)) }
     ensures links_going { OnOk result (L.failed links.old ≡ false → L.failed links.new ≡ false) }
     ensures err { IfErr result (λ e. FailsOutside (L.failed links.new) e
-        ⊎ (((e ≡ fault_at 902 places.None) × (S.failed sink.new ≡ true))
-        ⊎ IsRefusedIn documents.now.plan documents.now.traffic (C.left capture) (C.calls capture)
+        ⊎ (IsWriteFault (S.failed sink.new) e
+        ⊎ IsRefusedOver documents.now.plan documents.now.traffic (C.left capture) (C.calls capture)
         (IsUnreadable C.calls C.failed (C.left capture) (C.calls capture))
         schedule.old schedule.new (L.put_on links.old) e)) }
     ensures untouched { IfSome (C.left capture) (λ c. (e : Fault)
         → format_of c ≡ Err e → (schedule.new ≡ schedule.old) × (links.new ≡ links.old)) }
-    ensures quiet { IfErr result (λ e. ((e ≡ fault_at 902 places.None) × (S.failed sink.new ≡ true))
-        ⊎ (sink.new ≡ sink.old)) }
+    ensures quiet { FailsQuietly S.failed sink.old sink.new result }
 {
     let metered = meter(alloc, seed, documents, capture, schedule, links)?;
     put_metered(metered, sink)?;
@@ -153,35 +148,23 @@ pub fn run_bytes<N: Source, T: Source, C: Source, Q: Source, L: Links, S: Sink>(
     sink: &mut S,
 ) -> Result<Answer, Fault>
     ensures ok { IfOk result (λ answer. (answer ≡ Yes)
-        × MayHaveLeft (N.left network.old) (λ n. MayHaveLeft (T.left traffic.old)
-        (λ t. (text : List ℕ)
-        × IsMetered n t (C.left capture) (C.calls capture) schedule.old schedule.new
-        (L.put_on links.old) (L.put_on links.new) text
-        × Writes (S.taken sink.old) (S.taken sink.new) text))) }
-    ensures going { OnOk result (S.failed sink.old ≡ false → S.failed sink.new ≡ false) }
+        × BothMayHaveLeft (N.left network.old) (T.left traffic.old) (λ n t.
+        Prints (IsMetered n t (C.left capture) (C.calls capture) schedule.old schedule.new
+        (L.put_on links.old) (L.put_on links.new)) (S.taken sink.old) (S.taken sink.new))) }
     ensures links_going { OnOk result (L.failed links.old ≡ false → L.failed links.new ≡ false) }
     ensures err { IfErr result (λ e. FailsOutside (L.failed links.new) e
-        ⊎ (ReadFails (N.left network.old) (N.calls network.old) (N.calls network.new)
-        (N.failed network.new) e
-        ⊎ (ReadFails (T.left traffic.old) (T.calls traffic.old) (T.calls traffic.new)
-        (T.failed traffic.new) e
-        ⊎ (((e ≡ fault_at 902 places.None) × (S.failed sink.new ≡ true))
-        ⊎ MayHaveLeft (N.left network.old) (λ n. MayHaveLeft (T.left traffic.old)
-        (λ t. IsRefusedMetering n t
+        ⊎ (CannotRead N.left N.calls N.failed network.old network.new e
+        ⊎ (CannotRead T.left T.calls T.failed traffic.old traffic.new e
+        ⊎ (IsWriteFault (S.failed sink.new) e
+        ⊎ BothMayHaveLeft (N.left network.old) (T.left traffic.old) (λ n t. IsRefusedMetering n t
         (C.left capture) (C.calls capture) (IsUnreadable C.calls C.failed (C.left capture)
-        (C.calls capture))
-        schedule.old schedule.new (L.put_on links.old) e)))))) }
-    ensures told { IfOk result (λ answer. (text : List ℕ)
-        × IsRunText answer text × Writes (S.taken sink.old) (S.taken sink.new) text) }
-    ensures order { IfSome (N.left network.old) (λ n. (e : Fault)
-        → IsRefusedNetwork n e → traffic.new ≡ traffic.old) }
-    ensures untouched { IfSome (N.left network.old)
-        (λ n. IfSome (T.left traffic.old) (λ t. (e : Fault)
-        → IsRefusedByDocuments n t e → (schedule.new ≡ schedule.old) × (links.new ≡ links.old))) }
+        (C.calls capture)) schedule.old schedule.new (L.put_on links.old) e))))) }
+    ensures answers { AnswersWith S.taken S.failed IsRunText sink.old sink.new result }
+    ensures order { IfNetworkRefused (N.left network.old) (traffic.new ≡ traffic.old) }
+    ensures untouched { IfDocumentsRefused (N.left network.old) (T.left traffic.old)
+        ((schedule.new ≡ schedule.old) × (links.new ≡ links.old)) }
     ensures unopened { IfSome (C.left capture) (λ c. (e : Fault)
         → format_of c ≡ Err e → (schedule.new ≡ schedule.old) × (links.new ≡ links.old)) }
-    ensures quiet { IfErr result (λ e. ((e ≡ fault_at 902 places.None) × (S.failed sink.new ≡ true))
-        ⊎ (sink.new ≡ sink.old)) }
 {
     let documents = read_documents(alloc, network, traffic)?;
     plans_are_sound(&documents.plan);

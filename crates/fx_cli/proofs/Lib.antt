@@ -1,10 +1,5 @@
-pub mod AuditWords
 pub mod CallOutputs
-pub mod CheckWords
-pub mod CollectWords
-pub mod ConfirmWords
-pub mod DocumentWords
-pub mod FileWords
+pub mod CommandTable
 pub mod LimitWords
 pub mod ParsedWords
 pub mod AcceptedWords
@@ -15,7 +10,6 @@ pub mod OptionNames
 pub mod OptionSaid
 pub mod OptionWalk
 pub mod OptionWords
-pub mod ReplayWords
-pub mod RunWords
 pub mod SingleWords
+pub mod WordSteps
 mod WordExamples

@@ -1,8 +1,8 @@
--- A command that takes files and one option, with a text: its arguments, and how they are found.
-use Rattle.std.proofs.Common.{◌≡◌, ◌∙◌, ◌⊎◌, ◌≤◌, ◌==◌, ◌+◌, ℕ, suc, Bool, true, false, refl, sym, ap, subst, arith, List, [], ◌∷◌, ◌++◌, length, length-append, Option, Some, None, inl, inr, true≢false}
+-- A command that takes files, and at most one option, with a text: its arguments, and how they are found.
+use Rattle.std.proofs.Common.{◌≡◌, ◌∙◌, ◌⊎◌, ◌≤◌, ◌==◌, ◌+◌, ℕ, suc, Bool, cond, true, false, refl, sym, ap, subst, arith, List, [], ◌∷◌, ◌++◌, length, length-append, Some, None, inl, inr, true≢false}
 use Rattle.std.specs.Prelude.{⊤}
 use Rattle.std.specs.Str.{bytes_eq}
-use Rattle.std.proofs.lemmas.Bool.{eq-eqb, eqb-true}
+use Rattle.std.proofs.lemmas.Bool.{eq-eqb}
 use Rattle.std.proofs.lemmas.Bool.Decides.{nat_tests}
 use Rattle.std.proofs.lemmas.Slice.Eq.{bytes_eq-Decides}
 use Rattle.clap.specs.Kinds.{values_kinds}
@@ -11,16 +11,19 @@ use Rattle.clap.specs.Values.{reading_of}
 use Rattle.clap.specs.Walk.{Rule, Text, arg_by_id, arg_by_index, arg_by_long, arg_by_short}
 use Rattle.clap.specs.declared.builder.value_parser.Reading.TheVariants.{AsWritten}
 use Rattle.clap.specs.declared.builder.value_parser.ValueParser.{ValueParser}
+use Rattle.clap.specs.declared.builder.value_parser.ValueParser.TheVariants as parsers
 use Rattle.fx_cli.specs.CommandLine.{file_rule}
 use Rattle.fx_cli.proofs.SingleWords.{bool_cases, help}
 use Rattle.fx_cli.proofs.OptionNames.{IsName}
 
 -- ---- the command
 
--- its name, the names of its files, and its option: what reads its text, and the text that stands where it is left out
+-- its name, the names of its files, and its option, if it has one: what reads its text, and the text that stands where it
+-- is left out
 pub record Taking : Type 0 where
   pub command : Text
   pub ids : List Text
+  pub has_option : Bool
   pub option : Text
   pub parser : ValueParser
   pub default : List Text
@@ -36,7 +39,7 @@ abbrev pub option_argument : Taking → Rule
 option_argument c = record (filled (record (new_rule c.option) { long = Some c.option; value_names = 1; parser = Some c.parser })) { defaults = c.default }
 
 abbrev pub others : Taking → List Rule
-others c = option_argument c ∷ help ∷ []
+others c = cond c.has_option (option_argument c ∷ help ∷ []) (help ∷ [])
 
 abbrev pub arguments : Taking → List Rule
 arguments c = file_arguments 1 c.ids ++ others c
@@ -62,9 +65,31 @@ AreApart (x ∷ xs) = Differs x xs × AreApart xs
 pub record IsTaking (c : Taking) : Type 0 where
   pub few : length c.ids ≤ 1000
   pub apart : AreApart (c.option ∷ c.ids)
-  pub name : IsName c.option
+  pub name : c.has_option ≡ true → IsName c.option
   pub reading : reading_of c.parser ≡ AsWritten
   pub default_fine : values_kinds false c.parser c.default ≡ []
+  pub no_default : c.has_option ≡ false → c.default ≡ []
+
+-- a command of files alone
+abbrev pub files_alone : Text → List Text → Taking
+files_alone command ids = record {
+  command = command;
+  ids = ids;
+  has_option = false;
+  option = [];
+  parser = parsers.String;
+  default = [];
+}
+
+pub takes_files_alone : (command : Text) (ids : List Text) → length ids ≤ 1000 → AreApart ([] ∷ ids) → IsTaking (files_alone command ids)
+takes_files_alone command ids few apart = record {
+  few = few;
+  apart = apart;
+  name = λ has. absurd (true≢false (sym has));
+  reading = refl;
+  default_fine = refl;
+  no_default = λ _. refl;
+}
 
 pub same_text : (t : Text) → bytes_eq t t ≡ true
 same_text t = (bytes_eq-Decides t t).1 refl
@@ -109,8 +134,8 @@ no_index p q (id ∷ rest) tail past =
     let other : (p == q) ≡ false = grind (arith, nat_tests, less) in
     rw other (no_index (p + 1) q rest tail (omega (arith, past)))
 
--- an argument at a position is a file's, if there is one
-pub some_index : (p q : ℕ) (ids : List Text) (tail : List Rule) → (arg_by_index (file_arguments p ids ++ tail) q ≡ arg_by_index tail q)
+-- an argument at a position is one of the files', or one behind them
+some_index : (p q : ℕ) (ids : List Text) (tail : List Rule) → (arg_by_index (file_arguments p ids ++ tail) q ≡ arg_by_index tail q)
     ⊎ ((n : ℕ) × (id : Text) × (arg_by_index (file_arguments p ids ++ tail) q ≡ Some (file_argument n id)))
 some_index p q [] tail = inl refl
 some_index p q (id ∷ rest) tail = elim (bool_cases (p == q)) [
@@ -153,20 +178,32 @@ pub file_by_index : (c : Taking) (done : List Text) (id : Text) (left : List Tex
 file_by_index c done id left ids =
     ap (λ (xs : List Text). arg_by_index (file_arguments 1 xs ++ others c) (place done)) ids ∙ index_at 1 (place done) done id left (others c) (omega arith)
 
+others_index : (c : Taking) (q : ℕ) → arg_by_index (others c) q ≡ None
+others_index c q = elim (bool_cases c.has_option) [ inl has ↦ rw has refl | inr none ↦ rw none refl ]
+
 pub stray_index : (c : Taking) (done : List Text) → c.ids ≡ done ++ [] → arg_by_index (arguments c) (place done) ≡ None
-stray_index c done ids = no_index 1 (place done) c.ids (others c) (omega (arith, ap length ids, length-append done []))
+stray_index c done ids = no_index 1 (place done) c.ids (others c) (omega (arith, ap length ids, length-append done [])) ∙ others_index c (place done)
+
+-- an argument at a position is a file's, if there is one
+pub file_or_none : (c : Taking) (q : ℕ) → (arg_by_index (arguments c) q ≡ None) ⊎ ((n : ℕ) × (id : Text) × (arg_by_index (arguments c) q ≡ Some (file_argument n id)))
+file_or_none c q = elim (some_index 1 q c.ids (others c)) [ inl none ↦ inl (none ∙ others_index c q) | inr some ↦ inr some ]
 
 pub file_by_id : (c : Taking) (done : List Text) (id : Text) (left : List Text) → IsTaking c → c.ids ≡ done ++ id ∷ left → arg_by_id (arguments c) id ≡ Some (file_argument (place done) id)
 file_by_id c done id left is ids =
     ap (λ (xs : List Text). arg_by_id (file_arguments 1 xs ++ others c) id) ids
     ∙ id_at 1 (place done) done id left (others c) (omega arith) (apart_before done id left (apart_files c done id left is ids))
 
-pub option_by_id : (c : Taking) → IsTaking c → arg_by_id (arguments c) c.option ≡ Some (option_argument c)
-option_by_id c is =
-    let here : arg_by_id (others c) c.option ≡ Some (option_argument c) = rw (same_text c.option) refl in
-    no_id 1 c.ids (others c) c.option (all_differ c.option c.ids is.apart.0) ∙ here
+-- a command that has an option
+pub record HasOption (c : Taking) : Type 0 where
+  pub is : IsTaking c
+  pub has : c.has_option ≡ true
 
-pub option_by_long : (c : Taking) → arg_by_long (arguments c) c.option ≡ Some (option_argument c)
-option_by_long c =
-    let here : arg_by_long (others c) c.option ≡ Some (option_argument c) = rw (same_text c.option) refl in
+pub option_by_id : (c : Taking) → HasOption c → arg_by_id (arguments c) c.option ≡ Some (option_argument c)
+option_by_id c o =
+    let here : arg_by_id (others c) c.option ≡ Some (option_argument c) = rw (o.has, same_text c.option) refl in
+    no_id 1 c.ids (others c) c.option (all_differ c.option c.ids o.is.apart.0) ∙ here
+
+pub option_by_long : (c : Taking) → HasOption c → arg_by_long (arguments c) c.option ≡ Some (option_argument c)
+option_by_long c o =
+    let here : arg_by_long (others c) c.option ≡ Some (option_argument c) = rw (o.has, same_text c.option) refl in
     no_long 1 c.ids (others c) c.option ∙ here

@@ -1,18 +1,17 @@
--- How a file's name and the end of the words are judged behind a command with an option.
-use Rattle.std.proofs.Common.{◌≡◌, ◌∙◌, ◌⊎◌, ◌≤◌, ◌+◌, ◌||◌, ℕ, Bool, true, false, cond, refl, sym, ap, subst, arith, List, [], ◌∷◌, ◌++◌, length, length-append, append-nil, append_assoc, Option, Some, None, inl, inr, suc, min}
+-- How a file's name and the end of the words are judged behind a command.
+use Rattle.std.proofs.Common.{◌≡◌, ◌∙◌, ◌⊎◌, ◌≤◌, ◌+◌, ◌||◌, Bool, true, false, cond, refl, sym, ap, subst, arith, List, [], ◌∷◌, ◌++◌, length, length-append, append-nil, append_assoc, Option, Some, None, inl, inr, min}
 use Rattle.std.specs.Prelude.{option_map, unwrap_or, ⊤}
 use Rattle.std.proofs.Math.Nat.{min-eq_left}
 use Rattle.clap.specs.Faults.{turn_fault, walk_fault}
 use Rattle.clap.specs.Lexer.{usize_max}
 use Rattle.clap.specs.Walk.{Row, Rule, Text, Walk, idle, is_pending, pushed, settled, to_positional, walked}
 use Rattle.fx_cli.specs.Words.{NamesWith, file_names, is_double_hyphen, is_flag}
+use Rattle.fx_cli.proofs.WordSteps.{more_named, names_at, next_fault, turn_of, value_walked, walk_at}
 use Rattle.fx_cli.proofs.SingleWords.{Fails, IsValueWord, held, plain_word, trailing_word}
-use Rattle.fx_cli.proofs.FileWords.{more_named, names_at, turn_of, walk_at}
-use Rattle.fx_cli.proofs.DocumentWords.{next_fault, next_walk, value_walked}
 use Rattle.fx_cli.proofs.OptionNames.{file_named, named_double, named_file, nothing_named}
 use Rattle.fx_cli.proofs.OptionCommand.{IsTaking, Taking, arguments, file_argument, file_by_index, place, stray_index, taking}
 use Rattle.fx_cli.proofs.OptionRows.{HasAll, and_false, or_false}
-use Rattle.fx_cli.proofs.OptionSaid.{HoldsAtEnd, IsFine, Said, all_pass, all_there, as_many, ending, file_said, final_rows, option_there, too_few, walk_of}
+use Rattle.fx_cli.proofs.OptionSaid.{HoldsAtEnd, IsFine, Said, all_pass, all_there, as_many, file_said, final_rows, option_there, too_few, walk_of}
 use Rattle.fx_cli.proofs.OptionWalk.{fails_at, file_fault, kept_behind, outcome, outcome_behind, rows_kept, value_fault}
 
 -- ---- what the words behind it name
@@ -58,10 +57,11 @@ with_double c None word rest names text double (e, is) =
     subst (λ (t : Option Text). NamesWith c.option (word ∷ rest) names t) (sym is) (rw double (ap Some e))
 with_double c (Some l) word rest names text double (e, is) = (rw double e, is)
 
-pub without_double : (c : Taking) (o : Option Text) (word : Text) (rest names : List Text) (text : Option Text) → IsTaking c → is_double_hyphen word ≡ true → Behind c o false (word ∷ rest) names text
+pub without_double : (c : Taking) (o : Option Text) (word : Text) (rest names : List Text) (text : Option Text) → IsTaking c → IsFine c text → is_double_hyphen word ≡ true → Behind c o false (word ∷ rest) names text
     → Behind c o true rest names text
-without_double c None word rest names text is double b = named_double c.option word rest names text is.name double b
-without_double c (Some l) word rest names text is double (e, set) = (rw double at e, set)
+without_double c None word rest names None is fine double e = let there : Some rest ≡ Some names = rw double at e in (list_same rest names there, refl)
+without_double c None word rest names (Some text) is fine double b = named_double c.option word rest names (Some text) (is.name fine.0) double b
+without_double c (Some l) word rest names text is fine double (e, set) = (rw double at e, set)
 
 nothing_behind : (c : Taking) (o : Option Text) (trails : Bool) (names : List Text) (text : Option Text) → Behind c o trails [] names text → names ≡ []
 nothing_behind c None true names text (e, is) = sym e
@@ -202,7 +202,7 @@ all_counted c done files o said = omega (arith, ap length said.ids, length-appen
 pub words_end : (c : Taking) (is : IsTaking c) (trails : Bool) → AllJudged c trails []
 unfolding walk_fault
 words_end c is trails done [] files o said =
-    let rows = final_rows c o said.rows said.kept said.pending is said.settles said.option_is in
+    let rows = final_rows c o said.rows said.kept said.pending is said.accepted said.settles said.option_is in
     inl (record {
       files = files;
       option = o;

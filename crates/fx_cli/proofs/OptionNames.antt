@@ -1,14 +1,14 @@
 -- The words behind a command with an option, by their first: what they name and set where it is a file's name, `--`, the
 -- option or another flag.
-use Rattle.std.proofs.Common.{◌≡◌, ◌∙◌, ◌⊎◌, ◌==◌, ◌+◌, ℕ, suc, drop, take, ap₂, cond, Bool, true, false, refl, sym, ap, arith, List, [], ◌∷◌, ◌++◌, length, Option, Some, None, inl, inr, true≢false, codes, is_some}
+use Rattle.std.proofs.Common.{◌≡◌, ◌∙◌, ◌⊎◌, ◌==◌, ◌+◌, ℕ, suc, drop, take, ap₂, cond, Bool, true, false, refl, sym, ap, arith, List, [], ◌∷◌, ◌++◌, length, Option, Some, None, inl, inr, true≢false, is_some}
 use Rattle.std.specs.Prelude.{option_map, unwrap_or}
 use Rattle.std.specs.List.{position_or_len}
 use Rattle.std.proofs.lemmas.Bool.{eqb-true}
 use Rattle.clap.specs.Lexer.{has_byte, long_of, long_of_rest, name_and_value}
 use Rattle.clap.specs.Words.{Text}
 use Rattle.fx_cli.specs.Words.{NamesWith, NamesWithOption, SetsOption, file_names, is_double_hyphen, is_flag}
+use Rattle.fx_cli.proofs.WordSteps.{more_named}
 use Rattle.fx_cli.proofs.SingleWords.{bool_cases, first_char}
-use Rattle.fx_cli.proofs.FileWords.{more_named}
 
 -- ---- how a flag is written
 

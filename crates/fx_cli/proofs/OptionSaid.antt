@@ -1,11 +1,11 @@
 -- What words behind a command with an option have said so far, and how the end of the words is judged then.
-use Rattle.std.proofs.Common.{◌≡◌, ◌∙◌, ◌&&◌, ◌||◌, ◌+◌, ◌<◌, ℕ, Bool, cond, true, false, refl, sym, ap, ap₂, subst, arith, List, [], ◌∷◌, ◌++◌, length, length-append, append-nil, append_assoc, Option, Some, None, inl, inr, suc}
+use Rattle.std.proofs.Common.{◌≡◌, ◌∙◌, ◌&&◌, ◌||◌, ◌+◌, ℕ, Bool, cond, true, false, refl, sym, ap, ap₂, subst, List, [], ◌∷◌, ◌++◌, length, append-nil, append_assoc, Option, Some, None, inl, inr, suc, true≢false}
 use Rattle.std.specs.Prelude.{⊤, not}
 use Rattle.std.specs.List.{fold, list_any}
 use Rattle.std.specs.Option.{option_map_or}
 use Rattle.std.specs.Str.{bytes_eq}
 use Rattle.clap.specs.Facts.{explicit_source}
-use Rattle.clap.specs.Faults.{check_fault, defaults_fault, given_default_fault, settle_fault, use_fault}
+use Rattle.clap.specs.Faults.{defaults_fault, given_default_fault, settle_fault, use_fault}
 use Rattle.clap.specs.Kinds.{Kinds, check_kinds, or_else, values_kinds}
 use Rattle.clap.specs.Takes.{is_given}
 use Rattle.clap.specs.ValueTests.{accepts}
@@ -15,9 +15,9 @@ use Rattle.clap.specs.declared.builder.value_parser.Reading.{Reading}
 use Rattle.clap.specs.declared.builder.value_parser.Reading.TheVariants.{AsWritten}
 use Rattle.clap.specs.declared.builder.value_parser.ValueParser.TheVariants as parsers
 use Rattle.clap.specs.declared.parser.matches.ValueSource.TheVariants.{DefaultValue}
-use Rattle.fx_cli.proofs.SingleWords.{Fails, fails_second, help, held}
-use Rattle.fx_cli.proofs.FileWords.{at_end, walk_at}
-use Rattle.fx_cli.proofs.OptionCommand.{Differs, IsTaking, Taking, apart_behind, apart_files, arguments, file_argument, file_arguments, file_by_id, from_option, differ_back, option_argument, option_by_id, others, place, same_text, taking}
+use Rattle.fx_cli.proofs.WordSteps.{at_end, walk_at}
+use Rattle.fx_cli.proofs.SingleWords.{Fails, bool_cases, help, held}
+use Rattle.fx_cli.proofs.OptionCommand.{Differs, IsTaking, Taking, apart_behind, apart_files, arguments, file_argument, file_arguments, file_by_id, from_option, differ_back, option_argument, option_by_id, others, place, taking}
 use Rattle.fx_cli.proofs.OptionRows.{Has, HasAll, HasText, Lacks, LacksAll, all_still, cond_same, finds_row, found_before, found_behind, has_new, held_row, lacks_row, lacks_still, new_row, none_still, one_more, or_true, row_at, text_row, text_still, used_row}
 
 -- ---- what words have said
@@ -25,7 +25,7 @@ use Rattle.fx_cli.proofs.OptionRows.{Has, HasAll, HasText, Lacks, LacksAll, all_
 -- a text that the option takes, if there is one
 abbrev pub IsFine : Taking → Option Text → Type 0
 IsFine c None = ⊤
-IsFine c (Some text) = accepts false c.parser text ≡ true
+IsFine c (Some text) = (c.has_option ≡ true) × (accepts false c.parser text ≡ true)
 
 -- The files of these names and the option's text, if it is set, are held: as rows, or as what waits to be one.
 pub record Said (c : Taking) (done left files : List Text) (o : Option Text) : Type 0 where
@@ -103,15 +103,15 @@ pub option_apart : (c : Taking) (done left : List Text) → IsTaking c → c.ids
 option_apart c done left is ids = differs_left c.option done left (subst (Differs c.option) ids is.apart.0)
 
 -- the option, which waits
-unfoldable pub option_said : (c : Taking) (done left files : List Text) (text : Text) → IsTaking c → accepts false c.parser text ≡ true → Said c done left files None → Said c done left files (Some text)
+unfoldable pub option_said : (c : Taking) (done left files : List Text) (text : Text) → IsTaking c → IsFine c (Some text) → Said c done left files None → Said c done left files (Some text)
 option_said c done left files text is fine said =
-    let found = option_by_id c is in
+    let found = option_by_id c (record { is = is; has = fine.0 }) in
     record {
       rows = said.kept;
       pending = Some (c.option, text ∷ []);
       kept = said.kept ++ held_row c.option text ∷ [];
       settles = ap (λ (a : Option Rule). used_by_id a (text ∷ []) said.kept) found ∙ used_row c.option (reading_of c.parser) text said.kept is.reading said.option_is;
-      fine = ap (λ (a : Option Rule). option_map_or (λ r. use_fault false r (text ∷ []) said.kept) a []) found ∙ option_use c text said.kept said.option_is fine;
+      fine = ap (λ (a : Option Rule). option_map_or (λ r. use_fault false r (text ∷ []) said.kept) a []) found ∙ option_use c text said.kept said.option_is fine.1;
       ids = said.ids;
       has = all_still said.kept (held_row c.option text ∷ []) done files said.has;
       lacks = none_still said.kept (held_row c.option text) left (option_apart c done left is said.ids) said.lacks;
@@ -120,7 +120,7 @@ option_said c done left files text is fine said =
     }
 
 -- the option with its text behind `=`, which is a row at once
-unfoldable pub option_set : (c : Taking) (done left files : List Text) (text : Text) → IsTaking c → accepts false c.parser text ≡ true → Said c done left files None → Said c done left files (Some text)
+unfoldable pub option_set : (c : Taking) (done left files : List Text) (text : Text) → IsTaking c → IsFine c (Some text) → Said c done left files None → Said c done left files (Some text)
 option_set c done left files text is fine said = record {
   rows = said.kept ++ held_row c.option text ∷ [];
   pending = None;
@@ -160,11 +160,19 @@ files_ending p [] tail rows = refl
 files_ending p (id ∷ ids) tail rows =
     ap (λ (rs : List Row). fold with_default rs (file_arguments (p + 1) ids ++ tail)) (cond_same (has_row id rows) rows) ∙ files_ending (p + 1) ids tail rows
 
-all_ending : (c : Taking) (o : Option Text) (rows : List Row) → IsTaking c → HasText rows c.option o → fold with_default rows (arguments c) ≡ rows ++ ending c o
-all_ending c o rows is has =
-    files_ending 1 c.ids (others c) rows
-    ∙ cond_same (has_row help.id (with_default rows (option_argument c))) (with_default rows (option_argument c))
-    ∙ option_ending c o rows is has
+-- nor has help
+others_ending : (c : Taking) (o : Option Text) (rows : List Row) → IsTaking c → IsFine c o → HasText rows c.option o → fold with_default rows (others c) ≡ rows ++ ending c o
+others_ending c o rows is fine has = elim (bool_cases c.has_option) [
+  | inl some ↦ rw some (cond_same (has_row help.id (with_default rows (option_argument c))) (with_default rows (option_argument c)) ∙ option_ending c o rows is has)
+  | inr none ↦ rw none (cond_same (has_row help.id rows) rows ∙ sym (nothing o none fine))
+]
+  where
+    nothing : (p : Option Text) → c.has_option ≡ false → IsFine c p → rows ++ ending c p ≡ rows
+    nothing None none fine = ap (λ (texts : List Text). rows ++ default_row c.option texts) (is.no_default none) ∙ append-nil rows
+    nothing (Some text) none fine = absurd (true≢false (sym fine.0 ∙ none))
+
+all_ending : (c : Taking) (o : Option Text) (rows : List Row) → IsTaking c → IsFine c o → HasText rows c.option o → fold with_default rows (arguments c) ≡ rows ++ ending c o
+all_ending c o rows is fine has = files_ending 1 c.ids (others c) rows ∙ others_ending c o rows is fine has
 
 no_faults : (p : ℕ) (ids : List Text) (tail : List Rule) (rows : List Row) → defaults_fault rows (file_arguments p ids ++ tail) ≡ defaults_fault rows tail
 unfolding defaults_fault
@@ -177,11 +185,21 @@ no_faults p (id ∷ ids) tail rows =
 option_default : (c : Taking) (b : Bool) → IsTaking c → cond (b || is_empty c.default) [] (values_kinds false c.parser c.default) ≡ []
 option_default c b is = ap (λ (k : Kinds). cond (b || is_empty c.default) [] k) is.default_fine ∙ cond_same (b || is_empty c.default) []
 
-others_default : (c : Taking) (rows : List Row) → IsTaking c → defaults_fault rows (others c) ≡ []
+help_default : (rows : List Row) → defaults_fault rows (help ∷ []) ≡ []
 unfolding defaults_fault
-others_default c rows is =
+help_default rows = ap (λ (b : Bool). or_else (cond b [] (given_default_fault help [])) []) (or_true (has_row help.id rows))
+
+option_and_help_default : (c : Taking) (rows : List Row) → IsTaking c → defaults_fault rows (option_argument c ∷ help ∷ []) ≡ []
+unfolding defaults_fault
+option_and_help_default c rows is =
     ap (λ (k : Kinds). or_else k (defaults_fault (with_default rows (option_argument c)) (help ∷ []))) (option_default c (has_row c.option rows) is)
-    ∙ ap (λ (b : Bool). or_else (cond b [] (given_default_fault help [])) []) (or_true (has_row help.id (with_default rows (option_argument c))))
+    ∙ help_default (with_default rows (option_argument c))
+
+others_default : (c : Taking) (rows : List Row) → IsTaking c → defaults_fault rows (others c) ≡ []
+others_default c rows is = elim (bool_cases c.has_option) [
+  | inl some ↦ rw some (option_and_help_default c rows is)
+  | inr none ↦ rw none (help_default rows)
+]
 
 -- ---- what is wanted
 
@@ -204,24 +222,27 @@ one_wanted p rows [] id left tail lacks = ap (λ (o : Option Row). lacks_source 
 one_wanted p rows (d ∷ ds) id left tail lacks =
     ap (λ (b : Bool). is_wanted rows (file_argument p d) || b) (one_wanted (p + 1) rows ds id left tail lacks) ∙ or_true (is_wanted rows (file_argument p d))
 
+others_given : (c : Taking) (rows : List Row) → list_any (is_wanted rows) (others c) ≡ false
+others_given c rows = elim (bool_cases c.has_option) [ inl some ↦ rw some refl | inr none ↦ rw none refl ]
+
 -- ---- the last checks
 
 abbrev last_check : Taking → List Row → Kinds
 last_check c rows = check_kinds false false (list_any (is_wanted rows) (arguments c))
 
-pub checks_of : (c : Taking) (o : Option Text) (rows kept : List Row) (pending : Option (Text × List Text)) (position : ℕ) (trails : Bool) → IsTaking c
+pub checks_of : (c : Taking) (o : Option Text) (rows kept : List Row) (pending : Option (Text × List Text)) (position : ℕ) (trails : Bool) → IsTaking c → IsFine c o
     → settled_rows (arguments c) pending rows ≡ kept → settle_fault (arguments c) false (held rows pending) ≡ [] → HasText kept c.option o
     → at_end (taking c) [] (walk_at rows pending position trails) ≡ last_check c (kept ++ ending c o)
-checks_of c o rows kept pending position trails is settles fine has =
+checks_of c o rows kept pending position trails is taken settles fine has =
     ap (λ (k : Kinds). or_else k (or_else (defaults_fault (settled_rows (arguments c) pending rows) (arguments c)) (last_check c (fold with_default (settled_rows (arguments c) pending rows) (arguments c))))) fine
     ∙ ap (λ (rs : List Row). or_else (defaults_fault rs (arguments c)) (last_check c (fold with_default rs (arguments c)))) settles
     ∙ ap (λ (k : Kinds). or_else k (last_check c (fold with_default kept (arguments c)))) (no_faults 1 c.ids (others c) kept ∙ others_default c kept is)
-    ∙ ap (last_check c) (all_ending c o kept is has)
+    ∙ ap (last_check c) (all_ending c o kept is taken has)
 
 -- the rows at the end
-pub final_rows : (c : Taking) (o : Option Text) (rows kept : List Row) (pending : Option (Text × List Text)) → IsTaking c → settled_rows (arguments c) pending rows ≡ kept → HasText kept c.option o
+pub final_rows : (c : Taking) (o : Option Text) (rows kept : List Row) (pending : Option (Text × List Text)) → IsTaking c → IsFine c o → settled_rows (arguments c) pending rows ≡ kept → HasText kept c.option o
     → finished (arguments c) (held rows pending) ≡ kept ++ ending c o
-final_rows c o rows kept pending is settles has = ap (λ (rs : List Row). fold with_default rs (arguments c)) settles ∙ all_ending c o kept is has
+final_rows c o rows kept pending is fine settles has = ap (λ (rs : List Row). fold with_default rs (arguments c)) settles ∙ all_ending c o kept is fine has
 
 lacks_default : (id other : Text) (texts : List Text) (rows : List Row) → bytes_eq other id ≡ false → Lacks rows id → Lacks (rows ++ default_row other texts) id
 lacks_default id other [] rows differs lacks = ap (row_at id) (append-nil rows) ∙ lacks
@@ -239,7 +260,7 @@ too_few c done id left files o trails is said =
     let lacks : Lacks rows id = lacks_ending c o id said.kept (from_option c done id left is said.ids) said.lacks.0 in
     let wanted : list_any (is_wanted rows) (arguments c) ≡ true =
     ap (λ (ids : List Text). list_any (is_wanted rows) (file_arguments 1 ids ++ others c)) said.ids ∙ one_wanted 1 rows done id left (others c) lacks in
-    let ends = checks_of c o said.rows said.kept said.pending (place done) trails is said.settles said.fine said.option_is ∙ ap (check_kinds false false) wanted in
+    let ends = checks_of c o said.rows said.kept said.pending (place done) trails is said.accepted said.settles said.fine said.option_is ∙ ap (check_kinds false false) wanted in
     subst Fails (sym ends) tt
 
 -- all files
@@ -249,8 +270,8 @@ all_there c done files o said =
 
 pub all_pass : (c : Taking) (done files : List Text) (o : Option Text) (trails : Bool) → IsTaking c → (said : Said c done [] files o) → at_end (taking c) [] (walk_of said trails) ≡ []
 all_pass c done files o trails is said =
-    checks_of c o said.rows said.kept said.pending (place done) trails is said.settles said.fine said.option_is
-    ∙ ap (check_kinds false false) (all_given 1 (said.kept ++ ending c o) c.ids files (others c) (all_there c done files o said))
+    checks_of c o said.rows said.kept said.pending (place done) trails is said.accepted said.settles said.fine said.option_is
+    ∙ ap (check_kinds false false) (all_given 1 (said.kept ++ ending c o) c.ids files (others c) (all_there c done files o said) ∙ others_given c (said.kept ++ ending c o))
 
 -- what the rows hold of the option at the end: its text, or the one that stands where it is left out
 abbrev pub HoldsAtEnd : Taking → Option Text → List Row → Type 0

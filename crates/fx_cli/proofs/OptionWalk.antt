@@ -1,18 +1,17 @@
 -- The walk over the words behind a command with an option that is set once or never, before its end is judged.
-use Rattle.std.proofs.Common.{◌≡◌, ◌∙◌, ◌⊎◌, ℕ, Bool, cond, true, false, refl, sym, ap, ap₂, subst, List, [], ◌∷◌, length, Option, Some, None, inl, inr, is_some}
+use Rattle.std.proofs.Common.{◌≡◌, ◌∙◌, ℕ, Bool, cond, true, false, refl, sym, ap, ap₂, subst, List, [], ◌∷◌, length, Option, Some, None, inl, inr, is_some}
 use Rattle.std.specs.List.{fold}
 use Rattle.std.specs.Option.{option_map_or}
 use Rattle.clap.specs.Kinds.{Kinds, or_else}
 use Rattle.clap.specs.declared.error.kind.ErrorKind.TheVariants.{TooManyValues}
 use Rattle.clap.specs.Faults.{check_fault, defaults_fault, long_fault, option_fault, other_fault, positional_fault, react_fault, settle_fault, short_fault, step_fault, stray_fault, turn_fault, use_fault, walk_fault, word_fault}
-use Rattle.clap.specs.Walk.{after_step, Held, Row, Rule, Step, Text, Waiting, Walk, arg_by_index, arg_by_long, arg_by_short, attached_value, finished, idle, is_pending, next, option, option_word, plain, plain_word as plain_step, reacted, settled, takes_values, value, walked, word_met}
+use Rattle.clap.specs.Walk.{after_step, Held, Row, Rule, Step, Text, Waiting, Walk, arg_by_long, arg_by_short, attached_value, finished, idle, is_pending, next, option, option_word, plain, plain_word as plain_step, reacted, settled, takes_values, value, walked, word_met}
 use Rattle.clap.proofs.FaultLemmas.{fault_ends}
 use Rattle.clap.proofs.WalkLemmas.{bundle_ends}
 use Rattle.fx_cli.specs.Words.{is_double_hyphen, is_flag}
+use Rattle.fx_cli.proofs.WordSteps.{at_end, double_fault, double_walk, turn_of, walk_at}
 use Rattle.fx_cli.proofs.SingleWords.{Fails, IsNoFlag, bool_cases, fails_first, flag_form, held, long_refused, plain_form, plain_word, short_refused}
-use Rattle.fx_cli.proofs.FileWords.{at_end, turn_of, walk_at}
-use Rattle.fx_cli.proofs.DocumentWords.{double_fault, double_walk}
-use Rattle.fx_cli.proofs.OptionCommand.{IsTaking, Taking, arguments, file_argument, option_argument, option_by_id, others, same_text as same_name, some_index, taking}
+use Rattle.fx_cli.proofs.OptionCommand.{HasOption, Taking, arguments, file_argument, option_argument, option_by_id, same_text as same_name, file_or_none, taking}
 use Rattle.fx_cli.proofs.OptionRows.{and_false}
 
 -- ---- the whole of the command, from where a walk stands
@@ -95,7 +94,7 @@ pub file_fault : (c : Taking) (h : Held) (n : ℕ) (id : Text) → value_fault c
 file_fault c h n id = ap (λ (b : Bool). cond b [] (settle_fault (arguments c) false h)) (and_false (is_pending (file_argument n id) h.pending))
 
 file_unsettled : (c : Taking) (rows : List Row) (values : List Text) (position : ℕ) → Unsettled c rows values → Fails (step_fault (taking c) position (held rows (Some (c.option, values))) value)
-file_unsettled c rows values position fails = elim (some_index 1 position c.ids (others c)) [
+file_unsettled c rows values position fails = elim (file_or_none c position) [
   | inl none ↦ subst (λ (a : Option Rule). Fails (value_fault c (held rows (Some (c.option, values))) a)) (sym none) tt
   | inr (n, id, is) ↦ subst (λ (a : Option Rule). Fails (value_fault c (held rows (Some (c.option, values))) a)) (sym is)
       (subst Fails (sym (file_fault c (held rows (Some (c.option, values))) n id)) fails)
@@ -148,23 +147,23 @@ awaited_fine c rows word single (long, inr (flags, short, empty)) =
 taken_word : (c : Taking) (rows : List Row) (word : Text) → option_word (Some (option_argument c)) c.option word (awaits c rows) ≡ (held rows (Some (c.option, word ∷ [])), idle)
 taken_word c rows word = rw (same_name c.option) refl
 
-awaited_step : (c : Taking) (rows : List Row) (word : Text) → IsTaking c
+awaited_step : (c : Taking) (rows : List Row) (word : Text) → HasOption c
     → plain_step (arguments c) (option c.option) word (awaits c rows) ≡ (held rows (Some (c.option, word ∷ [])), next idle)
 awaited_step c rows word is =
     ap (λ (a : Option Rule). ((option_word a c.option word (awaits c rows)).0, next (option_word a c.option word (awaits c rows)).1)) (option_by_id c is)
     ∙ ap (λ (p : Held × Waiting). (p.0, next p.1)) (taken_word c rows word)
 
-awaited_whole : (c : Taking) (rows : List Row) (position : ℕ) (word : Text) → IsTaking c → is_double_hyphen word ≡ false → is_flag word ≡ false
+awaited_whole : (c : Taking) (rows : List Row) (position : ℕ) (word : Text) → HasOption c → is_double_hyphen word ≡ false → is_flag word ≡ false
     → word_met (arguments c) [] false (option c.option) position word (awaits c rows) ≡ (held rows (Some (c.option, word ∷ [])), next idle)
 awaited_whole c rows position word is single file = awaited_met c rows position word single (plain_form word single file) ∙ awaited_step c rows word is
 
-pub awaited_walk : (c : Taking) (rows : List Row) (position : ℕ) (word : Text) → IsTaking c → is_double_hyphen word ≡ false → is_flag word ≡ false
+pub awaited_walk : (c : Taking) (rows : List Row) (position : ℕ) (word : Text) → HasOption c → is_double_hyphen word ≡ false → is_flag word ≡ false
     → walked (arguments c) [] (awaiting c rows position) word ≡ walk_at rows (Some (c.option, word ∷ [])) position false
 unfolding walked
 awaited_walk c rows position word is single file =
     ap (λ (m : Held × Step). after_step (arguments c) word (awaiting c rows position) m.0 m.1) (awaited_whole c rows position word is single file)
 
-pub awaited_turn : (c : Taking) (rows : List Row) (position : ℕ) (word : Text) → IsTaking c → is_double_hyphen word ≡ false → is_flag word ≡ false
+pub awaited_turn : (c : Taking) (rows : List Row) (position : ℕ) (word : Text) → HasOption c → is_double_hyphen word ≡ false → is_flag word ≡ false
     → turn_fault (taking c) [] (awaiting c rows position) word ≡ []
 awaited_turn c rows position word is single file =
     ap₂ (λ (k : Kinds) (m : Held × Step). or_else k (step_fault (taking c) position m.0 m.1)) (awaited_fine c rows word single (plain_form word single file))
@@ -179,19 +178,19 @@ trailing_turn : (c : Taking) (rows : List Row) (position : ℕ) (word : Text) �
 trailing_turn c rows position word double = rw double refl
 
 -- no text is no use of the option
-no_text : (c : Taking) (rows : List Row) → IsTaking c → Unsettled c rows []
+no_text : (c : Taking) (rows : List Row) → HasOption c → Unsettled c rows []
 no_text c rows is = subst (λ (a : Option Rule). Fails (option_map_or (λ r. use_fault false r [] rows) a [])) (sym (option_by_id c is)) tt
 
 -- no text comes: the words end, or `--` or a flag is next
-pub awaited_end : (c : Taking) (rows : List Row) (position : ℕ) → IsTaking c → Fails (outcome c (awaiting c rows position) [])
+pub awaited_end : (c : Taking) (rows : List Row) (position : ℕ) → HasOption c → Fails (outcome c (awaiting c rows position) [])
 awaited_end c rows position is = fails_at_end c (awaiting c rows position) (no_text c rows is)
 
-pub awaited_double : (c : Taking) (rows : List Row) (position : ℕ) (word : Text) (rest : List Text) → IsTaking c → is_double_hyphen word ≡ true → Fails (outcome c (awaiting c rows position) (word ∷ rest))
+pub awaited_double : (c : Taking) (rows : List Row) (position : ℕ) (word : Text) (rest : List Text) → HasOption c → is_double_hyphen word ≡ true → Fails (outcome c (awaiting c rows position) (word ∷ rest))
 awaited_double c rows position word rest is double =
     fails_behind c (awaiting c rows position) (record (walk_at rows (Some (c.option, [])) position true) { waiting = option c.option }) word rest
     (trailing_turn c rows position word double) (trailing_walk c rows position word double) (doomed_trailing c rest rows [] position (option c.option) (no_text c rows is))
 
-pub awaited_flag : (c : Taking) (rows : List Row) (position : ℕ) (word : Text) (rest : List Text) → IsTaking c → is_double_hyphen word ≡ false → is_flag word ≡ true
+pub awaited_flag : (c : Taking) (rows : List Row) (position : ℕ) (word : Text) (rest : List Text) → HasOption c → is_double_hyphen word ≡ false → is_flag word ≡ true
     → Fails (outcome c (awaiting c rows position) (word ∷ rest))
 awaited_flag c rows position word rest is single flag =
     let met = word_met (arguments c) [] false (option c.option) position word (awaits c rows) in
@@ -199,7 +198,7 @@ awaited_flag c rows position word rest is single flag =
     (fails_first (word_fault (taking c) [] false (option c.option) word (awaits c rows)) (step_fault (taking c) position met.0 met.1) (flag_unsettled c word rows [] (no_text c rows is) single flag))
 
 -- a second text is never taken, whatever it is
-pub twice : (c : Taking) (rest : List Text) (rows : List Row) (position : ℕ) → IsTaking c → ((text : Text) → Unsettled c rows (text ∷ [])) → Fails (outcome c (awaiting c rows position) rest)
+pub twice : (c : Taking) (rest : List Text) (rows : List Row) (position : ℕ) → HasOption c → ((text : Text) → Unsettled c rows (text ∷ [])) → Fails (outcome c (awaiting c rows position) rest)
 twice c [] rows position is fails = awaited_end c rows position is
 twice c (word ∷ rest) rows position is fails = elim (bool_cases (is_double_hyphen word)) [
   | inl double ↦ awaited_double c rows position word rest is double

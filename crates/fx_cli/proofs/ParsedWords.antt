@@ -1,11 +1,10 @@
 -- What a parse of the program's words gives, and which values its matches hold.
-use Rattle.std.proofs.Common.{◌≡◌, ◌∙◌, ◌⊎◌, ℕ, true, false, refl, sym, ap, ap₂, subst, arith, List, [], ◌∷◌, length, Option, Some, None, inl, inr, true≢false, codes}
-use Rattle.std.specs.Str.{bytes_eq}
+use Rattle.std.proofs.Common.{◌≡◌, ◌∙◌, ◌⊎◌, ℕ, true, false, refl, sym, ap, ap₂, subst, List, [], ◌∷◌, Option, Some, None, inl, inr, true≢false, codes}
 use Rattle.std.specs.Str.Parse.{digits_value, without_leading_plus}
-use Rattle.std.specs.Prelude.{unwrap_or, option_map}
-use Rattle.clap.specs.Words.{AddsInTurn, AddsSubcommand, app_of, first_of, first_value, one_of, one_text, rows_of, HasMatchesOf, is_simple, is_simple_and_free, subcommand_rows_of, HasKind, kind_of, subcommand_name_of}
-use Rattle.clap.specs.Walk.{Row, Text}
-use Rattle.clap.specs.Simple.{new_app, on_top, with_rule, with_subcommand, subcommand_rows, App, built, subcommand_of}
+use Rattle.std.specs.Prelude.{⊤, unwrap_or, option_and_then, option_map, slice_get}
+use Rattle.clap.specs.Words.{AddsInTurn, AddsSubcommand, app_of, first_value, one_text, rows_of, HasMatchesOf, is_simple, is_simple_and_free, subcommand_rows_of, HasKind, kind_of, subcommand_name_of}
+use Rattle.clap.specs.Walk.{Row, Text, row_text}
+use Rattle.clap.specs.Simple.{new_app, on_top, with_rule, with_subcommand, subcommand_rows, App}
 use Rattle.clap.specs.Kinds.{Kinds}
 use Rattle.clap.specs.Faults.{fault_of}
 use Rattle.clap.specs.declared.builder.command.Command.{Command}
@@ -21,17 +20,16 @@ use Rattle.std.specs.Box.{box_value}
 use Rattle.fx_cli.specs.declared.words.Call.{Call}
 use Rattle.fx_cli.specs.declared.words.Call.TheVariants.{Audit, Check, Collect, Confirm, Replay, Run}
 use Rattle.clap.proofs.WalkLemmas.{first_value-rows, one_text-rows}
-use Rattle.std.proofs.lemmas.Slice.Eq.{bytes_eq-Decides}
-use Rattle.fx_cli.specs.Words.{IsLimit, Names, NamesAudit, NamesFiles, NamesNoCall, NamesRun}
+use Rattle.fx_cli.specs.Words.{IsLimitSet, Names, NamesFiles, NamesNoCall, NamesWith}
 use Rattle.fx_cli.specs.CommandLine.{AreMatchesOf, file_rule, limit_rule, links_rule, once_app, over_capture, over_documents, over_network, wants_command}
-use Rattle.fx_cli.specs.Matches.{HoldsLimit, HasFile, IsAuditOf, IsCheckOf, IsCollectOf, IsConfirmOf, IsReplayOf, IsRunCall}
+use Rattle.fx_cli.specs.Matches.{HoldsFile, HoldsLimit, HasFile, IsAuditOf, IsCheckOf, IsCollectOf, IsConfirmOf, IsReplayOf, IsRunCall}
 use Rattle.fx_cli.proofs.SingleWords.{Fails}
-use Rattle.fx_cli.proofs.AcceptedWords.{Refuses, Takes, TakesAudit, TakesRun, decide_words}
-use Rattle.fx_cli.proofs.CheckWords.{check_rows}
-use Rattle.fx_cli.proofs.CollectWords.{collect_rows}
-use Rattle.fx_cli.proofs.ConfirmWords.{confirm_rows}
-use Rattle.fx_cli.proofs.ReplayWords.{replay_rows}
-use Rattle.fx_cli.proofs.DocumentWords.{document_rows}
+use Rattle.fx_cli.proofs.AcceptedWords.{NamesBy, Refuses, Takes, decide_words}
+use Rattle.fx_cli.proofs.CommandTable.{Kind, audit, check, collect, confirm, name_of, one_kind, replay, run, taking_of}
+use Rattle.fx_cli.proofs.LimitWords.{limit_read, limit_taken}
+use Rattle.fx_cli.proofs.OptionCommand.{Taking, files_alone}
+use Rattle.fx_cli.proofs.OptionRows.{HasAll, first_held, one_held}
+use Rattle.fx_cli.proofs.OptionSaid.{HoldsAtEnd, IsFine}
 
 -- ---- what a parse gives
 
@@ -42,120 +40,46 @@ once_is_free : is_simple_and_free once_app ≡ true
 once_is_free = refl
 
 -- the matches of a command line that was taken, by this command
-pub record IsTakenBy (name : Text) (count : ℕ) (rows : List Text → List Row) (words : List Text) (m : ArgMatches) : Type 0 where
-  pub files : List Text
-  pub count_is : length files ≡ count
-  pub named : NamesFiles words name files
-  pub entered : subcommand_rows_of m ≡ Some (name, rows files)
-
-abbrev pub IsReplay : List Text → ArgMatches → Type 0
-IsReplay words m = IsTakenBy (codes "replay") 3 replay_rows words m
-
-abbrev pub IsCollect : List Text → ArgMatches → Type 0
-IsCollect words m = IsTakenBy (codes "collect") 2 collect_rows words m
-
-abbrev pub IsCheck : List Text → ArgMatches → Type 0
-IsCheck words m = IsTakenBy (codes "check") 3 check_rows words m
-
-abbrev pub IsConfirm : List Text → ArgMatches → Type 0
-IsConfirm words m = IsTakenBy (codes "confirm") 3 confirm_rows words m
-
--- the matches of an audit's words
-pub record IsAudit (words : List Text) (m : ArgMatches) : Type 0 where
-  pub network : Text
-  pub traffic : Text
-  pub text : Text
-  pub limit : ℕ
-  pub is : IsLimit text limit
-  pub named : NamesAudit words (network ∷ traffic ∷ []) limit
-  pub rows : List Row
-  pub entered : subcommand_rows_of m ≡ Some (codes "audit", rows)
-  pub network_is : first_of (codes "NETWORK") rows ≡ Some network
-  pub traffic_is : first_of (codes "TRAFFIC") rows ≡ Some traffic
-  pub limit_is : one_of (codes "limit") rows ≡ Some text
-
--- the matches of a run's words
-pub record IsRun (words : List Text) (m : ArgMatches) : Type 0 where
-  pub network : Text
-  pub traffic : Text
-  pub capture : Text
-  pub schedule : Text
-  pub links : Option Text
-  pub named : NamesRun words (network ∷ traffic ∷ capture ∷ schedule ∷ []) links
-  pub rows : List Row
-  pub entered : subcommand_rows_of m ≡ Some (codes "run", rows)
-  pub network_is : first_of (codes "NETWORK") rows ≡ Some network
-  pub traffic_is : first_of (codes "TRAFFIC") rows ≡ Some traffic
-  pub capture_is : first_of (codes "CAPTURE") rows ≡ Some capture
-  pub schedule_is : first_of (codes "SCHEDULE") rows ≡ Some schedule
-  pub links_is : first_of (codes "links") rows ≡ links
-
--- the matches of words that were taken, by one of the commands
-abbrev IsTaken : List Text → ArgMatches → Type 0
-IsTaken words m = IsReplay words m ⊎ (IsCollect words m ⊎ (IsCheck words m ⊎ (IsConfirm words m ⊎ (IsAudit words m ⊎ IsRun words m))))
+pub record IsTakenBy (c : Taking) (words : List Text) (m : ArgMatches) : Type 0 where
+  pub takes : Takes c words
+  pub entered : subcommand_rows_of m ≡ Some (c.command, takes.rows)
 
 not_both : (k : Kinds) → k ≡ [] → Fails k → ⊥
 not_both k none fails = subst Fails none fails
 
-takes_it : (a : App) (name : Text) (count : ℕ) (rows : List Text → List Row) (words : List Text) (m : ArgMatches) → a ≡ once_app → HasMatchesOf a words m → Takes name count rows words → IsTakenBy name count rows words m
-takes_it a name count rows words m same matches t = record {
-  files = t.files;
-  count_is = t.count_is;
-  named = t.named;
-  entered = (matches (ap is_simple same ∙ once_is_simple)).1 ∙ ap (λ (x : App). subcommand_of x words) same ∙ t.entered;
-}
-
-takes_audit : (a : App) (words : List Text) (m : ArgMatches) → a ≡ once_app → HasMatchesOf a words m → TakesAudit words → IsAudit words m
-takes_audit a words m same matches t = record {
-  network = t.network;
-  traffic = t.traffic;
-  text = t.text;
-  limit = t.limit;
-  is = t.is;
-  named = t.named;
-  rows = t.rows;
-  entered = (matches (ap is_simple same ∙ once_is_simple)).1 ∙ ap (λ (x : App). subcommand_of x words) same ∙ t.entered;
-  network_is = t.network_is;
-  traffic_is = t.traffic_is;
-  limit_is = t.limit_is;
-}
-
-takes_run : (a : App) (words : List Text) (m : ArgMatches) → a ≡ once_app → HasMatchesOf a words m → TakesRun words → IsRun words m
-takes_run a words m same matches t = record {
-  network = t.network;
-  traffic = t.traffic;
-  capture = t.capture;
-  schedule = t.schedule;
-  links = t.links;
-  named = t.named;
-  rows = t.rows;
-  entered = (matches (ap is_simple same ∙ once_is_simple)).1 ∙ ap (λ (x : App). subcommand_of x words) same ∙ t.entered;
-  network_is = t.network_is;
-  traffic_is = t.traffic_is;
-  capture_is = t.capture_is;
-  schedule_is = t.schedule_is;
-  links_is = t.links_is;
-}
-
-taken : (a : App) (words : List Text) (m : ArgMatches) → a ≡ once_app → HasMatchesOf a words m → (is_simple_and_free a ≡ true → fault_of a words ≡ []) → IsTaken words m
-taken a words m same matches kinds = elim (decide_words words) [
-  | inl t ↦ inl (takes_it a (codes "replay") 3 replay_rows words m same matches t)
-  | inr (inl t) ↦ inr (inl (takes_it a (codes "collect") 2 collect_rows words m same matches t))
-  | inr (inr (inl t)) ↦ inr (inr (inl (takes_it a (codes "check") 3 check_rows words m same matches t)))
-  | inr (inr (inr (inl t))) ↦ inr (inr (inr (inl (takes_it a (codes "confirm") 3 confirm_rows words m same matches t))))
-  | inr (inr (inr (inr (inl t)))) ↦ inr (inr (inr (inr (inl (takes_audit a words m same matches t)))))
-  | inr (inr (inr (inr (inr (inl t))))) ↦ inr (inr (inr (inr (inr (takes_run a words m same matches t)))))
-  | inr (inr (inr (inr (inr (inr r))))) ↦ absurd (not_both (fault_of once_app words) (ap (λ (x : App). fault_of x words) (sym same) ∙ kinds (ap is_simple_and_free same ∙ once_is_free)) r.fails)
+-- by one of the commands
+taken : (words : List Text) (m : ArgMatches) → AreMatchesOf words m → (k : Kind) × IsTakenBy (taking_of k) words m
+taken words m are = elim (decide_words words) [
+  | inl (k, t) ↦ (k, record { takes = t; entered = (are.matches once_is_simple).1 ∙ t.entered })
+  | inr r ↦ absurd (not_both (fault_of once_app words) are.fine r.fails)
 ]
 
-none_named : (words : List Text) → Refuses words → NamesNoCall words
-none_named words r (Replay network traffic run) n = r.replay (string_bytes network ∷ string_bytes traffic ∷ string_bytes run ∷ []) refl n
-none_named words r (Collect network stream) n = r.collect (string_bytes network ∷ string_bytes stream ∷ []) refl n
-none_named words r (Check network traffic certificate) n = r.check (string_bytes network ∷ string_bytes traffic ∷ string_bytes certificate ∷ []) refl n
-none_named words r (Confirm network traffic refutation) n = r.confirm (string_bytes network ∷ string_bytes traffic ∷ string_bytes refutation ∷ []) refl n
-none_named words r (Audit network traffic limit) n = r.audit (string_bytes network) (string_bytes traffic) limit n
-none_named words r (Run network traffic capture schedule links) n =
-    r.run (string_bytes network) (string_bytes traffic) (string_bytes capture) (string_bytes schedule) (option_map string_bytes links) n
+-- ---- words that name no call
+
+-- files alone
+named_alone : {command : Text} {ids words files : List Text} → NamesFiles words command files → NamesBy (files_alone command ids) words files None
+named_alone n = record { program = n.program; rest = n.rest; words_are = n.words_are; named = n.files_are }
+
+-- the text of a limit is taken
+limit_fine : (option : Option Text) (n : ℕ) → IsLimitSet option n → IsFine (taking_of audit) option
+limit_fine None n is = tt
+limit_fine (Some text) n is = (refl, limit_taken text n is)
+
+-- any prefix is
+any_fine : (links : Option Text) → IsFine (taking_of run) links
+any_fine None = tt
+any_fine (Some text) = (refl, refl)
+
+no_call : (words : List Text) → Refuses words → NamesNoCall words
+no_call words r (Replay a b c) n = r.unnamed replay (string_bytes a ∷ string_bytes b ∷ string_bytes c ∷ []) None refl tt (named_alone n)
+no_call words r (Collect a b) n = r.unnamed collect (string_bytes a ∷ string_bytes b ∷ []) None refl tt (named_alone n)
+no_call words r (Check a b c) n = r.unnamed check (string_bytes a ∷ string_bytes b ∷ string_bytes c ∷ []) None refl tt (named_alone n)
+no_call words r (Confirm a b c) n = r.unnamed confirm (string_bytes a ∷ string_bytes b ∷ string_bytes c ∷ []) None refl tt (named_alone n)
+no_call words r (Audit a b limit) n =
+    r.unnamed audit (string_bytes a ∷ string_bytes b ∷ []) n.option refl (limit_fine n.option limit n.limit_is) (record { program = n.program; rest = n.rest; words_are = n.words_are; named = n.named })
+no_call words r (Run a b c d links) n =
+    r.unnamed run (string_bytes a ∷ string_bytes b ∷ string_bytes c ∷ string_bytes d ∷ []) (option_map string_bytes links) refl (any_fine (option_map string_bytes links))
+    (record { program = n.program; rest = n.rest; words_are = n.words_are; named = n.named })
 
 memory_alone : (a : App) (words : List Text) (e : Error) → a ≡ once_app → (is_simple_and_free a ≡ true → HasKind (fault_of a words) e) → fault_of once_app words ≡ [] → kind_of e ≡ OutOfMemory
 memory_alone a words e same kinds takes =
@@ -166,13 +90,8 @@ memory_alone a words e same kinds takes =
 pub refused : (a : App) (words : List Text) (e : Error) → a ≡ once_app → (is_simple_and_free a ≡ true → HasKind (fault_of a words) e)
     → (kind_of e ≡ OutOfMemory) ⊎ NamesNoCall words
 refused a words e same kinds = elim (decide_words words) [
-  | inl t ↦ inl (memory_alone a words e same kinds t.takes)
-  | inr (inl t) ↦ inl (memory_alone a words e same kinds t.takes)
-  | inr (inr (inl t)) ↦ inl (memory_alone a words e same kinds t.takes)
-  | inr (inr (inr (inl t))) ↦ inl (memory_alone a words e same kinds t.takes)
-  | inr (inr (inr (inr (inl t)))) ↦ inl (memory_alone a words e same kinds t.takes)
-  | inr (inr (inr (inr (inr (inl t))))) ↦ inl (memory_alone a words e same kinds t.takes)
-  | inr (inr (inr (inr (inr (inr r))))) ↦ inr (none_named words r)
+  | inl (k, t) ↦ inl (memory_alone a words e same kinds t.takes)
+  | inr r ↦ inr (no_call words r)
 ]
 
 pub passed_on : {T : Type 0} (r : Result T Error) (e : Error) (P : T → Type 0) (Q : Error → Type 0) → IsErrAnd r (λ y. y ≡ e) → Q e → MatchResult r P Q
@@ -193,158 +112,37 @@ name_of_rows m = go (out-ArgMatches m).subcommand
     go None = refl
     go (Some b) = refl
 
-taken_name : (name : Text) (count : ℕ) (rows : List Text → List Row) (words : List Text) (m : ArgMatches) → IsTakenBy name count rows words m → subcommand_name_of m ≡ Some name
-taken_name name count rows words m t = name_of_rows m ∙ ap (option_map (λ p. p.0)) t.entered
+-- ---- the command that was met
+
+taken_name : (c : Taking) (words : List Text) (m : ArgMatches) → IsTakenBy c words m → subcommand_name_of m ≡ Some c.command
+taken_name c words m t = name_of_rows m ∙ ap (option_map (λ p. p.0)) t.entered
 
 some_same : (a b : Text) (o : Option Text) → o ≡ Some a → o ≡ Some b → a ≡ b
 some_same a b o x y = ap (λ (v : Option Text). unwrap_or v a) (sym x ∙ y)
 
-audit_name : (words : List Text) (m : ArgMatches) → IsAudit words m → subcommand_name_of m ≡ Some (codes "audit")
-audit_name words m t = name_of_rows m ∙ ap (option_map (λ p. p.0)) t.entered
-
-run_name : (words : List Text) (m : ArgMatches) → IsRun words m → subcommand_name_of m ≡ Some (codes "run")
-run_name words m t = name_of_rows m ∙ ap (option_map (λ p. p.0)) t.entered
-
--- matches of one command are no matches of another
-one_name : (name other : Text) (m : ArgMatches) → subcommand_name_of m ≡ Some name → subcommand_name_of m ≡ Some other → bytes_eq name other ≡ false → ⊥
-one_name name other m first is differ =
-    let same : name ≡ other = some_same name other (subcommand_name_of m) first is in
-    true≢false (sym ((bytes_eq-Decides name other).1 same) ∙ differ)
-
-other_name : (name other : Text) (count : ℕ) (rows : List Text → List Row) (words : List Text) (m : ArgMatches) → IsTakenBy name count rows words m → subcommand_name_of m ≡ Some other → bytes_eq name other ≡ false → ⊥
-other_name name other count rows words m t is differ = one_name name other m (taken_name name count rows words m t) is differ
-
-pub taken_collect : (words : List Text) (m : ArgMatches) → AreMatchesOf words m → subcommand_name_of m ≡ Some (codes "collect") → IsCollect words m
-taken_collect words m are name = elim (taken once_app words m refl are.matches (λ _. are.fine)) [
-  | inl t ↦ absurd (other_name (codes "replay") (codes "collect") 3 replay_rows words m t name refl)
-  | inr (inl t) ↦ t
-  | inr (inr (inl t)) ↦ absurd (other_name (codes "check") (codes "collect") 3 check_rows words m t name refl)
-  | inr (inr (inr (inl t))) ↦ absurd (other_name (codes "confirm") (codes "collect") 3 confirm_rows words m t name refl)
-  | inr (inr (inr (inr (inl t)))) ↦ absurd (one_name (codes "audit") (codes "collect") m (audit_name words m t) name refl)
-  | inr (inr (inr (inr (inr t)))) ↦ absurd (one_name (codes "run") (codes "collect") m (run_name words m t) name refl)
-]
-
-pub taken_check : (words : List Text) (m : ArgMatches) → AreMatchesOf words m → subcommand_name_of m ≡ Some (codes "check") → IsCheck words m
-taken_check words m are name = elim (taken once_app words m refl are.matches (λ _. are.fine)) [
-  | inl t ↦ absurd (other_name (codes "replay") (codes "check") 3 replay_rows words m t name refl)
-  | inr (inl t) ↦ absurd (other_name (codes "collect") (codes "check") 2 collect_rows words m t name refl)
-  | inr (inr (inl t)) ↦ t
-  | inr (inr (inr (inl t))) ↦ absurd (other_name (codes "confirm") (codes "check") 3 confirm_rows words m t name refl)
-  | inr (inr (inr (inr (inl t)))) ↦ absurd (one_name (codes "audit") (codes "check") m (audit_name words m t) name refl)
-  | inr (inr (inr (inr (inr t)))) ↦ absurd (one_name (codes "run") (codes "check") m (run_name words m t) name refl)
-]
-
-pub taken_confirm : (words : List Text) (m : ArgMatches) → AreMatchesOf words m → subcommand_name_of m ≡ Some (codes "confirm") → IsConfirm words m
-taken_confirm words m are name = elim (taken once_app words m refl are.matches (λ _. are.fine)) [
-  | inl t ↦ absurd (other_name (codes "replay") (codes "confirm") 3 replay_rows words m t name refl)
-  | inr (inl t) ↦ absurd (other_name (codes "collect") (codes "confirm") 2 collect_rows words m t name refl)
-  | inr (inr (inl t)) ↦ absurd (other_name (codes "check") (codes "confirm") 3 check_rows words m t name refl)
-  | inr (inr (inr (inl t))) ↦ t
-  | inr (inr (inr (inr (inl t)))) ↦ absurd (one_name (codes "audit") (codes "confirm") m (audit_name words m t) name refl)
-  | inr (inr (inr (inr (inr t)))) ↦ absurd (one_name (codes "run") (codes "confirm") m (run_name words m t) name refl)
-]
-
-pub taken_audit : (words : List Text) (m : ArgMatches) → AreMatchesOf words m → subcommand_name_of m ≡ Some (codes "audit") → IsAudit words m
-taken_audit words m are name = elim (taken once_app words m refl are.matches (λ _. are.fine)) [
-  | inl t ↦ absurd (other_name (codes "replay") (codes "audit") 3 replay_rows words m t name refl)
-  | inr (inl t) ↦ absurd (other_name (codes "collect") (codes "audit") 2 collect_rows words m t name refl)
-  | inr (inr (inl t)) ↦ absurd (other_name (codes "check") (codes "audit") 3 check_rows words m t name refl)
-  | inr (inr (inr (inl t))) ↦ absurd (other_name (codes "confirm") (codes "audit") 3 confirm_rows words m t name refl)
-  | inr (inr (inr (inr (inl t)))) ↦ t
-  | inr (inr (inr (inr (inr t)))) ↦ absurd (one_name (codes "run") (codes "audit") m (run_name words m t) name refl)
-]
-
-pub taken_run : (words : List Text) (m : ArgMatches) → AreMatchesOf words m → subcommand_name_of m ≡ Some (codes "run") → IsRun words m
-taken_run words m are name = elim (taken once_app words m refl are.matches (λ _. are.fine)) [
-  | inl t ↦ absurd (other_name (codes "replay") (codes "run") 3 replay_rows words m t name refl)
-  | inr (inl t) ↦ absurd (other_name (codes "collect") (codes "run") 2 collect_rows words m t name refl)
-  | inr (inr (inl t)) ↦ absurd (other_name (codes "check") (codes "run") 3 check_rows words m t name refl)
-  | inr (inr (inr (inl t))) ↦ absurd (other_name (codes "confirm") (codes "run") 3 confirm_rows words m t name refl)
-  | inr (inr (inr (inr (inl t)))) ↦ absurd (one_name (codes "audit") (codes "run") m (audit_name words m t) name refl)
-  | inr (inr (inr (inr (inr t)))) ↦ t
-]
+pub taken_by : (k : Kind) (words : List Text) (m : ArgMatches) → AreMatchesOf words m → subcommand_name_of m ≡ Some (name_of k) → IsTakenBy (taking_of k) words m
+taken_by k words m are name =
+    let t = taken words m are in
+    let same : t.0 ≡ k = one_kind t.0 k (some_same (name_of t.0) (name_of k) (subcommand_name_of m) (taken_name (taking_of t.0) words m t.1) name) in
+    subst (λ (x : Kind). IsTakenBy (taking_of x) words m) same t.1
 
 -- where none of the others was found
 abbrev IsNotFound : Text → ArgMatches → Type 0
 IsNotFound name m = subcommand_name_of m ≡ Some name → false ≡ true
 
 pub taken_replay : (words : List Text) (m : ArgMatches) → AreMatchesOf words m → IsNotFound (codes "collect") m → IsNotFound (codes "check") m → IsNotFound (codes "confirm") m
-    → IsNotFound (codes "audit") m → IsNotFound (codes "run") m → IsReplay words m
-taken_replay words m are collect check confirm audit run = elim (taken once_app words m refl are.matches (λ _. are.fine)) [
-  | inl t ↦ t
-  | inr (inl t) ↦ absurd (true≢false (sym (collect (taken_name (codes "collect") 2 collect_rows words m t))))
-  | inr (inr (inl t)) ↦ absurd (true≢false (sym (check (taken_name (codes "check") 3 check_rows words m t))))
-  | inr (inr (inr (inl t))) ↦ absurd (true≢false (sym (confirm (taken_name (codes "confirm") 3 confirm_rows words m t))))
-  | inr (inr (inr (inr (inl t)))) ↦ absurd (true≢false (sym (audit (audit_name words m t))))
-  | inr (inr (inr (inr (inr t)))) ↦ absurd (true≢false (sym (run (run_name words m t))))
-]
-
-pub replay_name : (words : List Text) (m : ArgMatches) → IsReplay words m → subcommand_name_of m ≡ Some (codes "replay")
-replay_name words m t = taken_name (codes "replay") 3 replay_rows words m t
+    → IsNotFound (codes "audit") m → IsNotFound (codes "run") m → subcommand_name_of m ≡ Some (codes "replay")
+taken_replay words m are not_collect not_check not_confirm not_audit not_run = let t = taken words m are in go t.0 (taken_name (taking_of t.0) words m t.1)
+  where
+    go : (k : Kind) → subcommand_name_of m ≡ Some (name_of k) → subcommand_name_of m ≡ Some (codes "replay")
+    go replay name = name
+    go collect name = absurd (true≢false (sym (not_collect name)))
+    go check name = absurd (true≢false (sym (not_check name)))
+    go confirm name = absurd (true≢false (sym (not_confirm name)))
+    go audit name = absurd (true≢false (sym (not_audit name)))
+    go run name = absurd (true≢false (sym (not_run name)))
 
 -- ---- the values that are found
-
--- this name's value, by the rows that a command's matches have
-value_by : (found : Found) (id name : Text) (rows : List Row) → rows_of found ≡ rows → first_of id rows ≡ Some name → first_value found id ≡ Some name
-value_by found id name rows same is = first_value-rows found id ∙ ap (first_of id) same ∙ is
-
--- the values of the three names of a command over documents
-pub record HasDocuments (command third : Text) (words : List Text) (found : Found) : Type 0 where
-  pub network : Text
-  pub traffic : Text
-  pub last : Text
-  pub named : NamesFiles words command (network ∷ traffic ∷ last ∷ [])
-  pub network_is : first_value found (codes "NETWORK") ≡ Some network
-  pub traffic_is : first_value found (codes "TRAFFIC") ≡ Some traffic
-  pub last_is : first_value found third ≡ Some last
-
--- the rows of three files say each of them
-abbrev HasThird : Text → Type 0
-HasThird third = (a b c : Text) → first_of third (document_rows third (a ∷ b ∷ c ∷ [])) ≡ Some c
-
-documents_of : (command third : Text) (words : List Text) (found : Found) (files : List Text) → HasThird third → length files ≡ 3 → NamesFiles words command files → rows_of found ≡ document_rows third files
-    → HasDocuments command third words found
-documents_of command third words found [] has all named rows = absurd (omega (arith, all))
-documents_of command third words found (a ∷ []) has all named rows = absurd (omega (arith, all))
-documents_of command third words found (a ∷ b ∷ []) has all named rows = absurd (omega (arith, all))
-documents_of command third words found (a ∷ b ∷ c ∷ []) has all named rows = record {
-  network = a;
-  traffic = b;
-  last = c;
-  named = named;
-  network_is = value_by found (codes "NETWORK") a (document_rows third (a ∷ b ∷ c ∷ [])) rows refl;
-  traffic_is = value_by found (codes "TRAFFIC") b (document_rows third (a ∷ b ∷ c ∷ [])) rows refl;
-  last_is = value_by found third c (document_rows third (a ∷ b ∷ c ∷ [])) rows (has a b c);
-}
-documents_of command third words found (a ∷ b ∷ c ∷ d ∷ others) has all named rows = absurd (omega (arith, all))
-
--- the values of the two names of a command over a network and another file
-pub record HasFiles (command second : Text) (words : List Text) (found : Found) : Type 0 where
-  pub network : Text
-  pub last : Text
-  pub named : NamesFiles words command (network ∷ last ∷ [])
-  pub network_is : first_value found (codes "NETWORK") ≡ Some network
-  pub last_is : first_value found second ≡ Some last
-
-files_of : (command second : Text) (rows : List Text → List Row) (words : List Text) (found : Found) (files : List Text)
-    → ((a b : Text) → first_of (codes "NETWORK") (rows (a ∷ b ∷ [])) ≡ Some a) → ((a b : Text) → first_of second (rows (a ∷ b ∷ [])) ≡ Some b)
-    → length files ≡ 2 → NamesFiles words command files → rows_of found ≡ rows files → HasFiles command second words found
-files_of command second rows words found [] first last all named same = absurd (omega (arith, all))
-files_of command second rows words found (a ∷ []) first last all named same = absurd (omega (arith, all))
-files_of command second rows words found (a ∷ b ∷ []) first last all named same = record {
-  network = a;
-  last = b;
-  named = named;
-  network_is = value_by found (codes "NETWORK") a (rows (a ∷ b ∷ [])) same (first a b);
-  last_is = value_by found second b (rows (a ∷ b ∷ [])) same (last a b);
-}
-files_of command second rows words found (a ∷ b ∷ c ∷ others) first last all named same = absurd (omega (arith, all))
-
-same_rows : (name : Text) (count : ℕ) (rows : List Text → List Row) (words : List Text) (m : ArgMatches) (found : Found) (t : IsTakenBy name count rows words m)
-    → option_map (λ p. p.1) (subcommand_rows_of m) ≡ Some (rows_of found) → rows_of found ≡ rows t.files
-same_rows name count rows words m found t e = ap (λ (o : Option (List Row)). unwrap_or o (rows t.files)) (sym e ∙ ap (option_map (λ p. p.1)) t.entered)
-
--- ---- what the matches of words that were taken hold
 
 pub are_matches : (a : App) (words : List Text) (m : ArgMatches) → a ≡ once_app → HasMatchesOf a words m → (is_simple_and_free a ≡ true → fault_of a words ≡ []) → AreMatchesOf words m
 are_matches a words m same matches kinds = record {
@@ -356,126 +154,90 @@ are_matches a words m same matches kinds = record {
 abbrev HasRows : ArgMatches → Found → Type 0
 HasRows m found = option_map (λ p. p.1) (subcommand_rows_of m) ≡ Some (rows_of found)
 
-pub replay_files : (words : List Text) (m : ArgMatches) (found : Found) → IsReplay words m → HasRows m found → HasDocuments (codes "replay") (codes "RUN") words found
-replay_files words m found t e = documents_of (codes "replay") (codes "RUN") words found t.files (λ a b c. refl) t.count_is t.named (same_rows (codes "replay") 3 replay_rows words m found t e)
+-- the values of a command's words
+pub record HasWords (c : Taking) (words : List Text) (found : Found) : Type 0 where
+  pub files : List Text
+  pub option : Option Text
+  pub accepted : IsFine c option
+  pub named : NamesBy c words files option
+  pub files_are : HasAll (rows_of found) c.ids files
+  pub option_is : HoldsAtEnd c option (rows_of found)
 
-pub check_files : (words : List Text) (m : ArgMatches) (found : Found) → AreMatchesOf words m → subcommand_name_of m ≡ Some (codes "check") → HasRows m found → HasDocuments (codes "check") (codes "CERTIFICATE") words found
-check_files words m found are name e =
-    let t = taken_check words m are name in
-    documents_of (codes "check") (codes "CERTIFICATE") words found t.files (λ a b c. refl) t.count_is t.named (same_rows (codes "check") 3 check_rows words m found t e)
-
-pub confirm_files : (words : List Text) (m : ArgMatches) (found : Found) → AreMatchesOf words m → subcommand_name_of m ≡ Some (codes "confirm") → HasRows m found → HasDocuments (codes "confirm") (codes "REFUTATION") words found
-confirm_files words m found are name e =
-    let t = taken_confirm words m are name in
-    documents_of (codes "confirm") (codes "REFUTATION") words found t.files (λ a b c. refl) t.count_is t.named (same_rows (codes "confirm") 3 confirm_rows words m found t e)
-
-pub collect_files : (words : List Text) (m : ArgMatches) (found : Found) → AreMatchesOf words m → subcommand_name_of m ≡ Some (codes "collect") → HasRows m found → HasFiles (codes "collect") (codes "STREAM") words found
-collect_files words m found are name e =
-    let t = taken_collect words m are name in
-    files_of (codes "collect") (codes "STREAM") collect_rows words found t.files (λ a b. refl) (λ a b. refl) t.count_is t.named (same_rows (codes "collect") 2 collect_rows words m found t e)
-
--- the values of an audit
-pub record HasAudit (words : List Text) (found : Found) : Type 0 where
-  pub network : Text
-  pub traffic : Text
-  pub text : Text
-  pub limit : ℕ
-  pub is : IsLimit text limit
-  pub named : NamesAudit words (network ∷ traffic ∷ []) limit
-  pub network_is : first_value found (codes "NETWORK") ≡ Some network
-  pub traffic_is : first_value found (codes "TRAFFIC") ≡ Some traffic
-  pub limit_is : one_text found (codes "limit") ≡ Some text
-
-pub audit_files : (words : List Text) (m : ArgMatches) (found : Found) → AreMatchesOf words m → subcommand_name_of m ≡ Some (codes "audit") → HasRows m found → HasAudit words found
-audit_files words m found are name e =
-    let t = taken_audit words m are name in
-    let same : rows_of found ≡ t.rows = ap (λ (o : Option (List Row)). unwrap_or o t.rows) (sym e ∙ ap (option_map (λ p. p.1)) t.entered) in
+pub words_of : (k : Kind) (words : List Text) (m : ArgMatches) (found : Found) → AreMatchesOf words m → subcommand_name_of m ≡ Some (name_of k) → HasRows m found → HasWords (taking_of k) words found
+words_of k words m found are name e =
+    let t = taken_by k words m are name in
+    let same : t.takes.rows ≡ rows_of found = sym (ap (λ (o : Option (List Row)). unwrap_or o t.takes.rows) (sym e ∙ ap (option_map (λ p. p.1)) t.entered)) in
     record {
-      network = t.network;
-      traffic = t.traffic;
-      text = t.text;
-      limit = t.limit;
-      is = t.is;
-      named = t.named;
-      network_is = value_by found (codes "NETWORK") t.network t.rows same t.network_is;
-      traffic_is = value_by found (codes "TRAFFIC") t.traffic t.rows same t.traffic_is;
-      limit_is = one_text-rows found (codes "limit") ∙ ap (one_of (codes "limit")) same ∙ t.limit_is;
+      files = t.takes.files;
+      option = t.takes.option;
+      accepted = t.takes.accepted;
+      named = t.takes.named;
+      files_are = subst (λ (rows : List Row). HasAll rows (taking_of k).ids t.takes.files) same t.takes.files_are;
+      option_is = subst (HoldsAtEnd (taking_of k) t.takes.option) same t.takes.option_is;
     }
-
--- the values of a run
-pub record HasRun (words : List Text) (found : Found) : Type 0 where
-  pub network : Text
-  pub traffic : Text
-  pub capture : Text
-  pub schedule : Text
-  pub links : Option Text
-  pub named : NamesRun words (network ∷ traffic ∷ capture ∷ schedule ∷ []) links
-  pub network_is : first_value found (codes "NETWORK") ≡ Some network
-  pub traffic_is : first_value found (codes "TRAFFIC") ≡ Some traffic
-  pub capture_is : first_value found (codes "CAPTURE") ≡ Some capture
-  pub schedule_is : first_value found (codes "SCHEDULE") ≡ Some schedule
-  pub links_is : first_value found (codes "links") ≡ links
-
-pub run_files : (words : List Text) (m : ArgMatches) (found : Found) → AreMatchesOf words m → subcommand_name_of m ≡ Some (codes "run") → HasRows m found → HasRun words found
-run_files words m found are name e =
-    let t = taken_run words m are name in
-    let same : rows_of found ≡ t.rows = ap (λ (o : Option (List Row)). unwrap_or o t.rows) (sym e ∙ ap (option_map (λ p. p.1)) t.entered) in
-    record {
-      network = t.network;
-      traffic = t.traffic;
-      capture = t.capture;
-      schedule = t.schedule;
-      links = t.links;
-      named = t.named;
-      network_is = value_by found (codes "NETWORK") t.network t.rows same t.network_is;
-      traffic_is = value_by found (codes "TRAFFIC") t.traffic t.rows same t.traffic_is;
-      capture_is = value_by found (codes "CAPTURE") t.capture t.rows same t.capture_is;
-      schedule_is = value_by found (codes "SCHEDULE") t.schedule t.rows same t.schedule_is;
-      links_is = first_value-rows found (codes "links") ∙ ap (first_of (codes "links")) same ∙ t.links_is;
-    }
-
-has_value : (found : Found) (id name : Text) → first_value found id ≡ Some name → HasFile found id
-has_value found id name is = subst (λ (o : Option Text). IsSome o) (sym is) refl
-
-pub all_found : {command third : Text} {words : List Text} (found : Found) → HasDocuments command third words found → HasFile found (codes "NETWORK") × HasFile found (codes "TRAFFIC") × HasFile found third
-all_found {command} {third} found f =
-    (has_value found (codes "NETWORK") f.network f.network_is, has_value found (codes "TRAFFIC") f.traffic f.traffic_is, has_value found third f.last f.last_is)
-
-pub both_found : {command second : Text} {words : List Text} (found : Found) → HasFiles command second words found → HasFile found (codes "NETWORK") × HasFile found second
-both_found {command} {second} found f = (has_value found (codes "NETWORK") f.network f.network_is, has_value found second f.last f.last_is)
-
-pub audit_found : {words : List Text} (found : Found) → HasAudit words found → HasFile found (codes "NETWORK") × HasFile found (codes "TRAFFIC") × ((n : ℕ) × HoldsLimit found n)
-audit_found found f = (has_value found (codes "NETWORK") f.network f.network_is, has_value found (codes "TRAFFIC") f.traffic f.traffic_is, (f.limit, (f.text, f.limit_is, f.is)))
-
-pub run_found : {words : List Text} (found : Found) → HasRun words found
-    → HasFile found (codes "NETWORK") × HasFile found (codes "TRAFFIC") × HasFile found (codes "CAPTURE") × HasFile found (codes "SCHEDULE")
-run_found found f =
-    (has_value found (codes "NETWORK") f.network f.network_is, has_value found (codes "TRAFFIC") f.traffic f.traffic_is, has_value found (codes "CAPTURE") f.capture f.capture_is, has_value found (codes "SCHEDULE") f.schedule f.schedule_is)
-
-same_file : (found : Found) (id name file : Text) → first_value found id ≡ Some file → first_value found id ≡ Some name → file ≡ name
-same_file found id name file a b = ap (λ (o : Option Text). unwrap_or o file) (sym a ∙ b)
 
 pub if_some : {X : Type 0} (o : Option X) (x : X) (P : X → Type 0) → o ≡ Some x → IfSome o P → P x
 if_some o x P is h = subst (λ v. IfSome v P) is h
 
--- the words name the values that are there
-pub with_documents : (command third : Text) (words : List Text) (found : Found) → HasDocuments command third words found → (network traffic last : Text) → first_value found (codes "NETWORK") ≡ Some network
-    → first_value found (codes "TRAFFIC") ≡ Some traffic → first_value found third ≡ Some last
-    → NamesFiles words command (network ∷ traffic ∷ last ∷ [])
-with_documents command third words found f network traffic last n t l =
-    subst (NamesFiles words command)
-    (λ i. same_file found (codes "NETWORK") network f.network f.network_is n i
-    ∷ same_file found (codes "TRAFFIC") traffic f.traffic f.traffic_is t i
-    ∷ same_file found third last f.last f.last_is l i ∷ [])
-    f.named
+abbrev pub HasFiles : Found → List Text → Type 0
+HasFiles found [] = ⊤
+HasFiles found (id ∷ ids) = HasFile found id × HasFiles found ids
 
-pub with_files : (command second : Text) (words : List Text) (found : Found) → HasFiles command second words found → (network last : Text) → first_value found (codes "NETWORK") ≡ Some network
-    → first_value found second ≡ Some last → NamesFiles words command (network ∷ last ∷ [])
-with_files command second words found f network last n l =
-    subst (NamesFiles words command)
-    (λ i. same_file found (codes "NETWORK") network f.network f.network_is n i
-    ∷ same_file found second last f.last f.last_is l i ∷ [])
-    f.named
+pub all_found : (found : Found) (ids files : List Text) → HasAll (rows_of found) ids files → HasFiles found ids
+all_found found [] files has = tt
+all_found found (id ∷ ids) (file ∷ files) has =
+    (subst (λ (o : Option Text). IsSome o) (sym (first_value-rows found id ∙ first_held (rows_of found) id file has.0)) refl, all_found found ids files has.1)
+all_found found (id ∷ ids) [] has = absurd has
+
+-- the files under these names are these
+abbrev pub HoldsFiles : Found → List Text → List Text → Type 0
+HoldsFiles found [] [] = ⊤
+HoldsFiles found (id ∷ ids) (file ∷ files) = HoldsFile found id file × HoldsFiles found ids files
+HoldsFiles found _ _ = ⊥
+
+same_files : (found : Found) (ids files names : List Text) → HasAll (rows_of found) ids files → HoldsFiles found ids names → files ≡ names
+same_files found [] [] [] has holds = refl
+same_files found (id ∷ ids) (file ∷ files) (name ∷ names) has holds =
+    let one : file ≡ name = some_same file name (first_value found id) (first_value-rows found id ∙ first_held (rows_of found) id file has.0) holds.0 in
+    ap₂ (λ (x : Text) (xs : List Text). x ∷ xs) one (same_files found ids files names has.1 holds.1)
+same_files found [] (file ∷ files) names has holds = absurd has
+same_files found [] [] (name ∷ names) has holds = absurd holds
+same_files found (id ∷ ids) [] names has holds = absurd has
+same_files found (id ∷ ids) (file ∷ files) [] has holds = absurd holds
+
+-- the words name the values that are there
+named_there : (c : Taking) (words names : List Text) (found : Found) (f : HasWords c words found) → HoldsFiles found c.ids names → NamesBy c words names f.option
+named_there c words names found f holds = subst (λ (files : List Text). NamesBy c words files f.option) (same_files found c.ids f.files names f.files_are holds) f.named
+
+files_there : (command : Text) (ids words names : List Text) (found : Found) → HasWords (files_alone command ids) words found → HoldsFiles found ids names → NamesFiles words command names
+files_there command ids words names found f holds = go f.option f.accepted (named_there (files_alone command ids) words names found f holds)
+  where
+    go : (o : Option Text) → IsFine (files_alone command ids) o → NamesBy (files_alone command ids) words names o → NamesFiles words command names
+    go None fine n = record { program = n.program; rest = n.rest; words_are = n.words_are; files_are = n.named }
+    go (Some text) fine n = absurd (true≢false (sym fine.0))
+
+-- ---- the option
+
+-- what is read of a limit: its text, or the one that stands where it is left out
+limit_there : (found : Found) (o : Option Text) → IsFine (taking_of audit) o → HoldsAtEnd (taking_of audit) o (rows_of found) → (n : ℕ) × HoldsLimit found n × IsLimitSet o n
+limit_there found None fine set =
+    let text = codes "1000000" in
+    (1000000, (text, one_text-rows found (codes "limit") ∙ ap (λ (o : Option Row). option_and_then row_text o) set, limit_read text refl), refl)
+limit_there found (Some text) fine set =
+    (digits_value 10 (without_leading_plus text), (text, one_text-rows found (codes "limit") ∙ one_held (rows_of found) (codes "limit") text set, limit_read text fine.1), limit_read text fine.1)
+
+pub limit_found : {words : List Text} (found : Found) → HasWords (taking_of audit) words found → (n : ℕ) × HoldsLimit found n
+limit_found found f = let l = limit_there found f.option f.accepted f.option_is in (l.0, l.1)
+
+-- one limit alone is held
+one_limit : (found : Found) (n other : ℕ) → HoldsLimit found n → HoldsLimit found other → n ≡ other
+one_limit found n other (text, there, is) (text', there', is') =
+    sym is.1 ∙ ap (λ (t : Text). digits_value 10 (without_leading_plus t)) (some_same text text' (one_text found (codes "limit")) there there') ∙ is'.1
+
+-- what is read of a prefix
+prefix_there : (found : Found) (links : Option Text) → HoldsAtEnd (taking_of run) links (rows_of found) → first_value found (codes "links") ≡ links
+prefix_there found None set = first_value-rows found (codes "links") ∙ ap (λ (o : Option Row). option_and_then (λ r. slice_get r.values 0) o) set
+prefix_there found (Some text) set = first_value-rows found (codes "links") ∙ first_held (rows_of found) (codes "links") text set
 
 -- ---- the call that the words name
 
@@ -483,75 +245,29 @@ pub ok_as : {T E : Type 0} (r : Result T E) (P Q : T → Type 0) → ((x : T) �
 ok_as (Ok x) P Q f h = f x h
 ok_as (Err e) P Q f h = tt
 
-pub names_replay : (words : List Text) (found : Found) → HasDocuments (codes "replay") (codes "RUN") words found → (call : Call) → IsReplayOf found call → Names words call
-names_replay words found f (Replay a b c) h = with_documents (codes "replay") (codes "RUN") words found f (string_bytes a) (string_bytes b) (string_bytes c) h.0 h.1 h.2
-names_replay words found f (Collect a b) h = absurd h
-names_replay words found f (Check a b c) h = absurd h
-names_replay words found f (Confirm a b c) h = absurd h
-names_replay words found f (Audit a b n) h = absurd h
-names_replay words found f (Run a b c d l) h = absurd h
+-- the call that the matches of a command's words hold
+abbrev pub IsCallOf : Kind → Found → Call → Type 0
+IsCallOf replay found call = IsReplayOf found call
+IsCallOf collect found call = IsCollectOf found call
+IsCallOf check found call = IsCheckOf found call
+IsCallOf confirm found call = IsConfirmOf found call
+IsCallOf audit found call = IsAuditOf found call
+IsCallOf run found call = IsRunCall found call
 
-pub names_collect : (words : List Text) (found : Found) → HasFiles (codes "collect") (codes "STREAM") words found → (call : Call) → IsCollectOf found call → Names words call
-names_collect words found f (Replay a b c) h = absurd h
-names_collect words found f (Collect a b) h = with_files (codes "collect") (codes "STREAM") words found f (string_bytes a) (string_bytes b) h.0 h.1
-names_collect words found f (Check a b c) h = absurd h
-names_collect words found f (Confirm a b c) h = absurd h
-names_collect words found f (Audit a b n) h = absurd h
-names_collect words found f (Run a b c d l) h = absurd h
-
-pub names_check : (words : List Text) (found : Found) → HasDocuments (codes "check") (codes "CERTIFICATE") words found → (call : Call) → IsCheckOf found call → Names words call
-names_check words found f (Replay a b c) h = absurd h
-names_check words found f (Collect a b) h = absurd h
-names_check words found f (Check a b c) h = with_documents (codes "check") (codes "CERTIFICATE") words found f (string_bytes a) (string_bytes b) (string_bytes c) h.0 h.1 h.2
-names_check words found f (Confirm a b c) h = absurd h
-names_check words found f (Audit a b n) h = absurd h
-names_check words found f (Run a b c d l) h = absurd h
-
-pub names_confirm : (words : List Text) (found : Found) → HasDocuments (codes "confirm") (codes "REFUTATION") words found → (call : Call) → IsConfirmOf found call → Names words call
-names_confirm words found f (Replay a b c) h = absurd h
-names_confirm words found f (Collect a b) h = absurd h
-names_confirm words found f (Check a b c) h = absurd h
-names_confirm words found f (Confirm a b c) h = with_documents (codes "confirm") (codes "REFUTATION") words found f (string_bytes a) (string_bytes b) (string_bytes c) h.0 h.1 h.2
-names_confirm words found f (Audit a b n) h = absurd h
-names_confirm words found f (Run a b c d l) h = absurd h
-
--- a limit that is held is the one that the words set
-limit_held : (words : List Text) (found : Found) (f : HasAudit words found) (n : ℕ) → HoldsLimit found n → f.limit ≡ n
-limit_held words found f n (text, there, is) =
-    let same : f.text ≡ text = ap (λ (o : Option Text). unwrap_or o f.text) (sym f.limit_is ∙ there) in
-    sym f.is.1 ∙ ap (λ (t : Text). digits_value 10 (without_leading_plus t)) same ∙ is.1
-
-pub names_audit : (words : List Text) (found : Found) → HasAudit words found → (call : Call) → IsAuditOf found call → Names words call
-names_audit words found f (Replay a b c) h = absurd h
-names_audit words found f (Collect a b) h = absurd h
-names_audit words found f (Check a b c) h = absurd h
-names_audit words found f (Confirm a b c) h = absurd h
-names_audit words found f (Run a b c d l) h = absurd h
-names_audit words found f (Audit a b n) h =
-    subst (λ (p : List Text × ℕ). NamesAudit words p.0 p.1)
-    (λ i. (
-      same_file found (codes "NETWORK") (string_bytes a) f.network f.network_is h.0 i
-          ∷ same_file found (codes "TRAFFIC") (string_bytes b) f.traffic f.traffic_is h.1 i ∷ [],
-      limit_held words found f n h.2 i,
-    ))
-    f.named
-
-pub names_run : (words : List Text) (found : Found) → HasRun words found → (call : Call) → IsRunCall found call → Names words call
-names_run words found f (Replay a b c) h = absurd h
-names_run words found f (Collect a b) h = absurd h
-names_run words found f (Check a b c) h = absurd h
-names_run words found f (Confirm a b c) h = absurd h
-names_run words found f (Audit a b n) h = absurd h
-names_run words found f (Run a b c d l) (n, t, k, s, links) =
-    subst (λ (p : List Text × Option Text). NamesRun words p.0 p.1)
-    (λ i. (
-      same_file found (codes "NETWORK") (string_bytes a) f.network f.network_is n i
-          ∷ same_file found (codes "TRAFFIC") (string_bytes b) f.traffic f.traffic_is t i
-          ∷ same_file found (codes "CAPTURE") (string_bytes c) f.capture f.capture_is k i
-          ∷ same_file found (codes "SCHEDULE") (string_bytes d) f.schedule f.schedule_is s i ∷ [],
-      (sym f.links_is ∙ links) i,
-    ))
-    f.named
+pub names_call : (k : Kind) (words : List Text) (found : Found) → HasWords (taking_of k) words found → (call : Call) → IsCallOf k found call → Names words call
+names_call replay words found f (Replay a b c) h = files_there (codes "replay") (taking_of replay).ids words (string_bytes a ∷ string_bytes b ∷ string_bytes c ∷ []) found f (h.0, (h.1, (h.2, tt)))
+names_call collect words found f (Collect a b) h = files_there (codes "collect") (taking_of collect).ids words (string_bytes a ∷ string_bytes b ∷ []) found f (h.0, (h.1, tt))
+names_call check words found f (Check a b c) h = files_there (codes "check") (taking_of check).ids words (string_bytes a ∷ string_bytes b ∷ string_bytes c ∷ []) found f (h.0, (h.1, (h.2, tt)))
+names_call confirm words found f (Confirm a b c) h = files_there (codes "confirm") (taking_of confirm).ids words (string_bytes a ∷ string_bytes b ∷ string_bytes c ∷ []) found f (h.0, (h.1, (h.2, tt)))
+names_call audit words found f (Audit a b limit) h =
+    let n = named_there (taking_of audit) words (string_bytes a ∷ string_bytes b ∷ []) found f (h.0, (h.1, tt)) in
+    let l = limit_there found f.option f.accepted f.option_is in
+    record { program = n.program; rest = n.rest; option = f.option; words_are = n.words_are; named = n.named; limit_is = subst (IsLimitSet f.option) (one_limit found l.0 limit l.1 h.2) l.2 }
+names_call run words found f (Run a b c d links) h =
+    let n = named_there (taking_of run) words (string_bytes a ∷ string_bytes b ∷ string_bytes c ∷ string_bytes d ∷ []) found f (h.0, (h.1, (h.2, (h.3, tt)))) in
+    let same : f.option ≡ option_map string_bytes links = sym (prefix_there found f.option f.option_is) ∙ h.4 in
+    record { program = n.program; rest = n.rest; words_are = n.words_are; named = subst (NamesWith (codes "links") n.rest (string_bytes a ∷ string_bytes b ∷ string_bytes c ∷ string_bytes d ∷ [])) same n.named }
+names_call k words found f call h = absurd h
 
 -- ---- the command line
 
@@ -561,17 +277,17 @@ pub record IsBuilt (c : Command) (a : App) : Type 0 where
   pub local : (out-Command c).has_globals ≡ false
 
 abbrev AreBuilt : Command → Command → Command → Command → Command → Command → Type 0
-AreBuilt replay collect check confirm audit run =
-    IsBuilt replay (over_documents (codes "replay") (file_rule (codes "RUN")))
-    × IsBuilt collect (over_network (codes "collect") (file_rule (codes "STREAM")))
-    × IsBuilt check (over_documents (codes "check") (file_rule (codes "CERTIFICATE")))
-    × IsBuilt confirm (over_documents (codes "confirm") (file_rule (codes "REFUTATION")))
-    × IsBuilt audit (with_rule (over_network (codes "audit") (file_rule (codes "TRAFFIC"))) limit_rule)
-    × IsBuilt run (with_rule (over_capture (codes "run")) links_rule)
+AreBuilt replaying collecting checking confirming auditing running =
+    IsBuilt replaying (over_documents (codes "replay") (file_rule (codes "RUN")))
+    × IsBuilt collecting (over_network (codes "collect") (file_rule (codes "STREAM")))
+    × IsBuilt checking (over_documents (codes "check") (file_rule (codes "CERTIFICATE")))
+    × IsBuilt confirming (over_documents (codes "confirm") (file_rule (codes "REFUTATION")))
+    × IsBuilt auditing (with_rule (over_network (codes "audit") (file_rule (codes "TRAFFIC"))) limit_rule)
+    × IsBuilt running (with_rule (over_capture (codes "run")) links_rule)
 
-with_six : (once replay collect check confirm audit run whole : Command) → AddsInTurn AddsSubcommand once (replay ∷ collect ∷ check ∷ confirm ∷ audit ∷ run ∷ []) whole
-    → app_of once ≡ on_top wants_command (new_app (codes "once")) → AreBuilt replay collect check confirm audit run → app_of whole ≡ once_app
-with_six once replay collect check confirm audit run whole (one, first, (two, second, (three, third, (four, fourth, (five, fifth, (six, sixth, is)))))) o (r, l, k, c, a, u) =
+with_six : (once replaying collecting checking confirming auditing running whole : Command) → AddsInTurn AddsSubcommand once (replaying ∷ collecting ∷ checking ∷ confirming ∷ auditing ∷ running ∷ []) whole
+    → app_of once ≡ on_top wants_command (new_app (codes "once")) → AreBuilt replaying collecting checking confirming auditing running → app_of whole ≡ once_app
+with_six once replaying collecting checking confirming auditing running whole (one, first, (two, second, (three, third, (four, fourth, (five, fifth, (six, sixth, is)))))) o (r, l, k, c, a, u) =
     let step = λ (x y : App). with_subcommand x y.top in
     let to_one = first.shape r.local ∙ ap₂ step o r.app in
     let to_two = second.shape l.local ∙ ap₂ step to_one l.app in
@@ -580,9 +296,9 @@ with_six once replay collect check confirm audit run whole (one, first, (two, se
     let to_five = fifth.shape a.local ∙ ap₂ step to_four a.app in
     ap app_of (sym is) ∙ sixth.shape u.local ∙ ap₂ step to_five u.app
 
-pub six_commands : {Z : Type 0} (once replay collect check confirm audit run : Command) (items : List Command) (r : Result Command Z) → IfOk r (λ whole. AddsInTurn AddsSubcommand once items whole)
-    → items ≡ replay ∷ collect ∷ check ∷ confirm ∷ audit ∷ run ∷ [] → app_of once ≡ on_top wants_command (new_app (codes "once")) → AreBuilt replay collect check confirm audit run
+pub six_commands : {Z : Type 0} (once replaying collecting checking confirming auditing running : Command) (items : List Command) (r : Result Command Z) → IfOk r (λ whole. AddsInTurn AddsSubcommand once items whole)
+    → items ≡ replaying ∷ collecting ∷ checking ∷ confirming ∷ auditing ∷ running ∷ [] → app_of once ≡ on_top wants_command (new_app (codes "once")) → AreBuilt replaying collecting checking confirming auditing running
     → IfOk r (λ whole. app_of whole ≡ once_app)
-six_commands once replay collect check confirm audit run items (Ok whole) adds are o built =
-    with_six once replay collect check confirm audit run whole (subst (λ (xs : List Command). AddsInTurn AddsSubcommand once xs whole) are adds) o built
-six_commands once replay collect check confirm audit run items (Err error) adds are o built = tt
+six_commands once replaying collecting checking confirming auditing running items (Ok whole) adds are o built =
+    with_six once replaying collecting checking confirming auditing running whole (subst (λ (xs : List Command). AddsInTurn AddsSubcommand once xs whole) are adds) o built
+six_commands once replaying collecting checking confirming auditing running items (Err error) adds are o built = tt

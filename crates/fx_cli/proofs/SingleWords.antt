@@ -31,36 +31,10 @@ pub or_none : (a : Kinds) → or_else a [] ≡ a
 or_none [] = refl
 or_none (k ∷ ks) = refl
 
--- ---- the commands, as they are built
+-- ---- the program, as it is built
 
 abbrev pub top : Shape
 top = (built once_app).top
-
-abbrev pub first_of : List Shape → Shape
-first_of [] = top
-first_of (s ∷ rest) = s
-
-abbrev pub behind_first : List Shape → List Shape
-behind_first [] = []
-behind_first (s ∷ rest) = rest
-
-abbrev pub replay : Shape
-replay = first_of (built once_app).subs
-
-abbrev pub collect : Shape
-collect = first_of (behind_first (built once_app).subs)
-
-abbrev pub check : Shape
-check = first_of (behind_first (behind_first (built once_app).subs))
-
-abbrev pub confirm : Shape
-confirm = first_of (behind_first (behind_first (behind_first (built once_app).subs)))
-
-abbrev pub audit : Shape
-audit = first_of (behind_first (behind_first (behind_first (behind_first (built once_app).subs))))
-
-abbrev pub run : Shape
-run = first_of (behind_first (behind_first (behind_first (behind_first (behind_first (built once_app).subs)))))
 
 -- ---- flags: help is answered with an error too, and no other is known
 
@@ -84,34 +58,6 @@ pub record KnowsHelp (s : Shape) : Type 0 where
   pub again : s.args_override_self ≡ false
   pub long : (name : Text) (v : Option Text) (h : Held) → Fails (long_fault s.rules s.args_override_self (arg_by_long s.rules name) v h)
   pub short : (x : ℕ) (rest : Text) (h : Held) (next : Held → Kinds) → Fails (short_fault s.rules s.args_override_self (arg_by_short s.rules x) rest h next)
-
-pub replay_knows : KnowsHelp replay
-replay_knows = record {
-  again = refl;
-  long = λ name v h. long_fails replay.rules (bytes_eq (codes "help") name || false) v h;
-  short = λ x rest h next. short_fails replay.rules (104 == x || false) rest h next;
-}
-
-pub collect_knows : KnowsHelp collect
-collect_knows = record {
-  again = refl;
-  long = λ name v h. long_fails collect.rules (bytes_eq (codes "help") name || false) v h;
-  short = λ x rest h next. short_fails collect.rules (104 == x || false) rest h next;
-}
-
-pub check_knows : KnowsHelp check
-check_knows = record {
-  again = refl;
-  long = λ name v h. long_fails check.rules (bytes_eq (codes "help") name || false) v h;
-  short = λ x rest h next. short_fails check.rules (104 == x || false) rest h next;
-}
-
-pub confirm_knows : KnowsHelp confirm
-confirm_knows = record {
-  again = refl;
-  long = λ name v h. long_fails confirm.rules (bytes_eq (codes "help") name || false) v h;
-  short = λ x rest h next. short_fails confirm.rules (104 == x || false) rest h next;
-}
 
 pub top_knows : KnowsHelp top
 top_knows = record {

@@ -1,6 +1,7 @@
 -- How a command ends: the line of a refusal, and the program's exit status.
-use Rattle.std.specs.Prelude.{ℕ, ◌≤◌, ◌==◌, ◌||◌, List, [], ◌∷◌, ◌++◌, codes, if◌then◌else◌, Result, Ok, Err, Bool}
+use Rattle.std.specs.Prelude.{◌≡◌, ◌⊎◌, ℕ, ◌≤◌, ◌==◌, ◌||◌, List, [], ◌∷◌, ◌++◌, codes, if◌then◌else◌, Option, Result, Ok, Err, Bool, true, false}
 use Rattle.std.specs.Fmt.{decimal}
+use Rattle.fx_base.specs.Device.{Writes}
 use Rattle.fx_base.specs.declared.fault.Fault.{Fault}
 use Rattle.fx_base.specs.Fault.{fault_text}
 use Rattle.fx_audit.specs.declared.answer.Answer.{Answer}
@@ -24,6 +25,11 @@ status (Ok Yes) = 0
 status (Ok No) = 1
 status (Ok Unknown) = 3
 status (Err fault) = refusal_status fault
+
+-- The program ends with this text behind what was written, and this status; or with 5 where that write failed.
+abbrev pub EndsWith : {S : Type 0} → (S → Option (List ℕ)) → (S → Bool) → List ℕ → ℕ → S → S → ℕ → Type 0
+EndsWith taken failed text wanted old new code =
+    ((code ≡ wanted) × Writes (taken old) (taken new) text × (failed old ≡ false → failed new ≡ false)) ⊎ ((code ≡ 5) × (failed new ≡ true))
 
 -- the statuses with which the program ends
 abbrev pub IsExitStatus : ℕ → Type 0

@@ -1,9 +1,7 @@
 //! How a command ends.
-ghost use Rattle.std.specs.Prelude.{◌≡◌, ◌⊎◌, true, false, OnOk, IfErr, IfOk};
-ghost use Rattle.fx_base.specs.Device.{Writes};
-ghost use Rattle.fx_base.specs.Fault.{fault_at};
-ghost use Rattle.fx_base.specs.declared.fault.Place.TheVariants as places;
-ghost use Rattle.fx_cli.specs.Ending.{IsExitStatus, refusal_line, refusal_status, status};
+ghost use Rattle.std.specs.Prelude.{◌≡◌, IfErr, IfOk};
+ghost use Rattle.fx_audit.specs.Outputs.{PutsText};
+ghost use Rattle.fx_cli.specs.Ending.{EndsWith, IsExitStatus, refusal_line, refusal_status, status};
 
 use fx_audit::Answer;
 use fx_base::{Fault, Sink, put_fault, put_number, put_text};
@@ -13,10 +11,7 @@ const WRITE_FAILED: u8 = 5;
 
 /// Writes the line of a refusal.
 fn put_refusal<S: Sink>(sink: &mut S, fault: &Fault) -> Result<(), Fault>
-    ensures ok { OnOk result (Writes (S.taken sink.old) (S.taken sink.new)
-        (refusal_line fault.now)) }
-    ensures going { OnOk result (S.failed sink.old ≡ false → S.failed sink.new ≡ false) }
-    ensures err { IfErr result (λ e. (e ≡ fault_at 902 places.None) × (S.failed sink.new ≡ true)) }
+    ensures { PutsText S.taken S.failed (refusal_line fault.now) sink.old sink.new result }
 {
     match fault.number {
         900 => put_text(sink, b"memory 900\n"),
@@ -54,10 +49,8 @@ fn status_of_refusal(fault: &Fault) -> u8
 pub fn finish<S: Sink>(outcome: &Result<Answer, Fault>, sink: &mut S) -> u8
     ensures answered { IfOk outcome.now (λ _. (result ≡ status outcome.now)
         × (sink.new ≡ sink.old)) }
-    ensures refused { IfErr outcome.now (λ e. ((result ≡ refusal_status e)
-        × Writes (S.taken sink.old) (S.taken sink.new) (refusal_line e)
-        × (S.failed sink.old ≡ false → S.failed sink.new ≡ false))
-        ⊎ ((result ≡ 5) × (S.failed sink.new ≡ true))) }
+    ensures refused { IfErr outcome.now (λ e. EndsWith S.taken S.failed
+        (refusal_line e) (refusal_status e) sink.old sink.new result) }
     ensures exit { IsExitStatus result }
 {
     match outcome {

@@ -1,10 +1,10 @@
 //! A command, from its words to its exit status.
-ghost use Rattle.std.specs.Prelude.{◌≡◌, ◌⊎◌, ℕ, ◌≤◌, ◌<◌, IfErr, IfOk, List, OnOk, length, map, string_bytes, true, false};
-ghost use Rattle.fx_base.specs.Device.{Writes};
+ghost use Rattle.std.specs.Prelude.{◌≡◌, ◌⊎◌, ◌≤◌, ◌<◌, IfErr, length, map, string_bytes, true, false};
 ghost use Rattle.fx_base.specs.Fault.{fault_at};
 ghost use Rattle.fx_base.specs.declared.fault.Place.TheVariants as places;
-ghost use Rattle.fx_cli.specs.Ending.{IsExitStatus};
+ghost use Rattle.fx_audit.specs.Outputs.{AnswersWith};
 ghost use Rattle.fx_audit.specs.Texts.{IsBundleText, IsCheckText, IsCollectText, IsConfirmText, IsReplayText, IsRunText};
+ghost use Rattle.fx_cli.specs.Ending.{IsExitStatus};
 ghost use Rattle.fx_cli.specs.Running.{EndsAs, HasFailedToWrite, IsCallText, IsTextWithin};
 ghost use Rattle.fx_cli.specs.Words.{Names, NamesNoCall};
 ghost use Rattle.fx_cli.specs.declared.words.Call.{Call};
@@ -30,6 +30,25 @@ use std::{env, mem};
 /// The exit status of a write that failed.
 const WRITE_FAILED: u8 = 5;
 
+/// A network document and a traffic declaration, and the lines of a third text.
+type Texts<F> = (Outside<F>, Outside<F>, LineReader<Outside<F>>);
+
+/// Opens the files of a network document, a traffic declaration and a third text, in this order.
+fn open_texts<R: AllocGlobal + Files>(
+    rt: &R,
+    network: &str,
+    traffic: &str,
+    third: &str,
+) -> Result<Texts<R::File>, Fault>
+    ensures { IfErr result (λ e. (e ≡ fault_at 901 places.None)
+        ⊎ (e ≡ fault_at 900 places.None)) }
+{
+    let network = open(rt, network)?;
+    let traffic = open(rt, traffic)?;
+    let third = open(rt, third)?;
+    Ok((network, traffic, LineReader::new(rt.alloc(), third)?))
+}
+
 /// Replays the run in these files.
 fn replay<R: AllocGlobal + Files + RandomSource, S: Sink>(
     rt: &R,
@@ -38,17 +57,10 @@ fn replay<R: AllocGlobal + Files + RandomSource, S: Sink>(
     run: &str,
     sink: &mut S,
 ) -> Result<Answer, Fault>
-    ensures told { IfOk result (λ answer. (text : List ℕ)
-        × IsReplayText answer text × Writes (S.taken sink.old) (S.taken sink.new) text) }
-    ensures going { OnOk result (S.failed sink.old ≡ false → S.failed sink.new ≡ false) }
-    ensures quiet { IfErr result (λ e. ((e ≡ fault_at 902 places.None) × (S.failed sink.new ≡ true))
-        ⊎ (sink.new ≡ sink.old)) }
+    ensures { AnswersWith S.taken S.failed IsReplayText sink.old sink.new result }
 {
     let seed = seed_at_random(rt)?;
-    let mut network = open(rt, network)?;
-    let mut traffic = open(rt, traffic)?;
-    let run = open(rt, run)?;
-    let mut lines = LineReader::new(rt.alloc(), run)?;
+    let (mut network, mut traffic, mut lines) = open_texts(rt, network, traffic, run)?;
     replay_bytes(
         rt.alloc(),
         seed,
@@ -66,11 +78,7 @@ fn collect<R: AllocGlobal + Files + RandomSource, S: Sink>(
     stream: &str,
     sink: &mut S,
 ) -> Result<Answer, Fault>
-    ensures told { IfOk result (λ answer. (text : List ℕ)
-        × IsCollectText answer text × Writes (S.taken sink.old) (S.taken sink.new) text) }
-    ensures going { OnOk result (S.failed sink.old ≡ false → S.failed sink.new ≡ false) }
-    ensures quiet { IfErr result (λ e. ((e ≡ fault_at 902 places.None) × (S.failed sink.new ≡ true))
-        ⊎ (sink.new ≡ sink.old)) }
+    ensures { AnswersWith S.taken S.failed IsCollectText sink.old sink.new result }
 {
     let seed = seed_at_random(rt)?;
     let mut network = open(rt, network)?;
@@ -86,16 +94,9 @@ fn check<R: AllocGlobal + Files, S: Sink>(
     certificate: &str,
     sink: &mut S,
 ) -> Result<Answer, Fault>
-    ensures told { IfOk result (λ answer. (text : List ℕ)
-        × IsCheckText answer text × Writes (S.taken sink.old) (S.taken sink.new) text) }
-    ensures going { OnOk result (S.failed sink.old ≡ false → S.failed sink.new ≡ false) }
-    ensures quiet { IfErr result (λ e. ((e ≡ fault_at 902 places.None) × (S.failed sink.new ≡ true))
-        ⊎ (sink.new ≡ sink.old)) }
+    ensures { AnswersWith S.taken S.failed IsCheckText sink.old sink.new result }
 {
-    let mut network = open(rt, network)?;
-    let mut traffic = open(rt, traffic)?;
-    let certificate = open(rt, certificate)?;
-    let mut lines = LineReader::new(rt.alloc(), certificate)?;
+    let (mut network, mut traffic, mut lines) = open_texts(rt, network, traffic, certificate)?;
     check_bytes(rt.alloc(), &mut network, &mut traffic, &mut lines, sink)
 }
 
@@ -107,16 +108,9 @@ fn confirm<R: AllocGlobal + Files, S: Sink>(
     refutation: &str,
     sink: &mut S,
 ) -> Result<Answer, Fault>
-    ensures told { IfOk result (λ answer. (text : List ℕ)
-        × IsConfirmText answer text × Writes (S.taken sink.old) (S.taken sink.new) text) }
-    ensures going { OnOk result (S.failed sink.old ≡ false → S.failed sink.new ≡ false) }
-    ensures quiet { IfErr result (λ e. ((e ≡ fault_at 902 places.None) × (S.failed sink.new ≡ true))
-        ⊎ (sink.new ≡ sink.old)) }
+    ensures { AnswersWith S.taken S.failed IsConfirmText sink.old sink.new result }
 {
-    let mut network = open(rt, network)?;
-    let mut traffic = open(rt, traffic)?;
-    let refutation = open(rt, refutation)?;
-    let mut lines = LineReader::new(rt.alloc(), refutation)?;
+    let (mut network, mut traffic, mut lines) = open_texts(rt, network, traffic, refutation)?;
     confirm_bytes(rt.alloc(), &mut network, &mut traffic, &mut lines, sink)
 }
 
@@ -128,11 +122,7 @@ fn audit<R: AllocGlobal + Files, S: Sink>(
     limit: u64,
     sink: &mut S,
 ) -> Result<Answer, Fault>
-    ensures told { IfOk result (λ answer. (text : List ℕ)
-        × IsTextWithin limit answer text × Writes (S.taken sink.old) (S.taken sink.new) text) }
-    ensures going { OnOk result (S.failed sink.old ≡ false → S.failed sink.new ≡ false) }
-    ensures quiet { IfErr result (λ e. ((e ≡ fault_at 902 places.None) × (S.failed sink.new ≡ true))
-        ⊎ (sink.new ≡ sink.old)) }
+    ensures { AnswersWith S.taken S.failed (IsTextWithin limit) sink.old sink.new result }
 {
     let mut network = open(rt, network)?;
     let mut traffic = open(rt, traffic)?;
@@ -150,11 +140,7 @@ fn run_capture<R: AllocGlobal + Files + RandomSource, S: Sink>(
     links: Option<&str>,
     sink: &mut S,
 ) -> Result<Answer, Fault>
-    ensures told { IfOk result (λ answer. (text : List ℕ)
-        × IsRunText answer text × Writes (S.taken sink.old) (S.taken sink.new) text) }
-    ensures going { OnOk result (S.failed sink.old ≡ false → S.failed sink.new ≡ false) }
-    ensures quiet { IfErr result (λ e. ((e ≡ fault_at 902 places.None) × (S.failed sink.new ≡ true))
-        ⊎ (sink.new ≡ sink.old)) }
+    ensures { AnswersWith S.taken S.failed IsRunText sink.old sink.new result }
 {
     let seed = seed_at_random(rt)?;
     let mut network = open(rt, network)?;
@@ -199,11 +185,7 @@ fn answer_call<R: AllocGlobal + Files + RandomSource, S: Sink>(
     call: &Call,
     sink: &mut S,
 ) -> Result<Answer, Fault>
-    ensures told { IfOk result (λ answer. (text : List ℕ)
-        × IsCallText call.now answer text × Writes (S.taken sink.old) (S.taken sink.new) text) }
-    ensures going { OnOk result (S.failed sink.old ≡ false → S.failed sink.new ≡ false) }
-    ensures quiet { IfErr result (λ e. ((e ≡ fault_at 902 places.None) × (S.failed sink.new ≡ true))
-        ⊎ (sink.new ≡ sink.old)) }
+    ensures { AnswersWith S.taken S.failed (IsCallText call.now) sink.old sink.new result }
 {
     match call {
         Call::Replay {
@@ -262,11 +244,7 @@ fn answer_input<R: AllocGlobal + Input + RandomSource, S: Sink>(
     rt: &R,
     sink: &mut S,
 ) -> Result<Answer, Fault>
-    ensures told { IfOk result (λ answer. (text : List ℕ)
-        × IsBundleText answer text × Writes (S.taken sink.old) (S.taken sink.new) text) }
-    ensures going { OnOk result (S.failed sink.old ≡ false → S.failed sink.new ≡ false) }
-    ensures quiet { IfErr result (λ e. ((e ≡ fault_at 902 places.None) × (S.failed sink.new ≡ true))
-        ⊎ (sink.new ≡ sink.old)) }
+    ensures { AnswersWith S.taken S.failed IsBundleText sink.old sink.new result }
 {
     let seed = seed_at_random(rt)?;
     let mut input = Outside::new(rt.reader());

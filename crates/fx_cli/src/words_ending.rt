@@ -1,8 +1,7 @@
 //! How a command ends whose words name no call, or can't be read.
 ghost use Rattle.std.specs.Prelude.{◌≡◌, ◌⊎◌, true, false};
 ghost use Rattle.clap.specs.Words.{kind_of};
-ghost use Rattle.fx_base.specs.Device.{Writes};
-ghost use Rattle.fx_cli.specs.Ending.{IsExitStatus};
+ghost use Rattle.fx_cli.specs.Ending.{EndsWith, IsExitStatus};
 ghost use Rattle.fx_cli.specs.WordsEnding.{memory_line, unread_status, unread_text, words_status};
 
 use crate::ending::finish;
@@ -20,9 +19,7 @@ const NO_CALL: u8 = 6;
 
 /// Writes a text, and gives this status, or 5 where it can't be written.
 fn put_and_end<S: Sink>(text: &[u8], code: u8, sink: &mut S) -> u8
-    ensures { ((result ≡ code) × Writes (S.taken sink.old) (S.taken sink.new) text.now
-        × (S.failed sink.old ≡ false → S.failed sink.new ≡ false))
-        ⊎ ((result ≡ 5) × (S.failed sink.new ≡ true)) }
+    ensures { EndsWith S.taken S.failed text.now code sink.old sink.new result }
 {
     match put_text(sink, text) {
         Ok(()) => code,
@@ -49,13 +46,9 @@ fn status_of_words(kind: ErrorKind) -> u8
 pub fn finish_words<S: Sink>(alloc: Global, error: &Error, sink: &mut S) -> u8
     ensures status { ((result ≡ words_status (kind_of error.now))
         × (S.failed sink.old ≡ false → S.failed sink.new ≡ false))
-        ⊎ (((result ≡ 4) × Writes (S.taken sink.old) (S.taken sink.new) memory_line
-        × (S.failed sink.old ≡ false → S.failed sink.new ≡ false))
-        ⊎ ((result ≡ 5) × (S.failed sink.new ≡ true))) }
+        ⊎ EndsWith S.taken S.failed memory_line 4 sink.old sink.new result }
     ensures memory { kind_of error.now ≡ ErrorKind.OutOfMemory
-        → ((result ≡ 4) × Writes (S.taken sink.old) (S.taken sink.new) memory_line
-        × (S.failed sink.old ≡ false → S.failed sink.new ≡ false))
-        ⊎ ((result ≡ 5) × (S.failed sink.new ≡ true)) }
+        → EndsWith S.taken S.failed memory_line 4 sink.old sink.new result }
     ensures exit { IsExitStatus result }
 {
     let kind = error.kind();
@@ -73,10 +66,8 @@ pub fn finish_words<S: Sink>(alloc: Global, error: &Error, sink: &mut S) -> u8
 /// 4 for want of memory, 6 where a word is no UTF-8 text, else 5 (`device 901`); 5 also where nothing can be
 /// written.
 pub fn finish_unread<S: Sink>(kind: io::ErrorKind, sink: &mut S) -> u8
-    ensures ended { ((result ≡ unread_status kind)
-        × Writes (S.taken sink.old) (S.taken sink.new) (unread_text kind)
-        × (S.failed sink.old ≡ false → S.failed sink.new ≡ false))
-        ⊎ ((result ≡ 5) × (S.failed sink.new ≡ true)) }
+    ensures ended { EndsWith S.taken S.failed
+        (unread_text kind) (unread_status kind) sink.old sink.new result }
     ensures exit { IsExitStatus result }
 {
     match kind {

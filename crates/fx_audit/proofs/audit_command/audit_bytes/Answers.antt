@@ -1,10 +1,17 @@
-use Rattle.fx_audit.proofs.Audits.{audit_told, audit_unread}
-use Rattle.fx_audit.proofs.Documents.{exit_with}
+use Rattle.fx_audit.specs.Audits.{IsAuditedIn}
+use Rattle.fx_audit.proofs.Audits.{audit_unread}
+use Rattle.fx_audit.proofs.Documents.{documents_done, exit_with}
+use Rattle.fx_audit.proofs.Texts.{audit_text, told_as}
 use Rattle.fx_audit.proofs.audit_command.audit_bytes.Goals as goal
+
+pub returns-clause-ok : goal.returns-clause-ok
+returns-clause-ok g c =
+    documents_done (g.N.Source.left c.args.network.now) (g.T.Source.left c.args.traffic.now) c.in_ok-documents.documents.plan c.in_ok-documents.documents.traffic (λ a text network classes. IsAuditedIn network classes c.args.limit a text) _ _ c.audit.result c.in_ok-documents.ensures.network c.in_ok-documents.ensures.traffic c.audit.ensures.answers.0
 
 pub returns-in_err-documents-clause-err : goal.returns-in_err-documents-clause-err
 returns-in_err-documents-clause-err g c =
     exit_with _ _ _ c.from_residual.ensures (audit_unread (g.N.Source.left c.args.network.now) (g.T.Source.left c.args.traffic.now) _ _ _ _ _ c.in_err-documents.ensures.err)
 
-pub returns-clause-told : goal.returns-clause-told
-returns-clause-told g c = audit_told c.in_ok-documents.documents.plan c.in_ok-documents.documents.traffic c.args.limit _ c.audit.result c.audit.ensures.ok
+pub returns-clause-answers : goal.returns-clause-answers
+returns-clause-answers g c =
+    (told_as _ _ _ _ c.audit.result (audit_text c.in_ok-documents.documents.plan c.in_ok-documents.documents.traffic c.args.limit) c.audit.ensures.answers.0, c.audit.ensures.answers.1)

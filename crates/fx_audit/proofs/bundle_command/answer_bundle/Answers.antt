@@ -1,15 +1,13 @@
-use Rattle.fx_audit.specs.declared.bundle.Command.TheVariants.{Check, Confirm, Replay}
-use Rattle.fx_audit.proofs.Commands.{refused_by}
+use Rattle.std.proofs.Common.{Some, refl, ap, ◌∙◌}
+use Rattle.fx_audit.proofs.Commands.{text_lines_in, there_done, there_refused}
 use Rattle.fx_audit.proofs.bundle_command.answer_bundle.Goals as goal
 
-pub returns-in-Replay-clause-err : goal.returns-in-Replay-clause-err
-returns-in-Replay-clause-err g c =
-    refused_by c.args.bundle.now.command Replay c.args.bundle.now.network.now c.args.bundle.now.traffic.now c.args.bundle.now.third.now _ c.replay_texts.result c.in-Replay.is c.replay_texts.ensures.err
+pub returns-clause-answers : goal.returns-clause-answers
+returns-clause-answers g c =
+    let lines = c.in_ok-third.ensures.ok ∙ text_lines_in c.new.result.rest.now c.args.bundle.now.third.now c.new.result.calls c.new.ensures.octets c.new.ensures.calls in
+    (there_done c.args.bundle.now.command _ _ c.args.bundle.now.network.now c.args.bundle.now.traffic.now _ _ _ _ c.answer_texts-answer.result (ap Some c.new-network.ensures.octets) (ap Some c.new-traffic.ensures.octets) lines c.answer_texts-answer.ensures.ok, c.answer_texts-answer.ensures.quiet)
 
-pub returns-in-Check-clause-err : goal.returns-in-Check-clause-err
-returns-in-Check-clause-err g c =
-    refused_by c.args.bundle.now.command Check c.args.bundle.now.network.now c.args.bundle.now.traffic.now c.args.bundle.now.third.now _ c.check_texts.result c.in-Check.is c.check_texts.ensures.err
-
-pub returns-in-Confirm-clause-err : goal.returns-in-Confirm-clause-err
-returns-in-Confirm-clause-err g c =
-    refused_by c.args.bundle.now.command Confirm c.args.bundle.now.network.now c.args.bundle.now.traffic.now c.args.bundle.now.third.now _ c.confirm_texts.result c.in-Confirm.is c.confirm_texts.ensures.err
+pub returns-clause-err : goal.returns-clause-err
+returns-clause-err g c =
+    let lines = c.in_ok-third.ensures.ok ∙ text_lines_in c.new.result.rest.now c.args.bundle.now.third.now c.new.result.calls c.new.ensures.octets c.new.ensures.calls in
+    there_refused c.args.bundle.now.command _ _ c.args.bundle.now.network.now c.args.bundle.now.traffic.now c.args.bundle.now.third.now _ _ _ _ _ _ _ c.answer_texts-answer.new.third _ c.answer_texts-answer.result (ap Some c.new-network.ensures.octets) (ap Some c.new-traffic.ensures.octets) refl refl c.never_fails.ensures lines c.answer_texts-answer.ensures.err

@@ -4,7 +4,7 @@ use Rattle.fx_audit.proofs.collect_command.collect_bytes.Goals as goal
 
 pub returns-clause-ok : goal.returns-clause-ok
 returns-clause-ok g c =
-    collect_done (g.N.Source.left c.args.network.now) (g.R.Source.left c.args.stream.now) c.in_ok-plan.plan c.net.result.now _ c.collect.result c.net.ensures.value c.in_ok-plan.ensures.ok c.collect.ensures.ok
+    collect_done (g.N.Source.left c.args.network.now) (g.R.Source.left c.args.stream.now) c.in_ok-plan.plan c.net.result.now _ _ c.collect.result c.net.ensures.value c.in_ok-plan.ensures.ok c.collect.ensures.ok
 
 pub returns-clause-err : goal.returns-clause-err
 returns-clause-err g c =

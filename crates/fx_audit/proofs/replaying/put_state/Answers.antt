@@ -23,4 +23,4 @@ returns-clause-ok g c =
       is_complete = c.complete.ensures;
       text_is = refl;
     } in
-    OnOk-map _ _ _ (λ h. let all : (x : List ℕ) × IsTextOf c.args.state.now.net.report_layout c.args.state.now.state x × Writes (g.S.Sink.taken c.args.sink.now) (g.S.Sink.taken c.put_complete.new.sink) x = (text, is, writes_both _ _ _ _ _ _ c.in_ok-put_report.ensures.ok h refl) in all) c.put_complete.ensures.ok
+    OnOk-map _ _ _ (λ h. let all : (x : List ℕ) × IsTextOf c.args.state.now.net.report_layout c.args.state.now.state x × Writes (g.S.Sink.taken c.args.sink.now) (g.S.Sink.taken c.put_complete.new.sink) x = (text, is, writes_both _ _ _ _ _ _ c.in_ok-put_report.ensures.ok h refl) in all) c.put_complete.ensures.0

@@ -1,11 +1,13 @@
+use Rattle.std.proofs.Common.{refl}
 use Rattle.fx_audit.proofs.Collects.{documents_faultless}
 use Rattle.fx_audit.proofs.Documents.{exit_with}
 use Rattle.fx_audit.proofs.Metering.{run_done, run_refused, run_unread}
+use Rattle.fx_audit.proofs.Texts.{yes_told_as}
 use Rattle.fx_audit.proofs.run_command.run_bytes.Goals as goal
 
 pub returns-clause-ok : goal.returns-clause-ok
 returns-clause-ok g c =
-    run_done (g.N.Source.left c.args.network.now) (g.T.Source.left c.args.traffic.now) (g.C.Source.left c.args.capture) (g.C.Source.calls c.args.capture) c.in_ok-documents.documents.plan c.in_ok-documents.documents.traffic c.args.schedule.now c.run_capture.new.schedule _ _ _ c.run_capture.result c.plans_are_sound.ensures c.in_ok-documents.ensures.network c.in_ok-documents.ensures.traffic c.run_capture.ensures.ok
+    run_done (g.N.Source.left c.args.network.now) (g.T.Source.left c.args.traffic.now) (g.C.Source.left c.args.capture) (g.C.Source.calls c.args.capture) c.in_ok-documents.documents.plan c.in_ok-documents.documents.traffic c.args.schedule.now c.run_capture.new.schedule _ _ _ _ c.run_capture.result c.plans_are_sound.ensures c.in_ok-documents.ensures.network c.in_ok-documents.ensures.traffic c.run_capture.ensures.ok
 
 pub returns-clause-err : goal.returns-clause-err
 returns-clause-err g c =
@@ -18,3 +20,7 @@ returns-in_err-documents-clause-err g c =
 pub returns-clause-untouched : goal.returns-clause-untouched
 returns-clause-untouched g c =
     documents_faultless (g.N.Source.left c.args.network.now) (g.T.Source.left c.args.traffic.now) c.in_ok-documents.documents.plan c.in_ok-documents.documents.traffic _ c.in_ok-documents.ensures.network c.in_ok-documents.ensures.traffic
+
+pub returns-clause-answers : goal.returns-clause-answers
+returns-clause-answers g c =
+    (yes_told_as _ _ _ _ c.run_capture.result (λ text is. (refl, (is.totals, is.skipped.other, is.skipped.malformed, is.text_is))) c.run_capture.ensures.ok, c.run_capture.ensures.quiet)

@@ -18,4 +18,4 @@ pub returns-in-Ok-clause-call : goal.returns-in-Ok-clause-call
 returns-in-Ok-clause-call g c = λ call names.
     ends_as (map string_bytes c.args.words.now) c.in-Ok.call call c.in-Ok.ensures.call names _ _ _ _ _
     (ended g.S.Sink.taken g.S.Sink.failed (IsCallText c.in-Ok.call) c.answer_call-answer.result c.args.sink.now c.answer_call-answer.new.sink c.finish-in-Ok.new.sink c.finish-in-Ok.result
-    c.answer_call-answer.ensures.told c.answer_call-answer.ensures.going c.answer_call-answer.ensures.quiet c.finish-in-Ok.ensures.answered c.finish-in-Ok.ensures.refused)
+    c.answer_call-answer.ensures c.finish-in-Ok.ensures.answered c.finish-in-Ok.ensures.refused)

@@ -1,0 +1,37 @@
+-- What a command has written where it answers, and where it fails.
+use Rattle.std.specs.Prelude.{◌≡◌, ◌⊎◌, ℕ, Bool, true, false, List, Option, Result, IfOk, IfErr, OnOk}
+use Rattle.fx_base.specs.Device.{Writes}
+use Rattle.fx_base.specs.Fault.{fault_at}
+use Rattle.fx_base.specs.declared.fault.Fault.{Fault}
+use Rattle.fx_base.specs.declared.fault.Place.TheVariants as places
+use Rattle.fx_audit.specs.declared.answer.Answer.{Answer}
+
+-- the fault of a write that failed, by whether the last call of what was written to failed
+abbrev pub IsWriteFault : Bool → Fault → Type 0
+IsWriteFault failed e = (e ≡ fault_at 902 places.None) × (failed ≡ true)
+
+-- octets with this meaning are written
+abbrev pub Prints : (List ℕ → Type 0) → Option (List ℕ) → Option (List ℕ) → Type 0
+Prints IsText old new = (text : List ℕ) × IsText text × Writes old new text
+
+-- this text is written, or a write fails
+abbrev pub PutsText : {S A : Type 0} → (S → Option (List ℕ)) → (S → Bool) → List ℕ → S → S → Result A Fault → Type 0
+PutsText taken failed text old new result =
+    OnOk result (Writes (taken old) (taken new) text)
+    × (OnOk result (failed old ≡ false → failed new ≡ false) × IfErr result (IsWriteFault (failed new)))
+
+-- no write has failed where there is a result; where there is none, nothing is written, or a write has failed
+abbrev pub FailsQuietly : {S A : Type 0} → (S → Bool) → S → S → Result A Fault → Type 0
+FailsQuietly failed old new result =
+    OnOk result (failed old ≡ false → failed new ≡ false) × IfErr result (λ e. IsWriteFault (failed new) e ⊎ (new ≡ old))
+
+-- an answer comes with a text of its kind, and a fault with none
+abbrev pub AnswersWith : {S : Type 0} → (S → Option (List ℕ)) → (S → Bool) → (Answer → List ℕ → Type 0) → S → S → Result Answer Fault → Type 0
+AnswersWith taken failed IsText old new result =
+    IfOk result (λ answer. Prints (IsText answer) (taken old) (taken new)) × FailsQuietly failed old new result
+
+-- why a command over two documents and a text fails: for want of memory, since one of these can't be read or what it
+-- writes can't be written, or for what is refused
+abbrev pub FailsBy : (Fault → Type 0) → (Fault → Type 0) → (Fault → Type 0) → Bool → (Fault → Type 0) → Fault → Type 0
+FailsBy Network Traffic Text failed Refused e =
+    (e ≡ fault_at 900 places.None) ⊎ (Network e ⊎ (Traffic e ⊎ (Text e ⊎ (IsWriteFault failed e ⊎ Refused e))))

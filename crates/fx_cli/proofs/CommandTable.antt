@@ -1,0 +1,123 @@
+-- The commands that the program knows, with their files and options.
+use Rattle.std.proofs.Common.{◌≡◌, ◌∙◌, Bool, true, false, refl, sym, ap, subst, arith, List, [], ◌∷◌, Option, Some, None, inl, inr, codes, true≢false}
+use Rattle.std.specs.Prelude.{⊤, find, unwrap_or}
+use Rattle.std.specs.Str.{bytes_eq}
+use Rattle.std.proofs.lemmas.Slice.Eq.{bytes_eq-Decides}
+use Rattle.clap.specs.Words.{Text}
+use Rattle.clap.specs.declared.builder.value_parser.ValueParser.TheVariants as parsers
+use Rattle.fx_cli.proofs.SingleWords.{bool_cases}
+use Rattle.fx_cli.proofs.OptionNames.{IsName}
+use Rattle.fx_cli.proofs.OptionCommand.{IsTaking, Taking, files_alone, takes_files_alone}
+
+pub data Kind : Type 0 where
+  replay : Kind
+  collect : Kind
+  check : Kind
+  confirm : Kind
+  audit : Kind
+  run : Kind
+
+abbrev pub documents_and : Text → List Text
+documents_and third = codes "NETWORK" ∷ codes "TRAFFIC" ∷ third ∷ []
+
+abbrev pub taking_of : Kind → Taking
+taking_of replay = files_alone (codes "replay") (documents_and (codes "RUN"))
+taking_of collect = files_alone (codes "collect") (codes "NETWORK" ∷ codes "STREAM" ∷ [])
+taking_of check = files_alone (codes "check") (documents_and (codes "CERTIFICATE"))
+taking_of confirm = files_alone (codes "confirm") (documents_and (codes "REFUTATION"))
+taking_of audit = record {
+  command = codes "audit";
+  ids = codes "NETWORK" ∷ codes "TRAFFIC" ∷ [];
+  has_option = true;
+  option = codes "limit";
+  parser = parsers.Unsigned 1 1000000;
+  default = codes "1000000" ∷ [];
+}
+taking_of run = record {
+  command = codes "run";
+  ids = codes "NETWORK" ∷ codes "TRAFFIC" ∷ codes "CAPTURE" ∷ codes "SCHEDULE" ∷ [];
+  has_option = true;
+  option = codes "links";
+  parser = parsers.String;
+  default = [];
+}
+
+pub limit_name : IsName (codes "limit")
+limit_name = record { alone = refl; with_value = λ value. refl; single = refl; single_with_value = λ value. refl }
+
+links_name : IsName (codes "links")
+links_name = record { alone = refl; with_value = λ value. refl; single = refl; single_with_value = λ value. refl }
+
+pub is_taking : (k : Kind) → IsTaking (taking_of k)
+is_taking replay = takes_files_alone (codes "replay") (documents_and (codes "RUN")) (omega arith) ((refl, (refl, (refl, tt))), ((refl, (refl, tt)), ((refl, tt), (tt, tt))))
+is_taking collect = takes_files_alone (codes "collect") (codes "NETWORK" ∷ codes "STREAM" ∷ []) (omega arith) ((refl, (refl, tt)), ((refl, tt), (tt, tt)))
+is_taking check = takes_files_alone (codes "check") (documents_and (codes "CERTIFICATE")) (omega arith) ((refl, (refl, (refl, tt))), ((refl, (refl, tt)), ((refl, tt), (tt, tt))))
+is_taking confirm = takes_files_alone (codes "confirm") (documents_and (codes "REFUTATION")) (omega arith) ((refl, (refl, (refl, tt))), ((refl, (refl, tt)), ((refl, tt), (tt, tt))))
+is_taking audit = record {
+  few = omega arith;
+  apart = ((refl, (refl, tt)), ((refl, tt), (tt, tt)));
+  name = λ _. limit_name;
+  reading = refl;
+  default_fine = refl;
+  no_default = λ none. absurd (true≢false none);
+}
+is_taking run = record {
+  few = omega arith;
+  apart = ((refl, (refl, (refl, (refl, tt)))), ((refl, (refl, (refl, tt))), ((refl, (refl, tt)), ((refl, tt), (tt, tt)))));
+  name = λ _. links_name;
+  reading = refl;
+  default_fine = refl;
+  no_default = λ none. absurd (true≢false none);
+}
+
+-- ---- a command by its name
+
+abbrev pub name_of : Kind → Text
+name_of k = (taking_of k).command
+
+abbrev pub has_name : Text → Kind → Bool
+has_name word k = bytes_eq (name_of k) word
+
+abbrev pub kinds : List Kind
+kinds = replay ∷ collect ∷ check ∷ confirm ∷ audit ∷ run ∷ []
+
+abbrev pub kind_named : Text → Option Kind
+kind_named word = find (has_name word) kinds
+
+kind_of_name : (k : Kind) → kind_named (name_of k) ≡ Some k
+kind_of_name replay = refl
+kind_of_name collect = refl
+kind_of_name check = refl
+kind_of_name confirm = refl
+kind_of_name audit = refl
+kind_of_name run = refl
+
+-- two commands have two names
+pub one_kind : (k other : Kind) → name_of k ≡ name_of other → k ≡ other
+one_kind k other same =
+    ap (λ (o : Option Kind). unwrap_or o k) (sym (kind_of_name k) ∙ ap kind_named same ∙ kind_of_name other)
+
+found_true : (p : Kind → Bool) (ks : List Kind) (k : Kind) → find p ks ≡ Some k → p k ≡ true
+found_true p [] k e = absurd cc
+found_true p (x ∷ xs) k e = elim (bool_cases (p x)) [
+  | inl is ↦ let there : Some x ≡ Some k = rw is at e in subst (λ (y : Kind). p y ≡ true) (ap (λ (o : Option Kind). unwrap_or o x) there) is
+  | inr other ↦ found_true p xs k (rw other at e)
+]
+
+pub named_kind : (word : Text) (k : Kind) → kind_named word ≡ Some k → name_of k ≡ word
+named_kind word k e = (bytes_eq-Decides (name_of k) word).0 (found_true (has_name word) kinds k e)
+
+abbrev pub NoneOf : Text → List Kind → Type 0
+NoneOf word [] = ⊤
+NoneOf word (k ∷ ks) = (has_name word k ≡ false) × NoneOf word ks
+
+pub none_named : (word : Text) (ks : List Kind) → find (has_name word) ks ≡ None → NoneOf word ks
+none_named word [] e = tt
+none_named word (x ∷ xs) e = elim (bool_cases (has_name word x)) [
+  | inl is ↦ let there : Some x ≡ None = rw is at e in absurd cc
+  | inr other ↦ (other, none_named word xs (rw other at e))
+]
+
+-- no command has a name that none is found by
+pub nameless : (word : Text) (k : Kind) → kind_named word ≡ None → name_of k ≡ word → ⊥
+nameless word k none is = let both : Some k ≡ None = sym (kind_of_name k) ∙ ap kind_named is ∙ none in absurd cc
