@@ -2,7 +2,7 @@
 use Rattle.std.proofs.Common.{◌≡◌, ◌⊎◌, ℕ, Bool, List, Option, Some, None, Result, Ok, Err, IfOk, IfErr, inl, inr, refl, sym, subst, arith}
 use Rattle.fx_base.specs.declared.fault.Fault.{Fault}
 use Rattle.fx_base.specs.declared.fault.Place.TheVariants as places
-use Rattle.fx_base.specs.Device.{Writes}
+use Rattle.fx_base.specs.Device.{Writes, IsWriteFault}
 use Rattle.fx_base.specs.Fault.{fault_at}
 use Rattle.fx_base.specs.Lines.{Lines, text_lines, Fails}
 use Rattle.fx_check.specs.Judging.{judge_of}
@@ -16,7 +16,7 @@ use Rattle.fx_plan.specs.Tables.{net_of}
 use Rattle.fx_audit.specs.declared.answer.Answer.{Answer}
 use Rattle.fx_audit.specs.declared.answer.Answer.TheVariants.{No}
 use Rattle.fx_audit.specs.Checks.{IsAnswered, IsNo, IsFaultOf, IsRefusedCertificate, IsRefusedText, no_line, IsNoAnswer, memory, read_failed, write_failed, too_long, IsUnanswered, MeansNo}
-use Rattle.fx_audit.specs.Outputs.{IsWriteFault, Prints}
+use Rattle.fx_audit.specs.Outputs.{Prints}
 use Rattle.fx_audit.proofs.Refusals.{IsPassedOn, IsRefusedWhy, answered_no, refused_by, refused_otherwise}
 
 -- ---- numbers

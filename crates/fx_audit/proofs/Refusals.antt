@@ -2,13 +2,13 @@
 use Rattle.std.proofs.Common.{◌≡◌, ◌⊎◌, ◌≤◌, ℕ, Bool, List, Option, Some, Result, Ok, Err, IfOk, IfErr, inl, inr, ap, sym, subst, arith}
 use Rattle.fx_base.specs.declared.fault.Fault.{Fault}
 use Rattle.fx_base.specs.declared.fault.Place.TheVariants as places
-use Rattle.fx_base.specs.Device.{Writes}
+use Rattle.fx_base.specs.Device.{Writes, IsWriteFault}
 use Rattle.fx_base.specs.Fault.{fault_at}
 use Rattle.fx_base.specs.Lines.{Lines, Fails}
 use Rattle.fx_audit.specs.declared.answer.Answer.{Answer}
 use Rattle.fx_audit.specs.declared.answer.Answer.TheVariants.{No}
 use Rattle.fx_audit.specs.Checks.{IsWithin, no_line}
-use Rattle.fx_audit.specs.Outputs.{IsWriteFault, Prints}
+use Rattle.fx_audit.specs.Outputs.{Prints}
 
 -- why a text is refused
 abbrev pub IsRefusedWhy : (Fault → Type 0) → Lines → Lines → Fault → Type 0

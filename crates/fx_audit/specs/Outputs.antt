@@ -1,14 +1,9 @@
 -- What a command has written where it answers, and where it fails.
-use Rattle.std.specs.Prelude.{◌≡◌, ◌⊎◌, ℕ, Bool, true, false, List, Option, Result, IfOk, IfErr, OnOk}
-use Rattle.fx_base.specs.Device.{Writes}
-use Rattle.fx_base.specs.Fault.{fault_at}
+use Rattle.std.specs.Prelude.{◌≡◌, ◌⊎◌, ℕ, Bool, List, Option, Result, IfOk, IfErr, OnOk}
+use Rattle.fx_base.specs.Device.{IsWriteFault, KeepsGoing, Writes}
+use Rattle.fx_base.specs.Fault.{IsMemory}
 use Rattle.fx_base.specs.declared.fault.Fault.{Fault}
-use Rattle.fx_base.specs.declared.fault.Place.TheVariants as places
 use Rattle.fx_audit.specs.declared.answer.Answer.{Answer}
-
--- the fault of a write that failed, by whether the last call of what was written to failed
-abbrev pub IsWriteFault : Bool → Fault → Type 0
-IsWriteFault failed e = (e ≡ fault_at 902 places.None) × (failed ≡ true)
 
 -- octets with this meaning are written
 abbrev pub Prints : (List ℕ → Type 0) → Option (List ℕ) → Option (List ℕ) → Type 0
@@ -18,12 +13,12 @@ Prints IsText old new = (text : List ℕ) × IsText text × Writes old new text
 abbrev pub PutsText : {S A : Type 0} → (S → Option (List ℕ)) → (S → Bool) → List ℕ → S → S → Result A Fault → Type 0
 PutsText taken failed text old new result =
     OnOk result (Writes (taken old) (taken new) text)
-    × (OnOk result (failed old ≡ false → failed new ≡ false) × IfErr result (IsWriteFault (failed new)))
+    × (OnOk result (KeepsGoing (failed old) (failed new)) × IfErr result (IsWriteFault (failed new)))
 
 -- no write has failed where there is a result; where there is none, nothing is written, or a write has failed
 abbrev pub FailsQuietly : {S A : Type 0} → (S → Bool) → S → S → Result A Fault → Type 0
 FailsQuietly failed old new result =
-    OnOk result (failed old ≡ false → failed new ≡ false) × IfErr result (λ e. IsWriteFault (failed new) e ⊎ (new ≡ old))
+    OnOk result (KeepsGoing (failed old) (failed new)) × IfErr result (λ e. IsWriteFault (failed new) e ⊎ (new ≡ old))
 
 -- an answer comes with a text of its kind, and a fault with none
 abbrev pub AnswersWith : {S : Type 0} → (S → Option (List ℕ)) → (S → Bool) → (Answer → List ℕ → Type 0) → S → S → Result Answer Fault → Type 0
@@ -34,4 +29,4 @@ AnswersWith taken failed IsText old new result =
 -- writes can't be written, or for what is refused
 abbrev pub FailsBy : (Fault → Type 0) → (Fault → Type 0) → (Fault → Type 0) → Bool → (Fault → Type 0) → Fault → Type 0
 FailsBy Network Traffic Text failed Refused e =
-    (e ≡ fault_at 900 places.None) ⊎ (Network e ⊎ (Traffic e ⊎ (Text e ⊎ (IsWriteFault failed e ⊎ Refused e))))
+    IsMemory e ⊎ (Network e ⊎ (Traffic e ⊎ (Text e ⊎ (IsWriteFault failed e ⊎ Refused e))))

@@ -1,13 +1,12 @@
 //! The command that audits a network, from octets to octets.
 ghost use Rattle.std.specs.Prelude.{◌≡◌, ◌⊎◌, IfOk, IfErr};
-ghost use Rattle.fx_base.specs.Device.{Writes};
-ghost use Rattle.fx_base.specs.Fault.{fault_at};
-ghost use Rattle.fx_base.specs.declared.fault.Place.TheVariants as places;
+ghost use Rattle.fx_base.specs.Device.{Writes, IsWriteFault};
+ghost use Rattle.fx_base.specs.Fault.{IsMemory};
 ghost use Rattle.fx_search.specs.Found.{certificate_text};
 ghost use Rattle.fx_audit.specs.Audits.{IsAuditedIn, IsFoundText, unknown_line};
 ghost use Rattle.fx_audit.specs.Commands.{IsAudited};
 ghost use Rattle.fx_audit.specs.Documents.{BothMayHaveLeft, CannotRead, IfNetworkRefused, IsRefusedByDocuments};
-ghost use Rattle.fx_audit.specs.Outputs.{AnswersWith, FailsQuietly, IsWriteFault, Prints, PutsText};
+ghost use Rattle.fx_audit.specs.Outputs.{AnswersWith, FailsQuietly, Prints, PutsText};
 ghost use Rattle.fx_audit.specs.Texts.{IsAuditText};
 ghost use Rattle.fx_audit.specs.declared.answer.Answer.TheVariants.{Unknown};
 
@@ -75,7 +74,7 @@ fn audit<S: Sink>(
 ) -> Result<Answer, Fault>
     ensures answers { AnswersWith S.taken S.failed
         (IsAuditedIn documents.now.plan documents.now.traffic limit) sink.old sink.new result }
-    ensures err { IfErr result (λ e. (e ≡ fault_at 900 places.None)
+    ensures err { IfErr result (λ e. IsMemory e
         ⊎ IsWriteFault (S.failed sink.new) e) }
 {
     match search(alloc, &documents.plan, &documents.traffic, limit) {
@@ -105,7 +104,7 @@ pub fn audit_bytes<N: Source, T: Source, S: Sink>(
     ensures ok { IfOk result (λ answer.
         BothMayHaveLeft (N.left network.old) (T.left traffic.old) (λ n t.
         Prints (IsAudited n t limit answer) (S.taken sink.old) (S.taken sink.new))) }
-    ensures err { IfErr result (λ e. (e ≡ fault_at 900 places.None)
+    ensures err { IfErr result (λ e. IsMemory e
         ⊎ (CannotRead N.left N.calls N.failed network.old network.new e
         ⊎ (CannotRead T.left T.calls T.failed traffic.old traffic.new e
         ⊎ (IsWriteFault (S.failed sink.new) e

@@ -1,13 +1,12 @@
 //! Bundles read from octets, and what their commands do.
 ghost use Rattle.std.specs.Prelude.{◌≡◌, ◌⊎◌, ℕ, List, IfOk, IfErr, false};
-ghost use Rattle.fx_base.specs.Device.{MayHaveLeft};
-ghost use Rattle.fx_base.specs.Fault.{fault_at};
+ghost use Rattle.fx_base.specs.Device.{MayHaveLeft, IsWriteFault};
+ghost use Rattle.fx_base.specs.Fault.{IsMemory};
 ghost use Rattle.fx_base.specs.Lines.{Fails, lines_in};
-ghost use Rattle.fx_base.specs.declared.fault.Place.TheVariants as places;
 ghost use Rattle.fx_audit.specs.Bundle.{IsBundle};
 ghost use Rattle.fx_audit.specs.Commands.{IsDone, IsRefusedBundle, IsRefusedBy, IsRefusedThere};
 ghost use Rattle.fx_audit.specs.Documents.{BothMayHaveLeft, CannotRead};
-ghost use Rattle.fx_audit.specs.Outputs.{AnswersWith, FailsBy, FailsQuietly, IsWriteFault, Prints};
+ghost use Rattle.fx_audit.specs.Outputs.{AnswersWith, FailsBy, FailsQuietly, Prints};
 ghost use Rattle.fx_audit.specs.Texts.{IsBundleText};
 ghost use Rattle.fx_audit.specs.declared.bundle.Command.{Command};
 
@@ -68,7 +67,7 @@ fn answer_bundle<S: Sink>(
     ensures answers { AnswersWith S.taken S.failed
         (IsDone bundle.now.command bundle.now.network.now bundle.now.traffic.now
         (lines_in bundle.now.third.now)) sink.old sink.new result }
-    ensures err { IfErr result (λ e. (e ≡ fault_at 900 places.None)
+    ensures err { IfErr result (λ e. IsMemory e
         ⊎ (IsWriteFault (S.failed sink.new) e
         ⊎ IsRefusedThere bundle.now.command bundle.now.network.now bundle.now.traffic.now
         bundle.now.third.now e)) }
@@ -107,7 +106,7 @@ pub fn bundle_bytes<B: Source, S: Sink>(
         × IsBundle octets command network traffic third
         × Prints (IsDone command network traffic (lines_in third) answer)
         (S.taken sink.old) (S.taken sink.new))) }
-    ensures err { IfErr result (λ e. (e ≡ fault_at 900 places.None)
+    ensures err { IfErr result (λ e. IsMemory e
         ⊎ (CannotRead B.left B.calls B.failed bundle.old bundle.new e
         ⊎ (IsWriteFault (S.failed sink.new) e
         ⊎ MayHaveLeft (B.left bundle.old) (λ octets. IsRefusedBundle octets e)))) }

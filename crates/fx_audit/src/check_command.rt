@@ -1,12 +1,12 @@
 //! The command that checks a certificate, from octets to octets.
 ghost use Rattle.std.specs.Prelude.{◌≡◌, ◌⊎◌, IfOk, IfErr};
-ghost use Rattle.fx_base.specs.Fault.{fault_at};
-ghost use Rattle.fx_base.specs.declared.fault.Place.TheVariants as places;
+ghost use Rattle.fx_base.specs.Device.{IsWriteFault};
+ghost use Rattle.fx_base.specs.Fault.{IsMemory};
 ghost use Rattle.fx_base.specs.Lines.{Fails};
 ghost use Rattle.fx_audit.specs.Checks.{IsAnswered, IsRefusedCertificate, IsUnanswered};
 ghost use Rattle.fx_audit.specs.Commands.{IsChecked, IsRefusedCheck};
 ghost use Rattle.fx_audit.specs.Documents.{BothMayHaveLeft, CannotRead, IfDocumentsRefused, IfNetworkRefused};
-ghost use Rattle.fx_audit.specs.Outputs.{AnswersWith, FailsBy, IsWriteFault, Prints};
+ghost use Rattle.fx_audit.specs.Outputs.{AnswersWith, FailsBy, Prints};
 ghost use Rattle.fx_audit.specs.Texts.{IsCheckText};
 ghost use Rattle.fx_audit.specs.declared.answer.Answer.TheVariants.{Yes, No};
 
@@ -27,7 +27,7 @@ fn check_lines<C: Source, S: Sink>(
     ensures answers { AnswersWith S.taken S.failed
         (IsAnswered documents.now.plan documents.now.traffic certificate.old)
         sink.old sink.new result }
-    ensures err { IfErr result (λ e. (e ≡ fault_at 900 places.None)
+    ensures err { IfErr result (λ e. IsMemory e
         ⊎ (Fails certificate.old certificate.new e
         ⊎ (IsWriteFault (S.failed sink.new) e
         ⊎ IsRefusedCertificate documents.now.plan documents.now.traffic certificate.old e))) }

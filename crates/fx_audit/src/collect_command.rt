@@ -1,10 +1,10 @@
 //! The command that collects a stream, from octets to octets.
 ghost use Rattle.std.specs.Prelude.{◌≡◌, ◌⊎◌, IfOk, IfErr};
-ghost use Rattle.fx_base.specs.Fault.{fault_at};
-ghost use Rattle.fx_base.specs.declared.fault.Place.TheVariants as places;
+ghost use Rattle.fx_base.specs.Device.{IsWriteFault};
+ghost use Rattle.fx_base.specs.Fault.{IsMemory};
 ghost use Rattle.fx_audit.specs.Commands.{IsCollected, IsRefusedCollect};
 ghost use Rattle.fx_audit.specs.Documents.{BothMayHaveLeft, CannotRead, IfNetworkRefused};
-ghost use Rattle.fx_audit.specs.Outputs.{AnswersWith, IsWriteFault, Prints};
+ghost use Rattle.fx_audit.specs.Outputs.{AnswersWith, Prints};
 ghost use Rattle.fx_audit.specs.Texts.{IsCollectText};
 ghost use Rattle.fx_audit.specs.declared.answer.Answer.TheVariants.{Yes};
 
@@ -33,7 +33,7 @@ pub fn collect_bytes<N: Source, R: Source, S: Sink>(
     ensures ok { IfOk result (λ answer. (answer ≡ Yes)
         × BothMayHaveLeft (N.left network.old) (R.left stream.old) (λ n octets.
         Prints (IsCollected n octets) (S.taken sink.old) (S.taken sink.new))) }
-    ensures err { IfErr result (λ e. (e ≡ fault_at 900 places.None)
+    ensures err { IfErr result (λ e. IsMemory e
         ⊎ (CannotRead N.left N.calls N.failed network.old network.new e
         ⊎ (CannotRead R.left R.calls R.failed stream.old stream.new e
         ⊎ (IsWriteFault (S.failed sink.new) e

@@ -1,12 +1,11 @@
 //! A stream's records, tallied as they come.
 ghost use Rattle.std.specs.Prelude.{◌≡◌, ◌⊎◌, None, Err, OnOk, IfOk, IfErr};
-ghost use Rattle.fx_base.specs.Device.{MayHaveLeft};
-ghost use Rattle.fx_base.specs.Fault.{fault_at};
-ghost use Rattle.fx_base.specs.declared.fault.Place.TheVariants as places;
+ghost use Rattle.fx_base.specs.Device.{MayHaveLeft, IsWriteFault};
+ghost use Rattle.fx_base.specs.Fault.{IsMemory};
 ghost use Rattle.fx_collect.specs.Totals.{with_records};
 ghost use Rattle.fx_session.specs.Streams as streams;
 ghost use Rattle.fx_audit.specs.Documents.{CannotRead};
-ghost use Rattle.fx_audit.specs.Outputs.{AnswersWith, FailsQuietly, IsWriteFault, Prints};
+ghost use Rattle.fx_audit.specs.Outputs.{AnswersWith, FailsQuietly, Prints};
 ghost use Rattle.fx_audit.specs.Streams.{without_waiting, stream_read, IsRefusedStream, IsStreamText, IsTallied, IsTotalsText, EndsWithMessage};
 ghost use Rattle.fx_audit.specs.Texts.{IsCollectText};
 ghost use Rattle.fx_audit.specs.declared.answer.Answer.TheVariants.{Yes};
@@ -23,7 +22,7 @@ use std::alloc::Global;
 fn tally_waiting(session: &mut Session, totals: &mut Totals) -> Result<(), Fault>
     ensures totals { OnOk result (totals.new ≡ with_records totals.old session.old.known.waiting) }
     ensures session { OnOk result (session.new ≡ without_waiting session.old) }
-    ensures err { IfErr result (λ e. e ≡ fault_at 900 places.None) }
+    ensures err { IfErr result IsMemory }
 {
     while let Some(entry) = session.next_record() {
         totals.tally(&entry)?;
@@ -39,7 +38,7 @@ fn take_piece(session: &mut Session, totals: &mut Totals, piece: &[u8]) -> Resul
     ensures faultless { OnOk result (session.new.fault ≡ None) }
     ensures totals { OnOk result (totals.new
         ≡ with_records totals.old (streams.after_piece session.old piece.now).known.waiting) }
-    ensures err { IfErr result (λ e. (e ≡ fault_at 900 places.None)
+    ensures err { IfErr result (λ e. IsMemory e
         ⊎ (streams.answer_of (streams.after_piece session.old piece.now).place
         (streams.after_piece session.old piece.now).fault ≡ Err e)) }
 {
@@ -56,7 +55,7 @@ fn tally_stream<R: Source>(
     requires { session.old ≡ streams.start }
     ensures ok { OnOk result (MayHaveLeft (R.left stream.old)
         (λ octets. IsTallied octets totals.old session.new totals.new)) }
-    ensures err { IfErr result (λ e. (e ≡ fault_at 900 places.None)
+    ensures err { IfErr result (λ e. IsMemory e
         ⊎ (CannotRead R.left R.calls R.failed stream.old stream.new e
         ⊎ MayHaveLeft (R.left stream.old) (λ octets. streams.answer_of (stream_read octets).place
         (stream_read octets).fault ≡ Err e))) }
@@ -76,7 +75,7 @@ fn put_collected<S: Sink>(session: &Session, totals: &mut Totals, sink: &mut S) 
     ensures ok { OnOk result (Prints
         (IsTotalsText totals.old session.now.known.gaps session.now.known.skipped)
         (S.taken sink.old) (S.taken sink.new)) }
-    ensures err { IfErr result (λ e. (e ≡ fault_at 900 places.None)
+    ensures err { IfErr result (λ e. IsMemory e
         ⊎ IsWriteFault (S.failed sink.new) e) }
     ensures quiet { FailsQuietly S.failed sink.old sink.new result }
 {
@@ -105,7 +104,7 @@ pub fn collect<R: Source, S: Sink>(
         × MayHaveLeft (R.left stream.old) (λ octets. EndsWithMessage (stream_read octets)
         × Prints (IsStreamText net.now.report_layout (stream_read octets).known)
         (S.taken sink.old) (S.taken sink.new))) }
-    ensures err { IfErr result (λ e. (e ≡ fault_at 900 places.None)
+    ensures err { IfErr result (λ e. IsMemory e
         ⊎ (CannotRead R.left R.calls R.failed stream.old stream.new e
         ⊎ (IsWriteFault (S.failed sink.new) e
         ⊎ MayHaveLeft (R.left stream.old) (λ octets. IsRefusedStream (stream_read octets) e)))) }

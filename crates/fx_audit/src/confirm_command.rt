@@ -1,13 +1,13 @@
 //! The command that confirms a refutation, from octets to octets.
 ghost use Rattle.std.specs.Prelude.{◌≡◌, ◌⊎◌, IfOk, IfErr};
-ghost use Rattle.fx_base.specs.Fault.{fault_at};
-ghost use Rattle.fx_base.specs.declared.fault.Place.TheVariants as places;
+ghost use Rattle.fx_base.specs.Device.{IsWriteFault};
+ghost use Rattle.fx_base.specs.Fault.{IsMemory};
 ghost use Rattle.fx_base.specs.Lines.{Fails};
 ghost use Rattle.fx_collect.specs.Report.{KeysAscend};
 ghost use Rattle.fx_audit.specs.Commands.{IsConfirmed, IsRefusedConfirm};
 ghost use Rattle.fx_audit.specs.Confirms.{IsConfirmedIn, IsRefusedOtherwise, IsRefusedRefutation, IsRefuted, refuted_text};
 ghost use Rattle.fx_audit.specs.Documents.{BothMayHaveLeft, CannotRead, IfDocumentsRefused, IfNetworkRefused};
-ghost use Rattle.fx_audit.specs.Outputs.{AnswersWith, FailsBy, IsWriteFault, Prints, PutsText};
+ghost use Rattle.fx_audit.specs.Outputs.{AnswersWith, FailsBy, Prints, PutsText};
 ghost use Rattle.fx_audit.specs.Texts.{IsConfirmText};
 ghost use Rattle.fx_audit.specs.declared.answer.Answer.TheVariants.{Yes, No};
 
@@ -27,7 +27,7 @@ fn totals_of_refutation<C: Source>(
 ) -> Result<(Totals, Totals), Fault>
     ensures ok { IfOk result (λ t.
         IsRefuted documents.now.plan documents.now.traffic refutation.old t.0 t.1) }
-    ensures err { IfErr result (λ e. (e ≡ fault_at 900 places.None)
+    ensures err { IfErr result (λ e. IsMemory e
         ⊎ (Fails refutation.old refutation.new e
         ⊎ IsRefusedRefutation documents.now.plan documents.now.traffic refutation.old e)) }
 {
@@ -61,7 +61,7 @@ fn confirm_lines<C: Source, S: Sink>(
     ensures answers { AnswersWith S.taken S.failed
         (IsConfirmedIn documents.now.plan documents.now.traffic refutation.old)
         sink.old sink.new result }
-    ensures err { IfErr result (λ e. (e ≡ fault_at 900 places.None)
+    ensures err { IfErr result (λ e. IsMemory e
         ⊎ (Fails refutation.old refutation.new e
         ⊎ (IsWriteFault (S.failed sink.new) e
         ⊎ IsRefusedOtherwise documents.now.plan documents.now.traffic refutation.old e))) }

@@ -3,7 +3,7 @@ ghost use Rattle.std.specs.Prelude.{◌≡◌, ◌⊎◌, [], IfOk, IfErr, IfSom
 ghost use Rattle.serde_json.specs.View.{view};
 ghost use Rattle.serde_json.specs.Data.{Data};
 ghost use Rattle.fx_base.specs.Device.{MayHaveLeft};
-ghost use Rattle.fx_base.specs.Fault.{fault_at};
+ghost use Rattle.fx_base.specs.Fault.{fault_at, IsMemory};
 ghost use Rattle.fx_base.specs.declared.fault.Fault.{Fault};
 ghost use Rattle.fx_base.specs.declared.fault.Place.TheVariants as places;
 ghost use Rattle.fx_topology.specs.Networks.{device_names};
@@ -21,7 +21,7 @@ use std::alloc::Global;
 /// Fails, at no place, with 101 where they are no text of a value in UTF-8, and with 900 for want of memory.
 fn value_of(alloc: Global, octets: &[u8]) -> Result<Value, Fault>
     ensures ok { IfOk result (λ value. IsJson octets.now (view value)) }
-    ensures err { IfErr result (λ e. (e ≡ fault_at 900 places.None)
+    ensures err { IfErr result (λ e. IsMemory e
         ⊎ ((e ≡ fault_at 101 places.None) × ((d : Data) → IsJson octets.now d → ⊥))) }
 {
     match Value::from_slice(alloc, octets) {
@@ -51,7 +51,7 @@ pub struct Documents {
 pub(crate) fn network_from<R: Source>(alloc: Global, source: &mut R) -> Result<Plan, Fault>
     ensures ok { IfOk result (λ plan. MayHaveLeft (R.left source.old)
         (λ octets. IsNetworkDocument octets plan)) }
-    ensures err { IfErr result (λ e. (e ≡ fault_at 900 places.None)
+    ensures err { IfErr result (λ e. IsMemory e
         ⊎ (CannotRead R.left R.calls R.failed source.old source.new e
         ⊎ MayHaveLeft (R.left source.old) (λ octets. IsRefusedNetwork octets e))) }
 {
@@ -66,7 +66,7 @@ pub(crate) fn network_from<R: Source>(alloc: Global, source: &mut R) -> Result<P
 fn traffic_from<R: Source>(alloc: Global, source: &mut R, plan: &Plan) -> Result<Traffic, Fault>
     ensures ok { IfOk result (λ traffic. MayHaveLeft (R.left source.old)
         (λ octets. IsTraffic plan.now octets traffic)) }
-    ensures err { IfErr result (λ e. (e ≡ fault_at 900 places.None)
+    ensures err { IfErr result (λ e. IsMemory e
         ⊎ (CannotRead R.left R.calls R.failed source.old source.new e
         ⊎ MayHaveLeft (R.left source.old) (λ octets. IsFirstFault
         (traffic_faults (device_names plan.now) []) octets e))) }
@@ -89,7 +89,7 @@ pub fn read_documents<N: Source, T: Source>(
         (λ octets. IsNetworkDocument octets documents.plan)) }
     ensures traffic { IfOk result (λ documents. MayHaveLeft (T.left traffic.old)
         (λ octets. IsTraffic documents.plan octets documents.traffic)) }
-    ensures err { IfErr result (λ e. (e ≡ fault_at 900 places.None)
+    ensures err { IfErr result (λ e. IsMemory e
         ⊎ (CannotRead N.left N.calls N.failed network.old network.new e
         ⊎ (CannotRead T.left T.calls T.failed traffic.old traffic.new e
         ⊎ BothMayHaveLeft (N.left network.old) (T.left traffic.old)

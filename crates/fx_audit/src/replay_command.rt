@@ -1,11 +1,11 @@
 //! The command that replays a run, from octets to octets.
 ghost use Rattle.std.specs.Prelude.{◌≡◌, ◌⊎◌, IfOk, IfErr};
-ghost use Rattle.fx_base.specs.Fault.{fault_at};
-ghost use Rattle.fx_base.specs.declared.fault.Place.TheVariants as places;
+ghost use Rattle.fx_base.specs.Device.{IsWriteFault};
+ghost use Rattle.fx_base.specs.Fault.{IsMemory};
 ghost use Rattle.fx_base.specs.Lines.{Fails};
 ghost use Rattle.fx_audit.specs.Commands.{IsRefusedReplay, IsRefusedRun, IsReplayed, IsReplayedIn};
 ghost use Rattle.fx_audit.specs.Documents.{BothMayHaveLeft, CannotRead, IfDocumentsRefused, IfNetworkRefused};
-ghost use Rattle.fx_audit.specs.Outputs.{AnswersWith, FailsBy, FailsQuietly, IsWriteFault, Prints};
+ghost use Rattle.fx_audit.specs.Outputs.{AnswersWith, FailsBy, FailsQuietly, Prints};
 ghost use Rattle.fx_audit.specs.Texts.{IsReplayText};
 ghost use Rattle.fx_audit.specs.declared.answer.Answer.TheVariants.{Yes};
 
@@ -28,7 +28,7 @@ fn replay_lines<R: Source, S: Sink>(
     ensures ok { IfOk result (λ answer. (answer ≡ Yes)
         × Prints (IsReplayedIn documents.now.plan documents.now.traffic run.old)
         (S.taken sink.old) (S.taken sink.new)) }
-    ensures err { IfErr result (λ e. (e ≡ fault_at 900 places.None)
+    ensures err { IfErr result (λ e. IsMemory e
         ⊎ (Fails run.old run.new e
         ⊎ (IsWriteFault (S.failed sink.new) e
         ⊎ IsRefusedRun documents.now.plan documents.now.traffic run.old e))) }

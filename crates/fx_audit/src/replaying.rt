@@ -1,13 +1,13 @@
 //! A run replayed over the tables of a network.
-ghost use Rattle.std.specs.Prelude.{◌≡◌, ◌⊎◌, ℕ, List, None, Ok, Err, All, true, false, OnOk, IfOk, IfErr, ◌++◌};
-ghost use Rattle.fx_base.specs.Device.{Writes};
-ghost use Rattle.fx_base.specs.Fault.{fault_at};
+ghost use Rattle.std.specs.Prelude.{◌≡◌, ◌⊎◌, ℕ, List, None, Ok, Err, All, OnOk, IfOk, IfErr, ◌++◌};
+ghost use Rattle.fx_base.specs.Device.{Writes, IsWriteFault};
+ghost use Rattle.fx_base.specs.Fault.{IsMemory};
 ghost use Rattle.fx_base.specs.declared.fault.Place.TheVariants as places;
 ghost use Rattle.fx_machine.specs.States as states;
 ghost use Rattle.fx_machine.specs.Steps as stepping;
 ghost use Rattle.fx_collect.specs.Totals.{totals_of, totals_in};
 ghost use Rattle.fx_collect.specs.Report.{totals_text, KeysAscend};
-ghost use Rattle.fx_audit.specs.Outputs.{FailsQuietly, IsWriteFault, Prints, PutsText};
+ghost use Rattle.fx_audit.specs.Outputs.{FailsQuietly, Prints, PutsText};
 ghost use Rattle.fx_audit.specs.Replay.{complete_line, IsRefused, IsTextOf};
 ghost use Rattle.fx_audit.specs.declared.answer.Answer.TheVariants.{Yes};
 
@@ -63,7 +63,7 @@ fn put_state<S: Sink>(
         ≡ totals_in state.now.net.report_layout state.now.state }
     ensures ok { OnOk result (Prints (IsTextOf state.now.net.report_layout state.now.state)
         (S.taken sink.old) (S.taken sink.new)) }
-    ensures err { IfErr result (λ e. (e ≡ fault_at 900 places.None)
+    ensures err { IfErr result (λ e. IsMemory e
         ⊎ IsWriteFault (S.failed sink.new) e) }
     ensures quiet { FailsQuietly S.failed sink.old sink.new result }
 {
@@ -93,7 +93,7 @@ pub fn replay<S: Sink>(
         × IsTextOf net.now.report_layout (states.told_state last) text
         × Writes (S.taken sink.old) (S.taken sink.new) text)) }
     ensures err { IfErr result (λ e. IsRefused net.now classes.now run e
-        ⊎ ((e ≡ fault_at 900 places.None) ⊎ IsWriteFault (S.failed sink.new) e)) }
+        ⊎ (IsMemory e ⊎ IsWriteFault (S.failed sink.new) e)) }
     ensures quiet { FailsQuietly S.failed sink.old sink.new result }
 {
     let (packets, steps) = run.into_parts();

@@ -1,15 +1,14 @@
 //! The command that runs a network over a capture, from octets to octets.
-ghost use Rattle.std.specs.Prelude.{◌≡◌, ◌⊎◌, ℕ, List, Err, OnOk, IfOk, IfErr, IfSome, true, false};
-ghost use Rattle.fx_base.specs.Device.{MayHaveLeft, Writes};
-ghost use Rattle.fx_base.specs.Fault.{fault_at};
+ghost use Rattle.std.specs.Prelude.{◌≡◌, ◌⊎◌, ℕ, List, Err, OnOk, IfOk, IfErr, IfSome};
+ghost use Rattle.fx_base.specs.Device.{MayHaveLeft, Writes, IsWriteFault, KeepsGoing};
+ghost use Rattle.fx_base.specs.Fault.{IsMemory};
 ghost use Rattle.fx_base.specs.declared.fault.Fault.{Fault};
-ghost use Rattle.fx_base.specs.declared.fault.Place.TheVariants as places;
 ghost use Rattle.fx_pcap.specs.Captures.{IsUnreadable};
 ghost use Rattle.fx_pcap.specs.Records.{format_of};
 ghost use Rattle.fx_net.specs.Running.{FailsOutside};
 ghost use Rattle.fx_audit.specs.Documents.{BothMayHaveLeft, CannotRead, IfDocumentsRefused, IfNetworkRefused};
 ghost use Rattle.fx_audit.specs.Metering.{IsMetered, IsMeteredIn, IsMeteredText, IsRun, skipped_line, IsRefusedOver, IsRefusedMetering};
-ghost use Rattle.fx_audit.specs.Outputs.{AnswersWith, FailsQuietly, IsWriteFault, Prints, PutsText};
+ghost use Rattle.fx_audit.specs.Outputs.{AnswersWith, FailsQuietly, Prints, PutsText};
 ghost use Rattle.fx_audit.specs.Texts.{IsRunText};
 ghost use Rattle.fx_audit.specs.declared.answer.Answer.TheVariants.{Yes};
 
@@ -44,7 +43,7 @@ fn meter<C: Source, Q: Source, L: Links>(
         (C.left capture) (C.calls capture) schedule.old schedule.new (L.put_on links.old)
         (L.put_on links.new)
         metered.totals metered.skipped) }
-    ensures going { OnOk result (L.failed links.old ≡ false → L.failed links.new ≡ false) }
+    ensures going { OnOk result (KeepsGoing (L.failed links.old) (L.failed links.new)) }
     ensures err { IfErr result (λ e. FailsOutside (L.failed links.new) e
         ⊎ IsRefusedOver documents.now.plan documents.now.traffic (C.left capture) (C.calls capture)
         (IsUnreadable C.calls C.failed (C.left capture) (C.calls capture))
@@ -86,7 +85,7 @@ fn put_metered<S: Sink>(metered: Metered, sink: &mut S) -> Result<(), Fault>
     ensures ok { OnOk result (Prints
         (IsMeteredText metered.totals metered.skipped.other metered.skipped.malformed)
         (S.taken sink.old) (S.taken sink.new)) }
-    ensures err { IfErr result (λ e. (e ≡ fault_at 900 places.None)
+    ensures err { IfErr result (λ e. IsMemory e
         ⊎ IsWriteFault (S.failed sink.new) e) }
     ensures quiet { FailsQuietly S.failed sink.old sink.new result }
 {
@@ -113,7 +112,7 @@ fn run_capture<C: Source, Q: Source, L: Links, S: Sink>(
         × Prints (IsMeteredIn documents.now.plan documents.now.traffic (C.left capture)
         (C.calls capture) schedule.old schedule.new (L.put_on links.old) (L.put_on links.new))
         (S.taken sink.old) (S.taken sink.new)) }
-    ensures links_going { OnOk result (L.failed links.old ≡ false → L.failed links.new ≡ false) }
+    ensures links_going { OnOk result (KeepsGoing (L.failed links.old) (L.failed links.new)) }
     ensures err { IfErr result (λ e. FailsOutside (L.failed links.new) e
         ⊎ (IsWriteFault (S.failed sink.new) e
         ⊎ IsRefusedOver documents.now.plan documents.now.traffic (C.left capture) (C.calls capture)
@@ -151,7 +150,7 @@ pub fn run_bytes<N: Source, T: Source, C: Source, Q: Source, L: Links, S: Sink>(
         × BothMayHaveLeft (N.left network.old) (T.left traffic.old) (λ n t.
         Prints (IsMetered n t (C.left capture) (C.calls capture) schedule.old schedule.new
         (L.put_on links.old) (L.put_on links.new)) (S.taken sink.old) (S.taken sink.new))) }
-    ensures links_going { OnOk result (L.failed links.old ≡ false → L.failed links.new ≡ false) }
+    ensures links_going { OnOk result (KeepsGoing (L.failed links.old) (L.failed links.new)) }
     ensures err { IfErr result (λ e. FailsOutside (L.failed links.new) e
         ⊎ (CannotRead N.left N.calls N.failed network.old network.new e
         ⊎ (CannotRead T.left T.calls T.failed traffic.old traffic.new e

@@ -1,7 +1,6 @@
 //! Checking a certificate, line by line.
 ghost use Rattle.std.specs.Prelude.{◌≡◌, ◌⊎◌, ◌≤◌, IfErr, OnOk, length};
-ghost use Rattle.fx_base.specs.Fault.{fault_at};
-ghost use Rattle.fx_base.specs.declared.fault.Place.TheVariants as places;
+ghost use Rattle.fx_base.specs.Fault.{IsMemory};
 ghost use Rattle.fx_leaf.specs.Tables.{AreTables};
 ghost use Rattle.fx_machine.specs.Claim.{ExactlyOnce, OnceModulo};
 ghost use Rattle.fx_base.specs.Lines.{Fails};
@@ -57,7 +56,7 @@ fn check_classes<R: Source>(
     requires tables { AreTables tables.now }
     ensures ok { OnOk result (MayBeAccepted tables.now.net (targets_of traffic.now) lines.old) }
     ensures regions { OnOk result (AreRegions (targets_of traffic.now)) }
-    ensures err { IfErr result (λ e. ((e ≡ fault_at 900 places.None) × (lines.new ≡ lines.old))
+    ensures err { IfErr result (λ e. (IsMemory e × (lines.new ≡ lines.old))
         ⊎ (Fails lines.old lines.new e
         ⊎ MayBeRefused tables.now.net (targets_of traffic.now) lines.old lines.new e)) }
     ensures accepts { IfErr result (Accepts tables.now.net traffic.now lines.old lines.new) }
@@ -100,7 +99,7 @@ pub fn check<R: Source>(
     // The text is that of a sound certificate.
     ensures certificate { OnOk result (MayBeCertificate (net_of plan.now) traffic.now lines.old) }
     ensures ok { OnOk result (MayBeAccepted (net_of plan.now) (targets_of traffic.now) lines.old) }
-    ensures err { IfErr result (λ e. ((e ≡ fault_at 900 places.None) × (lines.new ≡ lines.old))
+    ensures err { IfErr result (λ e. (IsMemory e × (lines.new ≡ lines.old))
         ⊎ (Fails lines.old lines.new e
         ⊎ MayBeRefused (net_of plan.now) (targets_of traffic.now) lines.old lines.new e)) }
     // No such certificate is refused: where its text is told, only want of memory or a read that failed stops it.

@@ -330,7 +330,12 @@ impl Course {
 }
 
 /// Where a split may stand, keeps the lower part of a region and answers the upper one, each a step deeper.
-fn split_waiting(made: u32, here: &mut Waiting, axis: Axis, at: u128) -> Result<Waiting, LineFault>
+fn split_waiting(
+    made: u32,
+    here: &mut WaitingRegion,
+    axis: Axis,
+    at: u128,
+) -> Result<WaitingRegion, LineFault>
     ensures answer { (gs : List Goal)
         → split_answer made here.old.region here.old.depth (axis_index axis) at gs
         ≡ map_result result gs }

@@ -1,6 +1,6 @@
 //! A file for each link.
 ghost use Rattle.std.specs.Prelude.{◌≡◌, ◌⊎◌, ◌++◌, IfErr, IfOk, None, decimal, false, string_bytes};
-ghost use Rattle.fx_base.specs.Fault.{fault_at};
+ghost use Rattle.fx_base.specs.Fault.{fault_at, IsMemory};
 ghost use Rattle.fx_base.specs.declared.fault.Place.TheVariants as places;
 
 use crate::files::make;
@@ -49,7 +49,7 @@ impl<'a, R: Files> LinkFiles<'a, R> {
     /// Writes the first octets of a link, into a file that is made for it.
     fn begin(&mut self, link: u64, octets: &[u8]) -> Result<(), Fault>
         ensures { IfErr result (λ e. (e ≡ fault_at 902 places.None)
-            ⊎ (e ≡ fault_at 900 places.None)) }
+            ⊎ IsMemory e) }
     {
         let path = link_path(self.alloc, self.prefix, link)?;
         let mut file = make(self.rt, path.as_str())?;
@@ -61,7 +61,7 @@ impl<'a, R: Files> LinkFiles<'a, R> {
     /// Writes octets behind those that were put on the link before.
     fn append(&mut self, link: u64, octets: &[u8]) -> Result<(), Fault>
         ensures { IfErr result (λ e. (e ≡ fault_at 902 places.None)
-            ⊎ (e ≡ fault_at 900 places.None)) }
+            ⊎ IsMemory e) }
     {
         match self.files.get_mut(&link) {
             Some(file) => put_text(file, octets),

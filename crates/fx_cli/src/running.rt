@@ -1,6 +1,6 @@
 //! A command, from its words to its exit status.
 ghost use Rattle.std.specs.Prelude.{◌≡◌, ◌⊎◌, ◌≤◌, ◌<◌, IfErr, length, map, string_bytes, true, false};
-ghost use Rattle.fx_base.specs.Fault.{fault_at};
+ghost use Rattle.fx_base.specs.Fault.{fault_at, IsMemory};
 ghost use Rattle.fx_base.specs.declared.fault.Place.TheVariants as places;
 ghost use Rattle.fx_audit.specs.Outputs.{AnswersWith};
 ghost use Rattle.fx_audit.specs.Texts.{IsBundleText, IsCheckText, IsCollectText, IsConfirmText, IsReplayText, IsRunText};
@@ -9,6 +9,7 @@ ghost use Rattle.fx_cli.specs.Running.{EndsAs, HasFailedToWrite, IsCallText, IsT
 ghost use Rattle.fx_cli.specs.Words.{Names, NamesNoCall};
 ghost use Rattle.fx_cli.specs.declared.words.Call.{Call};
 ghost use Rattle.fx_cli.specs.WordsEnding.{IsWordsStatus};
+ghost use Rattle.fx_base.specs.Device.{KeepsGoing};
 
 use crate::ending::finish;
 use crate::files::open;
@@ -41,7 +42,7 @@ fn open_texts<R: AllocGlobal + Files>(
     third: &str,
 ) -> Result<Texts<R::File>, Fault>
     ensures { IfErr result (λ e. (e ≡ fault_at 901 places.None)
-        ⊎ (e ≡ fault_at 900 places.None)) }
+        ⊎ IsMemory e) }
 {
     let network = open(rt, network)?;
     let traffic = open(rt, traffic)?;
@@ -261,11 +262,11 @@ fn answer_words<R: AllocGlobal + Files + Input + RandomSource, S: Sink>(
 ) -> u8
     ensures bundle { length words.now < 2
         → EndsAs IsBundleText (S.taken sink.old) (S.taken sink.new)
-        (S.failed sink.old ≡ false → S.failed sink.new ≡ false)
+        (KeepsGoing (S.failed sink.old) (S.failed sink.new))
         (HasFailedToWrite S.taken S.failed sink.new) result }
     ensures call { (call : Call) → Names (map string_bytes words.now) call
         → EndsAs (IsCallText call) (S.taken sink.old) (S.taken sink.new)
-        (S.failed sink.old ≡ false → S.failed sink.new ≡ false)
+        (KeepsGoing (S.failed sink.old) (S.failed sink.new))
         (HasFailedToWrite S.taken S.failed sink.new) result }
     ensures no_call { 2 ≤ length words.now → NamesNoCall (map string_bytes words.now)
         → IsWordsStatus (map string_bytes words.now) (S.failed sink.new) result }

@@ -1,8 +1,9 @@
 //! How a command ends whose words name no call, or can't be read.
-ghost use Rattle.std.specs.Prelude.{◌≡◌, ◌⊎◌, true, false};
+ghost use Rattle.std.specs.Prelude.{◌≡◌, ◌⊎◌};
 ghost use Rattle.clap.specs.Words.{kind_of};
 ghost use Rattle.fx_cli.specs.Ending.{EndsWith, IsExitStatus};
 ghost use Rattle.fx_cli.specs.WordsEnding.{memory_line, unread_status, unread_text, words_status};
+ghost use Rattle.fx_base.specs.Device.{KeepsGoing};
 
 use crate::ending::finish;
 use clap::Error;
@@ -45,7 +46,7 @@ fn status_of_words(kind: ErrorKind) -> u8
 /// for it (`memory 900` is written then); 5 where nothing can be written.
 pub fn finish_words<S: Sink>(alloc: Global, error: &Error, sink: &mut S) -> u8
     ensures status { ((result ≡ words_status (kind_of error.now))
-        × (S.failed sink.old ≡ false → S.failed sink.new ≡ false))
+        × (KeepsGoing (S.failed sink.old) (S.failed sink.new)))
         ⊎ EndsWith S.taken S.failed memory_line 4 sink.old sink.new result }
     ensures memory { kind_of error.now ≡ ErrorKind.OutOfMemory
         → EndsWith S.taken S.failed memory_line 4 sink.old sink.new result }

@@ -9,7 +9,7 @@ ghost use Rattle.fx_leaf.specs.Verdicts as verdicts;
 use crate::path::{PathFate, PathReader};
 use crate::regions::bounds_hold;
 use crate::rows::prepare;
-use crate::table::{VerdictRow, Scratch, Verdicts};
+use crate::table::{Scratch, VerdictRow, Verdicts};
 use crate::tables::Tables;
 use crate::verdict::Fate;
 use fx_base::Fault;

@@ -216,7 +216,8 @@ impl PathReader<'_, '_> {
         requires tables { by_table.AreTables self.now.verdicts.tables.now }
         requires along { let t = self.now.verdicts.tables.now in
             reach.HoldsBehindPoints t.net t.numbering (reach.IsMarked self.now.marks.now)
-            (network.points_of (network.entry_numbered t.net.devices crossing.now.device)) crossing.now }
+            (network.points_of (network.entry_numbered t.net.devices crossing.now.device))
+            crossing.now }
         ensures ok { let net = self.now.verdicts.tables.now.net in
             let region = self.now.verdicts.region.now in
             IfOk result (λ after.

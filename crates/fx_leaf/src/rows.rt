@@ -23,7 +23,13 @@ fn set_entry(rows: &mut [VerdictRow], process: usize, number: usize, verdict: Op
 }
 
 /// The entries for these layouts, from the rows of the processes that this one feeds.
-fn fill_row(rows: &mut [VerdictRow], layouts: u64, tables: &Tables<'_>, region: &Region, process: usize)
+fn fill_row(
+    rows: &mut [VerdictRow],
+    layouts: u64,
+    tables: &Tables<'_>,
+    region: &Region,
+    process: usize,
+)
     requires tables { by_table.AreTables tables.now }
     requires size { length rows.old ≡ length tables.now.net.processes }
     requires there { process < length rows.old }

@@ -1,6 +1,6 @@
 //! Holders take in records.
 ghost use Rattle.std.specs.Prelude.{◌≡◌, ◌⊎◌, ◌++◌, List, [], ◌∷◌, Some, None, IfOk, IfErr, IfSome, IfNone, OnOk, OnErr};
-ghost use Rattle.fx_base.specs.Fault.{fault_at};
+ghost use Rattle.fx_base.specs.Fault.{fault_at, IsMemory};
 ghost use Rattle.fx_base.specs.declared.fault.Place.TheVariants as faults;
 ghost use Rattle.fx_machine.specs.Acts as acts;
 ghost use Rattle.fx_machine.specs.Holds as holds;
@@ -32,7 +32,8 @@ fn join(records: &mut Vec<Record>, number: u64, entry: &Record) -> Option<Joined
         (network.numbered records.old.items number)
         records.old.items number entry.now ≡ Some records.new.items)
         × (holds.with_counts records.new.items j.place j.counts ≡ records.old.items)) }
-    ensures none { IfNone result ((acts.records_joining (network.entry_numbered records.old.items number)
+    ensures none { IfNone result ((acts.records_joining
+        (network.entry_numbered records.old.items number)
         records.old.items number entry.now ≡ None)
         × (records.new.items ≡ records.old.items)) }
 {
@@ -65,7 +66,7 @@ impl Records {
         ensures ok { IfOk result (λ j. (acts.taken_in self.old choice entry ≡ Some self.new)
             × (holds.given_back j self.new ≡ self.old)) }
         ensures same { OnErr result (self.new ≡ self.old) }
-        ensures err { IfErr result (λ e. (e ≡ fault_at 900 faults.None)
+        ensures err { IfErr result (λ e. IsMemory e
             ⊎ ((e ≡ fault_at 852 faults.None) × (acts.taken_in self.old choice entry ≡ None))) }
     {
         match choice {
@@ -104,7 +105,7 @@ fn hold(
         ≡ Some held.new.items)
         × (holds.back_at held.new.items t.holder t.joined ≡ held.old.items)) }
     ensures same { OnErr result (held.new.items ≡ held.old.items) }
-    ensures err { IfErr result (λ e. (e ≡ fault_at 900 faults.None)
+    ensures err { IfErr result (λ e. IsMemory e
         ⊎ ((e ≡ fault_at 852 faults.None) × (holds.held_with held.old.items counts.now holding.now
         choice ≡ None))) }
 {
@@ -144,7 +145,7 @@ fn hold_next(
         × (holds.undone log.new.items held.new.items ≡ holds.undone log.old.items held.old.items)) }
     ensures same { OnErr result ((held.new.items ≡ held.old.items)
         × (log.new.items ≡ log.old.items)) }
-    ensures err { IfErr result (λ e. (e ≡ fault_at 900 faults.None)
+    ensures err { IfErr result (λ e. IsMemory e
         ⊎ ((e ≡ fault_at 852 faults.None) × (holds.held_with held.old.items counts.now holding.now
         choice ≡ None))) }
 {
@@ -181,7 +182,7 @@ pub fn hold_all(
         choices.now ≡ Some held.new.items)
         × (holds.undone log.items held.new.items ≡ held.old.items)) }
     ensures same { OnErr result (held.new.items ≡ held.old.items) }
-    ensures err { IfErr result (λ e. (e ≡ fault_at 900 faults.None)
+    ensures err { IfErr result (λ e. IsMemory e
         ⊎ ((e ≡ fault_at 852 faults.None) × (holds.hold_all counts.now holdings.now held.old.items
         choices.now ≡ None))) }
 {

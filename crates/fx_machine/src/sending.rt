@@ -1,6 +1,6 @@
 //! Records are sent on links.
 ghost use Rattle.std.specs.Prelude.{◌≡◌, ◌⊎◌, ◌≤◌, ◌++◌, List, [], ◌∷◌, length, drop, Some, None, IfOk, IfErr, OnOk, OnErr, slice_get};
-ghost use Rattle.fx_base.specs.Fault.{fault_at};
+ghost use Rattle.fx_base.specs.Fault.{fault_at, IsMemory};
 ghost use Rattle.fx_base.specs.declared.fault.Place.TheVariants as faults;
 ghost use Rattle.fx_tables.specs.Network as network;
 ghost use Rattle.fx_machine.specs.Sends as sends;
@@ -57,7 +57,7 @@ fn choose(
     ensures ok { IfOk result (λ n. (n ≤ length choices.now) × ((rest : List network.Exporter) →
         sends.chosen_from links.old.items (exporter.now ∷ rest) choices.now
         ≡ sends.chosen_from links.new.items rest (drop n choices.now))) }
-    ensures err { IfErr result (λ e. (e ≡ fault_at 900 faults.None)
+    ensures err { IfErr result (λ e. IsMemory e
         ⊎ ((e ≡ fault_at 852 faults.None) × ((rest : List network.Exporter) →
         sends.chosen_from links.old.items (exporter.now ∷ rest) choices.now ≡ None))) }
 {
@@ -87,7 +87,7 @@ fn choose_at(
         sends.chosen_from links.old.items (network.before (slice_get exporters.now place) rest)
         choices.now
         ≡ sends.chosen_from links.new.items rest (drop n choices.now))) }
-    ensures err { IfErr result (λ e. (e ≡ fault_at 900 faults.None)
+    ensures err { IfErr result (λ e. IsMemory e
         ⊎ ((e ≡ fault_at 852 faults.None) × ((rest : List network.Exporter) →
         sends.chosen_from links.old.items (network.before (slice_get exporters.now place) rest)
         choices.now ≡ None))) }
@@ -111,7 +111,7 @@ pub fn chosen_links(
     ensures ok { IfOk result (λ x. (x.1 ≤ length choices.now)
         × (sends.chosen_from [] (network.at_places exporters.now places.now) choices.now
         ≡ Some (record { links = x.0.items; rest = drop x.1 choices.now }))) }
-    ensures err { IfErr result (λ e. (e ≡ fault_at 900 faults.None)
+    ensures err { IfErr result (λ e. IsMemory e
         ⊎ ((e ≡ fault_at 852 faults.None) × (sends.chosen_from []
         (network.at_places exporters.now places.now) choices.now ≡ None))) }
 {

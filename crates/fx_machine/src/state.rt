@@ -1,6 +1,6 @@
 //! The state of a run.
 ghost use Rattle.std.specs.Prelude.{◌≡◌, ◌⊎◌, ◌↔◌, [], All, Ok, Err, OnOk, OnErr, IfOk, IfErr, IsTrue};
-ghost use Rattle.fx_base.specs.Fault.{fault_at};
+ghost use Rattle.fx_base.specs.Fault.{fault_at, IsMemory};
 ghost use Rattle.fx_base.specs.declared.fault.Place.TheVariants as faults;
 ghost use Rattle.fx_tables.specs.Classes as traffic;
 ghost use Rattle.fx_tables.specs.Network as network;
@@ -71,7 +71,7 @@ impl<'a> State<'a> {
         ensures err { IfErr result (λ e. ((e ≡ fault_at 856 faults.None)
             × (All (λ packet. traffic.IsOf packet (network.entry_numbered classes.now packet.class))
             packets.items → ⊥))
-            ⊎ ((e ≡ fault_at 900 faults.None) × All
+            ⊎ (IsMemory e × All
             (λ packet. traffic.IsOf packet (network.entry_numbered classes.now packet.class))
             packets.items)) }
     {

@@ -11,7 +11,7 @@ ghost use Rattle.fx_steps.specs.Ways as ways;
 
 use crate::costs::Costs;
 use crate::rows::fill;
-use crate::table::{PacketCosts, Row};
+use crate::table::{CostRow, PacketCosts};
 use fx_boxes::{Fields, Region};
 use fx_leaf::Tables;
 use fx_tables::{Crossing, Occurrence, Packet, Point, Selection};

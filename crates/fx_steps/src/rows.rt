@@ -3,7 +3,7 @@ ghost use Rattle.std.specs.Prelude.{◌≡◌, ◌<◌, length, slice_set};
 ghost use Rattle.fx_leaf.specs.Tables as by_table;
 ghost use Rattle.fx_steps.specs.CostTables as tabled;
 
-use crate::table::{PacketCosts, Row};
+use crate::table::{CostRow, PacketCosts};
 use fx_leaf::Tables;
 use fx_tables::Packet;
 

@@ -1,7 +1,6 @@
 //! The run of one packet that shows a wrong total.
 ghost use Rattle.std.specs.Prelude.{◌≡◌, ◌≢◌, ◌≤◌, ◌⊎◌, [], List, length, Ok, IfOk, IfErr, IfSome, IfNone};
-ghost use Rattle.fx_base.specs.Fault.{fault_at};
-ghost use Rattle.fx_base.specs.declared.fault.Place.TheVariants as places;
+ghost use Rattle.fx_base.specs.Fault.{IsMemory};
 ghost use Rattle.fx_leaf.specs.Fates.{wanted_fate};
 ghost use Rattle.fx_leaf.specs.Tables as by_table;
 ghost use Rattle.fx_leaf.specs.declared.verdict.Fate as of_fate;
@@ -110,11 +109,12 @@ pub fn wrong_run(
         IsWrongRun tables.now.net classes.now packet.now steps.items)) }
     ensures least { IfOk result (λ found. IfSome found (λ steps.
         IsLeast tables.now.net packet.now.fields (traffic.path classes.now packet.now)
-        (traffic.exempts (network.entry_numbered classes.now packet.now.class)) (length steps.items))) }
+        (traffic.exempts (network.entry_numbered classes.now packet.now.class))
+        (length steps.items))) }
     ensures none { IfOk result (λ found. IfNone found
         (HasNoRun tables.now.net packet.now.fields (traffic.path classes.now packet.now)
         (traffic.exempts (network.entry_numbered classes.now packet.now.class)))) }
-    ensures err { IfErr result (λ e. e ≡ fault_at 900 places.None) }
+    ensures err { IfErr result IsMemory }
 {
     let net = tables.net();
     let path = classes.path_of(packet);

@@ -1,8 +1,6 @@
 //! Messages written into a sink.
-ghost use Rattle.std.specs.Prelude.{◌≡◌, ◌≤◌, ◌<◌, true, false, List, map, OnOk, IfErr, IfSome, IfNone};
-ghost use Rattle.fx_base.specs.Device.{Writes};
-ghost use Rattle.fx_base.specs.Fault.{fault_at};
-ghost use Rattle.fx_base.specs.declared.fault.Place.TheVariants as places;
+ghost use Rattle.std.specs.Prelude.{◌≡◌, ◌≤◌, ◌<◌, List, map, OnOk, IfErr, IfSome, IfNone};
+ghost use Rattle.fx_base.specs.Device.{Writes, IsWriteFault, KeepsGoing};
 ghost use Rattle.fx_wire.specs.Messages.{front, complete};
 ghost use Rattle.fx_wire.specs.Sets.{SetParts, set_parts};
 ghost use Rattle.fx_wire.specs.Writing as writing;
@@ -31,8 +29,8 @@ pub fn message_length(sets: &[Set<'_>]) -> Option<u16>
 fn put_version<S: Sink>(sink: &mut S, length: u16) -> Result<(), Fault>
     ensures ok { OnOk result (Writes (S.taken sink.old) (S.taken sink.new)
         (writing.version_octets length)) }
-    ensures going { OnOk result (S.failed sink.old ≡ false → S.failed sink.new ≡ false) }
-    ensures err { IfErr result (λ e. (e ≡ fault_at 902 places.None) × (S.failed sink.new ≡ true)) }
+    ensures going { OnOk result (KeepsGoing (S.failed sink.old) (S.failed sink.new)) }
+    ensures err { IfErr result (IsWriteFault (S.failed sink.new)) }
 {
     put_text(sink, &10u16.to_be_bytes())?;
     put_text(sink, &length.to_be_bytes())
@@ -43,8 +41,8 @@ fn put_version<S: Sink>(sink: &mut S, length: u16) -> Result<(), Fault>
 fn put_origin<S: Sink>(sink: &mut S, header: &Header) -> Result<(), Fault>
     ensures ok { OnOk result (Writes (S.taken sink.old) (S.taken sink.new)
         (writing.origin_octets header.now)) }
-    ensures going { OnOk result (S.failed sink.old ≡ false → S.failed sink.new ≡ false) }
-    ensures err { IfErr result (λ e. (e ≡ fault_at 902 places.None) × (S.failed sink.new ≡ true)) }
+    ensures going { OnOk result (KeepsGoing (S.failed sink.old) (S.failed sink.new)) }
+    ensures err { IfErr result (IsWriteFault (S.failed sink.new)) }
 {
     put_text(sink, &header.export_time.to_be_bytes())?;
     put_text(sink, &header.sequence_number.to_be_bytes())?;
@@ -57,8 +55,8 @@ fn put_set<S: Sink>(sink: &mut S, set: &Set<'_>) -> Result<(), Fault>
     requires { writing.set_length (set_parts set.now) ≤ 65535 }
     ensures ok { OnOk result (Writes (S.taken sink.old) (S.taken sink.new)
         (writing.set_octets (set_parts set.now))) }
-    ensures going { OnOk result (S.failed sink.old ≡ false → S.failed sink.new ≡ false) }
-    ensures err { IfErr result (λ e. (e ≡ fault_at 902 places.None) × (S.failed sink.new ≡ true)) }
+    ensures going { OnOk result (KeepsGoing (S.failed sink.old) (S.failed sink.new)) }
+    ensures err { IfErr result (IsWriteFault (S.failed sink.new)) }
 {
     let length = (4 + set.content.len()) as u16;
     put_text(sink, &set.id.to_be_bytes())?;
@@ -71,8 +69,8 @@ fn put_sets<S: Sink>(sink: &mut S, sets: &[Set<'_>]) -> Result<(), Fault>
     requires { writing.message_length (map set_parts sets.now) ≤ 65535 }
     ensures ok { OnOk result (Writes (S.taken sink.old) (S.taken sink.new)
         (writing.sets_octets (map set_parts sets.now))) }
-    ensures going { OnOk result (S.failed sink.old ≡ false → S.failed sink.new ≡ false) }
-    ensures err { IfErr result (λ e. (e ≡ fault_at 902 places.None) × (S.failed sink.new ≡ true)) }
+    ensures going { OnOk result (KeepsGoing (S.failed sink.old) (S.failed sink.new)) }
+    ensures err { IfErr result (IsWriteFault (S.failed sink.new)) }
 {
     for set in sets {
         put_set(sink, set)?;
@@ -88,8 +86,8 @@ pub fn put_message<S: Sink>(sink: &mut S, header: &Header, sets: &[Set<'_>]) -> 
     requires { writing.message_length (map set_parts sets.now) ≤ 65535 }
     ensures ok { OnOk result (Writes (S.taken sink.old) (S.taken sink.new)
         (writing.message_octets header.now (map set_parts sets.now))) }
-    ensures going { OnOk result (S.failed sink.old ≡ false → S.failed sink.new ≡ false) }
-    ensures err { IfErr result (λ e. (e ≡ fault_at 902 places.None) × (S.failed sink.new ≡ true)) }
+    ensures going { OnOk result (KeepsGoing (S.failed sink.old) (S.failed sink.new)) }
+    ensures err { IfErr result (IsWriteFault (S.failed sink.new)) }
 {
     let Some(length) = message_length(sets) else {
         unreachable!()
