@@ -1,5 +1,5 @@
 //! A link: what is being sent on it, the octets that weren't carried yet, and its receiver.
-ghost use Rattle.std.specs.Prelude.{◌≡◌, ◌⊎◌, ◌≤◌, ◌++◌, [], true, length, drop, Ok, Some, None, OnOk, OnErr, IfErr, IsSome};
+ghost use Rattle.std.specs.Prelude.{◌≡◌, ◌⊎◌, ◌≤◌, ◌++◌, [], true, length, Ok, Some, None, OnOk, OnErr, IfErr, IsSome};
 ghost use Rattle.fx_base.specs.Fault.{IsMemory};
 ghost use Rattle.fx_session.specs.Streams as streams;
 ghost use Rattle.fx_link.specs.Links.{Puts};
@@ -13,7 +13,7 @@ use crate::links::Links;
 use crate::outlet::Outlet;
 use crate::stream::Stream;
 use fx_base::Fault;
-use fx_session::Session;
+use fx_session::{Session, remove_front};
 use fx_tables::Record;
 use std::alloc::Global;
 use std::marker::Model;
@@ -39,19 +39,6 @@ impl Model for Link {
       queue = l.queue.items;
       receiver = l.session;
     } };
-}
-
-/// This many octets at the front leave.
-fn remove_front(octets: &mut Vec<u8>, count: usize)
-    requires { count ≤ length octets.old.items }
-    ensures { octets.new.items ≡ drop count octets.old.items }
-{
-    if count == 0 {
-        return;
-    }
-    let rest = octets.len() - count;
-    octets.copy_within(count.., 0);
-    octets.truncate(rest);
 }
 
 impl Link {

@@ -4,6 +4,7 @@
 mod data_set;
 mod domain;
 mod flow;
+mod front;
 mod key;
 mod known;
 mod laws;
@@ -17,5 +18,6 @@ mod template;
 mod template_set;
 mod templates;
 
+pub use front::remove_front;
 pub use laws::sets_by_cases;
 pub use session::{Session, pieces, waiting};

@@ -1,10 +1,11 @@
 //! Sessions: a stream in pieces.
-ghost use Rattle.std.specs.Prelude.{◌≡◌, ◌≢◌, ◌≤◌, ◌++◌, ℕ, List, length, take, drop, Ok, Err, Some, None, IsSome};
+ghost use Rattle.std.specs.Prelude.{◌≡◌, ◌≢◌, ◌≤◌, ◌++◌, ℕ, List, length, take, Ok, Err, Some, None, IsSome};
 ghost use Rattle.fx_tables.specs.declared.record.Record.{Record};
 ghost use Rattle.fx_session.specs.StreamFaults.{number_of};
 ghost use Rattle.fx_session.specs.Streams as streams;
 ghost use Rattle.fx_session.specs.declared.stream_fault.StreamFault.TheVariants as faults;
 
+use crate::front::remove_front;
 use crate::known::Known;
 use crate::stream_fault::StreamFault;
 use fx_base::Fault;
@@ -48,19 +49,6 @@ fn take_messages(
             }
         }
     }
-}
-
-/// Drops this many octets at the front.
-fn remove_front(octets: &mut Vec<u8>, count: usize)
-    requires { count ≤ length octets.old.items }
-    ensures { octets.new.items ≡ drop count octets.old.items }
-{
-    if count == 0 {
-        return;
-    }
-    let rest = octets.len() - count;
-    octets.copy_within(count.., 0);
-    octets.truncate(rest);
 }
 
 /// A stream of messages that comes in pieces, read into flow records.

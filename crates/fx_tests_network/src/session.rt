@@ -1,7 +1,7 @@
 //! Streams of messages in whatever pieces they come.
 use fx_base::Fault;
 use fx_elements::Axis;
-use fx_session::{Session, pieces, sets_by_cases, waiting};
+use fx_session::{Session, pieces, remove_front, sets_by_cases, waiting};
 use fx_tables::Record;
 use std::alloc::Global;
 use std::test::Fail;
@@ -212,6 +212,14 @@ fn keeps_before_a_fault(session: &mut Session) -> Result<bool, Fault> {
 fn keeps_records_before_a_fault(rt: HostRuntime) -> Result<(), Fail> {
     let mut session = Session::new(rt.alloc())?;
     assert!(rt; keeps_before_a_fault(&mut session)?);
+    Ok(())
+}
+
+#[test]
+fn octets_leave_the_front(rt: HostRuntime) -> Result<(), Fail> {
+    let mut octets = vec![in rt.alloc(); 1u8, 2, 3, 4, 5]?;
+    remove_front(&mut octets, 2);
+    assert!(rt; octets.as_slice() == [3, 4, 5].as_slice());
     Ok(())
 }
 
