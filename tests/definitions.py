@@ -30,6 +30,7 @@ COMMANDS = [
     ("`fx_audit::run_bytes`", [("fx_audit", "run_bytes", [])]),
     ("`fx_audit::confirm_bytes`", [("fx_audit", "confirm_bytes", [])]),
     ("`fx_audit::audit_bytes`", [("fx_audit", "audit_bytes", [])]),
+    ("`fx_audit::lint_bytes`", [("fx_audit", "lint_bytes", [])]),
     ("`fx_audit::bundle_bytes`", [("fx_audit", "bundle_bytes", [])]),
     ("`answer_words`, a private function of `fx_cli`: from the words to the exit status", [("fx_cli", "answer_words", [])]),
 ]

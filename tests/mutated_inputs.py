@@ -31,6 +31,7 @@ FILES = {
     "replay": ["network", "traffic", "run"],
     "run": ["network", "traffic", "capture", "schedule"],
     "collect": ["network", "stream"],
+    "lint": ["network"],
 }
 KINDS = ["network", "traffic", "certificate", "refutation", "run", "capture", "schedule", "stream", "bundle"]
 SPACE, SECONDS = 64 << 20, 10
@@ -41,7 +42,7 @@ NUMBERS = [b"0", b"1", b"255", b"256", b"65535", b"65536", b"4294967295", b"4294
 PLACE = rb"( line \d+| octet \d+| /[^\n]*| [0-9. ]+| )?\n"
 # What may be printed, by the status.
 PRINTED = {
-    0: re.compile(rb"(yes\n|once-certificate [12]\n[^\0]*end\n|(refuted\nrun\n)?keys \d+\n[^\0]*)"),
+    0: re.compile(rb"(ok\n|yes\n|once-certificate [12]\n[^\0]*end\n|(refuted\nrun\n)?keys \d+\n[^\0]*)"),
     1: re.compile(rb"(no \d+" + PLACE + rb"|once-refutation 2\n[^\0]*end\n)"),
     2: re.compile(rb"refused \d+" + PLACE),
     3: re.compile(rb"unknown 601\n"),

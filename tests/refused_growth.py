@@ -27,6 +27,7 @@ SWEPT = (
     "two-packets-in-one-record",
     "two-packets-in-one-record-as-bundle",
     "stream-of-two-messages",
+    "lint-of-a-network",
     "audit-that-finds-a-certificate",
     "refutation-where-nobody-collects-the-fallback",
     "refutation-where-nobody-collects-the-fallback-as-bundle",

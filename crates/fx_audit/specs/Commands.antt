@@ -22,7 +22,16 @@ use Rattle.fx_audit.specs.declared.bundle.Command.{Command}
 use Rattle.fx_audit.specs.declared.bundle.Command.TheVariants.{Audit, Replay, Check, Confirm}
 use Rattle.fx_audit.specs.Documents.{InDocuments, IsNetworkDocument, IsRefusedByDocuments, IsRefusedIn, IsRefusedNetwork}
 use Rattle.fx_audit.specs.Replay.{IsRefused, IsTextOf}
+use Rattle.fx_audit.specs.Texts.{ok_line}
 use Rattle.fx_audit.specs.Streams.{IsRefusedStream, IsStreamText, EndsWithMessage, stream_read}
+
+-- ---- a network that is linted
+
+-- the text that is printed for the document of a network
+pub record IsLinted (network_octets text : List ℕ) : Type 0 where
+  pub network : NetworkDocument
+  pub network_is : IsNetworkDocument network_octets network
+  pub text_is : text ≡ ok_line
 
 -- ---- a run that is replayed
 

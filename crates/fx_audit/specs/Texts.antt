@@ -1,5 +1,5 @@
 -- What an answer prints, whatever it was asked of.
-use Rattle.std.specs.Prelude.{◌≡◌, ◌⊎◌, ℕ, List}
+use Rattle.std.specs.Prelude.{◌≡◌, ◌⊎◌, ℕ, List, [], ◌∷◌, ◌++◌, codes}
 use Rattle.fx_base.specs.declared.fault.Fault.{Fault}
 use Rattle.fx_layout.specs.Keys.{Layout}
 use Rattle.fx_machine.specs.States.{State}
@@ -17,6 +17,13 @@ use Rattle.fx_audit.specs.Confirms.{RefutesNothing, refuted_text}
 use Rattle.fx_audit.specs.Metering.{IsMeteredText}
 use Rattle.fx_audit.specs.Replay.{IsTextOf}
 use Rattle.fx_audit.specs.Streams.{IsTotalsText}
+
+-- a lint prints that there is nothing to say
+abbrev pub ok_line : List ℕ
+ok_line = codes "ok" ++ 10 ∷ []
+
+abbrev pub IsLintText : Answer → List ℕ → Type 0
+IsLintText answer text = (answer ≡ Yes) × (text ≡ ok_line)
 
 -- a replay prints the totals of a state
 abbrev pub IsReplayText : Answer → List ℕ → Type 0

@@ -1,5 +1,5 @@
 -- What the words' call prints, whichever call they are read as.
-use Rattle.std.proofs.Common.{◌≡◌, ◌∙◌, ℕ, Bool, false, refl, sym, ap, subst, List, Option, Some, None, inl, inr, true≢false, codes}
+use Rattle.std.proofs.Common.{◌≡◌, ◌∙◌, ◌<◌, ℕ, Bool, false, refl, sym, ap, subst, arith, List, [], ◌∷◌, length, map, Option, Some, None, inl, inr, true≢false, codes}
 use Rattle.std.specs.Prelude.{IfErr, IfOk, Result, Ok, Err}
 use Rattle.std.specs.Str.{bytes_eq}
 use Rattle.std.proofs.lemmas.Slice.Eq.{bytes_eq-Decides}
@@ -14,8 +14,8 @@ use Rattle.fx_audit.specs.declared.answer.Answer.{Answer}
 use Rattle.fx_cli.specs.Running.{EndsAs, HasFailedToWrite, IsCallText, IsTextWithin}
 use Rattle.fx_cli.specs.Words.{Names, NamesAudit, NamesWith, IsLimit, IsLimitSet}
 use Rattle.fx_cli.specs.declared.words.Call.{Call}
-use Rattle.fx_cli.specs.declared.words.Call.TheVariants.{Audit, Check, Collect, Confirm, Replay, Run}
-use Rattle.fx_cli.proofs.CommandTable.{Kind, audit, check, collect, confirm, limit_name, name_of, replay, run}
+use Rattle.fx_cli.specs.declared.words.Call.TheVariants.{Audit, Check, Collect, Confirm, Lint, Replay, Run}
+use Rattle.fx_cli.proofs.CommandTable.{Kind, audit, check, collect, confirm, limit_name, lint, name_of, nameless, replay, run}
 use Rattle.fx_cli.proofs.AcceptedWords.{behind, second}
 use Rattle.fx_cli.proofs.OptionNames.{option_alone}
 
@@ -27,6 +27,7 @@ kind_of (Check a b c) = check
 kind_of (Confirm a b c) = confirm
 kind_of (Audit a b limit) = audit
 kind_of (Run a b c d links) = run
+kind_of (Lint a) = lint
 
 command_word : (words : List Text) (call : Call) → Names words call → second words ≡ name_of (kind_of call)
 command_word words (Replay a b c) n = ap second n.words_are
@@ -35,6 +36,13 @@ command_word words (Check a b c) n = ap second n.words_are
 command_word words (Confirm a b c) n = ap second n.words_are
 command_word words (Audit a b limit) n = ap second n.words_are
 command_word words (Run a b c d links) n = ap second n.words_are
+command_word words (Lint a) n = ap second n.words_are
+
+-- the program's own name alone names no call
+pub too_short : {A : Type 0} (text_of : A → Text) (words : List A) (call : Call) → length words < 2 → Names (map text_of words) call → ⊥
+too_short text_of [] call few n = nameless [] (kind_of call) refl (sym (command_word [] call n))
+too_short text_of (program ∷ []) call few n = nameless [] (kind_of call) refl (sym (command_word (text_of program ∷ []) call n))
+too_short text_of (program ∷ command ∷ rest) call few n = absurd (omega (arith, few))
 
 -- words name calls of one command alone
 apart : (words : List Text) (one other : Call) → Names words one → Names words other → bytes_eq (name_of (kind_of one)) (name_of (kind_of other)) ≡ false → ⊥
@@ -62,6 +70,7 @@ same_text words (Check a b c) (Check d e f) n m answer text is = is
 same_text words (Confirm a b c) (Confirm d e f) n m answer text is = is
 same_text words (Audit a b k) (Audit d e l) n m answer text is = subst (λ (limit : ℕ). IsTextWithin limit answer text) (one_limit n m) is
 same_text words (Run a b c h k) (Run d e f g l) n m answer text is = is
+same_text words (Lint a) (Lint d) n m answer text is = is
 same_text words one other n m answer text is = absurd (apart words one other n m refl)
 
 -- a program that ends as one call of the words does ends as any does

@@ -16,6 +16,7 @@ pub data Kind : Type 0 where
   confirm : Kind
   audit : Kind
   run : Kind
+  lint : Kind
 
 abbrev pub documents_and : Text → List Text
 documents_and third = codes "NETWORK" ∷ codes "TRAFFIC" ∷ third ∷ []
@@ -41,6 +42,7 @@ taking_of run = record {
   parser = parsers.String;
   default = [];
 }
+taking_of lint = files_alone (codes "lint") (codes "NETWORK" ∷ [])
 
 pub limit_name : IsName (codes "limit")
 limit_name = record { alone = refl; with_value = λ value. refl; single = refl; single_with_value = λ value. refl }
@@ -69,6 +71,7 @@ is_taking run = record {
   default_fine = refl;
   no_default = λ none. absurd (true≢false none);
 }
+is_taking lint = takes_files_alone (codes "lint") (codes "NETWORK" ∷ []) (omega arith) ((refl, tt), (tt, tt))
 
 -- ---- a command by its name
 
@@ -79,7 +82,7 @@ abbrev pub has_name : Text → Kind → Bool
 has_name word k = bytes_eq (name_of k) word
 
 abbrev pub kinds : List Kind
-kinds = replay ∷ collect ∷ check ∷ confirm ∷ audit ∷ run ∷ []
+kinds = replay ∷ collect ∷ check ∷ confirm ∷ audit ∷ run ∷ lint ∷ []
 
 abbrev pub kind_named : Text → Option Kind
 kind_named word = find (has_name word) kinds
@@ -91,6 +94,7 @@ kind_of_name check = refl
 kind_of_name confirm = refl
 kind_of_name audit = refl
 kind_of_name run = refl
+kind_of_name lint = refl
 
 -- two commands have two names
 pub one_kind : (k other : Kind) → name_of k ≡ name_of other → k ≡ other

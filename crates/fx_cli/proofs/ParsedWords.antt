@@ -18,14 +18,14 @@ use Rattle.clap.specs.declared.error.kind.ErrorKind.TheVariants.{OutOfMemory}
 use Rattle.std.specs.Prelude.{Box, IfErr, IfOk, IfSome, IsSome, Result, Ok, Err, MatchResult, IsErrAnd, string_bytes}
 use Rattle.std.specs.Box.{box_value}
 use Rattle.fx_cli.specs.declared.words.Call.{Call}
-use Rattle.fx_cli.specs.declared.words.Call.TheVariants.{Audit, Check, Collect, Confirm, Replay, Run}
+use Rattle.fx_cli.specs.declared.words.Call.TheVariants.{Audit, Check, Collect, Confirm, Lint, Replay, Run}
 use Rattle.clap.proofs.WalkLemmas.{first_value-rows, one_text-rows}
 use Rattle.fx_cli.specs.Words.{IsLimitSet, Names, NamesFiles, NamesNoCall, NamesWith}
-use Rattle.fx_cli.specs.CommandLine.{AreMatchesOf, file_rule, limit_rule, links_rule, once_app, over_capture, over_documents, over_network, wants_command}
-use Rattle.fx_cli.specs.Matches.{HoldsFile, HoldsLimit, HasFile, IsAuditOf, IsCheckOf, IsCollectOf, IsConfirmOf, IsReplayOf, IsRunCall}
+use Rattle.fx_cli.specs.CommandLine.{AreMatchesOf, file_rule, limit_rule, links_rule, network_alone, once_app, over_capture, over_documents, over_network, wants_command}
+use Rattle.fx_cli.specs.Matches.{HoldsFile, HoldsLimit, HasFile, IsAuditOf, IsCheckOf, IsCollectOf, IsConfirmOf, IsLintOf, IsReplayOf, IsRunCall}
 use Rattle.fx_cli.proofs.SingleWords.{Fails}
 use Rattle.fx_cli.proofs.AcceptedWords.{NamesBy, Refuses, Takes, decide_words}
-use Rattle.fx_cli.proofs.CommandTable.{Kind, audit, check, collect, confirm, name_of, one_kind, replay, run, taking_of}
+use Rattle.fx_cli.proofs.CommandTable.{Kind, audit, check, collect, confirm, lint, name_of, one_kind, replay, run, taking_of}
 use Rattle.fx_cli.proofs.LimitWords.{limit_read, limit_taken}
 use Rattle.fx_cli.proofs.OptionCommand.{Taking, files_alone}
 use Rattle.fx_cli.proofs.OptionRows.{HasAll, first_held, one_held}
@@ -75,6 +75,7 @@ no_call words r (Replay a b c) n = r.unnamed replay (string_bytes a ∷ string_b
 no_call words r (Collect a b) n = r.unnamed collect (string_bytes a ∷ string_bytes b ∷ []) None refl tt (named_alone n)
 no_call words r (Check a b c) n = r.unnamed check (string_bytes a ∷ string_bytes b ∷ string_bytes c ∷ []) None refl tt (named_alone n)
 no_call words r (Confirm a b c) n = r.unnamed confirm (string_bytes a ∷ string_bytes b ∷ string_bytes c ∷ []) None refl tt (named_alone n)
+no_call words r (Lint a) n = r.unnamed lint (string_bytes a ∷ []) None refl tt (named_alone n)
 no_call words r (Audit a b limit) n =
     r.unnamed audit (string_bytes a ∷ string_bytes b ∷ []) n.option refl (limit_fine n.option limit n.limit_is) (record { program = n.program; rest = n.rest; words_are = n.words_are; named = n.named })
 no_call words r (Run a b c d links) n =
@@ -131,8 +132,8 @@ abbrev IsNotFound : Text → ArgMatches → Type 0
 IsNotFound name m = subcommand_name_of m ≡ Some name → false ≡ true
 
 pub taken_replay : (words : List Text) (m : ArgMatches) → AreMatchesOf words m → IsNotFound (codes "collect") m → IsNotFound (codes "check") m → IsNotFound (codes "confirm") m
-    → IsNotFound (codes "audit") m → IsNotFound (codes "run") m → subcommand_name_of m ≡ Some (codes "replay")
-taken_replay words m are not_collect not_check not_confirm not_audit not_run = let t = taken words m are in go t.0 (taken_name (taking_of t.0) words m t.1)
+    → IsNotFound (codes "audit") m → IsNotFound (codes "run") m → IsNotFound (codes "lint") m → subcommand_name_of m ≡ Some (codes "replay")
+taken_replay words m are not_collect not_check not_confirm not_audit not_run not_lint = let t = taken words m are in go t.0 (taken_name (taking_of t.0) words m t.1)
   where
     go : (k : Kind) → subcommand_name_of m ≡ Some (name_of k) → subcommand_name_of m ≡ Some (codes "replay")
     go replay name = name
@@ -141,6 +142,7 @@ taken_replay words m are not_collect not_check not_confirm not_audit not_run = l
     go confirm name = absurd (true≢false (sym (not_confirm name)))
     go audit name = absurd (true≢false (sym (not_audit name)))
     go run name = absurd (true≢false (sym (not_run name)))
+    go lint name = absurd (true≢false (sym (not_lint name)))
 
 -- ---- the values that are found
 
@@ -253,12 +255,14 @@ IsCallOf check found call = IsCheckOf found call
 IsCallOf confirm found call = IsConfirmOf found call
 IsCallOf audit found call = IsAuditOf found call
 IsCallOf run found call = IsRunCall found call
+IsCallOf lint found call = IsLintOf found call
 
 pub names_call : (k : Kind) (words : List Text) (found : Found) → HasWords (taking_of k) words found → (call : Call) → IsCallOf k found call → Names words call
 names_call replay words found f (Replay a b c) h = files_there (codes "replay") (taking_of replay).ids words (string_bytes a ∷ string_bytes b ∷ string_bytes c ∷ []) found f (h.0, (h.1, (h.2, tt)))
 names_call collect words found f (Collect a b) h = files_there (codes "collect") (taking_of collect).ids words (string_bytes a ∷ string_bytes b ∷ []) found f (h.0, (h.1, tt))
 names_call check words found f (Check a b c) h = files_there (codes "check") (taking_of check).ids words (string_bytes a ∷ string_bytes b ∷ string_bytes c ∷ []) found f (h.0, (h.1, (h.2, tt)))
 names_call confirm words found f (Confirm a b c) h = files_there (codes "confirm") (taking_of confirm).ids words (string_bytes a ∷ string_bytes b ∷ string_bytes c ∷ []) found f (h.0, (h.1, (h.2, tt)))
+names_call lint words found f (Lint a) h = files_there (codes "lint") (taking_of lint).ids words (string_bytes a ∷ []) found f (h, tt)
 names_call audit words found f (Audit a b limit) h =
     let n = named_there (taking_of audit) words (string_bytes a ∷ string_bytes b ∷ []) found f (h.0, (h.1, tt)) in
     let l = limit_there found f.option f.accepted f.option_is in
@@ -276,29 +280,31 @@ pub record IsBuilt (c : Command) (a : App) : Type 0 where
   pub app : app_of c ≡ a
   pub local : (out-Command c).has_globals ≡ false
 
-abbrev AreBuilt : Command → Command → Command → Command → Command → Command → Type 0
-AreBuilt replaying collecting checking confirming auditing running =
+abbrev AreBuilt : Command → Command → Command → Command → Command → Command → Command → Type 0
+AreBuilt replaying collecting checking confirming auditing running linting =
     IsBuilt replaying (over_documents (codes "replay") (file_rule (codes "RUN")))
     × IsBuilt collecting (over_network (codes "collect") (file_rule (codes "STREAM")))
     × IsBuilt checking (over_documents (codes "check") (file_rule (codes "CERTIFICATE")))
     × IsBuilt confirming (over_documents (codes "confirm") (file_rule (codes "REFUTATION")))
     × IsBuilt auditing (with_rule (over_network (codes "audit") (file_rule (codes "TRAFFIC"))) limit_rule)
     × IsBuilt running (with_rule (over_capture (codes "run")) links_rule)
+    × IsBuilt linting (network_alone (codes "lint"))
 
-with_six : (once replaying collecting checking confirming auditing running whole : Command) → AddsInTurn AddsSubcommand once (replaying ∷ collecting ∷ checking ∷ confirming ∷ auditing ∷ running ∷ []) whole
-    → app_of once ≡ on_top wants_command (new_app (codes "once")) → AreBuilt replaying collecting checking confirming auditing running → app_of whole ≡ once_app
-with_six once replaying collecting checking confirming auditing running whole (one, first, (two, second, (three, third, (four, fourth, (five, fifth, (six, sixth, is)))))) o (r, l, k, c, a, u) =
+with_seven : (once replaying collecting checking confirming auditing running linting whole : Command) → AddsInTurn AddsSubcommand once (replaying ∷ collecting ∷ checking ∷ confirming ∷ auditing ∷ running ∷ linting ∷ []) whole
+    → app_of once ≡ on_top wants_command (new_app (codes "once")) → AreBuilt replaying collecting checking confirming auditing running linting → app_of whole ≡ once_app
+with_seven once replaying collecting checking confirming auditing running linting whole (one, first, (two, second, (three, third, (four, fourth, (five, fifth, (six, sixth, (seven, seventh, is))))))) o (r, l, k, c, a, u, n) =
     let step = λ (x y : App). with_subcommand x y.top in
     let to_one = first.shape r.local ∙ ap₂ step o r.app in
     let to_two = second.shape l.local ∙ ap₂ step to_one l.app in
     let to_three = third.shape k.local ∙ ap₂ step to_two k.app in
     let to_four = fourth.shape c.local ∙ ap₂ step to_three c.app in
     let to_five = fifth.shape a.local ∙ ap₂ step to_four a.app in
-    ap app_of (sym is) ∙ sixth.shape u.local ∙ ap₂ step to_five u.app
+    let to_six = sixth.shape u.local ∙ ap₂ step to_five u.app in
+    ap app_of (sym is) ∙ seventh.shape n.local ∙ ap₂ step to_six n.app
 
-pub six_commands : {Z : Type 0} (once replaying collecting checking confirming auditing running : Command) (items : List Command) (r : Result Command Z) → IfOk r (λ whole. AddsInTurn AddsSubcommand once items whole)
-    → items ≡ replaying ∷ collecting ∷ checking ∷ confirming ∷ auditing ∷ running ∷ [] → app_of once ≡ on_top wants_command (new_app (codes "once")) → AreBuilt replaying collecting checking confirming auditing running
+pub seven_commands : {Z : Type 0} (once replaying collecting checking confirming auditing running linting : Command) (items : List Command) (r : Result Command Z) → IfOk r (λ whole. AddsInTurn AddsSubcommand once items whole)
+    → items ≡ replaying ∷ collecting ∷ checking ∷ confirming ∷ auditing ∷ running ∷ linting ∷ [] → app_of once ≡ on_top wants_command (new_app (codes "once")) → AreBuilt replaying collecting checking confirming auditing running linting
     → IfOk r (λ whole. app_of whole ≡ once_app)
-six_commands once replaying collecting checking confirming auditing running items (Ok whole) adds are o built =
-    with_six once replaying collecting checking confirming auditing running whole (subst (λ (xs : List Command). AddsInTurn AddsSubcommand once xs whole) are adds) o built
-six_commands once replaying collecting checking confirming auditing running items (Err error) adds are o built = tt
+seven_commands once replaying collecting checking confirming auditing running linting items (Ok whole) adds are o built =
+    with_seven once replaying collecting checking confirming auditing running linting whole (subst (λ (xs : List Command). AddsInTurn AddsSubcommand once xs whole) are adds) o built
+seven_commands once replaying collecting checking confirming auditing running linting items (Err error) adds are o built = tt

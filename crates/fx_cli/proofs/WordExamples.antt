@@ -173,6 +173,14 @@ three_files_are_too_few_for_a_run : fault_of once_app (codes "once" ∷ codes "r
 unfolding clap_on_literals
 three_files_are_too_few_for_a_run = refl
 
+a_lint_has_no_fault : fault_of once_app (codes "once" ∷ codes "lint" ∷ codes "a" ∷ []) ≡ []
+unfolding clap_on_literals
+a_lint_has_no_fault = refl
+
+two_files_are_too_many_for_a_lint : fault_of once_app (codes "once" ∷ codes "lint" ∷ codes "a" ∷ codes "b" ∷ []) ≡ UnknownArgument ∷ []
+unfolding clap_on_literals
+two_files_are_too_many_for_a_lint = refl
+
 -- help is asked for by a flag or as a command
 help_flag : fault_of once_app (codes "once" ∷ codes "--help" ∷ []) ≡ DisplayHelp ∷ []
 unfolding clap_on_literals

@@ -8,13 +8,17 @@ use Rattle.clap.specs.declared.parser.matches.ArgMatches.{ArgMatches}
 abbrev pub file_rule : Text → Rule
 file_rule name = record (new_rule name) { required = true }
 
+-- a command over a network and nothing else
+abbrev pub network_alone : Text → App
+network_alone command = with_rule (new_app command) (file_rule (codes "NETWORK"))
+
 -- a command over a network, traffic and a third file
 abbrev pub over_documents : Text → Rule → App
-over_documents command third = with_rule (with_rule (with_rule (new_app command) (file_rule (codes "NETWORK"))) (file_rule (codes "TRAFFIC"))) third
+over_documents command third = with_rule (with_rule (network_alone command) (file_rule (codes "TRAFFIC"))) third
 
 -- a command over a network and another file
 abbrev pub over_network : Text → Rule → App
-over_network command file = with_rule (with_rule (new_app command) (file_rule (codes "NETWORK"))) file
+over_network command file = with_rule (network_alone command) file
 
 -- the option of a limit, from 1 to 1,000,000
 abbrev pub limit_rule : Rule
@@ -45,7 +49,8 @@ once_app =
     let audit = with_rule (over_network (codes "audit") (file_rule (codes "TRAFFIC"))) limit_rule in
     let three = with_subcommand (with_subcommand (with_subcommand (on_top wants_command (new_app (codes "once"))) replay.top) collect.top) check.top in
     let run = with_rule (over_capture (codes "run")) links_rule in
-    with_subcommand (with_subcommand (with_subcommand three confirm.top) audit.top) run.top
+    let lint = network_alone (codes "lint") in
+    with_subcommand (with_subcommand (with_subcommand (with_subcommand three confirm.top) audit.top) run.top) lint.top
 
 -- what the program's command line makes of these words, which have no fault
 pub record AreMatchesOf (words : List Text) (m : ArgMatches) : Type 0 where

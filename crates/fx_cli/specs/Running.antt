@@ -6,10 +6,10 @@ use Rattle.fx_base.specs.declared.fault.Fault.{Fault}
 use Rattle.fx_base.specs.declared.fault.Place.TheVariants as places
 use Rattle.fx_audit.specs.declared.answer.Answer.{Answer}
 use Rattle.fx_audit.specs.Commands.{IsAudited}
-use Rattle.fx_audit.specs.Texts.{IsCheckText, IsCollectText, IsConfirmText, IsReplayText, IsRunText}
+use Rattle.fx_audit.specs.Texts.{IsCheckText, IsCollectText, IsConfirmText, IsLintText, IsReplayText, IsRunText}
 use Rattle.fx_cli.specs.Ending.{refusal_line, refusal_status, status}
 use Rattle.fx_cli.specs.declared.words.Call.{Call}
-use Rattle.fx_cli.specs.declared.words.Call.TheVariants.{Audit, Check, Collect, Confirm, Replay, Run}
+use Rattle.fx_cli.specs.declared.words.Call.TheVariants.{Audit, Check, Collect, Confirm, Lint, Replay, Run}
 
 -- an audit of what the two files may have held, with at most so many split and leaf lines, answers this and prints this text
 abbrev pub IsTextWithin : ℕ → Answer → List ℕ → Type 0
@@ -23,6 +23,7 @@ IsCallText (Check network traffic certificate) answer text = IsCheckText answer 
 IsCallText (Confirm network traffic refutation) answer text = IsConfirmText answer text
 IsCallText (Audit network traffic limit) answer text = IsTextWithin limit answer text
 IsCallText (Run network traffic capture schedule links) answer text = IsRunText answer text
+IsCallText (Lint network) answer text = IsLintText answer text
 
 -- Of what octets go to, in the end: its last call failed, or one failed and then the line that says so was taken.
 abbrev pub HasFailedToWrite : {S : Type 0} → (S → Option (List ℕ)) → (S → Bool) → S → Type 0

@@ -4,7 +4,7 @@ use Rattle.std.specs.Str.Parse.{IsNumeral, digits_value, without_leading_plus}
 use Rattle.std.specs.Str.{bytes_eq, chars}
 use Rattle.clap.specs.Words.{Text}
 use Rattle.fx_cli.specs.declared.words.Call.{Call}
-use Rattle.fx_cli.specs.declared.words.Call.TheVariants.{Audit, Check, Collect, Confirm, Replay, Run}
+use Rattle.fx_cli.specs.declared.words.Call.TheVariants.{Audit, Check, Collect, Confirm, Lint, Replay, Run}
 
 -- a word that begins with `-` (45) and goes on
 abbrev pub is_flag : Text → Bool
@@ -80,8 +80,8 @@ pub record NamesRun (words : List Text) (files : List Text) (links : Option Text
   pub named : NamesWith (codes "links") rest files links
 
 -- `once replay NETWORK TRAFFIC RUN`, `once collect NETWORK STREAM`, `once check NETWORK TRAFFIC CERTIFICATE`,
--- `once confirm NETWORK TRAFFIC REFUTATION`, `once audit NETWORK TRAFFIC [--limit N]` and
--- `once run NETWORK TRAFFIC CAPTURE SCHEDULE [--links PREFIX]`
+-- `once confirm NETWORK TRAFFIC REFUTATION`, `once audit NETWORK TRAFFIC [--limit N]`,
+-- `once run NETWORK TRAFFIC CAPTURE SCHEDULE [--links PREFIX]` and `once lint NETWORK`
 abbrev pub Names : List Text → Call → Type 0
 Names words (Replay network traffic run) =
     NamesFiles words (codes "replay") (string_bytes network ∷ string_bytes traffic ∷ string_bytes run ∷ [])
@@ -93,6 +93,7 @@ Names words (Confirm network traffic refutation) =
 Names words (Audit network traffic limit) = NamesAudit words (string_bytes network ∷ string_bytes traffic ∷ []) limit
 Names words (Run network traffic capture schedule links) =
     NamesRun words (string_bytes network ∷ string_bytes traffic ∷ string_bytes capture ∷ string_bytes schedule ∷ []) (option_map string_bytes links)
+Names words (Lint network) = NamesFiles words (codes "lint") (string_bytes network ∷ [])
 
 abbrev pub NamesNoCall : List Text → Type 0
 NamesNoCall words = (call : Call) → Names words call → ⊥

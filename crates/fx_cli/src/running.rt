@@ -3,7 +3,7 @@ ghost use Rattle.std.specs.Prelude.{◌≡◌, ◌⊎◌, ◌≤◌, ◌<◌, If
 ghost use Rattle.fx_base.specs.Fault.{fault_at, IsMemory};
 ghost use Rattle.fx_base.specs.declared.fault.Place.TheVariants as places;
 ghost use Rattle.fx_audit.specs.Outputs.{AnswersWith};
-ghost use Rattle.fx_audit.specs.Texts.{IsBundleText, IsCheckText, IsCollectText, IsConfirmText, IsReplayText, IsRunText};
+ghost use Rattle.fx_audit.specs.Texts.{IsBundleText, IsCheckText, IsCollectText, IsConfirmText, IsLintText, IsReplayText, IsRunText};
 ghost use Rattle.fx_cli.specs.Ending.{IsExitStatus};
 ghost use Rattle.fx_cli.specs.Running.{EndsAs, HasFailedToWrite, IsCallText, IsTextWithin};
 ghost use Rattle.fx_cli.specs.Words.{Names, NamesNoCall};
@@ -18,8 +18,8 @@ use crate::seeds::seed_at_random;
 use crate::words::{Call, read_words};
 use crate::words_ending::{finish_unread, finish_words};
 use fx_audit::{
-    Answer, audit_bytes, bundle_bytes, check_bytes, collect_bytes, confirm_bytes, replay_bytes,
-    run_bytes,
+    Answer, audit_bytes, bundle_bytes, check_bytes, collect_bytes, confirm_bytes, lint_bytes,
+    replay_bytes, run_bytes,
 };
 use fx_base::{Fault, LineReader, Outside, Sink};
 use fx_link::Nowhere;
@@ -177,6 +177,18 @@ fn run_capture<R: AllocGlobal + Files + RandomSource, S: Sink>(
     }
 }
 
+/// Lints the network in this file.
+fn lint<R: AllocGlobal + Files, S: Sink>(
+    rt: &R,
+    network: &str,
+    sink: &mut S,
+) -> Result<Answer, Fault>
+    ensures { AnswersWith S.taken S.failed IsLintText sink.old sink.new result }
+{
+    let mut network = open(rt, network)?;
+    lint_bytes(rt.alloc(), &mut network, sink)
+}
+
 /// Opens the files that a call names, in the order of its words, and only then reads them and answers.
 ///
 /// Fails with 901 where a file can't be opened, or the system gives no octets at random to a call that finds keys by a
@@ -237,6 +249,7 @@ fn answer_call<R: AllocGlobal + Files + RandomSource, S: Sink>(
             links.as_deref(),
             sink,
         ),
+        Call::Lint { network } => lint(rt, network.as_str(), sink),
     }
 }
 

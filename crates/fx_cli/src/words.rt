@@ -3,8 +3,8 @@ ghost use Rattle.std.specs.Prelude.{◌≡◌, ◌⊎◌, ℕ, IfErr, IfOk, List
 ghost use Rattle.clap.specs.Simple.{on_top};
 ghost use Rattle.clap.specs.Words.{app_of, fault_of, found_of, HasKind, kind_of, new_app, rule_of, Text, with_rule};
 ghost use Rattle.clap.specs.declared.builder.command.Command.TheViews.{out-Command};
-ghost use Rattle.fx_cli.specs.CommandLine.{AreMatchesOf, file_rule, limit_rule, links_rule, once_app, over_capture, over_documents, over_network, wants_command};
-ghost use Rattle.fx_cli.specs.Matches.{HoldsFile, HoldsLimit, HoldsOption, IsAuditOf, IsCheckOf, IsCollectOf, IsConfirmOf, HasFile, IsReplayOf, IsRunCall};
+ghost use Rattle.fx_cli.specs.CommandLine.{AreMatchesOf, file_rule, limit_rule, links_rule, once_app, network_alone, over_capture, over_documents, over_network, wants_command};
+ghost use Rattle.fx_cli.specs.Matches.{HoldsFile, HoldsLimit, HoldsOption, IsAuditOf, IsCheckOf, IsCollectOf, IsConfirmOf, HasFile, IsLintOf, IsReplayOf, IsRunCall};
 ghost use Rattle.fx_cli.specs.Words.{Names, NamesNoCall};
 
 use clap::error::ErrorKind;
@@ -70,6 +70,11 @@ pub enum Call {
         /// What the names of the links' files begin with, where the links are kept.
         links: Option<String>,
     },
+    /// Says whether a network document has a fault.
+    Lint {
+        /// The network document.
+        network: String,
+    },
 }
 
 /// A file that a command wants, with a line of help.
@@ -101,8 +106,7 @@ fn network_command<'a>(
     name: &'a str,
     about: &'a str,
 ) -> Result<Command<'a>, AllocError>
-    ensures app { IfOk result (λ c. app_of c
-        ≡ with_rule (new_app name.entry.now) (file_rule (codes "NETWORK"))) }
+    ensures app { IfOk result (λ c. app_of c ≡ network_alone name.entry.now) }
     ensures local { IfOk result (λ c. (out-Command c).has_globals ≡ false) }
 {
     let command = Command::new(alloc, name).about(about);
@@ -246,6 +250,18 @@ fn run_command<'a>(alloc: Global) -> Result<Command<'a>, AllocError>
     command.arg(links(alloc))
 }
 
+/// The command `lint`.
+fn lint_command<'a>(alloc: Global) -> Result<Command<'a>, AllocError>
+    ensures app { IfOk result (λ c. app_of c ≡ network_alone (codes "lint")) }
+    ensures local { IfOk result (λ c. (out-Command c).has_globals ≡ false) }
+{
+    network_command(
+        alloc,
+        "lint",
+        "Says whether a network document has a fault, and which comes first",
+    )
+}
+
 /// The program, before its commands are added.
 fn program<'a>(alloc: Global) -> Command<'a>
     ensures { app_of result ≡ on_top wants_command (new_app (codes "once")) }
@@ -269,6 +285,7 @@ fn command_line<'a>(alloc: Global) -> Result<Command<'a>, AllocError>
     commands.push(confirm_command(alloc)?)?;
     commands.push(audit_command(alloc)?)?;
     commands.push(run_command(alloc)?)?;
+    commands.push(lint_command(alloc)?)?;
     program(alloc).subcommands(commands)
 }
 
@@ -384,6 +401,16 @@ fn run_call(alloc: Global, matches: &ArgMatches<'_>) -> Result<Call, AllocError>
     })
 }
 
+/// The call of `lint`, by the matches of its words.
+fn lint_call(alloc: Global, matches: &ArgMatches<'_>) -> Result<Call, AllocError>
+    requires { HasFile (found_of matches.now) (codes "NETWORK") }
+    ensures { IfOk result (IsLintOf (found_of matches.now)) }
+{
+    Ok(Call::Lint {
+        network: file_name(alloc, matches, "NETWORK")?,
+    })
+}
+
 /// The call that these matches of the program's words name.
 fn call_of(alloc: Global, matches: &ArgMatches<'_>) -> Result<Call, AllocError>
     requires { (words : List Text) × AreMatchesOf words matches.now }
@@ -403,6 +430,9 @@ fn call_of(alloc: Global, matches: &ArgMatches<'_>) -> Result<Call, AllocError>
     }
     if let Some(run) = matches.subcommand_matches("run") {
         return run_call(alloc, run);
+    }
+    if let Some(lint) = matches.subcommand_matches("lint") {
+        return lint_call(alloc, lint);
     }
     replay_call(alloc, matches.subcommand_matches("replay").unwrap())
 }

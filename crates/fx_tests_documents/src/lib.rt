@@ -12,6 +12,8 @@ mod audit_collects;
 #[cfg(test)]
 mod audit_confirms;
 #[cfg(test)]
+mod audit_lints;
+#[cfg(test)]
 mod audit_replays;
 #[cfg(test)]
 mod audit_runs;

@@ -56,6 +56,7 @@ fn parts(alloc: Global, call: &Call) -> Result<String, AllocError> {
             let links = links.as_deref().unwrap_or("");
             format!(in alloc; "run|{network}|{traffic}|{capture}|{schedule}|{links}")
         }
+        Call::Lint { network } => format!(in alloc; "lint|{network}"),
     }
 }
 
@@ -90,6 +91,8 @@ fn reads_words(rt: HostRuntime) -> Result<(), Fail> {
         ("once run A B C D --links E", "run|A|B|C|D|E"),
         ("once run A B --links=-E C D", "run|A|B|C|D|-E"),
         ("once run A B C D", "run|A|B|C|D|"),
+        ("once lint net.json", "lint|net.json"),
+        ("once lint -- -x", "lint|-x"),
     ] {
         assert!(rt; call(rt.alloc(), line)?.as_str() == wanted);
     }
@@ -136,6 +139,9 @@ fn ends_words_that_name_no_call(rt: HostRuntime) -> Result<(), Fail> {
         ("once run a b c d --links", 6),
         ("once run a b c d --links -e", 6),
         ("once run --links e a b c d --links e", 6),
+        ("once lint", 6),
+        ("once lint a b", 6),
+        ("once lint -x", 6),
     ] {
         assert!(rt; ends_words(rt.alloc(), line)? == Some((status, true)));
     }

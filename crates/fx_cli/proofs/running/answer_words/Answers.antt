@@ -2,7 +2,7 @@ use Rattle.std.proofs.Common.{inl, inr, map, string_bytes}
 use Rattle.fx_base.specs.Fault.{fault_at}
 use Rattle.fx_base.specs.declared.fault.Place.TheVariants as places
 use Rattle.fx_cli.specs.Running.{IsCallText}
-use Rattle.fx_cli.proofs.CallOutputs.{ended, ends_as}
+use Rattle.fx_cli.proofs.CallOutputs.{ended, ends_as, too_short}
 use Rattle.fx_cli.proofs.running.answer_words.Goals as goal
 
 pub returns-in-Err-clause-call : goal.returns-in-Err-clause-call
@@ -13,6 +13,9 @@ returns-in-Err-clause-call g c = λ call names. elim c.in-Err.ensures.call [
   ]
   | inr none ↦ absurd (none call names)
 ]
+
+pub returns-then-words-lt2-clause-call : goal.returns-then-words-lt2-clause-call
+returns-then-words-lt2-clause-call g c = λ call names. absurd (too_short string_bytes c.args.words.now call c.if-words-lt2.true names)
 
 pub returns-in-Ok-clause-call : goal.returns-in-Ok-clause-call
 returns-in-Ok-clause-call g c = λ call names.

@@ -1,6 +1,6 @@
 use Rattle.std.proofs.Common.{refl}
 use Rattle.clap.specs.Words.{found_of}
-use Rattle.fx_cli.proofs.CommandTable.{audit, check, collect, confirm, replay, run, taking_of}
+use Rattle.fx_cli.proofs.CommandTable.{audit, check, collect, confirm, lint, replay, run, taking_of}
 use Rattle.fx_cli.proofs.ParsedWords.{all_found, if_some, limit_found, names_call, ok_as, taken_replay, words_of}
 use Rattle.fx_cli.proofs.words.call_of.Goals as goal
 
@@ -84,17 +84,33 @@ returns-in-Some-subcommand_matches-4 c = λ words are.
     let found = found_of some.run'.now in
     ok_as c.run_call.result _ _ (names_call run words found (words_of run words c.args.matches.now found are (some.ensures.found.0 refl) some.ensures.rows)) c.run_call.ensures
 
+-- ---- where the command is `lint`
+
+pub lint_call-requires : goal.lint_call-requires
+lint_call-requires c =
+    let some = c.in-Some-subcommand_matches-5 in
+    let found = found_of some.lint.now in
+    let f = words_of lint c.requires.0 c.args.matches.now found c.requires.1 (some.ensures.found.0 refl) some.ensures.rows in
+    let h = all_found found (taking_of lint).ids f.files f.files_are in
+    h.0
+
+pub returns-in-Some-subcommand_matches-5 : goal.returns-in-Some-subcommand_matches-5
+returns-in-Some-subcommand_matches-5 c = λ words are.
+    let some = c.in-Some-subcommand_matches-5 in
+    let found = found_of some.lint.now in
+    ok_as c.lint_call.result _ _ (names_call lint words found (words_of lint words c.args.matches.now found are (some.ensures.found.0 refl) some.ensures.rows)) c.lint_call.ensures
+
 -- ---- where it is another
 
 pub unwrap-requires : goal.unwrap-requires
 unwrap-requires c =
-    c.subcommand_matches-6.ensures.found.1 (taken_replay c.requires.0 c.args.matches.now c.requires.1 c.in_default.ensures.found.1 c.in_default-subcommand_matches.ensures.found.1 c.in_default-subcommand_matches-2.ensures.found.1 c.in_default-subcommand_matches-3.ensures.found.1 c.in_default-subcommand_matches-4.ensures.found.1)
+    c.subcommand_matches-7.ensures.found.1 (taken_replay c.requires.0 c.args.matches.now c.requires.1 c.in_default.ensures.found.1 c.in_default-subcommand_matches.ensures.found.1 c.in_default-subcommand_matches-2.ensures.found.1 c.in_default-subcommand_matches-3.ensures.found.1 c.in_default-subcommand_matches-4.ensures.found.1 c.in_default-subcommand_matches-5.ensures.found.1)
 
 pub replay_call-requires : goal.replay_call-requires
 replay_call-requires c =
     let found = found_of c.unwrap.result.now in
-    let name = taken_replay c.requires.0 c.args.matches.now c.requires.1 c.in_default.ensures.found.1 c.in_default-subcommand_matches.ensures.found.1 c.in_default-subcommand_matches-2.ensures.found.1 c.in_default-subcommand_matches-3.ensures.found.1 c.in_default-subcommand_matches-4.ensures.found.1 in
-    let rows = if_some c.subcommand_matches-6.result c.unwrap.result _ c.unwrap.ensures c.subcommand_matches-6.ensures.rows in
+    let name = taken_replay c.requires.0 c.args.matches.now c.requires.1 c.in_default.ensures.found.1 c.in_default-subcommand_matches.ensures.found.1 c.in_default-subcommand_matches-2.ensures.found.1 c.in_default-subcommand_matches-3.ensures.found.1 c.in_default-subcommand_matches-4.ensures.found.1 c.in_default-subcommand_matches-5.ensures.found.1 in
+    let rows = if_some c.subcommand_matches-7.result c.unwrap.result _ c.unwrap.ensures c.subcommand_matches-7.ensures.rows in
     let f = words_of replay c.requires.0 c.args.matches.now found c.requires.1 name rows in
     let h = all_found found (taking_of replay).ids f.files f.files_are in
     (h.0, h.1.0, h.1.1.0)
@@ -102,6 +118,6 @@ replay_call-requires c =
 pub returns : goal.returns
 returns c = λ words are.
     let found = found_of c.unwrap.result.now in
-    let name = taken_replay words c.args.matches.now are c.in_default.ensures.found.1 c.in_default-subcommand_matches.ensures.found.1 c.in_default-subcommand_matches-2.ensures.found.1 c.in_default-subcommand_matches-3.ensures.found.1 c.in_default-subcommand_matches-4.ensures.found.1 in
-    let rows = if_some c.subcommand_matches-6.result c.unwrap.result _ c.unwrap.ensures c.subcommand_matches-6.ensures.rows in
+    let name = taken_replay words c.args.matches.now are c.in_default.ensures.found.1 c.in_default-subcommand_matches.ensures.found.1 c.in_default-subcommand_matches-2.ensures.found.1 c.in_default-subcommand_matches-3.ensures.found.1 c.in_default-subcommand_matches-4.ensures.found.1 c.in_default-subcommand_matches-5.ensures.found.1 in
+    let rows = if_some c.subcommand_matches-7.result c.unwrap.result _ c.unwrap.ensures c.subcommand_matches-7.ensures.rows in
     ok_as c.replay_call.result _ _ (names_call replay words found (words_of replay words c.args.matches.now found are name rows)) c.replay_call.ensures

@@ -1,0 +1,45 @@
+//! Network documents that are linted, and devices that fail.
+use crate::audit_texts::{NETWORK, ending};
+use fx_audit::{Answer, lint_bytes};
+use fx_base::{Fuse, Octets, Room};
+use std::alloc::Global;
+
+/// Whether linting a document ends like this, with this written, where reading it fails at a call, or at none for 0.
+fn ends(
+    alloc: Global,
+    network: &[u8],
+    call: u64,
+    wanted: Result<Answer, u16>,
+    text: &[u8],
+) -> bool {
+    let mut network = Fuse::new(Octets::new(network), call);
+    let mut octets = [0u8; 8];
+    let mut room = Room::new(&mut octets);
+    let outcome = lint_bytes(alloc, &mut network, &mut room);
+    ending(outcome) == wanted && room.octets() == text
+}
+
+#[test]
+fn lints_a_network(rt: HostRuntime) {
+    assert!(rt; ends(rt.alloc(), NETWORK.as_bytes(), 0, Ok(Answer::Yes), b"ok\n"));
+}
+
+/// Last a read fails.
+#[test]
+fn refuses_documents_of_no_network(rt: HostRuntime) {
+    for (network, call, number) in [
+        (b"{".as_slice(), 0, 101),
+        (b"[]", 0, 104),
+        (NETWORK.as_bytes(), 1, 901),
+    ] {
+        assert!(rt; ends(rt.alloc(), network, call, Err(number), b""));
+    }
+}
+
+#[test]
+fn fails_without_room(rt: HostRuntime) {
+    let mut network = Octets::new(NETWORK.as_bytes());
+    let mut octets = [0u8; 2];
+    let mut room = Room::new(&mut octets);
+    assert!(rt; ending(lint_bytes(rt.alloc(), &mut network, &mut room)) == Err(902));
+}
