@@ -102,7 +102,11 @@ def proof_paths(folder, path, function):
     at, block = module_of(path), function.block
     if block is None:
         return [[*at, function.name]]
-    homes = [at, *(it for it in modules_declaring(folder, type_name(block.own_type)) if it != at)]
+    declared = modules_declaring(folder, type_name(block.own_type))
+    others = [it for it in declared if it != at]
+    # (a check names a method by its type's module, and one of a trait by that of the impl)
+    is_far = block.is_inherent and others and at not in declared
+    homes = [*others, at] if is_far else [at, *others]
     return [[*home, block.name(), function.name] for home in homes]
 
 
