@@ -24,7 +24,8 @@ pub enum Item {
     },
     /// `S AXIS AT`: the tree of the values below `at` comes next, then that of those from `at` on.
     Split {
-        /// The axis, by its word: `source`, `destination`, `protocol`, `sport`, `dport` or `tos`.
+        /// The axis, by its word: `source`, `destination`, `protocol`, `sport`, `dport`, `tos`, `version`, `source6` or
+        /// `destination6`.
         axis: Axis,
         /// A value of the axis, in decimal, also for an address.
         at: u128,
