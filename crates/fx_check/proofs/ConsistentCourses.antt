@@ -49,13 +49,13 @@ target_next z ts at lt = rw add-one (go ts at lt) where
   go (t ∷ ts) zero lt = refl
   go (t ∷ ts) (suc at) lt = go ts at (omega arith)
 
-pub leaf_is : (z : Version) (judge : Judge) (made : ℕ) (ts : List Target) (at : ℕ) (ws : List Waiting) (s : Stage) (w : Waiting) (l : Counted) (t : Target) → s ≡ stage.Tree w → IsConsistentAt ts at ws s → t ≡ get_or ts at t
+pub leaf_is : (z : Version) (judge : Judge) (made : ℕ) (ts : List Target) (at : ℕ) (ws : List WaitingRegion) (s : Stage) (w : WaitingRegion) (l : Counted) (t : Target) → s ≡ stage.Tree w → IsConsistentAt ts at ws s → t ≡ get_or ts at t
     → after judge made (goals_at z ts at ws s) (item.Leaf l.crossing l.point l.process) ≡ cond t.exempt (Err faults.Place) (leaf_answer made (judge t w.region (Some l)) (rest_of_tree z (drop at ts) ws))
 leaf_is z judge made ts at ws s w l t e h is =
     let k : IsConsistentAt ts at ws (stage.Tree w) = subst (λ (x : Stage). IsConsistentAt ts at ws x) e h in
     rw (e, drop-cons ts at t k.0, ← is) refl
 
-pub never_is : (z : Version) (judge : Judge) (made : ℕ) (ts : List Target) (at : ℕ) (ws : List Waiting) (s : Stage) (w : Waiting) (t : Target) → s ≡ stage.Tree w → IsConsistentAt ts at ws s → t ≡ get_or ts at t
+pub never_is : (z : Version) (judge : Judge) (made : ℕ) (ts : List Target) (at : ℕ) (ws : List WaitingRegion) (s : Stage) (w : WaitingRegion) (t : Target) → s ≡ stage.Tree w → IsConsistentAt ts at ws s → t ≡ get_or ts at t
     → after judge made (goals_at z ts at ws s) item.Never ≡ cond (may_say_never z t) (leaf_answer made (judge t w.region None) (rest_of_tree z (drop at ts) ws)) (Err faults.Place)
 never_is z judge made ts at ws s w t e h is =
     let k : IsConsistentAt ts at ws (stage.Tree w) = subst (λ (x : Stage). IsConsistentAt ts at ws x) e h in
@@ -102,7 +102,7 @@ split_goal z judge made ts at ws s w a v h e =
     let k : IsConsistentAt ts at ws (stage.Tree w) = subst (λ (x : Stage). IsConsistentAt ts at ws x) e h in
     rw e (split_on z judge made (drop at ts) ws w a v (omega (arith, length-drop at ts, k.0)))
 
-pub split_end : (z : Version) (judge : Judge) (made : ℕ) (ts : List Target) (at : ℕ) (ws after_push : List Waiting) (s : Stage) (w below above : Waiting) (a : Axis) (v : ℕ) (r : Result (List Goal) LineFault) → IsConsistentAt ts at ws s → s ≡ stage.Tree w
+pub split_end : (z : Version) (judge : Judge) (made : ℕ) (ts : List Target) (at : ℕ) (ws after_push : List WaitingRegion) (s : Stage) (w below above : WaitingRegion) (a : Axis) (v : ℕ) (r : Result (List Goal) LineFault) → IsConsistentAt ts at ws s → s ≡ stage.Tree w
     → below ≡ below_waits w (axis_index a) v → above ≡ above_waits w (axis_index a) v → after_push ≡ ws ++ above ∷ []
     → split_answer made w.region w.depth (axis_index a) v (tree_goals z (drop at ts) below after_push) ≡ r → after judge made (goals_at z ts at ws s) (item.Split a v) ≡ r
 split_end z judge made ts at ws after_push s w below above a v r h e lower upper pushed is =
@@ -121,7 +121,7 @@ region_of stage.Between h = absurd h
 region_of (stage.Tree w) h = (w, refl)
 region_of stage.Ended h = absurd h
 
-pub refuses_tree : (z : Version) (judge : Judge) (made : ℕ) (ts : List Target) (at : ℕ) (ws : List Waiting) (s : Stage) (w : Waiting) (i : Item) → IsConsistentAt ts at ws s → s ≡ stage.Tree w → IsNoTree i → after judge made (goals_at z ts at ws s) i ≡ Err faults.Place
+pub refuses_tree : (z : Version) (judge : Judge) (made : ℕ) (ts : List Target) (at : ℕ) (ws : List WaitingRegion) (s : Stage) (w : WaitingRegion) (i : Item) → IsConsistentAt ts at ws s → s ≡ stage.Tree w → IsNoTree i → after judge made (goals_at z ts at ws s) i ≡ Err faults.Place
 refuses_tree z judge made ts at ws s w i h e other =
     let k : IsConsistentAt ts at ws (stage.Tree w) = subst (λ (x : Stage). IsConsistentAt ts at ws x) e h in
     rw e (go (drop at ts) i (omega (arith, length-drop at ts, k.0)) other) where
@@ -138,7 +138,7 @@ pub form_fault-ahead : (z : Version) (xs : List Target) → form_fault (ahead z 
 form_fault-ahead z [] = refl
 form_fault-ahead z (t ∷ ts) = refl
 
-pub form_fault-tree_goals : (z : Version) (xs : List Target) (w : Waiting) (ws : List Waiting) → 0 < length xs → form_fault (tree_goals z xs w ws) ≡ faults.Form
+pub form_fault-tree_goals : (z : Version) (xs : List Target) (w : WaitingRegion) (ws : List WaitingRegion) → 0 < length xs → form_fault (tree_goals z xs w ws) ≡ faults.Form
 form_fault-tree_goals z [] w ws some = absurd (omega arith)
 form_fault-tree_goals z (t ∷ ts) w ws some = refl
 
@@ -154,10 +154,10 @@ not_ended z ts at ws (stage.Tree w) n h ne = go (drop at ts) (omega (arith, leng
   go (t ∷ ts) some = refl
 not_ended z ts at ws stage.Ended n h ne = absurd (ne refl)
 
-pub form_fault_between : (z : Version) (ts : List Target) (at : ℕ) (ws : List Waiting) (s : Stage) → s ≡ stage.Between → faults.Form ≡ form_fault (goals_at z ts at ws s)
+pub form_fault_between : (z : Version) (ts : List Target) (at : ℕ) (ws : List WaitingRegion) (s : Stage) → s ≡ stage.Between → faults.Form ≡ form_fault (goals_at z ts at ws s)
 form_fault_between z ts at ws s e = rw e (sym (form_fault-ahead z (drop at ts)))
 
-pub form_fault_tree : (z : Version) (ts : List Target) (at : ℕ) (ws : List Waiting) (s : Stage) (w : Waiting) → IsConsistentAt ts at ws s → s ≡ stage.Tree w → faults.Form ≡ form_fault (goals_at z ts at ws s)
+pub form_fault_tree : (z : Version) (ts : List Target) (at : ℕ) (ws : List WaitingRegion) (s : Stage) (w : WaitingRegion) → IsConsistentAt ts at ws s → s ≡ stage.Tree w → faults.Form ≡ form_fault (goals_at z ts at ws s)
 form_fault_tree z ts at ws s w h e =
     let k : IsConsistentAt ts at ws (stage.Tree w) = subst (λ (x : Stage). IsConsistentAt ts at ws x) e h in
     rw e (sym (form_fault-tree_goals z (drop at ts) w ws (omega (arith, length-drop at ts, k.0))))

@@ -9,8 +9,8 @@ use Rattle.fx_base.proofs.GoingOn.{cut_off_behind, may_follow, nothing_left, som
 use Rattle.fx_run_text.proofs.RunLines.{long_first}
 use Rattle.fx_check.specs.Judging.{Judge}
 use Rattle.fx_check.specs.Outcomes.{Continues, IsRefusal, StandsBehind}
-use Rattle.fx_check.specs.Verdict as verdict
-use Rattle.fx_check.specs.Verdict.{Goal, Line, Refusal, at_line, refusal_at, at_end, goes_on, first_refusal, reading_of, after_reading, made_after}
+use Rattle.fx_check.specs.FirstRefusal as verdict
+use Rattle.fx_check.specs.FirstRefusal.{Goal, Line, Refusal, at_line, refusal_at, at_end, goes_on, first_refusal, reading_of, after_reading, made_after}
 
 one_on : (judge : Judge) (n m made : ℕ) (gs left : List Goal) (l : Line) (ls : List Line) → m ≡ next_number n → after_reading judge made gs (reading_of l) ≡ Ok left
     → first_refusal judge n made gs (l ∷ ls) ≡ first_refusal judge m (made_after made (reading_of l)) left ls

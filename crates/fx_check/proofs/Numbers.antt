@@ -16,7 +16,7 @@ use Rattle.fx_leaf.specs.Verdicts.{Verdict, path_verdict, counter}
 use Rattle.fx_check.specs.Judging.{judge_of, same_leaf, unless_same, unless_never}
 use Rattle.fx_check.specs.Outcomes.{IsCertificateNumber, IsCheckFault, memory, device, too_long, wrong, IsToldBy}
 use Rattle.fx_traffic.specs.Targets.{Target}
-use Rattle.fx_check.specs.Verdict.{Goal, header, opening, tree, close, Reading, long, cut, malformed, says, Refusal, at_line, at_end, after, after_reading, form_fault, leaf_answer, split_answer, unless_wrong, parts, may_say_never, by_number}
+use Rattle.fx_check.specs.FirstRefusal.{Goal, header, opening, tree, close, LineReading, long, cut, malformed, says, Refusal, at_line, at_end, after, after_reading, form_fault, leaf_answer, split_answer, unless_wrong, parts, may_say_never, by_number}
 use Rattle.fx_check.specs.LineFaults.{number_of}
 use Rattle.fx_check.specs.declared.line_fault.LineFault.{LineFault}
 use Rattle.fx_check.specs.declared.line_fault.LineFault.TheVariants as faults

@@ -11,7 +11,7 @@ use Rattle.fx_leaf.specs.declared.leaf.Counted.{Counted}
 use Rattle.fx_leaf.specs.Certificates.{Tree, Leaf, Uncounted, Split}
 use Rattle.fx_check.specs.Judging.{Judge}
 use Rattle.fx_traffic.specs.Targets.{Target}
-use Rattle.fx_check.specs.Verdict.{Goal, header, opening, tree, close, ahead, whole, line_limit, depth_limit, may_say_never, leaf_answer, split_answer, parts, after, made_by, Reading, long, cut, malformed, says, after_reading, made_after, by_number}
+use Rattle.fx_check.specs.FirstRefusal.{Goal, header, opening, tree, close, ahead, whole, line_limit, depth_limit, may_say_never, leaf_answer, split_answer, parts, after, made_by, LineReading, long, cut, malformed, says, after_reading, made_after, by_number}
 use Rattle.fx_check.specs.Certificates.{tree_items, size, sizes, body_items, certificate_items}
 use Rattle.fx_check.specs.declared.line_fault.LineFault.{LineFault}
 use Rattle.fx_check.specs.declared.line_fault.LineFault.TheVariants as faults
@@ -211,7 +211,7 @@ right_only judge ts (says item.End ∷ rs) e = absurd cc
 
 -- ---- back
 
-goes : (judge : Judge) (made : ℕ) (gs left : List Goal) (i : Item) (rs : List Reading) → after judge made gs i ≡ Ok left → verdict judge (made_by made i) left rs ≡ None → verdict judge made gs (says i ∷ rs) ≡ None
+goes : (judge : Judge) (made : ℕ) (gs left : List Goal) (i : Item) (rs : List LineReading) → after judge made gs i ≡ Ok left → verdict judge (made_by made i) left rs ≡ None → verdict judge made gs (says i ∷ rs) ≡ None
 goes judge made gs left i rs e h = ap (λ (r : Result (List Goal) LineFault). on (λ left. verdict judge (made_by made i) left rs) (by_number r)) e ∙ h
 
 first : {A : Type 0} (b : Bool) (x z : A) → b ≡ true → cond b x z ≡ x

@@ -129,7 +129,7 @@ by_number (Ok gs) = Ok gs
 by_number (Err fault) = Err (number_of fault)
 
 -- what is left to say after a line, or the number of its fault: 903 is the reader's
-abbrev pub after_reading : Judge → ℕ → List Goal → Reading → Result (List Goal) ℕ
+abbrev pub after_reading : Judge → ℕ → List Goal → LineReading → Result (List Goal) ℕ
 after_reading judge made gs long = Err 903
 after_reading judge made gs cut = by_number (Err faults.Cut)
 after_reading judge made gs malformed = by_number (Err (form_fault gs))

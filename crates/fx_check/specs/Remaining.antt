@@ -7,7 +7,7 @@ use Rattle.fx_check.specs.declared.stack.WaitingRegion.{WaitingRegion}
 use Rattle.fx_check.specs.declared.course.Course.{Course}
 use Rattle.fx_check.specs.declared.course.Stage.{Stage}
 use Rattle.fx_check.specs.declared.course.Stage.TheVariants as stage
-use Rattle.fx_check.specs.Verdict.{Goal, header, tree, ahead}
+use Rattle.fx_check.specs.FirstRefusal.{Goal, header, tree, ahead}
 use Rattle.fx_check.specs.declared.line_fault.LineFault.{LineFault}
 
 -- the two parts of a region that waits, a step deeper

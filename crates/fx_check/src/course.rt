@@ -5,11 +5,11 @@ ghost use Rattle.fx_elements.specs.Axes.{axis_index};
 ghost use Rattle.fx_leaf.specs.Tables.{AreTables};
 ghost use Rattle.fx_check.specs.Judging.{Judge, judge_of};
 ghost use Rattle.fx_check.specs.Remaining.{goals, rest_goals, IsConsistent, IsInTree, map_result, below_waits, above_waits};
-ghost use Rattle.fx_check.specs.Verdict.{Goal, after, after_reading, split_answer, made_by, made_after, form_fault, reading_of, at_end, by_number};
+ghost use Rattle.fx_check.specs.FirstRefusal.{Goal, after, after_reading, split_answer, made_by, made_after, form_fault, reading_of, at_end, by_number};
 
 use crate::judging::{leaf_fault, never_fault};
 use crate::line_fault::LineFault;
-use crate::stack::{Stack, Waiting};
+use crate::stack::{Stack, WaitingRegion};
 use fx_base::{Fault, Line};
 use fx_cert::{Item, Version, read_item};
 use fx_elements::Axis;

@@ -46,7 +46,7 @@ fn refers(
     alloc: Global,
     path: &DocumentPath<'_>,
     device: &Device,
-    known: &Known,
+    known: &KnownNames,
 ) -> Result<(), Fault>
     ensures { let names = known.now in
         let faults = references_among names.selecting names.caches names.exporting in

@@ -5,7 +5,7 @@ ghost use Rattle.fx_leaf.specs.Reach as reach;
 ghost use Rattle.fx_leaf.specs.Tables as by_table;
 
 use crate::reach::{mark, marks_at};
-use crate::table::{Row, Verdicts};
+use crate::table::{VerdictRow, Verdicts};
 use crate::tables::Tables;
 use crate::verdict::Fate;
 use fx_boxes::Region;

@@ -29,7 +29,7 @@ pub struct Taking {
 /// The counts of a record are added to the held record of this number, from 1, if it is there and has the key.
 fn join(records: &mut Vec<Record>, number: u64, entry: &Record) -> Option<Joined>
     ensures some { IfSome result (λ j. (acts.records_joining
-        (network.numbered records.old.items number)
+        (network.entry_numbered records.old.items number)
         records.old.items number entry.now ≡ Some records.new.items)
         × (holds.with_counts records.new.items j.place j.counts ≡ records.old.items)) }
     ensures none { IfNone result ((acts.records_joining

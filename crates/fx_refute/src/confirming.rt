@@ -37,7 +37,7 @@ fn open<'a>(
     })
         × traffic.IsOf packet.now (network.entry_numbered classes.now packet.now.class)) }
     ensures err { IfErr result (λ e. ((e ≡ fault_at 502 (places.Line 2))
-        × (traffic.IsOf packet.now (network.numbered classes.now packet.now.class) → ⊥))
+        × (traffic.IsOf packet.now (network.entry_numbered classes.now packet.now.class) → ⊥))
         ⊎ IsMemory e) }
 {
     let packets = vec![in alloc; *packet]?;

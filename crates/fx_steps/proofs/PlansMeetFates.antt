@@ -18,7 +18,7 @@ use Rattle.fx_steps.specs.Building.{Item, Carried, Spreads}
 use Rattle.fx_machine.specs.Limits.{step_limit}
 use Rattle.fx_steps.specs.Costs.{cost_of, both_costs, costs_of_never}
 use Rattle.fx_steps.specs.CostTables.{CostTable, destination_costs, send_costs, sent_costs, holder_costs, all_taken_costs, handled_costs, occurrence_costs}
-use Rattle.fx_steps.specs.Planning.{pending_on_links, sent_pending, sent_choices, first_pending, first_choices, fate_left_by, all_taken_pending, handled_pending, occurrence_pending, pending_fate, total_cost, total_fate, layout_in, item_of, pending_items, Adds, all_taken_choices, handled_choices}
+use Rattle.fx_steps.specs.Planning.{pending_on_links, sent_pending, sent_choices, first_pending, first_choices, fate_left_by, all_taken_pending, handled_pending, occurrence_pending, pending_fate, total_cost, total_fate, layout_in, item_of, pending_items, AddsPlan, all_taken_choices, handled_choices}
 use Rattle.fx_steps.specs.Spread.{SentRecord, shares, records_by_exporter, choices_by_exporter, records_cost, joint_fate, items_of}
 use Rattle.fx_steps.specs.Ways.{acts, one}
 use Rattle.fx_steps.proofs.WholeNetworks.{HasLinks}
@@ -51,17 +51,17 @@ module _ (table : CostTable) (net : Net) (number : ℕ) where
 
 -- ---- the code's way through a collecting process
 
-adds_then : (old mid new : StepPlan) (xs ys : List Pending) (cs ds : Choices) → Adds old mid xs cs → Adds mid new ys ds → Adds old new (xs ++ ys) (cs ++ ds)
+adds_then : (old mid new : StepPlan) (xs ys : List Pending) (cs ds : Choices) → AddsPlan old mid xs cs → AddsPlan mid new ys ds → AddsPlan old new (xs ++ ys) (cs ++ ds)
 adds_then old mid new xs ys cs ds x y = record {
   pending = y.pending ∙ ap (λ (zs : List Pending). zs ++ ys) x.pending ∙ append_assoc old.pending.items xs ys;
   choices = y.choices ∙ ap (λ (es : Choices). es ++ ds) x.choices ∙ append_assoc old.choices.items cs ds;
 }
 
 module _ (table : CostTable) (net : Net) (n : Numbering) (fields : Fields) (number : ℕ) (layout : Layout) (p : Process) (f : Fate) where
-  pub then_takings : (old mid new : StepPlan) (key : Key) (q : Fate × Fate) (es : List ℕ) (as' : List AggregationEntry) → key ≡ key_of layout fields → es ≡ p.exporters → as' ≡ p.aggregations → q ≡ shares (sent_costs table net number (at_places net.exporters p.exporters)) (all_taken_costs table net n key p.aggregations) f → Adds old mid (sent_pending table net number (at_places net.exporters es) q.0) (sent_choices table net number (at_places net.exporters es) q.0) → Adds mid new (all_taken_pending table net n key as' q.1) (all_taken_choices table net n key as') → Adds old new (handled_pending table net n fields number layout (Some p) f) (handled_choices table net n fields number layout (Some p) f)
+  pub then_takings : (old mid new : StepPlan) (key : Key) (q : Fate × Fate) (es : List ℕ) (as' : List AggregationEntry) → key ≡ key_of layout fields → es ≡ p.exporters → as' ≡ p.aggregations → q ≡ shares (sent_costs table net number (at_places net.exporters p.exporters)) (all_taken_costs table net n key p.aggregations) f → AddsPlan old mid (sent_pending table net number (at_places net.exporters es) q.0) (sent_choices table net number (at_places net.exporters es) q.0) → AddsPlan mid new (all_taken_pending table net n key as' q.1) (all_taken_choices table net n key as') → AddsPlan old new (handled_pending table net n fields number layout (Some p) f) (handled_choices table net n fields number layout (Some p) f)
   then_takings old mid new key q es as' key_is es_are as_are q_is x y =
       let S : Key → Fate × Fate = λ k. shares (sent_costs table net number (at_places net.exporters p.exporters)) (all_taken_costs table net n k p.aggregations) f in
-      let So : List ℕ → List AggregationEntry → Fate × Fate → Key → Type 0 = λ ps bs r k. Adds old new (sent_pending table net number (at_places net.exporters ps) r.0 ++ all_taken_pending table net n k bs r.1) (sent_choices table net number (at_places net.exporters ps) r.0 ++ all_taken_choices table net n k bs) in
+      let So : List ℕ → List AggregationEntry → Fate × Fate → Key → Type 0 = λ ps bs r k. AddsPlan old new (sent_pending table net number (at_places net.exporters ps) r.0 ++ all_taken_pending table net n k bs r.1) (sent_choices table net number (at_places net.exporters ps) r.0 ++ all_taken_choices table net n k bs) in
       let both_added : So es as' q key = adds_then old mid new _ _ _ _ x y in
       let exporters : So p.exporters as' q key = subst (λ (ps : List ℕ). So ps as' q key) es_are both_added in
       let aggregations : So p.exporters p.aggregations q key = subst (λ (bs : List AggregationEntry). So p.exporters bs q key) as_are exporters in

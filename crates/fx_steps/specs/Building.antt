@@ -23,7 +23,7 @@ abbrev pub with_items : Counts → List Item → State → State
 with_items counts [] s = s
 with_items counts (i ∷ is) s = with_items counts is (with_item counts i s)
 
--- all these keys are after_tally
+-- all these keys are tallied
 abbrev pub with_tallies : Net → Counts → List Key → State → State
 with_tallies net counts [] s = s
 with_tallies net counts (k ∷ ks) s = with_tallies net counts ks (after_tally net k counts s)

@@ -24,7 +24,7 @@ use Rattle.fx_steps.specs.CostTables.{CostTable, destination_costs, send_costs, 
 use Rattle.fx_steps.specs.Spread.{SentRecord, shares, records_by_exporter, choices_by_exporter}
 
 -- these records come last in a plan, and these choices
-pub record Adds (old new : StepPlan) (xs : List Pending) (cs : Choices) : Type 0 where
+pub record AddsPlan (old new : StepPlan) (xs : List Pending) (cs : Choices) : Type 0 where
   pub pending : new.pending.items ≡ old.pending.items ++ xs
   pub choices : new.choices.items ≡ old.choices.items ++ cs
 

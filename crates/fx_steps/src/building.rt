@@ -265,7 +265,7 @@ impl Building {
             c.packet.fields (crossing.now ∷ rest.now)) left) }
         ensures way { let c = costs.now in
             IfOk result (λ later. (classes : List traffic.Class) (coming : List states.Coming)
-            (f : of_fate.Fate) → network.numbered (traffic.path classes c.packet) number
+            (f : of_fate.Fate) → network.entry_numbered (traffic.path classes c.packet) number
             ≡ Some crossing.now → under_way.UnderWay c.tables.net c.tables.numbering classes
             c.packet (record { packet = 1; crossing = number } ∷ coming) f self.old.steps.items []
             → (g : of_fate.Fate) × (both g later ≡ both f left)

@@ -113,7 +113,7 @@ impl StepPlan {
         destination: Option<usize>,
         fate: Fate,
     ) -> Result<(), AllocError>
-        ensures { OnOk result (planning.Adds self.old self.new
+        ensures { OnOk result (planning.AddsPlan self.old self.new
             (planning.pending_on_links layout (spread.records_to_destination destination fate))
             []) }
     {
@@ -132,7 +132,7 @@ impl StepPlan {
         fate: Fate,
     ) -> Result<(), AllocError>
         ensures { let c = costs.now in
-            OnOk result (planning.Adds self.old self.new
+            OnOk result (planning.AddsPlan self.old self.new
             (planning.pending_on_links layout (spread.records_to_all c.table c.tables.net layout
             destinations.now fate)) []) }
     {
@@ -155,7 +155,7 @@ impl StepPlan {
         place: usize,
         fate: Fate,
     ) -> Result<(), AllocError>
-        ensures { OnOk result (planning.Adds self.old self.new
+        ensures { OnOk result (planning.AddsPlan self.old self.new
             (planning.pending_on_links layout (spread.records_to_one
             (slice_get destinations.now place) fate)) []) }
     {
@@ -174,7 +174,7 @@ impl StepPlan {
         fate: Fate,
     ) -> Result<(), AllocError>
         ensures { let c = costs.now in
-            OnOk result (planning.Adds self.old self.new
+            OnOk result (planning.AddsPlan self.old self.new
             (planning.pending_on_links layout (spread.records_to_one
             (slice_get destinations.now (spread.choice_of c.table c.tables.net layout
             destinations.now fate)) fate)) (Some
@@ -194,7 +194,7 @@ impl StepPlan {
         fate: Fate,
     ) -> Result<(), AllocError>
         ensures { let c = costs.now in
-            OnOk result (planning.Adds self.old self.new
+            OnOk result (planning.AddsPlan self.old self.new
             (planning.pending_on_links layout (spread.records_by_exporter c.table c.tables.net
             layout exporter.now fate)) (spread.choices_by_exporter c.table c.tables.net layout
             exporter.now fate)) }
@@ -220,7 +220,7 @@ impl StepPlan {
             IfOk result (λ f. f ≡ planning.fate_left_by c.table c.tables.net layout
             (Some exporter.now) others fate) }
         ensures added { let c = costs.now in
-            OnOk result (planning.Adds self.old self.new
+            OnOk result (planning.AddsPlan self.old self.new
             (planning.first_pending c.table c.tables.net layout (Some exporter.now) others fate)
             (planning.first_choices c.table c.tables.net layout (Some exporter.now) others fate)) }
     {
@@ -244,7 +244,7 @@ impl StepPlan {
             IfOk result (λ f. f ≡ planning.fate_left_by c.table c.tables.net layout
             (views.now_of exporter.entry) others fate) }
         ensures added { let c = costs.now in
-            OnOk result (planning.Adds self.old self.new
+            OnOk result (planning.AddsPlan self.old self.new
             (planning.first_pending c.table c.tables.net layout (views.now_of exporter.entry) others
             fate) (planning.first_choices c.table c.tables.net layout (views.now_of exporter.entry)
             others fate)) }
@@ -264,7 +264,7 @@ impl StepPlan {
         fate: Fate,
     ) -> Result<(), AllocError>
         ensures { let c = costs.now in
-            OnOk result (planning.Adds self.old self.new
+            OnOk result (planning.AddsPlan self.old self.new
             (planning.sent_pending c.table c.tables.net layout
             (network.at_places c.tables.net.exporters places.now) fate)
             (planning.sent_choices c.table c.tables.net layout
@@ -293,7 +293,7 @@ impl StepPlan {
             IfOk result (λ f. f ≡ (spread.shares
             (tabled.holder_costs c.table c.tables.net c.tables.numbering holder) others fate).1) }
         ensures added { let c = costs.now in
-            OnOk result (planning.Adds self.old self.new
+            OnOk result (planning.AddsPlan self.old self.new
             (of_pending.AtHolder holder (spread.shares
             (tabled.holder_costs c.table c.tables.net c.tables.numbering holder) others fate).0
             ∷ []) (None ∷ [])) }
@@ -313,7 +313,7 @@ impl StepPlan {
         fate: Fate,
     ) -> Result<(), AllocError>
         ensures { let c = costs.now in
-            OnOk result (planning.Adds self.old self.new
+            OnOk result (planning.AddsPlan self.old self.new
             (planning.all_taken_pending c.table c.tables.net c.tables.numbering key.now
             aggregations.now fate) (planning.all_taken_choices c.table c.tables.net
             c.tables.numbering key.now aggregations.now)) }
@@ -341,7 +341,7 @@ impl StepPlan {
         fate: Fate,
     ) -> Result<(), AllocError>
         ensures { let c = costs.now in
-            OnOk result (planning.Adds self.old self.new
+            OnOk result (planning.AddsPlan self.old self.new
             (planning.handled_pending c.table c.tables.net c.tables.numbering c.packet.fields number
             layout.now (Some process.now) fate)
             (planning.handled_choices c.table c.tables.net c.tables.numbering c.packet.fields number
@@ -363,7 +363,7 @@ impl StepPlan {
         fate: Fate,
     ) -> Result<(), AllocError>
         ensures { let c = costs.now in
-            OnOk result (planning.Adds self.old self.new
+            OnOk result (planning.AddsPlan self.old self.new
             (planning.handled_pending c.table c.tables.net c.tables.numbering c.packet.fields number
             layout.now (views.now_of process.entry) fate)
             (planning.handled_choices c.table c.tables.net c.tables.numbering c.packet.fields number
@@ -385,7 +385,7 @@ impl StepPlan {
         fate: Fate,
     ) -> Result<(), AllocError>
         ensures { let c = costs.now in
-            OnOk result (planning.Adds self.old self.new
+            OnOk result (planning.AddsPlan self.old self.new
             (planning.handled_pending c.table c.tables.net c.tables.numbering c.packet.fields number
             layout.now (slice_get c.tables.net.processes process)
             (planning.fate_behind_tally c.table c.tables.net c.tables.numbering c.packet.fields
@@ -413,7 +413,7 @@ impl StepPlan {
         fate: Fate,
     ) -> Result<(), AllocError>
         ensures { let c = costs.now in
-            OnOk result (planning.Adds self.old self.new
+            OnOk result (planning.AddsPlan self.old self.new
             (planning.sent_pending c.table c.tables.net
             (by_table.number_of_layout c.tables.numbering holder)
             (network.exporters_of c.tables.net (slice_get c.tables.net.holders holder)) fate)
@@ -438,7 +438,7 @@ impl StepPlan {
         fate: Fate,
     ) -> Result<(), AllocError>
         ensures { let c = costs.now in
-            OnOk result (planning.Adds self.old self.new
+            OnOk result (planning.AddsPlan self.old self.new
             (planning.occurrence_pending c.table c.tables.net c.tables.numbering occurrences.now
             fate) (planning.occurrence_choices occurrences.now)) }
     {

@@ -9,14 +9,14 @@ use fx_tables::Packet;
 
 impl PacketCosts<'_, '_> {
     /// The row for the collecting process at this place, from the rows of the processes that it feeds.
-    fn row_from(&self, process: usize) -> Row
+    fn row_from(&self, process: usize) -> CostRow
         requires { by_table.AreTables self.now.tables }
         ensures { let c = self.now in
             result ≡ tabled.cost_row c.table c.tables.net c.tables.numbering c.packet.fields process
             0 c.tables.numbering.layouts }
     {
         let layouts = self.layouts();
-        let mut row = Row::new();
+        let mut row = CostRow::new();
         for number in 0..layouts.len() {
             let layout = &layouts[number];
             row.push(self.entry_from(process, number, layout));
@@ -34,7 +34,7 @@ fn set_row(rows: &mut [CostRow], process: usize, row: CostRow)
 }
 
 /// Each row is filled, behind those of the processes that its own feeds.
-pub(crate) fn fill(rows: &mut [Row], tables: &Tables<'_>, packet: &Packet)
+pub(crate) fn fill(rows: &mut [CostRow], tables: &Tables<'_>, packet: &Packet)
     requires tables { by_table.AreTables tables.now }
     requires room { length rows.old ≡ length tables.now.net.processes }
     ensures { rows.new ≡ tabled.cost_fill tables.now.net tables.now.numbering packet.now.fields

@@ -40,7 +40,7 @@ impl StepPlan {
         fate: Fate,
     ) -> Result<(), AllocError>
         ensures { let c = costs.now in
-            OnOk result (planning.Adds self.old self.new
+            OnOk result (planning.AddsPlan self.old self.new
             (planning.arrival_pending c.table c.tables.net c.tables.numbering c.packet.fields number
             layout.now process fate) (planning.arrival_choices c.table c.tables.net
             c.tables.numbering c.packet.fields number layout.now process fate)) }

@@ -63,7 +63,7 @@ impl CostRow {
 pub(crate) struct PacketCosts<'a, 't> {
     pub(crate) tables: &'a Tables<'t>,
     pub(crate) packet: &'a Packet,
-    pub(crate) rows: &'a [Row],
+    pub(crate) rows: &'a [CostRow],
 }
 
 impl<'a, 't> Model for PacketCosts<'a, 't> {

@@ -2,7 +2,7 @@ use Rattle.std.proofs.Common.{◌≡◌, ap, sym, subst, ◌∙◌, Err, OnOk}
 use Rattle.fx_check.specs.Judging.{judge_of}
 use Rattle.fx_check.specs.LineFaults.{number_of}
 use Rattle.fx_check.specs.Remaining.{goals}
-use Rattle.fx_check.specs.Verdict.{Reading, after_reading, made_after, by_number}
+use Rattle.fx_check.specs.FirstRefusal.{LineReading, after_reading, made_after, by_number}
 use Rattle.fx_check.proofs.ItemsRead.{line_says, line_malformed}
 use Rattle.fx_check.proofs.course.Course.take.Goals as goal
 
