@@ -4,8 +4,10 @@ ghost use Rattle.fx_base.specs.Limits.{call_limit};
 ghost use Rattle.fx_base.specs.Device.{ReadsInto, IsAsked};
 ghost use Rattle.fx_base.specs.Fault.{fault_at};
 ghost use Rattle.fx_base.specs.declared.fault.Place.TheVariants as places;
+ghost use Rattle.fx_base.specs.Refusals.{failed_read};
 
 use crate::fault::Fault;
+use crate::refusals;
 use crate::source::{MOST_CALLS, Source};
 
 /// Calls a source, unless so many calls were made already, and counts the call.
@@ -24,11 +26,11 @@ pub(crate) fn read_next<R: Source>(
         × (calls.new ≤ calls.old + 1) }
     ensures asked { IsAsked (R.calls source.old) (calls.new - calls.old) (R.calls source.new) }
     ensures left { OnErr result (R.left source.new ≡ R.left source.old) }
-    ensures err { IfErr result (λ e. (e ≡ fault_at 901 places.None)
+    ensures err { IfErr result (λ e. (e ≡ fault_at failed_read places.None)
         × ((R.failed source.new ≡ true) ⊎ (calls.old ≡ call_limit))) }
 {
     if *calls >= MOST_CALLS {
-        return Err(Fault::bare(901));
+        return Err(Fault::bare(refusals::FAILED_READ));
     }
     *calls += 1;
     source.read(buffer)

@@ -3,8 +3,10 @@ ghost use Rattle.std.specs.Prelude.{◌≡◌, ◌≢◌, ◌↔◌, ◌+◌, �
 ghost use Rattle.fx_base.specs.Device.{ReadsInto, Writes};
 ghost use Rattle.fx_base.specs.Fault.{fault_at};
 ghost use Rattle.fx_base.specs.declared.fault.Place.TheVariants as places;
+ghost use Rattle.fx_base.specs.Refusals.{failed_read, failed_write};
 
 use crate::fault::Fault;
+use crate::refusals;
 use crate::sink::Sink;
 use crate::source::Source;
 
@@ -75,7 +77,8 @@ impl<D: Source> Source for Fuse<D> {
         ensures octets { IfOk result (λ n. ReadsInto (D.left self.old.device)
             (D.left self.new.device)
             (length buffer.old) (take n buffer.new) n) }
-        ensures err { IfErr result (λ e. (e ≡ fault_at 901 places.None) × (self.new.failed ≡ true)
+        ensures err { IfErr result (λ e. (e ≡ fault_at failed_read places.None)
+            × (self.new.failed ≡ true)
             × (D.left self.new.device ≡ D.left self.old.device)) }
         ensures asked { self.new.reads ≡ (self.old.reads + 1) % 2 ^ 64 }
 
@@ -87,7 +90,7 @@ impl<D: Source> Source for Fuse<D> {
         self.reads = self.reads.wrapping_add(1);
         if self.burns() {
             self.failed = true;
-            return Err(Fault::bare(901));
+            return Err(Fault::bare(refusals::FAILED_READ));
         }
         let answer = self.device.read(buffer);
         self.failed = answer.is_err();
@@ -108,7 +111,7 @@ impl<D: Sink> Sink for Fuse<D> {
         ensures ok { OnOk result (self.new.failed ≡ false) }
         ensures octets { IfOk result (λ n. Writes (D.taken self.old.device)
             (D.taken self.new.device) (take n octets.now)) }
-        ensures err { IfErr result (λ e. (e ≡ fault_at 902 places.None)
+        ensures err { IfErr result (λ e. (e ≡ fault_at failed_write places.None)
             × (self.new.failed ≡ true)) }
 
         // The call that it names fails, and a call that fails otherwise is one where the device failed.
@@ -118,7 +121,7 @@ impl<D: Sink> Sink for Fuse<D> {
     {
         if self.burns() {
             self.failed = true;
-            return Err(Fault::bare(902));
+            return Err(Fault::bare(refusals::FAILED_WRITE));
         }
         let answer = self.device.write(octets);
         self.failed = answer.is_err();
@@ -129,7 +132,7 @@ impl<D: Sink> Sink for Fuse<D> {
         ensures ok { OnOk result ((self.new.failed ≡ false)
             × (D.holds_back self.new.device ≡ false)) }
         ensures octets { OnOk result (D.taken self.new.device ≡ D.taken self.old.device) }
-        ensures err { IfErr result (λ e. (e ≡ fault_at 902 places.None)
+        ensures err { IfErr result (λ e. (e ≡ fault_at failed_write places.None)
             × (self.new.failed ≡ true)) }
 
         // The call that it names fails, and a call that fails otherwise is one where the device failed.
@@ -139,7 +142,7 @@ impl<D: Sink> Sink for Fuse<D> {
     {
         if self.burns() {
             self.failed = true;
-            return Err(Fault::bare(902));
+            return Err(Fault::bare(refusals::FAILED_WRITE));
         }
         let answer = self.device.flush();
         self.failed = answer.is_err();

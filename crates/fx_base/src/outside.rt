@@ -2,6 +2,7 @@
 ghost use Rattle.std.specs.Prelude.{◌≡◌, false, None};
 
 use crate::fault::Fault;
+use crate::refusals;
 use crate::sink::Sink;
 use crate::source::Source;
 use std::io;
@@ -63,7 +64,7 @@ impl<D: io::Read + Drop> Source for Outside<D> {
             }
             Err(_) => {
                 self.failed = true;
-                Err(Fault::bare(901))
+                Err(Fault::bare(refusals::FAILED_READ))
             }
         }
     }
@@ -85,7 +86,7 @@ impl<D: io::Write + Drop> Sink for Outside<D> {
             }
             _ => {
                 self.failed = true;
-                Err(Fault::bare(902))
+                Err(Fault::bare(refusals::FAILED_WRITE))
             }
         }
     }
@@ -99,7 +100,7 @@ impl<D: io::Write + Drop> Sink for Outside<D> {
             }
             Err(_) => {
                 self.failed = true;
-                Err(Fault::bare(902))
+                Err(Fault::bare(refusals::FAILED_WRITE))
             }
         }
     }

@@ -5,6 +5,7 @@ ghost use Rattle.fx_base.specs.Device.{IsAsked};
 ghost use Rattle.fx_base.specs.Fault.{fault_at};
 ghost use Rattle.fx_base.specs.Limits.{call_limit};
 ghost use Rattle.fx_base.specs.declared.fault.Place.TheVariants as places;
+ghost use Rattle.fx_base.specs.Refusals.{failed_read};
 
 use crate::calls::read_next;
 use crate::fault::Fault;
@@ -64,7 +65,8 @@ impl PieceReader {
         ensures calls { (self.old.calls ≤ self.new.calls) × (self.new.calls ≤ call_limit) }
         ensures asked { IsAsked (R.calls source.old) (self.new.calls - self.old.calls)
             (R.calls source.new) }
-        ensures err { IfErr result (λ e. (e ≡ fault_at 901 places.None) × (self.new.piece ≡ [])
+        ensures err { IfErr result (λ e. (e ≡ fault_at failed_read places.None)
+            × (self.new.piece ≡ [])
             × ((R.failed source.new ≡ true) ⊎ (self.old.calls ≡ call_limit))) }
     {
         self.len = 0;

@@ -3,8 +3,10 @@ ghost use Rattle.std.specs.Prelude.{◌≡◌, ◌≤◌, [], length, take, true
 ghost use Rattle.fx_base.specs.Device.{Writes};
 ghost use Rattle.fx_base.specs.Fault.{fault_at};
 ghost use Rattle.fx_base.specs.declared.fault.Place.TheVariants as places;
+ghost use Rattle.fx_base.specs.Refusals.{failed_write};
 
 use crate::fault::Fault;
+use crate::refusals;
 use crate::sink::Sink;
 
 /// Room of a fixed size in memory. A write takes what fits, and fails where nothing does.
@@ -55,7 +57,7 @@ impl Sink for Room<'_> {
         ensures ok { OnOk result (self.new.failed ≡ false) }
         ensures octets { IfOk result (λ n. Writes (Some (room_octets self.old))
             (Some (room_octets self.new)) (take n octets.now)) }
-        ensures err { IfErr result (λ e. (e ≡ fault_at 902 places.None)
+        ensures err { IfErr result (λ e. (e ≡ fault_at failed_write places.None)
             × (self.new.failed ≡ true)) }
 
         // It fails only where it is full, and then holds what it held.
@@ -66,7 +68,7 @@ impl Sink for Room<'_> {
         let n = octets.len().min(self.octets.len() - self.len);
         if n == 0 && !octets.is_empty() {
             self.failed = true;
-            return Err(Fault::bare(902));
+            return Err(Fault::bare(refusals::FAILED_WRITE));
         }
         let end = self.len + n;
         self.octets[self.len..end].copy_from_slice(&octets[..n]);

@@ -3,6 +3,7 @@ ghost use Rattle.std.specs.Prelude.{◌≡◌, ℕ, ◌≤◌, List, [], length,
 ghost use Rattle.fx_base.specs.Device.{Writes};
 ghost use Rattle.fx_base.specs.Fault.{fault_at};
 ghost use Rattle.fx_base.specs.declared.fault.Place.TheVariants as places;
+ghost use Rattle.fx_base.specs.Refusals.{failed_write};
 
 use crate::fault::Fault;
 
@@ -28,7 +29,7 @@ pub trait Sink: Drop {
         ensures ok { OnOk result (failed self.new ≡ false) }
         ensures octets { IfOk result (λ n. Writes (taken self.old) (taken self.new)
             (take n octets.now)) }
-        ensures err { IfErr result (λ e. (e ≡ fault_at 902 places.None)
+        ensures err { IfErr result (λ e. (e ≡ fault_at failed_write places.None)
             × (failed self.new ≡ true)) };
 
     /// Hands on what it holds back.
@@ -37,7 +38,7 @@ pub trait Sink: Drop {
     fn flush(&mut self) -> Result<(), Fault>
         ensures ok { OnOk result ((failed self.new ≡ false) × (holds_back self.new ≡ false)) }
         ensures octets { OnOk result (taken self.new ≡ taken self.old) }
-        ensures err { IfErr result (λ e. (e ≡ fault_at 902 places.None)
+        ensures err { IfErr result (λ e. (e ≡ fault_at failed_write places.None)
             × (failed self.new ≡ true)) };
 }
 

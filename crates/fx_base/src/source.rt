@@ -3,6 +3,7 @@ ghost use Rattle.std.specs.Prelude.{◌≡◌, ℕ, ◌+◌, ◌%◌, ◌^◌, �
 ghost use Rattle.fx_base.specs.Device.{ReadsInto};
 ghost use Rattle.fx_base.specs.Fault.{fault_at};
 ghost use Rattle.fx_base.specs.declared.fault.Place.TheVariants as places;
+ghost use Rattle.fx_base.specs.Refusals.{failed_read};
 
 use crate::fault::Fault;
 
@@ -31,7 +32,8 @@ pub trait Source: Drop {
         ensures octets { IfOk result (λ n. ReadsInto (left self.old) (left self.new)
             (length buffer.old)
             (take n buffer.new) n) }
-        ensures err { IfErr result (λ e. (e ≡ fault_at 901 places.None) × (failed self.new ≡ true)
+        ensures err { IfErr result (λ e. (e ≡ fault_at failed_read places.None)
+            × (failed self.new ≡ true)
             × (left self.new ≡ left self.old)) }
         ensures asked { calls self.new ≡ (calls self.old + 1) % 2 ^ 64 };
 }

@@ -3,6 +3,7 @@ ghost use Rattle.std.specs.Prelude.{◌≡◌, ◌⊎◌, [], None, Some, OnOk, 
 ghost use Rattle.fx_base.specs.Device.{MayBeLeft, IsUnread};
 ghost use Rattle.fx_base.specs.Fault.{fault_at, IsMemory};
 ghost use Rattle.fx_base.specs.declared.fault.Place.TheVariants as places;
+ghost use Rattle.fx_base.specs.Refusals.{failed_read};
 
 use crate::fault::Fault;
 use crate::pieces::PieceReader;
@@ -18,7 +19,7 @@ pub fn read_whole<R: Source>(alloc: Global, source: &mut R) -> Result<Vec<u8>, F
     ensures end { OnOk result (IfSome (R.left source.old) (λ _. R.left source.new ≡ Some [])) }
     ensures untold { R.left source.old ≡ None → R.left source.new ≡ None }
     ensures err { IfErr result (λ e. IsMemory e
-        ⊎ ((e ≡ fault_at 901 places.None)
+        ⊎ ((e ≡ fault_at failed_read places.None)
         × IsUnread (R.left source.old) (R.calls source.old) (R.calls source.new)
         (R.failed source.new))) }
 {

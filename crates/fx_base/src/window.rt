@@ -6,6 +6,7 @@ ghost use Rattle.fx_base.specs.Device.{IsAsked};
 ghost use Rattle.fx_base.specs.Fault.{fault_at, IsMemory};
 ghost use Rattle.fx_base.specs.declared.fault.Place.TheVariants as places;
 ghost use Rattle.fx_base.specs.Window.{octets_of, HasFailed};
+ghost use Rattle.fx_base.specs.Refusals.{failed_read};
 
 use crate::calls::read_next;
 use crate::fault::Fault;
@@ -64,7 +65,7 @@ fn read_behind<R: Source>(
         × (calls.new ≤ calls.old + 1) }
     ensures asked { IsAsked (R.calls source.old) (calls.new - calls.old) (R.calls source.new) }
     ensures left { OnErr result (R.left source.new ≡ R.left source.old) }
-    ensures err { IfErr result (λ e. (e ≡ fault_at 901 places.None)
+    ensures err { IfErr result (λ e. (e ≡ fault_at failed_read places.None)
         × ((R.failed source.new ≡ true) ⊎ (calls.old ≡ call_limit))) }
 {
     read_next(source, &mut bytes[end..], calls)
@@ -91,7 +92,8 @@ fn gather<R: Source>(
         × (want ≤ end.new → calls.new + end.old ≤ calls.old + end.new) }
     ensures calls { (calls.old ≤ calls.new) × (calls.new ≤ call_limit) }
     ensures asked { IsAsked (R.calls source.old) (calls.new - calls.old) (R.calls source.new) }
-    ensures err { IfErr result (λ e. (e ≡ fault_at 901 places.None) × ((R.failed source.new ≡ true)
+    ensures err { IfErr result (λ e. (e ≡ fault_at failed_read places.None)
+        × ((R.failed source.new ≡ true)
         ⊎ ((calls.new ≡ call_limit)
         × IfSome (R.left source.old) (λ left. call_limit ≤ calls.old + length left)))) }
 {
@@ -159,7 +161,7 @@ impl<R: Source> Window<R> {
             → self.new.calls + length self.old.held ≤ self.old.calls + length self.new.held) }
         ensures calls { (self.old.calls ≤ self.new.calls) × (self.new.calls ≤ call_limit) }
         ensures asked { IsAsked self.old.asked (self.new.calls - self.old.calls) self.new.asked }
-        ensures err { IfErr result (λ e. (e ≡ fault_at 901 places.None)
+        ensures err { IfErr result (λ e. (e ≡ fault_at failed_read places.None)
             × HasFailed self.old self.new) }
     {
         let held = self.end - self.start;

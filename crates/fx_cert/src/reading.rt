@@ -2,13 +2,14 @@
 ghost use Rattle.std.specs.Prelude.{◌≡◌, IfOk, IfErr};
 ghost use Rattle.fx_base.specs.Fault.{fault_at};
 ghost use Rattle.fx_base.specs.declared.fault.Place.TheVariants as places;
+ghost use Rattle.fx_base.specs.Refusals.{certificate_line};
 ghost use Rattle.fx_cert.specs.declared.item.Item as of_item;
 ghost use Rattle.fx_cert.specs.ItemText.{IsItemText};
 ghost use Rattle.fx_cert.specs.ItemReading.{axis_of, class_of, split_of, leaf_of, item_of};
 
 use crate::item::{Item, Version};
 use crate::put::word;
-use fx_base::{Fault, Line};
+use fx_base::{Fault, Line, refusals};
 use fx_elements::{Axis, EVERY_AXIS, is_word, read_number, read_u64, split_at_byte, top};
 
 /// The axis with this word.
@@ -103,11 +104,11 @@ fn read_text(text: &[u8]) -> Option<Item>
 /// Fails with 402, at the line, where the bytes are no item's text.
 pub fn read_item(line: &Line<'_>) -> Result<Item, Fault>
     ensures ok { IfOk result (λ item. IsItemText line.now.bytes.now item) }
-    ensures err { IfErr result (λ e. (e ≡ fault_at 402 (places.Line line.now.number))
+    ensures err { IfErr result (λ e. (e ≡ fault_at certificate_line (places.Line line.now.number))
         × ((item : of_item.Item) → IsItemText line.now.bytes.now item → ⊥)) }
 {
     match read_text(line.bytes) {
         Some(item) => Ok(item),
-        None => Err(Fault::at_line(402, line.number)),
+        None => Err(Fault::at_line(refusals::CERTIFICATE_LINE, line.number)),
     }
 }

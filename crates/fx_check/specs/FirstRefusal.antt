@@ -4,6 +4,7 @@ use Rattle.fx_base.specs.declared.fault.Fault.{Fault}
 use Rattle.fx_base.specs.declared.fault.Place.TheVariants as places
 use Rattle.fx_base.specs.Fault.{fault_at}
 use Rattle.fx_base.specs.Lines.{next_number}
+use Rattle.fx_base.specs.Refusals.{long_line}
 use Rattle.fx_elements.specs.Axes.{axis_index}
 use Rattle.fx_boxes.specs.Boxes.{Bounds, below_part, above_part}
 use Rattle.fx_cert.specs.declared.item.Item.{Item}
@@ -130,7 +131,7 @@ by_number (Err fault) = Err (number_of fault)
 
 -- what is left to say after a line, or the number of its fault: 903 is the reader's
 abbrev pub after_reading : Judge → ℕ → List Goal → LineReading → Result (List Goal) ℕ
-after_reading judge made gs long = Err 903
+after_reading judge made gs long = Err long_line
 after_reading judge made gs cut = by_number (Err faults.Cut)
 after_reading judge made gs malformed = by_number (Err (form_fault gs))
 after_reading judge made gs (says i) = by_number (after judge made gs i)

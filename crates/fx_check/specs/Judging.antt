@@ -3,6 +3,7 @@ use Rattle.std.specs.Prelude.{◌≡◌, ◌⊎◌, ℕ, Bool, false, ◌==◌, 
 use Rattle.fx_base.specs.declared.fault.Fault.{Fault}
 use Rattle.fx_base.specs.declared.fault.Place.TheVariants as places
 use Rattle.fx_base.specs.Fault.{fault_at}
+use Rattle.fx_base.specs.Refusals.{counted_elsewhere}
 use Rattle.fx_boxes.specs.Boxes.{Bounds}
 use Rattle.fx_tables.specs.declared.traffic.Crossing.{Crossing}
 use Rattle.fx_tables.specs.Network.{Net}
@@ -27,7 +28,7 @@ sound_leaf net path region = leaf_of (path_verdict net region path) (numbers_of 
 -- 410 where another leaf is the sound one
 abbrev pub unless_same : Counted → Result Counted Fault → Option ℕ
 unless_same leaf (Err e) = Some e.number
-unless_same leaf (Ok c) = if same_leaf c leaf then None else Some 410
+unless_same leaf (Ok c) = if same_leaf c leaf then None else Some counted_elsewhere
 
 abbrev pub unless_never : Result (Unit {0}) Fault → Option ℕ
 unless_never (Err e) = Some e.number
@@ -51,4 +52,4 @@ pub record OtherIsSound (net : Net) (path : List Crossing) (region : Bounds) (le
 -- no leaf is sound, for the reason that has this number; or, for 410, another one is
 abbrev pub IsWrong : Net → List Crossing → Bounds → Counted → ℕ → Type 0
 IsWrong net path region leaf number =
-    NoneIsSound net path region (fault_at number places.None) ⊎ ((number ≡ 410) × OtherIsSound net path region leaf)
+    NoneIsSound net path region (fault_at number places.None) ⊎ ((number ≡ counted_elsewhere) × OtherIsSound net path region leaf)

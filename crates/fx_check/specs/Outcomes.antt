@@ -5,6 +5,7 @@ use Rattle.fx_base.specs.declared.fault.Place.TheVariants as places
 use Rattle.fx_base.specs.Device.{MayBeLeft, MayHaveLeft}
 use Rattle.fx_base.specs.Fault.{fault_at}
 use Rattle.fx_base.specs.Lines.{Lines, text_lines, Fails}
+use Rattle.fx_base.specs.Refusals.{certificate_first, certificate_last, failed_read, long_line, want_of_memory}
 use Rattle.fx_tables.specs.Classes.{Class}
 use Rattle.fx_tables.specs.Network.{Net}
 use Rattle.fx_traffic.specs.Targets.{Target}
@@ -15,7 +16,7 @@ use Rattle.fx_check.specs.FirstRefusal.{Goal, Refusal, whole, first_refusal}
 -- the reader goes on behind the refused line, unless it was the reader that refused a line that is too long
 abbrev pub StandsBehind : Lines → Refusal → Type 0
 StandsBehind lines r =
-    ((r.fault.number ≡ 903) × (lines.stopped ≡ Some r.fault)) ⊎ ((lines.stopped ≡ None) × (lines.number ≡ r.last) × MayHaveLeft lines.left (λ text. text_lines text ≡ r.behind))
+    ((r.fault.number ≡ long_line) × (lines.stopped ≡ Some r.fault)) ⊎ ((lines.stopped ≡ None) × (lines.number ≡ r.last) × MayHaveLeft lines.left (λ text. text_lines text ≡ r.behind))
 
 abbrev pub IsRefusal : Fault → Lines → Option Refusal → Type 0
 IsRefusal e lines None = ⊥
@@ -38,7 +39,7 @@ MayBeRefused net targets old new e =
 -- where a certificate's text is told, it fails for want of memory, before a line is read, or as its reader does
 abbrev pub Accepts : Net → List Class → Lines → Lines → Fault → Type 0
 Accepts net classes old new e =
-    (text : List ℕ) → old.left ≡ Some text → IsCertificate net classes (text_lines text) → ((e ≡ fault_at 900 places.None) × (new ≡ old)) ⊎ Fails old new e
+    (text : List ℕ) → old.left ≡ Some text → IsCertificate net classes (text_lines text) → ((e ≡ fault_at want_of_memory places.None) × (new ≡ old)) ⊎ Fails old new e
 
 -- ---- on the way
 
@@ -52,13 +53,13 @@ Continues judge first all now made gs =
 
 -- the numbers of what can be wrong with a certificate
 abbrev pub IsCertificateNumber : ℕ → Type 0
-IsCertificateNumber number = (401 ≤ number) × (number ≤ 415)
+IsCertificateNumber number = (certificate_first ≤ number) × (number ≤ certificate_last)
 
 -- want of memory, a source that failed, a line that is too long, or what is wrong with the certificate at a line
 pub data IsCheckFault : Fault → Type 0 where
-  memory : IsCheckFault (fault_at 900 places.None)
-  device : IsCheckFault (fault_at 901 places.None)
-  too_long : (line : ℕ) → IsCheckFault (fault_at 903 (places.Line line))
+  memory : IsCheckFault (fault_at want_of_memory places.None)
+  device : IsCheckFault (fault_at failed_read places.None)
+  too_long : (line : ℕ) → IsCheckFault (fault_at long_line (places.Line line))
   wrong : (number line : ℕ) → IsCertificateNumber number → IsCheckFault (fault_at number (places.Line line))
 
 -- such a fault, or the one that the reader had answered before

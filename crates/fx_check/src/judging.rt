@@ -3,6 +3,7 @@ ghost use Rattle.std.specs.Prelude.{◌≡◌, ◌≤◌, length, Some, None};
 ghost use Rattle.fx_leaf.specs.Tables.{AreTables};
 ghost use Rattle.fx_check.specs.Judging as of_judging;
 
+use fx_base::refusals;
 use fx_boxes::Region;
 use fx_leaf::{Counted, Scratch, Tables, fate, never};
 use fx_traffic::Target;
@@ -34,7 +35,7 @@ pub(crate) fn leaf_fault(
             if same_leaf(&counted, leaf) {
                 None
             } else {
-                Some(410)
+                Some(refusals::COUNTED_ELSEWHERE)
             }
         }
     }

@@ -2,6 +2,8 @@
 ghost use Rattle.std.specs.Prelude.{◌≡◌};
 ghost use Rattle.fx_check.specs.LineFaults.{number_of};
 
+use fx_base::refusals;
+
 /// Why a line of a certificate is refused.
 #[derive(Clone, Copy, Debug, PartialEq, Eq)]
 pub(crate) enum LineFault {
@@ -31,14 +33,14 @@ impl LineFault {
         ensures { result ≡ number_of self }
     {
         match self {
-            LineFault::Header => 401,
-            LineFault::Form => 402,
-            LineFault::Place => 403,
-            LineFault::SplitPlace => 404,
-            LineFault::Cut => 405,
-            LineFault::BehindEnd => 411,
-            LineFault::SplitDepth => 412,
-            LineFault::LineCount => 414,
+            LineFault::Header => refusals::CERTIFICATE_HEADER,
+            LineFault::Form => refusals::CERTIFICATE_LINE,
+            LineFault::Place => refusals::CERTIFICATE_ORDER,
+            LineFault::SplitPlace => refusals::SPLIT_NOT_INSIDE,
+            LineFault::Cut => refusals::CERTIFICATE_CUT,
+            LineFault::BehindEnd => refusals::LINE_BEHIND_END,
+            LineFault::SplitDepth => refusals::SPLIT_TOO_DEEP,
+            LineFault::LineCount => refusals::TOO_MANY_LINES,
             LineFault::Leaf(number) => number,
         }
     }

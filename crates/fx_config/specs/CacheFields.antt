@@ -13,6 +13,7 @@ use Rattle.fx_config.specs.GivenElements.{element_in}
 use Rattle.fx_elements.specs.Axes.{axis_width}
 use Rattle.fx_config.specs.Limits.{field_limit}
 use Rattle.fx_config.specs.declared.cache_field.CacheField.{CacheField}
+use Rattle.fx_base.specs.Refusals.{bad_value, cache_counter_length, key_without_axis, total_counter}
 
 -- it counts since the observation began, and not since the last report
 abbrev pub is_total_count : Element → Bool
@@ -41,14 +42,14 @@ is_key immediate element marked = if immediate then is_on_axis element else mark
 
 -- a total counter, and a key that is no axis
 abbrev pub element_faults : Element → Bool → List ℕ → List FoundFault
-element_faults element key up = fault_if (is_total_count element) 111 up ++ fault_if (key && not (is_on_axis element)) 112 up
+element_faults element key up = fault_if (is_total_count element) total_counter up ++ fault_if (key && not (is_on_axis element)) key_without_axis up
 
 -- a counter that isn't 8 octets long, and a key that hasn't its octets
 abbrev pub length_faults : Element → Bool → Option ℕ → List ℕ → List FoundFault
 length_faults element key None up = []
 length_faults element key (Some octets) up =
-    fault_if (is_delta_count element && not (octets == 8)) 110 (below up (codes "ieLength"))
-    ++ fault_if (key && has_other_octets element octets) 105 (below up (codes "ieLength"))
+    fault_if (is_delta_count element && not (octets == 8)) cache_counter_length (below up (codes "ieLength"))
+    ++ fault_if (key && has_other_octets element octets) bad_value (below up (codes "ieLength"))
 
 abbrev pub field_check : Element → Bool → Option ℕ → List ℕ → List FoundFault
 field_check element key octets up = element_faults element key up ++ length_faults element key octets up

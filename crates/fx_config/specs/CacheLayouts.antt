@@ -10,6 +10,7 @@ use Rattle.fx_elements.specs.Axes.{axis_width}
 use Rattle.fx_elements.specs.declared.element.Element.{Element}
 use Rattle.fx_elements.specs.declared.element.Element.TheVariants.{OnAxis, OctetDeltaCount, PacketDeltaCount}
 use Rattle.fx_layout.specs.Keys.{Layout, part_at, with_part}
+use Rattle.fx_base.specs.Refusals.{missing_counter}
 
 abbrev pub is_octet_count : Element → Bool
 is_octet_count OctetDeltaCount = true
@@ -27,7 +28,7 @@ counts_packets fields = list_any (λ field. is_packet_count field.element) field
 
 -- both counters must be among the fields
 abbrev pub counter_faults : List CacheField → List ℕ → List FoundFault
-counter_faults fields up = fault_if (not (counts_octets fields && counts_packets fields)) 114 up
+counter_faults fields up = fault_if (not (counts_octets fields && counts_packets fields)) missing_counter up
 
 -- all bits of an axis, once
 abbrev pub add_axis : Layout → Element → Layout

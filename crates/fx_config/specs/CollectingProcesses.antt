@@ -8,12 +8,13 @@ use Rattle.fx_walk.specs.Scalars.{text_of}
 use Rattle.fx_config.specs.Aggregations.{aggregation_faults, aggregation_of}
 use Rattle.fx_config.specs.Limits.{entry_limit}
 use Rattle.fx_config.specs.declared.collecting_process.CollectingProcess.{CollectingProcess}
+use Rattle.fx_base.specs.Refusals.{file_transport}
 
 -- files are refused, and the collectors left unread
 abbrev pub collecting_process_rows : List (List ℕ) → List Row
 collecting_process_rows earlier =
     required_row (codes "name") (name_once earlier)
-    ∷ none_of ((codes "fileReader", 113) ∷ [])
+    ∷ none_of ((codes "fileReader", file_transport) ∷ [])
     ∷ unread (codes "tcpCollector" ∷ codes "sctpCollector" ∷ codes "udpCollector" ∷ [])
     ∷ entries 0 entry_limit (codes "exportingProcess") name_once text_of
     ∷ entries 0 entry_limit (codes "once-audit:aggregation") aggregation_faults (λ d. (aggregation_of d).name)

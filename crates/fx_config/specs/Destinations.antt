@@ -9,6 +9,7 @@ use Rattle.fx_walk.specs.Scalars.{text_of}
 use Rattle.fx_config.specs.declared.destination.Destination.{Destination}
 use Rattle.fx_config.specs.declared.destination.Transport.{Transport}
 use Rattle.fx_config.specs.declared.destination.Transport.TheVariants.{Tcp, Sctp, Udp}
+use Rattle.fx_base.specs.Refusals.{file_transport}
 
 abbrev pub exporters : List (List ℕ)
 exporters = codes "tcpExporter" ∷ codes "sctpExporter" ∷ codes "udpExporter" ∷ []
@@ -17,7 +18,7 @@ exporters = codes "tcpExporter" ∷ codes "sctpExporter" ∷ codes "udpExporter"
 abbrev pub destination_rows : List (List ℕ) → List Row
 destination_rows earlier =
     required_row (codes "name") (name_once earlier)
-    ∷ none_of ((codes "fileWriter", 113) ∷ [])
+    ∷ none_of ((codes "fileWriter", file_transport) ∷ [])
     ∷ one_of exporters
     ∷ unread exporters
     ∷ []

@@ -13,6 +13,7 @@ use Rattle.fx_elements.specs.declared.element.Element.{Element}
 use Rattle.fx_elements.specs.declared.element.Element.TheVariants.{OnAxis, Prefix}
 use Rattle.fx_layout.specs.declared.layout.Part.{Part}
 use Rattle.fx_config.specs.declared.key_field.KeyField.{KeyField}
+use Rattle.fx_base.specs.Refusals.{bad_value, missing_member}
 
 -- its values are the leading bits of addresses
 abbrev pub is_prefix : Element → Bool
@@ -26,8 +27,8 @@ longest_prefix _ = 32
 
 -- a prefix without its length, and a length that is longer than the addresses
 abbrev pub prefix_check : Element → Option ℕ → List ℕ → List FoundFault
-prefix_check element None up = fault_if (is_prefix element) 103 up
-prefix_check element (Some bits) up = fault_if (nat_lt (longest_prefix element) bits) 105 (below up (codes "prefixLength"))
+prefix_check element None up = fault_if (is_prefix element) missing_member up
+prefix_check element (Some bits) up = fault_if (nat_lt (longest_prefix element) bits) bad_value (below up (codes "prefixLength"))
 
 abbrev pub key_element_in : Data → Element
 key_element_in d = element_given (name_in d) (number_in d) 0

@@ -10,6 +10,7 @@ use Rattle.fx_config.specs.Limits.{field_limit}
 use Rattle.fx_config.specs.declared.key_field.KeyField.{KeyField}
 use Rattle.fx_layout.specs.declared.layout.Part.{Part}
 use Rattle.fx_layout.specs.Keys.{Layout, can_stand, part_at, with_part}
+use Rattle.fx_base.specs.Refusals.{bad_value}
 
 -- a part more, if the axis can have so many bits and isn't there yet
 abbrev pub with_new : Layout → Part → Option Layout
@@ -21,7 +22,7 @@ with_field layout field = option_and_then (with_new layout) (part_of field)
 
 -- a field that stands for nothing, or whose axis is there
 abbrev pub field_check : Layout → KeyField → List ℕ → List FoundFault
-field_check layout field up = fault_if (not (is_some (with_field layout field))) 105 up
+field_check layout field up = fault_if (not (is_some (with_field layout field))) bad_value up
 
 abbrev pub add_field : Layout → KeyField → Layout
 add_field layout field = unwrap_or (with_field layout field) layout

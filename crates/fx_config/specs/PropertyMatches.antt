@@ -12,6 +12,7 @@ use Rattle.fx_elements.specs.declared.element.Element.{Element}
 use Rattle.fx_elements.specs.declared.element.Element.TheVariants.{OnAxis, Prefix}
 use Rattle.fx_elements.specs.Values.{values_of}
 use Rattle.fx_config.specs.declared.property_match.PropertyMatch.{PropertyMatch}
+use Rattle.fx_base.specs.Refusals.{bad_value}
 
 -- the axis of the values of an element: its own, or that of the addresses whose prefix it is
 abbrev pub axis_matched : Element → Option Axis
@@ -26,7 +27,7 @@ property_given element text =
 
 -- an element that nothing can be matched on, or a text that spells no value of it
 abbrev pub property_check : Element → List ℕ → List ℕ → List FoundFault
-property_check element text up = fault_if (not (is_some (property_given element text))) 105 up
+property_check element text up = fault_if (not (is_some (property_given element text))) bad_value up
 
 abbrev pub property_meant : Element → List ℕ → PropertyMatch
 property_meant element text = unwrap_or (property_given element text) (record { axis = Source; range = record { low = 0; high = 0; bits = 0 } })

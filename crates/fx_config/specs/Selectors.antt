@@ -11,6 +11,7 @@ use Rattle.fx_config.specs.declared.property_match.PropertyMatch.{PropertyMatch}
 use Rattle.fx_config.specs.declared.selector.Selector.{Selector}
 use Rattle.fx_config.specs.declared.selector.Method.{Method}
 use Rattle.fx_config.specs.declared.selector.Method.TheVariants.{SelectAll, FilterMatch}
+use Rattle.fx_base.specs.Refusals.{hash_filter, sampling_selector, wrong_kind}
 
 abbrev pub has_no_member : Members → Bool
 has_no_member no_members = true
@@ -22,16 +23,16 @@ is_all (object ms) = has_no_member ms
 is_all d = is_empty_type d
 
 abbrev pub all_faults : List ℕ → Data → List FoundFault
-all_faults up d = fault_if (not (is_all d)) 104 up
+all_faults up d = fault_if (not (is_all d)) wrong_kind up
 
 -- methods by which a count can't be exact: sampling, and filtering by a hash
 abbrev pub inexact : List (List ℕ × ℕ)
 inexact =
-    (codes "sampCountBased", 108)
-    ∷ (codes "sampTimeBased", 108)
-    ∷ (codes "sampRandOutOfN", 108)
-    ∷ (codes "sampUniProb", 108)
-    ∷ (codes "filterHash", 109)
+    (codes "sampCountBased", sampling_selector)
+    ∷ (codes "sampTimeBased", sampling_selector)
+    ∷ (codes "sampRandOutOfN", sampling_selector)
+    ∷ (codes "sampUniProb", sampling_selector)
+    ∷ (codes "filterHash", hash_filter)
     ∷ []
 
 abbrev pub selector_rows : List (List ℕ) → List Row

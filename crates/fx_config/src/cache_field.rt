@@ -8,7 +8,7 @@ ghost use Rattle.fx_config.specs.CacheFields.{cache_field_faults, cache_field_of
 
 use crate::element::{ElementNumber, Enterprise, NamedElement, element_given};
 use crate::limits::FIELDS;
-use fx_base::{Fault, Name};
+use fx_base::{Fault, Name, refusals};
 use fx_elements::{Element, width};
 use fx_walk::{
     DocumentPath, Empty, Named, Names, Sequence, Whole, items_in, name_member, object_of, one_of,
@@ -42,9 +42,13 @@ fn known_use(
     ensures { Reads (element_faults element key (pointer path.now)) tt result }
 {
     match element {
-        Element::OctetTotalCount | Element::PacketTotalCount => Err(refusal(alloc, 111, path)),
+        Element::OctetTotalCount | Element::PacketTotalCount => Err(refusal(
+            alloc,
+            refusals::TOTAL_COUNTER,
+            path,
+        )),
         Element::OnAxis(_) => Ok(()),
-        _ if key => Err(refusal(alloc, 112, path)),
+        _ if key => Err(refusal(alloc, refusals::KEY_WITHOUT_AXIS, path)),
         _ => Ok(()),
     }
 }
@@ -86,10 +90,10 @@ fn known_length(
     let octets = length.number();
     let place = DocumentPath::Member(path, "ieLength");
     if is_delta_count(element) && octets != 8 {
-        return Err(refusal(alloc, 110, &place));
+        return Err(refusal(alloc, refusals::CACHE_COUNTER_LENGTH, &place));
     }
     if key && has_other_octets(element, octets) {
-        return Err(refusal(alloc, 105, &place));
+        return Err(refusal(alloc, refusals::BAD_VALUE, &place));
     }
     Ok(())
 }
@@ -210,6 +214,6 @@ pub fn fields_member(
             let items = items_in(alloc, &path, value, 1, FIELDS)?;
             fields_of(alloc, &path, items, immediate)
         }
-        None => Err(refusal(alloc, 103, path)),
+        None => Err(refusal(alloc, refusals::MISSING_MEMBER, path)),
     }
 }

@@ -6,7 +6,7 @@ ghost use Rattle.fx_walk.specs.Walk.{Reads, member_of, required_row};
 ghost use Rattle.fx_config.specs.CacheLayouts.{add_axis, add_key, cache_layout_faults, cache_layout_of, counter_faults, counts_octets, counts_packets, layout_of};
 
 use crate::cache_field::{CacheField, fields_member};
-use fx_base::Fault;
+use fx_base::{Fault, refusals};
 use fx_elements::{Element, width};
 use fx_layout::Layout;
 use fx_walk::{DocumentPath, object_of, refusal};
@@ -36,7 +36,7 @@ fn has_counters(alloc: Global, path: &DocumentPath<'_>, fields: &[CacheField]) -
     if counts_octets(fields) && counts_packets(fields) {
         Ok(())
     } else {
-        Err(refusal(alloc, 114, path))
+        Err(refusal(alloc, refusals::MISSING_COUNTER, path))
     }
 }
 
@@ -99,6 +99,6 @@ pub fn layout_member(
             value,
             immediate,
         ),
-        None => Err(refusal(alloc, 103, path)),
+        None => Err(refusal(alloc, refusals::MISSING_MEMBER, path)),
     }
 }

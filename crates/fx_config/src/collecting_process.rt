@@ -3,7 +3,7 @@ ghost use Rattle.fx_config.specs.CollectingProcesses.{collecting_process_faults,
 
 use crate::aggregation::Aggregation;
 use crate::limits::ENTRIES;
-use fx_base::{Fault, Name};
+use fx_base::{Fault, Name, refusals};
 use fx_walk::{
     DocumentPath, Entry, Named, Names, Refused, Sequence, entries_member, name_member, none_of,
     object_of,
@@ -58,7 +58,7 @@ impl Entry for CollectingProcess {
         let name = name_member(alloc, path, value, earlier)?;
         let files = Refused {
             name: "fileReader",
-            number: 113,
+            number: refusals::FILE_TRANSPORT,
         };
         none_of(alloc, path, value, &[files])?;
         let processes = entries_member(alloc, path, value, "exportingProcess", 0, ENTRIES)?;

@@ -3,7 +3,7 @@ ghost use Rattle.std.specs.Prelude.{◌≡◌};
 ghost use Rattle.serde_json.specs.View.{view};
 ghost use Rattle.fx_config.specs.Destinations.{destination_faults, destination_of, transport_of};
 
-use fx_base::{Fault, Name};
+use fx_base::{Fault, Name, refusals};
 use fx_walk::{
     DocumentPath, Entry, Named, Names, Refused, name_member, none_of, object_of, one_of,
 };
@@ -77,7 +77,7 @@ impl Entry for Destination {
         let name = name_member(alloc, path, value, earlier)?;
         let files = Refused {
             name: "fileWriter",
-            number: 113,
+            number: refusals::FILE_TRANSPORT,
         };
         none_of(alloc, path, value, &[files])?;
         one_of(

@@ -4,7 +4,7 @@ ghost use Rattle.fx_walk.specs.Scalars.{text_faults, text_of};
 ghost use Rattle.fx_config.specs.GivenElements.{element_given, enterprise_given};
 ghost use Rattle.fx_elements.specs.Elements.{element_named};
 
-use fx_base::Fault;
+use fx_base::{Fault, refusals};
 use fx_elements::{Element, by_id, by_name};
 use fx_walk::{DocumentPath, FromValue, Whole, refusal};
 use serde_json::Value;
@@ -39,7 +39,7 @@ impl FromValue for NamedElement {
             Some(name) => Ok(NamedElement {
                 element: by_name(name),
             }),
-            None => Err(refusal(alloc, 104, path)),
+            None => Err(refusal(alloc, refusals::WRONG_KIND, path)),
         }
     }
 }

@@ -9,7 +9,7 @@ ghost use Rattle.fx_config.specs.Keys.{add_field, field_check, fields_faults, ke
 
 use crate::key_field::{KeyField, part_of};
 use crate::limits::FIELDS;
-use fx_base::Fault;
+use fx_base::{Fault, refusals};
 use fx_layout::Layout;
 use fx_walk::{DocumentPath, FromValue, items_in, refusal};
 use serde_json::Value;
@@ -35,7 +35,7 @@ fn add_field(
 {
     match with_field(layout, field) {
         Some(layout) => Ok(layout),
-        None => Err(refusal(alloc, 105, path)),
+        None => Err(refusal(alloc, refusals::BAD_VALUE, path)),
     }
 }
 

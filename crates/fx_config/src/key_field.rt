@@ -5,7 +5,7 @@ ghost use Rattle.fx_walk.specs.Walk.{Reads};
 ghost use Rattle.fx_config.specs.KeyFields.{is_prefix, key_field_faults, key_field_of, longest_prefix, part_of, prefix_check, prefix_part};
 
 use crate::element::{ElementNumber, NamedElement, element_given};
-use fx_base::Fault;
+use fx_base::{Fault, refusals};
 use fx_elements::{Axis, Element, width};
 use fx_layout::Part;
 use fx_walk::{DocumentPath, FromValue, Whole, object_of, one_of, optional_member, refusal};
@@ -54,13 +54,13 @@ fn known_prefix(
 {
     let Some(bits) = prefix_length else {
         if is_prefix(element) {
-            return Err(refusal(alloc, 103, path));
+            return Err(refusal(alloc, refusals::MISSING_MEMBER, path));
         }
         return Ok(());
     };
     let place = DocumentPath::Member(path, "prefixLength");
     if bits > longest_prefix(element) {
-        return Err(refusal(alloc, 105, &place));
+        return Err(refusal(alloc, refusals::BAD_VALUE, &place));
     }
     Ok(())
 }

@@ -5,7 +5,7 @@ ghost use Rattle.fx_walk.specs.Walk.{Reads};
 ghost use Rattle.fx_config.specs.PropertyMatches.{axis_matched, property_check, property_given, property_match_faults, property_match_of, property_meant};
 
 use crate::element::{ElementNumber, Enterprise, NamedElement, element_given};
-use fx_base::Fault;
+use fx_base::{Fault, refusals};
 use fx_elements::{Axis, Element, Range, read_value};
 use fx_walk::{
     DocumentPath, FromValue, Text, object_of, one_of, optional_member, refusal, required_member,
@@ -53,7 +53,7 @@ fn known_property(
 {
     match property_given(element, text) {
         Some(property) => Ok(property),
-        None => Err(refusal(alloc, 105, path)),
+        None => Err(refusal(alloc, refusals::BAD_VALUE, path)),
     }
 }
 

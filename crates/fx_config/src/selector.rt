@@ -4,7 +4,7 @@ ghost use Rattle.serde_json.specs.View.{view};
 ghost use Rattle.fx_config.specs.Selectors.{all_faults, is_all, method_given, selector_faults, selector_of};
 
 use crate::property_match::PropertyMatch;
-use fx_base::{Fault, Name};
+use fx_base::{Fault, Name, refusals};
 use fx_walk::{
     DocumentPath, Entry, FromValue, Named, Names, Refused, is_empty_type, name_member, none_of,
     object_of, one_of, optional_member, refusal,
@@ -38,7 +38,7 @@ impl FromValue for SelectAll {
         if is_all(value) {
             Ok(SelectAll)
         } else {
-            Err(refusal(alloc, 104, path))
+            Err(refusal(alloc, refusals::WRONG_KIND, path))
         }
     }
 }
@@ -66,23 +66,23 @@ fn method_given(filter: Option<PropertyMatch>) -> Method
 const INEXACT: [Refused<'static>; 5] = [
     Refused {
         name: "sampCountBased",
-        number: 108,
+        number: refusals::SAMPLING_SELECTOR,
     },
     Refused {
         name: "sampTimeBased",
-        number: 108,
+        number: refusals::SAMPLING_SELECTOR,
     },
     Refused {
         name: "sampRandOutOfN",
-        number: 108,
+        number: refusals::SAMPLING_SELECTOR,
     },
     Refused {
         name: "sampUniProb",
-        number: 108,
+        number: refusals::SAMPLING_SELECTOR,
     },
     Refused {
         name: "filterHash",
-        number: 109,
+        number: refusals::HASH_FILTER,
     },
 ];
 

@@ -3,6 +3,7 @@ use Rattle.std.specs.Prelude.{◌≡◌, List, map, Option, Some, None, Result, 
 use Rattle.fx_base.specs.declared.fault.Fault.{Fault}
 use Rattle.fx_base.specs.declared.fault.Place.TheVariants as places
 use Rattle.fx_base.specs.Fault.{fault_at}
+use Rattle.fx_base.specs.Refusals.{counted_more_than_once, cut_region, destinations_differ, exempt_counted, never_counted, unassigned_record}
 use Rattle.fx_boxes.specs.Boxes.{Bounds}
 use Rattle.fx_tables.specs.declared.traffic.Crossing.{Crossing}
 use Rattle.fx_tables.specs.Network.{Net}
@@ -31,12 +32,12 @@ pub record IsPathFate (net : Net) (path : List Crossing) (region : Bounds) (t : 
 
 -- the fault where the verdict isn't once
 abbrev pub fault_of : Verdict → Fault
-fault_of None = fault_at 406 places.None
-fault_of (Some Unassigned) = fault_at 413 places.None
-fault_of (Some Differing) = fault_at 409 places.None
-fault_of (Some Many) = fault_at 408 places.None
-fault_of (Some Once) = fault_at 407 places.None
-fault_of (Some Never) = fault_at 407 places.None
+fault_of None = fault_at cut_region places.None
+fault_of (Some Unassigned) = fault_at unassigned_record places.None
+fault_of (Some Differing) = fault_at destinations_differ places.None
+fault_of (Some Many) = fault_at counted_more_than_once places.None
+fault_of (Some Once) = fault_at never_counted places.None
+fault_of (Some Never) = fault_at never_counted places.None
 
 -- the selection process that counts the packets, where their verdict is once; there always is one then
 abbrev pub leaf_of : Verdict → Option Counted → Result Counted Fault
@@ -54,11 +55,11 @@ path_leaf net path region = leaf_of (path_verdict net region path) (numbers_of (
 
 -- why no leaf is sound for the region, by number
 pub data NoneIsSound (net : Net) (path : List Crossing) (region : Bounds) : Fault → Type 0 where
-  cut : (NothingCuts net path region → ⊥) → NoneIsSound net path region (fault_at 406 places.None)
-  unassigned : NothingCuts net path region → AllHave net path region Unassigned → NoneIsSound net path region (fault_at 413 places.None)
-  differing : NothingCuts net path region → AllHave net path region Differing → NoneIsSound net path region (fault_at 409 places.None)
-  many : NothingCuts net path region → AllHave net path region Many → NoneIsSound net path region (fault_at 408 places.None)
-  never : NothingCuts net path region → AllHave net path region Never → NoneIsSound net path region (fault_at 407 places.None)
+  cut : (NothingCuts net path region → ⊥) → NoneIsSound net path region (fault_at cut_region places.None)
+  unassigned : NothingCuts net path region → AllHave net path region Unassigned → NoneIsSound net path region (fault_at unassigned_record places.None)
+  differing : NothingCuts net path region → AllHave net path region Differing → NoneIsSound net path region (fault_at destinations_differ places.None)
+  many : NothingCuts net path region → AllHave net path region Many → NoneIsSound net path region (fault_at counted_more_than_once places.None)
+  never : NothingCuts net path region → AllHave net path region Never → NoneIsSound net path region (fault_at never_counted places.None)
 
 -- ---- the answer where the packets are exempt
 
@@ -68,13 +69,13 @@ never_of None = Err (fault_of None)
 never_of (Some Unassigned) = Err (fault_of (Some Unassigned))
 never_of (Some Differing) = Err (fault_of (Some Differing))
 never_of (Some Many) = Err (fault_of (Some Many))
-never_of (Some Once) = Err (fault_at 415 places.None)
+never_of (Some Once) = Err (fault_at exempt_counted places.None)
 never_of (Some Never) = Ok tt
 
 -- why the packets of a region aren't all left uncounted, by number
 pub data NeverIsUnsound (net : Net) (path : List Crossing) (region : Bounds) : Fault → Type 0 where
-  cut : (NothingCuts net path region → ⊥) → NeverIsUnsound net path region (fault_at 406 places.None)
-  unassigned : NothingCuts net path region → AllHave net path region Unassigned → NeverIsUnsound net path region (fault_at 413 places.None)
-  differing : NothingCuts net path region → AllHave net path region Differing → NeverIsUnsound net path region (fault_at 409 places.None)
-  many : NothingCuts net path region → AllHave net path region Many → NeverIsUnsound net path region (fault_at 408 places.None)
-  once : NothingCuts net path region → AllHave net path region Once → NeverIsUnsound net path region (fault_at 415 places.None)
+  cut : (NothingCuts net path region → ⊥) → NeverIsUnsound net path region (fault_at cut_region places.None)
+  unassigned : NothingCuts net path region → AllHave net path region Unassigned → NeverIsUnsound net path region (fault_at unassigned_record places.None)
+  differing : NothingCuts net path region → AllHave net path region Differing → NeverIsUnsound net path region (fault_at destinations_differ places.None)
+  many : NothingCuts net path region → AllHave net path region Many → NeverIsUnsound net path region (fault_at counted_more_than_once places.None)
+  once : NothingCuts net path region → AllHave net path region Once → NeverIsUnsound net path region (fault_at exempt_counted places.None)

@@ -12,7 +12,7 @@ use crate::rows::prepare;
 use crate::table::{Scratch, VerdictRow, Verdicts};
 use crate::tables::Tables;
 use crate::verdict::Fate;
-use fx_base::Fault;
+use fx_base::{Fault, refusals};
 use fx_boxes::Region;
 use fx_elements::Axis;
 use fx_tables::Crossing;
@@ -34,10 +34,10 @@ fn fault_of(fate: Fate) -> Fault
     ensures { result ≡ leaves.fault_of (Some fate) }
 {
     match fate {
-        Fate::Unassigned => Fault::bare(413),
-        Fate::Differing => Fault::bare(409),
-        Fate::Many => Fault::bare(408),
-        Fate::Never | Fate::Once => Fault::bare(407),
+        Fate::Unassigned => Fault::bare(refusals::UNASSIGNED_RECORD),
+        Fate::Differing => Fault::bare(refusals::DESTINATIONS_DIFFER),
+        Fate::Many => Fault::bare(refusals::COUNTED_MORE_THAN_ONCE),
+        Fate::Never | Fate::Once => Fault::bare(refusals::NEVER_COUNTED),
     }
 }
 
@@ -48,10 +48,10 @@ fn leaf_of(known: Result<PathFate, (Axis, u128)>) -> Result<Counted, Fault>
 {
     match known {
         Ok(known) => match known.fate {
-            Fate::Once => known.counted.ok_or(Fault::bare(407)),
+            Fate::Once => known.counted.ok_or(Fault::bare(refusals::NEVER_COUNTED)),
             fate => Err(fault_of(fate)),
         },
-        Err(_) => Err(Fault::bare(406)),
+        Err(_) => Err(Fault::bare(refusals::CUT_REGION)),
     }
 }
 
@@ -63,10 +63,10 @@ fn never_of(known: Result<PathFate, (Axis, u128)>) -> Result<(), Fault>
     match known {
         Ok(known) => match known.fate {
             Fate::Never => Ok(()),
-            Fate::Once => Err(Fault::bare(415)),
+            Fate::Once => Err(Fault::bare(refusals::EXEMPT_COUNTED)),
             fate => Err(fault_of(fate)),
         },
-        Err(_) => Err(Fault::bare(406)),
+        Err(_) => Err(Fault::bare(refusals::CUT_REGION)),
     }
 }
 

@@ -2,6 +2,7 @@
 ghost use Rattle.std.specs.Prelude.{◌≡◌, ◌≤◌, ◌↔◌, ℕ, List, length, None, Err, IsSome, IfSome, IfNone};
 ghost use Rattle.fx_base.specs.Fault.{fault_at};
 ghost use Rattle.fx_base.specs.declared.fault.Place.TheVariants as places;
+ghost use Rattle.fx_base.specs.Refusals.{cut_region};
 ghost use Rattle.fx_boxes.specs.Boxes as boxes;
 ghost use Rattle.fx_elements.specs.Axes as axes;
 ghost use Rattle.fx_tables.specs.declared.traffic.Crossing as of_crossing;
@@ -142,7 +143,7 @@ pub fn cut(
     requires room { length tables.now.net.processes ≤ length scratch.old }
     // It is there exactly where `fate` answers 406, and so where something cuts the region.
     ensures exact { IsSome result ↔ (leaves.path_leaf tables.now.net path.now region.now
-        ≡ Err (fault_at 406 places.None)) }
+        ≡ Err (fault_at cut_region places.None)) }
     ensures cuts { IsSome result ↔ (answers.NothingCuts tables.now.net path.now region.now → ⊥) }
     ensures inside { IfSome result (λ s. boxes.IsStrictlyInside region.now
         (axes.axis_index s.0) s.1) }

@@ -2,6 +2,7 @@
 ghost use Rattle.std.specs.Prelude.{◌≡◌, ◌≢◌, ◌⊎◌, ℕ, List, Bool, false, true, Option, None, OnOk, IfErr, option_and_then};
 ghost use Rattle.fx_base.specs.Fault.{fault_at, IsMemory};
 ghost use Rattle.fx_base.specs.declared.fault.Place.TheVariants as places;
+ghost use Rattle.fx_base.specs.Refusals.{failed_write};
 ghost use Rattle.fx_link.specs.Links.{Put, Puts};
 
 use fx_base::Fault;
@@ -23,7 +24,7 @@ pub trait Links: Drop {
         ensures ok { OnOk result (Puts (put_on self.old) (put_on self.new) link octets.now) }
         ensures going { OnOk result (failed self.old ≡ false → failed self.new ≡ false) }
         ensures err { IfErr result (λ e.
-            ((e ≡ fault_at 902 places.None) ⊎ IsMemory e)
+            ((e ≡ fault_at failed_write places.None) ⊎ IsMemory e)
             × (failed self.new ≡ true)) };
 }
 

@@ -11,7 +11,7 @@ ghost use Rattle.fx_link.specs.Sending as sending;
 use crate::records::put_records;
 use crate::stream::Stream;
 use crate::templates::put_template;
-use fx_base::Fault;
+use fx_base::{Fault, refusals};
 use fx_layout::Layout;
 use fx_tables::Record;
 use fx_wire::{Header, Set, put_message};
@@ -67,7 +67,7 @@ fn put_sets(stream: &mut Stream, header: &Header, sets: &[Set<'_>]) -> Result<()
 {
     match put_message(stream, header, sets) {
         Ok(()) => Ok(()),
-        Err(_) => Err(Fault::bare(900)),
+        Err(_) => Err(Fault::bare(refusals::WANT_OF_MEMORY)),
     }
 }
 

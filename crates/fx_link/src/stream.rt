@@ -1,7 +1,7 @@
 //! The octets of a link.
 ghost use Rattle.std.specs.Prelude.{◌≡◌, [], Some, false};
 
-use fx_base::{Fault, Sink};
+use fx_base::{Fault, Sink, refusals};
 use std::alloc::Global;
 
 /// Octets in memory, to which writes add. A write fails only for want of memory.
@@ -53,7 +53,7 @@ impl Sink for Stream {
             }
             Err(_) => {
                 self.failed = true;
-                Err(Fault::bare(902))
+                Err(Fault::bare(refusals::FAILED_WRITE))
             }
         }
     }

@@ -6,6 +6,7 @@ use Rattle.fx_layout.specs.Keys.{Key, same_key}
 use Rattle.fx_tables.specs.declared.record.Record.{Record}
 use Rattle.fx_tables.specs.Network.{Net, Exporter}
 use Rattle.fx_base.specs.Entries.{entry_numbered}
+use Rattle.fx_base.specs.Refusals.{wrong_choices}
 use Rattle.fx_machine.specs.States.{State, with_entry, after_tally, sent_to, sent_to_all}
 
 -- a choice: a new record, or a number
@@ -71,11 +72,11 @@ Outcome = Result State ℕ
 -- no choice is left over
 abbrev pub all_used : Choices → State → Outcome
 all_used [] s = Ok s
-all_used (choice ∷ choices) s = Err 852
+all_used (choice ∷ choices) s = Err wrong_choices
 
 -- one act after another
 abbrev pub act_all : Net → Counts → List Act → Option Made → Outcome
-act_all net counts acts None = Err 852
+act_all net counts acts None = Err wrong_choices
 act_all net counts [] (Some made) = all_used made.choices made.state
 act_all net counts (a ∷ acts) (Some made) = act_all net counts acts (act net counts a made.state made.choices)
 

@@ -11,6 +11,7 @@ use Rattle.fx_run_text.specs.declared.step.Step.{Step}
 use Rattle.fx_run_text.specs.declared.step.Step.TheVariants.{Cross, Expire, Arrive}
 use Rattle.fx_tables.specs.Network.{Net, AggregationEntry, Process, at_places, layout_of, exporters_of, takes, holder_place}
 use Rattle.fx_base.specs.Entries.{entry_numbered}
+use Rattle.fx_base.specs.Refusals.{no_record_there, step_not_enabled}
 use Rattle.fx_tables.specs.Classes.{Class, path}
 use Rattle.fx_tables.specs.Occurrences.{occurrences}
 use Rattle.fx_machine.specs.States.{State, Coming, without}
@@ -41,12 +42,12 @@ place (c ∷ cs) packet crossing =
     if c.packet == packet && c.crossing == crossing then Some 0 else later (place cs packet crossing)
 
 abbrev pub cross_now : Net → List Class → Option Packet → ℕ → State → Choices → Outcome
-cross_now net classes None crossing s choices = Err 851
+cross_now net classes None crossing s choices = Err step_not_enabled
 cross_now net classes (Some packet) crossing s choices =
     all_acts net (one_packet packet) (crossing_acts net packet.fields (entry_numbered (path classes packet) crossing)) s choices
 
 abbrev pub after_cross : Net → List Class → Option Packet → Option ℕ → ℕ → State → Choices → Outcome
-after_cross net classes packet None crossing s choices = Err 851
+after_cross net classes packet None crossing s choices = Err step_not_enabled
 after_cross net classes packet (Some n) crossing s choices =
     cross_now net classes packet crossing (record s { coming = remove s.coming n }) choices
 
@@ -57,16 +58,16 @@ abbrev pub acts_of_leaving : Net → ℕ → Key → List Act
 acts_of_leaving net holder key = map (λ e. Send e key) (exporters_of net (slice_get net.holders holder))
 
 abbrev pub after_expire : Net → ℕ → List Record → ℕ → Option Record → State → Choices → Outcome
-after_expire net holder rs number None s choices = Err 853
+after_expire net holder rs number None s choices = Err no_record_there
 after_expire net holder rs number (Some r) s choices =
     all_acts net r.counts (acts_of_leaving net holder r.key) (record s { held = slice_set s.held holder (without rs number) }) choices
 
 abbrev pub expire_from : Net → ℕ → Option (List Record) → ℕ → State → Choices → Outcome
-expire_from net holder None number s choices = Err 851
+expire_from net holder None number s choices = Err step_not_enabled
 expire_from net holder (Some rs) number s choices = after_expire net holder rs number (entry_numbered rs number) s choices
 
 abbrev pub expire_at : Net → Option ℕ → ℕ → State → Choices → Outcome
-expire_at net None number s choices = Err 851
+expire_at net None number s choices = Err step_not_enabled
 expire_at net (Some holder) number s choices = expire_from net holder (slice_get s.held holder) number s choices
 
 -- ---- a record leaves a link
@@ -90,12 +91,12 @@ acts_of_arrival net key None = []
 acts_of_arrival net key (Some process) = coming_to net key process
 
 abbrev pub after_arrive : Net → ℕ → List Record → ℕ → Option Record → State → Choices → Outcome
-after_arrive net link rs number None s choices = Err 853
+after_arrive net link rs number None s choices = Err no_record_there
 after_arrive net link rs number (Some r) s choices =
     all_acts net r.counts (acts_of_arrival net r.key (slice_get net.links link)) (record s { carried = slice_set s.carried link (without rs number) }) choices
 
 abbrev pub arrive_from : Net → ℕ → Option (List Record) → ℕ → State → Choices → Outcome
-arrive_from net link None number s choices = Err 851
+arrive_from net link None number s choices = Err step_not_enabled
 arrive_from net link (Some rs) number s choices = after_arrive net link rs number (entry_numbered rs number) s choices
 
 -- the place of the link of this number, where the first is 1
@@ -104,7 +105,7 @@ link_place zero = None
 link_place (suc n) = Some n
 
 abbrev pub arrive_at : Net → Option ℕ → ℕ → State → Choices → Outcome
-arrive_at net None number s choices = Err 851
+arrive_at net None number s choices = Err step_not_enabled
 arrive_at net (Some link) number s choices = arrive_from net link (slice_get s.carried link) number s choices
 
 -- ---- any step

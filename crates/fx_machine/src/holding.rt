@@ -2,13 +2,14 @@
 ghost use Rattle.std.specs.Prelude.{◌≡◌, ◌⊎◌, ◌++◌, List, [], ◌∷◌, Some, None, IfOk, IfErr, IfSome, IfNone, OnOk, OnErr};
 ghost use Rattle.fx_base.specs.Fault.{fault_at, IsMemory};
 ghost use Rattle.fx_base.specs.declared.fault.Place.TheVariants as faults;
+ghost use Rattle.fx_base.specs.Refusals.{wrong_choices};
 ghost use Rattle.fx_machine.specs.Acts as acts;
 ghost use Rattle.fx_machine.specs.Holds as holds;
 ghost use Rattle.fx_tables.specs.Network as network;
 ghost use Rattle.fx_tables.specs.declared.record.Record as of_record;
 
 use crate::records::Records;
-use fx_base::{Counts, Fault};
+use fx_base::{Counts, Fault, refusals};
 use fx_tables::{Holding, Record};
 use std::alloc::{AllocError, Global};
 
@@ -67,7 +68,8 @@ impl Records {
             × (holds.given_back j self.new ≡ self.old)) }
         ensures same { OnErr result (self.new ≡ self.old) }
         ensures err { IfErr result (λ e. IsMemory e
-            ⊎ ((e ≡ fault_at 852 faults.None) × (acts.taken_in self.old choice entry ≡ None))) }
+            ⊎ ((e ≡ fault_at wrong_choices faults.None)
+            × (acts.taken_in self.old choice entry ≡ None))) }
     {
         match choice {
             None => {
@@ -75,7 +77,7 @@ impl Records {
                 Ok(None)
             }
             Some(number) => match join(&mut self.items, number, &entry) {
-                None => Err(Fault::bare(852)),
+                None => Err(Fault::bare(refusals::WRONG_CHOICES)),
                 Some(joined) => Ok(Some(joined)),
             },
         }
@@ -106,12 +108,13 @@ fn hold(
         × (holds.back_at held.new.items t.holder t.joined ≡ held.old.items)) }
     ensures same { OnErr result (held.new.items ≡ held.old.items) }
     ensures err { IfErr result (λ e. IsMemory e
-        ⊎ ((e ≡ fault_at 852 faults.None) × (holds.held_with held.old.items counts.now holding.now
+        ⊎ ((e ≡ fault_at wrong_choices faults.None)
+        × (holds.held_with held.old.items counts.now holding.now
         choice ≡ None))) }
 {
     let holder = holding.holder;
     if holder >= held.len() {
-        return Err(Fault::bare(852));
+        return Err(Fault::bare(refusals::WRONG_CHOICES));
     }
     let entry = Record {
         key: holding.key.copy(),
@@ -146,13 +149,14 @@ fn hold_next(
     ensures same { OnErr result ((held.new.items ≡ held.old.items)
         × (log.new.items ≡ log.old.items)) }
     ensures err { IfErr result (λ e. IsMemory e
-        ⊎ ((e ≡ fault_at 852 faults.None) × (holds.held_with held.old.items counts.now holding.now
+        ⊎ ((e ≡ fault_at wrong_choices faults.None)
+        × (holds.held_with held.old.items counts.now holding.now
         choice ≡ None))) }
 {
     let taking = hold(held, holding, counts, choice)?;
     if log.push(taking).is_err() {
         give_back(held, taking);
-        return Err(Fault::bare(900));
+        return Err(Fault::bare(refusals::WANT_OF_MEMORY));
     }
     Ok(())
 }
@@ -183,11 +187,12 @@ pub fn hold_all(
         × (holds.undone log.items held.new.items ≡ held.old.items)) }
     ensures same { OnErr result (held.new.items ≡ held.old.items) }
     ensures err { IfErr result (λ e. IsMemory e
-        ⊎ ((e ≡ fault_at 852 faults.None) × (holds.hold_all counts.now holdings.now held.old.items
+        ⊎ ((e ≡ fault_at wrong_choices faults.None)
+        × (holds.hold_all counts.now holdings.now held.old.items
         choices.now ≡ None))) }
 {
     if holdings.len() != choices.len() {
-        return Err(Fault::bare(852));
+        return Err(Fault::bare(refusals::WRONG_CHOICES));
     }
     let mut log: Vec<Taking> = Vec::new(alloc);
     for place in 0..holdings.len() {

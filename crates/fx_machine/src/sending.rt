@@ -2,13 +2,14 @@
 ghost use Rattle.std.specs.Prelude.{◌≡◌, ◌⊎◌, ◌≤◌, ◌++◌, List, [], ◌∷◌, length, drop, Some, None, IfOk, IfErr, OnOk, OnErr, slice_get};
 ghost use Rattle.fx_base.specs.Fault.{fault_at, IsMemory};
 ghost use Rattle.fx_base.specs.declared.fault.Place.TheVariants as faults;
+ghost use Rattle.fx_base.specs.Refusals.{wrong_choices};
 ghost use Rattle.fx_tables.specs.Network as network;
 ghost use Rattle.fx_machine.specs.Sends as sends;
 ghost use Rattle.fx_machine.specs.States as states;
 ghost use Rattle.fx_tables.specs.declared.record.Record as of_record;
 
 use crate::records::Records;
-use fx_base::{Fault, entry_numbered};
+use fx_base::{Fault, entry_numbered, refusals};
 use fx_tables::{Exporter, Record};
 use std::alloc::{AllocError, Global};
 
@@ -58,20 +59,20 @@ fn choose(
         sends.chosen_from links.old.items (exporter.now ∷ rest) choices.now
         ≡ sends.chosen_from links.new.items rest (drop n choices.now))) }
     ensures err { IfErr result (λ e. IsMemory e
-        ⊎ ((e ≡ fault_at 852 faults.None) × ((rest : List network.Exporter) →
+        ⊎ ((e ≡ fault_at wrong_choices faults.None) × ((rest : List network.Exporter) →
         sends.chosen_from links.old.items (exporter.now ∷ rest) choices.now ≡ None))) }
 {
     if exporter.parallel() {
         if push_links(links, exporter.destinations()).is_err() {
-            return Err(Fault::bare(900));
+            return Err(Fault::bare(refusals::WANT_OF_MEMORY));
         }
         return Ok(0);
     }
     let Some(destination) = next_destination(exporter.destinations(), choices) else {
-        return Err(Fault::bare(852));
+        return Err(Fault::bare(refusals::WRONG_CHOICES));
     };
     if push_link(links, destination).is_err() {
-        return Err(Fault::bare(900));
+        return Err(Fault::bare(refusals::WANT_OF_MEMORY));
     }
     Ok(1)
 }
@@ -88,7 +89,7 @@ fn choose_at(
         choices.now
         ≡ sends.chosen_from links.new.items rest (drop n choices.now))) }
     ensures err { IfErr result (λ e. IsMemory e
-        ⊎ ((e ≡ fault_at 852 faults.None) × ((rest : List network.Exporter) →
+        ⊎ ((e ≡ fault_at wrong_choices faults.None) × ((rest : List network.Exporter) →
         sends.chosen_from links.old.items (network.before (slice_get exporters.now place) rest)
         choices.now ≡ None))) }
 {
@@ -112,7 +113,7 @@ pub fn chosen_links(
         × (sends.chosen_from [] (network.at_places exporters.now places.now) choices.now
         ≡ Some (record { links = x.0.items; rest = drop x.1 choices.now }))) }
     ensures err { IfErr result (λ e. IsMemory e
-        ⊎ ((e ≡ fault_at 852 faults.None) × (sends.chosen_from []
+        ⊎ ((e ≡ fault_at wrong_choices faults.None) × (sends.chosen_from []
         (network.at_places exporters.now places.now) choices.now ≡ None))) }
 {
     let mut links: Vec<usize> = Vec::new(alloc);

@@ -2,6 +2,7 @@
 ghost use Rattle.std.specs.Prelude.{◌≡◌, ◌⊎◌, ◌↔◌, [], All, Ok, Err, OnOk, OnErr, IfOk, IfErr, IsTrue};
 ghost use Rattle.fx_base.specs.Fault.{fault_at, IsMemory};
 ghost use Rattle.fx_base.specs.declared.fault.Place.TheVariants as faults;
+ghost use Rattle.fx_base.specs.Refusals.{run_packet, want_of_memory};
 ghost use Rattle.fx_tables.specs.Classes as traffic;
 ghost use Rattle.fx_tables.specs.Network as network;
 ghost use Rattle.fx_machine.specs.States as states;
@@ -9,7 +10,7 @@ ghost use Rattle.fx_machine.specs.Steps as steps;
 ghost use Rattle.fx_tables.specs.declared.packet.Packet as of_packet;
 
 use crate::store::Store;
-use fx_base::Fault;
+use fx_base::{Fault, refusals};
 use fx_run_text::Step;
 use fx_tables::{Classes, Net, Packet, Record};
 use std::alloc::Global;
@@ -68,7 +69,7 @@ impl<'a> State<'a> {
             })
             × All (λ packet. traffic.IsOf packet (network.entry_numbered classes.now packet.class))
             packets.items) }
-        ensures err { IfErr result (λ e. ((e ≡ fault_at 856 faults.None)
+        ensures err { IfErr result (λ e. ((e ≡ fault_at run_packet faults.None)
             × (All (λ packet. traffic.IsOf packet (network.entry_numbered classes.now packet.class))
             packets.items → ⊥))
             ⊎ (IsMemory e × All
@@ -76,7 +77,7 @@ impl<'a> State<'a> {
             packets.items)) }
     {
         if !all_of(classes, packets.as_slice()) {
-            return Err(Fault::bare(856));
+            return Err(Fault::bare(refusals::RUN_PACKET));
         }
         let store = Store::open(alloc, net, classes, packets.as_slice())?;
         Ok(State {
@@ -110,7 +111,8 @@ impl<'a> State<'a> {
             × (self.new.packets ≡ self.old.packets) }
         ensures same { OnErr result (self.new ≡ self.old) }
         ensures err { IfErr result (λ e. (e.place ≡ faults.None)
-            × ((e.number ≡ 900) ⊎ ((s : states.State) → self.old.state ≡ states.told_state s
+            × ((e.number ≡ want_of_memory) ⊎ ((s : states.State)
+            → self.old.state ≡ states.told_state s
             → steps.after self.old.net self.old.classes self.old.packets step.now s
             ≡ Err e.number))) }
     {

@@ -1,6 +1,7 @@
 //! What a network holds.
 ghost use Rattle.std.specs.Prelude.{◌≡◌, ◌⊎◌, ◌&&◌, [], Ok, Err, OnOk, OnErr, IfOk, IfErr, map, replicate, IsTrue, ◌↔◌};
 ghost use Rattle.fx_base.specs.declared.fault.Place.TheVariants as faults;
+ghost use Rattle.fx_base.specs.Refusals.{want_of_memory};
 ghost use Rattle.fx_machine.specs.Comings as comings;
 ghost use Rattle.fx_machine.specs.Holds as holds;
 ghost use Rattle.fx_tables.specs.Classes as traffic;
@@ -15,7 +16,7 @@ use crate::holding::{give_all_back, hold_all};
 use crate::records::Records;
 use crate::sending::{choices_from, chosen_links, put_all};
 use crate::tallying::send_and_tally;
-use fx_base::{Counts, Fault, entry_at, entry_numbered};
+use fx_base::{Counts, Fault, entry_at, entry_numbered, refusals};
 use fx_tables::{Classes, HolderName, Holding, Net, Packet, Record};
 use std::alloc::{AllocError, Global};
 use std::marker::Model;
@@ -194,15 +195,15 @@ impl Store {
             × (self.new ≡ states.told_state next)) }
         ensures same { OnErr result (self.new ≡ self.old) }
         ensures err { IfErr result (λ e. (e.place ≡ faults.None)
-            × ((e.number ≡ 900) ⊎ ((s : states.State) → self.old ≡ states.told_state s
+            × ((e.number ≡ want_of_memory) ⊎ ((s : states.State) → self.old ≡ states.told_state s
             → steps.after_cross net.now classes.now (network.entry_numbered packets.now packet)
             (steps.place s.coming packet crossing) crossing s choices.now ≡ Err e.number))) }
     {
         if !is_to_come(self.to_come.as_slice(), packet, crossing) {
-            return Err(Fault::bare(851));
+            return Err(Fault::bare(refusals::STEP_NOT_ENABLED));
         }
         let Some(found) = entry_numbered(packets, packet) else {
-            return Err(Fault::bare(851));
+            return Err(Fault::bare(refusals::STEP_NOT_ENABLED));
         };
         let counts = Counts {
             packets: 1,
@@ -230,27 +231,27 @@ impl Store {
             × (self.new ≡ states.told_state next)) }
         ensures same { OnErr result (self.new ≡ self.old) }
         ensures err { IfErr result (λ e. (e.place ≡ faults.None)
-            × ((e.number ≡ 900) ⊎ ((s : states.State) → self.old ≡ states.told_state s
+            × ((e.number ≡ want_of_memory) ⊎ ((s : states.State) → self.old ≡ states.told_state s
             → steps.expire_at net.now (network.holder_place net.now holder) number s choices.now
             ≡ Err e.number))) }
     {
         let Some(place) = net.holder_place(holder) else {
-            return Err(Fault::bare(851));
+            return Err(Fault::bare(refusals::STEP_NOT_ENABLED));
         };
         let Some(records) = entry_at(self.held.as_slice(), place) else {
-            return Err(Fault::bare(851));
+            return Err(Fault::bare(refusals::STEP_NOT_ENABLED));
         };
         let Some(found) = records.record_numbered(number) else {
-            return Err(Fault::bare(853));
+            return Err(Fault::bare(refusals::NO_RECORD_THERE));
         };
         let entry = found.copy();
         let exporters = net.named_by(place);
         let (links, used) = chosen_links(alloc, net.exporters(), exporters, choices)?;
         if used < choices.len() {
-            return Err(Fault::bare(852));
+            return Err(Fault::bare(refusals::WRONG_CHOICES));
         }
         if let Err(_) = put_all(&mut self.carried, links.as_slice(), &entry) {
-            return Err(Fault::bare(900));
+            return Err(Fault::bare(refusals::WANT_OF_MEMORY));
         }
         take_out_at(&mut self.held, place, number);
         Ok(())
@@ -271,18 +272,18 @@ impl Store {
             × (self.new ≡ states.told_state next)) }
         ensures same { OnErr result (self.new ≡ self.old) }
         ensures err { IfErr result (λ e. (e.place ≡ faults.None)
-            × ((e.number ≡ 900) ⊎ ((s : states.State) → self.old ≡ states.told_state s
+            × ((e.number ≡ want_of_memory) ⊎ ((s : states.State) → self.old ≡ states.told_state s
             → steps.arrive_at net.now (steps.link_place link) number s choices.now
             ≡ Err e.number))) }
     {
         let Some(place) = link_place(link) else {
-            return Err(Fault::bare(851));
+            return Err(Fault::bare(refusals::STEP_NOT_ENABLED));
         };
         let Some(records) = entry_at(self.carried.as_slice(), place) else {
-            return Err(Fault::bare(851));
+            return Err(Fault::bare(refusals::STEP_NOT_ENABLED));
         };
         let Some(found) = records.record_numbered(number) else {
-            return Err(Fault::bare(853));
+            return Err(Fault::bare(refusals::NO_RECORD_THERE));
         };
         let entry = found.copy();
         let handling = handling_at(alloc, net, place, &entry.key)?;
@@ -305,7 +306,7 @@ impl Store {
             &entry,
         ) {
             give_all_back(&mut self.held, log.as_slice());
-            return Err(Fault::bare(900));
+            return Err(Fault::bare(refusals::WANT_OF_MEMORY));
         }
         take_out_at(&mut self.carried, place, number);
         Ok(())

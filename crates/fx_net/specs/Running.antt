@@ -12,6 +12,7 @@ use Rattle.fx_tables.specs.declared.holder_name.HolderName.{HolderName}
 use Rattle.fx_tables.specs.declared.holder_name.HolderName.TheVariants as holder
 use Rattle.fx_tables.specs.Network.{Exporter, holder_place}
 use Rattle.fx_base.specs.Entries.{entry_numbered}
+use Rattle.fx_base.specs.Refusals.{failed_write, in_no_class, not_in_named_class, nothing_there, schedule_or_bundle, want_of_memory}
 use Rattle.fx_tables.specs.Classes.{Class}
 use Rattle.fx_link.specs.Links.{Put}
 use Rattle.fx_collect.specs.Totals.{Totals}
@@ -131,20 +132,20 @@ IsInNone classes frame _ = ⊥
 
 -- 802 or the fault of a capture's record goes before 803 and 804; each stands at the schedule's line
 pub data RefusesAction (old : RunningNetwork) (at to : captures.CaptureState) (number : ℕ) (asked : Action) (e : Fault) : Type 0 where
-  nothing_named : e ≡ fault_at 802 (places.Line number) → NamesNothing old at to asked → RefusesAction old at to number asked e
+  nothing_named : e ≡ fault_at nothing_there (places.Line number) → NamesNothing old at to asked → RefusesAction old at to number asked e
   capture_refused : reads_packet asked ≡ true → captures.RefusesCapture at to e → RefusesAction old at to number asked e
-  not_in : e ≡ fault_at 803 (places.Line number) → captures.AtFrame at to → IsNotIn old.classes to.seen asked → RefusesAction old at to number asked e
-  in_none : e ≡ fault_at 804 (places.Line number) → captures.AtFrame at to → IsInNone old.classes to.seen asked → RefusesAction old at to number asked e
+  not_in : e ≡ fault_at not_in_named_class (places.Line number) → captures.AtFrame at to → IsNotIn old.classes to.seen asked → RefusesAction old at to number asked e
+  in_none : e ≡ fault_at in_no_class (places.Line number) → captures.AtFrame at to → IsInNone old.classes to.seen asked → RefusesAction old at to number asked e
 
 -- 801 goes first
 abbrev pub RefusesLine : List ℕ → ℕ → RunningNetwork → captures.CaptureState → captures.CaptureState → Fault → Type 0
 RefusesLine line number old at to e =
-    ((e ≡ fault_at 801 (places.Line number)) × ((asked : Action) → AsksFor line asked → ⊥))
+    ((e ≡ fault_at schedule_or_bundle (places.Line number)) × ((asked : Action) → AsksFor line asked → ⊥))
     ⊎ ((asked : Action) × AsksFor line asked × RefusesAction old at to number asked e)
 
 -- want of memory, or what links' octets are put on failed, whatever the line
 abbrev pub FailsOutside : Bool → Fault → Type 0
-FailsOutside failed e = (e ≡ fault_at 900 places.None) ⊎ ((e ≡ fault_at 902 places.None) × (failed ≡ true))
+FailsOutside failed e = (e ≡ fault_at want_of_memory places.None) ⊎ ((e ≡ fault_at failed_write places.None) × (failed ≡ true))
 
 -- a network that has answered a fault answers it again, and nothing changes
 abbrev pub AnswersAgain : RunningNetwork → RunningNetwork → Result (Unit {0}) Fault → Type 0
@@ -197,7 +198,7 @@ HasGoneOn at to = (frames : List captures.Seen) × GoesOnToFrames at to frames
 -- a frame that is left is of no class, or the capture is refused behind some frames
 pub data RefusesClose (old : RunningNetwork) (at to : captures.CaptureState) (e : Fault) : Type 0 where
   capture_cut : (mid : captures.CaptureState) → HasGoneOn at mid → captures.RefusesCapture mid to e → RefusesClose old at to e
-  none_holds : e ≡ fault_at 804 places.None → HasGoneOn at to → IsOfNone old.classes to.seen → RefusesClose old at to e
+  none_holds : e ≡ fault_at in_no_class places.None → HasGoneOn at to → IsOfNone old.classes to.seen → RefusesClose old at to e
 
 -- ---- a whole run
 

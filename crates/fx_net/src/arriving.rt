@@ -7,7 +7,7 @@ ghost use Rattle.fx_net.specs.Arriving as arriving;
 ghost use Rattle.fx_net.specs.Contents as contents;
 
 use crate::contents::Contents;
-use fx_base::Fault;
+use fx_base::{Fault, refusals};
 use fx_link::Link;
 use fx_tables::{Net, Process, Record};
 use std::alloc::Global;
@@ -64,7 +64,7 @@ fn carry_on(links: &mut Vec<Link>, link: usize, count: usize) -> Result<(), Faul
     // be wanting.
     match link.carry(count) {
         Ok(()) => Ok(()),
-        Err(_fault) => Err(Fault::bare(900)),
+        Err(_fault) => Err(Fault::bare(refusals::WANT_OF_MEMORY)),
     }
 }
 

@@ -9,12 +9,13 @@ ghost use Rattle.fx_net.specs.Arriving.{queued_on};
 ghost use Rattle.fx_net.specs.Doings as doings;
 ghost use Rattle.fx_net.specs.Running as running;
 ghost use Rattle.fx_base.specs.Device.{KeepsGoing};
+ghost use Rattle.fx_base.specs.Refusals.{in_no_class};
 
 use crate::arriving::queue_length_of;
 use crate::contents::Contents;
 use crate::network::Network;
 use crate::stop::Stop;
-use fx_base::{Fault, Source};
+use fx_base::{Fault, Source, refusals};
 use fx_link::{Link, Links};
 use fx_pcap::Capture;
 use fx_tables::{AggregationEntry, DeviceEntry, Net, Occurrence, Process};
@@ -248,10 +249,12 @@ impl<'a> Network<'a> {
         ensures going { OnOk result (KeepsGoing (L.failed links.old) (L.failed links.new)) }
         ensures err { IfErr result (λ s. running.FailsOutside (L.failed links.new)
             (running.fault_of s)
-            ⊎ ((s ≡ stop.Bare 804) × running.IsOfNone self.old.classes capture.now.seen)) }
+            ⊎ ((s ≡ stop.Bare in_no_class) × running.IsOfNone self.old.classes capture.now.seen)) }
     {
         if !self.meter_first(capture, met)? {
-            return Err(Stop::Bare { number: 804 });
+            return Err(Stop::Bare {
+                number: refusals::IN_NO_CLASS,
+            });
         }
         self.contents.finish(links)?;
         Ok(())

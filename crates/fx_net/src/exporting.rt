@@ -8,7 +8,7 @@ ghost use Rattle.fx_net.specs.Contents as contents;
 ghost use Rattle.fx_net.specs.Exporting as exporting;
 
 use crate::contents::Contents;
-use fx_base::Fault;
+use fx_base::{Fault, refusals};
 use fx_link::Link;
 use fx_tables::{Exporter, Net, Record};
 
@@ -25,7 +25,7 @@ fn put(links: &mut Vec<Link>, link: usize, time: u32, flow: &Record) -> Result<(
         return Ok(());
     };
     if !link.has_room() {
-        return Err(Fault::bare(900));
+        return Err(Fault::bare(refusals::WANT_OF_MEMORY));
     }
     link.put(time, flow.copy())?;
     Ok(())

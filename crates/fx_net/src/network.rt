@@ -1,6 +1,7 @@
 //! A running network: what the lines of a schedule do in it.
 ghost use Rattle.std.specs.Prelude.{◌≡◌, ◌<◌, ◌^◌, true, false, position, None, IfOk, IfErr, OnOk};
 ghost use Rattle.fx_base.specs.Fault.{IsMemory};
+ghost use Rattle.fx_base.specs.Refusals.{want_of_memory};
 ghost use Rattle.fx_boxes.specs.Boxes.{holds};
 ghost use Rattle.fx_tables.specs.Classes as traffic;
 ghost use Rattle.fx_pcap.specs.Captures as captures;
@@ -120,7 +121,7 @@ impl<'a> Network<'a> {
         ensures frame { doings.IsFrame (running.packet_of (captures.seen_of frame.now) class path)
             (captures.seen_of frame.now) }
         ensures soon { frame.now.second < 2 ^ 32 }
-        ensures err { IfErr result (λ s. s ≡ stop.Bare 900) }
+        ensures err { IfErr result (λ s. s ≡ stop.Bare want_of_memory) }
     {
         let packet = packet_of(frame, class, path);
         let counts = Counts {
@@ -150,7 +151,7 @@ impl<'a> Network<'a> {
         ensures none { IfOk result (λ there. there ≡ false
             → running.IsOfNone self.old.classes capture.now.seen) }
         ensures rest { OnOk result (self.new ≡ record self.old { contents = self.new.contents }) }
-        ensures err { IfErr result (λ s. s ≡ stop.Bare 900) }
+        ensures err { IfErr result (λ s. s ≡ stop.Bare want_of_memory) }
     {
         let frame = capture.frame();
         let classes = self.traffic.classes().as_slice();

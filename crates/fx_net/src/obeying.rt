@@ -8,13 +8,14 @@ ghost use Rattle.fx_net.specs.Contents.{with_changed};
 ghost use Rattle.fx_net.specs.Doings as doings;
 ghost use Rattle.fx_net.specs.Running as running;
 ghost use Rattle.fx_base.specs.Device.{KeepsGoing};
+ghost use Rattle.fx_base.specs.Refusals.{nothing_there, want_of_memory};
 
 use crate::action::Action;
 use crate::arriving::queue_length_of;
 use crate::network::Network;
 use crate::schedule::read_action;
 use crate::stop::Stop;
-use fx_base::{Fault, Line, Source, entry_numbered};
+use fx_base::{Fault, Line, Source, entry_numbered, refusals};
 use fx_boxes::Fields;
 use fx_link::Links;
 use fx_pcap::Capture;
@@ -57,16 +58,22 @@ impl<'a> Network<'a> {
             capture.new.seen
             self.old.contents self.new.contents) }
         ensures rest { OnOk result (self.new ≡ record self.old { contents = self.new.contents }) }
-        ensures err { IfErr result (λ s. (s ≡ stop.Bare 900)
+        ensures err { IfErr result (λ s. (s ≡ stop.Bare want_of_memory)
             ⊎ running.RefusesAction self.old capture.old capture.new line action.Next
             (running.fault_of s)) }
     {
         if !capture.advance()? {
-            return Err(Stop::Line { number: 802, line });
+            return Err(Stop::Line {
+                number: refusals::NOTHING_THERE,
+                line,
+            });
         }
         let mut met: Vec<Occurrence> = Vec::new(self.alloc);
         if !self.meter_first(capture, &mut met)? {
-            return Err(Stop::Line { number: 804, line });
+            return Err(Stop::Line {
+                number: refusals::IN_NO_CLASS,
+                line,
+            });
         }
         Ok(())
     }
@@ -85,12 +92,15 @@ impl<'a> Network<'a> {
             capture.new.seen
             self.old.contents self.new.contents) }
         ensures rest { OnOk result (self.new ≡ record self.old { contents = self.new.contents }) }
-        ensures err { IfErr result (λ s. (s ≡ stop.Bare 900)
+        ensures err { IfErr result (λ s. (s ≡ stop.Bare want_of_memory)
             ⊎ running.RefusesAction self.old capture.old capture.new line (action.NextOf class path)
             (running.fault_of s)) }
     {
         if !capture.advance()? {
-            return Err(Stop::Line { number: 802, line });
+            return Err(Stop::Line {
+                number: refusals::NOTHING_THERE,
+                line,
+            });
         }
         let frame = capture.frame();
         if !is_in(
@@ -99,7 +109,10 @@ impl<'a> Network<'a> {
             class,
             path,
         ) {
-            return Err(Stop::Line { number: 803, line });
+            return Err(Stop::Line {
+                number: refusals::NOT_IN_NAMED_CLASS,
+                line,
+            });
         }
         let mut met: Vec<Occurrence> = Vec::new(self.alloc);
         self.meter(&frame, class, path, &mut met)
@@ -110,15 +123,21 @@ impl<'a> Network<'a> {
         ensures ok { OnOk result (doings.LeastLeaves (net_of self.old.network) name
             self.old.contents self.new.contents) }
         ensures rest { OnOk result (self.new ≡ record self.old { contents = self.new.contents }) }
-        ensures err { IfErr result (λ s. (s ≡ stop.Bare 900)
-            ⊎ ((s ≡ stop.Line 802 line) × running.HoldsNothing self.old name)) }
+        ensures err { IfErr result (λ s. (s ≡ stop.Bare want_of_memory)
+            ⊎ ((s ≡ stop.Line nothing_there line) × running.HoldsNothing self.old name)) }
     {
         let net = self.plan.net();
         let Some(place) = net.holder_place(name) else {
-            return Err(Stop::Line { number: 802, line });
+            return Err(Stop::Line {
+                number: refusals::NOTHING_THERE,
+                line,
+            });
         };
         if !self.contents.expire_least(net, place)? {
-            return Err(Stop::Line { number: 802, line });
+            return Err(Stop::Line {
+                number: refusals::NOTHING_THERE,
+                line,
+            });
         }
         Ok(())
     }
@@ -128,18 +147,28 @@ impl<'a> Network<'a> {
         ensures ok { OnOk result (doings.CarriesOn (net_of self.old.network) link octets
             self.old.contents self.new.contents) }
         ensures rest { OnOk result (self.new ≡ record self.old { contents = self.new.contents }) }
-        ensures err { IfErr result (λ s. (s ≡ stop.Bare 900)
-            ⊎ ((s ≡ stop.Line 802 line) × running.HasTooFew self.old.contents link octets)) }
+        ensures err { IfErr result (λ s. (s ≡ stop.Bare want_of_memory)
+            ⊎ ((s ≡ stop.Line nothing_there line)
+            × running.HasTooFew self.old.contents link octets)) }
     {
         if link == 0 {
-            return Err(Stop::Line { number: 802, line });
+            return Err(Stop::Line {
+                number: refusals::NOTHING_THERE,
+                line,
+            });
         }
         let place = (link - 1) as usize;
         match queue_length_of(self.contents.links.as_slice(), place) {
-            None => return Err(Stop::Line { number: 802, line }),
+            None => return Err(Stop::Line {
+                number: refusals::NOTHING_THERE,
+                line,
+            }),
             Some(queued) => {
                 if (queued as u64) < octets {
-                    return Err(Stop::Line { number: 802, line });
+                    return Err(Stop::Line {
+                        number: refusals::NOTHING_THERE,
+                        line,
+                    });
                 }
             }
         }
@@ -159,21 +188,33 @@ impl<'a> Network<'a> {
         ensures ok { OnOk result (doings.Uses self.old.network device exporter destination
             self.old.contents self.new.contents) }
         ensures rest { OnOk result (self.new ≡ record self.old { contents = self.new.contents }) }
-        ensures err { IfErr result (λ s. (s ≡ stop.Bare 900)
-            ⊎ ((s ≡ stop.Line 802 line) × running.HasNoDestination self.old.network device exporter
+        ensures err { IfErr result (λ s. (s ≡ stop.Bare want_of_memory)
+            ⊎ ((s ≡ stop.Line nothing_there line)
+            × running.HasNoDestination self.old.network device exporter
             destination)) }
     {
         let Ok(place) = self.plan.exporter_place(self.alloc, device, exporter) else {
-            return Err(Stop::Bare { number: 900 });
+            return Err(Stop::Bare {
+                number: refusals::WANT_OF_MEMORY,
+            });
         };
         let Some(place) = place else {
-            return Err(Stop::Line { number: 802, line });
+            return Err(Stop::Line {
+                number: refusals::NOTHING_THERE,
+                line,
+            });
         };
         let Some(named) = self.plan.net().exporters().get(place) else {
-            return Err(Stop::Line { number: 802, line });
+            return Err(Stop::Line {
+                number: refusals::NOTHING_THERE,
+                line,
+            });
         };
         let Some(_destination) = entry_numbered(named.destinations(), destination) else {
-            return Err(Stop::Line { number: 802, line });
+            return Err(Stop::Line {
+                number: refusals::NOTHING_THERE,
+                line,
+            });
         };
         choose(&mut self.contents.chosen, place, destination);
         Ok(())
@@ -187,7 +228,7 @@ impl<'a> Network<'a> {
         capture: &mut Capture<R>,
     ) -> Result<(), Stop>
         ensures ok { OnOk result (running.Acts asked self.old self.new capture.old capture.new) }
-        ensures err { IfErr result (λ s. (s ≡ stop.Bare 900)
+        ensures err { IfErr result (λ s. (s ≡ stop.Bare want_of_memory)
             ⊎ running.RefusesAction self.old capture.old capture.new line asked
             (running.fault_of s)) }
     {
@@ -237,7 +278,7 @@ impl<'a> Network<'a> {
     {
         let Some(asked) = read_action(line.bytes) else {
             return Err(Stop::Line {
-                number: 801,
+                number: refusals::SCHEDULE_OR_BUNDLE,
                 line: line.number,
             });
         };

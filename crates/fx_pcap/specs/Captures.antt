@@ -5,6 +5,7 @@ use Rattle.fx_base.specs.declared.fault.Place.TheVariants as places
 use Rattle.fx_base.specs.Device.{MayBeLeft, MayHaveLeft, IsAsked, IsUnread}
 use Rattle.fx_base.specs.Fault.{fault_at}
 use Rattle.fx_base.specs.Limits.{call_limit}
+use Rattle.fx_base.specs.Refusals.{capture_cut, capture_format, failed_read, link_type, long_capture_record, want_of_memory}
 use Rattle.fx_pcap.specs.declared.record.TheConstants.{ROOM}
 use Rattle.fx_pcap.specs.declared.content.Content.{Content}
 use Rattle.fx_pcap.specs.declared.content.Content.TheVariants.{Packet, Other, Malformed}
@@ -138,8 +139,8 @@ IsCaptureCutOff old new =
 -- why a reader that hadn't stopped stops
 abbrev pub StopsCapture : CaptureState → CaptureState → Fault → Type 0
 StopsCapture old new e =
-    ((e ≡ fault_at 901 places.None) × IsCaptureCutOff old new)
-    ⊎ (((e ≡ fault_at 703 (places.Octet new.place)) ⊎ (e ≡ fault_at 704 (places.Octet new.place))) × MayHaveLeft old.left (λ octets. ahead_of old octets ≡ nothing_more new.skipped (Some e)))
+    ((e ≡ fault_at failed_read places.None) × IsCaptureCutOff old new)
+    ⊎ (((e ≡ fault_at capture_cut (places.Octet new.place)) ⊎ (e ≡ fault_at long_capture_record (places.Octet new.place))) × MayHaveLeft old.left (λ octets. ahead_of old octets ≡ nothing_more new.skipped (Some e)))
 
 -- it answers a fault, the same one from then on
 pub record RefusesCapture (old new : CaptureState) (e : Fault) : Type 0 where
@@ -150,9 +151,9 @@ pub record RefusesCapture (old new : CaptureState) (e : Fault) : Type 0 where
 
 -- what a reader of a capture answers where it fails: 901, or 703 or 704 at an octet
 pub data IsToldByCapture (e : Fault) : Type 0 where
-  not_read : e ≡ fault_at 901 places.None → IsToldByCapture e
-  cut_off : (octet : ℕ) → e ≡ fault_at 703 (places.Octet octet) → IsToldByCapture e
-  too_long : (octet : ℕ) → e ≡ fault_at 704 (places.Octet octet) → IsToldByCapture e
+  not_read : e ≡ fault_at failed_read places.None → IsToldByCapture e
+  cut_off : (octet : ℕ) → e ≡ fault_at capture_cut (places.Octet octet) → IsToldByCapture e
+  too_long : (octet : ℕ) → e ≡ fault_at long_capture_record (places.Octet octet) → IsToldByCapture e
 
 -- what going on to the next frame does
 abbrev pub AdvancesToFrame : CaptureState → CaptureState → Result Bool Fault → Type 0
@@ -186,6 +187,6 @@ IsUnreadable {R} calls failed left asked = (last : R) × IsUnread left asked (ca
 -- why a capture isn't opened: want of memory, a source that can't be read, or its file header
 abbrev pub IsRefusedCapture : Option (List ℕ) → Type 0 → Fault → Type 0
 IsRefusedCapture left unread e =
-    (e ≡ fault_at 900 places.None)
-    ⊎ (((e ≡ fault_at 901 places.None) × unread)
-    ⊎ (((e ≡ fault_at 701 (places.Octet 0)) ⊎ (e ≡ fault_at 702 places.None)) × MayHaveLeft left (λ octets. format_of octets ≡ Err e)))
+    (e ≡ fault_at want_of_memory places.None)
+    ⊎ (((e ≡ fault_at failed_read places.None) × unread)
+    ⊎ (((e ≡ fault_at capture_format (places.Octet 0)) ⊎ (e ≡ fault_at link_type places.None)) × MayHaveLeft left (λ octets. format_of octets ≡ Err e)))

@@ -2,6 +2,7 @@
 use Rattle.std.specs.Prelude.{◌≡◌, ℕ, ◌+◌, ◌≤◌, ◌<◌, List, [], length, Some, IfSome}
 use Rattle.fx_base.specs.Device.{MayHaveLeft}
 use Rattle.fx_base.specs.Window.{Held, octets_of, HasFailed}
+use Rattle.fx_base.specs.Refusals.{capture_cut, long_capture_record}
 use Rattle.fx_pcap.specs.declared.order.Order.{Order}
 use Rattle.fx_pcap.specs.declared.stop.CaptureStop.{CaptureStop}
 use Rattle.fx_pcap.specs.declared.stop.CaptureStop.TheVariants.{Device, Cut, TooLong}
@@ -20,5 +21,5 @@ pub record HasRecord (order : Order) (n : ℕ) (held : List ℕ) : Type 0 where
 -- why no record is found
 abbrev pub IsWhyNoRecord : Order → CaptureStop → Held → Held → Type 0
 IsWhyNoRecord order Device old new = HasFailed old new
-IsWhyNoRecord order Cut old new = MayHaveLeft (octets_of old) (λ os. (0 < length os) × (record_fault order os ≡ Some 703))
-IsWhyNoRecord order TooLong old new = MayHaveLeft (octets_of old) (λ os. (0 < length os) × (record_fault order os ≡ Some 704))
+IsWhyNoRecord order Cut old new = MayHaveLeft (octets_of old) (λ os. (0 < length os) × (record_fault order os ≡ Some capture_cut))
+IsWhyNoRecord order TooLong old new = MayHaveLeft (octets_of old) (λ os. (0 < length os) × (record_fault order os ≡ Some long_capture_record))

@@ -13,6 +13,7 @@ use Rattle.fx_pcap.specs.declared.capture.RecordKind.{RecordKind}
 use Rattle.fx_pcap.specs.declared.capture.RecordKind.TheVariants as taken
 use Rattle.fx_pcap.specs.Captures.{CaptureState, HadAhead, frame_budget, CallsForFrames, GainsFrames, StopsCapture, AtFrame, AtCaptureEnd}
 use Rattle.fx_base.specs.Window.{Held}
+use Rattle.fx_base.specs.Refusals.{capture_cut, failed_read, long_capture_record}
 use Rattle.fx_pcap.specs.declared.record.TheConstants.{ROOM}
 
 pub record KeptRecord : Type 0 where
@@ -26,9 +27,9 @@ pub record KeptRecord : Type 0 where
   pub stopped : Option CaptureStop
 
 abbrev pub fault_of : ℕ → CaptureStop → Fault
-fault_of place Device = fault_at 901 places.None
-fault_of place Cut = fault_at 703 (places.Octet place)
-fault_of place TooLong = fault_at 704 (places.Octet place)
+fault_of place Device = fault_at failed_read places.None
+fault_of place Cut = fault_at capture_cut (places.Octet place)
+fault_of place TooLong = fault_at long_capture_record (places.Octet place)
 
 abbrev pub reading_of : Held → KeptRecord → CaptureState
 reading_of w k =

@@ -3,6 +3,7 @@ use Rattle.std.specs.Prelude.{◌≡◌, ℕ, zero, suc, ◌+◌, ◌-◌, ◌^�
 use Rattle.fx_base.specs.declared.fault.Fault.{Fault}
 use Rattle.fx_base.specs.declared.fault.Place.TheVariants as places
 use Rattle.fx_base.specs.Fault.{fault_at}
+use Rattle.fx_base.specs.Refusals.{capture_cut, capture_format, link_type, long_capture_record}
 use Rattle.fx_pcap.specs.declared.order.Order.{Order}
 use Rattle.fx_pcap.specs.declared.order.Order.TheVariants.{Big, Little}
 use Rattle.fx_pcap.specs.declared.content.Content.{Content}
@@ -25,10 +26,10 @@ abbrev pub link_of : ℕ → Option LinkType
 link_of n = if n == 1 then Some Ethernet else (if n == 101 then Some Ip else None)
 
 abbrev pub no_capture : Result Format Fault
-no_capture = Err (fault_at 701 (places.Octet 0))
+no_capture = Err (fault_at capture_format (places.Octet 0))
 
 abbrev pub of_link : Order → Option LinkType → Result Format Fault
-of_link order None = Err (fault_at 702 places.None)
+of_link order None = Err (fault_at link_type places.None)
 of_link order (Some link) = Ok (record { order = order; link = link })
 
 abbrev pub of_order : Option Order → List ℕ → Result Format Fault
@@ -54,9 +55,9 @@ captured_length order octets = number_in order 4 8 octets
 -- what is wrong with the first record of some octets
 abbrev pub record_fault : Order → List ℕ → Option ℕ
 record_fault order octets =
-    if nat_lt (length octets) 16 then Some 703
-    else (if nat_lt 262144 (captured_length order octets) then Some 704
-    else (if nat_lt (length octets) (16 + captured_length order octets) then Some 703 else None))
+    if nat_lt (length octets) 16 then Some capture_cut
+    else (if nat_lt 262144 (captured_length order octets) then Some long_capture_record
+    else (if nat_lt (length octets) (16 + captured_length order octets) then Some capture_cut else None))
 
 -- what a record holds: its captured octets, what they are, and when they were captured
 pub record CapturedRecord : Type 0 where

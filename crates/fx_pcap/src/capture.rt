@@ -9,7 +9,7 @@ use crate::header::{FILE_HEADER, Format, read_format};
 use crate::record::{RECORD_HEADER, ROOM, find_record};
 use crate::skipped::Skipped;
 use crate::stop::CaptureStop;
-use fx_base::{Fault, Source, Window};
+use fx_base::{Fault, Source, Window, refusals};
 use fx_boxes::Fields;
 use fx_elements::AXES;
 use std::alloc::Global;
@@ -29,9 +29,9 @@ fn fault_of_stop(place: u64, stop: CaptureStop) -> Fault
     ensures told { IsToldByCapture result }
 {
     match stop {
-        CaptureStop::Device => Fault::bare(901),
-        CaptureStop::Cut => Fault::at_octet(703, place),
-        CaptureStop::TooLong => Fault::at_octet(704, place),
+        CaptureStop::Device => Fault::bare(refusals::FAILED_READ),
+        CaptureStop::Cut => Fault::at_octet(refusals::CAPTURE_CUT, place),
+        CaptureStop::TooLong => Fault::at_octet(refusals::LONG_CAPTURE_RECORD, place),
     }
 }
 
@@ -94,7 +94,7 @@ impl<R: Source> Capture<R> {
         let Ok(()) = window.fill(FILE_HEADER) else {
             // So that the contract can speak of the source as it is now.
             window.get_ref();
-            return Err(Fault::bare(901));
+            return Err(Fault::bare(refusals::FAILED_READ));
         };
         let format = read_format(window.octets())?;
         Ok(Capture {

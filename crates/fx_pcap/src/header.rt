@@ -4,7 +4,7 @@ ghost use Rattle.fx_pcap.specs.Records as records;
 
 use crate::content::LinkType;
 use crate::order::Order;
-use fx_base::Fault;
+use fx_base::{Fault, refusals};
 
 /// The number of octets of the file header.
 pub(crate) const FILE_HEADER: usize = 24;
@@ -56,16 +56,16 @@ pub(crate) fn read_format(octets: &[u8]) -> Result<Format, Fault>
     ensures { result ≡ records.format_of octets.now }
 {
     if octets.len() < FILE_HEADER {
-        return Err(Fault::at_octet(701, 0));
+        return Err(Fault::at_octet(refusals::CAPTURE_FORMAT, 0));
     }
     let Some(order) = order_of(octets) else {
-        return Err(Fault::at_octet(701, 0));
+        return Err(Fault::at_octet(refusals::CAPTURE_FORMAT, 0));
     };
     if order.read16(octets, 4) != 2 || order.read16(octets, 6) != 4 {
-        return Err(Fault::at_octet(701, 0));
+        return Err(Fault::at_octet(refusals::CAPTURE_FORMAT, 0));
     }
     match link_of(order.read32(octets, 20)) {
         Some(link) => Ok(Format { order, link }),
-        None => Err(Fault::bare(702)),
+        None => Err(Fault::bare(refusals::LINK_TYPE)),
     }
 }

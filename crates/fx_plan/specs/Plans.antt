@@ -4,6 +4,7 @@ use Rattle.serde_json.specs.Data.{Data}
 use Rattle.fx_base.specs.declared.fault.Fault.{Fault}
 use Rattle.fx_base.specs.declared.fault.Place.TheVariants as places
 use Rattle.fx_base.specs.Fault.{fault_at}
+use Rattle.fx_base.specs.Refusals.{link_cycle, too_many_layouts}
 use Rattle.fx_walk.specs.Walk.{Refuses}
 use Rattle.fx_layout.specs.Keys.{Fits, Layout}
 use Rattle.fx_tables.specs.Limits.{layout_limit}
@@ -34,13 +35,13 @@ pub record IsCycle (network : NetworkDocument) (e : Fault) : Type 0 where
   pub are_stuck : AreStuck (net_of network) stuck
   pub one : (process : ℕ) × (process < length (net_of network).processes) × IsStuck (net_of network) process
   pub unranked : IsRanked (net_of network) → ⊥
-  pub number : e.number ≡ 204
+  pub number : e.number ≡ link_cycle
   pub text : IsTextPlace e.place (stuck_text network.devices stuck)
 
 -- the refusals of a network whose document has no other fault, in this order
 abbrev pub RefusesNetwork : NetworkDocument → Fault → Type 0
 RefusesNetwork network e =
-    ((e ≡ fault_at 207 places.None) × HasTooManyLayouts (net_of network))
+    ((e ≡ fault_at too_many_layouts places.None) × HasTooManyLayouts (net_of network))
     ⊎ ((length (layouts_of (net_of network)) ≤ layout_limit) × IsCycle network e)
 
 -- what reading a plan comes to: the network that the document means, if it has no fault at all, and else its first

@@ -3,10 +3,11 @@ ghost use Rattle.std.specs.Prelude.{◌≡◌, ◌⊎◌, ◌++◌, not, OnOk, I
 ghost use Rattle.std.specs.List.{range_with_len};
 ghost use Rattle.fx_base.specs.Fault.{fault_at};
 ghost use Rattle.fx_base.specs.declared.fault.Place.TheVariants as places;
+ghost use Rattle.fx_base.specs.Refusals.{link_cycle, want_of_memory};
 ghost use Rattle.fx_tables.specs.Network as machine;
 ghost use Rattle.fx_plan.specs.Cycles as cycles;
 
-use fx_base::{Fault, Place};
+use fx_base::{Fault, Place, refusals};
 use fx_topology::NetworkDevice;
 use std::alloc::{AllocError, Global};
 
@@ -123,14 +124,14 @@ fn cycle_text(alloc: Global, devices: &[NetworkDevice], come: &[bool]) -> Result
 /// The refusal (204) of a network of these devices whose processes don't all come, or want of memory (900) for its
 /// text.
 pub fn cycle(alloc: Global, devices: &[NetworkDevice], come: &[bool]) -> Fault
-    ensures { (result ≡ fault_at 900 places.None)
-        ⊎ ((result.number ≡ 204) × cycles.IsTextPlace result.place
+    ensures { (result ≡ fault_at want_of_memory places.None)
+        ⊎ ((result.number ≡ link_cycle) × cycles.IsTextPlace result.place
         (cycles.stuck_text devices.now (filter (λ place. not (slice_index_or come.now place false))
         (range_with_len 0 (length come.now))))) }
 {
     match cycle_text(alloc, devices, come) {
         Ok(text) => Fault {
-            number: 204,
+            number: refusals::LINK_CYCLE,
             place: Place::Text(text),
         },
         Err(error) => Fault::from(error),

@@ -2,12 +2,13 @@
 ghost use Rattle.std.specs.Prelude.{◌≡◌, ◌⊎◌, ℕ, ◌<◌, ◌≤◌, Some, IfErr, IfOk, length, position, slice_get};
 ghost use Rattle.fx_base.specs.Fault.{fault_at, IsMemory};
 ghost use Rattle.fx_base.specs.declared.fault.Place.TheVariants as places;
+ghost use Rattle.fx_base.specs.Refusals.{too_many_layouts};
 ghost use Rattle.fx_layout.specs.Keys.{Fits, same_layout};
 ghost use Rattle.fx_tables.specs.Limits.{layout_limit};
 ghost use Rattle.fx_tables.specs.Network.{layout_of};
 ghost use Rattle.fx_plan.specs.Layouts as layouts;
 
-use fx_base::Fault;
+use fx_base::{Fault, refusals};
 use fx_layout::Layout;
 use fx_tables::{Holder, LAYOUTS, Net};
 use std::alloc::Global;
@@ -28,7 +29,7 @@ fn number_in(known: &mut Vec<Layout>, layout: &Layout) -> Result<usize, Fault>
         × (slice_get known.new.items n ≡ Some layout.now)) }
     ensures few { IfOk result (λ n. length known.new.items ≤ layout_limit) }
     ensures err { IfErr result (λ e. IsMemory e
-        ⊎ ((e ≡ fault_at 207 places.None) × (layout_limit
+        ⊎ ((e ≡ fault_at too_many_layouts places.None) × (layout_limit
         < length (layouts.with_layout known.old.items layout.now)))) }
 {
     if let Some(number) = position_of(known.as_slice(), layout) {
@@ -36,7 +37,7 @@ fn number_in(known: &mut Vec<Layout>, layout: &Layout) -> Result<usize, Fault>
     }
     let number = known.len();
     if number == LAYOUTS {
-        return Err(Fault::bare(207));
+        return Err(Fault::bare(refusals::TOO_MANY_LAYOUTS));
     }
     known.push(layout.copy())?;
     Ok(number)
@@ -63,7 +64,7 @@ fn numbers_of(
     ensures fits { IfOk result (λ v. (k : ℕ) → Fits (layout_of (slice_get holders.now k))) }
     ensures few { IfOk result (λ v. length known.new.items ≤ layout_limit) }
     ensures err { IfErr result (λ e. IsMemory e
-        ⊎ ((e ≡ fault_at 207 places.None) × (layout_limit
+        ⊎ ((e ≡ fault_at too_many_layouts places.None) × (layout_limit
         < length (layouts.with_layouts known.old.items (layouts.held_layouts holders.now))))) }
 {
     let mut numbers = Vec::new(alloc);
@@ -95,7 +96,8 @@ pub fn numbering_of(alloc: Global, net: &Net) -> Result<Numbering, Fault>
     ensures fits { IfOk result (λ n. (k : ℕ) → Fits (layout_of (slice_get net.now.holders k))) }
     ensures few { IfOk result (λ n. length n.layouts.items ≤ layout_limit) }
     ensures err { IfErr result (λ e. IsMemory e
-        ⊎ ((e ≡ fault_at 207 places.None) × (layout_limit < length (layouts.layouts_of net.now)))) }
+        ⊎ ((e ≡ fault_at too_many_layouts places.None)
+        × (layout_limit < length (layouts.layouts_of net.now)))) }
 {
     let mut layouts = Vec::new(alloc);
     let numbers = numbers_of(alloc, &mut layouts, net.holders())?;

@@ -3,6 +3,7 @@ use Rattle.std.specs.Prelude.{◌≡◌, ℕ, ◌+◌, List, ◌∷◌, ◌++◌
 use Rattle.fx_base.specs.declared.fault.Fault.{Fault}
 use Rattle.fx_base.specs.declared.fault.Place.TheVariants as places
 use Rattle.fx_base.specs.Fault.{fault_at}
+use Rattle.fx_base.specs.Refusals.{refutation_step}
 use Rattle.fx_layout.specs.Keys.{Layout, Key, key_of}
 use Rattle.fx_tables.specs.declared.packet.Packet.{Packet}
 use Rattle.fx_tables.specs.declared.record.Record.{Record}
@@ -24,7 +25,7 @@ pub record IsStopped (net : Net) (classes : List Class) (packets : List Packet) 
   pub all : steps ≡ before ++ step ∷ behind
   pub runs : run net classes packets before s ≡ Ok mid
   pub refused : after net classes packets step mid ≡ Err number
-  pub fault : e ≡ fault_at 503 (places.Line (length before + 3))
+  pub fault : e ≡ fault_at refutation_step (places.Line (length before + 3))
 
 -- a packet's own record under the layout
 abbrev pub own_record : Layout → Packet → Record

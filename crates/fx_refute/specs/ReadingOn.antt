@@ -3,6 +3,7 @@ use Rattle.std.specs.Prelude.{◌≡◌, ℕ, List, [], ◌∷◌, Ok, Err}
 use Rattle.fx_base.specs.declared.fault.Fault.{Fault}
 use Rattle.fx_base.specs.Device.{MayBeLeft, MayHaveLeft}
 use Rattle.fx_base.specs.Lines.{Lines, text_lines, next_number}
+use Rattle.fx_base.specs.Refusals.{refutation_form}
 use Rattle.fx_run_text.specs.declared.text_version.TextVersion.{TextVersion}
 use Rattle.fx_run_text.specs.declared.run_line.RunLine.{RunLine}
 use Rattle.fx_run_text.specs.RunReading.{TextLine, at_line}
@@ -22,7 +23,7 @@ pub record Says (version : TextVersion) (old new : Lines) (x : RunLine) : Type 0
 
 -- the first of these lines, which come behind the line n, isn't there or says nothing
 abbrev pub FirstIsWrong : TextVersion → ℕ → Fault → List TextLine → Type 0
-FirstIsWrong version n e [] = e ≡ at_line 501 (next_number n)
+FirstIsWrong version n e [] = e ≡ at_line refutation_form (next_number n)
 FirstIsWrong version n e (l ∷ ls) = (number : ℕ) × (line_said version l ≡ Err number) × (e ≡ at_line number (next_number n))
 
 abbrev pub NextIsWrong : TextVersion → Lines → Fault → Type 0

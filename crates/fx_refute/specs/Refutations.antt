@@ -8,6 +8,7 @@ use Rattle.fx_tables.specs.declared.packet.Packet.{Packet}
 use Rattle.fx_run_text.specs.declared.step.Step.{Step}
 use Rattle.fx_tables.specs.Network.{Net}
 use Rattle.fx_base.specs.Entries.{entry_numbered}
+use Rattle.fx_base.specs.Refusals.{refutation_packet, refutation_step, run_not_complete, totals_agree}
 use Rattle.fx_tables.specs.Classes.{Class, IsOf, to_count}
 use Rattle.fx_machine.specs.Claim.{CountsEachOnce}
 use Rattle.fx_machine.specs.States.{State, opening, Complete, told_state}
@@ -55,12 +56,12 @@ pub record AreTotals (net : Net) (classes : List Class) (r : Refutation) (ran pl
 -- why nothing is refuted: the packet isn't of its class, a step isn't enabled (they begin at line 3), the run isn't
 -- complete, or its totals are the plain sums and nothing is unassigned
 pub data IsNoRefutation (net : Net) (classes : List Class) (r : Refutation) : Fault → Type 0 where
-  no_member : (IsOf r.packet (entry_numbered classes r.packet.class) → ⊥) → IsNoRefutation net classes r (fault_at 502 (places.Line 2))
+  no_member : (IsOf r.packet (entry_numbered classes r.packet.class) → ⊥) → IsNoRefutation net classes r (fault_at refutation_packet (places.Line 2))
   not_enabled : (steps : List Step) (step : Step) (behind : List Step) (s : State) (number : ℕ)
       → r.steps ≡ steps ++ step ∷ behind → ReachesState net classes (record { packet = r.packet; steps = steps }) s
       → after net classes (r.packet ∷ []) step s ≡ Err number
-      → IsNoRefutation net classes r (fault_at 503 (places.Line (length steps + 3)))
+      → IsNoRefutation net classes r (fault_at refutation_step (places.Line (length steps + 3)))
   incomplete : (last : State) → ReachesState net classes r last → (Complete last → ⊥)
-      → IsNoRefutation net classes r (fault_at 504 places.None)
+      → IsNoRefutation net classes r (fault_at run_not_complete places.None)
   agrees : (last : State) → ReachesState net classes r last → Complete last → CountsEachOnce net (packets_to_count classes r) last
-      → IsNoRefutation net classes r (fault_at 505 places.None)
+      → IsNoRefutation net classes r (fault_at totals_agree places.None)

@@ -2,6 +2,7 @@
 ghost use Rattle.std.specs.Prelude.{◌≡◌, ◌⊎◌, ◌≤◌, ◌↔◌, [], ◌∷◌, length, Ok, IfErr, IfOk, IsTrue, OnOk};
 ghost use Rattle.fx_base.specs.Fault.{fault_at, IsMemory};
 ghost use Rattle.fx_base.specs.declared.fault.Place.TheVariants as places;
+ghost use Rattle.fx_base.specs.Refusals.{refutation_packet};
 ghost use Rattle.fx_tables.specs.Classes as traffic;
 ghost use Rattle.fx_machine.specs.Limits.{step_limit};
 ghost use Rattle.fx_tables.specs.Network as network;
@@ -12,7 +13,7 @@ ghost use Rattle.fx_refute.specs.Confirming as confirming;
 ghost use Rattle.fx_refute.specs.Refutations as refutations;
 
 use crate::refutation::Refutation;
-use fx_base::{Counts, Fault};
+use fx_base::{Counts, Fault, refusals};
 use fx_collect::Totals;
 use fx_layout::{Key, Layout, Seed};
 use fx_machine::State;
@@ -36,7 +37,7 @@ fn open<'a>(
       state = states.opening net.now classes.now (packet.now ∷ []);
     })
         × traffic.IsOf packet.now (network.entry_numbered classes.now packet.now.class)) }
-    ensures err { IfErr result (λ e. ((e ≡ fault_at 502 (places.Line 2))
+    ensures err { IfErr result (λ e. ((e ≡ fault_at refutation_packet (places.Line 2))
         × (traffic.IsOf packet.now (network.entry_numbered classes.now packet.now.class) → ⊥))
         ⊎ IsMemory e) }
 {
@@ -44,8 +45,8 @@ fn open<'a>(
     match State::open(alloc, net, classes, packets) {
         Ok(state) => Ok(state),
         Err(e) => {
-            if e.number == 856 {
-                Err(Fault::at_line(502, 2))
+            if e.number == refusals::RUN_PACKET {
+                Err(Fault::at_line(refusals::REFUTATION_PACKET, 2))
             } else {
                 Err(e)
             }
@@ -67,10 +68,10 @@ fn make_steps(state: &mut State<'_>, steps: &[Step]) -> Result<(), Fault>
 {
     for place in 0..steps.len() {
         if let Err(e) = state.step(&steps[place]) {
-            if e.number == 900 {
+            if e.number == refusals::WANT_OF_MEMORY {
                 return Err(e);
             }
-            return Err(Fault::at_line(503, place as u64 + 3));
+            return Err(Fault::at_line(refusals::REFUTATION_STEP, place as u64 + 3));
         }
     }
     Ok(())
@@ -135,12 +136,12 @@ fn confirm_over(
     let mut state = open(alloc, net, classes, packet)?;
     make_steps(&mut state, refutation.steps())?;
     if !state.complete() {
-        return Err(Fault::bare(504));
+        return Err(Fault::bare(refusals::RUN_NOT_COMPLETE));
     }
     let ran = Totals::of(alloc, of_one_key(), &state)?;
     let plain = plain_sums(alloc, net, classes, packet)?;
     if agree(&ran, &plain, &layout.key_of(&packet.fields)) {
-        return Err(Fault::bare(505));
+        return Err(Fault::bare(refusals::TOTALS_AGREE));
     }
     Ok((ran, plain))
 }

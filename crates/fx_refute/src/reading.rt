@@ -8,7 +8,7 @@ ghost use Rattle.fx_refute.specs.RefutationReading.{MayGive, MayReadRefutation, 
 ghost use Rattle.fx_refute.specs.Refutations as refutations;
 
 use crate::refutation::{Refutation, STEPS};
-use fx_base::{Fault, LineReader, Source};
+use fx_base::{Fault, LineReader, Source, refusals};
 use fx_run_text::{RunLine, Step, TextVersion, read_run_line};
 use fx_tables::Packet;
 use std::alloc::Global;
@@ -30,7 +30,7 @@ fn read_first<R: Source>(lines: &mut LineReader<R>) -> Result<TextVersion, Fault
         ⊎ MayReadRefutation lines.old (Err e)) }
 {
     if !lines.advance()? {
-        return Err(Fault::at_line(501, lines.number().saturating_add(1)));
+        return Err(Fault::at_line(refusals::REFUTATION_FORM, lines.number().saturating_add(1)));
     }
     let line = lines.line();
     if line.ended && is_line(line.bytes, b"once-refutation 1") {
@@ -38,7 +38,7 @@ fn read_first<R: Source>(lines: &mut LineReader<R>) -> Result<TextVersion, Fault
     } else if line.ended && is_line(line.bytes, b"once-refutation 2") {
         Ok(TextVersion::Two)
     } else {
-        Err(Fault::at_line(501, line.number))
+        Err(Fault::at_line(refusals::REFUTATION_FORM, line.number))
     }
 }
 
@@ -57,15 +57,15 @@ fn read_next<R: Source>(
         ⊎ (Fails lines.old lines.new e ⊎ NextIsWrong version lines.old e)) }
 {
     if !lines.advance()? {
-        return Err(Fault::at_line(501, lines.number().saturating_add(1)));
+        return Err(Fault::at_line(refusals::REFUTATION_FORM, lines.number().saturating_add(1)));
     }
     let line = lines.line();
     if !line.ended {
-        return Err(Fault::at_line(501, line.number));
+        return Err(Fault::at_line(refusals::REFUTATION_FORM, line.number));
     }
     match read_run_line(alloc, version, line.bytes)? {
         Some(x) => Ok(x),
-        None => Err(Fault::at_line(501, line.number)),
+        None => Err(Fault::at_line(refusals::REFUTATION_FORM, line.number)),
     }
 }
 
@@ -79,7 +79,7 @@ fn read_end<R: Source>(lines: &mut LineReader<R>) -> Result<(), Fault>
         (Err e))) }
 {
     if lines.advance()? {
-        return Err(Fault::at_line(501, lines.number()));
+        return Err(Fault::at_line(refusals::REFUTATION_FORM, lines.number()));
     }
     Ok(())
 }
@@ -101,8 +101,8 @@ fn read_packet<R: Source>(
 {
     match read_next(alloc, version, lines)? {
         RunLine::Packet(packet) => return Ok(packet),
-        RunLine::Step(_) => return Err(Fault::at_line(501, lines.number())),
-        RunLine::End => return Err(Fault::at_line(501, lines.number())),
+        RunLine::Step(_) => return Err(Fault::at_line(refusals::REFUTATION_FORM, lines.number())),
+        RunLine::End => return Err(Fault::at_line(refusals::REFUTATION_FORM, lines.number())),
     }
 }
 
@@ -125,7 +125,7 @@ fn read_steps<R: Source>(
         match read_next(alloc, version, lines)? {
             RunLine::Step(step) => {
                 if steps.len() >= STEPS {
-                    return Err(Fault::at_line(501, lines.number()));
+                    return Err(Fault::at_line(refusals::REFUTATION_FORM, lines.number()));
                 }
                 steps.push(step)?;
             }
@@ -133,7 +133,10 @@ fn read_steps<R: Source>(
                 read_end(lines)?;
                 return Ok(Refutation::new(packet, steps));
             }
-            RunLine::Packet(_) => return Err(Fault::at_line(501, lines.number())),
+            RunLine::Packet(_) => return Err(Fault::at_line(
+                refusals::REFUTATION_FORM,
+                lines.number(),
+            )),
         }
     }
 }

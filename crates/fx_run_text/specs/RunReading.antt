@@ -26,6 +26,7 @@ use Rattle.fx_run_text.specs.declared.text_version.TextVersion.TheVariants.{One,
 use Rattle.fx_run_text.specs.declared.run_line.RunLine.{RunLine}
 use Rattle.fx_run_text.specs.declared.run_line.RunLine.TheVariants as line
 use Rattle.fx_base.specs.Entries.{entry_numbered}
+use Rattle.fx_base.specs.Refusals.{long_line, run_header, run_form, run_packet}
 use Rattle.fx_tables.specs.Classes.{Class, is_of}
 use Rattle.fx_run_text.specs.RunText.{Run}
 
@@ -155,12 +156,12 @@ abbrev pub at_line : ℕ → ℕ → Fault
 at_line number n = fault_at number (places.Line n)
 
 abbrev pub well_formed : Option RunLine → Result RunLine ℕ
-well_formed None = Err 855
+well_formed None = Err run_form
 well_formed (Some x) = Ok x
 
 -- what a line says, or the number of its fault
 abbrev pub said : TextVersion → TextLine → Result RunLine ℕ
-said version l = if nat_lt 4096 (length l.0) then Err 903 else if l.1 then well_formed (line_of version (words l.0)) else Err 855
+said version l = if nat_lt 4096 (length l.0) then Err long_line else if l.1 then well_formed (line_of version (words l.0)) else Err run_form
 
 abbrev pub no_run : Run
 no_run = record { packets = []; steps = [] }
@@ -173,12 +174,12 @@ with_step run s = record { packets = run.packets; steps = run.steps ++ s ∷ [] 
 
 -- the fault of a packet line: 855 behind a step, 856 where the packet isn't of its class
 abbrev pub packet_fault : List Class → Run → Packet → Option ℕ
-packet_fault classes run p = if length run.steps == 0 then (if is_of p (entry_numbered classes p.class) then None else Some 856) else Some 855
+packet_fault classes run p = if length run.steps == 0 then (if is_of p (entry_numbered classes p.class) then None else Some run_packet) else Some run_form
 
 -- no line comes behind the last, which has the number n
 abbrev pub end_of_lines : ℕ → Run → List TextLine → Result Run Fault
 end_of_lines n run [] = Ok run
-end_of_lines n run (l ∷ ls) = Err (at_line (if nat_lt 4096 (length l.0) then 903 else 855) (next_number n))
+end_of_lines n run (l ∷ ls) = Err (at_line (if nat_lt 4096 (length l.0) then long_line else run_form) (next_number n))
 
 -- the fault of this number at the line n, if there is one
 abbrev pub unless : Option ℕ → ℕ → Result Run Fault → Result Run Fault
@@ -194,17 +195,17 @@ from_line classes n run (Ok line.End) ls next = end_of_lines n run ls
 
 -- the run that the lines of such a text behind the line n complete, or the first fault
 abbrev pub behind : TextVersion → List Class → ℕ → Run → List TextLine → Result Run Fault
-behind version classes n run [] = Err (at_line 855 (next_number n))
+behind version classes n run [] = Err (at_line run_form (next_number n))
 behind version classes n run (l ∷ ls) = from_line classes (next_number n) run (said version l) ls (λ r. behind version classes (next_number n) r ls)
 
 -- the run whose text has these lines, the first of which comes behind the line n, or the first fault
 abbrev pub run_in : List Class → ℕ → List TextLine → Result Run Fault
-run_in classes n [] = Err (at_line 855 (next_number n))
+run_in classes n [] = Err (at_line run_form (next_number n))
 run_in classes n (l ∷ ls) =
-    if nat_lt 4096 (length l.0) then Err (at_line 903 (next_number n))
+    if nat_lt 4096 (length l.0) then Err (at_line long_line (next_number n))
     else if l.1 && bytes_eq l.0 (codes "once-run 1") then behind One classes (next_number n) no_run ls
     else if l.1 && bytes_eq l.0 (codes "once-run 2") then behind Two classes (next_number n) no_run ls
-    else Err (at_line 854 (next_number n))
+    else Err (at_line run_header (next_number n))
 
 -- what reading comes to, of a text that the reader of lines may have left
 abbrev pub MayReadRun : List Class → Lines → Result Run Fault → Type 0

@@ -3,6 +3,7 @@ ghost use Rattle.std.specs.Prelude.{◌≡◌, ◌==◌, ℕ, OnOk, IfSome, IfNo
 ghost use Rattle.fx_run_text.specs.RunReading.{no_run, with_packet, with_step, packet_fault};
 
 use crate::step::Step;
+use fx_base::refusals;
 use fx_tables::{Classes, Packet};
 use std::alloc::{AllocError, Global};
 use std::marker::Model;
@@ -77,12 +78,12 @@ impl Run {
         ensures { result ≡ packet_fault classes.now self.now packet.now }
     {
         if !self.steps.is_empty() {
-            return Some(855);
+            return Some(refusals::RUN_FORM);
         }
         if classes.contains(packet) {
             None
         } else {
-            Some(856)
+            Some(refusals::RUN_PACKET)
         }
     }
 }

@@ -10,7 +10,7 @@ ghost use Rattle.fx_run_text.specs.RunReading.{run_in, MayEnd, MayReadRun, MayRe
 use crate::run::Run;
 use crate::run_line::{RunLine, read_run_line};
 use crate::text_version::TextVersion;
-use fx_base::{Fault, LineReader, Source};
+use fx_base::{Fault, LineReader, Source, refusals};
 use fx_elements::is_word;
 use fx_tables::Classes;
 use std::alloc::Global;
@@ -24,7 +24,7 @@ fn read_first<R: Source>(lines: &mut LineReader<R>) -> Result<TextVersion, Fault
         ⊎ ((classes : List Class) → MayReadRun classes lines.old (Err e))) }
 {
     if !lines.advance()? {
-        return Err(Fault::at_line(855, lines.number().saturating_add(1)));
+        return Err(Fault::at_line(refusals::RUN_FORM, lines.number().saturating_add(1)));
     }
     let line = lines.line();
     if line.ended && is_word(line.bytes, b"once-run 1") {
@@ -32,7 +32,7 @@ fn read_first<R: Source>(lines: &mut LineReader<R>) -> Result<TextVersion, Fault
     } else if line.ended && is_word(line.bytes, b"once-run 2") {
         Ok(TextVersion::Two)
     } else {
-        Err(Fault::at_line(854, line.number))
+        Err(Fault::at_line(refusals::RUN_HEADER, line.number))
     }
 }
 
@@ -52,15 +52,15 @@ fn read_next<R: Source>(
         → MayReadBehind version classes lines.old run (Err e)))) }
 {
     if !lines.advance()? {
-        return Err(Fault::at_line(855, lines.number().saturating_add(1)));
+        return Err(Fault::at_line(refusals::RUN_FORM, lines.number().saturating_add(1)));
     }
     let line = lines.line();
     if !line.ended {
-        return Err(Fault::at_line(855, line.number));
+        return Err(Fault::at_line(refusals::RUN_FORM, line.number));
     }
     match read_run_line(alloc, version, line.bytes)? {
         Some(x) => Ok(x),
-        None => Err(Fault::at_line(855, line.number)),
+        None => Err(Fault::at_line(refusals::RUN_FORM, line.number)),
     }
 }
 
@@ -72,7 +72,7 @@ fn read_end<R: Source>(lines: &mut LineReader<R>) -> Result<(), Fault>
         ⊎ ((run : Run) → MayEnd lines.old run (Err e))) }
 {
     if lines.advance()? {
-        return Err(Fault::at_line(855, lines.number()));
+        return Err(Fault::at_line(refusals::RUN_FORM, lines.number()));
     }
     Ok(())
 }

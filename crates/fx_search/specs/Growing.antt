@@ -12,6 +12,7 @@ use Rattle.fx_boxes.specs.Boxes.{IsInside}
 use Rattle.fx_tables.specs.Classes.{Class}
 use Rattle.fx_tables.specs.Network.{Net}
 use Rattle.fx_base.specs.Entries.{entry_numbered}
+use Rattle.fx_base.specs.Refusals.{search_too_large, want_of_memory}
 use Rattle.fx_leaf.specs.declared.judgement.Judgement.{Judgement}
 use Rattle.fx_leaf.specs.declared.judgement.Judgement.TheVariants as judged
 use Rattle.fx_leaf.specs.Answers.{NothingCuts}
@@ -67,7 +68,7 @@ IsGrown net targets version most items lines (Some a) = IsWrongAt net a × ((res
 
 -- for want of memory, or since what is needed is too large
 abbrev pub IsGivenUp : Net → List Target → ℕ → Fault → Type 0
-IsGivenUp net targets most e = (e ≡ fault_at 900 places.None) ⊎ ((e ≡ fault_at 601 places.None) × IsTooLarge net targets most)
+IsGivenUp net targets most e = (e ≡ fault_at want_of_memory places.None) ⊎ ((e ≡ fault_at search_too_large places.None) × IsTooLarge net targets most)
 
 -- the leaf that is sound for a region, by what is said of it, if it is of the kind that is wanted
 abbrev pub leaf_item : Judgement → Bool → Option Item

@@ -17,11 +17,12 @@ ghost use Rattle.fx_search.specs.Growing.{leaf_item, least_packet, IsGrowing, Is
 ghost use Rattle.fx_tables.specs.Classes.{IsOf, path, exempts, Class as OfClass};
 ghost use Rattle.fx_tables.specs.Network.{Net};
 ghost use Rattle.fx_base.specs.Entries.{entry_numbered};
+ghost use Rattle.fx_base.specs.Refusals.{search_too_large};
 ghost use Rattle.fx_steps.specs.WrongRun.{HasNoRun};
 
 use crate::found::Found;
 use crate::growing::{Ahead, Growth, leaf};
-use fx_base::Fault;
+use fx_base::{Fault, refusals};
 use fx_cert::{Item, Version};
 use fx_check::{certificates_count_once, tables_of};
 use fx_leaf::{Judgement, Scratch, Tables};
@@ -84,7 +85,7 @@ fn take<'a>(
     let judgement = here.judge(scratch, tables);
     if let Judgement::Cut { axis, at } = judgement {
         if growth.lines >= most || here.depth >= DEPTHS {
-            return Err(Fault::bare(601));
+            return Err(Fault::bare(refusals::SEARCH_TOO_LARGE));
         }
         growth.split(here, axis, at)?;
         return Ok(true);
@@ -93,7 +94,7 @@ fn take<'a>(
         return Ok(false);
     };
     if growth.lines >= most {
-        return Err(Fault::bare(601));
+        return Err(Fault::bare(refusals::SEARCH_TOO_LARGE));
     }
     growth.add(here, item)?;
     Ok(true)
@@ -144,7 +145,7 @@ fn refute(
     ensures settles { Lies classes.now here.now
         → IfOk result (found.Settles tables.now.net classes.now) }
     ensures err { IfErr result (λ e. IsMemory e
-        ⊎ ((e ≡ fault_at 601 places.None)
+        ⊎ ((e ≡ fault_at search_too_large places.None)
         × HasNoRun tables.now.net here.now.region.low (path classes.now (least_packet here.now))
         (exempts (entry_numbered classes.now here.now.target.class)))) }
 {
@@ -152,7 +153,7 @@ fn refute(
     let packet = here.least_packet();
     match wrong_run(alloc, tables, classes, &packet)? {
         Some(steps) => Ok(Found::Refutation(Refutation::new(packet, steps))),
-        None => Err(Fault::bare(601)),
+        None => Err(Fault::bare(refusals::SEARCH_TOO_LARGE)),
     }
 }
 

@@ -3,6 +3,7 @@ use Rattle.std.specs.Prelude.{◌≡◌, ◌∷◌, ℕ, zero, suc, ◌+◌, ◌
 use Rattle.fx_base.specs.Fault.{fault_at}
 use Rattle.fx_base.specs.declared.fault.Fault.{Fault}
 use Rattle.fx_base.specs.declared.fault.Place.TheVariants as places
+use Rattle.fx_base.specs.Refusals.{want_of_memory}
 use Rattle.fx_tables.specs.declared.record.Record.{Record}
 use Rattle.fx_wire.specs.Messages.{front, needs_more, complete, refusal}
 use Rattle.fx_session.specs.Messages.{Known, message_read, without_domains}
@@ -58,7 +59,7 @@ behind records st = record { known = known_behind records st.known; place = st.p
 
 -- a fault stands at the first octet of the message that is refused, want of memory nowhere
 abbrev pub fault_of : ℕ → ℕ → Fault
-fault_of place number = if number == 900 then fault_at 900 places.None else fault_at number (places.Octet place)
+fault_of place number = if number == want_of_memory then fault_at want_of_memory places.None else fault_at number (places.Octet place)
 
 abbrev pub answer_of : ℕ → Option ℕ → Result (Unit {0}) Fault
 answer_of place None = Ok tt

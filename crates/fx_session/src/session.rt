@@ -4,11 +4,12 @@ ghost use Rattle.fx_tables.specs.declared.record.Record.{Record};
 ghost use Rattle.fx_session.specs.StreamFaults.{number_of};
 ghost use Rattle.fx_session.specs.Streams as streams;
 ghost use Rattle.fx_session.specs.declared.stream_fault.StreamFault.TheVariants as faults;
+ghost use Rattle.fx_base.specs.Refusals.{want_of_memory};
 
 use crate::front::remove_front;
 use crate::known::Known;
 use crate::stream_fault::StreamFault;
-use fx_base::Fault;
+use fx_base::{Fault, refusals};
 use fx_tables::Record;
 use fx_wire::{Parsed, parse};
 use std::alloc::Global;
@@ -85,7 +86,7 @@ fn fault_of(place: u64, fault: StreamFault) -> Fault
     ensures { result ≡ streams.fault_of place (number_of fault) }
 {
     match fault {
-        StreamFault::OutOfMemory => Fault::bare(900),
+        StreamFault::OutOfMemory => Fault::bare(refusals::WANT_OF_MEMORY),
         _ => Fault::at_octet(fault.number(), place),
     }
 }
@@ -114,10 +115,10 @@ impl Session {
     /// later call; the records of the messages before it wait on, and there are none of the refused message.
     pub fn feed(&mut self, piece: &[u8]) -> Result<(), Fault>
         ensures answer { result ≡ streams.answer_of self.new.place self.new.fault }
-        ensures fed { self.new.fault ≢ Some 900
+        ensures fed { self.new.fault ≢ Some want_of_memory
             → self.new ≡ streams.after_piece self.old piece.now }
         ensures again { IsSome self.old.fault → self.new ≡ self.old }
-        ensures starves { self.old.fault ≡ None → self.new.fault ≡ Some 900
+        ensures starves { self.old.fault ≡ None → self.new.fault ≡ Some want_of_memory
             → streams.Starves self.old piece.now self.new }
     {
         if let Some(fault) = self.fault {

@@ -2,6 +2,7 @@
 ghost use Rattle.std.specs.Prelude.{◌≡◌};
 ghost use Rattle.fx_session.specs.StreamFaults.{number_of};
 
+use fx_base::refusals;
 use fx_wire::Malformed;
 use std::alloc::{AllocError, AllocFailed};
 
@@ -31,12 +32,12 @@ impl StreamFault {
     {
         match self {
             StreamFault::Malformed(why) => why.number(),
-            StreamFault::TemplateIdInUse => 616,
-            StreamFault::NoTemplate => 617,
-            StreamFault::CounterLength => 618,
-            StreamFault::CutRecord => 619,
-            StreamFault::PrefixLength => 620,
-            StreamFault::OutOfMemory => 900,
+            StreamFault::TemplateIdInUse => refusals::TEMPLATE_CHANGED,
+            StreamFault::NoTemplate => refusals::NO_TEMPLATE,
+            StreamFault::CounterLength => refusals::TEMPLATE_COUNTER_LENGTH,
+            StreamFault::CutRecord => refusals::RECORD_PAST_SET,
+            StreamFault::PrefixLength => refusals::PREFIX_LENGTH,
+            StreamFault::OutOfMemory => refusals::WANT_OF_MEMORY,
         }
     }
 }

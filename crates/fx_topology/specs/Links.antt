@@ -12,6 +12,7 @@ use Rattle.fx_config.specs.declared.exporting_process.ExportingProcess.{Exportin
 use Rattle.fx_topology.specs.Limits.{link_limit}
 use Rattle.fx_topology.specs.declared.link.NamedLink.{NamedLink}
 use Rattle.fx_topology.specs.declared.network_device.NetworkDevice.{NetworkDevice}
+use Rattle.fx_base.specs.Refusals.{linked_twice, unknown_link_end}
 
 abbrev pub link_of : Data → NamedLink
 link_of d = record {
@@ -65,8 +66,8 @@ link_rows devices earlier =
     ∷ required_row (codes "destination") name_faults
     ∷ required_row (codes "toDevice") name_faults
     ∷ required_row (codes "toProcess") name_faults
-    ∷ then_check (λ up d. fault_if (not (has_ends devices (link_of d))) 201 up)
-    ∷ then_check (λ up d. fault_if (starts_there earlier (link_of d)) 202 up)
+    ∷ then_check (λ up d. fault_if (not (has_ends devices (link_of d))) unknown_link_end up)
+    ∷ then_check (λ up d. fault_if (starts_there earlier (link_of d)) linked_twice up)
     ∷ []
 
 abbrev pub link_faults : List NetworkDevice → List NamedLink → List ℕ → Data → List FoundFault

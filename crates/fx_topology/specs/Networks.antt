@@ -3,6 +3,7 @@ use Rattle.std.specs.Prelude.{ℕ, List, [], ◌∷◌, codes, map, nat_lt, Opti
 use Rattle.std.specs.Option.{option_map}
 use Rattle.serde_json.specs.Data.{Data}
 use Rattle.fx_base.specs.Entries.{entry_numbered}
+use Rattle.fx_base.specs.Refusals.{too_many_entries}
 use Rattle.fx_config.specs.declared.ipfix.Device.{Device}
 use Rattle.fx_walk.specs.Pointer.{below}
 use Rattle.fx_walk.specs.Walk.{FoundFault, Row, object_faults, required_row, then_check, fault_if, member_of}
@@ -22,7 +23,7 @@ devices_of d = map network_device_of (items_of (member_of (codes "devices") d))
 abbrev pub network_rows : List NetworkDevice → List Row
 network_rows devices =
     required_entries device_limit (codes "devices") network_device_faults (λ d. (network_device_of d).name)
-    ∷ then_check (λ up d. fault_if (nat_lt process_limit (process_count devices)) 115 (below up (codes "devices")))
+    ∷ then_check (λ up d. fault_if (nat_lt process_limit (process_count devices)) too_many_entries (below up (codes "devices")))
     ∷ links_row devices
     ∷ required_row (codes "report") (report_faults devices)
     ∷ []

@@ -13,6 +13,7 @@ use Rattle.fx_topology.specs.declared.report.Report.{Report}
 use Rattle.fx_topology.specs.declared.network_device.NetworkDevice.{NetworkDevice}
 use Rattle.fx_walk.specs.RequiredLists.{required_items}
 use Rattle.fx_topology.specs.Links.{device_named, has_collecting_process}
+use Rattle.fx_base.specs.Refusals.{report_key, unknown_report_process}
 
 -- ---- its key
 
@@ -42,8 +43,8 @@ report_rows devices =
     required_row (codes "device") name_faults
     ∷ required_row (codes "collectingProcess") name_faults
     ∷ required_items key_field_limit (codes "key") key_field_faults
-    ∷ then_check (λ up d. fault_if (not (has_place devices (report_of d))) 205 up)
-    ∷ then_check (λ up d. fault_if (not (is_some (key_layout (report_of d).key))) 206 up)
+    ∷ then_check (λ up d. fault_if (not (has_place devices (report_of d))) unknown_report_process up)
+    ∷ then_check (λ up d. fault_if (not (is_some (key_layout (report_of d).key))) report_key up)
     ∷ []
 
 abbrev pub report_faults : List NetworkDevice → List ℕ → Data → List FoundFault

@@ -5,13 +5,14 @@ ghost use Rattle.fx_walk.specs.Pointer.{pointer};
 ghost use Rattle.fx_walk.specs.Walk.{Reads, fault_if, member_of};
 ghost use Rattle.fx_walk.specs.Lists.{items_of};
 ghost use Rattle.fx_topology.specs.Links.{has_ends, starts_there, link_faults, link_of, links_faults, links_row};
+ghost use Rattle.fx_base.specs.Refusals.{linked_twice, unknown_link_end};
 
 use crate::ends::has_ends;
 use crate::limits::LINKS;
 use crate::link::NamedLink;
 use crate::link_table::LinkTable;
 use crate::network_device::NetworkDevice;
-use fx_base::{Fault, Name};
+use fx_base::{Fault, Name, refusals};
 use fx_walk::{DocumentPath, items_in, object_of, refusal, refuse_if, required_member};
 use serde_json::Value;
 use std::alloc::Global;
@@ -23,10 +24,16 @@ fn ends_are_there(
     devices: &[NetworkDevice],
     link: &NamedLink,
 ) -> Result<(), Fault>
-    ensures { Reads (fault_if (not (has_ends devices.now link.now)) 201 (pointer path.now)) tt
+    ensures { Reads (fault_if (not (has_ends devices.now link.now)) unknown_link_end
+        (pointer path.now)) tt
         result }
 {
-    refuse_if(alloc, path, 201, !has_ends(devices, link))
+    refuse_if(
+        alloc,
+        path,
+        refusals::UNKNOWN_LINK_END,
+        !has_ends(devices, link),
+    )
 }
 
 /// Puts a link at the path behind these. Refuses it where one of them leads from the same destination (202).
@@ -36,12 +43,13 @@ fn add_alone(
     earlier: &mut LinkTable,
     link: NamedLink,
 ) -> Result<(), Fault>
-    ensures reads { Reads (fault_if (starts_there earlier.old link) 202 (pointer path.now)) tt
+    ensures reads { Reads (fault_if (starts_there earlier.old link) linked_twice (pointer path.now))
+        tt
         result }
     ensures links { OnOk result (earlier.new ≡ earlier.old ++ link ∷ []) }
 {
     let alone = earlier.add(link)?;
-    refuse_if(alloc, path, 202, !alone)
+    refuse_if(alloc, path, refusals::LINKED_TWICE, !alone)
 }
 
 /// Puts the link that stands at the path behind these: 201 where one of its ends isn't there, 202 where an earlier
@@ -122,6 +130,6 @@ pub fn links_member(
             let items = items_in(alloc, &path, value, 0, LINKS)?;
             links_of(alloc, &path, items, devices)
         }
-        None => Err(refusal(alloc, 103, path)),
+        None => Err(refusal(alloc, refusals::MISSING_MEMBER, path)),
     }
 }

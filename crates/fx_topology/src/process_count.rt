@@ -4,10 +4,11 @@ ghost use Rattle.fx_walk.specs.Pointer.{below, pointer};
 ghost use Rattle.fx_walk.specs.Walk.{Reads, fault_if};
 ghost use Rattle.fx_topology.specs.Limits.{process_limit};
 ghost use Rattle.fx_topology.specs.NetworkDevices.{process_count};
+ghost use Rattle.fx_base.specs.Refusals.{too_many_entries};
 
 use crate::limits::PROCESSES;
 use crate::network_device::NetworkDevice;
-use fx_base::Fault;
+use fx_base::{Fault, refusals};
 use fx_walk::{DocumentPath, refuse_if};
 use std::alloc::Global;
 
@@ -33,9 +34,14 @@ pub fn processes_are_few(
     path: &DocumentPath<'_>,
     devices: &[NetworkDevice],
 ) -> Result<(), Fault>
-    ensures { Reads (fault_if (nat_lt process_limit (process_count devices.now)) 115
+    ensures { Reads (fault_if (nat_lt process_limit (process_count devices.now)) too_many_entries
         (below (pointer path.now) (codes "devices"))) tt result }
 {
     let path = DocumentPath::Member(path, "devices");
-    refuse_if(alloc, &path, 115, are_too_many(devices))
+    refuse_if(
+        alloc,
+        &path,
+        refusals::TOO_MANY_ENTRIES,
+        are_too_many(devices),
+    )
 }

@@ -4,12 +4,13 @@ ghost use Rattle.serde_json.specs.View.{view};
 ghost use Rattle.fx_walk.specs.Pointer.{pointer};
 ghost use Rattle.fx_walk.specs.Walk.{Reads, fault_if, member_of, required_row};
 ghost use Rattle.fx_topology.specs.Reports.{has_place, key_layout, report_faults, report_of};
+ghost use Rattle.fx_base.specs.Refusals.{report_key, unknown_report_process};
 
 use crate::ends::has_collecting_process;
 use crate::key_layout::layout_of;
 use crate::limits::KEY_FIELDS;
 use crate::network_device::NetworkDevice;
-use fx_base::{Fault, Name};
+use fx_base::{Fault, Name, refusals};
 use fx_config::KeyField;
 use fx_layout::Layout;
 use fx_walk::{
@@ -45,20 +46,22 @@ fn process_is_there(
     devices: &[NetworkDevice],
     report: &Report,
 ) -> Result<(), Fault>
-    ensures { Reads (fault_if (not (has_place devices.now report.now)) 205 (pointer path.now)) tt
+    ensures { Reads (fault_if (not (has_place devices.now report.now)) unknown_report_process
+        (pointer path.now)) tt
         result }
 {
     let there = has_collecting_process(devices, &report.device, &report.collecting_process);
-    refuse_if(alloc, path, 205, !there)
+    refuse_if(alloc, path, refusals::UNKNOWN_REPORT_PROCESS, !there)
 }
 
 /// Refuses a report at the path with a key field that stands for no part of an axis, or with an axis twice (206).
 fn key_is_axes(alloc: Global, path: &DocumentPath<'_>, report: &Report) -> Result<(), Fault>
-    ensures { Reads (fault_if (not (is_some (key_layout report.now.key))) 206 (pointer path.now)) tt
+    ensures { Reads (fault_if (not (is_some (key_layout report.now.key))) report_key
+        (pointer path.now)) tt
         result }
 {
     let fails = report.layout().is_none();
-    refuse_if(alloc, path, 206, fails)
+    refuse_if(alloc, path, refusals::REPORT_KEY, fails)
 }
 
 /// The report that stands at the path, in a network of these devices.
@@ -98,6 +101,6 @@ pub fn report_member(
 {
     match object.get("report") {
         Some(value) => report_at(alloc, &DocumentPath::Member(path, "report"), value, devices),
-        None => Err(refusal(alloc, 103, path)),
+        None => Err(refusal(alloc, refusals::MISSING_MEMBER, path)),
     }
 }

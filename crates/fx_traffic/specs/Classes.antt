@@ -11,6 +11,7 @@ use Rattle.fx_traffic.specs.Lists.{list_faults}
 use Rattle.fx_traffic.specs.Regions.{region_faults, region_given}
 use Rattle.fx_traffic.specs.Crossings.{path_faults, path_of}
 use Rattle.fx_traffic.specs.Limits.{class_limit, path_limit}
+use Rattle.fx_base.specs.Refusals.{traffic_value}
 
 -- ---- a class, in a network whose devices have these names
 
@@ -19,7 +20,7 @@ paths_faults devices = list_faults 1 path_limit (λ up ds. items_faults (path_fa
 
 -- an empty type: being there it says that the class is exempt
 abbrev pub exempt_faults : List ℕ → Data → List FoundFault
-exempt_faults up d = fault_if (not (is_empty_type d)) 302 up
+exempt_faults up d = fault_if (not (is_empty_type d)) traffic_value up
 
 abbrev pub class_rows : List (List ℕ) → List (List ℕ) → List Row
 class_rows devices earlier =

@@ -10,6 +10,7 @@ use Rattle.fx_tables.specs.declared.traffic.Crossing.{Crossing}
 use Rattle.fx_traffic.specs.Texts.{text_that, name_faults}
 use Rattle.fx_traffic.specs.Lists.{list_faults}
 use Rattle.fx_traffic.specs.Limits.{crossing_limit}
+use Rattle.fx_base.specs.Refusals.{unknown_device}
 
 -- ---- a crossing's members
 
@@ -19,7 +20,7 @@ number_in devices name = option_map (λ place. suc place) (place_in devices name
 
 -- a name that one of the devices has
 abbrev pub device_faults : List (List ℕ) → List ℕ → Data → List FoundFault
-device_faults devices up d = name_faults up d ++ fault_if (not (is_some (number_in devices (text_of d)))) 303 up
+device_faults devices up d = name_faults up d ++ fault_if (not (is_some (number_in devices (text_of d)))) unknown_device up
 
 abbrev pub number_of : List (List ℕ) → Data → ℕ
 number_of devices d = unwrap_or (number_in devices (text_of d)) 0

@@ -12,7 +12,7 @@ ghost use Rattle.fx_traffic.specs.Classes.{class_faults, exempt_faults, class_na
 use crate::limits::CLASSES;
 use crate::path::read_paths;
 use crate::region::{read_region, whole};
-use fx_base::Fault;
+use fx_base::{Fault, refusals};
 use fx_boxes::Region;
 use fx_tables::{Class, Path};
 use fx_walk::{
@@ -46,7 +46,7 @@ fn paths_member<T: Named>(
 {
     match object.get("paths") {
         Some(value) => read_paths(alloc, &DocumentPath::Member(path, "paths"), value, devices),
-        None => Err(refusal(alloc, 103, path)),
+        None => Err(refusal(alloc, refusals::MISSING_MEMBER, path)),
     }
 }
 
@@ -60,7 +60,11 @@ fn exempt_member(alloc: Global, path: &DocumentPath<'_>, object: &Value) -> Resu
             if is_empty_type(value) {
                 Ok(true)
             } else {
-                Err(refusal(alloc, 302, &DocumentPath::Member(path, "exempt")))
+                Err(refusal(
+                    alloc,
+                    refusals::TRAFFIC_VALUE,
+                    &DocumentPath::Member(path, "exempt"),
+                ))
             }
         }
         None => Ok(false),
@@ -80,7 +84,14 @@ fn read_class<T: Named>(
     ensures names { OnOk result (earlier.new ≡ earlier.old ++ class_name (view value.now) ∷ []) }
 {
     object_of(alloc, path, value, &["name", "region", "paths", "exempt"])?;
-    name_member_by(alloc, path, value, earlier, 302, 301)?;
+    name_member_by(
+        alloc,
+        path,
+        value,
+        earlier,
+        refusals::TRAFFIC_VALUE,
+        refusals::CLASS_TWICE,
+    )?;
     let region = region_member(alloc, path, value)?;
     let paths = paths_member(alloc, path, value, devices)?;
     let exempt = exempt_member(alloc, path, value)?;
@@ -120,6 +131,14 @@ pub fn read_list<T: Named>(
         (view value.now)) (map (class_of (map T.name devices.now)) (items_of (view value.now)))
         result }
 {
-    let items = items_by(alloc, path, value, 0, CLASSES, 304, 305)?;
+    let items = items_by(
+        alloc,
+        path,
+        value,
+        0,
+        CLASSES,
+        refusals::NO_PATH,
+        refusals::TOO_MUCH_TRAFFIC,
+    )?;
     classes_of(alloc, path, items, devices)
 }

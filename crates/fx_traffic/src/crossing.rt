@@ -9,7 +9,7 @@ ghost use Rattle.fx_traffic.specs.Crossings.{number_in, number_of, device_faults
 
 use crate::list::FromValueAmong;
 use crate::text::read_name;
-use fx_base::{Fault, Name};
+use fx_base::{Fault, Name, refusals};
 use fx_tables::Crossing;
 use fx_walk::{DocumentPath, Named, object_of, place_of, refusal};
 use serde_json::Value;
@@ -36,7 +36,7 @@ fn device_at<T: Named>(
     let name = read_name(alloc, path, value)?;
     match number_in(devices, &name) {
         Some(number) => Ok(number),
-        None => Err(refusal(alloc, 303, path)),
+        None => Err(refusal(alloc, refusals::UNKNOWN_DEVICE, path)),
     }
 }
 
@@ -52,7 +52,7 @@ fn device_member<T: Named>(
 {
     match object.get("device") {
         Some(value) => device_at(alloc, &DocumentPath::Member(path, "device"), value, devices),
-        None => Err(refusal(alloc, 103, path)),
+        None => Err(refusal(alloc, refusals::MISSING_MEMBER, path)),
     }
 }
 
@@ -62,7 +62,7 @@ fn interface_member(alloc: Global, path: &DocumentPath<'_>, object: &Value) -> R
 {
     match object.get("interface") {
         Some(value) => read_name(alloc, &DocumentPath::Member(path, "interface"), value),
-        None => Err(refusal(alloc, 103, path)),
+        None => Err(refusal(alloc, refusals::MISSING_MEMBER, path)),
     }
 }
 
@@ -83,11 +83,11 @@ fn inwards_at(alloc: Global, path: &DocumentPath<'_>, value: &Value) -> Result<b
         (inwards_of (view value.now)) result }
 {
     let Some(text) = value.as_str() else {
-        return Err(refusal(alloc, 104, path));
+        return Err(refusal(alloc, refusals::WRONG_KIND, path));
     };
     match inwards_in(text) {
         Some(inwards) => Ok(inwards),
-        None => Err(refusal(alloc, 302, path)),
+        None => Err(refusal(alloc, refusals::TRAFFIC_VALUE, path)),
     }
 }
 
@@ -97,7 +97,7 @@ fn inwards_member(alloc: Global, path: &DocumentPath<'_>, object: &Value) -> Res
 {
     match object.get("direction") {
         Some(value) => inwards_at(alloc, &DocumentPath::Member(path, "direction"), value),
-        None => Err(refusal(alloc, 103, path)),
+        None => Err(refusal(alloc, refusals::MISSING_MEMBER, path)),
     }
 }
 

@@ -7,7 +7,7 @@ ghost use Rattle.fx_walk.specs.Pointer.{pointer};
 ghost use Rattle.fx_walk.specs.Walk.{FoundFault, Reads};
 ghost use Rattle.fx_traffic.specs.Lists.{list_faults};
 
-use fx_base::Fault;
+use fx_base::{Fault, refusals};
 use fx_walk::{DocumentPath, Named, Sequence, items_by};
 use serde_json::Value;
 use std::alloc::Global;
@@ -67,6 +67,14 @@ pub fn list_among<T: FromValueAmong, D: Named>(
         let meaning = map (T.meaning names) (items_of (view value.now)) in
         Reads (faults (pointer path.now) (view value.now)) meaning result }
 {
-    let items = items_by(alloc, path, value, least, most, 304, 305)?;
+    let items = items_by(
+        alloc,
+        path,
+        value,
+        least,
+        most,
+        refusals::NO_PATH,
+        refusals::TOO_MUCH_TRAFFIC,
+    )?;
     values_among(alloc, path, items, devices)
 }

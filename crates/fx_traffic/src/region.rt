@@ -9,7 +9,7 @@ ghost use Rattle.fx_walk.specs.Pointer.{pointer};
 ghost use Rattle.fx_walk.specs.Walk.{Reads, optional, row_faults};
 ghost use Rattle.fx_traffic.specs.Regions.{IsOn, all_on, axis_name, region_faults, region_rows, region_of, span, values_faults, values_given, values_in, values_on, whole};
 
-use fx_base::Fault;
+use fx_base::{Fault, refusals};
 use fx_boxes::{Fields, Region};
 use fx_elements::{
     AXES, Axis, EVERY_AXIS, Element, Range, TOPS, read_on, read_value, split_at_byte, top,
@@ -92,11 +92,11 @@ fn values_at(
     ensures bound { IfOk result (IsOn axis) }
 {
     let Some(text) = value.as_str() else {
-        return Err(refusal(alloc, 104, path));
+        return Err(refusal(alloc, refusals::WRONG_KIND, path));
     };
     match values_on(axis, text) {
         Some(values) => Ok(values),
-        None => Err(refusal(alloc, 302, path)),
+        None => Err(refusal(alloc, refusals::TRAFFIC_VALUE, path)),
     }
 }
 

@@ -5,7 +5,7 @@ ghost use Rattle.fx_walk.specs.Walk.{Reads};
 ghost use Rattle.fx_walk.specs.Scalars.{text_of};
 ghost use Rattle.fx_traffic.specs.Texts.{name_faults};
 
-use fx_base::{Fault, Name};
+use fx_base::{Fault, Name, refusals};
 use fx_walk::DocumentPath;
 use serde_json::Value;
 use std::alloc::Global;
@@ -15,5 +15,5 @@ pub fn read_name(alloc: Global, path: &DocumentPath<'_>, value: &Value) -> Resul
     ensures { Reads (name_faults (pointer path.now) (view value.now)) (text_of (view value.now))
         result }
 {
-    fx_walk::read_name(alloc, path, value, 302)
+    fx_walk::read_name(alloc, path, value, refusals::TRAFFIC_VALUE)
 }

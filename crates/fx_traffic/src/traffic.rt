@@ -8,7 +8,7 @@ ghost use Rattle.fx_topology.specs.Networks.{device_names};
 ghost use Rattle.fx_traffic.specs.Classes.{class_of, list_of_classes_faults, traffic_faults, traffic_of};
 
 use crate::class::read_list;
-use fx_base::Fault;
+use fx_base::{Fault, refusals};
 use fx_plan::Plan;
 use fx_tables::{Class, Classes};
 use fx_walk::{DocumentPath, Named, Sequence, object_of, refusal};
@@ -58,7 +58,7 @@ fn classes_member<T: Named>(
             value,
             devices,
         ),
-        None => Err(refusal(alloc, 103, path)),
+        None => Err(refusal(alloc, refusals::MISSING_MEMBER, path)),
     }
 }
 

@@ -5,11 +5,12 @@ use Rattle.serde_json.specs.Find.{get}
 use Rattle.fx_walk.specs.Pointer.{below}
 use Rattle.fx_walk.specs.Walk.{FoundFault, Row}
 use Rattle.fx_walk.specs.declared.choice.Refused.{Refused}
+use Rattle.fx_base.specs.Refusals.{bad_value, missing_member}
 
 abbrev pub unless_one : ℕ → List ℕ → List FoundFault
-unless_one zero up = (103, up) ∷ []
+unless_one zero up = (missing_member, up) ∷ []
 unless_one (suc zero) up = []
-unless_one (suc (suc n)) up = (105, up) ∷ []
+unless_one (suc (suc n)) up = (bad_value, up) ∷ []
 
 -- exactly one of these members must be there, which rows below list
 abbrev pub one_of : List (List ℕ) → Row

@@ -3,6 +3,7 @@ use Rattle.std.specs.Prelude.{ℕ, List, [], Option, Some, None, not, IsSome}
 use Rattle.fx_walk.specs.Pointer.{below}
 use Rattle.fx_walk.specs.Walk.{FoundFault, fault_if}
 use Rattle.fx_walk.specs.Lists.{is_among, items_faults, place_in}
+use Rattle.fx_base.specs.Refusals.{unknown_name}
 
 -- a name stands for one of those that have these names
 abbrev pub IsKnown : List (List ℕ) → List ℕ → Type 0
@@ -10,7 +11,7 @@ IsKnown known name = IsSome (place_in known name)
 
 -- a name that is not among those that are known
 abbrev pub unknown : List (List ℕ) → List ℕ → List ℕ → List FoundFault
-unknown known up name = fault_if (not (is_among known name)) 107 up
+unknown known up name = fault_if (not (is_among known name)) unknown_name up
 
 abbrev pub unknown_if_there : List (List ℕ) → List ℕ → Option (List ℕ) → List FoundFault
 unknown_if_there known up None = []

@@ -13,6 +13,7 @@ use Rattle.fx_walk.specs.Pointer.{below, nth}
 use Rattle.fx_walk.specs.Walk.{FoundFault, Row, Refuses, of_kind, fault_if}
 use Rattle.fx_walk.specs.Scalars.{text_of, text_that}
 use Rattle.fx_base.specs.Name.{is_name}
+use Rattle.fx_base.specs.Refusals.{bad_value, missing_member, name_twice, too_many_entries}
 
 abbrev pub list_of : Items → List Data
 list_of no_items = []
@@ -36,10 +37,10 @@ abbrev pub list_faults_by : ℕ → ℕ → ℕ → ℕ → (List ℕ → List D
 list_faults_by few many least most faults up d = of_kind (items_in d) (λ ds. by_length few many least most up (length ds) (faults up ds)) up
 
 abbrev pub list_faults : ℕ → ℕ → (List ℕ → List Data → List FoundFault) → List ℕ → Data → List FoundFault
-list_faults = list_faults_by 103 115
+list_faults = list_faults_by missing_member too_many_entries
 
 abbrev pub faults_of_list : ℕ → ℕ → (List ℕ → List Data → List FoundFault) → List ℕ → List ℕ → Option Data → List FoundFault
-faults_of_list least most faults up name None = fault_if (nat_lt 0 least) 103 up
+faults_of_list least most faults up name None = fault_if (nat_lt 0 least) missing_member up
 faults_of_list least most faults up name (Some d) = list_faults least most faults (below up name) d
 
 -- A member that is a list of `least` to `most` items. Where it may be empty it may be left out, which is the same.
@@ -76,7 +77,7 @@ abbrev pub name_once_by : ℕ → ℕ → List (List ℕ) → List ℕ → Data 
 name_once_by wrong twice earlier up d = text_that wrong is_name up d ++ fault_if (is_among earlier (text_of d)) twice up
 
 abbrev pub name_once : List (List ℕ) → List ℕ → Data → List FoundFault
-name_once = name_once_by 105 106
+name_once = name_once_by bad_value name_twice
 
 -- What a look at a list's kind and length comes to.
 abbrev pub IsListBy : ℕ → ℕ → ℕ → ℕ → List ℕ → Data → Result (Bor (List Value)) Fault → Type 0
@@ -85,4 +86,4 @@ IsListBy few many least most up d (Ok values) =
 IsListBy few many least most up d (Err e) = (faults : List ℕ → List Data → List FoundFault) → Refuses e (list_faults_by few many least most faults up d)
 
 abbrev pub IsListOf : ℕ → ℕ → List ℕ → Data → Result (Bor (List Value)) Fault → Type 0
-IsListOf = IsListBy 103 115
+IsListOf = IsListBy missing_member too_many_entries

@@ -4,6 +4,7 @@ use Rattle.std.specs.Option.{unwrap_or}
 use Rattle.serde_json.specs.Data.{Data, boolean, array, Items, no_items, item, Num}
 use Rattle.serde_json.specs.Find.{as_null, as_str, as_number, as_u64}
 use Rattle.fx_base.specs.Name.{is_name}
+use Rattle.fx_base.specs.Refusals.{bad_value, wrong_kind}
 use Rattle.fx_walk.specs.Walk.{FoundFault, of_kind, fault_if}
 
 -- ---- texts that pass a test; this number stands for one that doesn't
@@ -13,7 +14,7 @@ text_that wrong test up d = of_kind (as_str d) (λ text. fault_if (not (test tex
 
 -- names: texts of 1 to 255 bytes with no white space at either end
 abbrev pub name_faults : List ℕ → Data → List FoundFault
-name_faults = text_that 105 is_name
+name_faults = text_that bad_value is_name
 
 -- the text of a value that has one
 abbrev pub text_of : Data → List ℕ
@@ -27,7 +28,7 @@ text_faults up d = of_kind (as_str d) (λ text. []) up
 -- ---- texts of which few are allowed
 
 abbrev pub word_faults : {X : Type 0} → (List ℕ → Option X) → List ℕ → Data → List FoundFault
-word_faults named = text_that 105 (λ text. is_some (named text))
+word_faults named = text_that bad_value (λ text. is_some (named text))
 
 -- what a word stands for, and a member that may be there; the second is meant where there is no word
 abbrev pub meaning_of_word : {X : Type 0} → (List ℕ → Option X) → X → Data → X
@@ -40,8 +41,8 @@ word_given named unsaid (Some d) = meaning_of_word named unsaid d
 -- ---- whole numbers, spelled without fraction and exponent
 
 abbrev pub whole_in : ℕ → ℕ → List ℕ → Option ℕ → List FoundFault
-whole_in low high up None = (105, up) ∷ []
-whole_in low high up (Some n) = fault_if (nat_lt n low || nat_lt high n) 105 up
+whole_in low high up None = (bad_value, up) ∷ []
+whole_in low high up (Some n) = fault_if (nat_lt n low || nat_lt high n) bad_value up
 
 abbrev pub whole_faults : ℕ → ℕ → List ℕ → Data → List FoundFault
 whole_faults low high up d = of_kind (as_number d) (λ n. whole_in low high up (as_u64 n)) up
@@ -67,4 +68,4 @@ is_empty_type (array ds) = is_one_null ds
 is_empty_type _ = false
 
 abbrev pub empty_faults : List ℕ → Data → List FoundFault
-empty_faults up d = fault_if (not (is_empty_type d)) 104 up
+empty_faults up d = fault_if (not (is_empty_type d)) wrong_kind up

@@ -9,6 +9,7 @@ use Rattle.fx_walk.specs.Pointer.{below}
 use Rattle.fx_base.specs.declared.fault.Fault.{Fault}
 use Rattle.fx_base.specs.declared.fault.Place.{Place}
 use Rattle.fx_base.specs.declared.fault.Place.TheVariants as places
+use Rattle.fx_base.specs.Refusals.{missing_member, unknown_member, want_of_memory, wrong_kind}
 
 -- ---- faults and answers
 
@@ -22,7 +23,7 @@ first (f ∷ fs) = Some f
 
 -- a refusal is the first of these faults, or want of memory
 abbrev pub refuses : ℕ → Place → List FoundFault → Type 0
-refuses n places.None fs = n ≡ 900
+refuses n places.None fs = n ≡ want_of_memory
 refuses n (places.Text s) fs = first fs ≡ Some (n, string_bytes s)
 refuses n (places.Line l) fs = ⊥
 refuses n (places.Octet o) fs = ⊥
@@ -40,7 +41,7 @@ Reads fs meaning (Err e) = Refuses e fs
 
 -- the faults of a value of some kind; one of another kind is a fault itself
 abbrev pub of_kind : {X : Type 0} → Option X → (X → List FoundFault) → List ℕ → List FoundFault
-of_kind None faults up = (104, up) ∷ []
+of_kind None faults up = (wrong_kind, up) ∷ []
 of_kind (Some x) faults up = faults x
 
 -- a fault where a test holds
@@ -64,7 +65,7 @@ faults_if_there faults up name None = []
 faults_if_there faults up name (Some d) = faults (below up name) d
 
 abbrev pub faults_or_missing : (List ℕ → Data → List FoundFault) → List ℕ → List ℕ → Option Data → List FoundFault
-faults_or_missing faults up name None = (103, up) ∷ []
+faults_or_missing faults up name None = (missing_member, up) ∷ []
 faults_or_missing faults up name (Some d) = faults (below up name) d
 
 -- a member that may be there
@@ -102,7 +103,7 @@ is_listed listed name = list_any (λ t. bytes_eq t name) listed
 
 -- the members for which a test doesn't hold
 abbrev pub others : (List ℕ → Bool) → List ℕ → Members → List FoundFault
-others may_stand up ms = map (λ k. (102, below up k)) (filter (λ k. not (may_stand k)) (names ms))
+others may_stand up ms = map (λ k. (unknown_member, below up k)) (filter (λ k. not (may_stand k)) (names ms))
 
 -- an object: the members that no row lists, and then the rows in order
 abbrev pub object_faults : List Row → List ℕ → Data → List FoundFault

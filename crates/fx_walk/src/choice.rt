@@ -8,7 +8,7 @@ ghost use Rattle.fx_walk.specs.Walk.{Reads};
 ghost use Rattle.fx_walk.specs.Choice.{one_of, none_of, numbered_row};
 
 use crate::path::{DocumentPath, refusal};
-use fx_base::Fault;
+use fx_base::{Fault, refusals};
 use serde_json::Value;
 use std::alloc::Global;
 
@@ -39,9 +39,9 @@ pub fn one_of(
         (view object.now)) tt result }
 {
     match how_many_named(object, names) {
-        0 => Err(refusal(alloc, 103, path)),
+        0 => Err(refusal(alloc, refusals::MISSING_MEMBER, path)),
         1 => Ok(()),
-        _ => Err(refusal(alloc, 105, path)),
+        _ => Err(refusal(alloc, refusals::BAD_VALUE, path)),
     }
 }
 

@@ -13,7 +13,7 @@ use crate::names::Names;
 use crate::path::{DocumentPath, refusal};
 use crate::scalar::read_name;
 use crate::sequence::Sequence;
-use fx_base::{Fault, Name};
+use fx_base::{Fault, Name, refusals};
 use serde_json::Value;
 use std::alloc::{AllocError, Global};
 use std::marker::Model;
@@ -84,7 +84,14 @@ pub fn unique_name(
     ensures names { OnOk result (earlier.new ≡ earlier.old ++ text_of (view value.now) ∷ []) }
     ensures same { OnErr result (earlier.new ≡ earlier.old) }
 {
-    unique_name_by(alloc, path, value, earlier, 105, 106)
+    unique_name_by(
+        alloc,
+        path,
+        value,
+        earlier,
+        refusals::BAD_VALUE,
+        refusals::NAME_TWICE,
+    )
 }
 
 /// An object's member `name`, which differs from those of earlier entries: 103 at the object where it isn't there, 104
@@ -110,7 +117,7 @@ pub fn name_member_by(
             let path = DocumentPath::Member(path, "name");
             unique_name_by(alloc, &path, value, earlier, wrong, twice)
         }
-        None => Err(refusal(alloc, 103, path)),
+        None => Err(refusal(alloc, refusals::MISSING_MEMBER, path)),
     }
 }
 
@@ -128,7 +135,14 @@ pub fn name_member(
         ≡ earlier.old ++ text_of (member_of (codes "name") (view object.now)) ∷ []) }
     ensures same { OnErr result (earlier.new ≡ earlier.old) }
 {
-    name_member_by(alloc, path, object, earlier, 105, 106)
+    name_member_by(
+        alloc,
+        path,
+        object,
+        earlier,
+        refusals::BAD_VALUE,
+        refusals::NAME_TWICE,
+    )
 }
 
 impl Named for Name {
@@ -240,7 +254,7 @@ pub fn named_member<T: Entry>(
             let items = items_in(alloc, &path, value, least, most)?;
             entries_of(alloc, &path, items)
         }
-        None if least > 0 => Err(refusal(alloc, 103, path)),
+        None if least > 0 => Err(refusal(alloc, refusals::MISSING_MEMBER, path)),
         None => {
             let names = EntryNames::new(alloc, Names::new(alloc))?;
             Ok(Entries {

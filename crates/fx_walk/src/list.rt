@@ -8,7 +8,7 @@ ghost use Rattle.fx_walk.specs.Lists.{IsListBy, IsListOf, items, items_faults, i
 use crate::member::FromValue;
 use crate::path::{DocumentPath, refusal};
 use crate::sequence::Sequence;
-use fx_base::Fault;
+use fx_base::{Fault, refusals};
 use serde_json::Value;
 use std::alloc::Global;
 
@@ -25,7 +25,7 @@ pub fn items_by<'v>(
     ensures { IsListBy few many least most (pointer path.now) (view value.now) result }
 {
     let Value::Array(items) = value else {
-        return Err(refusal(alloc, 104, path));
+        return Err(refusal(alloc, refusals::WRONG_KIND, path));
     };
     if items.len() > most {
         return Err(refusal(alloc, many, path));
@@ -46,7 +46,15 @@ pub fn items_in<'v>(
 ) -> Result<&'v [Value], Fault>
     ensures { IsListOf least most (pointer path.now) (view value.now) result }
 {
-    items_by(alloc, path, value, least, most, 103, 115)
+    items_by(
+        alloc,
+        path,
+        value,
+        least,
+        most,
+        refusals::MISSING_MEMBER,
+        refusals::TOO_MANY_ENTRIES,
+    )
 }
 
 /// What the items of the list at the path mean, in order.
@@ -87,7 +95,7 @@ pub fn items_member<T: FromValue>(
             let items = items_in(alloc, &path, value, least, most)?;
             values_of(alloc, &path, items)
         }
-        None if least > 0 => Err(refusal(alloc, 103, path)),
+        None if least > 0 => Err(refusal(alloc, refusals::MISSING_MEMBER, path)),
         None => Ok(Sequence::from_vec(Vec::new(alloc))),
     }
 }

@@ -7,7 +7,7 @@ ghost use Rattle.fx_walk.specs.Pointer.{pointer};
 ghost use Rattle.fx_walk.specs.Walk.{FoundFault, Reads, required_row, optional, member_of};
 
 use crate::path::{DocumentPath, refusal};
-use fx_base::Fault;
+use fx_base::{Fault, refusals};
 use serde_json::Value;
 use std::alloc::Global;
 
@@ -37,7 +37,7 @@ pub fn required_member<T: FromValue>(
 {
     match object.get(name) {
         Some(value) => T::from_value(alloc, &DocumentPath::Member(path, name), value),
-        None => Err(refusal(alloc, 103, path)),
+        None => Err(refusal(alloc, refusals::MISSING_MEMBER, path)),
     }
 }
 

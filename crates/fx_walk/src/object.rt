@@ -8,7 +8,7 @@ ghost use Rattle.fx_walk.specs.Pointer.{pointer};
 ghost use Rattle.fx_walk.specs.Walk.{IsObject, object_faults, open_object_faults, is_foreign, is_listed};
 
 use crate::path::{DocumentPath, refusal};
-use fx_base::Fault;
+use fx_base::{Fault, refusals};
 use serde_json::{Map, Value};
 use std::alloc::Global;
 
@@ -46,10 +46,14 @@ pub fn object_of(
         (view value.now) result }
 {
     let Value::Object(members) = value else {
-        return Err(refusal(alloc, 104, path));
+        return Err(refusal(alloc, refusals::WRONG_KIND, path));
     };
     match first_other(members, listed) {
-        Some(name) => Err(refusal(alloc, 102, &DocumentPath::Member(path, name.as_str()))),
+        Some(name) => Err(refusal(
+            alloc,
+            refusals::UNKNOWN_MEMBER,
+            &DocumentPath::Member(path, name.as_str()),
+        )),
         None => Ok(()),
     }
 }
@@ -89,10 +93,14 @@ pub fn document_of(
         (pointer path.now) (view value.now) result }
 {
     let Value::Object(members) = value else {
-        return Err(refusal(alloc, 104, path));
+        return Err(refusal(alloc, refusals::WRONG_KIND, path));
     };
     match first_refused(members, home, listed) {
-        Some(name) => Err(refusal(alloc, 102, &DocumentPath::Member(path, name.as_str()))),
+        Some(name) => Err(refusal(
+            alloc,
+            refusals::UNKNOWN_MEMBER,
+            &DocumentPath::Member(path, name.as_str()),
+        )),
         None => Ok(()),
     }
 }

@@ -11,7 +11,7 @@ use crate::entries::Named;
 use crate::names::Names;
 use crate::path::{DocumentPath, refusal};
 use crate::sequence::Sequence;
-use fx_base::{Fault, Name};
+use fx_base::{Fault, Name, refusals};
 use std::alloc::Global;
 
 /// What refers to things by their names.
@@ -31,7 +31,7 @@ impl Refers for Name {
         if known.contains(self) {
             Ok(())
         } else {
-            Err(refusal(alloc, 107, path))
+            Err(refusal(alloc, refusals::UNKNOWN_NAME, path))
         }
     }
 }

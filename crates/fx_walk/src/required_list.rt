@@ -11,7 +11,7 @@ use crate::list::items_member;
 use crate::member::FromValue;
 use crate::path::{DocumentPath, refusal};
 use crate::sequence::Sequence;
-use fx_base::Fault;
+use fx_base::{Fault, refusals};
 use serde_json::Value;
 use std::alloc::Global;
 
@@ -29,7 +29,7 @@ pub fn required_items<T: FromValue>(
 {
     match object.get(name) {
         Some(_) => items_member(alloc, path, object, name, 0, most),
-        None => Err(refusal(alloc, 103, path)),
+        None => Err(refusal(alloc, refusals::MISSING_MEMBER, path)),
     }
 }
 
@@ -47,6 +47,6 @@ pub fn required_entries<T: Entry>(
 {
     match object.get(name) {
         Some(_) => entries_member(alloc, path, object, name, 0, most),
-        None => Err(refusal(alloc, 103, path)),
+        None => Err(refusal(alloc, refusals::MISSING_MEMBER, path)),
     }
 }

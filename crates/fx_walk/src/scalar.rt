@@ -10,7 +10,7 @@ ghost use Rattle.fx_base.specs.declared.fault.Place.TheVariants as places;
 
 use crate::member::FromValue;
 use crate::path::{DocumentPath, refusal};
-use fx_base::{Fault, Name};
+use fx_base::{Fault, Name, refusals};
 use serde_json::Value;
 use std::alloc::Global;
 use std::marker::Model;
@@ -26,11 +26,11 @@ pub fn read_name(
         (text_of (view value.now)) result }
 {
     let Some(text) = value.as_str() else {
-        return Err(refusal(alloc, 104, path));
+        return Err(refusal(alloc, refusals::WRONG_KIND, path));
     };
     match Name::read(alloc, text) {
         Ok(name) => Ok(name),
-        Err(fault) if fault.number == 105 => Err(refusal(alloc, wrong, path)),
+        Err(fault) if fault.number == refusals::BAD_VALUE => Err(refusal(alloc, wrong, path)),
         Err(fault) => Err(fault),
     }
 }
@@ -42,7 +42,7 @@ impl FromValue for Name {
     ghost meaning = { text_of };
 
     fn from_value(alloc: Global, path: &DocumentPath<'_>, value: &Value) -> Result<Name, Fault> {
-        read_name(alloc, path, value, 105)
+        read_name(alloc, path, value, refusals::BAD_VALUE)
     }
 }
 
@@ -76,7 +76,7 @@ impl FromValue for Text {
 
     fn from_value(alloc: Global, path: &DocumentPath<'_>, value: &Value) -> Result<Text, Fault> {
         let Some(text) = value.as_str() else {
-            return Err(refusal(alloc, 104, path));
+            return Err(refusal(alloc, refusals::WRONG_KIND, path));
         };
         Ok(Text {
             text: String::from_str(alloc, text)?,
@@ -119,13 +119,13 @@ impl<const LOW: u32, const HIGH: u32> FromValue for Whole<LOW, HIGH> {
 
     fn from_value(alloc: Global, path: &DocumentPath<'_>, value: &Value) -> Result<Self, Fault> {
         let Some(number) = value.as_number() else {
-            return Err(refusal(alloc, 104, path));
+            return Err(refusal(alloc, refusals::WRONG_KIND, path));
         };
         let Some(number) = number.as_u64() else {
-            return Err(refusal(alloc, 105, path));
+            return Err(refusal(alloc, refusals::BAD_VALUE, path));
         };
         if number < LOW as u64 || number > HIGH as u64 {
-            return Err(refusal(alloc, 105, path));
+            return Err(refusal(alloc, refusals::BAD_VALUE, path));
         }
         Ok(Whole {
             number: number as u32,
@@ -167,7 +167,7 @@ impl FromValue for Empty {
         if is_empty_type(value) {
             Ok(Empty)
         } else {
-            Err(refusal(alloc, 104, path))
+            Err(refusal(alloc, refusals::WRONG_KIND, path))
         }
     }
 }

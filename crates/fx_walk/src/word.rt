@@ -7,7 +7,7 @@ ghost use Rattle.fx_walk.specs.Scalars.{meaning_of_word, word_faults, word_given
 ghost use Rattle.fx_walk.specs.Walk.{Reads, optional};
 
 use crate::path::{DocumentPath, refusal};
-use fx_base::Fault;
+use fx_base::{Fault, refusals};
 use serde_json::Value;
 use std::alloc::Global;
 
@@ -34,11 +34,11 @@ fn read_word<T: Word>(alloc: Global, path: &DocumentPath<'_>, value: &Value) -> 
         Reads (word_faults T.meaning_of (pointer path.now) (view value.now)) meaning result }
 {
     let Some(text) = value.as_str() else {
-        return Err(refusal(alloc, 104, path));
+        return Err(refusal(alloc, refusals::WRONG_KIND, path));
     };
     match T::meaning_of(text) {
         Some(meaning) => Ok(meaning),
-        None => Err(refusal(alloc, 105, path)),
+        None => Err(refusal(alloc, refusals::BAD_VALUE, path)),
     }
 }
 

@@ -2,6 +2,8 @@
 ghost use Rattle.std.specs.Prelude.{◌≡◌};
 ghost use Rattle.fx_wire.specs.Refusals.{number_of};
 
+use fx_base::refusals;
+
 /// Why octets are no message, or no template record (RFC 7011).
 #[derive(Clone, Copy, Debug, PartialEq, Eq)]
 pub enum Malformed {
@@ -24,11 +26,11 @@ impl Malformed {
         ensures { result ≡ number_of self }
     {
         match self {
-            Malformed::Version => 611,
-            Malformed::MessageLength => 612,
-            Malformed::SetLength => 613,
-            Malformed::Template => 614,
-            Malformed::SetId => 615,
+            Malformed::Version => refusals::MESSAGE_VERSION,
+            Malformed::MessageLength => refusals::MESSAGE_LENGTH,
+            Malformed::SetLength => refusals::SET_LENGTH,
+            Malformed::Template => refusals::TEMPLATE_FORM,
+            Malformed::SetId => refusals::RESERVED_SET,
         }
     }
 }

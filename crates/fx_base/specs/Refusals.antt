@@ -1,0 +1,366 @@
+-- The numbers of refusals, a name for each, and the list of all.
+use Rattle.std.specs.Prelude.{ℕ, ◌==◌, List, [], ◌∷◌, Bool}
+use Rattle.std.specs.List.{list_any}
+
+-- ---- devices, and documents altogether
+
+-- a document is no JSON text in UTF-8 (RFC 8259)
+abbrev pub not_json : ℕ
+not_json = 101
+
+-- a member that may not be there (RFC 6728, RFC 7951)
+abbrev pub unknown_member : ℕ
+unknown_member = 102
+
+-- a member that has to be there isn't, or a list that has to have an entry is empty
+abbrev pub missing_member : ℕ
+missing_member = 103
+
+-- a value is of another JSON kind than its member wants (RFC 7951, section 6)
+abbrev pub wrong_kind : ℕ
+wrong_kind = 104
+
+-- a value of the right kind isn't allowed
+abbrev pub bad_value : ℕ
+bad_value = 105
+
+-- a name stands twice in its list
+abbrev pub name_twice : ℕ
+name_twice = 106
+
+-- a reference names nothing
+abbrev pub unknown_name : ℕ
+unknown_name = 107
+
+-- a selector samples (RFC 5475, section 5): totals over a sample aren't exact
+abbrev pub sampling_selector : ℕ
+sampling_selector = 108
+
+-- a selector filters by a hash (RFC 5475, section 6.2)
+abbrev pub hash_filter : ℕ
+hash_filter = 109
+
+-- a counter of a cache has another length than 8 octets (RFC 7011, section 6.2)
+abbrev pub cache_counter_length : ℕ
+cache_counter_length = 110
+
+-- a counter since the beginning, element 85 or 86 (RFC 7012)
+abbrev pub total_counter : ℕ
+total_counter = 111
+
+-- a flow key that is no axis
+abbrev pub key_without_axis : ℕ
+key_without_axis = 112
+
+-- a file as transport
+abbrev pub file_transport : ℕ
+file_transport = 113
+
+-- a cache's layout lacks `octetDeltaCount` or `packetDeltaCount`
+abbrev pub missing_counter : ℕ
+missing_counter = 114
+
+-- a list of a device or of a network has too many entries
+abbrev pub too_many_entries : ℕ
+too_many_entries = 115
+
+-- ---- networks
+
+-- an end of a link isn't there
+abbrev pub unknown_link_end : ℕ
+unknown_link_end = 201
+
+-- a destination has a link already
+abbrev pub linked_twice : ℕ
+linked_twice = 202
+
+-- links lead records round in a circle
+abbrev pub link_cycle : ℕ
+link_cycle = 204
+
+-- the report's device or collecting process isn't there
+abbrev pub unknown_report_process : ℕ
+unknown_report_process = 205
+
+-- the report's key isn't made of axes, each at most once
+abbrev pub report_key : ℕ
+report_key = 206
+
+-- there are more than 64 different layouts
+abbrev pub too_many_layouts : ℕ
+too_many_layouts = 207
+
+-- ---- declarations of traffic
+
+-- the name of a class stands twice
+abbrev pub class_twice : ℕ
+class_twice = 301
+
+-- a value of a traffic declaration isn't allowed
+abbrev pub traffic_value : ℕ
+traffic_value = 302
+
+-- a crossing names a device that isn't there
+abbrev pub unknown_device : ℕ
+unknown_device = 303
+
+-- a class has no path
+abbrev pub no_path : ℕ
+no_path = 304
+
+-- a list of a traffic declaration has too many entries
+abbrev pub too_much_traffic : ℕ
+too_much_traffic = 305
+
+-- ---- certificates
+
+-- the first number of a certificate's refusals
+abbrev pub certificate_first : ℕ
+certificate_first = 401
+
+-- the last number of a certificate's refusals
+abbrev pub certificate_last : ℕ
+certificate_last = 415
+
+-- the first line isn't that of a certificate
+abbrev pub certificate_header : ℕ
+certificate_header = 401
+
+-- a line has no form of a certificate's lines
+abbrev pub certificate_line : ℕ
+certificate_line = 402
+
+-- a line isn't in its place
+abbrev pub certificate_order : ℕ
+certificate_order = 403
+
+-- a split isn't strictly inside its region
+abbrev pub split_not_inside : ℕ
+split_not_inside = 404
+
+-- a certificate ends before its line `end`
+abbrev pub certificate_cut : ℕ
+certificate_cut = 405
+
+-- a selection process or a match holds for a part of a leaf's region only
+abbrev pub cut_region : ℕ
+cut_region = 406
+
+-- nothing counts the packets of a leaf
+abbrev pub never_counted : ℕ
+never_counted = 407
+
+-- the packets of a leaf are counted more than once
+abbrev pub counted_more_than_once : ℕ
+counted_more_than_once = 408
+
+-- how often the packets of a leaf are counted depends on the destination that is chosen
+abbrev pub destinations_differ : ℕ
+destinations_differ = 409
+
+-- the packets of a leaf are counted once, but not where it says
+abbrev pub counted_elsewhere : ℕ
+counted_elsewhere = 410
+
+-- a line stands behind the end
+abbrev pub line_behind_end : ℕ
+line_behind_end = 411
+
+-- a split is deeper than 511
+abbrev pub split_too_deep : ℕ
+split_too_deep = 412
+
+-- the report's key can't be read from a record that comes of a leaf's packets
+abbrev pub unassigned_record : ℕ
+unassigned_record = 413
+
+-- there are more than 1,000,000 lines of splits and leaves
+abbrev pub too_many_lines : ℕ
+too_many_lines = 414
+
+-- the packets of a leaf are of an exempt class, and each is counted once
+abbrev pub exempt_counted : ℕ
+exempt_counted = 415
+
+-- ---- refutations
+
+-- the first number of a refutation's refusals
+abbrev pub refutation_first : ℕ
+refutation_first = 501
+
+-- the last number of a refutation's refusals
+abbrev pub refutation_last : ℕ
+refutation_last = 505
+
+-- the text isn't that of a refutation
+abbrev pub refutation_form : ℕ
+refutation_form = 501
+
+-- a refutation's packet isn't in its class
+abbrev pub refutation_packet : ℕ
+refutation_packet = 502
+
+-- a step of a refutation isn't enabled
+abbrev pub refutation_step : ℕ
+refutation_step = 503
+
+-- a refutation's run isn't complete
+abbrev pub run_not_complete : ℕ
+run_not_complete = 504
+
+-- a refutation's totals are the plain sums, and nothing is unassigned
+abbrev pub totals_agree : ℕ
+totals_agree = 505
+
+-- ---- searches (601) and streams
+
+-- a search needs more than its limits allow
+abbrev pub search_too_large : ℕ
+search_too_large = 601
+
+-- a message has another version than 10 (RFC 7011, section 3.1)
+abbrev pub message_version : ℕ
+message_version = 611
+
+-- a message's length is below 16, or the stream ends inside the message (RFC 7011, section 3.1)
+abbrev pub message_length : ℕ
+message_length = 612
+
+-- a set's length is below 4 or passes its message's end (RFC 7011, section 3.3.2)
+abbrev pub set_length : ℕ
+set_length = 613
+
+-- a template has no form of RFC 7011, section 3.4
+abbrev pub template_form : ℕ
+template_form = 614
+
+-- a set has an id that is reserved (RFC 7011, section 3.3.2)
+abbrev pub reserved_set : ℕ
+reserved_set = 615
+
+-- another template stands under a live id (RFC 7011, section 8)
+abbrev pub template_changed : ℕ
+template_changed = 616
+
+-- a set of data has no template (RFC 7011, section 8)
+abbrev pub no_template : ℕ
+no_template = 617
+
+-- a counter of a template has another length than 8 octets (RFC 7011, section 6.2)
+abbrev pub template_counter_length : ℕ
+template_counter_length = 618
+
+-- a record passes its set's end (RFC 7011, section 3.3.1)
+abbrev pub record_past_set : ℕ
+record_past_set = 619
+
+-- a prefix is longer than its address
+abbrev pub prefix_length : ℕ
+prefix_length = 620
+
+-- ---- captures
+
+-- a capture's file header isn't that of classic pcap, version 2.4
+abbrev pub capture_format : ℕ
+capture_format = 701
+
+-- a capture's link type is neither 1 (Ethernet) nor 101 (IP)
+abbrev pub link_type : ℕ
+link_type = 702
+
+-- a capture ends inside a record
+abbrev pub capture_cut : ℕ
+capture_cut = 703
+
+-- a captured record has more than 262,144 octets
+abbrev pub long_capture_record : ℕ
+long_capture_record = 704
+
+-- ---- schedules, bundles and runs
+
+-- a line of a schedule has no form of such lines, or standard input is no bundle
+abbrev pub schedule_or_bundle : ℕ
+schedule_or_bundle = 801
+
+-- what a line of a schedule asks for isn't there
+abbrev pub nothing_there : ℕ
+nothing_there = 802
+
+-- a packet isn't in the class that a line of a schedule names
+abbrev pub not_in_named_class : ℕ
+not_in_named_class = 803
+
+-- a packet of a capture is in no class
+abbrev pub in_no_class : ℕ
+in_no_class = 804
+
+-- a step of a run isn't enabled
+abbrev pub step_not_enabled : ℕ
+step_not_enabled = 851
+
+-- the choices of a step are wrong
+abbrev pub wrong_choices : ℕ
+wrong_choices = 852
+
+-- no record stands at the position that a step names
+abbrev pub no_record_there : ℕ
+no_record_there = 853
+
+-- the first line isn't that of a run
+abbrev pub run_header : ℕ
+run_header = 854
+
+-- a line has no form of a run's lines, or one is missing
+abbrev pub run_form : ℕ
+run_form = 855
+
+-- a packet of a run isn't in its class
+abbrev pub run_packet : ℕ
+run_packet = 856
+
+-- ---- what the program runs on
+
+-- want of memory
+abbrev pub want_of_memory : ℕ
+want_of_memory = 900
+
+-- a read failed, or a file can't be opened
+abbrev pub failed_read : ℕ
+failed_read = 901
+
+-- a write failed, or a file can't be made
+abbrev pub failed_write : ℕ
+failed_write = 902
+
+-- a line has more than 4,096 octets
+abbrev pub long_line : ℕ
+long_line = 903
+
+-- ---- all of them
+
+-- every number that a refusal can have
+abbrev pub refusal_numbers : List ℕ
+refusal_numbers =
+    not_json ∷ unknown_member ∷ missing_member ∷ wrong_kind
+    ∷ bad_value ∷ name_twice ∷ unknown_name ∷ sampling_selector
+    ∷ hash_filter ∷ cache_counter_length ∷ total_counter ∷ key_without_axis
+    ∷ file_transport ∷ missing_counter ∷ too_many_entries ∷ unknown_link_end
+    ∷ linked_twice ∷ link_cycle ∷ unknown_report_process ∷ report_key
+    ∷ too_many_layouts ∷ class_twice ∷ traffic_value ∷ unknown_device
+    ∷ no_path ∷ too_much_traffic ∷ certificate_header ∷ certificate_line
+    ∷ certificate_order ∷ split_not_inside ∷ certificate_cut ∷ cut_region
+    ∷ never_counted ∷ counted_more_than_once ∷ destinations_differ ∷ counted_elsewhere
+    ∷ line_behind_end ∷ split_too_deep ∷ unassigned_record ∷ too_many_lines
+    ∷ exempt_counted ∷ refutation_form ∷ refutation_packet ∷ refutation_step
+    ∷ run_not_complete ∷ totals_agree ∷ search_too_large ∷ message_version
+    ∷ message_length ∷ set_length ∷ template_form ∷ reserved_set
+    ∷ template_changed ∷ no_template ∷ template_counter_length ∷ record_past_set
+    ∷ prefix_length ∷ capture_format ∷ link_type ∷ capture_cut
+    ∷ long_capture_record ∷ schedule_or_bundle ∷ nothing_there ∷ not_in_named_class
+    ∷ in_no_class ∷ step_not_enabled ∷ wrong_choices ∷ no_record_there
+    ∷ run_header ∷ run_form ∷ run_packet ∷ want_of_memory
+    ∷ failed_read ∷ failed_write ∷ long_line ∷ []
+
+-- a number is one of them
+abbrev pub is_refusal_number : ℕ → Bool
+is_refusal_number number = list_any (λ n. n == number) refusal_numbers
