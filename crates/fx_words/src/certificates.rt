@@ -1,0 +1,152 @@
+//! The refusals of certificates.
+ghost use Rattle.std.specs.Prelude.{◌≡◌, map};
+ghost use Rattle.fx_words.specs.Table.{certificates};
+ghost use Rattle.fx_words.specs.Words.{words_at};
+
+use crate::refusal::Row;
+use fx_base::refusals;
+
+/// A row for each number.
+pub const CERTIFICATES: &[Row] = &[
+    (
+        refusals::CERTIFICATE_HEADER,
+        "The first line isn't that of a certificate: once-certificate 2, or once-certificate 1.",
+        "a run or a refutation in the certificate's place, the files in another order, lines \
+         that end in CR and LF, or a byte order mark in front.",
+        "Give the text that `once audit` has written, as it is; lines end in LF alone.",
+        "FORMATS, a certificate",
+    ),
+    (
+        refusals::CERTIFICATE_LINE,
+        "A line has no form of a certificate's lines.",
+        "a blank at the line's end, a tab or two blanks between words, a comment, an empty line, \
+         an address where a number is due (128.0.0.0 is 2147483648), or a number with leading \
+         zeros.",
+        "Write `class C path P`, `S AXIS AT`, `L CROSSING POINT PROCESS`, `N` or `end`, with one \
+         blank between words.",
+        "FORMATS, a certificate",
+    ),
+    (
+        refusals::CERTIFICATE_ORDER,
+        "A line isn't in its place, or a leaf is of another kind than its class wants.",
+        "a class or a path that is left out or in another order than in the traffic declaration, \
+         or a leaf too many or too few behind the splits. Or a leaf N of a class that isn't \
+         exempt or under once-certificate 1, or a leaf L of one that is exempt.",
+        "Each class and each of its paths comes in document order, and behind a split come two \
+         trees, that of the lower part first. `once audit` writes such a text.",
+        "FORMATS, a certificate",
+    ),
+    (
+        refusals::SPLIT_NOT_INSIDE,
+        "A split isn't strictly inside its region.",
+        "a split at the lowest value of the region, at a value behind its highest, or on an axis \
+         on which it has one value only.",
+        "AT is the first value of the upper part: write one above the region's lowest value and \
+         not above its highest.",
+        "FORMATS, a certificate",
+    ),
+    (
+        refusals::CERTIFICATE_CUT,
+        "A certificate ends before its line `end`, or inside a line.",
+        "an empty file, a text that was cut when it was copied, or a last line without its line \
+         feed.",
+        "Take the whole text, with a line feed behind `end`.",
+        "FORMATS, a certificate",
+    ),
+    (
+        refusals::CUT_REGION,
+        "A selection process, or the match of an aggregation, holds for a part of a leaf's \
+         region only.",
+        "the bound of a filter lies inside the region, perhaps on an axis that the class doesn't \
+         name, as ipVersion.",
+        "Split the region at the filter's bound, as `once audit` does, or name the axis in the \
+         class's region.",
+        "RFC 5475, section 6.1; FORMATS, a certificate",
+    ),
+    (
+        refusals::NEVER_COUNTED,
+        "Nothing counts the packets of a leaf.",
+        "an interface is misspelled in the traffic declaration, so that no observation point \
+         sees the packets; or a selection process has no cache, a destination on the way has no \
+         link, or an aggregation on the way has a key or a match that can't be read from the \
+         records.",
+        "Follow the packets from each crossing of the path to the report: observation point, \
+         selection process, cache, exporting process, link, collecting process. Mend the first \
+         that is missing.",
+        "FORMATS, a device and a certificate",
+    ),
+    (
+        refusals::COUNTED_MORE_THAN_ONCE,
+        "The packets of a leaf are counted more than once.",
+        "two observation points on one path, two selection processes that select the same \
+         packets, two exporting processes of one cache, or two links by which a record comes to \
+         the report.",
+        "Take one of them out, or share the packets between them by filters, so that each packet \
+         is selected once.",
+        "FORMATS, a device and a certificate",
+    ),
+    (
+        refusals::DESTINATIONS_DIFFER,
+        "How often the packets of a leaf are counted depends on the destination that an \
+         exporting process chooses.",
+        "an exporting process whose mode is fallback or loadBalancing, with a link from one of \
+         its destinations and none from another.",
+        "Link each of its destinations to the report's side, or none of them.",
+        "RFC 6728, section 4.4; FORMATS, a certificate",
+    ),
+    (
+        refusals::COUNTED_ELSEWHERE,
+        "The packets of a leaf are counted once, but not where it says.",
+        "numbers that are counted from 0 or in another list, or documents whose entries have \
+         moved since the certificate was written. CROSSING counts on the path, POINT among the \
+         observation points of the crossing's device, PROCESS in the point's list.",
+        "Write the place that `once audit` writes.",
+        "FORMATS, a certificate",
+    ),
+    (
+        refusals::LINE_BEHIND_END,
+        "A line stands behind the line `end`.",
+        "an empty line at the end of the text, or two certificates in one file.",
+        "Take out what stands behind `end` and its line feed.",
+        "FORMATS, a certificate",
+    ),
+    (
+        refusals::SPLIT_TOO_DEEP,
+        "A split stands below more than 511 others.",
+        "a certificate of a program that splits off one value after another.",
+        "Split at values in the middle, so that trees grow wide and not deep.",
+        "FORMATS, a certificate",
+    ),
+    (
+        refusals::UNASSIGNED_RECORD,
+        "A record that comes of a leaf's packets reaches the report without the report's key.",
+        "a cache or an aggregation on the way lacks a field of the report's key, or keeps a \
+         shorter prefix than the report asks for.",
+        "Keep the report's fields in each cache and each aggregation on the way, or ask for a \
+         coarser key.",
+        "RFC 7015; FORMATS, a network",
+    ),
+    (
+        refusals::TOO_MANY_LINES,
+        "A certificate has more than 1,000,000 lines of splits and leaves.",
+        "filters and classes on very many values, each of which needs a leaf of its own.",
+        "Cut the traffic into several declarations, each with a certificate of its own.",
+        "FORMATS, a certificate",
+    ),
+    (
+        refusals::EXEMPT_COUNTED,
+        "The packets of a leaf are of an exempt class, and each is counted once.",
+        "no filter keeps the exempt traffic, as that of the management, out of the meters on its \
+         path.",
+        "Keep the packets out by filters (filterMatch), or take `exempt` off the class where \
+         they are to be counted.",
+        "FORMATS, traffic and a certificate",
+    ),
+];
+
+/// The rows, in the order of their numbers.
+pub(crate) fn rows() -> &'static [Row]
+    ensures { map (λ r. words_at r.0 r.1.now r.2.now r.3.now r.4.now) result.now ≡ certificates }
+{
+    CERTIFICATES
+}
