@@ -10,3 +10,12 @@ pub mod Confirms
 pub mod Texts
 pub mod Audits
 pub mod Metering
+pub mod ListedNumbers
+pub mod ListedDevices
+pub mod ListedDocuments
+pub mod ListedAnswers
+pub mod ListedRuns
+pub mod ListedStreams
+pub mod ListedCaptures
+pub mod ListedRefutations
+pub mod ListedBundles

@@ -5,6 +5,7 @@ use Rattle.fx_base.specs.declared.fault.Place.TheVariants as places
 use Rattle.fx_base.specs.Device.{MayHaveLeft}
 use Rattle.fx_base.specs.Fault.{fault_at, fault_text}
 use Rattle.fx_base.specs.Lines.{Lines, text_lines}
+use Rattle.fx_base.specs.Refusals.{certificate_first, certificate_last, failed_read, failed_write, long_line, want_of_memory}
 use Rattle.fx_machine.specs.Claim.{ExactlyOnce, OnceModulo}
 use Rattle.fx_tables.specs.Classes.{Class}
 use Rattle.fx_topology.specs.declared.network.NetworkDocument.{NetworkDocument}
@@ -32,7 +33,7 @@ IsWithin first last number = (first ≤ number) × (number ≤ last)
 
 -- a refusal with this number makes the answer no
 abbrev pub MeansNo : ℕ → Type 0
-MeansNo number = IsWithin 401 415 number
+MeansNo number = IsWithin certificate_first certificate_last number
 
 abbrev pub IsFaultOf : Fault → Option Refusal → Type 0
 IsFaultOf e None = ⊥
@@ -73,10 +74,10 @@ IsRefusedCertificate network classes lines e = IsRefusedText network classes lin
 -- what a check ends with that isn't answered, once a line of the certificate is asked for: want of memory, a read or a
 -- write that failed, or a line that is too long
 pub data IsNoAnswer : Fault → Type 0 where
-  memory : IsNoAnswer (fault_at 900 places.None)
-  read_failed : IsNoAnswer (fault_at 901 places.None)
-  write_failed : IsNoAnswer (fault_at 902 places.None)
-  too_long : (line : ℕ) → IsNoAnswer (fault_at 903 (places.Line line))
+  memory : IsNoAnswer (fault_at want_of_memory places.None)
+  read_failed : IsNoAnswer (fault_at failed_read places.None)
+  write_failed : IsNoAnswer (fault_at failed_write places.None)
+  too_long : (line : ℕ) → IsNoAnswer (fault_at long_line (places.Line line))
 
 -- such a fault, or the one that the reader had answered before
 abbrev pub IsUnanswered : Lines → Fault → Type 0

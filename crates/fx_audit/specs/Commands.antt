@@ -4,6 +4,7 @@ use Rattle.fx_base.specs.declared.fault.Fault.{Fault}
 use Rattle.fx_base.specs.declared.fault.Place.TheVariants as places
 use Rattle.fx_base.specs.Fault.{fault_at}
 use Rattle.fx_base.specs.Lines.{Lines, lines_in}
+use Rattle.fx_base.specs.Refusals.{failed_read, schedule_or_bundle}
 use Rattle.fx_tables.specs.Classes.{Class}
 use Rattle.fx_run_text.specs.RunText.{Run}
 use Rattle.fx_run_text.specs.RunReading.{MayReadRun}
@@ -32,6 +33,10 @@ pub record IsLinted (network_octets text : List ℕ) : Type 0 where
   pub network : NetworkDocument
   pub network_is : IsNetworkDocument network_octets network
   pub text_is : text ≡ ok_line
+
+-- the text that is printed for the documents of a network and of its traffic
+abbrev pub AreLinted : List ℕ → List ℕ → List ℕ → Type 0
+AreLinted network_octets traffic_octets text = InDocuments (λ network classes. text ≡ ok_line) network_octets traffic_octets
 
 -- ---- a run that is replayed
 
@@ -116,7 +121,7 @@ IsRefusedBy Audit network traffic lines e = IsRefusedByDocuments network traffic
 -- a text is so long that it isn't read in 2 to the 32 calls
 abbrev pub IsEndless : List ℕ → List ℕ → List ℕ → Fault → Type 0
 IsEndless network traffic third e =
-    (e ≡ fault_at 901 places.None) × ((2 ^ 32 ≤ length network) ⊎ ((2 ^ 32 ≤ length traffic) ⊎ (2 ^ 32 ≤ length third)))
+    (e ≡ fault_at failed_read places.None) × ((2 ^ 32 ≤ length network) ⊎ ((2 ^ 32 ≤ length traffic) ⊎ (2 ^ 32 ≤ length third)))
 
 -- what a bundle's command makes of its texts is refused
 abbrev pub IsRefusedThere : Command → List ℕ → List ℕ → List ℕ → Fault → Type 0
@@ -125,5 +130,5 @@ IsRefusedThere command network traffic third e = IsRefusedBy command network tra
 -- the octets are no bundle, or what its command makes of its texts is refused
 abbrev pub IsRefusedBundle : List ℕ → Fault → Type 0
 IsRefusedBundle octets e =
-    ((e ≡ fault_at 801 places.None) × ((command : Command) (network : List ℕ) (traffic : List ℕ) (third : List ℕ) → IsBundle octets command network traffic third → ⊥))
+    ((e ≡ fault_at schedule_or_bundle places.None) × ((command : Command) (network : List ℕ) (traffic : List ℕ) (third : List ℕ) → IsBundle octets command network traffic third → ⊥))
     ⊎ ((command : Command) × (network : List ℕ) × (traffic : List ℕ) × (third : List ℕ) × IsBundle octets command network traffic third × IsRefusedThere command network traffic third e)

@@ -2,6 +2,7 @@
 use Rattle.std.specs.Prelude.{◌≡◌, ◌⊎◌, ℕ, List, ◌++◌, codes, Some, Ok, Err, IsPermutation}
 use Rattle.fx_base.specs.declared.fault.Fault.{Fault}
 use Rattle.fx_base.specs.Lines.{Lines}
+use Rattle.fx_base.specs.Refusals.{refutation_first, refutation_last}
 use Rattle.fx_tables.specs.Classes.{Class}
 use Rattle.fx_topology.specs.declared.network.NetworkDocument.{NetworkDocument}
 use Rattle.fx_plan.specs.Tables.{net_of}
@@ -24,7 +25,7 @@ refuted_text ran plain =
 
 -- a refusal with this number makes the answer no
 abbrev pub RefutesNothing : ℕ → Type 0
-RefutesNothing number = IsWithin 501 505 number
+RefutesNothing number = IsWithin refutation_first refutation_last number
 
 -- the same totals, with their keys in ascending order
 pub record IsInOrder (t sorted : Totals) : Type 0 where

@@ -7,6 +7,7 @@ use Rattle.fx_base.specs.declared.fault.Place.{Place}
 use Rattle.fx_base.specs.declared.fault.Place.TheVariants as places
 use Rattle.fx_base.specs.Device.{IsUnread, MayHaveLeft}
 use Rattle.fx_base.specs.Fault.{fault_at}
+use Rattle.fx_base.specs.Refusals.{failed_read, not_json}
 use Rattle.fx_walk.specs.Walk.{FoundFault, first}
 use Rattle.fx_tables.specs.Classes.{Class}
 use Rattle.fx_tables.specs.Limits.{layout_limit}
@@ -20,7 +21,7 @@ use Rattle.fx_traffic.specs.Classes.{traffic_faults, traffic_of}
 
 -- a source can't be read to its end: its last call failed, or it was called 2 to the 32 times and hasn't ended
 abbrev pub ReadFails : Option (List ℕ) → ℕ → ℕ → Bool → Fault → Type 0
-ReadFails left before after failed e = (e ≡ fault_at 901 places.None) × IsUnread left before after failed
+ReadFails left before after failed e = (e ≡ fault_at failed_read places.None) × IsUnread left before after failed
 
 -- this source can't, by what it has left, how many calls were made of it and whether the last one failed
 abbrev pub CannotRead : {R : Type 0} → (R → Option (List ℕ)) → (R → ℕ) → (R → Bool) → R → R → Fault → Type 0
@@ -44,7 +45,7 @@ is_found n _ fs = ⊥
 -- the first fault of a document: 101 where the octets are no JSON text
 abbrev pub IsFirstFault : (Data → List FoundFault) → List ℕ → Fault → Type 0
 IsFirstFault faults octets e =
-    ((e ≡ fault_at 101 places.None) × ((d : Data) → IsJson octets d → ⊥))
+    ((e ≡ fault_at not_json places.None) × ((d : Data) → IsJson octets d → ⊥))
     ⊎ ((d : Data) × IsJson octets d × is_found e.number e.place (faults d))
 
 -- a network has few enough layouts, and its links form no cycle

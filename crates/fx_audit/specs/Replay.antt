@@ -6,6 +6,7 @@ use Rattle.fx_base.specs.declared.fault.Place.TheVariants as places
 use Rattle.fx_base.specs.Fault.{fault_at}
 use Rattle.fx_tables.specs.Network.{Net}
 use Rattle.fx_base.specs.Entries.{entry_numbered}
+use Rattle.fx_base.specs.Refusals.{run_packet}
 use Rattle.fx_tables.specs.Classes.{Class, IsOf}
 use Rattle.fx_machine.specs.States.{State, Complete, opening}
 use Rattle.fx_machine.specs.Steps.{run}
@@ -31,5 +32,5 @@ pub record IsTextOf (layout : Layout) (s : State) (text : List ℕ) : Type 0 whe
 -- why a run can't be replayed: a packet isn't in its class, or a step is refused, the first with this number
 abbrev pub IsRefused : Net → List Class → Run → Fault → Type 0
 IsRefused net classes r e =
-    ((e ≡ fault_at 856 places.None) × (All (λ packet. IsOf packet (entry_numbered classes packet.class)) r.packets → ⊥))
+    ((e ≡ fault_at run_packet places.None) × (All (λ packet. IsOf packet (entry_numbered classes packet.class)) r.packets → ⊥))
     ⊎ ((e.place ≡ places.None) × (run net classes r.packets r.steps (opening net classes r.packets) ≡ Err e.number))

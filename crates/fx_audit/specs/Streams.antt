@@ -3,6 +3,7 @@ use Rattle.std.specs.Prelude.{◌≡◌, ◌≢◌, ◌⊎◌, ℕ, Err, None, L
 use Rattle.fx_base.specs.declared.fault.Fault.{Fault}
 use Rattle.fx_base.specs.declared.fault.Place.TheVariants as places
 use Rattle.fx_base.specs.Fault.{fault_at}
+use Rattle.fx_base.specs.Refusals.{message_length}
 use Rattle.fx_collect.specs.Totals.{Totals, nothing, with_records}
 use Rattle.fx_collect.specs.Report.{KeysAscend, number_line, totals_text}
 use Rattle.fx_layout.specs.Keys.{Layout}
@@ -21,7 +22,7 @@ EndsWithMessage st = (st.fault ≡ None) × (st.rest ≡ [])
 abbrev pub IsRefusedStream : SessionState → Fault → Type 0
 IsRefusedStream st e =
     (answer_of st.place st.fault ≡ Err e)
-    ⊎ ((st.fault ≡ None) × (st.rest ≢ []) × (e ≡ fault_at 612 (places.Octet st.place)))
+    ⊎ ((st.fault ≡ None) × (st.rest ≢ []) × (e ≡ fault_at message_length (places.Octet st.place)))
 
 -- the text of totals, with their keys in ascending order, and of two numbers
 pub record IsTotalsText (tallied : Totals) (gaps skipped : ℕ) (text : List ℕ) : Type 0 where

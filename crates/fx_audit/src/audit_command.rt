@@ -2,6 +2,7 @@
 ghost use Rattle.std.specs.Prelude.{◌≡◌, ◌⊎◌, IfOk, IfErr};
 ghost use Rattle.fx_base.specs.Device.{Writes, IsWriteFault};
 ghost use Rattle.fx_base.specs.Fault.{IsMemory};
+ghost use Rattle.fx_base.specs.Refusals.{search_too_large};
 ghost use Rattle.fx_search.specs.Found.{certificate_text};
 ghost use Rattle.fx_audit.specs.Audits.{IsAuditedIn, IsFoundText, unknown_line};
 ghost use Rattle.fx_audit.specs.Commands.{IsAudited};
@@ -12,7 +13,7 @@ ghost use Rattle.fx_audit.specs.declared.answer.Answer.TheVariants.{Unknown};
 
 use crate::answer::Answer;
 use crate::document::{Documents, read_documents};
-use fx_base::{Fault, Sink, Source, put_text};
+use fx_base::{Fault, Sink, Source, put_text, refusals};
 use fx_cert::{Item, put_item};
 use fx_refute::put_refutation;
 use fx_search::{Found, search};
@@ -52,13 +53,13 @@ fn put_found<S: Sink>(sink: &mut S, found: &Found) -> Result<Answer, Fault>
 
 /// Answers that nothing was found within the limits, or fails as the search did.
 fn answer_none<S: Sink>(sink: &mut S, fault: Fault) -> Result<Answer, Fault>
-    ensures ok { IfOk result (λ answer. (answer ≡ Unknown) × (fault.number ≡ 601)
+    ensures ok { IfOk result (λ answer. (answer ≡ Unknown) × (fault.number ≡ search_too_large)
         × Writes (S.taken sink.old) (S.taken sink.new) unknown_line) }
-    ensures err { IfErr result (λ e. ((e ≡ fault) × (fault.number ≡ 601 → ⊥))
+    ensures err { IfErr result (λ e. ((e ≡ fault) × (fault.number ≡ search_too_large → ⊥))
         ⊎ IsWriteFault (S.failed sink.new) e) }
     ensures quiet { FailsQuietly S.failed sink.old sink.new result }
 {
-    if fault.number != 601 {
+    if fault.number != refusals::SEARCH_TOO_LARGE {
         return Err(fault);
     }
     put_text(sink, b"unknown 601\n")?;

@@ -16,7 +16,7 @@ use crate::bundle::{Bundle, Command, read_bundle};
 use crate::check_command::check_bytes;
 use crate::confirm_command::confirm_bytes;
 use crate::replay_command::replay_bytes;
-use fx_base::{Fault, LineReader, Octets, Sink, Source, read_whole};
+use fx_base::{Fault, LineReader, Octets, Sink, Source, read_whole, refusals};
 use fx_layout::Seed;
 use std::alloc::Global;
 
@@ -114,7 +114,7 @@ pub fn bundle_bytes<B: Source, S: Sink>(
 {
     let octets = read_whole(alloc, bundle)?;
     let Some(bundle) = read_bundle(octets.as_slice()) else {
-        return Err(Fault::bare(801));
+        return Err(Fault::bare(refusals::SCHEDULE_OR_BUNDLE));
     };
     answer_bundle(alloc, seed, &bundle, sink)
 }

@@ -12,7 +12,7 @@ ghost use Rattle.fx_audit.specs.declared.answer.Answer.TheVariants.{Yes, No};
 
 use crate::answer::{Answer, answer_refusal};
 use crate::document::{Documents, read_documents};
-use fx_base::{Fault, LineReader, Sink, Source, put_text};
+use fx_base::{Fault, LineReader, Sink, Source, put_text, refusals};
 use fx_check::check;
 use std::alloc::Global;
 
@@ -38,7 +38,12 @@ fn check_lines<C: Source, S: Sink>(
             put_text(sink, b"yes\n")?;
             Ok(Answer::Yes)
         }
-        Err(fault) => answer_refusal(sink, fault, 401, 415),
+        Err(fault) => answer_refusal(
+            sink,
+            fault,
+            refusals::CERTIFICATE_FIRST,
+            refusals::CERTIFICATE_LAST,
+        ),
     }
 }
 

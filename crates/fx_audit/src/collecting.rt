@@ -11,7 +11,7 @@ ghost use Rattle.fx_audit.specs.Texts.{IsCollectText};
 ghost use Rattle.fx_audit.specs.declared.answer.Answer.TheVariants.{Yes};
 
 use crate::answer::Answer;
-use fx_base::{Fault, PieceReader, Sink, Source};
+use fx_base::{Fault, PieceReader, Sink, Source, refusals};
 use fx_collect::{Totals, put_number_line};
 use fx_layout::Seed;
 use fx_session::Session;
@@ -114,7 +114,7 @@ pub fn collect<R: Source, S: Sink>(
     let mut totals = Totals::new(alloc, seed, net.report_layout().copy())?;
     tally_stream(&mut session, &mut totals, stream)?;
     if session.left() > 0 {
-        return Err(Fault::at_octet(612, session.place()));
+        return Err(Fault::at_octet(refusals::MESSAGE_LENGTH, session.place()));
     }
     put_collected(&session, &mut totals, sink)?;
     Ok(Answer::Yes)

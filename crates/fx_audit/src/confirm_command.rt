@@ -13,7 +13,7 @@ ghost use Rattle.fx_audit.specs.declared.answer.Answer.TheVariants.{Yes, No};
 
 use crate::answer::{Answer, answer_refusal};
 use crate::document::{Documents, read_documents};
-use fx_base::{Fault, LineReader, Sink, Source, put_text};
+use fx_base::{Fault, LineReader, Sink, Source, put_text, refusals};
 use fx_collect::Totals;
 use fx_refute::{confirm, read_refutation};
 use std::alloc::Global;
@@ -71,7 +71,12 @@ fn confirm_lines<C: Source, S: Sink>(
             put_refuted(sink, &ran, &plain)?;
             Ok(Answer::Yes)
         }
-        Err(fault) => answer_refusal(sink, fault, 501, 505),
+        Err(fault) => answer_refusal(
+            sink,
+            fault,
+            refusals::REFUTATION_FIRST,
+            refusals::REFUTATION_LAST,
+        ),
     }
 }
 

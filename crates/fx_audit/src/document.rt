@@ -6,11 +6,12 @@ ghost use Rattle.fx_base.specs.Device.{MayHaveLeft};
 ghost use Rattle.fx_base.specs.Fault.{fault_at, IsMemory};
 ghost use Rattle.fx_base.specs.declared.fault.Fault.{Fault};
 ghost use Rattle.fx_base.specs.declared.fault.Place.TheVariants as places;
+ghost use Rattle.fx_base.specs.Refusals.{not_json};
 ghost use Rattle.fx_topology.specs.Networks.{device_names};
 ghost use Rattle.fx_traffic.specs.Classes.{traffic_faults};
 ghost use Rattle.fx_audit.specs.Documents.{BothMayHaveLeft, CannotRead, IfNetworkRefused, IsFirstFault, IsJson, IsNetworkDocument, IsRefusedByDocuments, IsRefusedNetwork, IsTraffic};
 
-use fx_base::{Fault, Source, read_whole};
+use fx_base::{Fault, Source, read_whole, refusals};
 use fx_plan::{Plan, read_plan};
 use fx_traffic::{Traffic, read_traffic};
 use serde_json::Value;
@@ -22,15 +23,15 @@ use std::alloc::Global;
 fn value_of(alloc: Global, octets: &[u8]) -> Result<Value, Fault>
     ensures ok { IfOk result (λ value. IsJson octets.now (view value)) }
     ensures err { IfErr result (λ e. IsMemory e
-        ⊎ ((e ≡ fault_at 101 places.None) × ((d : Data) → IsJson octets.now d → ⊥))) }
+        ⊎ ((e ≡ fault_at not_json places.None) × ((d : Data) → IsJson octets.now d → ⊥))) }
 {
     match Value::from_slice(alloc, octets) {
         Ok(value) => Ok(value),
         Err(error) => {
             if error.is_memory() {
-                return Err(Fault::bare(900));
+                return Err(Fault::bare(refusals::WANT_OF_MEMORY));
             }
-            Err(Fault::bare(101))
+            Err(Fault::bare(refusals::NOT_JSON))
         }
     }
 }

@@ -1,15 +1,15 @@
-//! The command that says whether a network's document means a network, from octets to octets.
+//! The commands that say whether documents mean a network and its traffic, from octets to octets.
 ghost use Rattle.std.specs.Prelude.{◌≡◌, ◌⊎◌, IfOk, IfErr};
 ghost use Rattle.fx_base.specs.Device.{IsWriteFault, MayHaveLeft};
 ghost use Rattle.fx_base.specs.Fault.{IsMemory};
-ghost use Rattle.fx_audit.specs.Commands.{IsLinted};
-ghost use Rattle.fx_audit.specs.Documents.{CannotRead, IsRefusedNetwork};
+ghost use Rattle.fx_audit.specs.Commands.{AreLinted, IsLinted};
+ghost use Rattle.fx_audit.specs.Documents.{BothMayHaveLeft, CannotRead, IfNetworkRefused, IsRefusedByDocuments, IsRefusedNetwork};
 ghost use Rattle.fx_audit.specs.Outputs.{AnswersWith, Prints};
 ghost use Rattle.fx_audit.specs.Texts.{IsLintText};
 ghost use Rattle.fx_audit.specs.declared.answer.Answer.TheVariants.{Yes};
 
 use crate::answer::Answer;
-use crate::document::network_from;
+use crate::document::{network_from, read_documents};
 use fx_base::{Fault, Sink, Source, put_text};
 use std::alloc::Global;
 
@@ -34,6 +34,36 @@ pub fn lint_bytes<N: Source, S: Sink>(
     ensures answers { AnswersWith S.taken S.failed IsLintText sink.old sink.new result }
 {
     network_from(alloc, network)?;
+    put_text(sink, b"ok\n")?;
+    Ok(Answer::Yes)
+}
+
+/// Reads a network document and a traffic declaration, and writes the line `ok` where both mean something: where every
+/// other command would take them.
+///
+/// Fails with the first refusal: 101 and those of [`fx_plan::read_plan`] for the network, with nothing of the traffic
+/// read before; 101 and those of [`fx_traffic::read_traffic`] for the traffic. 901 comes where a read fails or a reader
+/// hasn't ended after 4,294,967,296 calls, 900 for want of memory, 902 where a write fails. Nothing is written for a
+/// fault other than 902, nor before both documents are read to their ends.
+pub fn lint_both_bytes<N: Source, T: Source, S: Sink>(
+    alloc: Global,
+    network: &mut N,
+    traffic: &mut T,
+    sink: &mut S,
+) -> Result<Answer, Fault>
+    ensures ok { IfOk result (λ answer. (answer ≡ Yes)
+        × BothMayHaveLeft (N.left network.old) (T.left traffic.old) (λ n t.
+        Prints (AreLinted n t) (S.taken sink.old) (S.taken sink.new))) }
+    ensures err { IfErr result (λ e. IsMemory e
+        ⊎ (CannotRead N.left N.calls N.failed network.old network.new e
+        ⊎ (CannotRead T.left T.calls T.failed traffic.old traffic.new e
+        ⊎ (IsWriteFault (S.failed sink.new) e
+        ⊎ BothMayHaveLeft (N.left network.old) (T.left traffic.old)
+        (λ n t. IsRefusedByDocuments n t e))))) }
+    ensures answers { AnswersWith S.taken S.failed IsLintText sink.old sink.new result }
+    ensures order { IfNetworkRefused (N.left network.old) (traffic.new ≡ traffic.old) }
+{
+    read_documents(alloc, network, traffic)?;
     put_text(sink, b"ok\n")?;
     Ok(Answer::Yes)
 }

@@ -3,6 +3,7 @@ ghost use Rattle.std.specs.Prelude.{◌≡◌, ◌⊎◌, ℕ, List, None, Ok, E
 ghost use Rattle.fx_base.specs.Device.{Writes, IsWriteFault};
 ghost use Rattle.fx_base.specs.Fault.{IsMemory};
 ghost use Rattle.fx_base.specs.declared.fault.Place.TheVariants as places;
+ghost use Rattle.fx_base.specs.Refusals.{want_of_memory};
 ghost use Rattle.fx_machine.specs.States as states;
 ghost use Rattle.fx_machine.specs.Steps as stepping;
 ghost use Rattle.fx_collect.specs.Totals.{totals_of, totals_in};
@@ -28,7 +29,7 @@ fn make_steps(state: &mut State<'_>, steps: &[Step]) -> Result<(), Fault>
         × (state.new.state ≡ states.told_state last)) }
     ensures net { state.new.net ≡ state.old.net }
     ensures err { IfErr result (λ e. (e.place ≡ places.None)
-        × ((e.number ≡ 900) ⊎ ((s : states.State) → state.old.state ≡ states.told_state s
+        × ((e.number ≡ want_of_memory) ⊎ ((s : states.State) → state.old.state ≡ states.told_state s
         → stepping.run state.old.net state.old.classes state.old.packets steps.now s
         ≡ Err e.number))) }
 {

@@ -1,0 +1,44 @@
+//! Laws of what the commands answer.
+ghost use Rattle.std.specs.Prelude.{◌≡◌, ℕ, List, None, Option, true};
+ghost use Rattle.fx_base.specs.Lines.{Lines};
+ghost use Rattle.fx_base.specs.Refusals.{is_refusal_number};
+ghost use Rattle.fx_base.specs.declared.fault.Fault as faults;
+ghost use Rattle.fx_link.specs.Links.{Put};
+ghost use Rattle.fx_tables.specs.Classes.{Class};
+ghost use Rattle.fx_topology.specs.declared.network.NetworkDocument as networks;
+ghost use Rattle.fx_audit.specs.Checks.{IsNoAnswer, MeansNo};
+ghost use Rattle.fx_audit.specs.Commands.{IsRefusedBundle, IsRefusedCheck, IsRefusedCollect, IsRefusedConfirm, IsRefusedReplay};
+ghost use Rattle.fx_audit.specs.Confirms.{IsRefusedRefutation, RefutesNothing};
+ghost use Rattle.fx_audit.specs.Documents.{IsRefusedByDocuments, IsRefusedNetwork};
+ghost use Rattle.fx_audit.specs.Metering.{IsRefusedMetering};
+
+/// The first fault of a network's document, that of a declaration of traffic, a number that makes the answer to a
+/// certificate or to a refutation `no`, what else a check ends with, and what each command refuses behind its documents
+/// have numbers that are listed: each is told in words. The reader of a schedule is one that hadn't stopped before.
+pub fn refusals_are_listed()
+    ensures network { (octets : List ℕ) (e : faults.Fault)
+        → IsRefusedNetwork octets e → is_refusal_number e.number ≡ true }
+    ensures documents { (network : List ℕ) (traffic : List ℕ) (e : faults.Fault)
+        → IsRefusedByDocuments network traffic e → is_refusal_number e.number ≡ true }
+    ensures certificate { (number : ℕ) → MeansNo number → is_refusal_number number ≡ true }
+    ensures refutation { (number : ℕ) → RefutesNothing number → is_refusal_number number ≡ true }
+    ensures unanswered { (e : faults.Fault) → IsNoAnswer e → is_refusal_number e.number ≡ true }
+    ensures check { (network : List ℕ) (traffic : List ℕ) (lines : Lines) (e : faults.Fault)
+        → IsRefusedCheck network traffic lines e → is_refusal_number e.number ≡ true }
+    ensures replay { (network : List ℕ) (traffic : List ℕ) (lines : Lines) (e : faults.Fault)
+        → IsRefusedReplay network traffic lines e → is_refusal_number e.number ≡ true }
+    ensures refuted { (network : networks.NetworkDocument) (classes : List Class) (lines : Lines)
+        (e : faults.Fault)
+        → IsRefusedRefutation network classes lines e → is_refusal_number e.number ≡ true }
+    ensures confirm { (network : List ℕ) (traffic : List ℕ) (lines : Lines) (e : faults.Fault)
+        → IsRefusedConfirm network traffic lines e → is_refusal_number e.number ≡ true }
+    ensures collect { (network : List ℕ) (stream : List ℕ) (e : faults.Fault)
+        → IsRefusedCollect network stream e → is_refusal_number e.number ≡ true }
+    ensures metering { (network : List ℕ) (traffic : List ℕ) (left : Option (List ℕ)) (asked : ℕ)
+        (from : Lines) (last : Lines) (before : Put) (e : faults.Fault)
+        → from.stopped ≡ None
+        → IsRefusedMetering network traffic left asked (Unit {0}) from last before e
+        → is_refusal_number e.number ≡ true }
+    ensures bundle { (octets : List ℕ) (e : faults.Fault)
+        → IsRefusedBundle octets e → is_refusal_number e.number ≡ true }
+{}
