@@ -1,0 +1,271 @@
+//! Why a certificate is refused, in words.
+ghost use Rattle.std.specs.Prelude.{◌≡◌, ◌⊎◌, ◌≤◌, IfErr, OnOk, length};
+ghost use Rattle.fx_base.specs.Device.{IsWriteFault, KeepsGoing};
+ghost use Rattle.fx_base.specs.Fault.{IsMemory};
+ghost use Rattle.fx_stories.specs.Stories.{IsUntold, WritesStory};
+
+use crate::again::{Documents, documents_again};
+use crate::leaves::tell_leaf;
+use crate::lines::{next_line, tell_line};
+use crate::paths::tell_path;
+use crate::regions::{axis_word, tell_region};
+use crate::story::{Piece, Story};
+use crate::walk::Walk;
+use crate::watching::tell_watching;
+use fx_base::{Fault, LineReader, Place, Sink, Source, put_text, refusals};
+use fx_boxes::Region;
+use fx_cert::{Item, read_item};
+use fx_check::tables_of;
+use fx_leaf::{Counted, Scratch, cut};
+use fx_plan::Plan;
+use fx_tables::Crossing;
+use fx_traffic::Target;
+use std::alloc::Global;
+
+/// Tells where to split a region that something cuts.
+fn tell_cut(
+    alloc: Global,
+    story: &mut Story,
+    plan: &Plan,
+    crossings: &[Crossing],
+    region: &Region,
+) -> Result<(), Fault>
+    ensures err { IfErr result IsMemory }
+{
+    let tables = tables_of(plan);
+    let mut scratch = Scratch::new(alloc, &tables)?;
+    if let Some((axis, at)) = cut(&mut scratch, &tables, crossings, region) {
+        story.sentence(&[
+            Piece::Text("split the region by "),
+            Piece::Text(axis_word(axis)),
+            Piece::Text(" at "),
+            Piece::Value(axis, at),
+        ])?;
+    }
+    Ok(())
+}
+
+/// Tells a region in a line.
+fn tell_region_line(story: &mut Story, region: &Region) -> Result<(), Fault>
+    ensures err { IfErr result IsMemory }
+{
+    story.tell(&[Piece::Text("region: ")])?;
+    tell_region(story, region)?;
+    story.end_line()?;
+    Ok(())
+}
+
+/// Tells what a line of a region's tree is about.
+fn tell_item(story: &mut Story, plan: &Plan, target: &Target<'_>, item: &Item) -> Result<(), Fault>
+    ensures err { IfErr result IsMemory }
+{
+    match item {
+        Item::Leaf {
+            crossing,
+            point,
+            process,
+        } => {
+            let leaf = Counted {
+                crossing: *crossing,
+                point: *point,
+                process: *process,
+            };
+            tell_leaf(story, plan, target.crossings, &leaf)?;
+        }
+        Item::Split { axis, at } => story.sentence(&[
+            Piece::Text("the split is by "),
+            Piece::Text(axis_word(*axis)),
+            Piece::Text(" at "),
+            Piece::Value(*axis, *at),
+        ])?,
+        _ => {}
+    }
+    Ok(())
+}
+
+/// Whether a refusal of this number is about what becomes of a leaf's packets.
+fn is_of_packets(number: u16) -> bool {
+    (refusals::CUT_REGION..=refusals::COUNTED_ELSEWHERE).contains(&number)
+        || number == refusals::UNASSIGNED_RECORD
+        || number == refusals::EXEMPT_COUNTED
+}
+
+/// Tells the place of a region in its tree, and why it is refused with this number.
+fn tell_tree(
+    alloc: Global,
+    story: &mut Story,
+    documents: &Documents,
+    target: &Target<'_>,
+    region: &Region,
+    number: u16,
+) -> Result<(), Fault>
+    ensures err { IfErr result IsMemory }
+{
+    tell_region_line(story, region)?;
+    if is_of_packets(number) {
+        tell_watching(story, &documents.plan, region, target.crossings)?;
+    }
+    if number == refusals::CUT_REGION {
+        tell_cut(alloc, story, &documents.plan, target.crossings, region)?;
+    }
+    Ok(())
+}
+
+/// Tells which line should stand between the trees.
+fn tell_between(
+    story: &mut Story,
+    documents: &Documents,
+    targets: &[Target<'_>],
+    begun: usize,
+) -> Result<(), Fault>
+    ensures err { IfErr result IsMemory }
+{
+    match targets.get(begun) {
+        Some(target) => {
+            story.tell(&[Piece::Text("what comes next is ")])?;
+            tell_path(
+                story,
+                documents,
+                target.class,
+                target.path,
+                target.crossings,
+            )?;
+        }
+        None => story.sentence(&[Piece::Text("all paths have their trees")])?,
+    }
+    Ok(())
+}
+
+/// Tells where the walk stands, and what is wrong there.
+fn tell_stand(
+    alloc: Global,
+    story: &mut Story,
+    documents: &Documents,
+    targets: &[Target<'_>],
+    walk: &Walk,
+    item: Option<Item>,
+    number: u16,
+) -> Result<(), Fault>
+    ensures err { IfErr result IsMemory }
+{
+    let Some(region) = &walk.region else {
+        return tell_between(story, documents, targets, walk.begun);
+    };
+    let Some(target) = targets.get(walk.begun.saturating_sub(1)) else {
+        return Ok(());
+    };
+    tell_path(
+        story,
+        documents,
+        target.class,
+        target.path,
+        target.crossings,
+    )?;
+    if let Some(item) = &item {
+        tell_item(story, &documents.plan, target, item)?;
+    }
+    tell_tree(alloc, story, documents, target, region, number)
+}
+
+/// Goes past the lines before the one of this number.
+fn go_before<C: Source>(
+    walk: &mut Walk,
+    targets: &[Target<'_>],
+    lines: &mut LineReader<C>,
+    number: u64,
+) -> Result<(), Fault>
+    ensures err { IfErr result IsUntold }
+{
+    'lines: while lines.number().saturating_add(1) < number {
+        if !next_line(lines)? {
+            return Ok(());
+        }
+        if let Ok(item) = read_item(&lines.line()) {
+            walk.take(targets, &item)?;
+        }
+    }
+    Ok(())
+}
+
+/// Tells the next line, and answers what it says.
+fn tell_next<C: Source>(story: &mut Story, lines: &mut LineReader<C>) -> Result<Option<Item>, Fault>
+    ensures err { IfErr result IsUntold }
+{
+    if !next_line(lines)? {
+        return Ok(None);
+    }
+    let line = lines.line();
+    tell_line(story, &line)?;
+    Ok(read_item(&line).ok())
+}
+
+/// Tells what a certificate's line of this number is about, over the documents.
+fn tell_certificate<C: Source>(
+    alloc: Global,
+    story: &mut Story,
+    documents: &Documents,
+    certificate: &mut LineReader<C>,
+    fault: &Fault,
+    number: u64,
+) -> Result<(), Fault>
+    ensures err { IfErr result IsUntold }
+{
+    let targets = documents.traffic.targets(alloc)?;
+    let mut walk = Walk::new(alloc);
+    go_before(&mut walk, targets.as_slice(), certificate, number)?;
+    let item = tell_next(story, certificate)?;
+    tell_stand(
+        alloc,
+        story,
+        documents,
+        targets.as_slice(),
+        &walk,
+        item,
+        fault.number,
+    )
+}
+
+/// What is to be told of a certificate's refusal.
+fn story_of<C: Source>(
+    alloc: Global,
+    network: &[u8],
+    traffic: &[u8],
+    certificate: &mut LineReader<C>,
+    fault: &Fault,
+) -> Result<Story, Fault>
+    ensures err { IfErr result IsUntold }
+{
+    let mut story = Story::new(alloc);
+    if let Place::Line(number) = &fault.place {
+        if let Some(documents) = documents_again(alloc, network, traffic)? {
+            tell_certificate(alloc, &mut story, &documents, certificate, fault, *number)?;
+        }
+    }
+    Ok(story)
+}
+
+/// Writes in sentences what a refusal of a certificate, 401 to 415 at a line, is about: the line, at most 200 octets of
+/// it; the class and the path by name; the region of the line, with what the line names; and for a leaf what sees the
+/// region's packets along the path and where its records go, and where to split it, if something cuts it. The documents
+/// are those over which the certificate was refused, the lines those of its text, opened anew. What can't be told is
+/// left out. The text has no control characters but line feeds.
+///
+/// Fails with 900 for want of memory; with 901 where a read fails, or the reader hasn't ended after 4,294,967,296 calls;
+/// with 903 at a line of more than 4,096 octets; with 902 where a write fails. Nothing is written for a fault other than
+/// 902.
+pub fn put_certificate_words<C: Source, S: Sink>(
+    alloc: Global,
+    network: &[u8],
+    traffic: &[u8],
+    certificate: &mut LineReader<C>,
+    fault: &Fault,
+    sink: &mut S,
+) -> Result<(), Fault>
+    ensures ok { OnOk result (WritesStory (S.taken sink.old) (S.taken sink.new)) }
+    ensures going { OnOk result (KeepsGoing (S.failed sink.old) (S.failed sink.new)) }
+    ensures err { IfErr result (λ e. (IsUntold e × (sink.new ≡ sink.old))
+        ⊎ IsWriteFault (S.failed sink.new) e) }
+{
+    let story = story_of(alloc, network, traffic, certificate, fault)?;
+    put_text(sink, story.octets())
+}

@@ -1,0 +1,185 @@
+//! Why a document is refused, in words.
+ghost use Rattle.std.specs.Prelude.{◌≡◌, ◌⊎◌, IfErr, OnOk};
+ghost use Rattle.fx_base.specs.Device.{IsWriteFault, KeepsGoing};
+ghost use Rattle.fx_base.specs.Fault.{IsMemory};
+ghost use Rattle.fx_stories.specs.Stories.{WritesStory};
+
+use crate::again::{plan_again, value_again};
+use crate::elements::tell_value;
+use crate::ends::{
+    tell_cycle, tell_link_ends, tell_report_end, tell_unknown_device, tell_unknown_name,
+};
+use crate::json::tell_json;
+use crate::members::tell_lacking;
+use crate::pointers::last_member;
+use crate::story::{Piece, Story};
+use fx_base::{Fault, Place, Sink, put_text, refusals};
+use serde_json::Value;
+use std::alloc::{AllocError, Global};
+
+/// Tells what a refusal at a pointer into a network is about: which names name nothing there.
+fn tell_names(
+    story: &mut Story,
+    network: &Value,
+    value: &Value,
+    pointer: &str,
+    number: u16,
+) -> Result<(), AllocError> {
+    match number {
+        refusals::UNKNOWN_NAME => match value.as_str() {
+            Some(name) => tell_unknown_name(story, network, pointer, name),
+            None => Ok(()),
+        },
+        refusals::UNKNOWN_DEVICE => match value.as_str() {
+            Some(name) => tell_unknown_device(story, network, name),
+            None => Ok(()),
+        },
+        refusals::UNKNOWN_LINK_END => tell_link_ends(story, network, value),
+        refusals::UNKNOWN_REPORT_PROCESS => tell_report_end(story, network, value),
+        _ => Ok(()),
+    }
+}
+
+/// A document that is refused, and the network that it is, or that it is over.
+#[derive(Drop)]
+struct Refused {
+    network: Value,
+    /// The traffic's document, where that is refused.
+    traffic: Option<Value>,
+}
+
+/// Tells what a refusal at a pointer is about.
+fn tell_at(
+    alloc: Global,
+    story: &mut Story,
+    refused: &Refused,
+    pointer: &str,
+    number: u16,
+) -> Result<(), AllocError> {
+    let document = match &refused.traffic {
+        Some(traffic) => traffic,
+        None => &refused.network,
+    };
+    let Some(value) = document.pointer(pointer) else {
+        return Ok(());
+    };
+    match number {
+        refusals::MISSING_MEMBER => {
+            let is_network = refused.traffic.is_none();
+            tell_lacking(story, value, last_member(pointer), is_network)
+        }
+        refusals::WRONG_KIND
+        | refusals::BAD_VALUE
+        | refusals::NAME_TWICE
+        | refusals::TOTAL_COUNTER
+        | refusals::CACHE_COUNTER_LENGTH
+        | refusals::KEY_WITHOUT_AXIS
+        | refusals::REPORT_KEY
+        | refusals::CLASS_TWICE
+        | refusals::TRAFFIC_VALUE => tell_value(alloc, story, value),
+        _ => tell_names(story, &refused.network, value, pointer, number),
+    }
+}
+
+/// Tells what a refusal of a document is about.
+fn tell_refused(
+    alloc: Global,
+    story: &mut Story,
+    refused: &Refused,
+    fault: &Fault,
+) -> Result<(), AllocError> {
+    match &fault.place {
+        Place::Text(text) if fault.number == refusals::LINK_CYCLE => {
+            tell_cycle(story, &refused.network, text.as_str())
+        }
+        Place::Text(text) => tell_at(alloc, story, refused, text.as_str(), fault.number),
+        Place::None => tell_at(alloc, story, refused, "", fault.number),
+        _ => Ok(()),
+    }
+}
+
+/// Tells what the refusal of a network is about.
+fn tell_network(
+    alloc: Global,
+    story: &mut Story,
+    network: &[u8],
+    fault: &Fault,
+) -> Result<(), AllocError> {
+    match value_again(alloc, network)? {
+        Some(network) => {
+            let refused = Refused {
+                network,
+                traffic: None,
+            };
+            tell_refused(alloc, story, &refused, fault)
+        }
+        None => tell_json(alloc, story, network),
+    }
+}
+
+/// Tells what the refusal of a traffic declaration is about.
+fn tell_traffic(
+    alloc: Global,
+    story: &mut Story,
+    network: &[u8],
+    traffic: &[u8],
+    fault: &Fault,
+) -> Result<(), AllocError> {
+    let Some(declared) = value_again(alloc, traffic)? else {
+        return tell_json(alloc, story, traffic);
+    };
+    match value_again(alloc, network)? {
+        Some(network) => {
+            let refused = Refused {
+                network,
+                traffic: Some(declared),
+            };
+            tell_refused(alloc, story, &refused, fault)
+        }
+        None => Ok(()),
+    }
+}
+
+/// What is to be told of a document's refusal.
+fn story_of(
+    alloc: Global,
+    name: &str,
+    network: &[u8],
+    traffic: Option<(&str, &[u8])>,
+    fault: &Fault,
+) -> Result<Story, AllocError> {
+    let mut story = Story::new(alloc);
+    if plan_again(alloc, network)?.is_none() {
+        story.sentence(&[Piece::Text("file: "), Piece::Text(name)])?;
+        tell_network(alloc, &mut story, network, fault)?;
+    } else if let Some((name, traffic)) = traffic {
+        story.sentence(&[Piece::Text("file: "), Piece::Text(name)])?;
+        tell_traffic(alloc, &mut story, network, traffic, fault)?;
+    }
+    Ok(story)
+}
+
+/// Writes in sentences what a refusal of a document, 101 to 115, 201 to 207 or 301 to 305, is about: the name of the
+/// file, which is the network's where the network is refused, else the traffic's; where a text is no JSON, the line, the
+/// column and the reason; which members are missing and which are there; a value that isn't allowed, at most 200 octets
+/// of its JSON text, with what is wrong with the elements that it names; which name names nothing, and the names that
+/// there are; which collecting processes stand on a circle of links. The octets are those that were refused. What can't
+/// be told is left out. The text has no control characters but line feeds.
+///
+/// Fails with 900 for want of memory, and then nothing is written; with 902 where a write fails.
+pub fn put_document_words<S: Sink>(
+    alloc: Global,
+    network_name: &str,
+    network: &[u8],
+    traffic: Option<(&str, &[u8])>,
+    fault: &Fault,
+    sink: &mut S,
+) -> Result<(), Fault>
+    ensures ok { OnOk result (WritesStory (S.taken sink.old) (S.taken sink.new)) }
+    ensures going { OnOk result (KeepsGoing (S.failed sink.old) (S.failed sink.new)) }
+    ensures err { IfErr result (λ e. (IsMemory e × (sink.new ≡ sink.old))
+        ⊎ IsWriteFault (S.failed sink.new) e) }
+{
+    let story = story_of(alloc, network_name, network, traffic, fault)?;
+    put_text(sink, story.octets())
+}

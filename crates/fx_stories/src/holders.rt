@@ -1,0 +1,202 @@
+//! Records that leave a cache or an aggregation, and records that reach a collecting process.
+use crate::names::entry_named;
+use crate::sending::{tell_end, tell_sending};
+use crate::story::{Piece, Story};
+use fx_base::{Name, entry_numbered};
+use fx_config::{Aggregation, CollectingProcess};
+use fx_plan::Plan;
+use fx_tables::HolderName;
+use fx_topology::{NamedLink, NetworkDevice, Report};
+use std::alloc::AllocError;
+
+/// Tells where a record goes that leaves a cache or an aggregation of a device.
+fn tell_leaving(
+    story: &mut Story,
+    plan: &Plan,
+    device: &NetworkDevice,
+    exporters: &[Name],
+    choices: &[Option<u64>],
+) -> Result<(), AllocError> {
+    story.tell(&[
+        Piece::Text(" of "),
+        Piece::Text(device.name.as_str()),
+        Piece::Text(": "),
+    ])?;
+    tell_sending(story, plan, device, exporters, choices)?;
+    if exporters.is_empty() {
+        story.tell(&[Piece::Text("it has no exporting process, so the record is lost")])?;
+    }
+    story.end_line()
+}
+
+/// Tells that a record leaves the cache of this number.
+fn tell_cache(
+    story: &mut Story,
+    plan: &Plan,
+    device: &NetworkDevice,
+    number: u64,
+    choices: &[Option<u64>],
+) -> Result<(), AllocError> {
+    let Some(cache) = entry_numbered(device.config.caches.as_slice(), number) else {
+        return story.sentence(&[Piece::Text("there is no cache "), Piece::Number(number)]);
+    };
+    story.tell(&[
+        Piece::Text("a record leaves cache "),
+        Piece::Quoted(cache.name.as_str()),
+    ])?;
+    tell_leaving(
+        story,
+        plan,
+        device,
+        cache.exporting_processes.as_slice(),
+        choices,
+    )
+}
+
+/// Tells that a record leaves the aggregation of this number of a collecting process.
+fn tell_aggregation(
+    story: &mut Story,
+    plan: &Plan,
+    device: &NetworkDevice,
+    process: u64,
+    number: u64,
+    choices: &[Option<u64>],
+) -> Result<(), AllocError> {
+    let processes = device.config.collecting_processes.as_slice();
+    let Some(process) = entry_numbered(processes, process) else {
+        return story.sentence(&[
+            Piece::Text("there is no collecting process "),
+            Piece::Number(process),
+        ]);
+    };
+    let Some(aggregation) = entry_numbered(process.aggregations.as_slice(), number) else {
+        return story.sentence(&[
+            Piece::Text("there is no aggregation "),
+            Piece::Number(number),
+        ]);
+    };
+    story.tell(&[
+        Piece::Text("a record leaves aggregation "),
+        Piece::Quoted(aggregation.name.as_str()),
+    ])?;
+    tell_leaving(
+        story,
+        plan,
+        device,
+        aggregation.exporting_processes.as_slice(),
+        choices,
+    )
+}
+
+/// Tells that a record leaves what holds it, and where it goes by the choices of the step.
+pub(crate) fn tell_expiry(
+    story: &mut Story,
+    plan: &Plan,
+    holder: HolderName,
+    choices: &[Option<u64>],
+) -> Result<(), AllocError> {
+    let number = match holder {
+        HolderName::Cache { device, .. } => device,
+        HolderName::Aggregation { device, .. } => device,
+    };
+    let Some(device) = entry_numbered(plan.network().devices.as_slice(), number) else {
+        return story.sentence(&[Piece::Text("there is no device "), Piece::Number(number)]);
+    };
+    match holder {
+        HolderName::Cache { cache, .. } => tell_cache(story, plan, device, cache, choices),
+        HolderName::Aggregation {
+            process,
+            aggregation,
+            ..
+        } => tell_aggregation(story, plan, device, process, aggregation, choices),
+    }
+}
+
+/// Whether a link leads to the collecting process of the report.
+fn leads_to_report(report: &Report, link: &NamedLink) -> bool {
+    report.device == link.to_device && report.collecting_process == link.to_process
+}
+
+/// Tells which of these aggregations take a record in, where so many of them do.
+fn tell_taking(
+    story: &mut Story,
+    aggregations: &[Aggregation],
+    taken: usize,
+) -> Result<(), AllocError> {
+    let words = if taken >= aggregations.len() {
+        " takes it in"
+    } else {
+        " may take it in"
+    };
+    if taken == 0 {
+        return Ok(());
+    }
+    for aggregation in aggregations {
+        story.tell(&[
+            Piece::Text("; aggregation "),
+            Piece::Quoted(aggregation.name.as_str()),
+            Piece::Text(words),
+        ])?;
+    }
+    Ok(())
+}
+
+/// Tells what a collecting process does with a record, by the choices of the step.
+fn tell_handling(
+    story: &mut Story,
+    plan: &Plan,
+    device: &NetworkDevice,
+    process: &CollectingProcess,
+    choices: &[Option<u64>],
+) -> Result<(), AllocError> {
+    let exporters = process.exporting_processes.as_slice();
+    if !exporters.is_empty() {
+        story.tell(&[Piece::Text("; ")])?;
+    }
+    let made = tell_sending(story, plan, device, exporters, choices)?;
+    let taken = choices.len().saturating_sub(made);
+    tell_taking(story, process.aggregations.as_slice(), taken)
+}
+
+/// Tells that a record reaches the collecting process at the end of a link.
+fn tell_reaching(
+    story: &mut Story,
+    plan: &Plan,
+    link: &NamedLink,
+    choices: &[Option<u64>],
+) -> Result<(), AllocError> {
+    story.tell(&[
+        Piece::Text("a record on the link from destination "),
+        Piece::Quoted(link.destination.as_str()),
+        Piece::Text(" of exporting process "),
+        Piece::Quoted(link.exporting_process.as_str()),
+        Piece::Text(" of "),
+        Piece::Text(link.device.as_str()),
+        Piece::Text(" reaches "),
+    ])?;
+    tell_end(story, link)?;
+    if leads_to_report(&plan.network().report, link) {
+        story.tell(&[Piece::Text("; it is counted")])?;
+    }
+    let devices = plan.network().devices.as_slice();
+    if let Some(device) = entry_named(devices, &link.to_device) {
+        let processes = device.config.collecting_processes.as_slice();
+        if let Some(process) = entry_named(processes, &link.to_process) {
+            tell_handling(story, plan, device, process, choices)?;
+        }
+    }
+    story.end_line()
+}
+
+/// Tells that a record on the link of this number reaches its end.
+pub(crate) fn tell_arrival(
+    story: &mut Story,
+    plan: &Plan,
+    number: u64,
+    choices: &[Option<u64>],
+) -> Result<(), AllocError> {
+    match entry_numbered(plan.network().links.as_slice(), number) {
+        Some(link) => tell_reaching(story, plan, link, choices),
+        None => story.sentence(&[Piece::Text("there is no link "), Piece::Number(number)]),
+    }
+}

@@ -1,0 +1,79 @@
+//! What is read in silence in documents that are accepted, in words.
+ghost use Rattle.std.specs.Prelude.{◌≡◌, ◌⊎◌, IfErr, OnOk};
+ghost use Rattle.fx_base.specs.Device.{IsWriteFault, KeepsGoing};
+ghost use Rattle.fx_base.specs.Fault.{IsMemory};
+ghost use Rattle.fx_stories.specs.Stories.{WritesStory};
+
+use crate::again::{documents_again, plan_again, value_again};
+use crate::scanning::tell_twice;
+use crate::story::Story;
+use crate::unread::tell_unread_members;
+use crate::unseen::tell_unseen;
+use crate::unused::tell_unused;
+use fx_base::{Fault, Sink, put_text};
+use std::alloc::{AllocError, Global};
+
+/// Tells what is read in silence in a network's document.
+fn tell_network(alloc: Global, story: &mut Story, network: &[u8]) -> Result<(), AllocError> {
+    let Some(value) = value_again(alloc, network)? else {
+        return Ok(());
+    };
+    tell_twice(alloc, story, network)?;
+    tell_unread_members(story, &value)?;
+    match plan_again(alloc, network)? {
+        Some(plan) => tell_unused(story, &plan),
+        None => Ok(()),
+    }
+}
+
+/// Tells what is read in silence in a traffic declaration.
+fn tell_traffic(
+    alloc: Global,
+    story: &mut Story,
+    network: &[u8],
+    traffic: &[u8],
+) -> Result<(), Fault>
+    ensures { IfErr result IsMemory }
+{
+    let Some(documents) = documents_again(alloc, network, traffic)? else {
+        return Ok(());
+    };
+    tell_twice(alloc, story, traffic)?;
+    let targets = documents.traffic.targets(alloc)?;
+    tell_unseen(story, &documents, targets.as_slice())?;
+    Ok(())
+}
+
+/// What is to be told of accepted documents.
+fn story_of(alloc: Global, network: &[u8], traffic: Option<&[u8]>) -> Result<Story, Fault>
+    ensures { IfErr result IsMemory }
+{
+    let mut story = Story::new(alloc);
+    tell_network(alloc, &mut story, network)?;
+    if let Some(traffic) = traffic {
+        tell_traffic(alloc, &mut story, network, traffic)?;
+    }
+    Ok(story)
+}
+
+/// Writes in sentences what is read in silence in a network's document that is accepted, and in a traffic declaration:
+/// members that stand twice in an object, of which the last one counts; members that nothing reads; destinations without
+/// a link; caches that no selection process feeds; crossings whose interface is at no observation point, and paths of
+/// which no observation point sees a crossing. Where there is nothing of the kind, nothing is written. The text has no
+/// control characters but line feeds.
+///
+/// Fails with 900 for want of memory, and then nothing is written; with 902 where a write fails.
+pub fn put_lint_words<S: Sink>(
+    alloc: Global,
+    network: &[u8],
+    traffic: Option<&[u8]>,
+    sink: &mut S,
+) -> Result<(), Fault>
+    ensures ok { OnOk result (WritesStory (S.taken sink.old) (S.taken sink.new)) }
+    ensures going { OnOk result (KeepsGoing (S.failed sink.old) (S.failed sink.new)) }
+    ensures err { IfErr result (λ e. (IsMemory e × (sink.new ≡ sink.old))
+        ⊎ IsWriteFault (S.failed sink.new) e) }
+{
+    let story = story_of(alloc, network, traffic)?;
+    put_text(sink, story.octets())
+}

@@ -1,0 +1,111 @@
+//! Which members an object lacks, and which it has.
+use crate::story::{Piece, Story};
+use serde_json::Value;
+use std::alloc::AllocError;
+
+/// The members that an object has to have: all of the first, and one of the second.
+#[derive(Clone, Copy)]
+struct Required {
+    all: &'static [&'static str],
+    one: &'static [&'static str],
+}
+
+/// What has to be there in the object at a pointer whose last member is this one, or in the whole of a network's or a
+/// traffic's document.
+fn members_required(member: &str, is_network: bool) -> Required {
+    let all: &'static [&'static str] = match member {
+        "" if is_network => &["devices", "links", "report"],
+        "" => &["classes"],
+        "devices" => &["name", "config"],
+        "config" => &["ietf-ipfix-psamp:ipfix"],
+        "links" => &[
+            "device",
+            "exportingProcess",
+            "destination",
+            "toDevice",
+            "toProcess",
+        ],
+        "report" => &["device", "collectingProcess", "key"],
+        "classes" => &["name", "paths"],
+        "paths" => &["device", "interface", "direction"],
+        "observationPoint" => &["name", "observationDomainId", "ifName"],
+        "selectionProcess" => &["name", "selector"],
+        "filterMatch" | "match" => &["value"],
+        "immediateCache" | "timeoutCache" | "naturalCache" | "permanentCache" => &["cacheLayout"],
+        "cacheLayout" => &["cacheField"],
+        "exportingProcess" => &["name", "destination"],
+        "selector" | "cache" | "cacheField" | "destination" | "collectingProcess" => &["name"],
+        "once-audit:aggregation" => &["name"],
+        _ => &[],
+    };
+    let one: &'static [&'static str] = match member {
+        "selector" => &["selectAll", "filterMatch"],
+        "filterMatch" | "match" | "cacheField" | "key" => &["ieName", "ieId"],
+        "cache" => &[
+            "immediateCache",
+            "timeoutCache",
+            "naturalCache",
+            "permanentCache",
+        ],
+        "destination" => &["tcpExporter", "sctpExporter", "udpExporter"],
+        _ => &[],
+    };
+    Required { all, one }
+}
+
+/// Tells those of these members that an object lacks.
+fn tell_missing(
+    story: &mut Story,
+    object: &Value,
+    names: &'static [&'static str],
+) -> Result<(), AllocError> {
+    for name in names {
+        if object.get(*name).is_none() {
+            story.sentence(&[Piece::Text("missing: "), Piece::Text(name)])?;
+        }
+    }
+    Ok(())
+}
+
+/// Tells names, with a separator between two.
+fn tell_choice(story: &mut Story, names: &'static [&'static str]) -> Result<(), AllocError> {
+    let mut separator = "missing: one of ";
+    for name in names {
+        story.tell(&[Piece::Text(separator), Piece::Text(name)])?;
+        separator = ", ";
+    }
+    story.end_line()
+}
+
+/// Tells the members that an object has.
+fn tell_members(story: &mut Story, object: &Value) -> Result<(), AllocError> {
+    let Some(members) = object.as_object() else {
+        return Ok(());
+    };
+    for (name, _) in members.iter() {
+        story.sentence(&[Piece::Text("there: "), Piece::Text(name.as_str())])?;
+    }
+    if members.is_empty() {
+        story.sentence(&[Piece::Text("it has no members")])?;
+    }
+    Ok(())
+}
+
+/// Tells what an object lacks, at a pointer whose last member is this one, and what it has.
+pub(crate) fn tell_lacking(
+    story: &mut Story,
+    object: &Value,
+    member: &str,
+    is_network: bool,
+) -> Result<(), AllocError> {
+    if !object.is_object() {
+        return Ok(());
+    }
+    let required = members_required(member, is_network);
+    tell_missing(story, object, required.all)?;
+    let none = required.one.iter().all(|name| object.get(*name).is_none());
+    if none && !required.one.is_empty() {
+        tell_choice(story, required.one)?;
+    }
+    tell_members(story, object)
+}

@@ -1,0 +1,27 @@
+//! What a number or a name stands for in documents.
+use fx_base::{Name, entry_numbered};
+use fx_config::{Device, ObservationPoint, SelectionProcess};
+use fx_plan::Plan;
+use fx_walk::{Named, place_of};
+
+/// The entry of this name.
+pub(crate) fn entry_named<'a, T: Named>(entries: &'a [T], name: &Name) -> Option<&'a T> {
+    let place = place_of(entries, name)?;
+    entries.get(place)
+}
+
+/// The name of the device of this number, from 1.
+pub(crate) fn device_name(plan: &Plan, number: u64) -> Option<&str> {
+    let device = entry_numbered(plan.network().devices.as_slice(), number)?;
+    Some(device.name.as_str())
+}
+
+/// The selection process of this number at an observation point, from 1.
+pub(crate) fn selection_process<'a>(
+    device: &'a Device,
+    point: &ObservationPoint,
+    number: u64,
+) -> Option<&'a SelectionProcess> {
+    let name = entry_numbered(point.selection_processes.as_slice(), number)?;
+    entry_named(device.selection_processes.as_slice(), name)
+}

@@ -1,0 +1,77 @@
+//! JSON Pointers, segment by segment.
+use serde_json::Value;
+
+/// Whether a segment of a pointer is the place of an item in a list.
+fn is_place(segment: &str) -> bool {
+    !segment.is_empty()
+        && segment
+            .as_bytes()
+            .iter()
+            .all(|octet| octet.is_ascii_digit())
+}
+
+/// The last member that a pointer names, or an empty text.
+pub(crate) fn last_member(pointer: &str) -> &str {
+    match pointer
+        .split('/')
+        .filter(|segment| !is_place(segment))
+        .last()
+    {
+        Some(member) => member,
+        None => "",
+    }
+}
+
+/// The value below another that a segment of a pointer leads to.
+fn child<'a>(value: &'a Value, segment: &str) -> Option<&'a Value> {
+    match segment.parse::<usize>() {
+        Ok(place) => value.as_array()?.get(place),
+        Err(_) => value.get(segment),
+    }
+}
+
+/// The value to which the first segments of a pointer lead, so many of them.
+pub(crate) fn value_behind<'a>(
+    value: &'a Value,
+    pointer: &str,
+    segments: usize,
+) -> Option<&'a Value> {
+    let mut value = value;
+    for segment in pointer.split('/').skip(1).take(segments) {
+        value = child(value, segment)?;
+    }
+    Some(value)
+}
+
+/// The text of a member of an object.
+pub(crate) fn text_member<'a>(value: &'a Value, name: &str) -> Option<&'a str> {
+    value.get(name)?.as_str()
+}
+
+/// The text of a member, or an empty one.
+pub(crate) fn text_or_none<'a>(value: &'a Value, name: &str) -> &'a str {
+    match text_member(value, name) {
+        Some(text) => text,
+        None => "",
+    }
+}
+
+/// The items of a member that is a list; none where it isn't there.
+pub(crate) fn items_member<'a>(value: &'a Value, name: &str) -> &'a [Value] {
+    match value.get(name) {
+        Some(Value::Array(items)) => items.as_slice(),
+        _ => &[],
+    }
+}
+
+/// The entry of a list of an object that has this name.
+pub(crate) fn entry_of<'a>(value: &'a Value, list: &str, name: &str) -> Option<&'a Value> {
+    items_member(value, list)
+        .iter()
+        .find(|entry| text_member(entry, "name") == Some(name))
+}
+
+/// What a device of a network is configured to do.
+pub(crate) fn configuration(device: &Value) -> Option<&Value> {
+    device.get("config")?.get("ietf-ipfix-psamp:ipfix")
+}

@@ -1,0 +1,128 @@
+//! What a refutation tells, in words.
+ghost use Rattle.std.specs.Prelude.{◌≡◌, ◌⊎◌, IfErr, OnOk};
+ghost use Rattle.fx_base.specs.Device.{IsWriteFault, KeepsGoing};
+ghost use Rattle.fx_base.specs.Fault.{IsMemory};
+ghost use Rattle.fx_collect.specs.Report.{KeysAscend};
+ghost use Rattle.fx_stories.specs.Stories.{IsUntold, WritesStory};
+
+use crate::again::{Documents, documents_again};
+use crate::lines::unless_wrong;
+use crate::steps::{tell_packet, tell_step};
+use crate::story::{Piece, Story};
+use fx_base::{Fault, LineReader, Room, Sink, Source, put_text, refusals};
+use fx_collect::Totals;
+use fx_refute::{Refutation, confirm, read_refutation};
+use fx_run_text::Step;
+use fx_tables::Packet;
+use std::alloc::{AllocError, Global};
+
+/// Tells steps, each in a sentence with its number.
+fn tell_steps(
+    alloc: Global,
+    story: &mut Story,
+    documents: &Documents,
+    packets: &[Packet],
+    steps: &[Step],
+) -> Result<(), AllocError> {
+    for place in 0..steps.len() {
+        story.tell(&[Piece::Number(place as u64 + 1), Piece::Text(". ")])?;
+        tell_step(alloc, story, documents, packets, &steps[place])?;
+    }
+    Ok(())
+}
+
+/// Tells totals as reports have them.
+fn tell_totals(story: &mut Story, totals: &Totals) -> Result<(), AllocError>
+    requires { KeysAscend totals.now.entries }
+{
+    let mut octets = [0; 4096];
+    let mut room = Room::new(&mut octets);
+    // What has no room there is left out.
+    let _written = totals.put_report(&mut room);
+    story.lines_of(room.octets())
+}
+
+/// Tells what a refutation's run comes to, and what it should come to.
+fn tell_sums(
+    alloc: Global,
+    story: &mut Story,
+    documents: &Documents,
+    refutation: &Refutation,
+) -> Result<(), Fault>
+    ensures { IfErr result IsMemory }
+{
+    match confirm(alloc, &documents.plan, &documents.traffic, refutation) {
+        Ok((mut ran, mut plain)) => {
+            ran.sort()?;
+            plain.sort()?;
+            story.sentence(&[Piece::Text("in the end the collector holds")])?;
+            tell_totals(story, &ran)?;
+            story.sentence(&[Piece::Text("and it should hold")])?;
+            tell_totals(story, &plain)?;
+            Ok(())
+        }
+        Err(fault) => {
+            if fault.number == refusals::WANT_OF_MEMORY {
+                return Err(Fault::bare(refusals::WANT_OF_MEMORY));
+            }
+            Ok(())
+        }
+    }
+}
+
+/// Tells a refutation over the documents.
+fn tell_refutation(
+    alloc: Global,
+    story: &mut Story,
+    documents: &Documents,
+    refutation: &Refutation,
+) -> Result<(), Fault>
+    ensures { IfErr result IsMemory }
+{
+    let packets = [*refutation.packet()];
+    tell_packet(story, documents, refutation.packet())?;
+    tell_steps(alloc, story, documents, &packets, refutation.steps())?;
+    tell_sums(alloc, story, documents, refutation)
+}
+
+/// What is to be told of a refutation.
+fn story_of<C: Source>(
+    alloc: Global,
+    network: &[u8],
+    traffic: &[u8],
+    refutation: &mut LineReader<C>,
+) -> Result<Story, Fault>
+    ensures { IfErr result IsUntold }
+{
+    let mut story = Story::new(alloc);
+    if let Some(documents) = documents_again(alloc, network, traffic)? {
+        if let Some(refutation) = unless_wrong(read_refutation(alloc, refutation))? {
+            tell_refutation(alloc, &mut story, &documents, &refutation)?;
+        }
+    }
+    Ok(story)
+}
+
+/// Writes in sentences what a refutation says: its packet, with its class by name and its fields that aren't 0; each
+/// step with the names of what it is about; and, where it is confirmed, the totals of its run and those that it should
+/// have. The documents are those over which the refutation was confirmed, the lines those of its text, opened anew.
+/// What can't be told is left out. The text has no control characters but line feeds.
+///
+/// Fails with 900 for want of memory; with 901 where a read fails, or the reader hasn't ended after 4,294,967,296 calls;
+/// with 903 at a line of more than 4,096 octets; with 902 where a write fails. Nothing is written for a fault other than
+/// 902.
+pub fn put_refutation_story<C: Source, S: Sink>(
+    alloc: Global,
+    network: &[u8],
+    traffic: &[u8],
+    refutation: &mut LineReader<C>,
+    sink: &mut S,
+) -> Result<(), Fault>
+    ensures ok { OnOk result (WritesStory (S.taken sink.old) (S.taken sink.new)) }
+    ensures going { OnOk result (KeepsGoing (S.failed sink.old) (S.failed sink.new)) }
+    ensures err { IfErr result (λ e. (IsUntold e × (sink.new ≡ sink.old))
+        ⊎ IsWriteFault (S.failed sink.new) e) }
+{
+    let story = story_of(alloc, network, traffic, refutation)?;
+    put_text(sink, story.octets())
+}

@@ -1,0 +1,53 @@
+//! Regions in words.
+use crate::story::{Piece, Story};
+use fx_boxes::Region;
+use fx_elements::{Axis, EVERY_AXIS, top};
+use std::alloc::AllocError;
+
+/// The word of an axis, as certificates have it.
+pub(crate) fn axis_word(axis: Axis) -> &'static str {
+    match axis {
+        Axis::Source => "source",
+        Axis::Destination => "destination",
+        Axis::Protocol => "protocol",
+        Axis::SourcePort => "sport",
+        Axis::DestinationPort => "dport",
+        Axis::ClassOfService => "tos",
+        Axis::Version => "version",
+        Axis::Source6 => "source6",
+        Axis::Destination6 => "destination6",
+    }
+}
+
+/// Tells the values of a region on an axis, from the least to the greatest.
+fn tell_range(story: &mut Story, axis: Axis, low: u128, high: u128) -> Result<(), AllocError> {
+    story.tell(&[
+        Piece::Text(axis_word(axis)),
+        Piece::Text(" "),
+        Piece::Value(axis, low),
+    ])?;
+    if low == high {
+        return Ok(());
+    }
+    story.tell(&[Piece::Text(" to "), Piece::Value(axis, high)])
+}
+
+/// Tells a region: its values on each axis on which it doesn't have all.
+pub(crate) fn tell_region(story: &mut Story, region: &Region) -> Result<(), AllocError> {
+    let least = region.corner();
+    let greatest = region.far_corner();
+    let mut separator = "";
+    for axis in EVERY_AXIS {
+        let low = least.get(axis);
+        let high = greatest.get(axis);
+        if low != 0 || high != top(axis) {
+            story.tell(&[Piece::Text(separator)])?;
+            tell_range(story, axis, low, high)?;
+            separator = ", ";
+        }
+    }
+    if separator.is_empty() {
+        story.tell(&[Piece::Text("all packets")])?;
+    }
+    Ok(())
+}

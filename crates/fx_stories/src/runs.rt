@@ -1,0 +1,125 @@
+//! Why a run or a refutation is refused, in words.
+ghost use Rattle.std.specs.Prelude.{◌≡◌, ◌⊎◌, IfErr, OnOk};
+ghost use Rattle.fx_base.specs.Device.{IsWriteFault, KeepsGoing};
+ghost use Rattle.fx_base.specs.Fault.{IsMemory};
+ghost use Rattle.fx_stories.specs.Stories.{IsUntold, WritesStory};
+
+use crate::again::{Documents, documents_again};
+use crate::lines::{tell_line, tell_line_numbered, unless_wrong};
+use crate::steps::tell_step;
+use crate::story::Story;
+use fx_base::{Fault, Line, LineReader, Place, Room, Sink, Source, put_text, refusals};
+use fx_machine::State;
+use fx_run_text::{Run, Step, put_step_line, read_run};
+use std::alloc::{AllocError, Global};
+
+/// The place of the first step that is refused, or none where all can be made.
+fn refused_step(state: &mut State<'_>, steps: &[Step]) -> Result<Option<usize>, AllocError> {
+    for place in 0..steps.len() {
+        if let Err(fault) = state.step(&steps[place]) {
+            if fault.number == refusals::WANT_OF_MEMORY {
+                return Err(AllocError);
+            }
+            return Ok(Some(place));
+        }
+    }
+    Ok(None)
+}
+
+/// Tells a step as its line has it, which is of this number.
+fn tell_step_line(story: &mut Story, number: u64, step: &Step) -> Result<(), AllocError> {
+    let mut octets = [0; 200];
+    let mut room = Room::new(&mut octets);
+    // What has no room there is left out.
+    let _written = put_step_line(&mut room, step);
+    let told = room.octets();
+    let end = told.len().saturating_sub(1);
+    let line = Line {
+        bytes: &told[..end],
+        number,
+        ended: true,
+    };
+    tell_line(story, &line)
+}
+
+/// Tells the first step of a run that is refused.
+fn tell_run(alloc: Global, story: &mut Story, documents: &Documents, run: &Run) -> Result<(), Fault>
+    ensures { IfErr result IsUntold }
+{
+    let packets = Vec::from_slice(alloc, run.packets())?;
+    let first = (packets.len() as u64).saturating_add(2);
+    let classes = documents.traffic.classes();
+    let opened = State::open(alloc, documents.plan.net(), classes, packets);
+    let Some(mut state) = unless_wrong(opened)? else {
+        return Ok(());
+    };
+    if let Some(place) = refused_step(&mut state, run.steps())? {
+        if let Some(step) = run.steps().get(place) {
+            tell_step_line(story, first.saturating_add(place as u64), step)?;
+            tell_step(alloc, story, documents, run.packets(), step)?;
+        }
+    }
+    Ok(())
+}
+
+/// Tells the first step that is refused of the run that lines say.
+fn tell_refused_step<C: Source>(
+    alloc: Global,
+    story: &mut Story,
+    network: &[u8],
+    traffic: &[u8],
+    lines: &mut LineReader<C>,
+) -> Result<(), Fault>
+    ensures { IfErr result IsUntold }
+{
+    if let Some(documents) = documents_again(alloc, network, traffic)? {
+        if let Some(run) = unless_wrong(read_run(alloc, documents.traffic.classes(), lines))? {
+            tell_run(alloc, story, &documents, &run)?;
+        }
+    }
+    Ok(())
+}
+
+/// What is to be told of the refusal of a run.
+fn story_of<C: Source>(
+    alloc: Global,
+    network: &[u8],
+    traffic: &[u8],
+    lines: &mut LineReader<C>,
+    fault: &Fault,
+) -> Result<Story, Fault>
+    ensures { IfErr result IsUntold }
+{
+    let mut story = Story::new(alloc);
+    if let Place::Line(number) = &fault.place {
+        tell_line_numbered(&mut story, lines, *number)?;
+    } else if (refusals::STEP_NOT_ENABLED..=refusals::NO_RECORD_THERE).contains(&fault.number) {
+        tell_refused_step(alloc, &mut story, network, traffic, lines)?;
+    }
+    Ok(story)
+}
+
+/// Writes in sentences what a refusal of a run or of a refutation is about. A refusal at a line: that line, at most 200
+/// octets of it. One of 851 to 853: the line of the first step of the run that is refused, with its number, and what it
+/// names. The documents are those over which the run was refused, the lines those of its text, opened anew. What can't
+/// be told is left out. The text has no control characters but line feeds.
+///
+/// Fails with 900 for want of memory; with 901 where a read fails, or the reader hasn't ended after 4,294,967,296 calls;
+/// with 903 at a line of more than 4,096 octets; with 902 where a write fails. Nothing is written for a fault other than
+/// 902.
+pub fn put_run_words<C: Source, S: Sink>(
+    alloc: Global,
+    network: &[u8],
+    traffic: &[u8],
+    run: &mut LineReader<C>,
+    fault: &Fault,
+    sink: &mut S,
+) -> Result<(), Fault>
+    ensures ok { OnOk result (WritesStory (S.taken sink.old) (S.taken sink.new)) }
+    ensures going { OnOk result (KeepsGoing (S.failed sink.old) (S.failed sink.new)) }
+    ensures err { IfErr result (λ e. (IsUntold e × (sink.new ≡ sink.old))
+        ⊎ IsWriteFault (S.failed sink.new) e) }
+{
+    let story = story_of(alloc, network, traffic, run, fault)?;
+    put_text(sink, story.octets())
+}

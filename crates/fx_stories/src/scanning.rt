@@ -1,0 +1,153 @@
+//! Members that stand twice in one object of a JSON text.
+use crate::story::{Piece, Story};
+use std::alloc::{AllocError, Global};
+
+/// How many members of an object are looked at.
+const MEMBERS: usize = 64;
+
+/// An object or a list that is open.
+#[derive(Drop)]
+struct Open {
+    is_object: bool,
+    /// Whether the next string is a member's name.
+    name_next: bool,
+    /// Where the names begin and end that an object's members have so far.
+    names: Vec<(usize, usize)>,
+}
+
+/// How far a JSON text was looked through.
+#[derive(Drop)]
+struct Scan {
+    alloc: Global,
+    open: Vec<Open>,
+    in_string: bool,
+    escaped: bool,
+    /// Where the string began that it is in, behind its quotation mark.
+    start: usize,
+    line: u64,
+}
+
+/// Octets of a text from one place to another.
+fn part(text: &[u8], start: usize, end: usize) -> &[u8] {
+    match text.get(start..end) {
+        Some(part) => part,
+        None => &[],
+    }
+}
+
+/// Whether one of these names is the same as another.
+fn has_name(text: &[u8], names: &[(usize, usize)], name: &[u8]) -> bool {
+    for (start, end) in names {
+        if part(text, *start, *end) == name {
+            return true;
+        }
+    }
+    false
+}
+
+impl Open {
+    /// Adds a member's name, and answers whether an earlier member has it.
+    fn add(&mut self, text: &[u8], start: usize, end: usize) -> Result<bool, AllocError> {
+        self.name_next = false;
+        if has_name(text, self.names.as_slice(), part(text, start, end)) {
+            return Ok(true);
+        }
+        if self.names.len() < MEMBERS {
+            self.names.push((start, end))?;
+        }
+        Ok(false)
+    }
+}
+
+impl Scan {
+    /// Before the first octet.
+    fn new(alloc: Global) -> Scan {
+        Scan {
+            alloc,
+            open: Vec::new(alloc),
+            in_string: false,
+            escaped: false,
+            start: 0,
+            line: 1,
+        }
+    }
+
+    /// An object or a list begins.
+    fn begin(&mut self, is_object: bool) -> Result<(), AllocError> {
+        self.open.push(Open {
+            is_object,
+            name_next: is_object,
+            names: Vec::new(self.alloc),
+        })?;
+        Ok(())
+    }
+
+    /// Goes on to the next member of an object.
+    fn next_member(&mut self) {
+        if let Some(open) = self.open.last_mut() {
+            open.name_next = open.is_object;
+        }
+    }
+
+    /// A string ends at a place: tells it where it is the name of a member that stands there already.
+    fn end_string(&mut self, story: &mut Story, text: &[u8], end: usize) -> Result<(), AllocError> {
+        self.in_string = false;
+        let start = self.start;
+        let Some(open) = self.open.last_mut() else {
+            return Ok(());
+        };
+        if !open.name_next || !open.add(text, start, end)? {
+            return Ok(());
+        }
+        story.sentence(&[
+            Piece::Text("line "),
+            Piece::Number(self.line),
+            Piece::Text(": member \""),
+            Piece::Octets(part(text, start, end)),
+            Piece::Text("\" stands twice in one object; the last one counts"),
+        ])
+    }
+
+    /// Goes past an octet of a string, but for the quotation mark that ends it.
+    fn in_text(&mut self, octet: u8) {
+        self.escaped = !self.escaped && octet == b'\\';
+    }
+
+    /// Goes past an octet.
+    fn take(&mut self, story: &mut Story, text: &[u8], place: usize) -> Result<(), AllocError> {
+        let octet = text.get(place).copied().unwrap_or(0);
+        if self.in_string {
+            if octet == b'"' && !self.escaped {
+                return self.end_string(story, text, place);
+            }
+            self.in_text(octet);
+            return Ok(());
+        }
+        match octet {
+            b'"' => {
+                self.in_string = true;
+                self.escaped = false;
+                self.start = place.saturating_add(1);
+            }
+            b'{' => self.begin(true)?,
+            b'[' => self.begin(false)?,
+            b'}' | b']' => {
+                let _closed = self.open.pop();
+            }
+            b',' => self.next_member(),
+            b'\n' => self.line = self.line.saturating_add(1),
+            _ => {}
+        }
+        Ok(())
+    }
+}
+
+/// Tells the members that stand twice in an object of a JSON text, which is valid, by the lines of the second ones. Of
+/// each object its first 64 names are looked at, as they are spelled.
+pub(crate) fn tell_twice(alloc: Global, story: &mut Story, text: &[u8]) -> Result<(), AllocError> {
+    let mut scan = Scan::new(alloc);
+    for place in 0..text.len() {
+        scan.take(story, text, place)?;
+    }
+    Ok(())
+}

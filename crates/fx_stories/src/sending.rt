@@ -1,0 +1,107 @@
+//! Where the records of a cache, an aggregation or a collecting process go.
+use crate::names::entry_named;
+use crate::story::{Piece, Story, between};
+use fx_base::{Name, entry_at, entry_numbered};
+use fx_config::{Destination, ExportMode, ExportingProcess};
+use fx_plan::Plan;
+use fx_topology::{NamedLink, NetworkDevice};
+use std::alloc::AllocError;
+
+/// Tells the collecting process to which a link leads.
+pub(crate) fn tell_end(story: &mut Story, link: &NamedLink) -> Result<(), AllocError> {
+    story.tell(&[
+        Piece::Text("collecting process "),
+        Piece::Quoted(link.to_process.as_str()),
+        Piece::Text(" of "),
+        Piece::Text(link.to_device.as_str()),
+    ])
+}
+
+/// Tells where a destination's records come to.
+fn tell_destination<'x>(
+    story: &mut Story,
+    plan: &Plan,
+    device: &NetworkDevice,
+    process: &'x ExportingProcess,
+    destination: &'x Destination,
+) -> Result<(), AllocError> {
+    story.tell(&[
+        Piece::Text("exporting process "),
+        Piece::Quoted(process.name.as_str()),
+        Piece::Text(" sends to destination "),
+        Piece::Quoted(destination.name.as_str()),
+    ])?;
+    let links = &plan.network().links;
+    let place = links.place_of(&device.name, &process.name, &destination.name)?;
+    match entry_at(links.as_slice(), place.unwrap_or(usize::MAX)) {
+        Some(link) => {
+            story.tell(&[Piece::Text(", which is linked to ")])?;
+            tell_end(story, link)
+        }
+        None => story.tell(&[Piece::Text(", which has no link: what it is sent is lost")]),
+    }
+}
+
+/// Tells where all destinations' records come to.
+fn tell_destinations(
+    story: &mut Story,
+    plan: &Plan,
+    device: &NetworkDevice,
+    process: &ExportingProcess,
+) -> Result<(), AllocError> {
+    let mut separator = "";
+    for destination in process.destinations.as_slice() {
+        story.tell(&[Piece::Text(separator)])?;
+        tell_destination(story, plan, device, process, destination)?;
+        separator = "; ";
+    }
+    Ok(())
+}
+
+/// Tells where an exporting process sends a record: to all its destinations, or to the one of this number, from 1.
+fn tell_process(
+    story: &mut Story,
+    plan: &Plan,
+    device: &NetworkDevice,
+    process: &ExportingProcess,
+    chosen: Option<u64>,
+) -> Result<(), AllocError> {
+    let Some(number) = chosen else {
+        return tell_destinations(story, plan, device, process);
+    };
+    match entry_numbered(process.destinations.as_slice(), number) {
+        Some(destination) => tell_destination(story, plan, device, process, destination),
+        None => Ok(()),
+    }
+}
+
+/// Whether an exporting process sends a record to one of its destinations, which is chosen.
+pub(crate) fn chooses(process: &ExportingProcess) -> bool {
+    !matches!(process.mode, ExportMode::Parallel)
+}
+
+/// Tells where the exporting processes of these names send a record, by the choices of a step, one for each that isn't
+/// parallel; without choices, to all destinations. Answers how many choices were made.
+pub(crate) fn tell_sending(
+    story: &mut Story,
+    plan: &Plan,
+    device: &NetworkDevice,
+    names: &[Name],
+    choices: &[Option<u64>],
+) -> Result<usize, AllocError> {
+    let mut made: usize = 0;
+    let mut told = false;
+    for name in names {
+        if let Some(process) = entry_named(device.config.exporting_processes.as_slice(), name) {
+            let mut chosen = None;
+            if chooses(process) {
+                chosen = choices.get(made).copied().flatten();
+                made = made.saturating_add(1);
+            }
+            story.tell(&[Piece::Text(between(told, "; "))])?;
+            tell_process(story, plan, device, process, chosen)?;
+            told = true;
+        }
+    }
+    Ok(made)
+}

@@ -1,0 +1,151 @@
+//! Steps of runs in sentences.
+use crate::again::Documents;
+use crate::crossings::tell_crossing;
+use crate::holders::{tell_arrival, tell_expiry};
+use crate::names::selection_process;
+use crate::paths::tell_class;
+use crate::regions::axis_word;
+use crate::story::{Piece, Story};
+use fx_base::entry_numbered;
+use fx_config::Device;
+use fx_elements::EVERY_AXIS;
+use fx_plan::Plan;
+use fx_run_text::Step;
+use fx_tables::{Crossing, Occurrence, Packet};
+use std::alloc::{AllocError, Global};
+
+/// Tells a packet: its class and its path, its fields that aren't 0, and its octets.
+pub(crate) fn tell_packet(
+    story: &mut Story,
+    documents: &Documents,
+    packet: &Packet,
+) -> Result<(), AllocError> {
+    story.tell(&[Piece::Text("the packet: ")])?;
+    tell_class(story, documents, packet.class, packet.path)?;
+    for axis in EVERY_AXIS {
+        let value = packet.fields.get(axis);
+        if value != 0 {
+            story.tell(&[
+                Piece::Text(", "),
+                Piece::Text(axis_word(axis)),
+                Piece::Text(" "),
+                Piece::Value(axis, value),
+            ])?;
+        }
+    }
+    story.sentence(&[Piece::Text(", octets "), Piece::Number(packet.octets)])
+}
+
+/// Tells the cache at which a packet is metered.
+fn tell_occurrence(
+    story: &mut Story,
+    device: &Device,
+    occurrence: &Occurrence,
+) -> Result<(), AllocError> {
+    let points = device.observation_points.as_slice();
+    let Some(point) = entry_numbered(points, occurrence.point as u64) else {
+        return Ok(());
+    };
+    let Some(process) = selection_process(device, point, occurrence.process as u64) else {
+        return Ok(());
+    };
+    match &process.cache {
+        Some(cache) => story.tell(&[
+            Piece::Text("cache "),
+            Piece::Quoted(cache.as_str()),
+            Piece::Text(" holds a record of it"),
+        ]),
+        None => Ok(()),
+    }
+}
+
+/// Tells the caches at which a packet is metered.
+fn tell_occurrences(
+    story: &mut Story,
+    plan: &Plan,
+    device: u64,
+    occurrences: &[Occurrence],
+) -> Result<(), AllocError> {
+    let Some(device) = plan.device(device) else {
+        return Ok(());
+    };
+    let mut separator = ": ";
+    for occurrence in occurrences {
+        story.tell(&[Piece::Text(separator)])?;
+        tell_occurrence(story, device, occurrence)?;
+        separator = "; ";
+    }
+    if occurrences.is_empty() {
+        story.tell(&[Piece::Text(": nothing there meters it")])?;
+    }
+    Ok(())
+}
+
+/// Tells that a packet of this number makes a crossing, and where it is metered.
+fn tell_metering(
+    alloc: Global,
+    story: &mut Story,
+    plan: &Plan,
+    number: u64,
+    packet: &Packet,
+    crossing: &Crossing,
+) -> Result<(), AllocError> {
+    story.tell(&[
+        Piece::Text("packet "),
+        Piece::Number(number),
+        Piece::Text(" crosses "),
+    ])?;
+    tell_crossing(story, plan, crossing)?;
+    let occurrences = plan.net().occurrences(alloc, crossing, &packet.fields)?;
+    tell_occurrences(story, plan, crossing.device, occurrences.as_slice())?;
+    story.end_line()
+}
+
+/// Tells a step at which a packet makes a crossing.
+fn tell_crossing_made(
+    alloc: Global,
+    story: &mut Story,
+    documents: &Documents,
+    packets: &[Packet],
+    number: u64,
+    crossing: u64,
+) -> Result<(), AllocError> {
+    let Some(packet) = entry_numbered(packets, number) else {
+        return story.sentence(&[Piece::Text("there is no packet "), Piece::Number(number)]);
+    };
+    let crossings = documents.traffic.classes().path_of(packet);
+    match entry_numbered(crossings, crossing) {
+        Some(made) => tell_metering(alloc, story, &documents.plan, number, packet, made),
+        None => story.sentence(&[
+            Piece::Text("the packet's path has no crossing "),
+            Piece::Number(crossing),
+        ]),
+    }
+}
+
+/// Tells a step of a run over these packets.
+pub(crate) fn tell_step(
+    alloc: Global,
+    story: &mut Story,
+    documents: &Documents,
+    packets: &[Packet],
+    step: &Step,
+) -> Result<(), AllocError> {
+    match step {
+        Step::Cross {
+            packet,
+            crossing,
+            choices: _,
+        } => tell_crossing_made(alloc, story, documents, packets, *packet, *crossing),
+        Step::Expire {
+            holder,
+            position: _,
+            choices,
+        } => tell_expiry(story, &documents.plan, *holder, choices.as_slice()),
+        Step::Arrive {
+            link,
+            position: _,
+            choices,
+        } => tell_arrival(story, &documents.plan, *link, choices.as_slice()),
+    }
+}

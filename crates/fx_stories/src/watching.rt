@@ -1,0 +1,148 @@
+//! What sees a region's packets along a path.
+use crate::crossings::tell_numbered;
+use crate::names::{entry_named, selection_process};
+use crate::sending::tell_sending;
+use crate::story::{Piece, Story};
+use fx_base::{entry_at, entry_numbered};
+use fx_boxes::Region;
+use fx_config::{ObservationPoint, SelectionProcess};
+use fx_leaf::{Overlap, selection_overlap};
+use fx_plan::Plan;
+use fx_tables::{Crossing, Point, Selection};
+use fx_topology::NetworkDevice;
+use std::alloc::AllocError;
+
+/// How much of a region a selection process selects, in words.
+fn overlap_words(region: &Region, selection: &Selection) -> &'static str {
+    match selection_overlap(region, &selection.region) {
+        Overlap::Whole => " selects all of these packets",
+        Overlap::Part => " selects some of these packets and not all",
+        Overlap::Nothing => " selects none of these packets",
+    }
+}
+
+/// Tells where the records of a selection process's cache go.
+fn tell_cache(
+    story: &mut Story,
+    plan: &Plan,
+    device: &NetworkDevice,
+    process: &SelectionProcess,
+) -> Result<(), AllocError> {
+    let Some(name) = &process.cache else {
+        return story.sentence(&[Piece::Text(" and has no cache")]);
+    };
+    story.tell(&[Piece::Text(", cache "), Piece::Quoted(name.as_str())])?;
+    if let Some(cache) = entry_named(device.config.caches.as_slice(), name) {
+        story.tell(&[Piece::Text(": ")])?;
+        tell_sending(
+            story,
+            plan,
+            device,
+            cache.exporting_processes.as_slice(),
+            &[],
+        )?;
+        if cache.exporting_processes.as_slice().is_empty() {
+            story.tell(&[Piece::Text("it has no exporting process, so its records are lost")])?;
+        }
+    }
+    story.end_line()
+}
+
+/// A crossing of a path, and the region of packets that make it.
+#[derive(Drop)]
+struct Crossed<'a> {
+    plan: &'a Plan,
+    region: &'a Region,
+    crossing: &'a Crossing,
+    /// Its number on the path, from 1.
+    number: u64,
+}
+
+/// Tells what a selection process does with the packets.
+fn tell_selection<'x>(
+    story: &mut Story,
+    crossed: &Crossed<'_>,
+    device: &NetworkDevice,
+    point: &'x ObservationPoint,
+    process: &'x SelectionProcess,
+    selection: &Selection,
+) -> Result<(), AllocError> {
+    tell_numbered(story, crossed.plan, crossed.number, crossed.crossing)?;
+    story.tell(&[
+        Piece::Text(": observation point "),
+        Piece::Quoted(point.name.as_str()),
+        Piece::Text(", selection process "),
+        Piece::Quoted(process.name.as_str()),
+        Piece::Text(overlap_words(crossed.region, selection)),
+    ])?;
+    tell_cache(story, crossed.plan, device, process)
+}
+
+/// Tells what a point's selection processes do with the packets.
+fn tell_selections(
+    story: &mut Story,
+    crossed: &Crossed<'_>,
+    device: &NetworkDevice,
+    point: &ObservationPoint,
+    selections: &[Selection],
+) -> Result<(), AllocError> {
+    for place in 0..selections.len() {
+        if let Some(process) = selection_process(&device.config, point, place as u64 + 1) {
+            tell_selection(story, crossed, device, point, process, &selections[place])?;
+        }
+    }
+    Ok(())
+}
+
+/// Tells what the points of a device do with the packets, and answers whether one sees them and selects.
+fn tell_points(
+    story: &mut Story,
+    crossed: &Crossed<'_>,
+    device: &NetworkDevice,
+    points: &[Point],
+) -> Result<bool, AllocError> {
+    let mut seen = false;
+    for place in 0..points.len() {
+        let point = &points[place];
+        if point.watches(crossed.crossing) {
+            if let Some(named) = entry_at(device.config.observation_points.as_slice(), place) {
+                tell_selections(story, crossed, device, named, point.selections())?;
+                seen = seen || !point.selections().is_empty();
+            }
+        }
+    }
+    Ok(seen)
+}
+
+/// Tells what sees the packets at a crossing.
+fn tell_at(story: &mut Story, crossed: &Crossed<'_>) -> Result<(), AllocError> {
+    let number = crossed.crossing.device;
+    let Some(device) = entry_numbered(crossed.plan.network().devices.as_slice(), number) else {
+        return Ok(());
+    };
+    let points = crossed.plan.net().points_of(number);
+    if tell_points(story, crossed, device, points)? {
+        return Ok(());
+    }
+    tell_numbered(story, crossed.plan, crossed.number, crossed.crossing)?;
+    story.sentence(&[Piece::Text(": no observation point with a selection process sees it")])
+}
+
+/// Tells, for each crossing of a path, what sees the packets of a region there and where their records go.
+pub(crate) fn tell_watching(
+    story: &mut Story,
+    plan: &Plan,
+    region: &Region,
+    crossings: &[Crossing],
+) -> Result<(), AllocError> {
+    for place in 0..crossings.len() {
+        let crossed = Crossed {
+            plan,
+            region,
+            crossing: &crossings[place],
+            number: place as u64 + 1,
+        };
+        tell_at(story, &crossed)?;
+    }
+    Ok(())
+}
