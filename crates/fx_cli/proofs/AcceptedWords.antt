@@ -13,9 +13,9 @@ use Rattle.std.proofs.lemmas.Slice.Eq.{bytes_eq-Decides}
 use Rattle.fx_cli.specs.Words.{NamesWith, is_double_hyphen, is_flag}
 use Rattle.fx_cli.specs.CommandLine.{once_app}
 use Rattle.fx_cli.proofs.SingleWords.{Fails, fails_first, or_none, top, top_knows, bool_cases, plain_word, flag_word}
-use Rattle.fx_cli.proofs.CommandTable.{Kind, NoneOf, audit, check, collect, confirm, is_taking, kind_named, kinds, lint, name_of, named_kind, nameless, none_named, one_kind, replay, run, taking_of}
-use Rattle.fx_cli.proofs.OptionCommand.{Taking, arguments, taking}
-use Rattle.fx_cli.proofs.OptionRows.{HasAll}
+use Rattle.fx_cli.proofs.CommandTable.{Kind, NoneOf, audit, check, collect, confirm, explain, is_taking, kind_named, kinds, lint, name_of, named_kind, nameless, none_named, one_kind, replay, run, taking_of}
+use Rattle.fx_cli.proofs.OptionCommand.{IsCount, Taking, arguments, taking}
+use Rattle.fx_cli.proofs.OptionRows.{HoldsFirst}
 use Rattle.fx_cli.proofs.OptionSaid.{HoldsAtEnd, IsFine}
 use Rattle.fx_cli.proofs.OptionWords.{OptionFails, decide_option}
 use Rattle.fx_cli.proofs.WordSteps.{command_fault}
@@ -34,17 +34,17 @@ pub record Takes (c : Taking) (words : List Text) : Type 0 where
   pub files : List Text
   pub option : Option Text
   pub rows : List Row
-  pub count_is : length files ≡ length c.ids
+  pub count_is : IsCount c (length files)
   pub accepted : IsFine c option
   pub named : NamesBy c words files option
   pub takes : fault_of once_app words ≡ []
   pub entered : subcommand_of once_app words ≡ Some (c.command, rows)
-  pub files_are : HasAll rows c.ids files
+  pub files_are : HoldsFirst rows c.ids files
   pub option_is : HoldsAtEnd c option rows
 
 -- the words name this command with no text that it takes
 abbrev pub Unnamed : Taking → List Text → Type 0
-Unnamed c words = (files : List Text) (option : Option Text) → length files ≡ length c.ids → IsFine c option → NamesBy c words files option → ⊥
+Unnamed c words = (files : List Text) (option : Option Text) → IsCount c (length files) → IsFine c option → NamesBy c words files option → ⊥
 
 pub record Refuses (words : List Text) : Type 0 where
   pub fails : Fails (fault_of once_app words)
@@ -103,6 +103,7 @@ is_known confirm = is_command (taking_of confirm) refl refl (λ rest. refl) (λ 
 is_known audit = is_command (taking_of audit) refl refl (λ rest. refl) (λ rest. refl)
 is_known run = is_command (taking_of run) refl refl (λ rest. refl) (λ rest. refl)
 is_known lint = is_command (taking_of lint) refl refl (λ rest. refl) (λ rest. refl)
+is_known explain = is_command (taking_of explain) refl refl (λ rest. refl) (λ rest. refl)
 
 -- ---- no command
 
@@ -196,7 +197,7 @@ at_other program command rest none = record {
         subst (λ c. Fails (fault_of once_app (program ∷ c ∷ rest))) same (help_fails program rest)
     | inr strange ↦
         let n : NoneOf command kinds = none_named command kinds none in
-        other_fails program command rest (rw (n.0, n.1.0, n.1.1.0, n.1.1.1.0, n.1.1.1.1.0, n.1.1.1.1.1.0, n.1.1.1.1.1.1.0, strange) refl)
+        other_fails program command rest (rw (n.0, n.1.0, n.1.1.0, n.1.1.1.0, n.1.1.1.1.0, n.1.1.1.1.1.0, n.1.1.1.1.1.1.0, n.1.1.1.1.1.1.1.0, strange) refl)
   ];
   unnamed = λ k files option count fine n. nameless command k none (sym (ap second n.words_are));
 }

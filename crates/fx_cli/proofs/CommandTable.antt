@@ -7,7 +7,7 @@ use Rattle.clap.specs.Words.{Text}
 use Rattle.clap.specs.declared.builder.value_parser.ValueParser.TheVariants as parsers
 use Rattle.fx_cli.proofs.SingleWords.{bool_cases}
 use Rattle.fx_cli.proofs.OptionNames.{IsName}
-use Rattle.fx_cli.proofs.OptionCommand.{IsTaking, Taking, files_alone, takes_files_alone}
+use Rattle.fx_cli.proofs.OptionCommand.{IsTaking, Taking, files_alone, some_files, takes_files_alone, takes_some_files}
 
 pub data Kind : Type 0 where
   replay : Kind
@@ -17,6 +17,7 @@ pub data Kind : Type 0 where
   audit : Kind
   run : Kind
   lint : Kind
+  explain : Kind
 
 abbrev pub documents_and : Text → List Text
 documents_and third = codes "NETWORK" ∷ codes "TRAFFIC" ∷ third ∷ []
@@ -29,6 +30,7 @@ taking_of confirm = files_alone (codes "confirm") (documents_and (codes "REFUTAT
 taking_of audit = record {
   command = codes "audit";
   ids = codes "NETWORK" ∷ codes "TRAFFIC" ∷ [];
+  fewest = 2;
   has_option = true;
   option = codes "limit";
   parser = parsers.Unsigned 1 1000000;
@@ -37,12 +39,14 @@ taking_of audit = record {
 taking_of run = record {
   command = codes "run";
   ids = codes "NETWORK" ∷ codes "TRAFFIC" ∷ codes "CAPTURE" ∷ codes "SCHEDULE" ∷ [];
+  fewest = 4;
   has_option = true;
   option = codes "links";
   parser = parsers.String;
   default = [];
 }
-taking_of lint = files_alone (codes "lint") (codes "NETWORK" ∷ [])
+taking_of lint = some_files (codes "lint") 1 (codes "NETWORK" ∷ codes "TRAFFIC" ∷ [])
+taking_of explain = files_alone (codes "explain") (codes "NUMBER" ∷ [])
 
 pub limit_name : IsName (codes "limit")
 limit_name = record { alone = refl; with_value = λ value. refl; single = refl; single_with_value = λ value. refl }
@@ -57,6 +61,7 @@ is_taking check = takes_files_alone (codes "check") (documents_and (codes "CERTI
 is_taking confirm = takes_files_alone (codes "confirm") (documents_and (codes "REFUTATION")) (omega arith) ((refl, (refl, (refl, tt))), ((refl, (refl, tt)), ((refl, tt), (tt, tt))))
 is_taking audit = record {
   few = omega arith;
+  fits = omega arith;
   apart = ((refl, (refl, tt)), ((refl, tt), (tt, tt)));
   name = λ _. limit_name;
   reading = refl;
@@ -65,13 +70,15 @@ is_taking audit = record {
 }
 is_taking run = record {
   few = omega arith;
+  fits = omega arith;
   apart = ((refl, (refl, (refl, (refl, tt)))), ((refl, (refl, (refl, tt))), ((refl, (refl, tt)), ((refl, tt), (tt, tt)))));
   name = λ _. links_name;
   reading = refl;
   default_fine = refl;
   no_default = λ none. absurd (true≢false none);
 }
-is_taking lint = takes_files_alone (codes "lint") (codes "NETWORK" ∷ []) (omega arith) ((refl, tt), (tt, tt))
+is_taking lint = takes_some_files (codes "lint") 1 (codes "NETWORK" ∷ codes "TRAFFIC" ∷ []) (omega arith) (omega arith) ((refl, (refl, tt)), ((refl, tt), (tt, tt)))
+is_taking explain = takes_files_alone (codes "explain") (codes "NUMBER" ∷ []) (omega arith) ((refl, tt), (tt, tt))
 
 -- ---- a command by its name
 
@@ -82,7 +89,7 @@ abbrev pub has_name : Text → Kind → Bool
 has_name word k = bytes_eq (name_of k) word
 
 abbrev pub kinds : List Kind
-kinds = replay ∷ collect ∷ check ∷ confirm ∷ audit ∷ run ∷ lint ∷ []
+kinds = replay ∷ collect ∷ check ∷ confirm ∷ audit ∷ run ∷ lint ∷ explain ∷ []
 
 abbrev pub kind_named : Text → Option Kind
 kind_named word = find (has_name word) kinds
@@ -95,6 +102,7 @@ kind_of_name confirm = refl
 kind_of_name audit = refl
 kind_of_name run = refl
 kind_of_name lint = refl
+kind_of_name explain = refl
 
 -- two commands have two names
 pub one_kind : (k other : Kind) → name_of k ≡ name_of other → k ≡ other

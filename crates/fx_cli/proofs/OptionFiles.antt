@@ -1,17 +1,18 @@
 -- How a file's name and the end of the words are judged behind a command.
-use Rattle.std.proofs.Common.{◌≡◌, ◌∙◌, ◌⊎◌, ◌≤◌, ◌+◌, ◌||◌, Bool, true, false, cond, refl, sym, ap, subst, arith, List, [], ◌∷◌, ◌++◌, length, length-append, append-nil, append_assoc, Option, Some, None, inl, inr, min}
-use Rattle.std.specs.Prelude.{option_map, unwrap_or, ⊤}
+use Rattle.std.proofs.Common.{◌≡◌, ◌∙◌, ◌⊎◌, ◌≤◌, ◌<◌, ◌+◌, ◌||◌, Bool, true, false, cond, refl, sym, ap, subst, arith, List, [], ◌∷◌, ◌++◌, length, length-append, append-nil, append_assoc, Option, Some, None, inl, inr, min}
+use Rattle.std.specs.Prelude.{nat_lt, option_map, unwrap_or, ⊤}
+use Rattle.std.proofs.lemmas.Bool.Decides.{nat_tests}
 use Rattle.std.proofs.Math.Nat.{min-eq_left}
 use Rattle.clap.specs.Faults.{turn_fault, walk_fault}
 use Rattle.clap.specs.Lexer.{usize_max}
 use Rattle.clap.specs.Walk.{Row, Rule, Text, Walk, idle, is_pending, pushed, settled, to_positional, walked}
 use Rattle.fx_cli.specs.Words.{NamesWith, file_names, is_double_hyphen, is_flag}
 use Rattle.fx_cli.proofs.WordSteps.{more_named, names_at, next_fault, turn_of, value_walked, walk_at}
-use Rattle.fx_cli.proofs.SingleWords.{Fails, IsValueWord, held, plain_word, trailing_word}
+use Rattle.fx_cli.proofs.SingleWords.{Fails, IsValueWord, bool_cases, held, plain_word, trailing_word}
 use Rattle.fx_cli.proofs.OptionNames.{file_named, named_double, named_file, nothing_named}
-use Rattle.fx_cli.proofs.OptionCommand.{IsTaking, Taking, arguments, file_argument, file_by_index, place, stray_index, taking}
-use Rattle.fx_cli.proofs.OptionRows.{HasAll, and_false, or_false}
-use Rattle.fx_cli.proofs.OptionSaid.{HoldsAtEnd, IsFine, Said, all_pass, all_there, as_many, file_said, final_rows, option_there, too_few, walk_of}
+use Rattle.fx_cli.proofs.OptionCommand.{IsCount, IsTaking, Taking, arguments, file_argument, file_by_index, place, stray_index, taking}
+use Rattle.fx_cli.proofs.OptionRows.{HoldsFirst, and_false, or_false}
+use Rattle.fx_cli.proofs.OptionSaid.{HoldsAtEnd, IsFine, Said, as_many, enough, file_said, final_rows, first_there, option_there, too_few, walk_of}
 use Rattle.fx_cli.proofs.OptionWalk.{fails_at, file_fault, kept_behind, outcome, outcome_behind, rows_kept, value_fault}
 
 -- ---- what the words behind it name
@@ -84,16 +85,16 @@ Named c files o trails rest all text = (names : List Text) × Behind c o trails 
 pub record Passes (c : Taking) (w : Walk) (N : List Text → Option Text → Type 0) (rest : List Text) : Type 0 where
   pub files : List Text
   pub option : Option Text
-  pub count_is : length files ≡ length c.ids
+  pub count_is : IsCount c (length files)
   pub accepted : IsFine c option
   pub named : N files option
   pub passes : outcome c w rest ≡ []
-  pub files_are : HasAll (rows_kept c w rest) c.ids files
+  pub files_are : HoldsFirst (rows_kept c w rest) c.ids files
   pub option_is : HoldsAtEnd c option (rows_kept c w rest)
 
 pub record Stops (c : Taking) (w : Walk) (N : List Text → Option Text → Type 0) (rest : List Text) : Type 0 where
   pub fails : Fails (outcome c w rest)
-  pub unnamed : (files : List Text) (option : Option Text) → length files ≡ length c.ids → IsFine c option → N files option → ⊥
+  pub unnamed : (files : List Text) (option : Option Text) → IsCount c (length files) → IsFine c option → N files option → ⊥
 
 abbrev pub Judged : Taking → Walk → (List Text → Option Text → Type 0) → List Text → Type 0
 Judged c w N rest = Passes c w N rest ⊎ Stops c w N rest
@@ -110,7 +111,7 @@ behind c w next N M word rest fine is to from (inl p) =
       accepted = p.accepted;
       named = to p.files p.option p.named;
       passes = outcome_behind c w next word rest fine is ∙ p.passes;
-      files_are = subst (λ (rows : List Row). HasAll rows c.ids p.files) (sym same) p.files_are;
+      files_are = subst (λ (rows : List Row). HoldsFirst rows c.ids p.files) (sym same) p.files_are;
       option_is = subst (HoldsAtEnd c p.option) (sym same) p.option_is;
     })
 behind c w next N M word rest fine is to from (inr s) = inr (record {
@@ -162,7 +163,7 @@ file_walk c done id left files o is said word trails file =
     let w = walk_of said trails in
     value_walked (taking c) (place done) said.rows said.pending trails word (value_word c trails word file)
     ∙ ap (λ (a : Option Rule). to_positional (arguments c) a word w w.held) (file_by_index c done id left said.ids)
-    ∙ ap (to_file c w id word) (and_false (is_pending (file_argument (place done) id) said.pending))
+    ∙ ap (to_file c w id word) (and_false (is_pending (file_argument c.fewest (place done) id) said.pending))
     ∙ (λ i. walk_at (said.settles i) (Some (id, word ∷ [])) (next_place c done id left is said.ids i) (or_false trails i))
 
 -- the rest is judged alike behind the file
@@ -186,7 +187,7 @@ stray_file c done files o said word rest trails file = inr (record {
       (subst Fails (sym (turn_by c done [] files o said word trails file ∙ ap (value_fault c (held said.rows said.pending)) (stray_index c done said.ids))) tt);
   unnamed = λ all text count ok named.
       let w = without_file c o trails word rest named.0 text file named.1 in
-      absurd (omega (arith, count, ap length said.ids, length-append done [], as_many said.kept done files said.has, ap length named.2, length-append files named.0, ap length w.2));
+      absurd (omega (arith, count.1, ap length said.ids, length-append done [], as_many said.kept done files said.has, ap length named.2, length-append files named.0, ap length w.2));
 })
 
 pub file_word : (c : Taking) (done left files : List Text) (o : Option Text) (is : IsTaking c) (said : Said c done left files o) (word : Text) (rest : List Text) (trails : Bool) → IsFileWord trails word
@@ -196,34 +197,47 @@ file_word c done (id ∷ left) files o is said word rest trails file go = file_m
 
 -- ---- the end of the words
 
-all_counted : (c : Taking) (done files : List Text) (o : Option Text) → Said c done [] files o → length files ≡ length c.ids
-all_counted c done files o said = omega (arith, ap length said.ids, length-append done [], as_many said.kept done files said.has)
+counted : (c : Taking) (done left files : List Text) (o : Option Text) (said : Said c done left files o) → c.fewest ≤ length done → IsCount c (length files)
+counted c done left files o said many =
+    (omega (arith, many, as_many said.kept done files said.has), omega (arith, ap length said.ids, length-append done left, as_many said.kept done files said.has))
 
-pub words_end : (c : Taking) (is : IsTaking c) (trails : Bool) → AllJudged c trails []
+-- with enough files
+ends_well : (c : Taking) (is : IsTaking c) (trails : Bool) (done left files : List Text) (o : Option Text) (said : Said c done left files o) → c.fewest ≤ length done → JudgedBy c done left files o said trails []
 unfolding walk_fault
-words_end c is trails done [] files o said =
+ends_well c is trails done left files o said many =
     let rows = final_rows c o said.rows said.kept said.pending is said.accepted said.settles said.option_is in
     inl (record {
       files = files;
       option = o;
-      count_is = all_counted c done files o said;
+      count_is = counted c done left files o said many;
       accepted = said.accepted;
       named = ([], no_more c o trails, sym (append-nil files));
-      passes = all_pass c done files o trails is said;
-      files_are = subst (λ (kept : List Row). HasAll kept c.ids files) (sym rows) (all_there c done files o said);
+      passes = enough c done left files o trails is many said;
+      files_are = subst (λ (kept : List Row). HoldsFirst kept c.ids files) (sym rows) (first_there c done left files o is said);
       option_is = subst (HoldsAtEnd c o) (sym rows) (option_there c o said.kept said.option_is);
     })
-words_end c is trails done (id ∷ left) files o said = inr (record {
-  fails = too_few c done id left files o trails is said;
+
+-- with too few
+ends_short : (c : Taking) (is : IsTaking c) (trails : Bool) (done left files : List Text) (o : Option Text) (said : Said c done left files o) → length done < c.fewest → c.fewest ≤ length c.ids
+    → JudgedBy c done left files o said trails []
+unfolding walk_fault
+ends_short c is trails done [] files o said few fits = absurd (omega (arith, few, fits, ap length said.ids, length-append done []))
+ends_short c is trails done (id ∷ left) files o said few fits = inr (record {
+  fails = too_few c done id left files o trails is few said;
   unnamed = λ all text count ok named.
       absurd (omega (
         arith,
-        count,
-        ap length said.ids,
-        length-append done (id ∷ left),
+        few,
+        count.0,
         as_many said.kept done files said.has,
         ap length named.2,
         length-append files named.0,
         ap length (nothing_behind c o trails named.0 text named.1),
       ));
 })
+
+pub words_end : (c : Taking) (is : IsTaking c) (trails : Bool) → AllJudged c trails []
+words_end c is trails done left files o said = elim (bool_cases (nat_lt (length done) c.fewest)) [
+  | inl few ↦ ends_short c is trails done left files o said (grind (arith, nat_tests, few)) is.fits
+  | inr many ↦ ends_well c is trails done left files o said (grind (arith, nat_tests, many))
+]

@@ -1,5 +1,5 @@
 -- What rows of matches hold, row by row.
-use Rattle.std.proofs.Common.{◌≡◌, ◌∙◌, ◌&&◌, ◌||◌, Bool, cond, true, false, refl, sym, ap, List, [], ◌∷◌, ◌++◌, append-nil, Option, Some, None, inl, inr, true≢false, is_some}
+use Rattle.std.proofs.Common.{◌≡◌, ◌≤◌, ◌∙◌, ◌&&◌, ◌||◌, Bool, cond, true, false, refl, sym, ap, arith, length, List, [], ◌∷◌, ◌++◌, append-nil, Option, Some, None, inl, inr, true≢false, is_some}
 use Rattle.std.specs.Prelude.{⊤, find, option_and_then, slice_get}
 use Rattle.std.specs.Str.{bytes_eq}
 use Rattle.clap.specs.Walk.{Row, Text, at_row, first_of, has_row, more_values, one_of, row_text, with_values, without}
@@ -41,6 +41,25 @@ HasAll rows _ _ = ⊥
 abbrev pub LacksAll : List Row → List Text → Type 0
 LacksAll rows [] = ⊤
 LacksAll rows (id ∷ ids) = Lacks rows id × LacksAll rows ids
+
+-- the first of these names have these files, and the others none
+abbrev pub HoldsFirst : List Row → List Text → List Text → Type 0
+HoldsFirst rows ids [] = LacksAll rows ids
+HoldsFirst rows (id ∷ ids) (file ∷ files) = Has rows id file × HoldsFirst rows ids files
+HoldsFirst rows [] (file ∷ files) = ⊥
+
+-- all of them, where there are as many files
+pub all_first : (rows : List Row) (ids files : List Text) → HoldsFirst rows ids files → length ids ≤ length files → HasAll rows ids files
+all_first rows [] [] first many = tt
+all_first rows (id ∷ ids) [] first many = absurd (omega (arith, many))
+all_first rows (id ∷ ids) (file ∷ files) first many = (first.0, all_first rows ids files first.1 (omega (arith, many)))
+all_first rows [] (file ∷ files) first many = absurd first
+
+pub first_of_all : (rows : List Row) (done left files : List Text) → HasAll rows done files → LacksAll rows left → HoldsFirst rows (done ++ left) files
+first_of_all rows [] left [] has lacks = lacks
+first_of_all rows (id ∷ ids) left (file ∷ files) has lacks = (has.0, first_of_all rows ids left files has.1 lacks)
+first_of_all rows [] left (file ∷ files) has lacks = absurd has
+first_of_all rows (id ∷ ids) left [] has lacks = absurd has
 
 -- a row that is held where there is a text, and lacked where there is none
 abbrev pub HasText : List Row → Text → Option Text → Type 0

@@ -1,8 +1,9 @@
 -- What words behind a command with an option have said so far, and how the end of the words is judged then.
-use Rattle.std.proofs.Common.{◌≡◌, ◌∙◌, ◌&&◌, ◌||◌, ◌+◌, ℕ, Bool, cond, true, false, refl, sym, ap, ap₂, subst, List, [], ◌∷◌, ◌++◌, length, append-nil, append_assoc, Option, Some, None, inl, inr, suc, true≢false}
-use Rattle.std.specs.Prelude.{⊤, not}
+use Rattle.std.proofs.Common.{◌≡◌, ◌≤◌, ◌<◌, ◌∙◌, ◌&&◌, arith, ◌||◌, ◌+◌, ℕ, Bool, cond, true, false, refl, sym, ap, ap₂, subst, List, [], ◌∷◌, ◌++◌, length, append-nil, append_assoc, Option, Some, None, inl, inr, suc, true≢false}
+use Rattle.std.specs.Prelude.{⊤, nat_le, not}
 use Rattle.std.specs.List.{fold, list_any}
 use Rattle.std.specs.Option.{option_map_or}
+use Rattle.std.proofs.lemmas.Bool.Decides.{nat_tests}
 use Rattle.std.specs.Str.{bytes_eq}
 use Rattle.clap.specs.Facts.{explicit_source}
 use Rattle.clap.specs.Faults.{defaults_fault, given_default_fault, settle_fault, use_fault}
@@ -18,7 +19,7 @@ use Rattle.clap.specs.declared.parser.matches.ValueSource.TheVariants.{DefaultVa
 use Rattle.fx_cli.proofs.WordSteps.{at_end, walk_at}
 use Rattle.fx_cli.proofs.SingleWords.{Fails, bool_cases, help, held}
 use Rattle.fx_cli.proofs.OptionCommand.{Differs, IsTaking, Taking, apart_behind, apart_files, arguments, file_argument, file_arguments, file_by_id, from_option, differ_back, option_argument, option_by_id, others, place, taking}
-use Rattle.fx_cli.proofs.OptionRows.{Has, HasAll, HasText, Lacks, LacksAll, all_still, cond_same, finds_row, found_before, found_behind, has_new, held_row, lacks_row, lacks_still, new_row, none_still, one_more, or_true, row_at, text_row, text_still, used_row}
+use Rattle.fx_cli.proofs.OptionRows.{Has, HasAll, HasText, HoldsFirst, Lacks, LacksAll, all_still, and_false, cond_same, finds_row, first_of_all, found_before, found_behind, has_new, held_row, lacks_row, lacks_still, new_row, none_still, one_more, or_true, row_at, text_row, text_still, used_row}
 
 -- ---- what words have said
 
@@ -71,8 +72,8 @@ none_of (id ∷ ids) = (refl, none_of ids)
 
 -- ---- one thing more
 
-pub file_use : (position : ℕ) (id word : Text) (rows : List Row) → Lacks rows id → use_fault false (file_argument position id) (word ∷ []) rows ≡ []
-file_use position id word rows lacks = rw (lacks_row rows id lacks) refl
+pub file_use : (fewest position : ℕ) (id word : Text) (rows : List Row) → Lacks rows id → use_fault false (file_argument fewest position id) (word ∷ []) rows ≡ []
+file_use fewest position id word rows lacks = rw (lacks_row rows id lacks) refl
 
 -- one file more, which waits
 unfoldable pub file_said : (c : Taking) (done : List Text) (id : Text) (left files : List Text) (o : Option Text) (word : Text) → IsTaking c → Said c done (id ∷ left) files o
@@ -84,7 +85,7 @@ file_said c done id left files o word is said =
       pending = Some (id, word ∷ []);
       kept = said.kept ++ held_row id word ∷ [];
       settles = ap (λ (a : Option Rule). used_by_id a (word ∷ []) said.kept) found ∙ used_row id AsWritten word said.kept refl said.lacks.0;
-      fine = ap (λ (a : Option Rule). option_map_or (λ r. use_fault false r (word ∷ []) said.kept) a []) found ∙ file_use (place done) id word said.kept said.lacks.0;
+      fine = ap (λ (a : Option Rule). option_map_or (λ r. use_fault false r (word ∷ []) said.kept) a []) found ∙ file_use c.fewest (place done) id word said.kept said.lacks.0;
       ids = said.ids ∙ sym (append_assoc done (id ∷ []) left);
       has = one_more (said.kept ++ held_row id word ∷ []) done files id word (all_still said.kept (held_row id word ∷ []) done files said.has) (has_new id word said.kept said.lacks.0);
       lacks = none_still said.kept (held_row id word) left (apart_behind done id left (apart_files c done id left is said.ids)) said.lacks.1;
@@ -155,10 +156,10 @@ option_ending c None rows is lacks = rw (lacks_row rows c.option lacks) (by_defa
 option_ending c (Some text) rows is has = rw (finds_row rows c.option (held_row c.option text) has) (sym (append-nil rows))
 
 -- files have no text of their own then
-files_ending : (p : ℕ) (ids : List Text) (tail : List Rule) (rows : List Row) → fold with_default rows (file_arguments p ids ++ tail) ≡ fold with_default rows tail
-files_ending p [] tail rows = refl
-files_ending p (id ∷ ids) tail rows =
-    ap (λ (rs : List Row). fold with_default rs (file_arguments (p + 1) ids ++ tail)) (cond_same (has_row id rows) rows) ∙ files_ending (p + 1) ids tail rows
+files_ending : (f p : ℕ) (ids : List Text) (tail : List Rule) (rows : List Row) → fold with_default rows (file_arguments f p ids ++ tail) ≡ fold with_default rows tail
+files_ending f p [] tail rows = refl
+files_ending f p (id ∷ ids) tail rows =
+    ap (λ (rs : List Row). fold with_default rs (file_arguments f (p + 1) ids ++ tail)) (cond_same (has_row id rows) rows) ∙ files_ending f (p + 1) ids tail rows
 
 -- nor has help
 others_ending : (c : Taking) (o : Option Text) (rows : List Row) → IsTaking c → IsFine c o → HasText rows c.option o → fold with_default rows (others c) ≡ rows ++ ending c o
@@ -172,15 +173,15 @@ others_ending c o rows is fine has = elim (bool_cases c.has_option) [
     nothing (Some text) none fine = absurd (true≢false (sym fine.0 ∙ none))
 
 all_ending : (c : Taking) (o : Option Text) (rows : List Row) → IsTaking c → IsFine c o → HasText rows c.option o → fold with_default rows (arguments c) ≡ rows ++ ending c o
-all_ending c o rows is fine has = files_ending 1 c.ids (others c) rows ∙ others_ending c o rows is fine has
+all_ending c o rows is fine has = files_ending c.fewest 1 c.ids (others c) rows ∙ others_ending c o rows is fine has
 
-no_faults : (p : ℕ) (ids : List Text) (tail : List Rule) (rows : List Row) → defaults_fault rows (file_arguments p ids ++ tail) ≡ defaults_fault rows tail
+no_faults : (f p : ℕ) (ids : List Text) (tail : List Rule) (rows : List Row) → defaults_fault rows (file_arguments f p ids ++ tail) ≡ defaults_fault rows tail
 unfolding defaults_fault
-no_faults p [] tail rows = refl
-no_faults p (id ∷ ids) tail rows =
-    ap₂ (λ (b : Bool) (rs : List Row). or_else (cond b [] (values_kinds false parsers.String [])) (defaults_fault rs (file_arguments (p + 1) ids ++ tail)))
+no_faults f p [] tail rows = refl
+no_faults f p (id ∷ ids) tail rows =
+    ap₂ (λ (b : Bool) (rs : List Row). or_else (cond b [] (values_kinds false parsers.String [])) (defaults_fault rs (file_arguments f (p + 1) ids ++ tail)))
     (or_true (has_row id rows)) (cond_same (has_row id rows) rows)
-    ∙ no_faults (p + 1) ids tail rows
+    ∙ no_faults f (p + 1) ids tail rows
 
 option_default : (c : Taking) (b : Bool) → IsTaking c → cond (b || is_empty c.default) [] (values_kinds false c.parser c.default) ≡ []
 option_default c b is = ap (λ (k : Kinds). cond (b || is_empty c.default) [] k) is.default_fine ∙ cond_same (b || is_empty c.default) []
@@ -209,18 +210,31 @@ is_wanted rows a = a.required && not (is_given a.id rows)
 abbrev lacks_source : Option Row → Bool
 lacks_source o = not (option_map_or (λ r. explicit_source r.source) o false)
 
-all_given : (p : ℕ) (rows : List Row) (ids files : List Text) (tail : List Rule) → HasAll rows ids files → list_any (is_wanted rows) (file_arguments p ids ++ tail) ≡ list_any (is_wanted rows) tail
-all_given p rows [] [] tail has = refl
-all_given p rows (id ∷ ids) (file ∷ files) tail has =
-    ap (λ (o : Option Row). lacks_source o || list_any (is_wanted rows) (file_arguments (p + 1) ids ++ tail)) has.0 ∙ all_given (p + 1) rows ids files tail has.1
-all_given p rows [] (file ∷ files) tail has = absurd has
-all_given p rows (id ∷ ids) [] tail has = absurd has
+all_given : (f p : ℕ) (rows : List Row) (ids left files : List Text) (tail : List Rule) → HasAll rows ids files
+    → list_any (is_wanted rows) (file_arguments f p (ids ++ left) ++ tail) ≡ list_any (is_wanted rows) (file_arguments f (p + length ids) left ++ tail)
+all_given f p rows [] left [] tail has = let same : p ≡ p + 0 = omega arith in ap (λ (n : ℕ). list_any (is_wanted rows) (file_arguments f n left ++ tail)) same
+all_given f p rows (id ∷ ids) left (file ∷ files) tail has =
+    let same : (p + 1) + length ids ≡ p + suc (length ids) = omega arith in
+    ap (λ (o : Option Row). (nat_le p f && lacks_source o) || list_any (is_wanted rows) (file_arguments f (p + 1) (ids ++ left) ++ tail)) has.0
+    ∙ ap (λ (b : Bool). b || list_any (is_wanted rows) (file_arguments f (p + 1) (ids ++ left) ++ tail)) (and_false (nat_le p f))
+    ∙ all_given f (p + 1) rows ids left files tail has.1
+    ∙ ap (λ (n : ℕ). list_any (is_wanted rows) (file_arguments f n left ++ tail)) same
+all_given f p rows [] left (file ∷ files) tail has = absurd has
+all_given f p rows (id ∷ ids) left [] tail has = absurd has
 
-one_wanted : (p : ℕ) (rows : List Row) (done : List Text) (id : Text) (left : List Text) (tail : List Rule) → Lacks rows id
-    → list_any (is_wanted rows) (file_arguments p (done ++ id ∷ left) ++ tail) ≡ true
-one_wanted p rows [] id left tail lacks = ap (λ (o : Option Row). lacks_source o || list_any (is_wanted rows) (file_arguments (p + 1) left ++ tail)) lacks
-one_wanted p rows (d ∷ ds) id left tail lacks =
-    ap (λ (b : Bool). is_wanted rows (file_argument p d) || b) (one_wanted (p + 1) rows ds id left tail lacks) ∙ or_true (is_wanted rows (file_argument p d))
+-- a file that must be there is wanted
+one_wanted : (f p : ℕ) (rows : List Row) (id : Text) (left : List Text) (tail : List Rule) → p ≤ f → Lacks rows id → list_any (is_wanted rows) (file_arguments f p (id ∷ left) ++ tail) ≡ true
+one_wanted f p rows id left tail within lacks =
+    let is : nat_le p f ≡ true = grind (arith, nat_tests, within) in
+    ap (λ (o : Option Row). (nat_le p f && lacks_source o) || list_any (is_wanted rows) (file_arguments f (p + 1) left ++ tail)) lacks
+    ∙ ap (λ (b : Bool). (b && true) || list_any (is_wanted rows) (file_arguments f (p + 1) left ++ tail)) is
+
+-- the files behind those that must be there aren't
+none_wanted : (f p : ℕ) (rows : List Row) (left : List Text) (tail : List Rule) → suc f ≤ p → list_any (is_wanted rows) (file_arguments f p left ++ tail) ≡ list_any (is_wanted rows) tail
+none_wanted f p rows [] tail past = refl
+none_wanted f p rows (id ∷ left) tail past =
+    let other : nat_le p f ≡ false = grind (arith, nat_tests, past) in
+    ap (λ (b : Bool). (b && not (is_given id rows)) || list_any (is_wanted rows) (file_arguments f (p + 1) left ++ tail)) other ∙ none_wanted f (p + 1) rows left tail (omega (arith, past))
 
 others_given : (c : Taking) (rows : List Row) → list_any (is_wanted rows) (others c) ≡ false
 others_given c rows = elim (bool_cases c.has_option) [ inl some ↦ rw some refl | inr none ↦ rw none refl ]
@@ -236,7 +250,7 @@ pub checks_of : (c : Taking) (o : Option Text) (rows kept : List Row) (pending :
 checks_of c o rows kept pending position trails is taken settles fine has =
     ap (λ (k : Kinds). or_else k (or_else (defaults_fault (settled_rows (arguments c) pending rows) (arguments c)) (last_check c (fold with_default (settled_rows (arguments c) pending rows) (arguments c))))) fine
     ∙ ap (λ (rs : List Row). or_else (defaults_fault rs (arguments c)) (last_check c (fold with_default rs (arguments c)))) settles
-    ∙ ap (λ (k : Kinds). or_else k (last_check c (fold with_default kept (arguments c)))) (no_faults 1 c.ids (others c) kept ∙ others_default c kept is)
+    ∙ ap (λ (k : Kinds). or_else k (last_check c (fold with_default kept (arguments c)))) (no_faults c.fewest 1 c.ids (others c) kept ∙ others_default c kept is)
     ∙ ap (last_check c) (all_ending c o kept is taken has)
 
 -- the rows at the end
@@ -252,26 +266,41 @@ lacks_ending : (c : Taking) (o : Option Text) (id : Text) (rows : List Row) → 
 lacks_ending c None id rows differs lacks = lacks_default id c.option c.default rows differs lacks
 lacks_ending c (Some text) id rows differs lacks = ap (row_at id) (append-nil rows) ∙ lacks
 
+lacks_all_ending : (c : Taking) (o : Option Text) (ids : List Text) (rows : List Row) → Differs c.option ids → LacksAll rows ids → LacksAll (rows ++ ending c o) ids
+lacks_all_ending c o [] rows differs lacks = tt
+lacks_all_ending c o (id ∷ ids) rows differs lacks = (lacks_ending c o id rows differs.0 lacks.0, lacks_all_ending c o ids rows differs.1 lacks.1)
+
+-- what is wanted at the end, behind the files that are there
+wanted_of : (c : Taking) (done left files : List Text) (o : Option Text) → (said : Said c done left files o)
+    → list_any (is_wanted (said.kept ++ ending c o)) (arguments c) ≡ list_any (is_wanted (said.kept ++ ending c o)) (file_arguments c.fewest (1 + length done) left ++ others c)
+wanted_of c done left files o said =
+    ap (λ (ids : List Text). list_any (is_wanted (said.kept ++ ending c o)) (file_arguments c.fewest 1 ids ++ others c)) said.ids
+    ∙ all_given c.fewest 1 (said.kept ++ ending c o) done left files (others c) (all_still said.kept (ending c o) done files said.has)
+
 -- too few files
-pub too_few : (c : Taking) (done : List Text) (id : Text) (left files : List Text) (o : Option Text) (trails : Bool) → IsTaking c → (said : Said c done (id ∷ left) files o)
+pub too_few : (c : Taking) (done : List Text) (id : Text) (left files : List Text) (o : Option Text) (trails : Bool) → IsTaking c → length done < c.fewest → (said : Said c done (id ∷ left) files o)
     → Fails (at_end (taking c) [] (walk_of said trails))
-too_few c done id left files o trails is said =
+too_few c done id left files o trails is few said =
     let rows = said.kept ++ ending c o in
     let lacks : Lacks rows id = lacks_ending c o id said.kept (from_option c done id left is said.ids) said.lacks.0 in
     let wanted : list_any (is_wanted rows) (arguments c) ≡ true =
-    ap (λ (ids : List Text). list_any (is_wanted rows) (file_arguments 1 ids ++ others c)) said.ids ∙ one_wanted 1 rows done id left (others c) lacks in
+    wanted_of c done (id ∷ left) files o said ∙ one_wanted c.fewest (1 + length done) rows id left (others c) (omega (arith, few)) lacks in
     let ends = checks_of c o said.rows said.kept said.pending (place done) trails is said.accepted said.settles said.fine said.option_is ∙ ap (check_kinds false false) wanted in
     subst Fails (sym ends) tt
 
--- all files
-pub all_there : (c : Taking) (done files : List Text) (o : Option Text) → (said : Said c done [] files o) → HasAll (said.kept ++ ending c o) c.ids files
-all_there c done files o said =
-    subst (λ (ids : List Text). HasAll (said.kept ++ ending c o) ids files) (sym (said.ids ∙ append-nil done)) (all_still said.kept (ending c o) done files said.has)
+-- the files that are there
+pub first_there : (c : Taking) (done left files : List Text) (o : Option Text) → IsTaking c → (said : Said c done left files o) → HoldsFirst (said.kept ++ ending c o) c.ids files
+first_there c done left files o is said =
+    subst (λ (ids : List Text). HoldsFirst (said.kept ++ ending c o) ids files) (sym said.ids)
+    (first_of_all (said.kept ++ ending c o) done left files (all_still said.kept (ending c o) done files said.has) (lacks_all_ending c o left said.kept (option_apart c done left is said.ids) said.lacks))
 
-pub all_pass : (c : Taking) (done files : List Text) (o : Option Text) (trails : Bool) → IsTaking c → (said : Said c done [] files o) → at_end (taking c) [] (walk_of said trails) ≡ []
-all_pass c done files o trails is said =
+-- enough files
+pub enough : (c : Taking) (done left files : List Text) (o : Option Text) (trails : Bool) → IsTaking c → c.fewest ≤ length done → (said : Said c done left files o)
+    → at_end (taking c) [] (walk_of said trails) ≡ []
+enough c done left files o trails is many said =
     checks_of c o said.rows said.kept said.pending (place done) trails is said.accepted said.settles said.fine said.option_is
-    ∙ ap (check_kinds false false) (all_given 1 (said.kept ++ ending c o) c.ids files (others c) (all_there c done files o said) ∙ others_given c (said.kept ++ ending c o))
+    ∙ ap (check_kinds false false)
+    (wanted_of c done left files o said ∙ none_wanted c.fewest (1 + length done) (said.kept ++ ending c o) left (others c) (omega (arith, many)) ∙ others_given c (said.kept ++ ending c o))
 
 -- what the rows hold of the option at the end: its text, or the one that stands where it is left out
 abbrev pub HoldsAtEnd : Taking → Option Text → List Row → Type 0

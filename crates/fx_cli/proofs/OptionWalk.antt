@@ -90,8 +90,8 @@ flag_unsettled c word rows values fails single flag = elim (flag_form word singl
 abbrev pub value_fault : Taking → Held → Option Rule → Kinds
 value_fault c h a = option_map_or (λ r. positional_fault (arguments c) false r h) a (stray_fault (taking c))
 
-pub file_fault : (c : Taking) (h : Held) (n : ℕ) (id : Text) → value_fault c h (Some (file_argument n id)) ≡ settle_fault (arguments c) false h
-file_fault c h n id = ap (λ (b : Bool). cond b [] (settle_fault (arguments c) false h)) (and_false (is_pending (file_argument n id) h.pending))
+pub file_fault : (c : Taking) (h : Held) (n : ℕ) (id : Text) → value_fault c h (Some (file_argument c.fewest n id)) ≡ settle_fault (arguments c) false h
+file_fault c h n id = ap (λ (b : Bool). cond b [] (settle_fault (arguments c) false h)) (and_false (is_pending (file_argument c.fewest n id) h.pending))
 
 file_unsettled : (c : Taking) (rows : List Row) (values : List Text) (position : ℕ) → Unsettled c rows values → Fails (step_fault (taking c) position (held rows (Some (c.option, values))) value)
 file_unsettled c rows values position fails = elim (file_or_none c position) [

@@ -14,8 +14,8 @@ use Rattle.fx_cli.specs.Words.{NamesWith, file_names, is_double_hyphen, is_flag}
 use Rattle.fx_cli.proofs.WordSteps.{command_fault, double_fault, double_walk, walk_at}
 use Rattle.fx_cli.proofs.SingleWords.{Fails, bool_cases, fails_first, first_char, flag_form, held, long_fails, long_refused, short_fails, short_refused}
 use Rattle.fx_cli.proofs.OptionNames.{OptionFirst, long_written, named_flag, option_named}
-use Rattle.fx_cli.proofs.OptionCommand.{HasOption, IsTaking, Taking, arguments, no_long, no_short, option_argument, option_by_id, option_by_long, others, place, taking}
-use Rattle.fx_cli.proofs.OptionRows.{Has, HasAll, Lacks, finds_row, held_row, lacks_row, used_row}
+use Rattle.fx_cli.proofs.OptionCommand.{HasOption, IsCount, IsTaking, Taking, arguments, no_long, no_short, option_argument, option_by_id, option_by_long, others, place, taking}
+use Rattle.fx_cli.proofs.OptionRows.{Has, HoldsFirst, Lacks, finds_row, held_row, lacks_row, used_row}
 use Rattle.fx_cli.proofs.OptionSaid.{HoldsAtEnd, IsFine, Said, none_of, nothing_said, option_said, option_set, walk_of}
 use Rattle.fx_cli.proofs.OptionWalk.{Unsettled, awaited_double, awaited_end, awaited_flag, awaited_turn, awaited_walk, awaiting, doomed, fails_at, fails_behind, outcome, twice}
 use Rattle.fx_cli.proofs.OptionFiles.{AllJudged, Behind, Judged, JudgedBy, Named, behind, file_word, with_double, without_double, words_end}
@@ -44,7 +44,7 @@ others_long c rules name v h other = elim (bool_cases c.has_option) [
 
 other_long : (c : Taking) (name : Text) (v : Option Text) (h : Held) → (c.has_option ≡ false) ⊎ (bytes_eq c.option name ≡ false) → Fails (long_fault (arguments c) false (arg_by_long (arguments c) name) v h)
 other_long c name v h other =
-    subst (λ (a : Option Rule). Fails (long_fault (arguments c) false a v h)) (sym (no_long 1 c.ids (others c) name)) (others_long c (arguments c) name v h other)
+    subst (λ (a : Option Rule). Fails (long_fault (arguments c) false a v h)) (sym (no_long c.fewest 1 c.ids (others c) name)) (others_long c (arguments c) name v h other)
 
 others_short : (c : Taking) (rules : List Rule) (x : ℕ) (rest : Text) (h : Held) (later : Held → Kinds) → Fails (short_fault rules false (arg_by_short (others c) x) rest h later)
 others_short c rules x rest h later = elim (bool_cases c.has_option) [
@@ -54,7 +54,7 @@ others_short c rules x rest h later = elim (bool_cases c.has_option) [
 
 other_short : (c : Taking) (x : ℕ) (rest : Text) (h : Held) (later : Held → Kinds) → Fails (short_fault (arguments c) false (arg_by_short (arguments c) x) rest h later)
 other_short c x rest h later =
-    subst (λ (a : Option Rule). Fails (short_fault (arguments c) false a rest h later)) (sym (no_short 1 c.ids (others c) x)) (others_short c (arguments c) x rest h later)
+    subst (λ (a : Option Rule). Fails (short_fault (arguments c) false a rest h later)) (sym (no_short c.fewest 1 c.ids (others c) x)) (others_short c (arguments c) x rest h later)
 
 abbrev IsOption : Taking → Text → Type 0
 IsOption c word = (w : Option Text) × (long_of word ≡ Some (c.option, w)) × (c.has_option ≡ true)
@@ -396,16 +396,16 @@ judge c is (word ∷ rest) =
 pub record OptionPasses (c : Taking) (rest : List Text) : Type 0 where
   pub files : List Text
   pub option : Option Text
-  pub count_is : length files ≡ length c.ids
+  pub count_is : IsCount c (length files)
   pub accepted : IsFine c option
   pub named : NamesWith c.option rest files option
   pub passes : command_fault (taking c) rest ≡ []
-  pub files_are : HasAll (rows_after (arguments c) [] rest) c.ids files
+  pub files_are : HoldsFirst (rows_after (arguments c) [] rest) c.ids files
   pub option_is : HoldsAtEnd c option (rows_after (arguments c) [] rest)
 
 pub record OptionFails (c : Taking) (rest : List Text) : Type 0 where
   pub fails : Fails (command_fault (taking c) rest)
-  pub unnamed : (files : List Text) (option : Option Text) → length files ≡ length c.ids → IsFine c option → NamesWith c.option rest files option → ⊥
+  pub unnamed : (files : List Text) (option : Option Text) → IsCount c (length files) → IsFine c option → NamesWith c.option rest files option → ⊥
 
 pub decide_option : (c : Taking) → IsTaking c → (rest : List Text) → OptionPasses c rest ⊎ OptionFails c rest
 unfolding nothing_said

@@ -1,10 +1,10 @@
 -- What a parse of the program's words gives, and which values its matches hold.
-use Rattle.std.proofs.Common.{◌≡◌, ◌∙◌, ◌⊎◌, ℕ, true, false, refl, sym, ap, ap₂, subst, List, [], ◌∷◌, Option, Some, None, inl, inr, true≢false, codes}
+use Rattle.std.proofs.Common.{◌≡◌, ◌≤◌, ◌∙◌, ◌⊎◌, ℕ, arith, length, true, false, refl, sym, ap, ap₂, subst, List, [], ◌∷◌, Option, Some, None, inl, inr, true≢false, codes}
 use Rattle.std.specs.Str.Parse.{digits_value, without_leading_plus}
 use Rattle.std.specs.Prelude.{⊤, unwrap_or, option_and_then, option_map, slice_get}
 use Rattle.clap.specs.Words.{AddsInTurn, AddsSubcommand, app_of, first_value, one_text, rows_of, HasMatchesOf, is_simple, is_simple_and_free, subcommand_rows_of, HasKind, kind_of, subcommand_name_of}
 use Rattle.clap.specs.Walk.{Row, Text, row_text}
-use Rattle.clap.specs.Simple.{new_app, on_top, with_rule, with_subcommand, subcommand_rows, App}
+use Rattle.clap.specs.Simple.{new_app, on_top, with_rule, with_subcommand, subcommand_rows, App, new_rule}
 use Rattle.clap.specs.Kinds.{Kinds}
 use Rattle.clap.specs.Faults.{fault_of}
 use Rattle.clap.specs.declared.builder.command.Command.{Command}
@@ -18,17 +18,17 @@ use Rattle.clap.specs.declared.error.kind.ErrorKind.TheVariants.{OutOfMemory}
 use Rattle.std.specs.Prelude.{Box, IfErr, IfOk, IfSome, IsSome, Result, Ok, Err, MatchResult, IsErrAnd, string_bytes}
 use Rattle.std.specs.Box.{box_value}
 use Rattle.fx_cli.specs.declared.words.Call.{Call}
-use Rattle.fx_cli.specs.declared.words.Call.TheVariants.{Audit, Check, Collect, Confirm, Lint, Replay, Run}
+use Rattle.fx_cli.specs.declared.words.Call.TheVariants.{Audit, Check, Collect, Confirm, Explain, Lint, Replay, Run}
 use Rattle.clap.proofs.WalkLemmas.{first_value-rows, one_text-rows}
-use Rattle.fx_cli.specs.Words.{IsLimitSet, Names, NamesFiles, NamesNoCall, NamesWith}
-use Rattle.fx_cli.specs.CommandLine.{AreMatchesOf, file_rule, limit_rule, links_rule, network_alone, once_app, over_capture, over_documents, over_network, wants_command}
-use Rattle.fx_cli.specs.Matches.{HoldsFile, HoldsLimit, HasFile, IsAuditOf, IsCheckOf, IsCollectOf, IsConfirmOf, IsLintOf, IsReplayOf, IsRunCall}
+use Rattle.fx_cli.specs.Words.{IsLimitSet, Names, NamesFiles, file_given, NamesNoCall, NamesWith}
+use Rattle.fx_cli.specs.CommandLine.{AreMatchesOf, file_rule, limit_rule, links_rule, number_alone, once_app, over_capture, over_documents, over_network, wants_command}
+use Rattle.fx_cli.specs.Matches.{HoldsFile, HoldsLimit, HasFile, IsAuditOf, IsCheckOf, IsCollectOf, IsConfirmOf, IsExplainOf, IsLintOf, IsReplayOf, IsRunCall}
 use Rattle.fx_cli.proofs.SingleWords.{Fails}
 use Rattle.fx_cli.proofs.AcceptedWords.{NamesBy, Refuses, Takes, decide_words}
-use Rattle.fx_cli.proofs.CommandTable.{Kind, audit, check, collect, confirm, lint, name_of, one_kind, replay, run, taking_of}
+use Rattle.fx_cli.proofs.CommandTable.{Kind, audit, check, collect, confirm, explain, lint, name_of, one_kind, replay, run, taking_of}
 use Rattle.fx_cli.proofs.LimitWords.{limit_read, limit_taken}
-use Rattle.fx_cli.proofs.OptionCommand.{Taking, files_alone}
-use Rattle.fx_cli.proofs.OptionRows.{HasAll, first_held, one_held}
+use Rattle.fx_cli.proofs.OptionCommand.{IsCount, Taking, files_alone, some_files}
+use Rattle.fx_cli.proofs.OptionRows.{HasAll, HoldsFirst, Lacks, all_first, first_held, one_held}
 use Rattle.fx_cli.proofs.OptionSaid.{HoldsAtEnd, IsFine}
 
 -- ---- what a parse gives
@@ -57,7 +57,7 @@ taken words m are = elim (decide_words words) [
 -- ---- words that name no call
 
 -- files alone
-named_alone : {command : Text} {ids words files : List Text} → NamesFiles words command files → NamesBy (files_alone command ids) words files None
+named_alone : {command : Text} {fewest : ℕ} {ids words files : List Text} → NamesFiles words command files → NamesBy (some_files command fewest ids) words files None
 named_alone n = record { program = n.program; rest = n.rest; words_are = n.words_are; named = n.files_are }
 
 -- the text of a limit is taken
@@ -71,15 +71,17 @@ any_fine None = tt
 any_fine (Some text) = (refl, refl)
 
 no_call : (words : List Text) → Refuses words → NamesNoCall words
-no_call words r (Replay a b c) n = r.unnamed replay (string_bytes a ∷ string_bytes b ∷ string_bytes c ∷ []) None refl tt (named_alone n)
-no_call words r (Collect a b) n = r.unnamed collect (string_bytes a ∷ string_bytes b ∷ []) None refl tt (named_alone n)
-no_call words r (Check a b c) n = r.unnamed check (string_bytes a ∷ string_bytes b ∷ string_bytes c ∷ []) None refl tt (named_alone n)
-no_call words r (Confirm a b c) n = r.unnamed confirm (string_bytes a ∷ string_bytes b ∷ string_bytes c ∷ []) None refl tt (named_alone n)
-no_call words r (Lint a) n = r.unnamed lint (string_bytes a ∷ []) None refl tt (named_alone n)
+no_call words r (Replay a b c) n = r.unnamed replay (string_bytes a ∷ string_bytes b ∷ string_bytes c ∷ []) None (omega arith, omega arith) tt (named_alone n)
+no_call words r (Collect a b) n = r.unnamed collect (string_bytes a ∷ string_bytes b ∷ []) None (omega arith, omega arith) tt (named_alone n)
+no_call words r (Check a b c) n = r.unnamed check (string_bytes a ∷ string_bytes b ∷ string_bytes c ∷ []) None (omega arith, omega arith) tt (named_alone n)
+no_call words r (Confirm a b c) n = r.unnamed confirm (string_bytes a ∷ string_bytes b ∷ string_bytes c ∷ []) None (omega arith, omega arith) tt (named_alone n)
+no_call words r (Lint a None) n = r.unnamed lint (string_bytes a ∷ []) None (omega arith, omega arith) tt (named_alone n)
+no_call words r (Lint a (Some b)) n = r.unnamed lint (string_bytes a ∷ string_bytes b ∷ []) None (omega arith, omega arith) tt (named_alone n)
+no_call words r (Explain a) n = r.unnamed explain (string_bytes a ∷ []) None (omega arith, omega arith) tt (named_alone n)
 no_call words r (Audit a b limit) n =
-    r.unnamed audit (string_bytes a ∷ string_bytes b ∷ []) n.option refl (limit_fine n.option limit n.limit_is) (record { program = n.program; rest = n.rest; words_are = n.words_are; named = n.named })
+    r.unnamed audit (string_bytes a ∷ string_bytes b ∷ []) n.option (omega arith, omega arith) (limit_fine n.option limit n.limit_is) (record { program = n.program; rest = n.rest; words_are = n.words_are; named = n.named })
 no_call words r (Run a b c d links) n =
-    r.unnamed run (string_bytes a ∷ string_bytes b ∷ string_bytes c ∷ string_bytes d ∷ []) (option_map string_bytes links) refl (any_fine (option_map string_bytes links))
+    r.unnamed run (string_bytes a ∷ string_bytes b ∷ string_bytes c ∷ string_bytes d ∷ []) (option_map string_bytes links) (omega arith, omega arith) (any_fine (option_map string_bytes links))
     (record { program = n.program; rest = n.rest; words_are = n.words_are; named = n.named })
 
 memory_alone : (a : App) (words : List Text) (e : Error) → a ≡ once_app → (is_simple_and_free a ≡ true → HasKind (fault_of a words) e) → fault_of once_app words ≡ [] → kind_of e ≡ OutOfMemory
@@ -132,8 +134,8 @@ abbrev IsNotFound : Text → ArgMatches → Type 0
 IsNotFound name m = subcommand_name_of m ≡ Some name → false ≡ true
 
 pub taken_replay : (words : List Text) (m : ArgMatches) → AreMatchesOf words m → IsNotFound (codes "collect") m → IsNotFound (codes "check") m → IsNotFound (codes "confirm") m
-    → IsNotFound (codes "audit") m → IsNotFound (codes "run") m → IsNotFound (codes "lint") m → subcommand_name_of m ≡ Some (codes "replay")
-taken_replay words m are not_collect not_check not_confirm not_audit not_run not_lint = let t = taken words m are in go t.0 (taken_name (taking_of t.0) words m t.1)
+    → IsNotFound (codes "audit") m → IsNotFound (codes "run") m → IsNotFound (codes "lint") m → IsNotFound (codes "explain") m → subcommand_name_of m ≡ Some (codes "replay")
+taken_replay words m are not_collect not_check not_confirm not_audit not_run not_lint not_explain = let t = taken words m are in go t.0 (taken_name (taking_of t.0) words m t.1)
   where
     go : (k : Kind) → subcommand_name_of m ≡ Some (name_of k) → subcommand_name_of m ≡ Some (codes "replay")
     go replay name = name
@@ -143,6 +145,7 @@ taken_replay words m are not_collect not_check not_confirm not_audit not_run not
     go audit name = absurd (true≢false (sym (not_audit name)))
     go run name = absurd (true≢false (sym (not_run name)))
     go lint name = absurd (true≢false (sym (not_lint name)))
+    go explain name = absurd (true≢false (sym (not_explain name)))
 
 -- ---- the values that are found
 
@@ -162,7 +165,8 @@ pub record HasWords (c : Taking) (words : List Text) (found : Found) : Type 0 wh
   pub option : Option Text
   pub accepted : IsFine c option
   pub named : NamesBy c words files option
-  pub files_are : HasAll (rows_of found) c.ids files
+  pub count_is : IsCount c (length files)
+  pub files_are : HoldsFirst (rows_of found) c.ids files
   pub option_is : HoldsAtEnd c option (rows_of found)
 
 pub words_of : (k : Kind) (words : List Text) (m : ArgMatches) (found : Found) → AreMatchesOf words m → subcommand_name_of m ≡ Some (name_of k) → HasRows m found → HasWords (taking_of k) words found
@@ -174,7 +178,8 @@ words_of k words m found are name e =
       option = t.takes.option;
       accepted = t.takes.accepted;
       named = t.takes.named;
-      files_are = subst (λ (rows : List Row). HasAll rows (taking_of k).ids t.takes.files) same t.takes.files_are;
+      count_is = t.takes.count_is;
+      files_are = subst (λ (rows : List Row). HoldsFirst rows (taking_of k).ids t.takes.files) same t.takes.files_are;
       option_is = subst (HoldsAtEnd (taking_of k) t.takes.option) same t.takes.option_is;
     }
 
@@ -185,11 +190,26 @@ abbrev pub HasFiles : Found → List Text → Type 0
 HasFiles found [] = ⊤
 HasFiles found (id ∷ ids) = HasFile found id × HasFiles found ids
 
-pub all_found : (found : Found) (ids files : List Text) → HasAll (rows_of found) ids files → HasFiles found ids
-all_found found [] files has = tt
-all_found found (id ∷ ids) (file ∷ files) has =
-    (subst (λ (o : Option Text). IsSome o) (sym (first_value-rows found id ∙ first_held (rows_of found) id file has.0)) refl, all_found found ids files has.1)
-all_found found (id ∷ ids) [] has = absurd has
+every_found : (found : Found) (ids files : List Text) → HasAll (rows_of found) ids files → HasFiles found ids
+every_found found [] files has = tt
+every_found found (id ∷ ids) (file ∷ files) has =
+    (subst (λ (o : Option Text). IsSome o) (sym (first_value-rows found id ∙ first_held (rows_of found) id file has.0)) refl, every_found found ids files has.1)
+every_found found (id ∷ ids) [] has = absurd has
+
+-- all files are there, where all must be
+every_there : {c : Taking} {words : List Text} (found : Found) (f : HasWords c words found) → length c.ids ≤ c.fewest → HasAll (rows_of found) c.ids f.files
+every_there {c} found f all = all_first (rows_of found) c.ids f.files f.files_are (omega (arith, all, f.count_is.0))
+
+pub all_found : {c : Taking} {words : List Text} (found : Found) → HasWords c words found → length c.ids ≤ c.fewest → HasFiles found c.ids
+all_found {c} found f all = every_found found c.ids f.files (every_there found f all)
+
+-- a network is there, where nothing else must be
+pub network_found : {words : List Text} (found : Found) → HasWords (taking_of lint) words found → HasFile found (codes "NETWORK")
+network_found found f = first f.files f.count_is.0 f.files_are
+  where
+    first : (files : List Text) → 1 ≤ length files → HoldsFirst (rows_of found) (codes "NETWORK" ∷ codes "TRAFFIC" ∷ []) files → HasFile found (codes "NETWORK")
+    first [] many has = absurd (omega (arith, many))
+    first (file ∷ files) many has = subst (λ (o : Option Text). IsSome o) (sym (first_value-rows found (codes "NETWORK") ∙ first_held (rows_of found) (codes "NETWORK") file has.0)) refl
 
 -- the files under these names are these
 abbrev pub HoldsFiles : Found → List Text → List Text → Type 0
@@ -208,15 +228,34 @@ same_files found (id ∷ ids) [] names has holds = absurd has
 same_files found (id ∷ ids) (file ∷ files) [] has holds = absurd holds
 
 -- the words name the values that are there
-named_there : (c : Taking) (words names : List Text) (found : Found) (f : HasWords c words found) → HoldsFiles found c.ids names → NamesBy c words names f.option
-named_there c words names found f holds = subst (λ (files : List Text). NamesBy c words files f.option) (same_files found c.ids f.files names f.files_are holds) f.named
+named_there : (c : Taking) (words names : List Text) (found : Found) (f : HasWords c words found) → length c.ids ≤ c.fewest → HoldsFiles found c.ids names → NamesBy c words names f.option
+named_there c words names found f all holds = subst (λ (files : List Text). NamesBy c words files f.option) (same_files found c.ids f.files names (every_there found f all) holds) f.named
+
+-- those of a command of files alone
+alone_named : {command : Text} {fewest : ℕ} {ids words names : List Text} (o : Option Text) → IsFine (some_files command fewest ids) o → NamesBy (some_files command fewest ids) words names o → NamesFiles words command names
+alone_named None fine n = record { program = n.program; rest = n.rest; words_are = n.words_are; files_are = n.named }
+alone_named (Some text) fine n = absurd (true≢false (sym fine.0))
 
 files_there : (command : Text) (ids words names : List Text) (found : Found) → HasWords (files_alone command ids) words found → HoldsFiles found ids names → NamesFiles words command names
-files_there command ids words names found f holds = go f.option f.accepted (named_there (files_alone command ids) words names found f holds)
-  where
-    go : (o : Option Text) → IsFine (files_alone command ids) o → NamesBy (files_alone command ids) words names o → NamesFiles words command names
-    go None fine n = record { program = n.program; rest = n.rest; words_are = n.words_are; files_are = n.named }
-    go (Some text) fine n = absurd (true≢false (sym fine.0))
+files_there command ids words names found f holds = alone_named f.option f.accepted (named_there (files_alone command ids) words names found f (omega arith) holds)
+
+-- the text that is read where none is held
+none_held : (found : Found) (id : Text) → Lacks (rows_of found) id → first_value found id ≡ None
+none_held found id lacks = first_value-rows found id ∙ ap (λ (o : Option Row). option_and_then (λ r. slice_get r.values 0) o) lacks
+
+-- a network, and a declaration of traffic where one is given
+linted_files : (found : Found) (files : List Text) (network : Text) (traffic : Option Text) → 1 ≤ length files → HoldsFirst (rows_of found) (codes "NETWORK" ∷ codes "TRAFFIC" ∷ []) files
+    → HoldsFile found (codes "NETWORK") network → first_value found (codes "TRAFFIC") ≡ traffic → files ≡ network ∷ file_given traffic
+linted_files found [] network traffic many first holds given = absurd (omega (arith, many))
+linted_files found (a ∷ []) network traffic many first holds given =
+    ap₂ (λ (x : Text) (o : Option Text). x ∷ file_given o)
+    (some_same a network (first_value found (codes "NETWORK")) (first_value-rows found (codes "NETWORK") ∙ first_held (rows_of found) (codes "NETWORK") a first.0) holds)
+    (sym (none_held found (codes "TRAFFIC") first.1.0) ∙ given)
+linted_files found (a ∷ b ∷ []) network traffic many first holds given =
+    ap₂ (λ (x : Text) (o : Option Text). x ∷ file_given o)
+    (some_same a network (first_value found (codes "NETWORK")) (first_value-rows found (codes "NETWORK") ∙ first_held (rows_of found) (codes "NETWORK") a first.0) holds)
+    (sym (first_value-rows found (codes "TRAFFIC") ∙ first_held (rows_of found) (codes "TRAFFIC") b first.1.0) ∙ given)
+linted_files found (a ∷ b ∷ c ∷ files) network traffic many first holds given = absurd first.1.1
 
 -- ---- the option
 
@@ -256,19 +295,23 @@ IsCallOf confirm found call = IsConfirmOf found call
 IsCallOf audit found call = IsAuditOf found call
 IsCallOf run found call = IsRunCall found call
 IsCallOf lint found call = IsLintOf found call
+IsCallOf explain found call = IsExplainOf found call
 
 pub names_call : (k : Kind) (words : List Text) (found : Found) → HasWords (taking_of k) words found → (call : Call) → IsCallOf k found call → Names words call
 names_call replay words found f (Replay a b c) h = files_there (codes "replay") (taking_of replay).ids words (string_bytes a ∷ string_bytes b ∷ string_bytes c ∷ []) found f (h.0, (h.1, (h.2, tt)))
 names_call collect words found f (Collect a b) h = files_there (codes "collect") (taking_of collect).ids words (string_bytes a ∷ string_bytes b ∷ []) found f (h.0, (h.1, tt))
 names_call check words found f (Check a b c) h = files_there (codes "check") (taking_of check).ids words (string_bytes a ∷ string_bytes b ∷ string_bytes c ∷ []) found f (h.0, (h.1, (h.2, tt)))
 names_call confirm words found f (Confirm a b c) h = files_there (codes "confirm") (taking_of confirm).ids words (string_bytes a ∷ string_bytes b ∷ string_bytes c ∷ []) found f (h.0, (h.1, (h.2, tt)))
-names_call lint words found f (Lint a) h = files_there (codes "lint") (taking_of lint).ids words (string_bytes a ∷ []) found f (h, tt)
+names_call lint words found f (Lint a o) h =
+    alone_named f.option f.accepted
+    (subst (λ (files : List Text). NamesBy (taking_of lint) words files f.option) (linted_files found f.files (string_bytes a) (option_map string_bytes o) f.count_is.0 f.files_are h.0 h.1) f.named)
+names_call explain words found f (Explain a) h = files_there (codes "explain") (taking_of explain).ids words (string_bytes a ∷ []) found f (h, tt)
 names_call audit words found f (Audit a b limit) h =
-    let n = named_there (taking_of audit) words (string_bytes a ∷ string_bytes b ∷ []) found f (h.0, (h.1, tt)) in
+    let n = named_there (taking_of audit) words (string_bytes a ∷ string_bytes b ∷ []) found f (omega arith) (h.0, (h.1, tt)) in
     let l = limit_there found f.option f.accepted f.option_is in
     record { program = n.program; rest = n.rest; option = f.option; words_are = n.words_are; named = n.named; limit_is = subst (IsLimitSet f.option) (one_limit found l.0 limit l.1 h.2) l.2 }
 names_call run words found f (Run a b c d links) h =
-    let n = named_there (taking_of run) words (string_bytes a ∷ string_bytes b ∷ string_bytes c ∷ string_bytes d ∷ []) found f (h.0, (h.1, (h.2, (h.3, tt)))) in
+    let n = named_there (taking_of run) words (string_bytes a ∷ string_bytes b ∷ string_bytes c ∷ string_bytes d ∷ []) found f (omega arith) (h.0, (h.1, (h.2, (h.3, tt)))) in
     let same : f.option ≡ option_map string_bytes links = sym (prefix_there found f.option f.option_is) ∙ h.4 in
     record { program = n.program; rest = n.rest; words_are = n.words_are; named = subst (NamesWith (codes "links") n.rest (string_bytes a ∷ string_bytes b ∷ string_bytes c ∷ string_bytes d ∷ [])) same n.named }
 names_call k words found f call h = absurd h
@@ -280,19 +323,20 @@ pub record IsBuilt (c : Command) (a : App) : Type 0 where
   pub app : app_of c ≡ a
   pub local : (out-Command c).has_globals ≡ false
 
-abbrev AreBuilt : Command → Command → Command → Command → Command → Command → Command → Type 0
-AreBuilt replaying collecting checking confirming auditing running linting =
+abbrev AreBuilt : Command → Command → Command → Command → Command → Command → Command → Command → Type 0
+AreBuilt replaying collecting checking confirming auditing running linting explaining =
     IsBuilt replaying (over_documents (codes "replay") (file_rule (codes "RUN")))
     × IsBuilt collecting (over_network (codes "collect") (file_rule (codes "STREAM")))
     × IsBuilt checking (over_documents (codes "check") (file_rule (codes "CERTIFICATE")))
     × IsBuilt confirming (over_documents (codes "confirm") (file_rule (codes "REFUTATION")))
     × IsBuilt auditing (with_rule (over_network (codes "audit") (file_rule (codes "TRAFFIC"))) limit_rule)
     × IsBuilt running (with_rule (over_capture (codes "run")) links_rule)
-    × IsBuilt linting (network_alone (codes "lint"))
+    × IsBuilt linting (over_network (codes "lint") (new_rule (codes "TRAFFIC")))
+    × IsBuilt explaining (number_alone (codes "explain"))
 
-with_seven : (once replaying collecting checking confirming auditing running linting whole : Command) → AddsInTurn AddsSubcommand once (replaying ∷ collecting ∷ checking ∷ confirming ∷ auditing ∷ running ∷ linting ∷ []) whole
-    → app_of once ≡ on_top wants_command (new_app (codes "once")) → AreBuilt replaying collecting checking confirming auditing running linting → app_of whole ≡ once_app
-with_seven once replaying collecting checking confirming auditing running linting whole (one, first, (two, second, (three, third, (four, fourth, (five, fifth, (six, sixth, (seven, seventh, is))))))) o (r, l, k, c, a, u, n) =
+with_each : (once replaying collecting checking confirming auditing running linting explaining whole : Command) → AddsInTurn AddsSubcommand once (replaying ∷ collecting ∷ checking ∷ confirming ∷ auditing ∷ running ∷ linting ∷ explaining ∷ []) whole
+    → app_of once ≡ on_top wants_command (new_app (codes "once")) → AreBuilt replaying collecting checking confirming auditing running linting explaining → app_of whole ≡ once_app
+with_each once replaying collecting checking confirming auditing running linting explaining whole (one, first, (two, second, (three, third, (four, fourth, (five, fifth, (six, sixth, (seven, seventh, (eight, eighth, is)))))))) o (r, l, k, c, a, u, n, x) =
     let step = λ (x y : App). with_subcommand x y.top in
     let to_one = first.shape r.local ∙ ap₂ step o r.app in
     let to_two = second.shape l.local ∙ ap₂ step to_one l.app in
@@ -300,11 +344,12 @@ with_seven once replaying collecting checking confirming auditing running lintin
     let to_four = fourth.shape c.local ∙ ap₂ step to_three c.app in
     let to_five = fifth.shape a.local ∙ ap₂ step to_four a.app in
     let to_six = sixth.shape u.local ∙ ap₂ step to_five u.app in
-    ap app_of (sym is) ∙ seventh.shape n.local ∙ ap₂ step to_six n.app
+    let to_seven = seventh.shape n.local ∙ ap₂ step to_six n.app in
+    ap app_of (sym is) ∙ eighth.shape x.local ∙ ap₂ step to_seven x.app
 
-pub seven_commands : {Z : Type 0} (once replaying collecting checking confirming auditing running linting : Command) (items : List Command) (r : Result Command Z) → IfOk r (λ whole. AddsInTurn AddsSubcommand once items whole)
-    → items ≡ replaying ∷ collecting ∷ checking ∷ confirming ∷ auditing ∷ running ∷ linting ∷ [] → app_of once ≡ on_top wants_command (new_app (codes "once")) → AreBuilt replaying collecting checking confirming auditing running linting
+pub all_commands : {Z : Type 0} (once replaying collecting checking confirming auditing running linting explaining : Command) (items : List Command) (r : Result Command Z) → IfOk r (λ whole. AddsInTurn AddsSubcommand once items whole)
+    → items ≡ replaying ∷ collecting ∷ checking ∷ confirming ∷ auditing ∷ running ∷ linting ∷ explaining ∷ [] → app_of once ≡ on_top wants_command (new_app (codes "once")) → AreBuilt replaying collecting checking confirming auditing running linting explaining
     → IfOk r (λ whole. app_of whole ≡ once_app)
-seven_commands once replaying collecting checking confirming auditing running linting items (Ok whole) adds are o built =
-    with_seven once replaying collecting checking confirming auditing running linting whole (subst (λ (xs : List Command). AddsInTurn AddsSubcommand once xs whole) are adds) o built
-seven_commands once replaying collecting checking confirming auditing running linting items (Err error) adds are o built = tt
+all_commands once replaying collecting checking confirming auditing running linting explaining items (Ok whole) adds are o built =
+    with_each once replaying collecting checking confirming auditing running linting explaining whole (subst (λ (xs : List Command). AddsInTurn AddsSubcommand once xs whole) are adds) o built
+all_commands once replaying collecting checking confirming auditing running linting explaining items (Err error) adds are o built = tt

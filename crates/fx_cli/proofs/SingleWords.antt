@@ -3,7 +3,7 @@ use Rattle.std.proofs.Common.{◌||◌, ◌==◌, ◌≡◌, ◌∙◌, ◌⊎�
 use Rattle.std.specs.Str.{bytes_eq, chars}
 use Rattle.std.specs.Prelude.{drop, encode_utf8, slice_get, is_some}
 use Rattle.clap.specs.Walk.{Held, Names, Row, Rule, Text, idle, value, word_met, subcommand_met, subcommand_or_other, plain, arg_by_long, arg_by_short, reacted, settled}
-use Rattle.clap.specs.Simple.{Shape, built, filled, help_rule}
+use Rattle.clap.specs.Simple.{Shape, built, filled, help_rule, version_rule}
 use Rattle.clap.specs.Kinds.{Kinds, or_else}
 use Rattle.clap.specs.Faults.{other_fault, long_fault, short_fault, flags_fault, bundle_step_fault, react_fault, settle_fault, use_fault, word_fault}
 use Rattle.clap.proofs.WalkLemmas.{bundle_ends}
@@ -53,7 +53,25 @@ pub short_fails : (c : List Rule) (b : Bool) (rest : Text) (h : Held) (next : He
 short_fails c false rest h next = tt
 short_fails c true rest h next = fails_first (react_fault c false help [] h) (next (reacted c help [] h)) (asks_help c h)
 
--- the command knows no flag but help
+-- the version is answered with an error too
+abbrev version : Rule
+version = filled version_rule
+
+asks_version : (c : List Rule) (h : Held) → Fails (react_fault c false version [] h)
+asks_version c h = fails_second (settle_fault c false h) (use_fault false version [] (settled c h).rows) tt
+
+long_either : (c : List Rule) (a b : Bool) (v : Option Text) (h : Held) → Fails (long_fault c false (cond a (Some help) (cond b (Some version) None)) v h)
+long_either c true b v h = long_fails c true v h
+long_either c false false v h = tt
+long_either c false true (Some v) h = tt
+long_either c false true None h = asks_version c h
+
+short_either : (c : List Rule) (a b : Bool) (rest : Text) (h : Held) (next : Held → Kinds) → Fails (short_fault c false (cond a (Some help) (cond b (Some version) None)) rest h next)
+short_either c true b rest h next = short_fails c true rest h next
+short_either c false false rest h next = tt
+short_either c false true rest h next = fails_first (react_fault c false version [] h) (next (reacted c version [] h)) (asks_version c h)
+
+-- the command answers each flag that it knows by help, or its version
 pub record KnowsHelp (s : Shape) : Type 0 where
   pub again : s.args_override_self ≡ false
   pub long : (name : Text) (v : Option Text) (h : Held) → Fails (long_fault s.rules s.args_override_self (arg_by_long s.rules name) v h)
@@ -62,8 +80,8 @@ pub record KnowsHelp (s : Shape) : Type 0 where
 pub top_knows : KnowsHelp top
 top_knows = record {
   again = refl;
-  long = λ name v h. long_fails top.rules (bytes_eq (codes "help") name || false) v h;
-  short = λ x rest h next. short_fails top.rules (104 == x || false) rest h next;
+  long = λ name v h. long_either top.rules (bytes_eq (codes "help") name || false) (bytes_eq (codes "version") name || false) v h;
+  short = λ x rest h next. short_either top.rules (104 == x || false) (86 == x || false) rest h next;
 }
 
 -- ---- what a word is, where no value is awaited

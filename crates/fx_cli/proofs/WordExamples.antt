@@ -2,7 +2,7 @@
 use Rattle.std.proofs.Common.{◌≡◌, refl, [], ◌∷◌, Some, None, codes, inl, inr}
 use Rattle.std.specs.Str.{chars}
 use Rattle.clap.specs.Faults.{fault_of}
-use Rattle.clap.specs.declared.error.kind.ErrorKind.TheVariants.{ArgumentConflict, DisplayHelp, InvalidValue, ValueValidation, MissingRequiredArgument, MissingSubcommand, InvalidSubcommand, UnknownArgument}
+use Rattle.clap.specs.declared.error.kind.ErrorKind.TheVariants.{ArgumentConflict, DisplayHelp, DisplayVersion, InvalidValue, ValueValidation, MissingRequiredArgument, MissingSubcommand, InvalidSubcommand, UnknownArgument}
 use Rattle.clap.proofs.OnLiterals.{clap_on_literals}
 use Rattle.fx_cli.specs.CommandLine.{once_app}
 use Rattle.fx_cli.specs.Words.{IsLimitSet, NamesWith, file_names}
@@ -177,9 +177,17 @@ a_lint_has_no_fault : fault_of once_app (codes "once" ∷ codes "lint" ∷ codes
 unfolding clap_on_literals
 a_lint_has_no_fault = refl
 
-two_files_are_too_many_for_a_lint : fault_of once_app (codes "once" ∷ codes "lint" ∷ codes "a" ∷ codes "b" ∷ []) ≡ UnknownArgument ∷ []
+a_lint_of_two_files_has_no_fault : fault_of once_app (codes "once" ∷ codes "lint" ∷ codes "a" ∷ codes "b" ∷ []) ≡ []
 unfolding clap_on_literals
-two_files_are_too_many_for_a_lint = refl
+a_lint_of_two_files_has_no_fault = refl
+
+three_files_are_too_many_for_a_lint : fault_of once_app (codes "once" ∷ codes "lint" ∷ codes "a" ∷ codes "b" ∷ codes "c" ∷ []) ≡ UnknownArgument ∷ []
+unfolding clap_on_literals
+three_files_are_too_many_for_a_lint = refl
+
+a_lint_wants_a_file : fault_of once_app (codes "once" ∷ codes "lint" ∷ []) ≡ MissingRequiredArgument ∷ []
+unfolding clap_on_literals
+a_lint_wants_a_file = refl
 
 -- help is asked for by a flag or as a command
 help_flag : fault_of once_app (codes "once" ∷ codes "--help" ∷ []) ≡ DisplayHelp ∷ []
@@ -205,3 +213,15 @@ no_such_command = refl
 no_command : fault_of once_app (codes "once" ∷ []) ≡ MissingSubcommand ∷ []
 unfolding clap_on_literals
 no_command = refl
+
+an_explanation_has_no_fault : fault_of once_app (codes "once" ∷ codes "explain" ∷ codes "409" ∷ []) ≡ []
+unfolding clap_on_literals
+an_explanation_has_no_fault = refl
+
+the_version_is_told : fault_of once_app (codes "once" ∷ codes "--version" ∷ []) ≡ DisplayVersion ∷ []
+unfolding clap_on_literals
+the_version_is_told = refl
+
+the_version_is_told_by_a_letter : fault_of once_app (codes "once" ∷ codes "-V" ∷ []) ≡ DisplayVersion ∷ []
+unfolding clap_on_literals
+the_version_is_told_by_a_letter = refl

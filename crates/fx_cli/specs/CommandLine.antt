@@ -12,11 +12,15 @@ file_rule name = record (new_rule name) { required = true }
 abbrev pub network_alone : Text → App
 network_alone command = with_rule (new_app command) (file_rule (codes "NETWORK"))
 
+-- a command over a number and nothing else
+abbrev pub number_alone : Text → App
+number_alone command = with_rule (new_app command) (file_rule (codes "NUMBER"))
+
 -- a command over a network, traffic and a third file
 abbrev pub over_documents : Text → Rule → App
 over_documents command third = with_rule (with_rule (network_alone command) (file_rule (codes "TRAFFIC"))) third
 
--- a command over a network and another file
+-- a command over a network and another file, which has to be there or not
 abbrev pub over_network : Text → Rule → App
 over_network command file = with_rule (network_alone command) file
 
@@ -37,8 +41,9 @@ over_capture command = with_rule (over_documents command (file_rule (codes "CAPT
 abbrev pub links_rule : Rule
 links_rule = record (new_rule (codes "links")) { long = Some (codes "links"); value_names = 1 }
 
+-- it wants one of its commands, and tells its version
 abbrev pub wants_command : Shape → Shape
-wants_command s = record s { subcommand_required = true }
+wants_command s = record s { subcommand_required = true; has_version = true }
 
 abbrev pub once_app : App
 once_app =
@@ -49,8 +54,10 @@ once_app =
     let audit = with_rule (over_network (codes "audit") (file_rule (codes "TRAFFIC"))) limit_rule in
     let three = with_subcommand (with_subcommand (with_subcommand (on_top wants_command (new_app (codes "once"))) replay.top) collect.top) check.top in
     let run = with_rule (over_capture (codes "run")) links_rule in
-    let lint = network_alone (codes "lint") in
-    with_subcommand (with_subcommand (with_subcommand (with_subcommand three confirm.top) audit.top) run.top) lint.top
+    let lint = over_network (codes "lint") (new_rule (codes "TRAFFIC")) in
+    let explain = number_alone (codes "explain") in
+    let seven = with_subcommand (with_subcommand (with_subcommand (with_subcommand three confirm.top) audit.top) run.top) lint.top in
+    with_subcommand seven explain.top
 
 -- what the program's command line makes of these words, which have no fault
 pub record AreMatchesOf (words : List Text) (m : ArgMatches) : Type 0 where

@@ -4,21 +4,22 @@ use Rattle.std.specs.Fmt.{decimal}
 use Rattle.fx_base.specs.Device.{Writes}
 use Rattle.fx_base.specs.declared.fault.Fault.{Fault}
 use Rattle.fx_base.specs.Fault.{fault_text}
+use Rattle.fx_base.specs.Refusals.{failed_read, failed_write, want_of_memory}
 use Rattle.fx_audit.specs.declared.answer.Answer.{Answer}
 use Rattle.fx_audit.specs.declared.answer.Answer.TheVariants.{Yes, No, Unknown}
 
 abbrev pub is_device : ℕ → Bool
-is_device number = number == 901 || number == 902
+is_device number = number == failed_read || number == failed_write
 
 -- `memory 900`, `device 901` or `device 902`, and else `refused` with the number and its place
 abbrev pub refusal_line : Fault → List ℕ
 refusal_line fault =
-    if fault.number == 900 then codes "memory 900" ++ 10 ∷ []
+    if fault.number == want_of_memory then codes "memory 900" ++ 10 ∷ []
     else (if is_device fault.number then codes "device " ++ (decimal fault.number ++ 10 ∷ [])
     else codes "refused " ++ (fault_text fault ++ 10 ∷ []))
 
 abbrev pub refusal_status : Fault → ℕ
-refusal_status fault = if fault.number == 900 then 4 else (if is_device fault.number then 5 else 2)
+refusal_status fault = if fault.number == want_of_memory then 4 else (if is_device fault.number then 5 else 2)
 
 abbrev pub status : Result Answer Fault → ℕ
 status (Ok Yes) = 0

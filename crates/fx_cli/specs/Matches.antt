@@ -4,7 +4,7 @@ use Rattle.clap.specs.Words.{Text, first_value, one_text}
 use Rattle.clap.specs.declared.parser.matches.Found.{Found}
 use Rattle.fx_cli.specs.Words.{IsLimit}
 use Rattle.fx_cli.specs.declared.words.Call.{Call}
-use Rattle.fx_cli.specs.declared.words.Call.TheVariants.{Audit, Check, Collect, Confirm, Lint, Replay, Run}
+use Rattle.fx_cli.specs.declared.words.Call.TheVariants.{Audit, Check, Collect, Confirm, Explain, Lint, Replay, Run}
 
 -- there is a value under this name
 abbrev pub HasFile : Found → Text → Type 0
@@ -42,13 +42,17 @@ IsAuditOf found (Audit network traffic limit) =
     HoldsFile found (codes "NETWORK") (string_bytes network) × HoldsFile found (codes "TRAFFIC") (string_bytes traffic) × HoldsLimit found limit
 IsAuditOf found _ = ⊥
 
-abbrev pub IsLintOf : Found → Call → Type 0
-IsLintOf found (Lint network) = HoldsFile found (codes "NETWORK") (string_bytes network)
-IsLintOf found _ = ⊥
+abbrev pub IsExplainOf : Found → Call → Type 0
+IsExplainOf found (Explain number) = HoldsFile found (codes "NUMBER") (string_bytes number)
+IsExplainOf found _ = ⊥
 
--- the text under an option's name, if there is one, is this one
+-- the text under an option's name, or that of a file that may be left out, if there is one, is this one
 abbrev pub HoldsOption : Found → Text → Option Text → Type 0
 HoldsOption found name text = first_value found name ≡ text
+
+abbrev pub IsLintOf : Found → Call → Type 0
+IsLintOf found (Lint network traffic) = HoldsFile found (codes "NETWORK") (string_bytes network) × HoldsOption found (codes "TRAFFIC") (option_map string_bytes traffic)
+IsLintOf found _ = ⊥
 
 abbrev pub IsRunCall : Found → Call → Type 0
 IsRunCall found (Run network traffic capture schedule links) =

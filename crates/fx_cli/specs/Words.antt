@@ -4,7 +4,7 @@ use Rattle.std.specs.Str.Parse.{IsNumeral, digits_value, without_leading_plus}
 use Rattle.std.specs.Str.{bytes_eq, chars}
 use Rattle.clap.specs.Words.{Text}
 use Rattle.fx_cli.specs.declared.words.Call.{Call}
-use Rattle.fx_cli.specs.declared.words.Call.TheVariants.{Audit, Check, Collect, Confirm, Lint, Replay, Run}
+use Rattle.fx_cli.specs.declared.words.Call.TheVariants.{Audit, Check, Collect, Confirm, Explain, Lint, Replay, Run}
 
 -- a word that begins with `-` (45) and goes on
 abbrev pub is_flag : Text → Bool
@@ -28,6 +28,11 @@ pub record NamesFiles (words : List Text) (command : Text) (files : List Text) :
   pub rest : List Text
   pub words_are : words ≡ program ∷ command ∷ rest
   pub files_are : file_names rest ≡ Some files
+
+-- a file that may be left out
+abbrev pub file_given : Option Text → List Text
+file_given None = []
+file_given (Some file) = file ∷ []
 
 -- The text says this limit, a whole number from 1 to 1,000,000, in decimal digits. Zeros may stand before them, and a plus
 -- before all, since Rust reads such texts as numbers.
@@ -81,7 +86,7 @@ pub record NamesRun (words : List Text) (files : List Text) (links : Option Text
 
 -- `once replay NETWORK TRAFFIC RUN`, `once collect NETWORK STREAM`, `once check NETWORK TRAFFIC CERTIFICATE`,
 -- `once confirm NETWORK TRAFFIC REFUTATION`, `once audit NETWORK TRAFFIC [--limit N]`,
--- `once run NETWORK TRAFFIC CAPTURE SCHEDULE [--links PREFIX]` and `once lint NETWORK`
+-- `once run NETWORK TRAFFIC CAPTURE SCHEDULE [--links PREFIX]`, `once lint NETWORK [TRAFFIC]` and `once explain NUMBER`
 abbrev pub Names : List Text → Call → Type 0
 Names words (Replay network traffic run) =
     NamesFiles words (codes "replay") (string_bytes network ∷ string_bytes traffic ∷ string_bytes run ∷ [])
@@ -93,7 +98,8 @@ Names words (Confirm network traffic refutation) =
 Names words (Audit network traffic limit) = NamesAudit words (string_bytes network ∷ string_bytes traffic ∷ []) limit
 Names words (Run network traffic capture schedule links) =
     NamesRun words (string_bytes network ∷ string_bytes traffic ∷ string_bytes capture ∷ string_bytes schedule ∷ []) (option_map string_bytes links)
-Names words (Lint network) = NamesFiles words (codes "lint") (string_bytes network ∷ [])
+Names words (Lint network traffic) = NamesFiles words (codes "lint") (string_bytes network ∷ file_given (option_map string_bytes traffic))
+Names words (Explain number) = NamesFiles words (codes "explain") (string_bytes number ∷ [])
 
 abbrev pub NamesNoCall : List Text → Type 0
 NamesNoCall words = (call : Call) → Names words call → ⊥

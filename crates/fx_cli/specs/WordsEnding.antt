@@ -6,6 +6,7 @@ use Rattle.clap.specs.declared.error.kind.ErrorKind.{ErrorKind}
 use Rattle.clap.specs.declared.error.kind.ErrorKind.TheVariants.{OutOfMemory, DisplayHelp, DisplayVersion}
 use Rattle.fx_base.specs.Fault.{fault_at}
 use Rattle.fx_base.specs.declared.fault.Place.TheVariants as places
+use Rattle.fx_base.specs.Refusals.{failed_read, want_of_memory}
 use Rattle.clap.specs.Words.{IsAmong, Text, fault_of}
 use Rattle.fx_cli.specs.CommandLine.{once_app}
 use Rattle.fx_cli.specs.Ending.{refusal_line}
@@ -18,7 +19,7 @@ words_status DisplayVersion = 0
 words_status _ = 6
 
 abbrev pub memory_line : List ℕ
-memory_line = refusal_line (fault_at 900 places.None)
+memory_line = refusal_line (fault_at want_of_memory places.None)
 
 -- words that the system doesn't hand over: for want of memory, or since one is no text, else as a device that failed
 abbrev pub unread_status : Failure → ℕ
@@ -29,7 +30,7 @@ unread_status _ = 5
 abbrev pub unread_text : Failure → List ℕ
 unread_text failure.OutOfMemory = memory_line
 unread_text failure.InvalidData = codes "error: a word is no UTF-8 text" ++ 10 ∷ []
-unread_text _ = refusal_line (fault_at 901 places.None)
+unread_text _ = refusal_line (fault_at failed_read places.None)
 
 -- a status with which words end that name no call: want of memory, a write that failed, or what their fault says
 abbrev pub IsWordsStatus : List Text → Bool → ℕ → Type 0

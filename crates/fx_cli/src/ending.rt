@@ -1,10 +1,10 @@
 //! How a command ends.
-ghost use Rattle.std.specs.Prelude.{◌≡◌, IfErr, IfOk};
+ghost use Rattle.std.specs.Prelude.{◌≡◌, ◌++◌, IfErr, IfOk, Ok};
 ghost use Rattle.fx_audit.specs.Outputs.{PutsText};
 ghost use Rattle.fx_cli.specs.Ending.{EndsWith, IsExitStatus, refusal_line, refusal_status, status};
 
 use fx_audit::Answer;
-use fx_base::{Fault, Sink, put_fault, put_number, put_text};
+use fx_base::{Fault, Sink, put_fault, put_number, put_text, refusals};
 
 /// The exit status of a write that failed.
 const WRITE_FAILED: u8 = 5;
@@ -14,8 +14,8 @@ fn put_refusal<S: Sink>(sink: &mut S, fault: &Fault) -> Result<(), Fault>
     ensures { PutsText S.taken S.failed (refusal_line fault.now) sink.old sink.new result }
 {
     match fault.number {
-        900 => put_text(sink, b"memory 900\n"),
-        901 | 902 => {
+        refusals::WANT_OF_MEMORY => put_text(sink, b"memory 900\n"),
+        refusals::FAILED_READ | refusals::FAILED_WRITE => {
             put_text(sink, b"device ")?;
             put_number(sink, u64::from(fault.number))?;
             put_text(sink, b"\n")
@@ -35,8 +35,8 @@ fn status_of_refusal(fault: &Fault) -> u8
 {
     let number = fault.number;
     match number {
-        900 => 4,
-        901 | 902 => 5,
+        refusals::WANT_OF_MEMORY => 4,
+        refusals::FAILED_READ | refusals::FAILED_WRITE => 5,
         _ => 2,
     }
 }
@@ -61,5 +61,43 @@ pub fn finish<S: Sink>(outcome: &Result<Answer, Fault>, sink: &mut S) -> u8
             Ok(()) => status_of_refusal(fault),
             Err(_) => WRITE_FAILED,
         },
+    }
+}
+
+/// The exit status of an answer.
+fn status_of_answer(answer: Answer) -> u8
+    ensures status { result ≡ status (Ok answer) }
+    ensures exit { IsExitStatus result }
+{
+    match answer {
+        Answer::Yes => 0,
+        Answer::No => 1,
+        Answer::Unknown => 3,
+    }
+}
+
+/// Ends a command as [`finish`] does, and writes these words behind its text or line. Where a write fails the status
+/// is 5.
+pub(crate) fn finish_with<S: Sink>(
+    outcome: &Result<Answer, Fault>,
+    words: &[u8],
+    sink: &mut S,
+) -> u8
+    ensures answered { IfOk outcome.now (λ _. EndsWith S.taken S.failed
+        words.now (status outcome.now) sink.old sink.new result) }
+    ensures refused { IfErr outcome.now (λ e. EndsWith S.taken S.failed
+        (refusal_line e ++ words.now) (refusal_status e) sink.old sink.new result) }
+    ensures exit { IsExitStatus result }
+{
+    let code = match outcome {
+        Ok(answer) => status_of_answer(*answer),
+        Err(fault) => match put_refusal(sink, fault) {
+            Ok(()) => status_of_refusal(fault),
+            Err(_) => return WRITE_FAILED,
+        },
+    };
+    match put_text(sink, words) {
+        Ok(()) => code,
+        Err(_) => WRITE_FAILED,
     }
 }

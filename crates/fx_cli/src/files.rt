@@ -1,21 +1,26 @@
 //! Files that are read, and files that are written.
 ghost use Rattle.std.specs.Prelude.{◌≡◌, IfErr};
 ghost use Rattle.fx_base.specs.Fault.{fault_at};
+ghost use Rattle.fx_base.specs.Refusals.{failed_read, failed_write};
 ghost use Rattle.fx_base.specs.declared.fault.Place.TheVariants as places;
 
-use fx_base::{Fault, Outside};
+use crate::notes::Notes;
+use fx_base::{Fault, Outside, refusals};
 use std::fs;
 use std::rt::Files;
 
 /// A file, opened to be read from its beginning.
 ///
-/// Fails with 901, at no place, where it can't be opened.
-pub fn open<R: Files>(rt: &R, path: &str) -> Result<Outside<R::File>, Fault>
-    ensures { IfErr result (λ e. e ≡ fault_at 901 places.None) }
+/// Fails with 901, at no place, where it can't be opened; which file it is and why is noted.
+pub fn open<R: Files>(rt: &R, path: &str, notes: &mut Notes) -> Result<Outside<R::File>, Fault>
+    ensures { IfErr result (λ e. e ≡ fault_at failed_read places.None) }
 {
     match fs::open(rt, path) {
         Ok(file) => Ok(Outside::new(file)),
-        Err(_) => Err(Fault::bare(901)),
+        Err(error) => {
+            notes.unopened(path, error);
+            Err(Fault::bare(refusals::FAILED_READ))
+        }
     }
 }
 
@@ -23,10 +28,10 @@ pub fn open<R: Files>(rt: &R, path: &str) -> Result<Outside<R::File>, Fault>
 ///
 /// Fails with 902, at no place, where it can't be made.
 pub fn make<R: Files>(rt: &R, path: &str) -> Result<Outside<R::File>, Fault>
-    ensures { IfErr result (λ e. e ≡ fault_at 902 places.None) }
+    ensures { IfErr result (λ e. e ≡ fault_at failed_write places.None) }
 {
     match fs::File::create(rt, path) {
         Ok(file) => Ok(Outside::new(file)),
-        Err(_) => Err(Fault::bare(902)),
+        Err(_) => Err(Fault::bare(refusals::FAILED_WRITE)),
     }
 }

@@ -1,11 +1,18 @@
 //! The program's words, files and statuses.
 #![tactic(auto)]
 
+mod commands;
 mod ending;
+mod explaining;
 mod files;
+mod help_text;
+mod kept;
 mod link_files;
+mod notes;
 mod running;
 mod seeds;
+mod telling;
+mod word_flag;
 mod words;
 mod words_ending;
 

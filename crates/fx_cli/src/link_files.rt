@@ -2,6 +2,7 @@
 ghost use Rattle.std.specs.Prelude.{◌≡◌, ◌⊎◌, ◌++◌, IfErr, IfOk, None, decimal, false, string_bytes};
 ghost use Rattle.fx_base.specs.Fault.{fault_at, IsMemory};
 ghost use Rattle.fx_base.specs.declared.fault.Place.TheVariants as places;
+ghost use Rattle.fx_base.specs.Refusals.{failed_write};
 
 use crate::files::make;
 use fx_base::{Fault, Outside, put_text};
@@ -48,7 +49,7 @@ impl<'a, R: Files> LinkFiles<'a, R> {
 
     /// Writes the first octets of a link, into a file that is made for it.
     fn begin(&mut self, link: u64, octets: &[u8]) -> Result<(), Fault>
-        ensures { IfErr result (λ e. (e ≡ fault_at 902 places.None)
+        ensures { IfErr result (λ e. (e ≡ fault_at failed_write places.None)
             ⊎ IsMemory e) }
     {
         let path = link_path(self.alloc, self.prefix, link)?;
@@ -60,7 +61,7 @@ impl<'a, R: Files> LinkFiles<'a, R> {
 
     /// Writes octets behind those that were put on the link before.
     fn append(&mut self, link: u64, octets: &[u8]) -> Result<(), Fault>
-        ensures { IfErr result (λ e. (e ≡ fault_at 902 places.None)
+        ensures { IfErr result (λ e. (e ≡ fault_at failed_write places.None)
             ⊎ IsMemory e) }
     {
         match self.files.get_mut(&link) {

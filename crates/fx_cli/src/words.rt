@@ -1,12 +1,13 @@
 //! The words of the command line.
 ghost use Rattle.std.specs.Prelude.{◌≡◌, ◌⊎◌, ℕ, IfErr, IfOk, List, MatchResult, codes, false, map, option_map, string_bytes};
 ghost use Rattle.clap.specs.Simple.{on_top};
-ghost use Rattle.clap.specs.Words.{app_of, fault_of, found_of, HasKind, kind_of, new_app, rule_of, Text, with_rule};
+ghost use Rattle.clap.specs.Words.{app_of, fault_of, found_of, HasKind, kind_of, new_app, new_rule, rule_of, Text, with_rule};
 ghost use Rattle.clap.specs.declared.builder.command.Command.TheViews.{out-Command};
-ghost use Rattle.fx_cli.specs.CommandLine.{AreMatchesOf, file_rule, limit_rule, links_rule, once_app, network_alone, over_capture, over_documents, over_network, wants_command};
-ghost use Rattle.fx_cli.specs.Matches.{HoldsFile, HoldsLimit, HoldsOption, IsAuditOf, IsCheckOf, IsCollectOf, IsConfirmOf, HasFile, IsLintOf, IsReplayOf, IsRunCall};
+ghost use Rattle.fx_cli.specs.CommandLine.{AreMatchesOf, file_rule, limit_rule, links_rule, once_app, network_alone, number_alone, over_capture, over_documents, over_network, wants_command};
+ghost use Rattle.fx_cli.specs.Matches.{HoldsFile, HoldsLimit, HoldsOption, IsAuditOf, IsCheckOf, IsCollectOf, IsConfirmOf, HasFile, IsExplainOf, IsLintOf, IsReplayOf, IsRunCall};
 ghost use Rattle.fx_cli.specs.Words.{Names, NamesNoCall};
 
+use crate::help_text;
 use clap::error::ErrorKind;
 use clap::{Arg, ArgMatches, Command, Error, value_parser};
 use std::alloc::{AllocError, Global};
@@ -70,10 +71,17 @@ pub enum Call {
         /// What the names of the links' files begin with, where the links are kept.
         links: Option<String>,
     },
-    /// Says whether a network document has a fault.
+    /// Says whether a network document, and a traffic declaration for it, have a fault.
     Lint {
         /// The network document.
         network: String,
+        /// The traffic declaration, where one is given.
+        traffic: Option<String>,
+    },
+    /// Explains the refusals of a number.
+    Explain {
+        /// The number in decimal digits, or `all`.
+        number: String,
     },
 }
 
@@ -105,11 +113,12 @@ fn network_command<'a>(
     alloc: Global,
     name: &'a str,
     about: &'a str,
+    more: &'a str,
 ) -> Result<Command<'a>, AllocError>
     ensures app { IfOk result (λ c. app_of c ≡ network_alone name.entry.now) }
     ensures local { IfOk result (λ c. (out-Command c).has_globals ≡ false) }
 {
-    let command = Command::new(alloc, name).about(about);
+    let command = Command::new(alloc, name).about(about).after_help(more);
     with_file(alloc, command, "NETWORK", "The network document (JSON)")
 }
 
@@ -118,6 +127,7 @@ fn over_documents<'a>(
     alloc: Global,
     name: &'a str,
     about: &'a str,
+    more: &'a str,
     third: &'a str,
     help: &'a str,
 ) -> Result<Command<'a>, AllocError>
@@ -125,7 +135,7 @@ fn over_documents<'a>(
         ≡ over_documents name.entry.now (file_rule third.entry.now)) }
     ensures local { IfOk result (λ c. (out-Command c).has_globals ≡ false) }
 {
-    let command = network_command(alloc, name, about)?;
+    let command = network_command(alloc, name, about, more)?;
     let command = with_file(alloc, command, "TRAFFIC", "The traffic declaration (JSON)")?;
     with_file(alloc, command, third, help)
 }
@@ -140,6 +150,7 @@ fn replay_command<'a>(alloc: Global) -> Result<Command<'a>, AllocError>
         alloc,
         "replay",
         "Replays a run, and prints the collector's totals in its last state",
+        help_text::REPLAY,
         "RUN",
         "The text of a run",
     )
@@ -155,6 +166,7 @@ fn collect_command<'a>(alloc: Global) -> Result<Command<'a>, AllocError>
         alloc,
         "collect",
         "Collects an IPFIX stream, and prints the totals of its flow records",
+        help_text::COLLECT,
     )?;
     with_file(
         alloc,
@@ -174,6 +186,7 @@ fn check_command<'a>(alloc: Global) -> Result<Command<'a>, AllocError>
         alloc,
         "check",
         "Checks a certificate that the collector's totals count every packet exactly once",
+        help_text::CHECK,
         "CERTIFICATE",
         "The text of a certificate",
     )
@@ -189,6 +202,7 @@ fn confirm_command<'a>(alloc: Global) -> Result<Command<'a>, AllocError>
         alloc,
         "confirm",
         "Confirms that a run of one packet shows a wrong total",
+        help_text::CONFIRM,
         "REFUTATION",
         "The text of a refutation",
     )
@@ -218,6 +232,7 @@ fn audit_command<'a>(alloc: Global) -> Result<Command<'a>, AllocError>
         alloc,
         "audit",
         "Searches for a certificate, or for a run of one packet that shows a wrong total",
+        help_text::AUDIT,
     )?;
     let command = with_file(alloc, command, "TRAFFIC", "The traffic declaration (JSON)")?;
     command.arg(limit(alloc))
@@ -243,6 +258,7 @@ fn run_command<'a>(alloc: Global) -> Result<Command<'a>, AllocError>
         alloc,
         "run",
         "Runs a network over a capture, and prints the totals of what it metered",
+        help_text::RUN,
         "CAPTURE",
         "The capture of frames (pcap)",
     )?;
@@ -252,13 +268,32 @@ fn run_command<'a>(alloc: Global) -> Result<Command<'a>, AllocError>
 
 /// The command `lint`.
 fn lint_command<'a>(alloc: Global) -> Result<Command<'a>, AllocError>
-    ensures app { IfOk result (λ c. app_of c ≡ network_alone (codes "lint")) }
+    ensures app { IfOk result (λ c. app_of c
+        ≡ over_network (codes "lint") (new_rule (codes "TRAFFIC"))) }
     ensures local { IfOk result (λ c. (out-Command c).has_globals ≡ false) }
 {
-    network_command(
+    let command = network_command(
         alloc,
         "lint",
-        "Says whether a network document has a fault, and which comes first",
+        "Says whether a network document, and a traffic declaration, have a fault, and which comes first",
+        help_text::LINT,
+    )?;
+    command.arg(Arg::new(alloc, "TRAFFIC").help("The traffic declaration (JSON)"))
+}
+
+/// The command `explain`.
+fn explain_command<'a>(alloc: Global) -> Result<Command<'a>, AllocError>
+    ensures app { IfOk result (λ c. app_of c ≡ number_alone (codes "explain")) }
+    ensures local { IfOk result (λ c. (out-Command c).has_globals ≡ false) }
+{
+    let command = Command::new(alloc, "explain")
+        .about("Explains the refusals of a number, or lists all numbers")
+        .after_help(help_text::EXPLAIN);
+    with_file(
+        alloc,
+        command,
+        "NUMBER",
+        "A number as `refused` and `no` tell it, or `all`",
     )
 }
 
@@ -268,9 +303,8 @@ fn program<'a>(alloc: Global) -> Command<'a>
 {
     Command::new(alloc, "once")
         .about("An auditor for IP flow metering")
-        .after_help(
-            "With no words, a bundle (a command and its files in one text) is read from standard input.",
-        )
+        .version(help_text::VERSION)
+        .after_help(help_text::PROGRAM)
         .subcommand_required(true)
 }
 
@@ -286,6 +320,7 @@ fn command_line<'a>(alloc: Global) -> Result<Command<'a>, AllocError>
     commands.push(audit_command(alloc)?)?;
     commands.push(run_command(alloc)?)?;
     commands.push(lint_command(alloc)?)?;
+    commands.push(explain_command(alloc)?)?;
     program(alloc).subcommands(commands)
 }
 
@@ -373,13 +408,13 @@ fn audit_call(alloc: Global, matches: &ArgMatches<'_>) -> Result<Call, AllocErro
     })
 }
 
-/// The prefix of the links' files, by the matches of its words, if they set one.
-fn links_of(alloc: Global, matches: &ArgMatches<'_>) -> Result<Option<String>, AllocError>
-    ensures { IfOk result (λ prefix.
-        HoldsOption (found_of matches.now) (codes "links") (option_map string_bytes prefix)) }
+/// The text under a name, by the matches of its words, if they set one.
+fn text_of(alloc: Global, matches: &ArgMatches<'_>, id: &str) -> Result<Option<String>, AllocError>
+    ensures { IfOk result (λ text.
+        HoldsOption (found_of matches.now) id.now (option_map string_bytes text)) }
 {
-    match matches.get_str("links") {
-        Some(prefix) => Ok(Some(String::from_str(alloc, prefix)?)),
+    match matches.get_str(id) {
+        Some(text) => Ok(Some(String::from_str(alloc, text)?)),
         None => Ok(None),
     }
 }
@@ -397,7 +432,7 @@ fn run_call(alloc: Global, matches: &ArgMatches<'_>) -> Result<Call, AllocError>
         traffic: file_name(alloc, matches, "TRAFFIC")?,
         capture: file_name(alloc, matches, "CAPTURE")?,
         schedule: file_name(alloc, matches, "SCHEDULE")?,
-        links: links_of(alloc, matches)?,
+        links: text_of(alloc, matches, "links")?,
     })
 }
 
@@ -408,6 +443,17 @@ fn lint_call(alloc: Global, matches: &ArgMatches<'_>) -> Result<Call, AllocError
 {
     Ok(Call::Lint {
         network: file_name(alloc, matches, "NETWORK")?,
+        traffic: text_of(alloc, matches, "TRAFFIC")?,
+    })
+}
+
+/// The call of `explain`, by the matches of its words.
+fn explain_call(alloc: Global, matches: &ArgMatches<'_>) -> Result<Call, AllocError>
+    requires { HasFile (found_of matches.now) (codes "NUMBER") }
+    ensures { IfOk result (IsExplainOf (found_of matches.now)) }
+{
+    Ok(Call::Explain {
+        number: file_name(alloc, matches, "NUMBER")?,
     })
 }
 
@@ -433,6 +479,9 @@ fn call_of(alloc: Global, matches: &ArgMatches<'_>) -> Result<Call, AllocError>
     }
     if let Some(lint) = matches.subcommand_matches("lint") {
         return lint_call(alloc, lint);
+    }
+    if let Some(explain) = matches.subcommand_matches("explain") {
+        return explain_call(alloc, explain);
     }
     replay_call(alloc, matches.subcommand_matches("replay").unwrap())
 }

@@ -8,7 +8,7 @@ ghost use Rattle.fx_base.specs.Device.{KeepsGoing};
 use crate::ending::finish;
 use clap::Error;
 use clap::error::ErrorKind;
-use fx_base::{Fault, Sink, put_text};
+use fx_base::{Fault, Sink, put_text, refusals};
 use std::alloc::Global;
 use std::io;
 
@@ -54,11 +54,11 @@ pub fn finish_words<S: Sink>(alloc: Global, error: &Error, sink: &mut S) -> u8
 {
     let kind = error.kind();
     if matches!(kind, ErrorKind::OutOfMemory) {
-        return finish(&Err(Fault::bare(900)), sink);
+        return finish(&Err(Fault::bare(refusals::WANT_OF_MEMORY)), sink);
     }
     match error.to_string(alloc) {
         Ok(text) => put_and_end(text.as_bytes(), status_of_words(kind), sink),
-        Err(_) => finish(&Err(Fault::bare(900)), sink),
+        Err(_) => finish(&Err(Fault::bare(refusals::WANT_OF_MEMORY)), sink),
     }
 }
 
@@ -72,12 +72,12 @@ pub fn finish_unread<S: Sink>(kind: io::ErrorKind, sink: &mut S) -> u8
     ensures exit { IsExitStatus result }
 {
     match kind {
-        io::ErrorKind::OutOfMemory => finish(&Err(Fault::bare(900)), sink),
+        io::ErrorKind::OutOfMemory => finish(&Err(Fault::bare(refusals::WANT_OF_MEMORY)), sink),
         io::ErrorKind::InvalidData => put_and_end(
             b"error: a word is no UTF-8 text\n",
             NO_CALL,
             sink,
         ),
-        _ => finish(&Err(Fault::bare(901)), sink),
+        _ => finish(&Err(Fault::bare(refusals::FAILED_READ)), sink),
     }
 }

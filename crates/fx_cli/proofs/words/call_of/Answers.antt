@@ -1,7 +1,7 @@
-use Rattle.std.proofs.Common.{refl}
+use Rattle.std.proofs.Common.{arith, refl}
 use Rattle.clap.specs.Words.{found_of}
-use Rattle.fx_cli.proofs.CommandTable.{audit, check, collect, confirm, lint, replay, run, taking_of}
-use Rattle.fx_cli.proofs.ParsedWords.{all_found, if_some, limit_found, names_call, ok_as, taken_replay, words_of}
+use Rattle.fx_cli.proofs.CommandTable.{audit, check, collect, confirm, explain, lint, replay, run, taking_of}
+use Rattle.fx_cli.proofs.ParsedWords.{all_found, if_some, limit_found, names_call, network_found, ok_as, taken_replay, words_of}
 use Rattle.fx_cli.proofs.words.call_of.Goals as goal
 
 -- ---- where the command is `collect`
@@ -11,7 +11,7 @@ collect_call-requires c =
     let some = c.in-Some in
     let found = found_of some.collect.now in
     let f = words_of collect c.requires.0 c.args.matches.now found c.requires.1 (some.ensures.found.0 refl) some.ensures.rows in
-    let h = all_found found (taking_of collect).ids f.files f.files_are in
+    let h = all_found found f (omega arith) in
     (h.0, h.1.0)
 
 pub returns-in-Some : goal.returns-in-Some
@@ -27,7 +27,7 @@ check_call-requires c =
     let some = c.in-Some-subcommand_matches in
     let found = found_of some.check.now in
     let f = words_of check c.requires.0 c.args.matches.now found c.requires.1 (some.ensures.found.0 refl) some.ensures.rows in
-    let h = all_found found (taking_of check).ids f.files f.files_are in
+    let h = all_found found f (omega arith) in
     (h.0, h.1.0, h.1.1.0)
 
 pub returns-in-Some-subcommand_matches : goal.returns-in-Some-subcommand_matches
@@ -43,7 +43,7 @@ confirm_call-requires c =
     let some = c.in-Some-subcommand_matches-2 in
     let found = found_of some.confirm.now in
     let f = words_of confirm c.requires.0 c.args.matches.now found c.requires.1 (some.ensures.found.0 refl) some.ensures.rows in
-    let h = all_found found (taking_of confirm).ids f.files f.files_are in
+    let h = all_found found f (omega arith) in
     (h.0, h.1.0, h.1.1.0)
 
 pub returns-in-Some-subcommand_matches-2 : goal.returns-in-Some-subcommand_matches-2
@@ -59,7 +59,7 @@ audit_call-requires c =
     let some = c.in-Some-subcommand_matches-3 in
     let found = found_of some.audit.now in
     let f = words_of audit c.requires.0 c.args.matches.now found c.requires.1 (some.ensures.found.0 refl) some.ensures.rows in
-    let h = all_found found (taking_of audit).ids f.files f.files_are in
+    let h = all_found found f (omega arith) in
     (h.0, h.1.0, limit_found found f)
 
 pub returns-in-Some-subcommand_matches-3 : goal.returns-in-Some-subcommand_matches-3
@@ -75,7 +75,7 @@ run_call-requires c =
     let some = c.in-Some-subcommand_matches-4 in
     let found = found_of some.run'.now in
     let f = words_of run c.requires.0 c.args.matches.now found c.requires.1 (some.ensures.found.0 refl) some.ensures.rows in
-    let h = all_found found (taking_of run).ids f.files f.files_are in
+    let h = all_found found f (omega arith) in
     (h.0, h.1.0, h.1.1.0, h.1.1.1.0)
 
 pub returns-in-Some-subcommand_matches-4 : goal.returns-in-Some-subcommand_matches-4
@@ -91,8 +91,7 @@ lint_call-requires c =
     let some = c.in-Some-subcommand_matches-5 in
     let found = found_of some.lint.now in
     let f = words_of lint c.requires.0 c.args.matches.now found c.requires.1 (some.ensures.found.0 refl) some.ensures.rows in
-    let h = all_found found (taking_of lint).ids f.files f.files_are in
-    h.0
+    network_found found f
 
 pub returns-in-Some-subcommand_matches-5 : goal.returns-in-Some-subcommand_matches-5
 returns-in-Some-subcommand_matches-5 c = λ words are.
@@ -100,24 +99,40 @@ returns-in-Some-subcommand_matches-5 c = λ words are.
     let found = found_of some.lint.now in
     ok_as c.lint_call.result _ _ (names_call lint words found (words_of lint words c.args.matches.now found are (some.ensures.found.0 refl) some.ensures.rows)) c.lint_call.ensures
 
+-- ---- where the command is `explain`
+
+pub explain_call-requires : goal.explain_call-requires
+explain_call-requires c =
+    let some = c.in-Some-subcommand_matches-6 in
+    let found = found_of some.explain.now in
+    let f = words_of explain c.requires.0 c.args.matches.now found c.requires.1 (some.ensures.found.0 refl) some.ensures.rows in
+    let h = all_found found f (omega arith) in
+    h.0
+
+pub returns-in-Some-subcommand_matches-6 : goal.returns-in-Some-subcommand_matches-6
+returns-in-Some-subcommand_matches-6 c = λ words are.
+    let some = c.in-Some-subcommand_matches-6 in
+    let found = found_of some.explain.now in
+    ok_as c.explain_call.result _ _ (names_call explain words found (words_of explain words c.args.matches.now found are (some.ensures.found.0 refl) some.ensures.rows)) c.explain_call.ensures
+
 -- ---- where it is another
 
 pub unwrap-requires : goal.unwrap-requires
 unwrap-requires c =
-    c.subcommand_matches-7.ensures.found.1 (taken_replay c.requires.0 c.args.matches.now c.requires.1 c.in_default.ensures.found.1 c.in_default-subcommand_matches.ensures.found.1 c.in_default-subcommand_matches-2.ensures.found.1 c.in_default-subcommand_matches-3.ensures.found.1 c.in_default-subcommand_matches-4.ensures.found.1 c.in_default-subcommand_matches-5.ensures.found.1)
+    c.subcommand_matches-8.ensures.found.1 (taken_replay c.requires.0 c.args.matches.now c.requires.1 c.in_default.ensures.found.1 c.in_default-subcommand_matches.ensures.found.1 c.in_default-subcommand_matches-2.ensures.found.1 c.in_default-subcommand_matches-3.ensures.found.1 c.in_default-subcommand_matches-4.ensures.found.1 c.in_default-subcommand_matches-5.ensures.found.1 c.in_default-subcommand_matches-6.ensures.found.1)
 
 pub replay_call-requires : goal.replay_call-requires
 replay_call-requires c =
     let found = found_of c.unwrap.result.now in
-    let name = taken_replay c.requires.0 c.args.matches.now c.requires.1 c.in_default.ensures.found.1 c.in_default-subcommand_matches.ensures.found.1 c.in_default-subcommand_matches-2.ensures.found.1 c.in_default-subcommand_matches-3.ensures.found.1 c.in_default-subcommand_matches-4.ensures.found.1 c.in_default-subcommand_matches-5.ensures.found.1 in
-    let rows = if_some c.subcommand_matches-7.result c.unwrap.result _ c.unwrap.ensures c.subcommand_matches-7.ensures.rows in
+    let name = taken_replay c.requires.0 c.args.matches.now c.requires.1 c.in_default.ensures.found.1 c.in_default-subcommand_matches.ensures.found.1 c.in_default-subcommand_matches-2.ensures.found.1 c.in_default-subcommand_matches-3.ensures.found.1 c.in_default-subcommand_matches-4.ensures.found.1 c.in_default-subcommand_matches-5.ensures.found.1 c.in_default-subcommand_matches-6.ensures.found.1 in
+    let rows = if_some c.subcommand_matches-8.result c.unwrap.result _ c.unwrap.ensures c.subcommand_matches-8.ensures.rows in
     let f = words_of replay c.requires.0 c.args.matches.now found c.requires.1 name rows in
-    let h = all_found found (taking_of replay).ids f.files f.files_are in
+    let h = all_found found f (omega arith) in
     (h.0, h.1.0, h.1.1.0)
 
 pub returns : goal.returns
 returns c = λ words are.
     let found = found_of c.unwrap.result.now in
-    let name = taken_replay words c.args.matches.now are c.in_default.ensures.found.1 c.in_default-subcommand_matches.ensures.found.1 c.in_default-subcommand_matches-2.ensures.found.1 c.in_default-subcommand_matches-3.ensures.found.1 c.in_default-subcommand_matches-4.ensures.found.1 c.in_default-subcommand_matches-5.ensures.found.1 in
-    let rows = if_some c.subcommand_matches-7.result c.unwrap.result _ c.unwrap.ensures c.subcommand_matches-7.ensures.rows in
+    let name = taken_replay words c.args.matches.now are c.in_default.ensures.found.1 c.in_default-subcommand_matches.ensures.found.1 c.in_default-subcommand_matches-2.ensures.found.1 c.in_default-subcommand_matches-3.ensures.found.1 c.in_default-subcommand_matches-4.ensures.found.1 c.in_default-subcommand_matches-5.ensures.found.1 c.in_default-subcommand_matches-6.ensures.found.1 in
+    let rows = if_some c.subcommand_matches-8.result c.unwrap.result _ c.unwrap.ensures c.subcommand_matches-8.ensures.rows in
     ok_as c.replay_call.result _ _ (names_call replay words found (words_of replay words c.args.matches.now found are name rows)) c.replay_call.ensures

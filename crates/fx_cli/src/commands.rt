@@ -1,0 +1,316 @@
+//! What each command opens, reads and answers.
+ghost use Rattle.std.specs.Prelude.{◌≡◌, ◌⊎◌, IfErr};
+ghost use Rattle.fx_base.specs.Fault.{fault_at, IsMemory};
+ghost use Rattle.fx_base.specs.Refusals.{failed_read};
+ghost use Rattle.fx_base.specs.declared.fault.Place.TheVariants as places;
+ghost use Rattle.fx_audit.specs.Outputs.{AnswersWith};
+ghost use Rattle.fx_audit.specs.Texts.{IsCheckText, IsCollectText, IsConfirmText, IsLintText, IsReplayText, IsRunText};
+ghost use Rattle.fx_cli.specs.Running.{IsCallText, IsTextWithin};
+
+use crate::explaining::explain_bytes;
+use crate::files::open;
+use crate::kept::KeptSource;
+use crate::link_files::LinkFiles;
+use crate::notes::Notes;
+use crate::seeds::seed_at_random;
+use crate::words::Call;
+use fx_audit::{
+    Answer, audit_bytes, check_bytes, collect_bytes, confirm_bytes, lint_both_bytes, lint_bytes,
+    replay_bytes, run_bytes,
+};
+use fx_base::{Fault, LineReader, Outside, Sink};
+use fx_link::Nowhere;
+use std::random::RandomSource;
+use std::rt::Files;
+
+/// A network document and a traffic declaration, and the lines of a third text.
+type Texts<F> = (
+    KeptSource<Outside<F>>,
+    KeptSource<Outside<F>>,
+    LineReader<Outside<F>>,
+);
+
+/// Opens the files of a network document, a traffic declaration and a third text, in this order.
+fn open_texts<R: AllocGlobal + Files>(
+    rt: &R,
+    network: &str,
+    traffic: &str,
+    third: &str,
+    notes: &mut Notes,
+) -> Result<Texts<R::File>, Fault>
+    ensures { IfErr result (λ e. (e ≡ fault_at failed_read places.None)
+        ⊎ IsMemory e) }
+{
+    let network = open(rt, network, notes)?;
+    let traffic = open(rt, traffic, notes)?;
+    let third = open(rt, third, notes)?;
+    let lines = LineReader::new(rt.alloc(), third)?;
+    Ok((notes.source(network), notes.source(traffic), lines))
+}
+
+/// Replays the run in these files.
+fn replay<R: AllocGlobal + Files + RandomSource, S: Sink>(
+    rt: &R,
+    network: &str,
+    traffic: &str,
+    run: &str,
+    notes: &mut Notes,
+    sink: &mut S,
+) -> Result<Answer, Fault>
+    ensures { AnswersWith S.taken S.failed IsReplayText sink.old sink.new result }
+{
+    let seed = seed_at_random(rt)?;
+    let (mut network, mut traffic, mut lines) = open_texts(rt, network, traffic, run, notes)?;
+    let answer = replay_bytes(
+        rt.alloc(),
+        seed,
+        &mut network,
+        &mut traffic,
+        &mut lines,
+        sink,
+    );
+    notes.keep(network, traffic);
+    answer
+}
+
+/// Collects the stream in these files.
+fn collect<R: AllocGlobal + Files + RandomSource, S: Sink>(
+    rt: &R,
+    network: &str,
+    stream: &str,
+    notes: &mut Notes,
+    sink: &mut S,
+) -> Result<Answer, Fault>
+    ensures { AnswersWith S.taken S.failed IsCollectText sink.old sink.new result }
+{
+    let seed = seed_at_random(rt)?;
+    let network = open(rt, network, notes)?;
+    let mut stream = open(rt, stream, notes)?;
+    let mut network = notes.source(network);
+    let answer = collect_bytes(rt.alloc(), seed, &mut network, &mut stream, sink);
+    notes.network = network.into_copy();
+    answer
+}
+
+/// Checks the certificate in these files.
+fn check<R: AllocGlobal + Files, S: Sink>(
+    rt: &R,
+    network: &str,
+    traffic: &str,
+    certificate: &str,
+    notes: &mut Notes,
+    sink: &mut S,
+) -> Result<Answer, Fault>
+    ensures { AnswersWith S.taken S.failed IsCheckText sink.old sink.new result }
+{
+    let (mut network, mut traffic, mut lines) = open_texts(
+        rt,
+        network,
+        traffic,
+        certificate,
+        notes,
+    )?;
+    let answer = check_bytes(rt.alloc(), &mut network, &mut traffic, &mut lines, sink);
+    notes.keep(network, traffic);
+    answer
+}
+
+/// Confirms the refutation in these files.
+fn confirm<R: AllocGlobal + Files, S: Sink>(
+    rt: &R,
+    network: &str,
+    traffic: &str,
+    refutation: &str,
+    notes: &mut Notes,
+    sink: &mut S,
+) -> Result<Answer, Fault>
+    ensures { AnswersWith S.taken S.failed IsConfirmText sink.old sink.new result }
+{
+    let (mut network, mut traffic, mut lines) = open_texts(
+        rt, network, traffic, refutation, notes,
+    )?;
+    let answer = confirm_bytes(rt.alloc(), &mut network, &mut traffic, &mut lines, sink);
+    notes.keep(network, traffic);
+    answer
+}
+
+/// Audits the network and traffic in these files, with at most so many split and leaf lines of a certificate.
+fn audit<R: AllocGlobal + Files, S: Sink>(
+    rt: &R,
+    network: &str,
+    traffic: &str,
+    limit: u64,
+    notes: &mut Notes,
+    sink: &mut S,
+) -> Result<Answer, Fault>
+    ensures { AnswersWith S.taken S.failed (IsTextWithin limit) sink.old sink.new result }
+{
+    let network = open(rt, network, notes)?;
+    let traffic = open(rt, traffic, notes)?;
+    let mut network = notes.source(network);
+    let mut traffic = notes.source(traffic);
+    let answer = audit_bytes(rt.alloc(), &mut network, &mut traffic, limit, sink);
+    notes.keep(network, traffic);
+    answer
+}
+
+/// Runs the network over the capture in these files, as the schedule says. The octets of each link go to a file of its
+/// own where a prefix of their names is given, and nowhere else.
+fn run_capture<R: AllocGlobal + Files + RandomSource, S: Sink>(
+    rt: &R,
+    network: &str,
+    traffic: &str,
+    capture: &str,
+    schedule: &str,
+    links: Option<&str>,
+    notes: &mut Notes,
+    sink: &mut S,
+) -> Result<Answer, Fault>
+    ensures { AnswersWith S.taken S.failed IsRunText sink.old sink.new result }
+{
+    let seed = seed_at_random(rt)?;
+    let network = open(rt, network, notes)?;
+    let traffic = open(rt, traffic, notes)?;
+    let capture = open(rt, capture, notes)?;
+    let schedule = open(rt, schedule, notes)?;
+    let mut network = notes.source(network);
+    let mut traffic = notes.source(traffic);
+    let mut lines = LineReader::new(rt.alloc(), schedule)?;
+    let alloc = rt.alloc();
+    let answer = match links {
+        Some(prefix) => {
+            let mut files = LinkFiles::new(alloc, rt, prefix);
+            run_bytes(
+                alloc,
+                seed,
+                &mut network,
+                &mut traffic,
+                capture,
+                &mut lines,
+                &mut files,
+                sink,
+            )
+        }
+        None => run_bytes(
+            alloc,
+            seed,
+            &mut network,
+            &mut traffic,
+            capture,
+            &mut lines,
+            &mut Nowhere,
+            sink,
+        ),
+    };
+    notes.keep(network, traffic);
+    answer
+}
+
+/// Lints the network in this file, and the traffic in the other, where there is one.
+fn lint<R: AllocGlobal + Files, S: Sink>(
+    rt: &R,
+    network: &str,
+    traffic: Option<&str>,
+    notes: &mut Notes,
+    sink: &mut S,
+) -> Result<Answer, Fault>
+    ensures { AnswersWith S.taken S.failed IsLintText sink.old sink.new result }
+{
+    let network = open(rt, network, notes)?;
+    let mut network = notes.source(network);
+    let Some(traffic) = traffic else {
+        let answer = lint_bytes(rt.alloc(), &mut network, sink);
+        notes.network = network.into_copy();
+        return answer;
+    };
+    let traffic = open(rt, traffic, notes)?;
+    let mut traffic = notes.source(traffic);
+    let answer = lint_both_bytes(rt.alloc(), &mut network, &mut traffic, sink);
+    notes.keep(network, traffic);
+    answer
+}
+
+/// Opens the files that a call names, in the order of its words, and only then reads them and answers. What words behind
+/// the answer need is noted.
+///
+/// Fails with 901 where a file can't be opened, or the system gives no octets at random to a call that finds keys by a
+/// hash, with 900 for want of memory, else as the command does.
+pub(crate) fn answer_call<R: AllocGlobal + Files + RandomSource, S: Sink>(
+    rt: &R,
+    call: &Call,
+    notes: &mut Notes,
+    sink: &mut S,
+) -> Result<Answer, Fault>
+    ensures { AnswersWith S.taken S.failed (IsCallText call.now) sink.old sink.new result }
+{
+    match call {
+        Call::Replay {
+            network,
+            traffic,
+            run,
+        } => replay(
+            rt,
+            network.as_str(),
+            traffic.as_str(),
+            run.as_str(),
+            notes,
+            sink,
+        ),
+        Call::Collect { network, stream } => collect(
+            rt,
+            network.as_str(),
+            stream.as_str(),
+            notes,
+            sink,
+        ),
+        Call::Check {
+            network,
+            traffic,
+            certificate,
+        } => check(
+            rt,
+            network.as_str(),
+            traffic.as_str(),
+            certificate.as_str(),
+            notes,
+            sink,
+        ),
+        Call::Confirm {
+            network,
+            traffic,
+            refutation,
+        } => confirm(
+            rt,
+            network.as_str(),
+            traffic.as_str(),
+            refutation.as_str(),
+            notes,
+            sink,
+        ),
+        Call::Audit {
+            network,
+            traffic,
+            limit,
+        } => audit(rt, network.as_str(), traffic.as_str(), *limit, notes, sink),
+        Call::Run {
+            network,
+            traffic,
+            capture,
+            schedule,
+            links,
+        } => run_capture(
+            rt,
+            network.as_str(),
+            traffic.as_str(),
+            capture.as_str(),
+            schedule.as_str(),
+            links.as_deref(),
+            notes,
+            sink,
+        ),
+        Call::Lint { network, traffic } => {
+            lint(rt, network.as_str(), traffic.as_deref(), notes, sink)
+        }
+        Call::Explain { number } => explain_bytes(number.as_str(), sink),
+    }
+}

@@ -1,0 +1,59 @@
+//! The command that explains the numbers of refusals.
+ghost use Rattle.std.specs.Prelude.{◌≡◌, Some};
+ghost use Rattle.fx_audit.specs.Outputs.{AnswersWith};
+ghost use Rattle.fx_elements.specs.Spelling.{largest, number_of};
+ghost use Rattle.fx_cli.specs.Explaining.{IsExplained, IsExplainText, small};
+
+use fx_audit::Answer;
+use fx_base::{Fault, Sink, put_text};
+use fx_elements::read_u64;
+use fx_words::{put_explanation, put_refusal_list, refusal_of};
+
+/// Explains the refusals of a number.
+fn explain_number<S: Sink>(number: u16, sink: &mut S) -> Result<Answer, Fault>
+    ensures { AnswersWith S.taken S.failed (IsExplained (Some number)) sink.old sink.new result }
+{
+    match refusal_of(number) {
+        Some(_) => {
+            put_explanation(sink, number)?;
+            Ok(Answer::Yes)
+        }
+        None => {
+            put_text(sink, b"unknown number\n")?;
+            Ok(Answer::No)
+        }
+    }
+}
+
+/// The number below 65,536 that a word is in decimal digits.
+fn number_in(word: &str) -> Option<u16>
+    ensures { result ≡ small (number_of largest word.now) }
+{
+    let number = read_u64(word.as_bytes())?;
+    if number < 65536 {
+        Some(number as u16)
+    } else {
+        None
+    }
+}
+
+/// Writes what a refusal of a number says, what it comes from, what to do and where to read on; for the word `all` a
+/// line for each number; for another word, or a number that no refusal has, the line `unknown number`, with an answer
+/// of no.
+///
+/// Fails with 902, at no place, where a write fails.
+pub fn explain_bytes<S: Sink>(word: &str, sink: &mut S) -> Result<Answer, Fault>
+    ensures { AnswersWith S.taken S.failed (IsExplainText word.now) sink.old sink.new result }
+{
+    if word == "all" {
+        put_refusal_list(sink)?;
+        return Ok(Answer::Yes);
+    }
+    match number_in(word) {
+        Some(number) => explain_number(number, sink),
+        None => {
+            put_text(sink, b"unknown number\n")?;
+            Ok(Answer::No)
+        }
+    }
+}

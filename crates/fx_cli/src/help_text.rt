@@ -1,0 +1,150 @@
+//! The texts of help: what clap doesn't say by itself of the program and of each command.
+
+/// The program's name for its version, and the toolchain that it is proved with.
+pub const VERSION: &str = "1.0.0 (rattle-kit-13f)";
+
+/// Behind the list of commands.
+pub const PROGRAM: &str = "\
+The way through:
+  once lint NETWORK                          has the network document a fault?
+  once audit NETWORK TRAFFIC > ANSWER        is every packet counted exactly once? A certificate, or a run that
+                                             shows a wrong total
+  once check NETWORK TRAFFIC ANSWER          does this certificate show it? (whoever made it needn't be trusted)
+  once confirm NETWORK TRAFFIC ANSWER        does this run show a wrong total? With what is counted and what should be
+
+NETWORK is a JSON document of devices, links and the report, TRAFFIC one of the classes of packets and their paths.
+`once help COMMAND` tells what its files are, with an example. `once explain NUMBER` tells what a refusal means.
+
+With no words, a bundle (a command and its files in one text) is read from standard input: a line `audit`, `check`,
+`confirm` or `replay`, then its texts in their order, each followed by a line `%%`.
+
+--words, with any command: behind the answer, sentences that tell what it means and what to do.
+
+Exit status:
+  0  the answer stands on standard output
+  1  the answer is no: `no NUMBER PLACE` of check and confirm, a refutation of audit
+  2  a text is refused: `refused NUMBER PLACE`
+  3  `unknown 601`: an audit found neither within its limits
+  4  want of memory: `memory 900`
+  5  a read or a write failed, or a file can't be opened: `device 901`, `device 902`
+  6  the words don't parse";
+
+/// Behind the help of `audit`.
+pub const AUDIT: &str = "\
+Example:
+  once audit network.json traffic.json > answer.txt
+
+Files:
+  NETWORK  JSON: \"devices\" with their configurations (RFC 6728 in the JSON of RFC 7951), \"links\", \"report\"
+  TRAFFIC  JSON: \"classes\", each with a \"name\", a \"region\" of packet fields and \"paths\" of crossings
+
+Prints a certificate (status 0): lines that `once check` takes; after it every complete run counts each packet exactly
+once. Or a refutation (status 1): a run of one packet that `once confirm` takes, which ends in a wrong total. Or
+`unknown 601` (status 3): neither was found within the limits; raise --limit, or cut the traffic into several
+declarations. A document that is refused: `refused NUMBER PLACE` (status 2), PLACE a JSON Pointer (RFC 6901).
+
+--words tells the answer in sentences: of a refutation what each of its steps does, by name.";
+
+/// Behind the help of `check`.
+pub const CHECK: &str = "\
+Example:
+  once audit network.json traffic.json > certificate.txt
+  once check network.json traffic.json certificate.txt
+
+Files:
+  NETWORK      JSON: \"devices\", \"links\", \"report\"
+  TRAFFIC      JSON: \"classes\" with regions and paths
+  CERTIFICATE  lines: `once-certificate 1`; for each path `class C path P` and its tree of `S AXIS AT` (a split) and
+               `L CROSSING POINT PROCESS` (a leaf; `N` in an exempt class); `end`
+
+Prints `yes` (status 0) only where every complete run counts each packet exactly once; or `no NUMBER line N` (status 1)
+with what is wrong first: 401 to 405, 411, 412, 414 are about the text, 406 to 410, 413, 415 about the network. A
+document that is refused: `refused NUMBER PLACE` (status 2).
+
+--words tells the line: its class, path and region by name, and what to do.";
+
+/// Behind the help of `confirm`.
+pub const CONFIRM: &str = "\
+Example:
+  once audit network.json traffic.json > refutation.txt
+  once confirm network.json traffic.json refutation.txt
+
+Files:
+  NETWORK     JSON: \"devices\", \"links\", \"report\"
+  TRAFFIC     JSON: \"classes\" with regions and paths
+  REFUTATION  lines: `once-refutation 2`, one `packet` line, steps (`cross`, `expire`, `arrive`), `end`
+
+Prints `refuted` (status 0), then behind the line `run` what the collector counts in that run, and behind the line
+`plain` what it should; or `no NUMBER PLACE` (status 1), 501 to 505. A document that is refused: `refused NUMBER PLACE`
+(status 2).
+
+--words tells the run step by step, by name.";
+
+/// Behind the help of `replay`.
+pub const REPLAY: &str = "\
+Example:
+  once replay network.json traffic.json run.txt
+
+Files:
+  NETWORK  JSON: \"devices\", \"links\", \"report\"
+  TRAFFIC  JSON: \"classes\" with regions and paths
+  RUN      lines: `once-run 2`, any number of `packet` lines, steps (`cross`, `expire`, `arrive`), `end`
+
+Prints the collector's totals at the run's end (status 0): `keys N`, a line for each key, `unassigned N`, and
+`complete yes` or `complete no`. A text that is refused: `refused NUMBER PLACE` (status 2); 851 to 853 are steps that
+can't be made, 854 to 856 lines.
+
+--words tells which step it was, by name.";
+
+/// Behind the help of `collect`.
+pub const COLLECT: &str = "\
+Examples:
+  once collect network.json stream.ipfix
+  nc -l -p 4739 | once collect network.json /dev/stdin
+
+Files:
+  NETWORK  JSON: of it only the report's key counts here
+  STREAM   octets: the IPFIX messages (RFC 7011) of one exporter's connection, one after another, with nothing between
+
+Prints the totals (status 0): `keys N`, a line for each key, `unassigned N`, `gaps N` (messages whose sequence number
+isn't the next one), `skipped N` (records without both counters). A stream that is refused: `refused NUMBER octet N`
+(status 2), 611 to 620, at the first octet of the message. Counters must have 8 octets (618).";
+
+/// Behind the help of `run`.
+pub const RUN: &str = "\
+Example:
+  once run network.json traffic.json capture.pcap schedule.txt --links link
+
+Files:
+  NETWORK   JSON: \"devices\", \"links\", \"report\"
+  TRAFFIC   JSON: \"classes\" with regions and paths; each packet of the capture has to be in one
+  CAPTURE   octets: classic pcap of link type 1 (Ethernet) or 101 (IP)
+  SCHEDULE  lines, or none: `next`, `expire D C`, `emit D P A`, `carry L N`, `use D E N`; what is left at its end is
+            read, expired and carried to the collector
+
+Prints the totals (status 0): `keys N`, a line for each key, `unassigned N`, `skipped other N malformed N` (frames that
+are no packets). With --links the IPFIX octets of link 1 go to the file PREFIX1, and so on. A text that is refused:
+`refused NUMBER PLACE` (status 2), 701 to 704 of the capture, 801 to 804 of the schedule.";
+
+/// Behind the help of `lint`.
+pub const LINT: &str = "\
+Example:
+  once lint network.json
+
+File:
+  NETWORK  JSON: \"devices\" with their configurations (RFC 6728 in the JSON of RFC 7951), \"links\", \"report\"
+
+Prints `ok` (status 0) where every command would take the document; else its first fault, `refused NUMBER PLACE`
+(status 2), PLACE a JSON Pointer (RFC 6901).
+
+--words tells the fault in sentences, and of a document that is taken what was read in silence: a member that stands
+twice, members that mean nothing here, a destination without a link, a cache that nothing feeds.";
+
+/// Behind the help of `explain`.
+pub const EXPLAIN: &str = "\
+Examples:
+  once explain 407
+  once explain all
+
+Prints what a refusal with this number says, what it usually comes from, what to do, and where to read on (status 0);
+with `all` a line for each number. Another word than those prints `unknown number` (status 1).";

@@ -1,0 +1,91 @@
+//! Sources that keep a copy of what they give.
+ghost use Rattle.std.specs.Prelude.{◌≡◌};
+
+use fx_base::{Fault, Source};
+use std::alloc::Global;
+
+/// A copy of octets, kept as long as there is memory for it.
+#[derive(Debug, Drop)]
+pub struct OctetCopy {
+    octets: Option<Vec<u8>>,
+    failed: bool,
+}
+
+impl OctetCopy {
+    /// A copy of nothing yet, or, where nothing is to be kept, none at all.
+    pub fn new(alloc: Global, keeps: bool) -> OctetCopy {
+        OctetCopy {
+            octets: if keeps { Some(Vec::new(alloc)) } else { None },
+            failed: false,
+        }
+    }
+
+    /// Keeps these octets too. Where there is no memory for them, nothing is kept from then on.
+    fn keep(&mut self, octets: &[u8]) {
+        let Some(kept) = &mut self.octets else {
+            return;
+        };
+        if kept.extend_from_slice(octets).is_err() {
+            self.octets = None;
+        }
+    }
+
+    /// The octets, where they were kept.
+    pub fn octets(&self) -> Option<&[u8]> {
+        self.octets.as_deref()
+    }
+
+    /// Whether the last read failed.
+    pub fn failed(&self) -> bool
+        ensures { result ≡ self.now.failed }
+    {
+        self.failed
+    }
+}
+
+/// A source, and a copy of what it gives.
+#[derive(Drop)]
+pub struct KeptSource<R> {
+    source: R,
+    copy: OctetCopy,
+}
+
+impl<R: Source> KeptSource<R> {
+    /// This source, whose octets are kept in a copy.
+    pub fn new(source: R, copy: OctetCopy) -> KeptSource<R>
+        ensures source { result.source ≡ source }
+        ensures copy { result.copy ≡ copy }
+    {
+        KeptSource { source, copy }
+    }
+
+    /// The copy; the source is let go.
+    pub fn into_copy(self) -> OctetCopy
+        ensures { result ≡ self.copy }
+    {
+        let KeptSource { source: _, copy } = self;
+        copy
+    }
+}
+
+impl<R: Source> Source for KeptSource<R> {
+    ghost left = { λ s. R.left s.source };
+
+    ghost failed = { λ s. R.failed s.source };
+
+    ghost calls = { λ s. R.calls s.source };
+
+    fn read(&mut self, buffer: &mut [u8]) -> Result<usize, Fault> {
+        match self.source.read(buffer) {
+            Ok(n) => {
+                self.copy.failed = false;
+                self.copy.keep(&buffer[..n]);
+                Ok(n)
+            }
+            Err(fault) => {
+                self.copy.failed = true;
+                Err(fault)
+            }
+        }
+    }
+}

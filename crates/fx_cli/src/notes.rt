@@ -1,0 +1,65 @@
+//! What a command notes of its files, to tell its answer in words behind it.
+ghost use Rattle.std.specs.Prelude.{◌≡◌};
+
+use crate::kept::{KeptSource, OctetCopy};
+use fx_base::Source;
+use std::alloc::{AllocError, Global};
+use std::io;
+
+/// What was noted. Nothing is, unless words are asked for; and what there is no memory for is left out.
+#[derive(Debug, Drop)]
+pub struct Notes {
+    alloc: Global,
+    keeps: bool,
+    unopened: Option<String>,
+    /// The octets of the network's document, as far as they were read.
+    pub network: OctetCopy,
+    /// The octets of the traffic's declaration, as far as they were read.
+    pub traffic: OctetCopy,
+    /// The octets of a bundle.
+    pub bundle: OctetCopy,
+}
+
+/// A file's name, and why it couldn't be opened or made.
+fn sentence(alloc: Global, path: &str, error: io::Error) -> Result<String, AllocError> {
+    format!(in alloc; "{path}: {error}")
+}
+
+impl Notes {
+    /// Notes of nothing yet, which are kept where words are asked for.
+    pub fn new(alloc: Global, keeps: bool) -> Notes {
+        Notes {
+            alloc,
+            keeps,
+            unopened: None,
+            network: OctetCopy::new(alloc, false),
+            traffic: OctetCopy::new(alloc, false),
+            bundle: OctetCopy::new(alloc, false),
+        }
+    }
+
+    /// Notes a file that can't be opened or made.
+    pub fn unopened(&mut self, path: &str, error: io::Error) {
+        if self.keeps {
+            self.unopened = sentence(self.alloc, path, error).ok();
+        }
+    }
+
+    /// The file that couldn't be opened or made, and why.
+    pub fn unopened_file(&self) -> Option<&str> {
+        self.unopened.as_deref()
+    }
+
+    /// A source of which a copy is kept.
+    pub fn source<R: Source>(&self, source: R) -> KeptSource<R>
+        ensures { result.source ≡ source }
+    {
+        KeptSource::new(source, OctetCopy::new(self.alloc, self.keeps))
+    }
+
+    /// Keeps the copies of the two documents.
+    pub fn keep<N: Source, T: Source>(&mut self, network: KeptSource<N>, traffic: KeptSource<T>) {
+        self.network = network.into_copy();
+        self.traffic = traffic.into_copy();
+    }
+}
