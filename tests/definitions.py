@@ -4,7 +4,7 @@
 A root is a public contract, or one clause of it. The names that it speaks of are followed through the imports of
 crates/NAME/src and crates/NAME/specs, name by name, to all definitions that they stand on.
 
-  --compare  writes nothing: says where docs/BELIEVE.md or README.md isn't what it should be, and which files of
+  --compare  writes nothing: says where docs/BELIEVE.md or docs/PROVED.md isn't what it should be, and which files of
              definitions a public contract cites that docs/DEFINITIONS.md doesn't name; the exit status is then 1
   --doubts   prints names that nothing explains, and bound names that are also names of definitions
 """
@@ -31,8 +31,10 @@ COMMANDS = [
     ("`fx_audit::confirm_bytes`", [("fx_audit", "confirm_bytes", [])]),
     ("`fx_audit::audit_bytes`", [("fx_audit", "audit_bytes", [])]),
     ("`fx_audit::lint_bytes`", [("fx_audit", "lint_bytes", [])]),
+    ("`fx_audit::lint_both_bytes`", [("fx_audit", "lint_both_bytes", [])]),
     ("`fx_audit::bundle_bytes`", [("fx_audit", "bundle_bytes", [])]),
     ("`answer_words`, a private function of `fx_cli`: from the words to the exit status", [("fx_cli", "answer_words", [])]),
+    ("`answer_in_words`, another: the same with words behind the answer", [("fx_cli", "answer_in_words", [])]),
 ]
 
 
@@ -124,7 +126,7 @@ def written(library, found):
 
 
 def sentences(library, found):
-    """What README.md has to say."""
+    """What docs/PROVED.md has to say."""
     yield "clause `once` reaches %d definitions, of %d lines in %d files" % totals(library, found[0][1])
     yield "with what the documents mean they are %d, of %d lines in %d files" % totals(library, found[1][1])
     yield "with all clauses of `check_bytes` they are %d, of %d lines in %d files" % totals(library, found[2][1])
@@ -165,10 +167,10 @@ def read(path):
 def differences(library, found):
     if read(BELIEVE) != written(library, found):
         yield "docs/BELIEVE.md isn't what `python3 tests/definitions.py` writes"
-    readme = " ".join(read(os.path.join(ROOT, "README.md")).split())
+    proved = " ".join(read(os.path.join(ROOT, "docs", "PROVED.md")).split())
     for sentence in sentences(library, found):
-        if sentence not in readme:
-            yield "README.md doesn't say: " + sentence
+        if sentence not in proved:
+            yield "docs/PROVED.md doesn't say: " + sentence
     named = named_modules()
     for module, where in sorted(cited_modules(library).items()):
         if module not in named and module.split("/")[0] + "/*" not in named:

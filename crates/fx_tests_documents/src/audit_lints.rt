@@ -1,6 +1,6 @@
 //! Network documents that are linted, and devices that fail.
-use crate::audit_texts::{NETWORK, ending};
-use fx_audit::{Answer, lint_bytes};
+use crate::audit_texts::{NETWORK, TRAFFIC, ending};
+use fx_audit::{Answer, lint_both_bytes, lint_bytes};
 use fx_base::{Fuse, Octets, Room};
 use std::alloc::Global;
 
@@ -42,4 +42,36 @@ fn fails_without_room(rt: HostRuntime) {
     let mut octets = [0u8; 2];
     let mut room = Room::new(&mut octets);
     assert!(rt; ending(lint_bytes(rt.alloc(), &mut network, &mut room)) == Err(902));
+}
+
+/// Whether linting these two documents ends like this, with this written, where reading the traffic fails at a call, or
+/// at none for 0.
+fn ends_both(
+    alloc: Global,
+    network: &[u8],
+    traffic: &[u8],
+    call: u64,
+    wanted: Result<Answer, u16>,
+) -> bool {
+    let mut network = Octets::new(network);
+    let mut traffic = Fuse::new(Octets::new(traffic), call);
+    let mut octets = [0u8; 8];
+    let mut room = Room::new(&mut octets);
+    let outcome = lint_both_bytes(alloc, &mut network, &mut traffic, &mut room);
+    let text: &[u8] = if outcome.is_ok() { b"ok\n" } else { b"" };
+    ending(outcome) == wanted && room.octets() == text
+}
+
+/// The traffic isn't read where the network is refused: last its first read would fail.
+#[test]
+fn lints_traffic_too(rt: HostRuntime) {
+    let (network, traffic) = (NETWORK.as_bytes(), TRAFFIC.as_bytes());
+    for (network, traffic, call, wanted) in [
+        (network, traffic, 0, Ok(Answer::Yes)),
+        (network, b"{\"classes\":7}".as_slice(), 0, Err(104)),
+        (network, traffic, 1, Err(901)),
+        (b"[]".as_slice(), traffic, 1, Err(104)),
+    ] {
+        assert!(rt; ends_both(rt.alloc(), network, traffic, call, wanted));
+    }
 }

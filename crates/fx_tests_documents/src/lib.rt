@@ -42,6 +42,8 @@ mod running;
 #[cfg(test)]
 mod selectors;
 #[cfg(test)]
+mod stories;
+#[cfg(test)]
 mod traffic;
 #[cfg(test)]
 mod traffic_refusals;

@@ -56,7 +56,11 @@ fn parts(alloc: Global, call: &Call) -> Result<String, AllocError> {
             let links = links.as_deref().unwrap_or("");
             format!(in alloc; "run|{network}|{traffic}|{capture}|{schedule}|{links}")
         }
-        Call::Lint { network } => format!(in alloc; "lint|{network}"),
+        Call::Lint { network, traffic } => {
+            let traffic = traffic.as_deref().unwrap_or("");
+            format!(in alloc; "lint|{network}|{traffic}")
+        }
+        Call::Explain { number } => format!(in alloc; "explain|{number}"),
     }
 }
 
@@ -91,8 +95,10 @@ fn reads_words(rt: HostRuntime) -> Result<(), Fail> {
         ("once run A B C D --links E", "run|A|B|C|D|E"),
         ("once run A B --links=-E C D", "run|A|B|C|D|-E"),
         ("once run A B C D", "run|A|B|C|D|"),
-        ("once lint net.json", "lint|net.json"),
-        ("once lint -- -x", "lint|-x"),
+        ("once lint net.json", "lint|net.json|"),
+        ("once lint net.json traffic.json", "lint|net.json|traffic.json"),
+        ("once lint -- -x", "lint|-x|"),
+        ("once explain 409", "explain|409"),
     ] {
         assert!(rt; call(rt.alloc(), line)?.as_str() == wanted);
     }
@@ -102,7 +108,7 @@ fn reads_words(rt: HostRuntime) -> Result<(), Fail> {
 /// The exit status of words that name no call, with whether a text was written.
 fn ends_words(alloc: Global, line: &str) -> Result<Option<(u8, bool)>, AllocError> {
     let words = words(alloc, line)?;
-    let mut octets = [0u8; 2048];
+    let mut octets = [0u8; 4096];
     let mut room = Room::new(&mut octets);
     Ok(match read_words(alloc, words.as_slice()) {
         Ok(_) => None,
@@ -119,6 +125,9 @@ fn ends_words_that_name_no_call(rt: HostRuntime) -> Result<(), Fail> {
         ("once --help", 0),
         ("once replay -h", 0),
         ("once help", 0),
+        ("once --version", 0),
+        ("once -V", 0),
+        ("once replay --version", 6),
         ("once repaly a b c", 6),
         ("once replay a b", 6),
         ("once replay a b c d", 6),
@@ -140,8 +149,10 @@ fn ends_words_that_name_no_call(rt: HostRuntime) -> Result<(), Fail> {
         ("once run a b c d --links -e", 6),
         ("once run --links e a b c d --links e", 6),
         ("once lint", 6),
-        ("once lint a b", 6),
+        ("once lint a b c", 6),
         ("once lint -x", 6),
+        ("once explain", 6),
+        ("once explain 1 2", 6),
     ] {
         assert!(rt; ends_words(rt.alloc(), line)? == Some((status, true)));
     }

@@ -21,3 +21,5 @@ mod pcap;
 mod store;
 #[cfg(test)]
 mod wire;
+#[cfg(test)]
+mod words;

@@ -1,0 +1,112 @@
+//! What fixed answers are about, told in sentences and by name.
+use crate::audit_texts::{NETWORK, TRAFFIC};
+use fx_base::{Fault, LineReader, Octets, Room};
+use fx_stories::{
+    put_certificate_words, put_document_words, put_lint_words, put_refutation_story, put_run_words,
+};
+use std::alloc::Global;
+use std::test::Fail;
+
+/// A certificate that names another selection process.
+const CERTIFICATE: &[u8] = b"once-certificate 1\nclass 1 path 1\nL 1 1 2\nend\n";
+
+const CERTIFICATE_WORDS: &[u8] = b"line 3: L 1 1 2
+class 1 \"web\", path 1: m1 eth0 ingress
+the leaf names crossing 1 (m1 eth0 ingress), observation point \"op\"; there is no selection process 2
+region: source 10.0.0.0 to 10.255.255.255
+crossing 1 (m1 eth0 ingress): observation point \"op\", selection process \"sp\" selects all of these packets, cache \"ca\": exporting process \"ex\" sends to destination \"d\", which is linked to collecting process \"cp\" of c1
+";
+
+/// A run that ends before its record leaves the cache.
+const REFUTATION: &[u8] = b"once-refutation 1
+packet 1 1 10.0.0.1 192.0.2.1 6 1000 80 0 100
+cross 1 1 n
+end
+";
+
+const REFUTATION_STORY: &[u8] =
+    b"the packet: class 1 \"web\", path 1, source 10.0.0.1, destination 192.0.2.1, protocol 6, sport 1000, dport 80, version 4, octets 100
+1. packet 1 crosses m1 eth0 ingress: cache \"ca\" holds a record of it
+";
+
+/// A run in which a record leaves a position at which none stands.
+const RUN: &[u8] = b"once-run 1
+packet 1 1 10.0.0.1 192.0.2.1 6 1000 80 0 100
+cross 1 1 n
+expire cache 1 1 2
+end
+";
+
+const RUN_WORDS: &[u8] = b"line 4: expire cache 1 1 2
+a record leaves cache \"ca\" of m1: exporting process \"ex\" sends to destination \"d\", which is linked to collecting process \"cp\" of c1
+";
+
+const DOCUMENT_WORDS: &[u8] = b"file: net.json
+missing: devices
+missing: links
+missing: report
+it has no members
+";
+
+/// Traffic at an interface where nothing is observed.
+const UNSEEN_TRAFFIC: &[u8] =
+    br#"{"classes":[{"name":"web","paths":[[{"device":"m1","interface":"eth9","direction":"ingress"}]]}]}"#;
+
+const LINT_WORDS: &[u8] =
+    b"class 1 \"web\", path 1: at m1 eth9 ingress the interface is at no observation point
+class 1 \"web\", path 1: no observation point sees any of its crossings
+";
+
+fn tells_certificate(alloc: Global) -> Result<bool, Fault> {
+    let mut lines = LineReader::new(alloc, Octets::new(CERTIFICATE))?;
+    let mut octets = [0u8; 1000];
+    let mut room = Room::new(&mut octets);
+    let (network, traffic) = (NETWORK.as_bytes(), TRAFFIC.as_bytes());
+    let fault = Fault::at_line(410, 3);
+    put_certificate_words(alloc, network, traffic, &mut lines, &fault, &mut room)?;
+    Ok(room.octets() == CERTIFICATE_WORDS)
+}
+
+fn tells_refutation(alloc: Global) -> Result<bool, Fault> {
+    let mut lines = LineReader::new(alloc, Octets::new(REFUTATION))?;
+    let mut octets = [0u8; 1000];
+    let mut room = Room::new(&mut octets);
+    let (network, traffic) = (NETWORK.as_bytes(), TRAFFIC.as_bytes());
+    put_refutation_story(alloc, network, traffic, &mut lines, &mut room)?;
+    Ok(room.octets() == REFUTATION_STORY)
+}
+
+fn tells_run(alloc: Global) -> Result<bool, Fault> {
+    let mut lines = LineReader::new(alloc, Octets::new(RUN))?;
+    let mut octets = [0u8; 1000];
+    let mut room = Room::new(&mut octets);
+    let (network, traffic) = (NETWORK.as_bytes(), TRAFFIC.as_bytes());
+    let fault = Fault::bare(853);
+    put_run_words(alloc, network, traffic, &mut lines, &fault, &mut room)?;
+    Ok(room.octets() == RUN_WORDS)
+}
+
+fn tells_document(alloc: Global) -> Result<bool, Fault> {
+    let mut octets = [0u8; 1000];
+    let mut room = Room::new(&mut octets);
+    let fault = Fault::bare(103);
+    put_document_words(alloc, "net.json", b"{}", None, &fault, &mut room)?;
+    Ok(room.octets() == DOCUMENT_WORDS)
+}
+
+fn tells_lints(alloc: Global) -> Result<bool, Fault> {
+    let mut octets = [0u8; 1000];
+    let mut room = Room::new(&mut octets);
+    put_lint_words(alloc, NETWORK.as_bytes(), Some(UNSEEN_TRAFFIC), &mut room)?;
+    Ok(room.octets() == LINT_WORDS)
+}
+
+#[test]
+fn tells_stories(rt: HostRuntime) -> Result<(), Fail> {
+    assert!(rt; tells_certificate(rt.alloc())?);
+    assert!(rt; tells_refutation(rt.alloc())?);
+    assert!(rt; tells_run(rt.alloc())?);
+    assert!(rt; tells_document(rt.alloc())?);
+    assert!(rt; tells_lints(rt.alloc())?);
+    Ok(())
+}

@@ -1,0 +1,65 @@
+#!/usr/bin/env python3
+"""pages.py PROGRAM: runs the command lines of README.md and docs/GUIDE.md as they are written, and compares what they print.
+
+Blocks that are set in by four spaces and begin with `$ ` are run, those of one heading in one session from the top of the
+repository: each line behind `$ `, with PROGRAM as `once`, and what it prints must be the lines behind it. Blocks without
+`$ ` are of a network of the reader's. Prints a line for each that differs, and last how many passed.
+"""
+import os
+import re
+import subprocess
+import sys
+import tempfile
+
+TOP = os.path.dirname(os.path.dirname(os.path.abspath(__file__)))
+PAGES = ["README.md", "docs/GUIDE.md"]
+# What a reader does by hand behind a sentence, as a command.
+BY_HAND = {
+    "To mend it, take the second observation point": """python3 - <<'END'
+import json
+document = json.load(open("network.json"))
+del document["devices"][0]["config"]["ietf-ipfix-psamp:ipfix"]["observationPoint"][1]
+json.dump(document, open("network.json", "w"))
+END""",
+}
+
+
+def sessions(text):
+    """The command lines of a page, each with what it should print; one list for each heading."""
+    for heading in re.split(r"^## .*\n", text, flags=re.M)[1:]:
+        found = []
+        for block in re.split(r"\n\s*\n", heading):
+            found += [(edit, "") for sentence, edit in BY_HAND.items() if block.startswith(sentence)]
+            lines = [line[4:] for line in block.split("\n") if line.startswith("    ")]
+            if lines and lines[0].startswith("$ "):
+                for part in re.split(r"^\$ ", "\n".join(lines) + "\n", flags=re.M)[1:]:
+                    command, _, printed = part.partition("\n")
+                    found.append((command, printed))
+        yield found
+
+
+def main(program):
+    passed = failed = 0
+    with tempfile.TemporaryDirectory() as made:
+        os.symlink(os.path.abspath(program), made + "/once")
+        os.mkdir(made + "/tmp")
+        for page in PAGES:
+            with open(os.path.join(TOP, page), encoding="utf-8") as file:
+                text = file.read()
+            for session in sessions(text):
+                script = "".join("%s\nprintf '\\0'\n" % command for command, _ in session).replace("/tmp/", made + "/tmp/")
+                run = subprocess.run(
+                    ["bash", "-c", script], cwd=TOP, stdout=subprocess.PIPE, stderr=subprocess.STDOUT, text=True,
+                    env={**os.environ, "PATH": made + ":" + os.environ["PATH"]})
+                for (command, wanted), found in zip(session, run.stdout.split("\0")):
+                    passed, failed = passed + (found == wanted), failed + (found != wanted)
+                    if found != wanted:
+                        print("%s: %s: printed %r in place of %r" % (page, command, found, wanted))
+    print("pages: %d passed, %d failed" % (passed, failed))
+    return 1 if failed else 0
+
+
+if __name__ == "__main__":
+    if len(sys.argv) != 2:
+        sys.exit(__doc__)
+    sys.exit(main(sys.argv[1]))

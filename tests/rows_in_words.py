@@ -1,0 +1,59 @@
+#!/usr/bin/env python3
+"""rows_in_words.py PROGRAM [ROW..]: runs the worked rows with `--words`, in front of their other words and behind them.
+
+What stands first on standard output must be what the row prints without it, with the row's status, and nothing may
+stand on standard error. Behind a refusal, an answer of no and `unknown 601` must stand what is wrong and what to do.
+
+Prints a line for each row that fails, and last `N passed, M failed`. The exit status is 1 where a row failed.
+"""
+import os
+import re
+import shlex
+import subprocess
+import sys
+
+import rows
+from rows import ROWS, octets_of
+
+# A line after which a person has to do something.
+ASKS = re.compile(rb"(refused|no|unknown|device|memory) \d+")
+
+# Rows whose output isn't read, or whose files are cut; nor those with links, whose files would be written beside them.
+PASSED_OVER = ("output", "cuts")
+
+
+def ways(words):
+    """The words with the flag in front of all and behind all; behind `--` it would be a file's name."""
+    yield ["--words"] + words
+    if "--" not in words:
+        yield words + ["--words"]
+
+
+def faults(program, row):
+    words = shlex.split(octets_of(row, "words").decode())
+    wanted, status = octets_of(row, "stdout", None), int(octets_of(row, "status"))
+    for way in ways(words):
+        run = subprocess.run(
+            [program] + way, cwd=row, input=octets_of(row, "stdin"), stdout=subprocess.PIPE, stderr=subprocess.PIPE, timeout=120
+        )
+        if run.returncode != status:
+            yield "status %d in place of %d" % (run.returncode, status)
+        if wanted is not None and not run.stdout.startswith(wanted):
+            yield "printed %r in front, in place of %r" % (run.stdout[:200], wanted[:200])
+        if run.stderr:
+            yield "printed %r on standard error" % run.stderr[:200]
+        if wanted is not None and ASKS.match(wanted):
+            behind = run.stdout[len(wanted) :]
+            if b"\nwrong: " not in b"\n" + behind or b"\nwhat to do: " not in behind:
+                yield "printed no words behind %r: %r" % (wanted, behind[:200])
+
+
+def is_read(name):
+    row = os.path.join(ROWS, name)
+    return not any(os.path.exists(os.path.join(row, part)) for part in PASSED_OVER) and b"--links" not in octets_of(row, "words")
+
+
+if __name__ == "__main__":
+    if len(sys.argv) < 2:
+        sys.exit(__doc__)
+    sys.exit(rows.main(sys.argv[1], filter(is_read, sys.argv[2:] or sorted(os.listdir(ROWS))), faults))
