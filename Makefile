@@ -3,7 +3,8 @@
 
 SHELL := /bin/bash
 .DEFAULT_GOAL := help
-.PHONY: help kit replay once test proofs run-wrong wrong rows examples run-rows run-examples torture clean
+.PHONY: help kit replay once test proofs run-wrong wrong rows examples run-rows run-examples torture clean \
+	install uninstall deb manual
 
 # The libraries that the program stands on, lowest first, as crates.txt has them.
 LIBRARIES = $(shell sed -n 's/^\(fx_[a-z_]*\):.*/\1/p' crates.txt | grep -v '^fx_tests_')
@@ -14,6 +15,10 @@ part = TIMEFORMAT='part $(1): %0R s, %0U and %0S s of processor time'; time
 help:
 	@echo 'make replay            a first answer: replays the stored run, with nothing proved yet (a minute and a half)'
 	@echo 'make once              proves and builds the program, ./once'
+	@echo 'make install           installs the program, man page, completion, documents, examples; PREFIX=/usr/local DESTDIR='
+	@echo 'make uninstall         removes them'
+	@echo 'make deb               builds a Debian package of the same, once_VERSION_amd64.deb'
+	@echo 'make manual            writes the man page and the completion anew, from the help of ./once'
 	@echo 'make test              the gate: all proofs from nothing, all wrong bodies, tests, rows and examples'
 	@echo 'make wrong NAME=CRATE  tries the wrong bodies of one crate; NAME=CRATE/WORD those with WORD in their names'
 	@echo 'make rows              proves and builds the program, and runs it over the worked rows'
@@ -71,7 +76,12 @@ run-rows:
 	python3 tests/clauses.py
 	python3 tests/crates.py
 	python3 tests/callers.py
+	python3 tests/refusals.py --compare
 	python3 tests/rows.py ./once
+	python3 tests/rows_in_words.py ./once
+	python3 tests/terminal.py ./once
+	python3 tests/pages.py ./once
+	python3 packaging/manual.py ./once --compare
 	python3 tests/long_certificates.py ./once
 	python3 tests/refused_growth.py ./once
 	python3 tests/failed_devices.py ./once
@@ -117,3 +127,37 @@ torture: once
 
 clean:
 	rm -rf out crates/*/out once
+
+# Where things go. Documents keep their places beside each other, as they name them. Debian's own packages have zsh's
+# completion elsewhere than programs that are installed by hand.
+PREFIX = /usr/local
+DESTDIR =
+PROGRAM = ./once
+BIN = $(DESTDIR)$(PREFIX)/bin
+SHARE = $(DESTDIR)$(PREFIX)/share
+ZSH = $(SHARE)/zsh/site-functions
+DOCUMENTS = $(wildcard $(addprefix docs/,GUIDE.md FORMATS.md REFUSALS.md PROVED.md DECISIONS.md GLOSSARY.md))
+
+# Installs ./once, which is proved and built first where it isn't there; PROGRAM= names another.
+install:
+	@[ -x $(PROGRAM) ] || $(MAKE) --no-print-directory once
+	install -D -m 755 $(PROGRAM) $(BIN)/once
+	install -D -m 644 packaging/once.1 $(SHARE)/man/man1/once.1
+	install -D -m 644 packaging/once.bash $(SHARE)/bash-completion/completions/once
+	install -D -m 644 packaging/_once $(ZSH)/_once
+	install -D -m 644 -t $(SHARE)/doc/once README.md
+	install -D -m 644 -t $(SHARE)/doc/once/docs $(DOCUMENTS)
+	cd examples && find . -type f -exec install -D -m 644 {} "$(abspath $(SHARE))/doc/once/examples/{}" \;
+
+uninstall:
+	rm -f $(BIN)/once $(SHARE)/man/man1/once.1 $(SHARE)/bash-completion/completions/once $(ZSH)/_once
+	rm -rf $(SHARE)/doc/once
+
+deb:
+	rm -rf out/deb
+	$(MAKE) --no-print-directory install PREFIX=/usr DESTDIR=out/deb ZSH=out/deb/usr/share/zsh/vendor-completions
+	packaging/deb.sh out/deb
+
+manual:
+	@[ -x $(PROGRAM) ] || $(MAKE) --no-print-directory once
+	python3 packaging/manual.py $(PROGRAM)
