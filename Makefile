@@ -80,6 +80,7 @@ run-rows:
 	python3 tests/rows.py ./once
 	python3 tests/rows_in_words.py ./once
 	python3 tests/terminal.py ./once
+	python3 tests/progress.py ./once
 	python3 tests/pages.py ./once
 	python3 packaging/manual.py ./once --compare
 	python3 tests/long_certificates.py ./once

@@ -75,6 +75,19 @@ class Program:
             sys.exit("%s %s: status %d" % (self.program, " ".join(words), run.returncode))
         return run.stdout
 
+    def flags(self):
+        """The options that are taken out of all words, as the help has them, a line each: name, commands, text."""
+        lines = [line for name, section in self.help.others() for line in [name or "", *section]]
+        found = re.findall(r"^(--[a-z]+), with ([a-z, ]+): (.*)$", "\n".join(lines), re.M)
+        return [(flag, re.findall(r"[a-z]+", commands), text) for flag, commands, text in found]
+
+    def options_of(self, command):
+        """The options of a command: clap's own, and those flags that it takes."""
+        yield from self.options(self.helps[command])
+        for flag, commands, text in self.flags():
+            if "any" in commands or command in commands:
+                yield [flag], None, text
+
     def files(self, command):
         """The placeholders of a command's files, in order."""
         return [word.strip("<>[].") for word, _ in self.helps[command].entries("Arguments")]
@@ -217,7 +230,7 @@ def bash(program):
     yield "    [[ $current == = ]] && before=${COMP_WORDS[COMP_CWORD-1]} current="
     yield "    case $command in"
     for name, its in program.helps.items():
-        options = [option for names, _, _ in program.options(its) for option in names]
+        options = [option for names, _, _ in program.options_of(name) for option in names]
         files = [ENDINGS[file] if ENDINGS[file] is not None else "-" for file in program.files(name)]
         yield '        %s) options="%s" files=(%s) ;;' % (name, " ".join(options), " ".join(file or "''" for file in files))
     names = " ".join(name for name, _ in program.commands)
@@ -271,7 +284,7 @@ def zsh(program):
     for name, its in program.helps.items():
         yield "        %s)" % name
         yield "          _arguments \\"
-        yield from ("            " + line + " \\" for line in arguments(program.options(its)))
+        yield from ("            " + line + " \\" for line in arguments(program.options_of(name)))
         yield "            " + " ".join("'%d:%s:%s'" % (n + 1, file, action(file)) for n, file in enumerate(program.files(name)))
         yield "          ;;"
     yield "        help) _describe command commands ;;"

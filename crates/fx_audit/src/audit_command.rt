@@ -16,7 +16,7 @@ use crate::document::{Documents, read_documents};
 use fx_base::{Fault, Sink, Source, put_text, refusals};
 use fx_cert::{Item, put_item};
 use fx_refute::put_refutation;
-use fx_search::{Found, search};
+use fx_search::{Found, Watch, search};
 use std::alloc::Global;
 
 /// The most split and leaf lines of the certificate that an audit searches for, where no fewer are asked for: as many as
@@ -67,10 +67,11 @@ fn answer_none<S: Sink>(sink: &mut S, fault: Fault) -> Result<Answer, Fault>
 }
 
 /// Audits the traffic of a network, and writes the answer.
-fn audit<S: Sink>(
+fn audit<W: Watch, S: Sink>(
     alloc: Global,
     documents: &Documents,
     limit: u64,
+    watch: &mut W,
     sink: &mut S,
 ) -> Result<Answer, Fault>
     ensures answers { AnswersWith S.taken S.failed
@@ -78,7 +79,7 @@ fn audit<S: Sink>(
     ensures err { IfErr result (λ e. IsMemory e
         ⊎ IsWriteFault (S.failed sink.new) e) }
 {
-    match search(alloc, &documents.plan, &documents.traffic, limit) {
+    match search(alloc, &documents.plan, &documents.traffic, limit, watch) {
         Ok(found) => put_found(sink, &found),
         Err(fault) => answer_none(sink, fault),
     }
@@ -88,17 +89,18 @@ fn audit<S: Sink>(
 /// `limit` split and leaf lines (a limit above 1,000,000 counts as that), which [`check_bytes`](crate::check_bytes)
 /// answers with yes; or the text of a refutation, a run of one packet that ends in a wrong total, as
 /// [`confirm`](fx_refute::confirm) judges it; or, where what is needed is too large, as [`search`] says it, the line
-/// `unknown 601`.
+/// `unknown 601`. `watch` is told of each line that the search finds.
 ///
 /// Fails with the first refusal: 101 and those of [`fx_plan::read_plan`] for the network, with nothing of the traffic
 /// read before; 101 and those of [`fx_traffic::read_traffic`] for the traffic. 901 comes where a read fails or a reader
 /// hasn't ended after 4,294,967,296 calls, 900 for want of memory, 902 where a write fails. Nothing is written for a
 /// fault other than 902, nor before the answer is known.
-pub fn audit_bytes<N: Source, T: Source, S: Sink>(
+pub fn audit_bytes<N: Source, T: Source, W: Watch, S: Sink>(
     alloc: Global,
     network: &mut N,
     traffic: &mut T,
     limit: u64,
+    watch: &mut W,
     sink: &mut S,
 ) -> Result<Answer, Fault>
     // Yes: each packet is counted once. No: not every complete run counts each packet once.
@@ -115,5 +117,5 @@ pub fn audit_bytes<N: Source, T: Source, S: Sink>(
     ensures order { IfNetworkRefused (N.left network.old) (traffic.new ≡ traffic.old) }
 {
     let documents = read_documents(alloc, network, traffic)?;
-    audit(alloc, &documents, limit, sink)
+    audit(alloc, &documents, limit, watch, sink)
 }

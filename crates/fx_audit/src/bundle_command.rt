@@ -18,6 +18,7 @@ use crate::confirm_command::confirm_bytes;
 use crate::replay_command::replay_bytes;
 use fx_base::{Fault, LineReader, Octets, Sink, Source, read_whole, refusals};
 use fx_layout::Seed;
+use fx_search::Unwatched;
 use std::alloc::Global;
 
 /// A text in memory doesn't fail.
@@ -53,7 +54,7 @@ fn answer_texts<N: Source, T: Source, R: Source, S: Sink>(
         Command::Replay => replay_bytes(alloc, seed, network, traffic, third, sink),
         Command::Check => check_bytes(alloc, network, traffic, third, sink),
         Command::Confirm => confirm_bytes(alloc, network, traffic, third, sink),
-        Command::Audit => audit_bytes(alloc, network, traffic, AUDIT_LIMIT, sink),
+        Command::Audit => audit_bytes(alloc, network, traffic, AUDIT_LIMIT, &mut Unwatched, sink),
     }
 }
 

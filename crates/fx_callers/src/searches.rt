@@ -5,7 +5,7 @@ ghost use Rattle.fx_plan.specs.Tables.{net_of};
 
 use fx_base::Fault;
 use fx_plan::Plan;
-use fx_search::{Found, search};
+use fx_search::{Found, Unwatched, search};
 use fx_traffic::Traffic;
 use std::alloc::Global;
 
@@ -16,7 +16,7 @@ pub fn counts_once(alloc: Global, plan: &Plan, traffic: &Traffic) -> Result<bool
     ensures { IfOk result (λ once. (once ≡ true → ExactlyOnce (net_of plan.now) traffic.now)
         × (once ≡ false → ExactlyOnce (net_of plan.now) traffic.now → ⊥)) }
 {
-    match search(alloc, plan, traffic, 1_000_000)? {
+    match search(alloc, plan, traffic, 1_000_000, &mut Unwatched)? {
         Found::Certificate(_) => Ok(true),
         Found::Refutation(_) => Ok(false),
     }

@@ -12,6 +12,7 @@ use crate::files::open;
 use crate::kept::KeptSource;
 use crate::link_files::LinkFiles;
 use crate::notes::Notes;
+use crate::progress::{ToldSearch, ToldSource};
 use crate::seeds::seed_at_random;
 use crate::words::Call;
 use fx_audit::{
@@ -21,7 +22,7 @@ use fx_audit::{
 use fx_base::{Fault, LineReader, Outside, Sink};
 use fx_link::Nowhere;
 use std::random::RandomSource;
-use std::rt::Files;
+use std::rt::{Clock, Files};
 
 /// A network document and a traffic declaration, and the lines of a third text.
 type Texts<F> = (
@@ -74,7 +75,7 @@ fn replay<R: AllocGlobal + Files + RandomSource, S: Sink>(
 }
 
 /// Collects the stream in these files.
-fn collect<R: AllocGlobal + Files + RandomSource, S: Sink>(
+fn collect<R: AllocGlobal + Clock + Eprint + Files + RandomSource, S: Sink>(
     rt: &R,
     network: &str,
     stream: &str,
@@ -85,8 +86,9 @@ fn collect<R: AllocGlobal + Files + RandomSource, S: Sink>(
 {
     let seed = seed_at_random(rt)?;
     let network = open(rt, network, notes)?;
-    let mut stream = open(rt, stream, notes)?;
+    let file = open(rt, stream, notes)?;
     let mut network = notes.source(network);
+    let mut stream = ToldSource::new(file, stream, notes.progress(rt));
     let answer = collect_bytes(rt.alloc(), seed, &mut network, &mut stream, sink);
     notes.network = network.into_copy();
     answer
@@ -135,7 +137,7 @@ fn confirm<R: AllocGlobal + Files, S: Sink>(
 }
 
 /// Audits the network and traffic in these files, with at most so many split and leaf lines of a certificate.
-fn audit<R: AllocGlobal + Files, S: Sink>(
+fn audit<R: AllocGlobal + Clock + Eprint + Files, S: Sink>(
     rt: &R,
     network: &str,
     traffic: &str,
@@ -149,14 +151,22 @@ fn audit<R: AllocGlobal + Files, S: Sink>(
     let traffic = open(rt, traffic, notes)?;
     let mut network = notes.source(network);
     let mut traffic = notes.source(traffic);
-    let answer = audit_bytes(rt.alloc(), &mut network, &mut traffic, limit, sink);
+    let mut watch = ToldSearch::new(limit, notes.progress(rt));
+    let answer = audit_bytes(
+        rt.alloc(),
+        &mut network,
+        &mut traffic,
+        limit,
+        &mut watch,
+        sink,
+    );
     notes.keep(network, traffic);
     answer
 }
 
 /// Runs the network over the capture in these files, as the schedule says. The octets of each link go to a file of its
 /// own where a prefix of their names is given, and nowhere else.
-fn run_capture<R: AllocGlobal + Files + RandomSource, S: Sink>(
+fn run_capture<R: AllocGlobal + Clock + Eprint + Files + RandomSource, S: Sink>(
     rt: &R,
     network: &str,
     traffic: &str,
@@ -171,10 +181,11 @@ fn run_capture<R: AllocGlobal + Files + RandomSource, S: Sink>(
     let seed = seed_at_random(rt)?;
     let network = open(rt, network, notes)?;
     let traffic = open(rt, traffic, notes)?;
-    let capture = open(rt, capture, notes)?;
+    let frames = open(rt, capture, notes)?;
     let schedule = open(rt, schedule, notes)?;
     let mut network = notes.source(network);
     let mut traffic = notes.source(traffic);
+    let capture = ToldSource::new(frames, capture, notes.progress(rt));
     let mut lines = LineReader::new(rt.alloc(), schedule)?;
     let alloc = rt.alloc();
     let answer = match links {
@@ -235,7 +246,7 @@ fn lint<R: AllocGlobal + Files, S: Sink>(
 ///
 /// Fails with 901 where a file can't be opened, or the system gives no octets at random to a call that finds keys by a
 /// hash, with 900 for want of memory, else as the command does.
-pub(crate) fn answer_call<R: AllocGlobal + Files + RandomSource, S: Sink>(
+pub(crate) fn answer_call<R: AllocGlobal + Clock + Eprint + Files + RandomSource, S: Sink>(
     rt: &R,
     call: &Call,
     notes: &mut Notes,

@@ -19,6 +19,7 @@ With no words, a bundle (a command and its files in one text) is read from stand
 `confirm` or `replay`, then its texts in their order, each followed by a line `%%`.
 
 --words, with any command: behind the answer, sentences that tell what it means and what to do.
+--progress, with audit, collect and run: how far it has come, on standard error, at most once a second.
 
 Exit status:
   0  the answer stands on standard output
@@ -43,7 +44,8 @@ once. Or a refutation (status 1): a run of one packet that `once confirm` takes,
 `unknown 601` (status 3): neither was found within the limits; raise --limit, or cut the traffic into several
 declarations. A document that is refused: `refused NUMBER PLACE` (status 2), PLACE a JSON Pointer (RFC 6901).
 
---words tells the answer in sentences: of a refutation what each of its steps does, by name.";
+--words tells the answer in sentences: of a refutation what each of its steps does, by name.
+--progress tells on standard error, at most once a second, how many lines of a certificate were found.";
 
 /// Behind the help of `check`.
 pub const CHECK: &str = "\
@@ -108,7 +110,9 @@ Files:
 
 Prints the totals (status 0): `keys N`, a line for each key, `unassigned N`, `gaps N` (messages whose sequence number
 isn't the next one), `skipped N` (records without both counters). A stream that is refused: `refused NUMBER octet N`
-(status 2), 611 to 620, at the first octet of the message. Counters must have 8 octets (618).";
+(status 2), 611 to 620, at the first octet of the message. Counters must have 8 octets (618).
+
+--progress tells on standard error, at most once a second, how many octets of the stream were read.";
 
 /// Behind the help of `run`.
 pub const RUN: &str = "\
@@ -124,7 +128,9 @@ Files:
 
 Prints the totals (status 0): `keys N`, a line for each key, `unassigned N`, `skipped other N malformed N` (frames that
 are no packets). With --links the IPFIX octets of link 1 go to the file PREFIX1, and so on. A text that is refused:
-`refused NUMBER PLACE` (status 2), 701 to 704 of the capture, 801 to 804 of the schedule.";
+`refused NUMBER PLACE` (status 2), 701 to 704 of the capture, 801 to 804 of the schedule.
+
+--progress tells on standard error, at most once a second, how many octets of the capture were read.";
 
 /// Behind the help of `lint`.
 pub const LINT: &str = "\

@@ -9,6 +9,7 @@ mod help_text;
 mod kept;
 mod link_files;
 mod notes;
+mod progress;
 mod running;
 mod seeds;
 mod telling;

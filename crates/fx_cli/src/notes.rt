@@ -1,16 +1,19 @@
-//! What a command notes of its files, to tell its answer in words behind it.
+//! What a command is asked to tell beside its answer, and what it notes of its files for that.
 ghost use Rattle.std.specs.Prelude.{◌≡◌};
 
 use crate::kept::{KeptSource, OctetCopy};
+use crate::progress::Progress;
 use fx_base::Source;
 use std::alloc::{AllocError, Global};
 use std::io;
+use std::rt::Clock;
 
-/// What was noted. Nothing is, unless words are asked for; and what there is no memory for is left out.
+/// What was noted. Nothing is, unless words behind the answer are asked for; and what there is no memory for is left out.
 #[derive(Debug, Drop)]
 pub struct Notes {
     alloc: Global,
     keeps: bool,
+    progress: bool,
     unopened: Option<String>,
     /// The octets of the network's document, as far as they were read.
     pub network: OctetCopy,
@@ -26,11 +29,12 @@ fn sentence(alloc: Global, path: &str, error: io::Error) -> Result<String, Alloc
 }
 
 impl Notes {
-    /// Notes of nothing yet, which are kept where words are asked for.
-    pub fn new(alloc: Global, keeps: bool) -> Notes {
+    /// Notes of nothing yet, which are kept where words are asked for (`keeps`); whether progress is to be told.
+    pub fn new(alloc: Global, keeps: bool, progress: bool) -> Notes {
         Notes {
             alloc,
             keeps,
+            progress,
             unopened: None,
             network: OctetCopy::new(alloc, false),
             traffic: OctetCopy::new(alloc, false),
@@ -48,6 +52,11 @@ impl Notes {
     /// The file that couldn't be opened or made, and why.
     pub fn unopened_file(&self) -> Option<&str> {
         self.unopened.as_deref()
+    }
+
+    /// The progress of what begins now, which is told where that is asked for.
+    pub fn progress<'a, R: Eprint + Clock>(&self, rt: &'a R) -> Progress<'a, R> {
+        Progress::new(rt, self.progress)
     }
 
     /// A source of which a copy is kept.

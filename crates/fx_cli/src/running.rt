@@ -22,7 +22,7 @@ use fx_base::{Fault, Outside, Sink, refusals};
 use std::alloc::{AllocError, Global};
 use std::io::{self, BufWriter};
 use std::random::RandomSource;
-use std::rt::{Env, Files};
+use std::rt::{Clock, Env, Files};
 use std::{env, mem};
 
 /// The exit status of a write that failed.
@@ -46,9 +46,10 @@ fn answer_input<R: AllocGlobal + Input + RandomSource, S: Sink>(
 /// Answers words, of which the first is the program's own name: the call that they name, or, where there is no
 /// other, the bundle on standard input. Gives the exit status: with an answer's text that of the answer, with the line
 /// of a refusal that of the refusal, and 5 where a write failed.
-fn answer_words<R: AllocGlobal + Files + Input + RandomSource, S: Sink>(
+fn answer_words<R: AllocGlobal + Clock + Eprint + Files + Input + RandomSource, S: Sink>(
     rt: &R,
     words: &[String],
+    progress: bool,
     sink: &mut S,
 ) -> u8
     ensures bundle { length words.now < 2
@@ -63,7 +64,7 @@ fn answer_words<R: AllocGlobal + Files + Input + RandomSource, S: Sink>(
         → IsWordsStatus (map string_bytes words.now) (S.failed sink.new) result }
     ensures exit { IsExitStatus result }
 {
-    let mut notes = Notes::new(rt.alloc(), false);
+    let mut notes = Notes::new(rt.alloc(), false, progress);
     if words.len() < 2 {
         let answer = answer_input(rt, &mut notes, sink);
         return finish(&answer, sink);
@@ -84,16 +85,17 @@ fn tell_input<R: AllocGlobal + Files + Input + RandomSource, S: Sink>(rt: &R, si
         (HasFailedInWords S.taken S.failed sink.new) result }
     ensures exit { IsExitStatus result }
 {
-    let mut notes = Notes::new(rt.alloc(), true);
+    let mut notes = Notes::new(rt.alloc(), true, false);
     let answer = answer_input(rt, &mut notes, sink);
     let told = words_of(rt, None, &notes, &answer);
     finish_with(&answer, told.as_slice(), sink)
 }
 
 /// Answers a call, and tells the answer in words behind it. Gives the exit status.
-fn tell_call<R: AllocGlobal + Files + RandomSource, S: Sink>(
+fn tell_call<R: AllocGlobal + Clock + Eprint + Files + RandomSource, S: Sink>(
     rt: &R,
     call: &Call,
+    progress: bool,
     sink: &mut S,
 ) -> u8
     ensures ended { EndsInWords (IsCallText call.now) (S.taken sink.old) (S.taken sink.new)
@@ -101,16 +103,17 @@ fn tell_call<R: AllocGlobal + Files + RandomSource, S: Sink>(
         (HasFailedInWords S.taken S.failed sink.new) result }
     ensures exit { IsExitStatus result }
 {
-    let mut notes = Notes::new(rt.alloc(), true);
+    let mut notes = Notes::new(rt.alloc(), true, progress);
     let answer = answer_call(rt, call, &mut notes, sink);
     let told = words_of(rt, Some(call), &notes, &answer);
     finish_with(&answer, told.as_slice(), sink)
 }
 
 /// Answers words as [`answer_words`] does, and tells the answer in words behind it, unless there is no memory for them.
-fn answer_in_words<R: AllocGlobal + Files + Input + RandomSource, S: Sink>(
+fn answer_in_words<R: AllocGlobal + Clock + Eprint + Files + Input + RandomSource, S: Sink>(
     rt: &R,
     words: &[String],
+    progress: bool,
     sink: &mut S,
 ) -> u8
     ensures bundle { length words.now < 2
@@ -129,7 +132,7 @@ fn answer_in_words<R: AllocGlobal + Files + Input + RandomSource, S: Sink>(
         return tell_input(rt, sink);
     }
     match read_words(rt.alloc(), words) {
-        Ok(call) => tell_call(rt, &call, sink),
+        Ok(call) => tell_call(rt, &call, progress, sink),
         Err(error) => finish_words(rt.alloc(), &error, sink),
     }
 }
@@ -156,25 +159,36 @@ fn or_help(
     Ok(words)
 }
 
-/// Answers words as they ask for it: with words behind the answer, where one of them is `--words`.
-fn answer_given<R: AllocGlobal + Files + Input + RandomSource, S: Sink>(
+/// Takes an option that every command has out of the words, where it stands among them. Whether it does.
+fn take_flag(words: &mut Vec<String>, flag: &str) -> bool {
+    match place_of_flag(words.as_slice(), flag) {
+        Some(place) => {
+            words.remove(place);
+            true
+        }
+        None => false,
+    }
+}
+
+/// Answers words as they ask for it: with words behind the answer, where one of them is `--words`, and telling how far
+/// the command has come, where one is `--progress`.
+fn answer_given<R: AllocGlobal + Clock + Eprint + Files + Input + RandomSource, S: Sink>(
     rt: &R,
     mut words: Vec<String>,
     sink: &mut S,
 ) -> u8
     ensures { IsExitStatus result }
 {
-    match place_of_flag(words.as_slice()) {
-        Some(place) => {
-            words.remove(place);
-            answer_in_words(rt, words.as_slice(), sink)
-        }
-        None => answer_words(rt, words.as_slice(), sink),
+    let progress = take_flag(&mut words, "--progress");
+    if take_flag(&mut words, "--words") {
+        answer_in_words(rt, words.as_slice(), progress, sink)
+    } else {
+        answer_words(rt, words.as_slice(), progress, sink)
     }
 }
 
 /// Reads the words, answers them and hands on all that was written. Gives the exit status.
-fn answer<R: AllocGlobal + Env + Files + Input + RandomSource, S: Sink>(
+fn answer<R: AllocGlobal + Clock + Env + Eprint + Files + Input + RandomSource, S: Sink>(
     rt: &R,
     on_terminal: bool,
     sink: &mut S,
@@ -209,7 +223,7 @@ fn flush<S: Sink>(sink: &mut S, code: u8) -> u8
 ///
 /// With no words it answers the bundle on standard input; where that is a terminal it writes its help. 0 is an answer of yes, or help that was asked for, 1 no,
 /// 3 unknown; 2 a refusal, 4 want of memory, 5 a device that failed, 6 words that don't parse.
-pub fn run<R: AllocGlobal + Env + Files + Input + Print + RandomSource>(
+pub fn run<R: AllocGlobal + Clock + Env + Eprint + Files + Input + Print + RandomSource>(
     rt: &R,
     on_terminal: bool,
 ) -> u8

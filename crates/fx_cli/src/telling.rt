@@ -6,6 +6,7 @@ use crate::seeds::seed_at_random;
 use crate::words::Call;
 use fx_audit::{Answer, audit_bytes, bundle_bytes, check_bytes, confirm_bytes};
 use fx_base::{Fault, LineReader, Octets, Outside, Sink, put_text, refusals};
+use fx_search::Unwatched;
 use fx_stories::{
     put_certificate_words, put_document_words, put_lint_words, put_refutation_story, put_run_words,
 };
@@ -127,7 +128,14 @@ fn answer_again<R: AllocGlobal + Files + RandomSource>(
             )?;
         }
         Some(Call::Audit { limit, .. }) => {
-            audit_bytes(rt.alloc(), &mut network, &mut traffic, *limit, &mut text)?;
+            audit_bytes(
+                rt.alloc(),
+                &mut network,
+                &mut traffic,
+                *limit,
+                &mut Unwatched,
+                &mut text,
+            )?;
         }
         Some(_) => {}
         None => {
@@ -252,7 +260,7 @@ fn lines_anew<R: AllocGlobal + Files + RandomSource>(
     rt: &R,
     path: &str,
 ) -> Result<LineReader<Outside<R::File>>, Fault> {
-    let mut notes = Notes::new(rt.alloc(), false);
+    let mut notes = Notes::new(rt.alloc(), false, false);
     let file = open(rt, path, &mut notes)?;
     Ok(LineReader::new(rt.alloc(), file)?)
 }

@@ -1,17 +1,17 @@
-//! The option `--words`, which every command takes.
+//! Options that every command takes: `--words` and `--progress`.
 ghost use Rattle.std.specs.Prelude.{string_bytes};
 ghost use Rattle.fx_cli.specs.WordFlag.{IsFlagPlace};
 
-/// Where `--words` stands among the words: behind the first, which is the program's own name, and before any `--`.
-pub fn place_of_flag(words: &[String]) -> Option<usize>
-    ensures { IsFlagPlace string_bytes words.now result }
+/// Where this option stands among the words: behind the first, which is the program's own name, and before any `--`.
+pub fn place_of_flag(words: &[String], flag: &str) -> Option<usize>
+    ensures { IsFlagPlace flag.now string_bytes words.now result }
 {
     for place in 1..words.len() {
         let word = words[place].as_str();
         if word == "--" {
             return None;
         }
-        if word == "--words" {
+        if word == flag {
             return Some(place);
         }
     }

@@ -4,6 +4,8 @@
 mod found;
 mod growing;
 mod searching;
+mod watch;
 
 pub use found::Found;
 pub use searching::search;
+pub use watch::{Unwatched, Watch};

@@ -22,6 +22,7 @@ ghost use Rattle.fx_steps.specs.WrongRun.{HasNoRun};
 
 use crate::found::Found;
 use crate::growing::{Ahead, Growth, leaf};
+use crate::watch::Watch;
 use fx_base::{Fault, refusals};
 use fx_cert::{Item, Version};
 use fx_check::{certificates_count_once, tables_of};
@@ -101,11 +102,12 @@ fn take<'a>(
 }
 
 /// Goes on until nothing is ahead, or to the first region whose packets haven't the fate that is wanted.
-fn grow<'a>(
+fn grow<'a, W: Watch>(
     scratch: &mut Scratch,
     tables: &Tables<'_>,
     most: u64,
     growth: &mut Growth<'a>,
+    watch: &mut W,
 ) -> Result<Option<Ahead<'a>>, Fault>
     requires tables { AreTables tables.now }
     requires room { length tables.now.net.processes ≤ length scratch.old }
@@ -128,6 +130,7 @@ fn grow<'a>(
         if !take(scratch, tables, most, growth, &here)? {
             return Ok(Some(here));
         }
+        watch.on_lines(growth.lines);
     }
 }
 
@@ -193,13 +196,19 @@ fn certificate(growth: Growth<'_>) -> Result<Found, Fault>
 ///
 /// Where it finds a certificate, [`check`](fx_check::check) accepts it: each packet of the traffic is counted exactly
 /// once, and never where its class is exempt. Where it finds a run, [`confirm`](fx_refute::confirm) confirms it: that
-/// isn't so.
+/// isn't so. `watch` is told of each line that is found.
 ///
 /// Fails with 601, at no place, where a certificate that goes on like this needs more lines, or a split at depth 512
 /// (the first has depth 0), or where a region that nothing cuts has no sound leaf of the kind that its class wants and no run of at
 /// most 1,000,000 steps brings its least packet to another fate than the wanted one; and with 900, at no place, for
 /// want of memory.
-pub fn search(alloc: Global, plan: &Plan, traffic: &Traffic, limit: u64) -> Result<Found, Fault>
+pub fn search<W: Watch>(
+    alloc: Global,
+    plan: &Plan,
+    traffic: &Traffic,
+    limit: u64,
+    watch: &mut W,
+) -> Result<Found, Fault>
     ensures right { IfOk result (found.IsRight (net_of plan.now) traffic.now limit) }
     // So after a certificate each packet is counted exactly once, and after a run it isn't so.
     ensures settles { IfOk result (found.Settles (net_of plan.now) traffic.now) }
@@ -215,7 +224,7 @@ pub fn search(alloc: Global, plan: &Plan, traffic: &Traffic, limit: u64) -> Resu
     let mut scratch = Scratch::new(alloc, &tables)?;
     let version = version_for(classes.as_slice());
     let mut growth = Growth::new(alloc, version, targets.as_slice())?;
-    match grow(&mut scratch, &tables, most, &mut growth)? {
+    match grow(&mut scratch, &tables, most, &mut growth, watch)? {
         Some(here) => refute(alloc, &tables, classes, &here),
         None => certificate(growth),
     }

@@ -5,7 +5,7 @@ use crate::plan::plan_of;
 use crate::refute::{EXEMPT, WITH_FALLBACK};
 use fx_audit::{Answer, audit_bytes, confirm_bytes};
 use fx_base::{Fault, Fuse, LineReader, Octets, Room};
-use fx_search::{Found, search};
+use fx_search::{Found, Unwatched, Watch, search};
 use std::alloc::Global;
 use std::test::Fail;
 
@@ -24,7 +24,14 @@ fn ends(
     let mut traffic = Octets::new(documents.1.as_bytes());
     let mut octets = [0u8; 256];
     let mut room = Room::new(&mut octets);
-    let outcome = audit_bytes(alloc, &mut network, &mut traffic, limit, &mut room);
+    let outcome = audit_bytes(
+        alloc,
+        &mut network,
+        &mut traffic,
+        limit,
+        &mut Unwatched,
+        &mut room,
+    );
     ending(outcome) == wanted && room.octets() == text
 }
 
@@ -45,7 +52,14 @@ fn refutes(alloc: Global, documents: (&str, &str)) -> Result<bool, Fault> {
     let mut traffic = Octets::new(documents.1.as_bytes());
     let mut octets = [0u8; 256];
     let mut room = Room::new(&mut octets);
-    let outcome = audit_bytes(alloc, &mut network, &mut traffic, 1_000_000, &mut room);
+    let outcome = audit_bytes(
+        alloc,
+        &mut network,
+        &mut traffic,
+        1_000_000,
+        &mut Unwatched,
+        &mut room,
+    );
     Ok(ending(outcome) == Ok(Answer::No) && is_confirmed(alloc, documents, room.octets())?)
 }
 
@@ -76,15 +90,28 @@ fn audits_to_a_refutation(rt: HostRuntime) -> Result<(), Fail> {
     Ok(())
 }
 
+/// Keeps how many lines it was told of last.
+#[derive(Drop)]
+struct LastLines {
+    lines: u64,
+}
+
+impl Watch for LastLines {
+    fn on_lines(&mut self, lines: u64) {
+        self.lines = lines;
+    }
+}
+
 #[test]
 fn finds_a_certificate(rt: HostRuntime) -> Result<(), Fail> {
     let plan = plan_of(rt.alloc(), NETWORK)?;
     let traffic = traffic_of(rt.alloc(), TRAFFIC, &plan)?;
-    let lines = match search(rt.alloc(), &plan, &traffic, 2)? {
+    let mut told = LastLines { lines: 0 };
+    let items = match search(rt.alloc(), &plan, &traffic, 2, &mut told)? {
         Found::Certificate(items) => items.len(),
         Found::Refutation(_) => 0,
     };
-    assert!(rt; lines == 4);
+    assert!(rt; items == 4 && told.lines == 1);
     Ok(())
 }
 
@@ -95,7 +122,14 @@ fn failing(alloc: Global, calls: [u64; 3]) -> Result<Answer, u16> {
     let mut traffic = Fuse::new(Octets::new(TRAFFIC.as_bytes()), traffic);
     let mut octets = [0u8; 64];
     let mut sink = Fuse::new(Room::new(&mut octets), answer);
-    ending(audit_bytes(alloc, &mut network, &mut traffic, 1, &mut sink))
+    ending(audit_bytes(
+        alloc,
+        &mut network,
+        &mut traffic,
+        1,
+        &mut Unwatched,
+        &mut sink,
+    ))
 }
 
 #[test]

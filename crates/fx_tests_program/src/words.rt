@@ -108,7 +108,7 @@ fn reads_words(rt: HostRuntime) -> Result<(), Fail> {
 /// The exit status of words that name no call, with whether a text was written.
 fn ends_words(alloc: Global, line: &str) -> Result<Option<(u8, bool)>, AllocError> {
     let words = words(alloc, line)?;
-    let mut octets = [0u8; 4096];
+    let mut octets = [0u8; 8192];
     let mut room = Room::new(&mut octets);
     Ok(match read_words(alloc, words.as_slice()) {
         Ok(_) => None,

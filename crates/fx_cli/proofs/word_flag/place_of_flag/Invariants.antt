@@ -5,6 +5,6 @@ use Rattle.fx_cli.proofs.word_flag.place_of_flag.Given as goal
 -- no word up to here is marked
 abbrev pub invariant-loop-place : goal.invariant-loop-place
 invariant-loop-place l = record {
-  unmarked : IsUnmarked string_bytes l.words l.place;
+  unmarked : IsUnmarked l.flag string_bytes l.words l.place;
   from : 1 ≤ l.place;
 }

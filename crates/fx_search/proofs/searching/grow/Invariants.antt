@@ -5,7 +5,7 @@ use Rattle.fx_search.specs.Growing.{IsGrowing}
 use Rattle.fx_search.proofs.searching.grow.Given as goal
 
 abbrev pub invariant-regions : goal.invariant-regions
-invariant-regions l = record {
+invariant-regions g l = record {
   room : length l.tables.net.processes ≤ length l.scratch;
   few : l.growth.lines ≤ l.most;
   growing : (targets : List Target) (version : Version)
@@ -14,4 +14,4 @@ invariant-regions l = record {
 }
 
 abbrev pub decreases-regions : goal.decreases-regions
-decreases-regions l = l.most - l.growth.lines
+decreases-regions g l = l.most - l.growth.lines

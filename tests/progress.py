@@ -1,0 +1,115 @@
+#!/usr/bin/env python3
+"""progress.py PROGRAM: has `run`, `collect` and `audit` tell how far they have come.
+
+The capture and the stream of two rows come through a pipe, with a second or more between their pieces; the audit is of a
+certificate of nearly as many lines as there may be. With `--progress` lines must come on standard error, whose figures
+rise and end within what there is, at most one a second; without it none. The answer must be the same either way, and
+also where standard error is full. Prints a line for each that fails, and last `N passed, M failed`; the exit status is 1
+where one did. It takes half a minute.
+"""
+import json
+import os
+import re
+import subprocess
+import sys
+import tempfile
+import time
+
+TESTS = os.path.dirname(os.path.abspath(__file__))
+sys.path.insert(0, os.path.join(os.path.dirname(TESTS), "bench"))
+from audit import FILTERS, metered, paths
+
+PATHS = 1_996
+PAUSE = 1.2
+
+
+def octets_of(*names):
+    with open(os.path.join(TESTS, "rows", *names), "rb") as file:
+        return file.read()
+
+
+def piped(words, octets, errors=subprocess.PIPE):
+    """What a run prints whose standard input comes in three pieces, with its status."""
+    start = time.monotonic()
+    run = subprocess.Popen(words, stdin=subprocess.PIPE, stdout=subprocess.PIPE, stderr=errors)
+    third = len(octets) // 3
+    for piece in (octets[:third], octets[third:2 * third], octets[2 * third:]):
+        run.stdin.write(piece)
+        run.stdin.flush()
+        time.sleep(PAUSE)
+    said, told = run.communicate(timeout=60)
+    return said, told or b"", run.returncode, time.monotonic() - start
+
+
+def timed(words, errors=subprocess.PIPE):
+    start = time.monotonic()
+    run = subprocess.run(words, stdin=subprocess.DEVNULL, stdout=subprocess.PIPE, stderr=errors, timeout=120)
+    return run.stdout, run.stderr or b"", run.returncode, time.monotonic() - start
+
+
+def line_faults(told, form, most, seconds):
+    """What is wrong with the lines that were told."""
+    lines = told.decode().splitlines()
+    figures = [re.fullmatch(form, line) for line in lines]
+    if not lines or not all(figures):
+        yield "told %r" % told[:300]
+        return
+    figures = [int(found[1]) for found in figures]
+    if figures != sorted(figures) or figures[-1] > most:
+        yield "figures %r, of at most %d" % (figures, most)
+    if len(lines) > seconds:
+        yield "%d lines in %.1f s" % (len(lines), seconds)
+
+
+def faults(call, words, form, most):
+    """What is wrong with a call's lines and answers, by its words without the option."""
+    plain = call(words)
+    if plain[1]:
+        yield "told %r unasked" % plain[1][:200]
+    said, told, status, seconds = call([*words, "--progress"])
+    yield from line_faults(told, form, most, seconds)
+    if (said, status) != (plain[0], plain[2]):
+        yield "answered otherwise"
+    with open("/dev/full", "wb") as full:
+        said, _, status, _ = call([*words, "--progress"], full)
+    if (said, status) != (plain[0], plain[2]):
+        yield "answered otherwise where standard error is full"
+
+
+def cases(program, folder):
+    row = os.path.join(TESTS, "rows", "run-over-the-capture-of-pmacctd", "")
+    capture = octets_of("run-over-the-capture-of-pmacctd", "capture.pcap")
+    yield "run", faults(
+        lambda words, errors=subprocess.PIPE: piped(words, capture, errors),
+        [program, "run", row + "network.json", row + "traffic.json", "/dev/stdin", row + "schedule"],
+        r"once: (\d+) octets of /dev/stdin read", len(capture))
+    stream = octets_of("stream-of-pmacctd", "stream.ipfix")
+    yield "collect", faults(
+        lambda words, errors=subprocess.PIPE: piped(words, stream, errors),
+        [program, "collect", os.path.join(TESTS, "rows", "stream-of-pmacctd", "network.json"), "/dev/stdin"],
+        r"once: (\d+) octets of /dev/stdin read", len(stream))
+    names = os.path.join(folder, "network.json"), os.path.join(folder, "traffic.json")
+    for name, document in zip(names, (metered(FILTERS), paths(PATHS))):
+        with open(name, "w") as file:
+            json.dump(document, file)
+    yield "audit", faults(
+        timed, [program, "audit", *names],
+        r"once: (\d+) lines of a certificate found, of at most 1000000", 1_000_000)
+
+
+def main(program):
+    passed = failed = 0
+    with tempfile.TemporaryDirectory() as folder:
+        for name, found in cases(os.path.abspath(program), folder):
+            found = list(found)
+            passed, failed = passed + (not found), failed + bool(found)
+            for fault in found:
+                print("%s: %s" % (name, fault))
+    print("%d passed, %d failed" % (passed, failed))
+    return 1 if failed else 0
+
+
+if __name__ == "__main__":
+    if len(sys.argv) != 2:
+        sys.exit(__doc__)
+    sys.exit(main(sys.argv[1]))
