@@ -190,8 +190,8 @@ fn run_capture<R: AllocGlobal + Clock + Eprint + Files + RandomSource, S: Sink>(
     let alloc = rt.alloc();
     let answer = match links {
         Some(prefix) => {
-            let mut files = LinkFiles::new(alloc, rt, prefix);
-            run_bytes(
+            let mut files = LinkFiles::new(alloc, rt, prefix, notes.failing_files());
+            let answer = run_bytes(
                 alloc,
                 seed,
                 &mut network,
@@ -200,7 +200,9 @@ fn run_capture<R: AllocGlobal + Clock + Eprint + Files + RandomSource, S: Sink>(
                 &mut lines,
                 &mut files,
                 sink,
-            )
+            );
+            notes.failed_file = files.into_failed_file();
+            answer
         }
         None => run_bytes(
             alloc,

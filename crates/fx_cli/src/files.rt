@@ -4,7 +4,7 @@ ghost use Rattle.fx_base.specs.Fault.{fault_at};
 ghost use Rattle.fx_base.specs.Refusals.{failed_read, failed_write};
 ghost use Rattle.fx_base.specs.declared.fault.Place.TheVariants as places;
 
-use crate::notes::Notes;
+use crate::notes::{FailedFile, Notes};
 use fx_base::{Fault, Outside, refusals};
 use std::fs;
 use std::rt::Files;
@@ -18,7 +18,7 @@ pub fn open<R: Files>(rt: &R, path: &str, notes: &mut Notes) -> Result<Outside<R
     match fs::open(rt, path) {
         Ok(file) => Ok(Outside::new(file)),
         Err(error) => {
-            notes.unopened(path, error);
+            notes.failed_file.unopened(path, error);
             Err(Fault::bare(refusals::FAILED_READ))
         }
     }
@@ -26,12 +26,19 @@ pub fn open<R: Files>(rt: &R, path: &str, notes: &mut Notes) -> Result<Outside<R
 
 /// A file, made to be written from its beginning, or emptied where it is there.
 ///
-/// Fails with 902, at no place, where it can't be made.
-pub fn make<R: Files>(rt: &R, path: &str) -> Result<Outside<R::File>, Fault>
+/// Fails with 902, at no place, where it can't be made; which file it is and why is noted.
+pub fn make<R: Files>(
+    rt: &R,
+    path: &str,
+    failed_file: &mut FailedFile,
+) -> Result<Outside<R::File>, Fault>
     ensures { IfErr result (λ e. e ≡ fault_at failed_write places.None) }
 {
     match fs::File::create(rt, path) {
         Ok(file) => Ok(Outside::new(file)),
-        Err(_) => Err(Fault::bare(refusals::FAILED_WRITE)),
+        Err(error) => {
+            failed_file.unopened(path, error);
+            Err(Fault::bare(refusals::FAILED_WRITE))
+        }
     }
 }

@@ -5,6 +5,7 @@ ghost use Rattle.fx_base.specs.declared.fault.Place.TheVariants as places;
 ghost use Rattle.fx_base.specs.Refusals.{failed_write};
 
 use crate::files::make;
+use crate::notes::FailedFile;
 use fx_base::{Fault, Outside, put_text};
 use fx_link::Links;
 use itoa::Buffer;
@@ -31,11 +32,17 @@ pub struct LinkFiles<'a, R: Files> {
     prefix: &'a str,
     files: BTreeMap<u64, Outside<R::File>>,
     failed: bool,
+    failed_file: FailedFile,
 }
 
 impl<'a, R: Files> LinkFiles<'a, R> {
-    /// Links on which nothing was put yet, with this prefix of their files' names.
-    pub fn new(alloc: Global, rt: &'a R, prefix: &'a str) -> LinkFiles<'a, R>
+    /// Links on which nothing was put yet, with this prefix of their files' names, and where a file that fails is noted.
+    pub fn new(
+        alloc: Global,
+        rt: &'a R,
+        prefix: &'a str,
+        failed_file: FailedFile,
+    ) -> LinkFiles<'a, R>
         ensures { result.failed ≡ false }
     {
         LinkFiles {
@@ -44,6 +51,29 @@ impl<'a, R: Files> LinkFiles<'a, R> {
             prefix,
             files: BTreeMap::new(alloc),
             failed: false,
+            failed_file,
+        }
+    }
+
+    /// The file that failed; the others are let go.
+    pub fn into_failed_file(self) -> FailedFile
+        ensures { result ≡ self.failed_file }
+    {
+        let LinkFiles {
+            alloc: _,
+            rt: _,
+            prefix: _,
+            files: _,
+            failed: _,
+            failed_file,
+        } = self;
+        failed_file
+    }
+
+    /// Notes the name of the file of a link that can't be written.
+    fn note_unwritten(&mut self, link: u64) {
+        if let Ok(path) = link_path(self.alloc, self.prefix, link) {
+            self.failed_file.unwritten(path.as_str());
         }
     }
 
@@ -53,7 +83,7 @@ impl<'a, R: Files> LinkFiles<'a, R> {
             ⊎ IsMemory e) }
     {
         let path = link_path(self.alloc, self.prefix, link)?;
-        let mut file = make(self.rt, path.as_str())?;
+        let mut file = make(self.rt, path.as_str(), &mut self.failed_file)?;
         put_text(&mut file, octets)?;
         self.files.insert(link, file)?;
         Ok(())
@@ -78,6 +108,9 @@ impl<'a, R: Files> Links for LinkFiles<'a, R> {
 
     fn put(&mut self, link: u64, octets: &[u8]) -> Result<(), Fault> {
         let result = self.append(link, octets);
+        if result.is_err() {
+            self.note_unwritten(link);
+        }
         self.failed = result.is_err();
         result
     }

@@ -8,13 +8,52 @@ use std::alloc::{AllocError, Global};
 use std::io;
 use std::rt::Clock;
 
+/// Which file couldn't be opened, made or written, and why, where that is to be noted.
+#[derive(Debug, Drop)]
+pub struct FailedFile {
+    alloc: Global,
+    keeps: bool,
+    told: Option<String>,
+}
+
+impl FailedFile {
+    /// None yet; whether one is to be noted.
+    pub fn new(alloc: Global, keeps: bool) -> FailedFile {
+        FailedFile {
+            alloc,
+            keeps,
+            told: None,
+        }
+    }
+
+    /// Notes a file that can't be opened or made.
+    pub fn unopened(&mut self, path: &str, error: io::Error) {
+        if self.keeps {
+            self.told = sentence(self.alloc, path, error).ok();
+        }
+    }
+
+    /// Notes a file that can't be written, unless it is one that can't be made.
+    pub fn unwritten(&mut self, path: &str) {
+        if self.keeps && self.told.is_none() {
+            self.told = String::from_str(self.alloc, path).ok();
+        }
+    }
+
+    /// The file's name and, where the system has told it, why.
+    pub fn told(&self) -> Option<&str> {
+        self.told.as_deref()
+    }
+}
+
 /// What was noted. Nothing is, unless words behind the answer are asked for; and what there is no memory for is left out.
 #[derive(Debug, Drop)]
 pub struct Notes {
     alloc: Global,
     keeps: bool,
     progress: bool,
-    unopened: Option<String>,
+    /// The file that couldn't be opened, made or written.
+    pub failed_file: FailedFile,
     /// The octets of the network's document, as far as they were read.
     pub network: OctetCopy,
     /// The octets of the traffic's declaration, as far as they were read.
@@ -35,23 +74,16 @@ impl Notes {
             alloc,
             keeps,
             progress,
-            unopened: None,
+            failed_file: FailedFile::new(alloc, keeps),
             network: OctetCopy::new(alloc, false),
             traffic: OctetCopy::new(alloc, false),
             bundle: OctetCopy::new(alloc, false),
         }
     }
 
-    /// Notes a file that can't be opened or made.
-    pub fn unopened(&mut self, path: &str, error: io::Error) {
-        if self.keeps {
-            self.unopened = sentence(self.alloc, path, error).ok();
-        }
-    }
-
-    /// The file that couldn't be opened or made, and why.
-    pub fn unopened_file(&self) -> Option<&str> {
-        self.unopened.as_deref()
+    /// Where a file that fails is noted, of those that the command itself makes.
+    pub fn failing_files(&self) -> FailedFile {
+        FailedFile::new(self.alloc, self.keeps)
     }
 
     /// The progress of what begins now, which is told where that is asked for.

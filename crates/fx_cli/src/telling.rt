@@ -219,19 +219,17 @@ fn documents_of(call: &Call) -> Option<(&str, Option<&str>)> {
     }
 }
 
-/// Writes which file couldn't be opened or read, and why it couldn't be opened.
+/// Writes which file couldn't be opened, read, made or written, and why it couldn't be opened or made.
 fn put_file_words<S: Sink>(
     call: Option<&Call>,
     notes: &Notes,
     fault: &Fault,
     sink: &mut S,
 ) -> Result<(), Fault> {
-    if fault.number != refusals::FAILED_READ {
-        return Ok(());
-    }
-    let file = match notes.unopened_file() {
-        Some(file) => Some(file),
-        None => call.and_then(|call| unread_file(call, notes)),
+    let file = match (fault.number, notes.failed_file.told()) {
+        (refusals::FAILED_READ | refusals::FAILED_WRITE, Some(file)) => Some(file),
+        (refusals::FAILED_READ, None) => call.and_then(|call| unread_file(call, notes)),
+        _ => None,
     };
     match file {
         Some(file) => {
