@@ -12,14 +12,14 @@ _once()
     [[ $before == = ]] && before=${COMP_WORDS[COMP_CWORD-2]}
     [[ $current == = ]] && before=${COMP_WORDS[COMP_CWORD-1]} current=
     case $command in
-        replay) options="-h --help" files=(json json txt) ;;
-        collect) options="-h --help" files=(json ipfix) ;;
-        check) options="-h --help" files=(json json txt) ;;
-        confirm) options="-h --help" files=(json json txt) ;;
-        audit) options="--limit -h --help" files=(json json) ;;
-        run) options="--links -h --help" files=(json json pcap txt) ;;
-        lint) options="-h --help" files=(json json) ;;
-        explain) options="-h --help" files=(-) ;;
+        replay) options="-h --help --words" files=(json json txt) ;;
+        collect) options="-h --help --words --progress" files=(json ipfix) ;;
+        check) options="-h --help --words" files=(json json txt) ;;
+        confirm) options="-h --help --words" files=(json json txt) ;;
+        audit) options="--limit -h --help --words --progress" files=(json json) ;;
+        run) options="--links -h --help --words --progress" files=(json json pcap txt) ;;
+        lint) options="-h --help --words" files=(json json) ;;
+        explain) options="-h --help --words" files=(-) ;;
         help) [[ $place -eq 0 ]] && COMPREPLY=($(compgen -W "replay collect check confirm audit run lint explain help" -- "$current")); return ;;
         *) COMPREPLY=($(compgen -W "replay collect check confirm audit run lint explain help -h --help -V --version" -- "$current")); return ;;
     esac
