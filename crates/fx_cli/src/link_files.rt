@@ -57,7 +57,7 @@ impl<'a, R: Files> LinkFiles<'a, R> {
 
     /// The file that failed; the others are let go.
     pub fn into_failed_file(self) -> FailedFile
-        ensures { result ≡ self.failed_file }
+        ensures { result ≡ self.entry.failed_file }
     {
         let LinkFiles {
             alloc: _,

@@ -65,7 +65,9 @@ impl<'a, R: Eprint + Clock, S: Source> ToldSource<'a, R, S> {
     }
 
     /// Tells how many octets were given, where it is time. A line that can't be written is left out.
-    fn tell(&mut self, count: usize) {
+    fn tell(&mut self, count: usize)
+        ensures { self.new.source ≡ self.old.source }
+    {
         self.octets = self.octets.saturating_add(count as u64);
         if self.progress.is_due() {
             let path = self.path;
