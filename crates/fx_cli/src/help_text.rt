@@ -56,7 +56,7 @@ Example:
 Files:
   NETWORK      JSON: \"devices\", \"links\", \"report\"
   TRAFFIC      JSON: \"classes\" with regions and paths
-  CERTIFICATE  lines: `once-certificate 1`; for each path `class C path P` and its tree of `S AXIS AT` (a split) and
+  CERTIFICATE  lines: `once-certificate 1` (2 where a class is exempt); for each path `class C path P` and its tree of `S AXIS AT` (a split) and
                `L CROSSING POINT PROCESS` (a leaf; `N` in an exempt class); `end`
 
 Prints `yes` (status 0) only where every complete run counts each packet exactly once; or `no NUMBER line N` (status 1)
@@ -90,7 +90,9 @@ Example:
 Files:
   NETWORK  JSON: \"devices\", \"links\", \"report\"
   TRAFFIC  JSON: \"classes\" with regions and paths
-  RUN      lines: `once-run 2`, any number of `packet` lines, steps (`cross`, `expire`, `arrive`), `end`
+  RUN      lines: `once-run 2`, any number of `packet` lines, steps, `end`. A step is
+           `cross PACKET CROSSING CHOICES`, `expire cache DEVICE CACHE POSITION CHOICES`,
+           `expire aggregation DEVICE PROCESS AGGREGATION POSITION CHOICES` or `arrive LINK POSITION CHOICES`
 
 Prints the collector's totals at the run's end (status 0): `keys N`, a line for each key, `unassigned N`, and
 `complete yes` or `complete no`. A text that is refused: `refused NUMBER PLACE` (status 2); 851 to 853 are steps that
@@ -123,7 +125,9 @@ Files:
   NETWORK   JSON: \"devices\", \"links\", \"report\"
   TRAFFIC   JSON: \"classes\" with regions and paths; each packet of the capture has to be in one
   CAPTURE   octets: classic pcap of link type 1 (Ethernet) or 101 (IP)
-  SCHEDULE  lines, or none: `next`, `expire D C`, `emit D P A`, `carry L N`, `use D E N`; what is left at its end is
+  SCHEDULE  lines, or none (as /dev/null): `next` (a packet is read), `expire D C` (the record of the least key leaves
+            cache C of device D), `emit D P A` (the same of aggregation A of process P), `carry L N` (N octets of link
+            L arrive), `use D E N` (exporter E sends to its destination N from now on); what is left at its end is
             read, expired and carried to the collector
 
 Prints the totals (status 0): `keys N`, a line for each key, `unassigned N`, `skipped other N malformed N` (frames that
@@ -135,16 +139,18 @@ are no packets). With --links the IPFIX octets of link 1 go to the file PREFIX1,
 /// Behind the help of `lint`.
 pub const LINT: &str = "\
 Example:
-  once lint network.json
+  once lint network.json traffic.json
 
-File:
+Files:
   NETWORK  JSON: \"devices\" with their configurations (RFC 6728 in the JSON of RFC 7951), \"links\", \"report\"
+  TRAFFIC  JSON: \"classes\" with regions and paths; may be left out
 
 Prints `ok` (status 0) where every command would take the document; else its first fault, `refused NUMBER PLACE`
 (status 2), PLACE a JSON Pointer (RFC 6901).
 
 --words tells the fault in sentences, and of a document that is taken what was read in silence: a member that stands
-twice, members that mean nothing here, a destination without a link, a cache that nothing feeds.";
+twice, members that mean nothing here, a destination without a link, a cache that nothing feeds, a class that is exempt,
+a crossing at an interface that no observation point has, a path of which no observation point sees a crossing.";
 
 /// Behind the help of `explain`.
 pub const EXPLAIN: &str = "\

@@ -11,8 +11,36 @@ use fx_stories::{
     put_certificate_words, put_document_words, put_lint_words, put_refutation_story, put_run_words,
 };
 use fx_words::put_reason;
+use std::alloc::Global;
 use std::random::RandomSource;
 use std::rt::Files;
+
+/// What a certificate shows.
+const COUNTED_ONCE: &[u8] =
+    b"In every complete run each packet of the declared classes is counted exactly once, and \
+none of those of exempt classes.\n";
+
+/// What to do about a refutation.
+const TO_MEND: &[u8] =
+    b"what to do: Change what a step names, as a point, a filter, a link or an export mode, so that \
+one record of each packet comes to the report, and audit again.\n";
+
+/// What stands in the text of a replay.
+const REPLAYED: &[u8] =
+    b"keys: how many keys of the report have totals, a line each. unassigned: records without the \
+report's key. complete yes: no crossing is to come and nothing is held or on a link; complete no: the totals aren't the \
+last ones.\n";
+
+/// What stands in the text of a collection.
+const COLLECTED: &[u8] =
+    b"keys: how many keys of the report have totals, a line each. unassigned: records without the \
+report's key. gaps: messages whose sequence number isn't the next one, so that records were lost before them. skipped: \
+records without both counters, which add nothing.\n";
+
+/// What stands in the text of a run.
+const METERED: &[u8] =
+    b"keys: how many keys of the report have totals, a line each. unassigned: records without the \
+report's key. skipped: frames that are no packets of IP (other), or that end before their header does (malformed).\n";
 
 /// The words behind an answer or a refusal. Where there is no memory for them, there are none.
 pub(crate) fn words_of<R: AllocGlobal + Files + RandomSource>(
@@ -56,16 +84,32 @@ fn put_yes_words<R: AllocGlobal + Files + RandomSource, S: Sink>(
     sink: &mut S,
 ) -> Result<(), Fault> {
     match call {
-        Some(Call::Check { .. } | Call::Audit { .. }) => put_text(
-            sink,
-            b"Every packet of the declared classes is counted exactly once, in every complete run.\n",
-        ),
+        Some(Call::Check { .. } | Call::Audit { .. }) => {
+            put_text(sink, COUNTED_ONCE)?;
+            put_silent_words(rt.alloc(), notes, sink)
+        }
         Some(Call::Confirm { refutation, .. }) => put_story(rt, refutation.as_str(), notes, sink),
-        Some(Call::Lint { .. }) => match notes.network.octets() {
-            Some(network) => put_lint_words(rt.alloc(), network, notes.traffic.octets(), sink),
-            None => Ok(()),
-        },
-        _ => Ok(()),
+        Some(Call::Lint { .. }) => put_silent_words(rt.alloc(), notes, sink),
+        Some(call) => put_text(sink, totals_words(call)),
+        None => Ok(()),
+    }
+}
+
+/// What the lines of a call's totals mean.
+fn totals_words(call: &Call) -> &'static [u8] {
+    match call {
+        Call::Replay { .. } => REPLAYED,
+        Call::Collect { .. } => COLLECTED,
+        Call::Run { .. } => METERED,
+        _ => b"",
+    }
+}
+
+/// Writes what is read in silence in the documents.
+fn put_silent_words<S: Sink>(alloc: Global, notes: &Notes, sink: &mut S) -> Result<(), Fault> {
+    match notes.network.octets() {
+        Some(network) => put_lint_words(alloc, network, notes.traffic.octets(), sink),
+        None => Ok(()),
     }
 }
 
@@ -76,11 +120,15 @@ fn put_no_words<R: AllocGlobal + Files + RandomSource, S: Sink>(
     notes: &Notes,
     sink: &mut S,
 ) -> Result<(), Fault> {
+    if let Some(Call::Explain { .. }) = call {
+        return put_text(sink, b"`once explain all` lists the numbers.\n");
+    }
     let Ok(text) = answer_again(rt, call, notes) else {
         return Ok(());
     };
     if let Some(Call::Audit { .. }) = call {
-        return put_found_story(rt, notes, text.as_slice(), sink);
+        put_found_story(rt, notes, text.as_slice(), sink)?;
+        return put_text(sink, TO_MEND);
     }
     let Some(fault) = refusal_said(text.as_slice()) else {
         return Ok(());
@@ -219,7 +267,8 @@ fn documents_of(call: &Call) -> Option<(&str, Option<&str>)> {
     }
 }
 
-/// Writes which file couldn't be opened, read, made or written, and why it couldn't be opened or made.
+/// Writes which file couldn't be opened, read, made or written, or has too long a line, and why it couldn't be opened or
+/// made.
 fn put_file_words<S: Sink>(
     call: Option<&Call>,
     notes: &Notes,
@@ -229,6 +278,7 @@ fn put_file_words<S: Sink>(
     let file = match (fault.number, notes.failed_file.told()) {
         (refusals::FAILED_READ | refusals::FAILED_WRITE, Some(file)) => Some(file),
         (refusals::FAILED_READ, None) => call.and_then(|call| unread_file(call, notes)),
+        (refusals::LONG_LINE, _) => call.and_then(file_of_lines),
         _ => None,
     };
     match file {
@@ -241,16 +291,32 @@ fn put_file_words<S: Sink>(
     }
 }
 
-/// The document of a call whose last read failed.
+/// The file of a call whose last read failed: a document, or the one that is read behind them.
 fn unread_file<'a>(call: &'a Call, notes: &Notes) -> Option<&'a str> {
     let (network, traffic) = documents_of(call)?;
+    let _read = notes.network.octets()?;
     if notes.network.failed() {
         return Some(network);
     }
     if notes.traffic.failed() {
         return traffic;
     }
-    None
+    match call {
+        Call::Collect { stream, .. } => Some(stream.as_str()),
+        Call::Run { capture, .. } => Some(capture.as_str()),
+        _ => file_of_lines(call),
+    }
+}
+
+/// The file of a call that is read line by line.
+fn file_of_lines(call: &Call) -> Option<&str> {
+    match call {
+        Call::Replay { run, .. } => Some(run.as_str()),
+        Call::Check { certificate, .. } => Some(certificate.as_str()),
+        Call::Confirm { refutation, .. } => Some(refutation.as_str()),
+        Call::Run { schedule, .. } => Some(schedule.as_str()),
+        _ => None,
+    }
 }
 
 /// The lines of a file that is opened anew.

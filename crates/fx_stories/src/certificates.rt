@@ -5,6 +5,7 @@ ghost use Rattle.fx_base.specs.Fault.{IsMemory};
 ghost use Rattle.fx_stories.specs.Stories.{IsUntold, WritesStory};
 
 use crate::again::{Documents, documents_again};
+use crate::following::tell_following;
 use crate::leaves::tell_leaf;
 use crate::lines::{next_line, tell_line};
 use crate::paths::tell_path;
@@ -12,15 +13,26 @@ use crate::regions::{axis_word, tell_region};
 use crate::story::{Piece, Story};
 use crate::walk::Walk;
 use crate::watching::tell_watching;
-use fx_base::{Fault, LineReader, Place, Sink, Source, put_text, refusals};
+use fx_base::{Fault, LineReader, Place, Room, Sink, Source, put_text, refusals};
 use fx_boxes::Region;
-use fx_cert::{Item, read_item};
+use fx_cert::{Item, put_item, read_item};
 use fx_check::tables_of;
+use fx_elements::Axis;
 use fx_leaf::{Counted, Scratch, cut};
 use fx_plan::Plan;
 use fx_tables::Crossing;
 use fx_traffic::Target;
-use std::alloc::Global;
+use std::alloc::{AllocError, Global};
+
+/// Tells the line of a split as a certificate has it.
+fn tell_split_line(story: &mut Story, axis: Axis, at: u128) -> Result<(), AllocError> {
+    let mut octets = [0; 100];
+    let mut room = Room::new(&mut octets);
+    // What has no room there is left out.
+    let _written = put_item(&mut room, &Item::Split { axis, at });
+    story.tell(&[Piece::Text("its line is: ")])?;
+    story.lines_of(room.octets())
+}
 
 /// Tells where to split a region that something cuts.
 fn tell_cut(
@@ -41,6 +53,7 @@ fn tell_cut(
             Piece::Text(" at "),
             Piece::Value(axis, at),
         ])?;
+        tell_split_line(story, axis, at)?;
     }
     Ok(())
 }
@@ -104,6 +117,7 @@ fn tell_tree(
     tell_region_line(story, region)?;
     if is_of_packets(number) {
         tell_watching(story, &documents.plan, region, target.crossings)?;
+        tell_following(alloc, story, &documents.plan, target.crossings)?;
     }
     if number == refusals::CUT_REGION {
         tell_cut(alloc, story, &documents.plan, target.crossings, region)?;
@@ -214,6 +228,12 @@ fn tell_certificate<C: Source>(
     let mut walk = Walk::new(alloc);
     go_before(&mut walk, targets.as_slice(), certificate, number)?;
     let item = tell_next(story, certificate)?;
+    if number == 1 {
+        story.sentence(&[Piece::Text(
+            "the first line is once-certificate 1, or once-certificate 2 where a class is exempt",
+        )])?;
+        return Ok(());
+    }
     tell_stand(
         alloc,
         story,
@@ -246,7 +266,7 @@ fn story_of<C: Source>(
 
 /// Writes in sentences what a refusal of a certificate, 401 to 415 at a line, is about: the line, at most 200 octets of
 /// it; the class and the path by name; the region of the line, with what the line names; and for a leaf what sees the
-/// region's packets along the path and where its records go, and where to split it, if something cuts it. The documents
+/// region's packets along the path and where its records go, up to the report, and where to split it, if something cuts it. The documents
 /// are those over which the certificate was refused, the lines those of its text, opened anew. What can't be told is
 /// left out. The text has no control characters but line feeds.
 ///

@@ -113,7 +113,7 @@ pub(crate) fn tell_expiry(
 }
 
 /// Whether a link leads to the collecting process of the report.
-fn leads_to_report(report: &Report, link: &NamedLink) -> bool {
+pub(crate) fn leads_to_report(report: &Report, link: &NamedLink) -> bool {
     report.device == link.to_device && report.collecting_process == link.to_process
 }
 
@@ -176,7 +176,9 @@ fn tell_reaching(
     ])?;
     tell_end(story, link)?;
     if leads_to_report(&plan.network().report, link) {
-        story.tell(&[Piece::Text("; it is counted")])?;
+        story.tell(&[Piece::Text(
+            "; it is counted, or unassigned where it lacks the report's key",
+        )])?;
     }
     let devices = plan.network().devices.as_slice();
     if let Some(device) = entry_named(devices, &link.to_device) {

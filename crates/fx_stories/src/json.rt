@@ -7,7 +7,8 @@ use std::alloc::{AllocError, Global};
 fn limit_words(reason: &str) -> &'static str {
     match reason {
         "recursion limit exceeded" => " (values may stand in at most 127 others)",
-        "number out of range" => " (numbers of 309 digits and more are refused)",
+        "number out of range" =>
+            " (numbers of 309 digits and more are refused; it stands before this place)",
         _ => "",
     }
 }

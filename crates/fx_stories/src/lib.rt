@@ -7,6 +7,7 @@ mod crossings;
 mod documents;
 mod elements;
 mod ends;
+mod following;
 mod holders;
 mod json;
 mod leaves;

@@ -4,9 +4,9 @@ ghost use Rattle.fx_base.specs.Device.{IsWriteFault, KeepsGoing};
 ghost use Rattle.fx_base.specs.Fault.{IsMemory};
 ghost use Rattle.fx_stories.specs.Stories.{WritesStory};
 
-use crate::again::{documents_again, plan_again, value_again};
+use crate::again::{Documents, class_name, documents_again, plan_again, value_again};
 use crate::scanning::tell_twice;
-use crate::story::Story;
+use crate::story::{Piece, Story};
 use crate::unread::tell_unread_members;
 use crate::unseen::tell_unseen;
 use crate::unused::tell_unused;
@@ -18,12 +18,35 @@ fn tell_network(alloc: Global, story: &mut Story, network: &[u8]) -> Result<(), 
     let Some(value) = value_again(alloc, network)? else {
         return Ok(());
     };
-    tell_twice(alloc, story, network)?;
+    tell_twice(alloc, story, "network", network)?;
     tell_unread_members(story, &value)?;
     match plan_again(alloc, network)? {
         Some(plan) => tell_unused(story, &plan),
         None => Ok(()),
     }
+}
+
+/// Tells which classes are exempt, or that there is no class.
+fn tell_classes(story: &mut Story, documents: &Documents) -> Result<(), AllocError> {
+    let classes = documents.traffic.classes().as_slice();
+    if classes.is_empty() {
+        story.sentence(&[Piece::Text(
+            "traffic: it declares no class, so an answer is about no packet",
+        )])?;
+    }
+    for place in 0..classes.len() {
+        if classes[place].exempt() {
+            let number = place as u64 + 1;
+            story.sentence(&[
+                Piece::Text("traffic: class "),
+                Piece::Number(number),
+                Piece::Text(" "),
+                Piece::Quoted(class_name(documents, number)),
+                Piece::Text(" is exempt: none of its packets may be counted"),
+            ])?;
+        }
+    }
+    Ok(())
 }
 
 /// Tells what is read in silence in a traffic declaration.
@@ -38,8 +61,9 @@ fn tell_traffic(
     let Some(documents) = documents_again(alloc, network, traffic)? else {
         return Ok(());
     };
-    tell_twice(alloc, story, traffic)?;
+    tell_twice(alloc, story, "traffic", traffic)?;
     let targets = documents.traffic.targets(alloc)?;
+    tell_classes(story, &documents)?;
     tell_unseen(story, &documents, targets.as_slice())?;
     Ok(())
 }
@@ -58,7 +82,7 @@ fn story_of(alloc: Global, network: &[u8], traffic: Option<&[u8]>) -> Result<Sto
 
 /// Writes in sentences what is read in silence in a network's document that is accepted, and in a traffic declaration:
 /// members that stand twice in an object, of which the last one counts; members that nothing reads; destinations without
-/// a link; caches that no selection process feeds; crossings whose interface is at no observation point, and paths of
+/// a link; caches that no selection process feeds; classes that are exempt, or that there are none; crossings whose interface is at no observation point, and paths of
 /// which no observation point sees a crossing. Where there is nothing of the kind, nothing is written. The text has no
 /// control characters but line feeds.
 ///

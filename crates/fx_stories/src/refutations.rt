@@ -6,10 +6,11 @@ ghost use Rattle.fx_collect.specs.Report.{KeysAscend};
 ghost use Rattle.fx_stories.specs.Stories.{IsUntold, WritesStory};
 
 use crate::again::{Documents, documents_again};
+use crate::holders::leads_to_report;
 use crate::lines::unless_wrong;
 use crate::steps::{tell_packet, tell_step};
 use crate::story::{Piece, Story};
-use fx_base::{Fault, LineReader, Room, Sink, Source, put_text, refusals};
+use fx_base::{Fault, LineReader, Room, Sink, Source, entry_numbered, put_text, refusals};
 use fx_collect::Totals;
 use fx_refute::{Refutation, confirm, read_refutation};
 use fx_run_text::Step;
@@ -29,6 +30,42 @@ fn tell_steps(
         tell_step(alloc, story, documents, packets, &steps[place])?;
     }
     Ok(())
+}
+
+/// Whether at a step a record reaches the collecting process of the report.
+fn is_reported(documents: &Documents, step: &Step) -> bool {
+    let Step::Arrive { link, .. } = step else {
+        return false;
+    };
+    let network = documents.plan.network();
+    match entry_numbered(network.links.as_slice(), *link) {
+        Some(link) => leads_to_report(&network.report, link),
+        None => false,
+    }
+}
+
+/// Tells at which steps a record reaches the report.
+fn tell_reported(
+    story: &mut Story,
+    documents: &Documents,
+    steps: &[Step],
+) -> Result<(), AllocError> {
+    let mut told = false;
+    for place in 0..steps.len() {
+        if is_reported(documents, &steps[place]) {
+            let before = if told {
+                ", "
+            } else {
+                "a record reaches the report at step "
+            };
+            story.tell(&[Piece::Text(before), Piece::Number(place as u64 + 1)])?;
+            told = true;
+        }
+    }
+    if !told {
+        story.tell(&[Piece::Text("no record reaches the report")])?;
+    }
+    story.end_line()
 }
 
 /// Tells totals as reports have them.
@@ -82,6 +119,7 @@ fn tell_refutation(
     let packets = [*refutation.packet()];
     tell_packet(story, documents, refutation.packet())?;
     tell_steps(alloc, story, documents, &packets, refutation.steps())?;
+    tell_reported(story, documents, refutation.steps())?;
     tell_sums(alloc, story, documents, refutation)
 }
 
@@ -104,7 +142,7 @@ fn story_of<C: Source>(
 }
 
 /// Writes in sentences what a refutation says: its packet, with its class by name and its fields that aren't 0; each
-/// step with the names of what it is about; and, where it is confirmed, the totals of its run and those that it should
+/// step with the names of what it is about; at which steps a record reaches the report; and, where it is confirmed, the totals of its run and those that it should
 /// have. The documents are those over which the refutation was confirmed, the lines those of its text, opened anew.
 /// What can't be told is left out. The text has no control characters but line feeds.
 ///

@@ -7,7 +7,7 @@ ghost use Rattle.fx_stories.specs.Stories.{IsUntold, WritesStory};
 use crate::again::{Documents, documents_again};
 use crate::lines::{tell_line, tell_line_numbered, unless_wrong};
 use crate::steps::tell_step;
-use crate::story::Story;
+use crate::story::{Piece, Story};
 use fx_base::{Fault, Line, LineReader, Place, Room, Sink, Source, put_text, refusals};
 use fx_machine::State;
 use fx_run_text::{Run, Step, put_step_line, read_run};
@@ -56,6 +56,7 @@ fn tell_run(alloc: Global, story: &mut Story, documents: &Documents, run: &Run) 
     if let Some(place) = refused_step(&mut state, run.steps())? {
         if let Some(step) = run.steps().get(place) {
             tell_step_line(story, first.saturating_add(place as u64), step)?;
+            story.tell(&[Piece::Text("this step can't be made: ")])?;
             tell_step(alloc, story, documents, run.packets(), step)?;
         }
     }

@@ -25,6 +25,8 @@ struct Scan {
     /// Where the string began that it is in, behind its quotation mark.
     start: usize,
     line: u64,
+    /// Which document it is, as `network`.
+    document: &'static str,
 }
 
 /// Octets of a text from one place to another.
@@ -61,7 +63,7 @@ impl Open {
 
 impl Scan {
     /// Before the first octet.
-    fn new(alloc: Global) -> Scan {
+    fn new(alloc: Global, document: &'static str) -> Scan {
         Scan {
             alloc,
             open: Vec::new(alloc),
@@ -69,6 +71,7 @@ impl Scan {
             escaped: false,
             start: 0,
             line: 1,
+            document,
         }
     }
 
@@ -100,7 +103,8 @@ impl Scan {
             return Ok(());
         }
         story.sentence(&[
-            Piece::Text("line "),
+            Piece::Text(self.document),
+            Piece::Text(", line "),
             Piece::Number(self.line),
             Piece::Text(": member \""),
             Piece::Octets(part(text, start, end)),
@@ -144,8 +148,13 @@ impl Scan {
 
 /// Tells the members that stand twice in an object of a JSON text, which is valid, by the lines of the second ones. Of
 /// each object its first 64 names are looked at, as they are spelled.
-pub(crate) fn tell_twice(alloc: Global, story: &mut Story, text: &[u8]) -> Result<(), AllocError> {
-    let mut scan = Scan::new(alloc);
+pub(crate) fn tell_twice(
+    alloc: Global,
+    story: &mut Story,
+    document: &'static str,
+    text: &[u8],
+) -> Result<(), AllocError> {
+    let mut scan = Scan::new(alloc, document);
     for place in 0..text.len() {
         scan.take(story, text, place)?;
     }

@@ -22,6 +22,9 @@ pub(crate) fn tell_packet(
 ) -> Result<(), AllocError> {
     story.tell(&[Piece::Text("the packet: ")])?;
     tell_class(story, documents, packet.class, packet.path)?;
+    if documents.traffic.classes().exempts(packet) {
+        story.tell(&[Piece::Text(" (exempt: it may not be counted)")])?;
+    }
     for axis in EVERY_AXIS {
         let value = packet.fields.get(axis);
         if value != 0 {
@@ -33,7 +36,10 @@ pub(crate) fn tell_packet(
             ])?;
         }
     }
-    story.sentence(&[Piece::Text(", octets "), Piece::Number(packet.octets)])
+    story.sentence(&[
+        Piece::Text(", 0 in all other fields, octets "),
+        Piece::Number(packet.octets),
+    ])
 }
 
 /// Tells the cache at which a packet is metered.
@@ -75,10 +81,18 @@ fn tell_occurrences(
         tell_occurrence(story, device, occurrence)?;
         separator = "; ";
     }
-    if occurrences.is_empty() {
-        story.tell(&[Piece::Text(": nothing there meters it")])?;
-    }
     Ok(())
+}
+
+/// Tells why a packet isn't metered at a crossing.
+fn tell_unmetered(story: &mut Story, plan: &Plan, crossing: &Crossing) -> Result<(), AllocError> {
+    let points = plan.net().points_of(crossing.device);
+    let seen = points.iter().any(|point| point.watches(crossing));
+    story.tell(&[Piece::Text(if seen {
+        ": it isn't metered there, since no selection process of a point that sees it selects it and has a cache"
+    } else {
+        ": it isn't metered there, since no observation point sees that interface and direction"
+    })])
 }
 
 /// Tells that a packet of this number makes a crossing, and where it is metered.
@@ -98,6 +112,9 @@ fn tell_metering(
     tell_crossing(story, plan, crossing)?;
     let occurrences = plan.net().occurrences(alloc, crossing, &packet.fields)?;
     tell_occurrences(story, plan, crossing.device, occurrences.as_slice())?;
+    if occurrences.as_slice().is_empty() {
+        tell_unmetered(story, plan, crossing)?;
+    }
     story.end_line()
 }
 

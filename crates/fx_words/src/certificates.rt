@@ -11,9 +11,10 @@ pub const CERTIFICATES: &[Row] = &[
     (
         refusals::CERTIFICATE_HEADER,
         "The first line isn't that of a certificate: once-certificate 2, or once-certificate 1.",
-        "a run or a refutation in the certificate's place, the files in another order, lines \
-         that end in CR and LF, or a byte order mark in front.",
-        "Give the text that `once audit` has written, as it is; lines end in LF alone.",
+        "a refutation in the certificate's place, which `once audit` writes too and `once confirm` \
+         takes; a run, the files in another order, lines that end in CR and LF, or a byte order \
+         mark in front.",
+        "Give a certificate that `once audit` has written, as it is; lines end in LF alone.",
         "FORMATS, a certificate",
     ),
     (
@@ -59,8 +60,9 @@ pub const CERTIFICATES: &[Row] = &[
          region only.",
         "the bound of a filter lies inside the region, perhaps on an axis that the class doesn't \
          name, as ipVersion.",
-        "Split the region at the filter's bound, as `once audit` does, or name the axis in the \
-         class's region.",
+        "Audit again, which splits regions at the bounds of filters; or split there by hand, as a \
+         line `S AXIS AT`, where AT is a number in decimal (64.0.0.0 is 1073741824); or name the \
+         axis in the class's region.",
         "RFC 5475, section 6.1; FORMATS, a certificate",
     ),
     (
@@ -100,14 +102,15 @@ pub const CERTIFICATES: &[Row] = &[
         "numbers that are counted from 0 or in another list, or documents whose entries have \
          moved since the certificate was written. CROSSING counts on the path, POINT among the \
          observation points of the crossing's device, PROCESS in the point's list.",
-        "Write the place that `once audit` writes.",
+        "Audit again, and take the line `L CROSSING POINT PROCESS` that it writes.",
         "FORMATS, a certificate",
     ),
     (
         refusals::LINE_BEHIND_END,
         "A line stands behind the line `end`.",
-        "an empty line at the end of the text, or two certificates in one file.",
-        "Take out what stands behind `end` and its line feed.",
+        "an empty line at the end of the text, two certificates in one file, or the sentences that \
+         `once audit --words` writes behind a certificate.",
+        "Take out what stands behind `end` and its line feed, or audit again without --words.",
         "FORMATS, a certificate",
     ),
     (

@@ -22,11 +22,11 @@ pub const DEVICES: &[Row] = &[
         refusals::UNKNOWN_MEMBER,
         "An object has a member that may not be there.",
         "a misspelled name, a member of the configuration model that isn't read here (as \
-         ifIndex), a member in the wrong object, or another document in this one's place, as a \
-         traffic declaration where the network is due.",
+         ifIndex, or one of another module), a member in the wrong object, or another document in \
+         this one's place: a traffic declaration where the network is due, or the reverse.",
         "Look the object up in docs/FORMATS.md, and correct the name, move the member or take it \
          out.",
-        "RFC 6728, section 4; FORMATS, a device",
+        "RFC 6728, section 4; FORMATS, the object's table",
     ),
     (
         refusals::MISSING_MEMBER,
@@ -36,16 +36,17 @@ pub const DEVICES: &[Row] = &[
          prefixLength, or another document in this one's place.",
         "The place is the object that lacks the member, or the empty list; where the place is \
          empty, it is the whole document. Add what docs/FORMATS.md marks there with a star.",
-        "FORMATS, a network and a device",
+        "FORMATS, the object's table",
     ),
     (
         refusals::WRONG_KIND,
         "A value is of another JSON kind than its member wants.",
-        "a number in quotes, a single value where a list is due, or null where an empty type is \
+        "a number of a configuration in quotes, a bare number in a region (its values are texts, \
+         as \"80\"), a single value or an object where a list is due, or null where an empty type is \
          written [null].",
-        "Write numbers bare, names and addresses as texts, lists in brackets, and empty types as \
-         [null].",
-        "RFC 7951, section 6",
+        "Write numbers of a configuration bare, names, addresses and the values of regions as \
+         texts, lists in brackets, and empty types as [null].",
+        "RFC 7951, section 6; FORMATS",
     ),
     (
         refusals::BAD_VALUE,

@@ -11,10 +11,11 @@ pub const REFUTATIONS: &[Row] = &[
     (
         refusals::REFUTATION_FORM,
         "A line has no form of a refutation's lines, or one is missing.",
-        "an empty file, a run or a certificate in the refutation's place, a packet's line of \
-         another version than the first line, a second packet, lines that end in CR and LF, or \
-         more than 1,000,000 steps.",
-        "Give the text that `once audit` has written, as it is: once-refutation 2, one packet, \
+        "a certificate in the refutation's place, which `once audit` writes too and `once check` \
+         takes; an empty file, a run, a packet's line of another version than the first line, a \
+         second packet, lines that end in CR and LF, the sentences of `once audit --words` behind \
+         `end`, or more than 1,000,000 steps.",
+        "Give a refutation that `once audit` has written, as it is: once-refutation 2, one packet, \
          its steps, `end`.",
         "FORMATS, a refutation",
     ),
