@@ -15,6 +15,7 @@ class 1 \"web\", path 1: m1 eth0 ingress
 the leaf names crossing 1 (m1 eth0 ingress), observation point \"op\"; there is no selection process 2
 region: source 10.0.0.0 to 10.255.255.255
 crossing 1 (m1 eth0 ingress): observation point \"op\", selection process \"sp\" selects all of these packets, cache \"ca\": exporting process \"ex\" sends to destination \"d\", which is linked to collecting process \"cp\" of c1
+collecting process \"cp\" of c1 is the report's
 ";
 
 /// A run that ends before its record leaves the cache.
@@ -25,8 +26,9 @@ end
 ";
 
 const REFUTATION_STORY: &[u8] =
-    b"the packet: class 1 \"web\", path 1, source 10.0.0.1, destination 192.0.2.1, protocol 6, sport 1000, dport 80, version 4, octets 100
+    b"the packet: class 1 \"web\", path 1, source 10.0.0.1, destination 192.0.2.1, protocol 6, sport 1000, dport 80, version 4, 0 in all other fields, octets 100
 1. packet 1 crosses m1 eth0 ingress: cache \"ca\" holds a record of it
+no record reaches the report
 ";
 
 /// A run in which a record leaves a position at which none stands.
@@ -38,7 +40,7 @@ end
 ";
 
 const RUN_WORDS: &[u8] = b"line 4: expire cache 1 1 2
-a record leaves cache \"ca\" of m1: exporting process \"ex\" sends to destination \"d\", which is linked to collecting process \"cp\" of c1
+this step can't be made: a record leaves cache \"ca\" of m1: exporting process \"ex\" sends to destination \"d\", which is linked to collecting process \"cp\" of c1
 ";
 
 const DOCUMENT_WORDS: &[u8] = b"file: net.json
