@@ -19,7 +19,8 @@ use fx_audit::{
     Answer, audit_bytes, check_bytes, collect_bytes, confirm_bytes, lint_both_bytes, lint_bytes,
     replay_bytes, run_bytes,
 };
-use fx_base::{Fault, LineReader, Outside, Sink};
+use fx_base::{Fault, LineReader, Outside, Sink, Source};
+use fx_layout::Seed;
 use fx_link::Nowhere;
 use std::random::RandomSource;
 use std::rt::{Clock, Files};
@@ -164,6 +165,30 @@ fn audit<R: AllocGlobal + Clock + Eprint + Files, S: Sink>(
     answer
 }
 
+/// Runs a network over a capture, as a schedule says, with the octets of each link in a file of its own, whose name begins
+/// with a prefix.
+fn run_onto_files<R: AllocGlobal + Files, N: Source, T: Source, C: Source, Q: Source, S: Sink>(
+    rt: &R,
+    seed: Seed,
+    prefix: &str,
+    network: &mut N,
+    traffic: &mut T,
+    capture: C,
+    schedule: &mut LineReader<Q>,
+    notes: &mut Notes,
+    sink: &mut S,
+) -> Result<Answer, Fault>
+    ensures { AnswersWith S.taken S.failed IsRunText sink.old sink.new result }
+{
+    let alloc = rt.alloc();
+    let mut files = LinkFiles::new(alloc, rt, prefix, notes.failing_files());
+    let answer = run_bytes(
+        alloc, seed, network, traffic, capture, schedule, &mut files, sink,
+    );
+    notes.failed_file = files.into_failed_file();
+    answer
+}
+
 /// Runs the network over the capture in these files, as the schedule says. The octets of each link go to a file of its
 /// own where a prefix of their names is given, and nowhere else.
 fn run_capture<R: AllocGlobal + Clock + Eprint + Files + RandomSource, S: Sink>(
@@ -189,21 +214,17 @@ fn run_capture<R: AllocGlobal + Clock + Eprint + Files + RandomSource, S: Sink>(
     let mut lines = LineReader::new(rt.alloc(), schedule)?;
     let alloc = rt.alloc();
     let answer = match links {
-        Some(prefix) => {
-            let mut files = LinkFiles::new(alloc, rt, prefix, notes.failing_files());
-            let answer = run_bytes(
-                alloc,
-                seed,
-                &mut network,
-                &mut traffic,
-                capture,
-                &mut lines,
-                &mut files,
-                sink,
-            );
-            notes.failed_file = files.into_failed_file();
-            answer
-        }
+        Some(prefix) => run_onto_files(
+            rt,
+            seed,
+            prefix,
+            &mut network,
+            &mut traffic,
+            capture,
+            &mut lines,
+            notes,
+            sink,
+        ),
         None => run_bytes(
             alloc,
             seed,
