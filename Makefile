@@ -79,6 +79,7 @@ run-rows:
 	python3 tests/callers.py
 	python3 tests/refusals.py --compare
 	python3 tests/schemas.py ./once
+	python3 tests/yang_module.py
 	python3 tests/rows.py ./once
 	python3 tests/rows_in_words.py ./once
 	python3 tests/terminal.py ./once

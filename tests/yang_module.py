@@ -1,0 +1,125 @@
+#!/usr/bin/env python3
+"""yang_module.py: has yanglint (Debian's package `libyang2-tools`) look at docs/schemas/once-audit.yang.
+
+The module itself must be right; the documents of examples must be data of it, and some with a fault mustn't. What the
+module imports, `ietf-ipfix-psamp` of RFC 6728, isn't in this repository: it is looked for in the folders of the variable
+YANG_MODPATH, with colons between them, and where yanglint itself looks. Where yanglint or that module isn't there, a line
+says so, and nothing is looked at. Prints last `N passed, M failed`.
+"""
+import copy
+import glob
+import json
+import os
+import shutil
+import subprocess
+import sys
+import tempfile
+
+from schema_cases import reading
+
+TOP = os.path.dirname(os.path.dirname(os.path.abspath(__file__)))
+MODULE = os.path.join(TOP, "docs", "schemas", "once-audit.yang")
+IMPORTED = "ietf-ipfix-psamp"
+AGGREGATION = "once-audit:aggregation"
+AGGREGATED = "~1/collectingProcess/0/once-audit:aggregation/0"
+FEATURES = ["-F", IMPORTED + ":collector,exporter"]
+# Faults that a YANG module can tell: names twice, and names that stand for nothing.
+WRONG = [
+    ("network", "/devices/2/name", '"router"'),
+    ("network", "/links/-", "@/links/0"),
+    ("network", "/links/0/toDevice", '"nobody"'),
+    ("network", "/report/device", '"nobody"'),
+    ("network", "/report/key/0/prefixLength", ""),
+    ("network", "/report/key/0/prefixLength", "33"),
+    ("network", "/report/key/0/ieName", '"sourceIPv4Prefix"'),
+    ("network", AGGREGATED + "/key/0/prefixLength", "0"),
+    ("network", AGGREGATED + "/match/0/values", '"10.0.0.0/8"'),
+    ("network", AGGREGATED + "/exportingProcess", "7"),
+    ("traffic", "/classes/1/name", '"customers"'),
+    ("traffic", "/classes/0/paths/0/0/device", '"nobody"'),
+    ("traffic", "/classes/0/paths/0/0/direction", '"both"'),
+    ("traffic", "/classes/0/region/sourceIPv4Address", '"10.0.0.0/33"'),
+    ("traffic", "/classes/0/exempt", '"yes"'),
+]
+
+
+def lint(*words):
+    folders = [word for folder in os.environ.get("YANG_MODPATH", "").split(":") if folder for word in ("-p", folder)]
+    run = subprocess.run(["yanglint", *folders, *FEATURES, MODULE, *words], stdout=subprocess.PIPE, stderr=subprocess.STDOUT,
+                         text=True, timeout=60)
+    return run.returncode, run.stdout
+
+
+def data_of(network, traffic):
+    """The documents as data of the module: each path of a class is an object there, and configurations are left out."""
+    network, traffic = copy.deepcopy(network), copy.deepcopy(traffic)
+    for device in network["devices"]:
+        device["config"] = {}
+    for entry in traffic["classes"]:
+        entry["paths"] = [{"crossings": path} for path in entry["paths"]]
+        if entry.get("exempt") is True:
+            entry["exempt"] = [None]
+    return {"once-audit:network": network, "once-audit:traffic": traffic}
+
+
+def aggregations_of(network):
+    """The aggregations of all devices as data that augments their collecting processes."""
+    found = []
+    for device in network["devices"]:
+        for process in device["config"]["ietf-ipfix-psamp:ipfix"].get("collectingProcess", []):
+            name = "%s of %s" % (process["name"], device["name"])
+            found.append({"name": name, AGGREGATION: process.get(AGGREGATION, [])})
+    return {"ietf-ipfix-psamp:ipfix": {"collectingProcess": found}}
+
+
+def refused(folder, network, traffic):
+    """What yanglint says against the documents, or nothing. Of aggregations it is asked for form and types alone (`get`)."""
+    for kind, data in (("data", data_of(network, traffic)), ("get", aggregations_of(network))):
+        path = os.path.join(folder, "data.json")
+        with open(path, "w", encoding="utf-8") as file:
+            json.dump(data, file)
+        status, said = lint("-t", kind, path)
+        if status or said:
+            return said.strip()[:300] or "status %d" % status
+    return None
+
+
+def faults():
+    """What is wrong, or nothing, of each thing that is looked at."""
+    status, said = lint()
+    yield "once-audit.yang: " + said.strip() if status or said else None
+    with tempfile.TemporaryDirectory() as folder:
+        for example in sorted(glob.glob(TOP + "/examples/*/network.json")):
+            documents = []
+            for kind in ("network", "traffic"):
+                with open(os.path.join(os.path.dirname(example), kind + ".json"), encoding="utf-8") as file:
+                    documents.append(json.load(file))
+            said = refused(folder, *documents)
+            yield said and "%s: %s" % (os.path.relpath(example, TOP), said)
+        for kind, place, text in WRONG:
+            documents = {name: reading.document(name) for name in ("network", "traffic")}
+            documents[kind] = reading.changed(kind, place, text)
+            said = refused(folder, documents["network"], documents["traffic"])
+            yield None if said else "taken: %s %s %s" % (kind, place, text)
+
+
+def main():
+    why = None
+    if not shutil.which("yanglint"):
+        why = "there is no yanglint (Debian's package `libyang2-tools`)"
+    elif '"%s" not found' % IMPORTED in lint()[1]:
+        why = "the module %s (RFC 6728) isn't there; YANG_MODPATH names its folder" % IMPORTED
+    if why:
+        print("once-audit.yang wasn't looked at: " + why)
+        print("0 passed, 0 failed")
+        return 0
+    found = list(faults())
+    failed = [fault for fault in found if fault]
+    for fault in failed:
+        print(fault)
+    print("%d passed, %d failed" % (len(found) - len(failed), len(failed)))
+    return 1 if failed else 0
+
+
+if __name__ == "__main__":
+    sys.exit(main())
