@@ -138,6 +138,13 @@ def faults_of_table(seen, counts):
             yield None
 
 
+def faults_of_shared(schemas):
+    """Of each definition that both schemas have, what is wrong, or nothing: it says the same in both."""
+    network, traffic = (schemas[kind].schema["$defs"] for kind in ("network", "traffic"))
+    for name in sorted(network.keys() & traffic.keys()):
+        yield None if network[name] == traffic[name] else "docs/schemas: %s differs between the two schemas" % name
+
+
 def main(program):
     try:
         import jsonschema
@@ -149,6 +156,7 @@ def main(program):
     found = list(faults_of_stored(program, schemas, seen))
     found += faults_of_cases(program, schemas, counts)
     found += faults_of_table(seen, counts)
+    found += faults_of_shared(schemas)
     failed = [fault for fault in found if fault]
     for fault in failed:
         print(fault)
