@@ -67,9 +67,9 @@ wrong: kit
 	python3 tests/wrong_bodies.py --kept --jobs 2 $(NAME)
 
 # Compares the lists of definitions to believe, and looks at clauses and crates.txt; then holds the schemas of documents
-# against the program, and runs it over the worked rows, over long certificates, with growths of its memory refused, with
-# reads and writes failed, with full files, over inputs that were changed or cut, and over keys that were chosen to be slow
-# to find.
+# and what the tools write against the program, and runs it over the worked rows, over long certificates, with growths of
+# its memory refused, with reads and writes failed, with full files, over inputs that were changed or cut, and over keys
+# that were chosen to be slow to find.
 rows: once run-rows
 
 run-rows:
@@ -80,6 +80,7 @@ run-rows:
 	python3 tests/refusals.py --compare
 	python3 tests/schemas.py ./once
 	python3 tests/yang_module.py
+	python3 tests/tools.py ./once
 	python3 tests/rows.py ./once
 	python3 tests/rows_in_words.py ./once
 	python3 tests/terminal.py ./once
@@ -152,7 +153,7 @@ install:
 	install -D -m 644 -t $(SHARE)/doc/once README.md
 	install -D -m 644 -t $(SHARE)/doc/once/docs $(DOCUMENTS)
 	install -D -m 644 -t $(SHARE)/doc/once/docs/schemas docs/schemas/*
-	cd examples && find . -type f -exec install -D -m 644 {} "$(abspath $(SHARE))/doc/once/examples/{}" \;
+	cd examples && find . -type f ! -name '*.pyc' -exec install -D -m 644 {} "$(abspath $(SHARE))/doc/once/examples/{}" \;
 
 uninstall:
 	rm -f $(BIN)/once $(SHARE)/man/man1/once.1 $(SHARE)/bash-completion/completions/once $(ZSH)/_once

@@ -26,6 +26,7 @@ judge() {
 printf 'yes\n' > "$made/yes"
 for folder in "$examples"/*/; do
     folder=${folder%/} documents="$folder/network.json $folder/traffic.json"
+    [ -e "$folder/network.json" ] || continue
     for file in "$folder"/run*.txt "$folder"/certificate*.txt "$folder"/refutation*.txt "$folder"/capture.pcap; do
         [ -e "$file" ] || continue
         case ${file##*/} in

@@ -1,5 +1,5 @@
 #!/usr/bin/env python3
-"""pages.py PROGRAM: runs the command lines of README.md and docs/GUIDE.md as they are written, and compares what they print.
+"""pages.py PROGRAM: runs the command lines of pages for users as they are written, and compares what they print.
 
 Blocks that are set in by four spaces and begin with `$ ` are run, those of one heading in one session from the top of the
 repository: each line behind `$ `, with PROGRAM as `once`, and what it prints must be the lines behind it. Blocks without
@@ -12,7 +12,7 @@ import sys
 import tempfile
 
 TOP = os.path.dirname(os.path.dirname(os.path.abspath(__file__)))
-PAGES = ["README.md", "docs/GUIDE.md"]
+PAGES = ["README.md", "docs/GUIDE.md", "examples/tools/README.md"]
 # What a reader does by hand behind a sentence, as a command.
 BY_HAND = {
     "To mend it, take the second observation point": """python3 - <<'END'

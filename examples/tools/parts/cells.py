@@ -1,0 +1,111 @@
+"""What stands in a cell: names, keys, filters, regions."""
+from parts import elements
+
+LONGEST = 255
+
+
+def listed(cell):
+    """The entries of a cell that has a list: between commas; - is none."""
+    return [] if cell == "-" else [entry.strip() for entry in cell.split(",")]
+
+
+def is_name(text):
+    return text != "" and text == text.strip() and len(text.encode()) <= LONGEST
+
+
+def name(row, text, faults):
+    """Whether a text may be a name."""
+    if is_name(text):
+        return True
+    cure = "write 1 to 255 octets without white space at either end, and no empty entry"
+    faults.add(row.line, "%r is no name" % text, cure)
+    return False
+
+
+def names(row, cell, faults):
+    """The names of a cell."""
+    found = []
+    for text in listed(cell):
+        if text in found:
+            faults.add(row.line, "%s stands twice" % text, "take one of them out")
+        elif name(row, text, faults):
+            found.append(text)
+    return found
+
+
+def word(row, cell, words, what, faults):
+    """One of a few words."""
+    if cell in words:
+        return cell
+    faults.add(row.line, "there is no %s %s" % (what, cell), "write one of: " + ", ".join(words))
+    return None
+
+
+def axes(row, cell, faults):
+    """The axes that a cache's flows are told apart by."""
+    found = []
+    for text in listed(cell):
+        if text not in elements.AXES:
+            faults.add(row.line, "%s can't be a flow key" % text, "write elements of: " + ", ".join(elements.AXES))
+        elif text in found:
+            faults.add(row.line, "%s stands twice" % text, "take one of them out")
+        else:
+            found.append(text)
+    return found
+
+
+def key(row, cell, faults):
+    """The fields of a key of a report or an aggregation: axes, and prefixes as sourceIPv4Prefix/24."""
+    found, seen = [], set()
+    for text in listed(cell):
+        element, slash, bits = text.partition("/")
+        if element in elements.PREFIXES:
+            most = elements.BITS[elements.PREFIXES[element]]
+            right = elements.is_number(bits, 1, most)
+            cure = "write %s/n, n from 1 to %d" % (element, most)
+        else:
+            right = element in elements.AXES and not slash
+            cure = "write an axis (%s) or a prefix with its length (sourceIPv4Prefix/24)" % ", ".join(elements.AXES)
+        if not right:
+            faults.add(row.line, "%s can't be a field of a key" % text, cure)
+        elif elements.axis_of(element) in seen:
+            faults.add(row.line, "%s is on an axis that stands there before" % text, "take one of them out")
+        else:
+            seen.add(elements.axis_of(element))
+            found.append({"ieName": element, "prefixLength": int(bits)} if slash else {"ieName": element})
+    return found
+
+
+def pairs(row, cell, known, fits, faults):
+    """The elements of a cell with their values, as ipVersion=4; `all` is none."""
+    found = []
+    for text in listed(cell) if cell != "all" else []:
+        element, equals, value = text.partition("=")
+        if element not in known or not equals:
+            cure = "write all, or ELEMENT=VALUE with one of: " + ", ".join(known)
+            faults.add(row.line, "%s is no element with its value" % text, cure)
+        elif not fits(element, value):
+            cure = "write " + elements.form_of(element)
+            if fits is elements.is_range:
+                cure += ", or low-high" + (" or address/n" if element in elements.ADDRESSES else "")
+            faults.add(row.line, "%s has no value %s" % (element, value), cure)
+        else:
+            found.append((element, value))
+    return found
+
+
+def filters(row, cell, faults):
+    """What packets or records must have."""
+    known = elements.AXES + list(elements.PREFIXES)
+    found = pairs(row, cell, known, elements.is_value, faults)
+    return [{"ieName": element, "value": value} for element, value in found]
+
+
+def region(row, cell, faults):
+    """The values that a class's packets have."""
+    found = {}
+    for element, value in pairs(row, cell, elements.AXES, elements.is_range, faults):
+        if element in found:
+            faults.add(row.line, "%s stands twice" % element, "write one range, or two classes")
+        found[element] = value
+    return found

@@ -1,0 +1,114 @@
+#!/usr/bin/env python3
+"""tools.py PROGRAM: runs the tools of examples/tools, and has the program look at what they write.
+
+Each folder of tests/tools is a case, run in a copy:
+
+  words         the tool and its words; TOOLS is the folder examples/tools
+  status        its exit status
+  stderr        what it must print on standard error (no file: nothing)
+  stdout.json   the document that it must print (no file: nothing)
+  network.json, traffic.json
+                the documents that it must write as made.json and made-traffic.json (no file: none)
+  expects       another case, whose documents these are
+
+Documents are compared as values. Each must be in order for `lint`; an audit of what the tables of examples/tools tell must
+answer with a certificate to which `check` says yes. Prints a line for each fault, and last `N passed, M failed`.
+"""
+import glob
+import json
+import os
+import shlex
+import shutil
+import subprocess
+import sys
+import tempfile
+
+TOP = os.path.dirname(os.path.dirname(os.path.abspath(__file__)))
+TOOLS = os.path.join(TOP, "examples", "tools")
+CASES = os.path.join(TOP, "tests", "tools")
+MADE = {"network.json": "made.json", "traffic.json": "made-traffic.json"}
+
+
+def text_of(folder, name, default=""):
+    path = os.path.join(folder, name)
+    if not os.path.exists(path):
+        return default
+    with open(path, encoding="utf-8") as file:
+        return file.read()
+
+
+def value_of(text):
+    """The value of a document, or nothing where there is no text."""
+    return json.loads(text) if text else None
+
+
+def run(words, folder):
+    return subprocess.run(words, cwd=folder, stdout=subprocess.PIPE, stderr=subprocess.PIPE, text=True, timeout=60)
+
+
+def tool(words, folder):
+    """Runs a tool; Python keeps no compiled files beside it."""
+    words = [word.replace("TOOLS", TOOLS) for word in words]
+    return run([sys.executable, "-B", os.path.join(TOOLS, words[0]), *words[1:]], folder)
+
+
+def faults_of(program, case, folder):
+    """What is wrong with a case that runs in this folder."""
+    ran = tool(shlex.split(text_of(case, "words")), folder)
+    if ran.returncode != int(text_of(case, "status")):
+        yield "status %d" % ran.returncode
+    if ran.stderr != text_of(case, "stderr"):
+        yield "printed %r on standard error" % ran.stderr[:2000]
+    wanted = value_of(text_of(case, "stdout.json"))
+    if value_of(ran.stdout) != wanted:
+        yield "printed %s" % ran.stdout[:2000]
+    if wanted is not None:
+        with open(os.path.join(folder, "made.json"), "w", encoding="utf-8") as file:
+            file.write(ran.stdout)
+    expected = os.path.join(CASES, text_of(case, "expects", os.path.basename(case)).strip())
+    for name, made in MADE.items():
+        found, text = value_of(text_of(folder, made)), text_of(expected, name)
+        if (text or wanted is None) and found != value_of(text):
+            yield "wrote %s as %s" % (json.dumps(found)[:2000], name)
+    files = [made for made in MADE.values() if os.path.exists(os.path.join(folder, made))]
+    if files and run([program, "lint", *files], folder).stdout != "ok\n":
+        yield "`lint` doesn't say ok of what it wrote"
+
+
+def faults_of_table(program, table, folder):
+    """What is wrong with the documents that a table of examples/tools tells."""
+    files = list(MADE.values())
+    ran = tool(["network_from_table.py", table, *files], folder)
+    if ran.returncode or ran.stderr:
+        yield "status %d and %r" % (ran.returncode, ran.stderr[:2000])
+        return
+    answer = run([program, "audit", *files], folder)
+    with open(os.path.join(folder, "answer"), "w", encoding="utf-8") as file:
+        file.write(answer.stdout)
+    if run([program, "check", *files, "answer"], folder).stdout != "yes\n":
+        yield "audited with %r" % answer.stdout[:200]
+
+
+def main(program):
+    passed = failed = 0
+    cases = [(faults_of, path) for path in sorted(glob.glob(CASES + "/*"))]
+    cases += [(faults_of_table, path) for path in sorted(glob.glob(TOOLS + "/*.table"))]
+    for faults, path in cases:
+        with tempfile.TemporaryDirectory() as made:
+            folder = os.path.join(made, "case")
+            shutil.copytree(path, folder) if os.path.isdir(path) else os.mkdir(folder)
+            for name in MADE:
+                if os.path.exists(os.path.join(folder, name)):
+                    os.remove(os.path.join(folder, name))
+            found = list(faults(program, path, folder))
+        passed, failed = passed + (not found), failed + bool(found)
+        for fault in found:
+            print("%s: %s" % (os.path.relpath(path, TOP), fault))
+    print("%d passed, %d failed" % (passed, failed))
+    return 1 if failed else 0
+
+
+if __name__ == "__main__":
+    if len(sys.argv) != 2:
+        sys.exit(__doc__)
+    sys.exit(main(os.path.abspath(sys.argv[1])))
