@@ -12,7 +12,9 @@ Each folder of tests/tools is a case, run in a copy:
   expects       another case, whose documents these are
 
 Documents are compared as values. Each must be in order for `lint`; an audit of what the tables of examples/tools tell must
-answer with a certificate to which `check` says yes. Prints a line for each fault, and last `N passed, M failed`.
+answer with a certificate to which `check` says yes. What a network of pmacctd totals, of the stream that pmacctd has sent
+and of the capture that it was sent for, must be what the rows of tests/rows with that stream want. Prints a line for each
+fault, and last `N passed, M failed`.
 """
 import glob
 import json
@@ -89,14 +91,36 @@ def faults_of_table(program, table, folder):
         yield "audited with %r" % answer.stdout[:200]
 
 
+def faults_of_stream(program, row, folder):
+    """What is wrong with the network of pmacctd that reports by the key of a row, over the row's stream and capture."""
+    with open(os.path.join(row, "network.json"), encoding="utf-8") as file:
+        key = ",".join(field["ieName"] for field in json.load(file)["report"]["key"])
+    ran = tool(["network_from_exporter.py", "--key", key, "pmacctd", "-N", "-i", "eth0", "-P", "nfprobe"], folder)
+    crossing = {"device": "meter", "interface": "eth0", "direction": "ingress"}
+    traffic = json.dumps({"classes": [{"name": "all", "paths": [[crossing]]}]})
+    for name, text in (("network.json", ran.stdout), ("traffic.json", traffic)):
+        with open(os.path.join(folder, name), "w", encoding="utf-8") as file:
+            file.write(text)
+    wanted = text_of(row, "stdout")
+    collected = run([program, "collect", "network.json", os.path.join(row, "stream.ipfix")], folder).stdout
+    if collected != wanted:
+        yield "collected %r" % collected[:2000]
+    capture = os.path.join(TOP, "tests", "rows", "stream-of-pmacctd", "capture.pcap")
+    metered = run([program, "run", "network.json", "traffic.json", capture, "/dev/null"], folder).stdout
+    sums = [text.partition("gaps ")[0].partition("skipped ")[0] for text in (metered, wanted)]
+    if sums[0] != sums[1]:
+        yield "metered %r" % metered[:2000]
+
+
 def main(program):
     passed = failed = 0
     cases = [(faults_of, path) for path in sorted(glob.glob(CASES + "/*"))]
     cases += [(faults_of_table, path) for path in sorted(glob.glob(TOOLS + "/*.table"))]
+    cases += [(faults_of_stream, path) for path in sorted(glob.glob(TOP + "/tests/rows/stream-of-pmacctd*"))]
     for faults, path in cases:
         with tempfile.TemporaryDirectory() as made:
             folder = os.path.join(made, "case")
-            shutil.copytree(path, folder) if os.path.isdir(path) else os.mkdir(folder)
+            shutil.copytree(path, folder) if faults is faults_of else os.mkdir(folder)
             for name in MADE:
                 if os.path.exists(os.path.join(folder, name)):
                     os.remove(os.path.join(folder, name))
