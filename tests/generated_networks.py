@@ -179,9 +179,10 @@ def generated(draw, count):
 def examples():
     """The networks of examples/ with their traffic, by folder."""
     top = os.path.dirname(os.path.dirname(os.path.realpath(__file__)))
-    for folder in sorted(glob.glob(os.path.join(top, "examples", "*", ""))):
+    for network_file in sorted(glob.glob(os.path.join(top, "examples", "*", "network.json"))):
+        folder = os.path.dirname(network_file)
         documents = [json.load(open(os.path.join(folder, name), encoding="utf-8")) for name in ("network.json", "traffic.json")]
-        yield os.path.basename(os.path.dirname(folder)), documents
+        yield os.path.basename(folder), documents
 
 
 def main():

@@ -1,10 +1,10 @@
 #!/usr/bin/env python3
 """yang_module.py: has yanglint (Debian's package `libyang2-tools`) look at docs/schemas/once-audit.yang.
 
-The module itself must be right; the documents of examples must be data of it, and some with a fault mustn't. What the
-module imports, `ietf-ipfix-psamp` of RFC 6728, isn't in this repository: it is looked for in the folders of the variable
-YANG_MODPATH, with colons between them, and where yanglint itself looks. Where yanglint or that module isn't there, a line
-says so, and nothing is looked at. Prints last `N passed, M failed`.
+The module itself must be right; the documents of examples must be data of it, and some with a fault mustn't. What
+the module imports, `ietf-ipfix-psamp` of RFC 6728, isn't in this repository: it is looked for in the folders of the
+variable YANG_MODPATH, with colons between them, and where yanglint itself looks. Where yanglint or that module isn't
+there, a line says so, and nothing is looked at. Prints last `N passed, M failed`.
 """
 import copy
 import glob
@@ -44,9 +44,11 @@ WRONG = [
 
 
 def lint(*words):
-    folders = [word for folder in os.environ.get("YANG_MODPATH", "").split(":") if folder for word in ("-p", folder)]
-    run = subprocess.run(["yanglint", *folders, *FEATURES, MODULE, *words], stdout=subprocess.PIPE, stderr=subprocess.STDOUT,
-                         text=True, timeout=60)
+    folders = []
+    for folder in filter(None, os.environ.get("YANG_MODPATH", "").split(":")):
+        folders += ["-p", folder]
+    how = {"stdout": subprocess.PIPE, "stderr": subprocess.STDOUT, "text": True, "timeout": 60}
+    run = subprocess.run(["yanglint", *folders, *FEATURES, MODULE, *words], **how)
     return run.returncode, run.stdout
 
 
@@ -73,7 +75,7 @@ def aggregations_of(network):
 
 
 def refused(folder, network, traffic):
-    """What yanglint says against the documents, or nothing. Of aggregations it is asked for form and types alone (`get`)."""
+    """What yanglint says against the documents, or nothing; of aggregations it looks at form and types (`get`)."""
     for kind, data in (("data", data_of(network, traffic)), ("get", aggregations_of(network))):
         path = os.path.join(folder, "data.json")
         with open(path, "w", encoding="utf-8") as file:

@@ -30,8 +30,9 @@ def documents_of(row):
 
 
 def told(row):
-    """What a row tells of its network and of its traffic: taken, a number, unread, or that the program has to be asked."""
-    answer, status = octets_of(row, "stdout").decode(errors="replace"), octets_of(row, "status").decode().strip()
+    """What a row tells of its network and of its traffic: taken, a number, unread, or that the program has to tell."""
+    answer = octets_of(row, "stdout").decode(errors="replace")
+    status = octets_of(row, "status").decode().strip()
     refused = re.match(r"refused ([123]\d\d) ?(.*)", answer)
     if not refused:
         return (TAKEN, TAKEN) if status in ("0", "1", "2", "3") else (ASK, ASK)
