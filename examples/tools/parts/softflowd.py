@@ -81,6 +81,8 @@ def tell(options, meter):
     """What an audit can't be told, option by option."""
     meter.lost.append("softflowd sends counters of 4 octets, which once refuses (110 in a document, 618 in a stream): "
                       "the document has them in 8, so it speaks of records whose sums stay below 4,294,967,296")
+    meter.lost.append("softflowd counts what a frame has behind its link header, padding too: on Ethernet a packet of "
+                      "less than 46 octets counts as 46; the document counts the packet")
     if "-s" in options and options["-s"] not in ("0", "1"):
         meter.lost.append("-s %s: sampling. A total over a sample isn't exact (108); the document meters all packets"
                           % options["-s"])
