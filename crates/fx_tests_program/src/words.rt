@@ -96,7 +96,10 @@ fn reads_words(rt: HostRuntime) -> Result<(), Fail> {
         ("once run A B --links=-E C D", "run|A|B|C|D|-E"),
         ("once run A B C D", "run|A|B|C|D|"),
         ("once lint net.json", "lint|net.json|"),
-        ("once lint net.json traffic.json", "lint|net.json|traffic.json"),
+        (
+            "once lint net.json traffic.json",
+            "lint|net.json|traffic.json",
+        ),
         ("once lint -- -x", "lint|-x|"),
         ("once explain 409", "explain|409"),
     ] {
