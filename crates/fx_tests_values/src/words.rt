@@ -26,8 +26,9 @@ fn finds_words_by_number(rt: HostRuntime) {
 /// What is written of 411, a number that has words, and of 416, one that has none.
 const WORDS: &[u8] = b"411
 wrong: A line stands behind the line `end`.
-usually: an empty line at the end of the text, or two certificates in one file.
-what to do: Take out what stands behind `end` and its line feed.
+usually: an empty line at the end of the text, two certificates in one file, or the sentences \
+that `once audit --words` writes behind a certificate.
+what to do: Take out what stands behind `end` and its line feed, or audit again without --words.
 see: FORMATS, a certificate
 wrong: The program was refused memory.
 usually: a limit of the system or of a container, or more flows, steps or documents at once than \
