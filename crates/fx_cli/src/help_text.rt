@@ -57,7 +57,8 @@ Files:
   NETWORK      JSON: \"devices\", \"links\", \"report\"
   TRAFFIC      JSON: \"classes\" with regions and paths
   CERTIFICATE  lines: `once-certificate 1` (2 where a class is exempt); for each path `class C path P` and its tree of `S AXIS AT` (a split) and
-               `L CROSSING POINT PROCESS` (a leaf; `N` in an exempt class); `end`
+               `L CROSSING POINT PROCESS` (a leaf; `N` in an exempt class); `end`. AXIS is source, destination,
+               protocol, sport, dport, tos, version, source6 or destination6, AT a number in decimal
 
 Prints `yes` (status 0) only where every complete run counts each packet exactly once; or `no NUMBER line N` (status 1)
 with what is wrong first: 401 to 405, 411, 412, 414 are about the text, 406 to 410, 413, 415 about the network. A

@@ -203,11 +203,18 @@ fn put_refused_words<R: AllocGlobal + Files + RandomSource, S: Sink>(
     fault: &Fault,
     sink: &mut S,
 ) -> Result<(), Fault> {
+    // A line that is too long can't be told.
+    if fault.number == refusals::LONG_LINE {
+        return Ok(());
+    }
     if fault.number < refusals::CERTIFICATE_FIRST {
         return put_document_place(rt, call, notes, fault, sink);
     }
     match call {
         Some(Call::Replay { run, .. }) => put_step_words(rt, run.as_str(), notes, fault, sink),
+        Some(Call::Run { schedule, .. }) => {
+            put_step_words(rt, schedule.as_str(), notes, fault, sink)
+        }
         _ => Ok(()),
     }
 }

@@ -5,7 +5,7 @@ ghost use Rattle.fx_base.specs.Fault.{IsMemory};
 ghost use Rattle.fx_stories.specs.Stories.{WritesStory};
 
 use crate::again::{plan_again, value_again};
-use crate::elements::tell_value;
+use crate::elements::{tell_allowed, tell_value};
 use crate::ends::{
     tell_cycle, tell_link_ends, tell_report_end, tell_unknown_device, tell_unknown_name,
 };
@@ -76,7 +76,10 @@ fn tell_at(
         | refusals::KEY_WITHOUT_AXIS
         | refusals::REPORT_KEY
         | refusals::CLASS_TWICE
-        | refusals::TRAFFIC_VALUE => tell_value(alloc, story, value),
+        | refusals::TRAFFIC_VALUE => {
+            tell_value(alloc, story, value)?;
+            tell_allowed(story, last_member(pointer), refused.traffic.is_none())
+        }
         _ => tell_names(story, &refused.network, value, pointer, number),
     }
 }

@@ -81,6 +81,21 @@ fn tell_key(story: &mut Story, object: &Value) -> Result<(), AllocError> {
     Ok(())
 }
 
+/// Tells which words a member may have, of a network's document or of a traffic declaration, where they are few.
+pub(crate) fn tell_allowed(
+    story: &mut Story,
+    member: &str,
+    is_network: bool,
+) -> Result<(), AllocError> {
+    let words: &'static str = match member {
+        "direction" if is_network => "ingress, egress or both",
+        "direction" => "ingress or egress",
+        "exportMode" => "parallel, loadBalancing or fallback",
+        _ => return Ok(()),
+    };
+    story.sentence(&[Piece::Text("allowed there: "), Piece::Text(words)])
+}
+
 /// Tells a value that isn't allowed, as far as it is short, and what is wrong with the elements that it names.
 pub(crate) fn tell_value(
     alloc: Global,

@@ -3,6 +3,55 @@ use crate::story::{Piece, Story};
 use serde_json::{Error, Value};
 use std::alloc::{AllocError, Global};
 
+/// How many octets before a place are told.
+const TOLD: usize = 60;
+
+/// What is wrong with a text from its first octets on, or where it has none.
+fn beginning_words(octets: &[u8]) -> Option<&'static str> {
+    if octets.is_empty() {
+        return Some("the file is empty");
+    }
+    if octets.starts_with(b"\xef\xbb\xbf") {
+        return Some("the text begins with a byte order mark (octets EF BB BF): take it out");
+    }
+    if octets.starts_with(b"\xff\xfe") || octets.starts_with(b"\xfe\xff") {
+        return Some("the text is in UTF-16: write it in UTF-8");
+    }
+    None
+}
+
+/// Where a line of a text begins, by its number, from 1.
+fn start_of_line(octets: &[u8], line: usize) -> usize {
+    let mut number: usize = 1;
+    let mut start: usize = 0;
+    for place in 0..octets.len() {
+        if number < line && octets[place] == b'\n' {
+            number = number.saturating_add(1);
+            start = place.saturating_add(1);
+        }
+    }
+    start
+}
+
+/// Tells the octets of a line before a column, at most 60.
+fn tell_before(
+    story: &mut Story,
+    octets: &[u8],
+    line: usize,
+    column: usize,
+) -> Result<(), AllocError> {
+    let start = start_of_line(octets, line);
+    let end = start.saturating_add(column).min(octets.len());
+    let first = start.max(end.saturating_sub(TOLD));
+    match octets.get(first..end) {
+        Some(before) => story.sentence(&[
+            Piece::Text("what stands there, up to that place: "),
+            Piece::Octets(before),
+        ]),
+        None => Ok(()),
+    }
+}
+
 /// How JSON that is too deep, or a number that is too large, is told.
 fn limit_words(reason: &str) -> &'static str {
     match reason {
@@ -58,7 +107,11 @@ pub(crate) fn tell_json(alloc: Global, story: &mut Story, octets: &[u8]) -> Resu
             if error.is_memory() {
                 return Err(AllocError);
             }
-            tell_error(alloc, story, &error)
+            tell_error(alloc, story, &error)?;
+            match beginning_words(octets) {
+                Some(words) => story.sentence(&[Piece::Text(words)]),
+                None => tell_before(story, octets, error.line(), error.column()),
+            }
         }
     }
 }

@@ -81,10 +81,11 @@ fn story_of(alloc: Global, network: &[u8], traffic: Option<&[u8]>) -> Result<Sto
 }
 
 /// Writes in sentences what is read in silence in a network's document that is accepted, and in a traffic declaration:
-/// members that stand twice in an object, of which the last one counts; members that nothing reads; destinations without
-/// a link; caches that no selection process feeds; classes that are exempt, or that there are none; crossings whose interface is at no observation point, and paths of
-/// which no observation point sees a crossing. Where there is nothing of the kind, nothing is written. The text has no
-/// control characters but line feeds.
+/// members that stand twice in an object, of which the last one counts; members that nothing reads; observation points,
+/// selection processes, caches, destinations and aggregations that lead nowhere; caches and collecting processes that
+/// nothing feeds; classes that are exempt, or that there are none; crossings whose interface is at no observation point,
+/// and paths of which no observation point sees a crossing. Where there is nothing of the kind, nothing is written. The
+/// text has no control characters but line feeds.
 ///
 /// Fails with 900 for want of memory, and then nothing is written; with 902 where a write fails.
 pub fn put_lint_words<S: Sink>(

@@ -8,8 +8,11 @@ use crate::again::{Documents, documents_again};
 use crate::lines::{tell_line, tell_line_numbered, unless_wrong};
 use crate::steps::tell_step;
 use crate::story::{Piece, Story};
-use fx_base::{Fault, Line, LineReader, Place, Room, Sink, Source, put_text, refusals};
+use fx_base::{
+    Fault, Line, LineReader, Place, Room, Sink, Source, entry_numbered, put_text, refusals,
+};
 use fx_machine::State;
+use fx_refute::read_refutation;
 use fx_run_text::{Run, Step, put_step_line, read_run};
 use std::alloc::{AllocError, Global};
 
@@ -63,6 +66,33 @@ fn tell_run(alloc: Global, story: &mut Story, documents: &Documents, run: &Run) 
     Ok(())
 }
 
+/// Tells the step of a refutation at the line of this number, which can't be made.
+fn tell_refutation_step<C: Source>(
+    alloc: Global,
+    story: &mut Story,
+    network: &[u8],
+    traffic: &[u8],
+    lines: &mut LineReader<C>,
+    number: u64,
+) -> Result<(), Fault>
+    ensures { IfErr result IsUntold }
+{
+    let Some(documents) = documents_again(alloc, network, traffic)? else {
+        return Ok(());
+    };
+    let Some(refutation) = unless_wrong(read_refutation(alloc, lines))? else {
+        return Ok(());
+    };
+    // The first line is the form's, the second the packet's.
+    if let Some(step) = entry_numbered(refutation.steps(), number.saturating_sub(2)) {
+        let packets = [*refutation.packet()];
+        tell_step_line(story, number, step)?;
+        story.tell(&[Piece::Text("this step can't be made: ")])?;
+        tell_step(alloc, story, &documents, &packets, step)?;
+    }
+    Ok(())
+}
+
 /// Tells the first step that is refused of the run that lines say.
 fn tell_refused_step<C: Source>(
     alloc: Global,
@@ -93,7 +123,11 @@ fn story_of<C: Source>(
 {
     let mut story = Story::new(alloc);
     if let Place::Line(number) = &fault.place {
-        tell_line_numbered(&mut story, lines, *number)?;
+        if fault.number == refusals::REFUTATION_STEP {
+            tell_refutation_step(alloc, &mut story, network, traffic, lines, *number)?;
+        } else {
+            tell_line_numbered(&mut story, lines, *number)?;
+        }
     } else if (refusals::STEP_NOT_ENABLED..=refusals::NO_RECORD_THERE).contains(&fault.number) {
         tell_refused_step(alloc, &mut story, network, traffic, lines)?;
     }
@@ -101,7 +135,7 @@ fn story_of<C: Source>(
 }
 
 /// Writes in sentences what a refusal of a run or of a refutation is about. A refusal at a line: that line, at most 200
-/// octets of it. One of 851 to 853: the line of the first step of the run that is refused, with its number, and what it
+/// octets of it, and of a refutation's step that can't be made what it names. One of 851 to 853: the line of the first step of the run that is refused, with its number, and what it
 /// names. The documents are those over which the run was refused, the lines those of its text, opened anew. What can't
 /// be told is left out. The text has no control characters but line feeds.
 ///

@@ -1,9 +1,9 @@
-//! Destinations without a link, and caches that nothing feeds.
+//! What leads nowhere, and what nothing feeds.
 use crate::story::{Piece, Story};
 use fx_base::Name;
-use fx_config::{Cache, ExportingProcess, SelectionProcess};
+use fx_config::{Cache, CollectingProcess, ExportingProcess, SelectionProcess};
 use fx_plan::Plan;
-use fx_topology::{LinkTable, NetworkDevice};
+use fx_topology::{LinkTable, NamedLink, NetworkDevice};
 use std::alloc::AllocError;
 
 /// Tells the destinations of an exporting process that have no link.
@@ -84,19 +84,115 @@ fn tell_caches(story: &mut Story, device: &NetworkDevice) -> Result<(), AllocErr
     Ok(())
 }
 
-/// Tells what of a device leads nowhere.
+/// Tells something by its kind and name, and what of it leads nowhere.
+fn tell_end<'x>(
+    story: &mut Story,
+    kind: &'static str,
+    name: &'x Name,
+    device: &'x Name,
+    words: &'static str,
+) -> Result<(), AllocError> {
+    story.sentence(&[
+        Piece::Text(kind),
+        Piece::Text(" "),
+        Piece::Quoted(name.as_str()),
+        Piece::Text(" of "),
+        Piece::Text(device.as_str()),
+        Piece::Text(words),
+    ])
+}
+
+/// Tells the points and selection processes of a device by which no packet is metered.
+fn tell_unmetered(story: &mut Story, device: &NetworkDevice) -> Result<(), AllocError> {
+    for point in device.config.observation_points.as_slice() {
+        if point.selection_processes.as_slice().is_empty() {
+            let words = " has no selection process, so nothing there is metered";
+            tell_end(story, "observation point", &point.name, &device.name, words)?;
+        }
+    }
+    for process in device.config.selection_processes.as_slice() {
+        if process.cache.is_none() {
+            let words = " has no cache, so what it selects isn't metered";
+            tell_end(
+                story,
+                "selection process",
+                &process.name,
+                &device.name,
+                words,
+            )?;
+        }
+    }
+    Ok(())
+}
+
+/// Tells the caches of a device whose records go nowhere.
+fn tell_unexported(story: &mut Story, device: &NetworkDevice) -> Result<(), AllocError> {
+    for cache in device.config.caches.as_slice() {
+        if cache.exporting_processes.as_slice().is_empty() {
+            let words = " has no exporting process, so its records are lost";
+            tell_end(story, "cache", &cache.name, &device.name, words)?;
+        }
+    }
+    Ok(())
+}
+
+/// Tells the aggregations of a collecting process whose records go nowhere.
+fn tell_unsent(
+    story: &mut Story,
+    device: &NetworkDevice,
+    process: &CollectingProcess,
+) -> Result<(), AllocError> {
+    for aggregation in process.aggregations.as_slice() {
+        if aggregation.exporting_processes.as_slice().is_empty() {
+            let words = " has no exporting process, so its records are lost";
+            tell_end(story, "aggregation", &aggregation.name, &device.name, words)?;
+        }
+    }
+    Ok(())
+}
+
+/// Tells the collecting processes of a device to which no link leads, and their aggregations whose records go nowhere.
+fn tell_collecting(
+    story: &mut Story,
+    links: &[NamedLink],
+    device: &NetworkDevice,
+) -> Result<(), AllocError> {
+    for process in device.config.collecting_processes.as_slice() {
+        let linked = links.iter().any(|link| {
+            link.to_device == device.name && link.to_process == process.name
+        });
+        if !linked {
+            let words = " has no link that leads to it";
+            tell_end(
+                story,
+                "collecting process",
+                &process.name,
+                &device.name,
+                words,
+            )?;
+        }
+        tell_unsent(story, device, process)?;
+    }
+    Ok(())
+}
+
+/// Tells what of a device leads nowhere, and what nothing feeds.
 fn tell_device(
     story: &mut Story,
     links: &LinkTable,
     device: &NetworkDevice,
 ) -> Result<(), AllocError> {
+    tell_unmetered(story, device)?;
+    tell_caches(story, device)?;
+    tell_unexported(story, device)?;
     for process in device.config.exporting_processes.as_slice() {
         tell_destinations(story, links, &device.name, process)?;
     }
-    tell_caches(story, device)
+    tell_collecting(story, links.as_slice(), device)
 }
 
-/// Tells the destinations of a network that have no link, and the caches that no selection process feeds.
+/// Tells the observation points, selection processes, caches, destinations and aggregations of a network that lead
+/// nowhere, and the caches and collecting processes that nothing feeds.
 pub(crate) fn tell_unused(story: &mut Story, plan: &Plan) -> Result<(), AllocError> {
     let network = plan.network();
     for device in network.devices.as_slice() {
