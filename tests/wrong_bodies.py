@@ -89,6 +89,18 @@ def build_below(crates, words):
     return True
 
 
+def judge_again(trial, edits, files):
+    """Judges once more, with all functions proved, what wasn't refused over contracts alone: a contract that couldn't stand in
+    for its function isn't the edit's fault."""
+    lost = [place for place, it in enumerate(edits) if not it.verdict[0]]
+    if not lost or not trial.copies.proved:
+        return
+    trial.copies.proved = []
+    for place in lost:
+        edits[place] = Edit(trial.crate.folder, files[place])
+    trial.judge([edits[place] for place in lost])
+
+
 def try_crate(rt, crate, files, others, words):
     """Tries a crate's edits, prints a line for each, and returns how many passed and failed, and the seconds used."""
     edits = [Edit(crate.folder, it) for it in files]
@@ -99,7 +111,11 @@ def try_crate(rt, crate, files, others, words):
         os.makedirs(f"{room}/kept", exist_ok=True)
         proved = proved_in(crate) if words.as_built or crate.is_built() else []
         trial = Trial(rt.rtlib, crate, f"{room}/kept", proved, words.jobs, words.show)
-        (trial.control if words.control else trial.judge)(edits)
+        if words.control:
+            trial.control(edits)
+        else:
+            trial.judge(edits)
+            judge_again(trial, edits, files)
     rows = [f"{crate.name}/{it.name}: {it.verdict[1]}" for it in edits]
     rows += [f"{crate.name}/{it}: BAD EDIT: its name doesn't end in .edit" for it in others]
     twins = sum(it.kind == TWIN for it in edits)

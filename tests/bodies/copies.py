@@ -62,14 +62,16 @@ class Copies:
 
 
 def proved_in(crate):
-    """Returns the paths below proofs/ of the functions that the crate's built library proves, less closures and cycles of calls."""
+    """Returns the paths below proofs/ of the functions that the crate's built library has, less closures, cycles of calls and what
+    traits only declare. Only a proved crate has a library; where it keeps statements alone, their names begin with `part/`."""
     rows = read(f"{crate.rlib}/toolchain/checked.json").split("\n")
-    names = {json.loads(it)[0] for it in rows if it.startswith("[")}
-    front, parts = f"Rattle-{crate.name}-proofs.", ("Code", "Met", "Statement", "Tie")
-    for it in sorted(it for it in names if it.startswith(front) and it.endswith(".Proof")):
-        module = it[: -len(".Proof")]
+    names = {json.loads(it)[0].removeprefix("part/") for it in rows if it.startswith("[")}
+    front, end = f"Rattle-{crate.name}-proofs.", ".Code"
+    for it in sorted(it for it in names if it.startswith(front) and it.endswith(end)):
+        module = it[: -len(end)]
         at = module[len(front) :].split(".")
-        if {f"{module}.{own}" for own in parts} <= names and "fn" not in at and "+" not in module:
+        is_declared = f"{module}.Statement" in names and f"{module}.Met" not in names
+        if "fn" not in at and "+" not in module and not is_declared:
             yield at
 
 
