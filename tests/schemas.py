@@ -7,7 +7,7 @@ says that it sees the number; of a case it refuses what the case says, and the c
 seen, none, or both where a number is seen in part. Rows tell by what they expect which documents are taken; of the
 others and of the cases `lint` tells.
 
-It needs Python's `jsonschema`; where that isn't there, nothing is held. Prints a line for each fault, and last
+It needs Python's `jsonschema`, of version 4 or later; where that isn't there, nothing is held. Prints a line for each fault, and last
 `N passed, M failed`. The exit status is 1 where something failed.
 """
 import concurrent.futures
@@ -24,14 +24,14 @@ TOP = os.path.dirname(os.path.dirname(os.path.abspath(__file__)))
 SCHEMAS = os.path.join(TOP, "docs", "schemas")
 
 
-def validators(jsonschema):
+def validators(validator):
     """A validator of each kind of document, by its name; the schemas themselves are held against their draft."""
     made = {}
     for kind in ("network", "traffic"):
         with open(os.path.join(SCHEMAS, kind + ".schema.json"), encoding="utf-8") as file:
             schema = json.load(file)
-        jsonschema.Draft202012Validator.check_schema(schema)
-        made[kind] = jsonschema.Draft202012Validator(schema)
+        validator.check_schema(schema)
+        made[kind] = validator(schema)
     return made
 
 
@@ -147,12 +147,12 @@ def faults_of_shared(schemas):
 
 def main(program):
     try:
-        import jsonschema
+        from jsonschema import Draft202012Validator
     except ImportError:
-        print("schemas: python3 has no jsonschema, so nothing is held against them")
+        print("schemas: python3 has no jsonschema of version 4 or later, so nothing is held against them")
         print("0 passed, 0 failed")
         return 0
-    schemas, seen, counts = validators(jsonschema), table(), {}
+    schemas, seen, counts = validators(Draft202012Validator), table(), {}
     found = list(faults_of_stored(program, schemas, seen))
     found += faults_of_cases(program, schemas, counts)
     found += faults_of_table(seen, counts)
