@@ -11,6 +11,8 @@ import subprocess
 import sys
 import tempfile
 
+from verdict import told
+
 ROW = os.path.join(os.path.dirname(os.path.abspath(__file__)), "rows", "certificate-of-one-leaf")
 SOURCES = (10 * 2**24, 11 * 2**24 - 1)
 
@@ -58,18 +60,15 @@ def faults(program, path, wanted, status):
         yield "printed %r on standard error" % run.stderr[:300]
 
 
+def cases(program, path):
+    for splits, wanted, status in WANTED:
+        write_certificate(path, splits)
+        yield "%d splits" % splits, faults(program, path, wanted, status)
+
+
 def main(program):
-    passed = failed = 0
     with tempfile.TemporaryDirectory() as folder:
-        path = os.path.join(folder, "certificate.txt")
-        for splits, wanted, status in WANTED:
-            write_certificate(path, splits)
-            found = list(faults(os.path.abspath(program), path, wanted, status))
-            passed, failed = passed + (not found), failed + bool(found)
-            for fault in found:
-                print("%d splits: %s" % (splits, fault))
-    print("%d passed, %d failed" % (passed, failed))
-    return 1 if failed else 0
+        return told(cases(os.path.abspath(program), os.path.join(folder, "certificate.txt")))
 
 
 if __name__ == "__main__":

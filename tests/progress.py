@@ -18,6 +18,7 @@ import time
 TESTS = os.path.dirname(os.path.abspath(__file__))
 sys.path.insert(0, os.path.join(os.path.dirname(TESTS), "bench"))
 from audit import FILTERS, metered, paths
+from verdict import told
 
 PATHS = 1_996
 PAUSE = 1.2
@@ -98,15 +99,8 @@ def cases(program, folder):
 
 
 def main(program):
-    passed = failed = 0
     with tempfile.TemporaryDirectory() as folder:
-        for name, found in cases(os.path.abspath(program), folder):
-            found = list(found)
-            passed, failed = passed + (not found), failed + bool(found)
-            for fault in found:
-                print("%s: %s" % (name, fault))
-    print("%d passed, %d failed" % (passed, failed))
-    return 1 if failed else 0
+        return told(cases(os.path.abspath(program), folder))
 
 
 if __name__ == "__main__":

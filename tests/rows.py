@@ -24,6 +24,8 @@ import subprocess
 import sys
 import tempfile
 
+from verdict import told
+
 ROWS = os.path.join(os.path.dirname(os.path.abspath(__file__)), "rows")
 
 
@@ -107,14 +109,8 @@ def unconfirmed(program, row, documents, refutation, steps):
 
 
 def main(program, names, faults=faults):
-    passed = failed = 0
-    for name in names:
-        found = list(faults(os.path.abspath(program), os.path.join(ROWS, name)))
-        passed, failed = passed + (not found), failed + bool(found)
-        for fault in found:
-            print("%s: %s" % (name, fault))
-    print("%d passed, %d failed" % (passed, failed))
-    return 1 if failed else 0
+    program = os.path.abspath(program)
+    return told((name, faults(program, os.path.join(ROWS, name))) for name in names)
 
 
 if __name__ == "__main__":

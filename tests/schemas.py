@@ -19,6 +19,7 @@ import sys
 import tempfile
 
 from schema_cases import reading, told
+from verdict import told_each
 
 TOP = os.path.dirname(os.path.dirname(os.path.abspath(__file__)))
 SCHEMAS = os.path.join(TOP, "docs", "schemas")
@@ -157,11 +158,7 @@ def main(program):
     found += faults_of_cases(program, schemas, counts)
     found += faults_of_table(seen, counts)
     found += faults_of_shared(schemas)
-    failed = [fault for fault in found if fault]
-    for fault in failed:
-        print(fault)
-    print("%d passed, %d failed" % (len(found) - len(failed), len(failed)))
-    return 1 if failed else 0
+    return told_each(found)
 
 
 if __name__ == "__main__":

@@ -16,6 +16,7 @@ import sys
 import tempfile
 
 from schema_cases import reading
+from verdict import told_each
 
 TOP = os.path.dirname(os.path.dirname(os.path.abspath(__file__)))
 MODULE = os.path.join(TOP, "docs", "schemas", "once-audit.yang")
@@ -115,12 +116,7 @@ def main():
         print("once-audit.yang wasn't looked at: " + why)
         print("0 passed, 0 failed")
         return 0
-    found = list(faults())
-    failed = [fault for fault in found if fault]
-    for fault in failed:
-        print(fault)
-    print("%d passed, %d failed" % (len(found) - len(failed), len(failed)))
-    return 1 if failed else 0
+    return told_each(faults())
 
 
 if __name__ == "__main__":
