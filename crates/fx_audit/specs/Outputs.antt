@@ -9,12 +9,6 @@ use Rattle.fx_audit.specs.declared.answer.Answer.{Answer}
 abbrev pub Prints : (List ℕ → Type 0) → Option (List ℕ) → Option (List ℕ) → Type 0
 Prints IsText old new = (text : List ℕ) × IsText text × Writes old new text
 
--- this text is written, or a write fails
-abbrev pub PutsText : {S A : Type 0} → (S → Option (List ℕ)) → (S → Bool) → List ℕ → S → S → Result A Fault → Type 0
-PutsText taken failed text old new result =
-    OnOk result (Writes (taken old) (taken new) text)
-    × (OnOk result (KeepsGoing (failed old) (failed new)) × IfErr result (IsWriteFault (failed new)))
-
 -- no write has failed where there is a result; where there is none, nothing is written, or a write has failed
 abbrev pub FailsQuietly : {S A : Type 0} → (S → Bool) → S → S → Result A Fault → Type 0
 FailsQuietly failed old new result =

@@ -1,8 +1,8 @@
 //! What a command answers.
 ghost use Rattle.std.specs.Prelude.{◌≡◌, ◌⊎◌, IfOk, IfErr};
-ghost use Rattle.fx_base.specs.Device.{Writes, IsWriteFault};
+ghost use Rattle.fx_base.specs.Device.{IsWriteFault, PutsText, Writes};
 ghost use Rattle.fx_audit.specs.Checks.{IsWithin, no_line};
-ghost use Rattle.fx_audit.specs.Outputs.{FailsQuietly, PutsText};
+ghost use Rattle.fx_audit.specs.Outputs.{FailsQuietly};
 ghost use Rattle.fx_audit.specs.declared.answer.Answer.TheVariants.{No};
 
 use fx_base::{Fault, Sink, put_fault, put_text};

@@ -1,13 +1,13 @@
 //! The command that audits a network, from octets to octets.
 ghost use Rattle.std.specs.Prelude.{◌≡◌, ◌⊎◌, IfOk, IfErr};
-ghost use Rattle.fx_base.specs.Device.{Writes, IsWriteFault};
+ghost use Rattle.fx_base.specs.Device.{IsWriteFault, PutsText, Writes};
 ghost use Rattle.fx_base.specs.Fault.{IsMemory};
 ghost use Rattle.fx_base.specs.Refusals.{search_too_large};
 ghost use Rattle.fx_search.specs.Found.{certificate_text};
 ghost use Rattle.fx_audit.specs.Audits.{IsAuditedIn, IsFoundText, unknown_line};
 ghost use Rattle.fx_audit.specs.Commands.{IsAudited};
 ghost use Rattle.fx_audit.specs.Documents.{BothMayHaveLeft, CannotRead, IfNetworkRefused, IsRefusedByDocuments};
-ghost use Rattle.fx_audit.specs.Outputs.{AnswersWith, FailsQuietly, Prints, PutsText};
+ghost use Rattle.fx_audit.specs.Outputs.{AnswersWith, FailsQuietly, Prints};
 ghost use Rattle.fx_audit.specs.Texts.{IsAuditText};
 ghost use Rattle.fx_audit.specs.declared.answer.Answer.TheVariants.{Unknown};
 

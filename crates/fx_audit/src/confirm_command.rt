@@ -1,13 +1,13 @@
 //! The command that confirms a refutation, from octets to octets.
 ghost use Rattle.std.specs.Prelude.{◌≡◌, ◌⊎◌, IfOk, IfErr};
-ghost use Rattle.fx_base.specs.Device.{IsWriteFault};
+ghost use Rattle.fx_base.specs.Device.{IsWriteFault, PutsText};
 ghost use Rattle.fx_base.specs.Fault.{IsMemory};
 ghost use Rattle.fx_base.specs.Lines.{Fails};
 ghost use Rattle.fx_collect.specs.Report.{KeysAscend};
 ghost use Rattle.fx_audit.specs.Commands.{IsConfirmed, IsRefusedConfirm};
 ghost use Rattle.fx_audit.specs.Confirms.{IsConfirmedIn, IsRefusedOtherwise, IsRefusedRefutation, IsRefuted, refuted_text};
 ghost use Rattle.fx_audit.specs.Documents.{BothMayHaveLeft, CannotRead, IfDocumentsRefused, IfNetworkRefused};
-ghost use Rattle.fx_audit.specs.Outputs.{AnswersWith, FailsBy, Prints, PutsText};
+ghost use Rattle.fx_audit.specs.Outputs.{AnswersWith, FailsBy, Prints};
 ghost use Rattle.fx_audit.specs.Texts.{IsConfirmText};
 ghost use Rattle.fx_audit.specs.declared.answer.Answer.TheVariants.{Yes, No};
 

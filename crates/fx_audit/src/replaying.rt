@@ -1,6 +1,6 @@
 //! A run replayed over the tables of a network.
 ghost use Rattle.std.specs.Prelude.{◌≡◌, ◌⊎◌, ℕ, List, None, Ok, Err, All, OnOk, IfOk, IfErr, ◌++◌};
-ghost use Rattle.fx_base.specs.Device.{Writes, IsWriteFault};
+ghost use Rattle.fx_base.specs.Device.{IsWriteFault, PutsText, Writes};
 ghost use Rattle.fx_base.specs.Fault.{IsMemory};
 ghost use Rattle.fx_base.specs.declared.fault.Place.TheVariants as places;
 ghost use Rattle.fx_base.specs.Refusals.{want_of_memory};
@@ -8,7 +8,7 @@ ghost use Rattle.fx_machine.specs.States as states;
 ghost use Rattle.fx_machine.specs.Steps as stepping;
 ghost use Rattle.fx_collect.specs.Totals.{totals_of, totals_in};
 ghost use Rattle.fx_collect.specs.Report.{totals_text, KeysAscend};
-ghost use Rattle.fx_audit.specs.Outputs.{FailsQuietly, Prints, PutsText};
+ghost use Rattle.fx_audit.specs.Outputs.{FailsQuietly, Prints};
 ghost use Rattle.fx_audit.specs.Replay.{complete_line, IsRefused, IsTextOf};
 ghost use Rattle.fx_audit.specs.declared.answer.Answer.TheVariants.{Yes};
 

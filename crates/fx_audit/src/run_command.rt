@@ -1,6 +1,6 @@
 //! The command that runs a network over a capture, from octets to octets.
 ghost use Rattle.std.specs.Prelude.{◌≡◌, ◌⊎◌, ℕ, List, Err, OnOk, IfOk, IfErr, IfSome};
-ghost use Rattle.fx_base.specs.Device.{MayHaveLeft, Writes, IsWriteFault, KeepsGoing};
+ghost use Rattle.fx_base.specs.Device.{IsWriteFault, KeepsGoing, MayHaveLeft, PutsText, Writes};
 ghost use Rattle.fx_base.specs.Fault.{IsMemory};
 ghost use Rattle.fx_base.specs.declared.fault.Fault.{Fault};
 ghost use Rattle.fx_pcap.specs.Captures.{IsUnreadable};
@@ -8,7 +8,7 @@ ghost use Rattle.fx_pcap.specs.Records.{format_of};
 ghost use Rattle.fx_net.specs.Running.{FailsOutside};
 ghost use Rattle.fx_audit.specs.Documents.{BothMayHaveLeft, CannotRead, IfDocumentsRefused, IfNetworkRefused};
 ghost use Rattle.fx_audit.specs.Metering.{IsMetered, IsMeteredIn, IsMeteredText, IsRun, skipped_line, IsRefusedOver, IsRefusedMetering};
-ghost use Rattle.fx_audit.specs.Outputs.{AnswersWith, FailsQuietly, Prints, PutsText};
+ghost use Rattle.fx_audit.specs.Outputs.{AnswersWith, FailsQuietly, Prints};
 ghost use Rattle.fx_audit.specs.Texts.{IsRunText};
 ghost use Rattle.fx_audit.specs.declared.answer.Answer.TheVariants.{Yes};
 

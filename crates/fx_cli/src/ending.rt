@@ -1,6 +1,6 @@
 //! How a command ends.
 ghost use Rattle.std.specs.Prelude.{◌≡◌, ◌++◌, IfErr, IfOk, Ok};
-ghost use Rattle.fx_audit.specs.Outputs.{PutsText};
+ghost use Rattle.fx_base.specs.Device.{PutsText};
 ghost use Rattle.fx_cli.specs.Ending.{EndsWith, IsExitStatus, refusal_line, refusal_status, status};
 
 use fx_audit::Answer;

@@ -1,8 +1,6 @@
 -- Refusals as they are written.
-use Rattle.std.specs.Prelude.{ℕ, Bool, List, [], ◌∷◌, ◌++◌, codes, decimal, Option, Some, None, Result, OnOk, IfErr}
+use Rattle.std.specs.Prelude.{ℕ, List, [], ◌∷◌, ◌++◌, codes, decimal, Option, Some, None}
 use Rattle.std.specs.List.{flat_map}
-use Rattle.fx_base.specs.Device.{IsWriteFault, KeepsGoing, Writes}
-use Rattle.fx_base.specs.declared.fault.Fault.{Fault}
 use Rattle.fx_words.specs.Words.{Words}
 
 -- a text of its own line behind a word, or nothing where there is no text
@@ -38,9 +36,3 @@ list_line row = decimal row.number ++ (codes "  " ++ (row.wrong ++ codes "\n"))
 -- rows, each in a line
 abbrev pub list_text : List Words → List ℕ
 list_text rows = flat_map list_line rows
-
--- this text is written, or a write fails
-abbrev pub PutsText : {S A : Type 0} → (S → Option (List ℕ)) → (S → Bool) → List ℕ → S → S → Result A Fault → Type 0
-PutsText taken failed text old new result =
-    OnOk result (Writes (taken old) (taken new) text)
-    × (OnOk result (KeepsGoing (failed old) (failed new)) × IfErr result (IsWriteFault (failed new)))

@@ -1,9 +1,10 @@
 //! Refusals written out in words. Nothing here takes memory.
 ghost use Rattle.std.specs.Prelude.{◌≡◌, IfOk, map};
+ghost use Rattle.fx_base.specs.Device.{PutsText};
 ghost use Rattle.fx_base.specs.Refusals.{is_refusal_number};
 ghost use Rattle.fx_words.specs.Words.{words_at, words_of};
 ghost use Rattle.fx_words.specs.Table.{row_of, table};
-ghost use Rattle.fx_words.specs.Texts.{PutsText, explanation_of, explanation_text, line_behind, list_text, reason_of, reason_text};
+ghost use Rattle.fx_words.specs.Texts.{explanation_of, explanation_text, line_behind, list_text, reason_of, reason_text};
 
 use crate::lookup::refusal_of;
 use crate::refusal::{Refusal, Row};
