@@ -318,6 +318,10 @@ run_form = 855
 abbrev pub run_packet : ℕ
 run_packet = 856
 
+-- a text isn't that of totals of the report, or a line of it isn't in its place
+abbrev pub totals_form : ℕ
+totals_form = 861
+
 -- ---- what the program runs on
 
 -- want of memory
@@ -358,8 +362,8 @@ refusal_numbers =
     ∷ prefix_length ∷ capture_format ∷ link_type ∷ capture_cut
     ∷ long_capture_record ∷ schedule_or_bundle ∷ nothing_there ∷ not_in_named_class
     ∷ in_no_class ∷ step_not_enabled ∷ wrong_choices ∷ no_record_there
-    ∷ run_header ∷ run_form ∷ run_packet ∷ want_of_memory
-    ∷ failed_read ∷ failed_write ∷ long_line ∷ []
+    ∷ run_header ∷ run_form ∷ run_packet ∷ totals_form
+    ∷ want_of_memory ∷ failed_read ∷ failed_write ∷ long_line ∷ []
 
 -- a number is one of them
 abbrev pub is_refusal_number : ℕ → Bool

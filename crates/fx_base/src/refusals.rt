@@ -2,7 +2,8 @@
 //!
 //! A number that was used once is never used for anything else. The first digit tells what is refused: 1 a device, 2 a
 //! network, 3 a traffic declaration, 4 a certificate, 5 a refutation, 6 a search (601) or a stream, 7 a capture, 8 a
-//! schedule, a bundle or a run, 9 what the program runs on. `specs/Refusals` has them as definitions, and a list of all.
+//! schedule, a bundle, a run or totals, 9 what the program runs on. `specs/Refusals` has them as definitions, and a list
+//! of all.
 
 /// A document is no JSON text in UTF-8 (RFC 8259).
 pub const NOT_JSON: u16 = 101;
@@ -161,6 +162,8 @@ pub const RUN_HEADER: u16 = 854;
 pub const RUN_FORM: u16 = 855;
 /// A packet of a run isn't in its class.
 pub const RUN_PACKET: u16 = 856;
+/// A text isn't that of totals of the report, or a line of it isn't in its place.
+pub const TOTALS_FORM: u16 = 861;
 
 /// Want of memory.
 pub const WANT_OF_MEMORY: u16 = 900;

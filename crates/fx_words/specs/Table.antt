@@ -40,7 +40,7 @@ streams = map (λ r. words_at r.0 r.1.now r.2.now r.3.now r.4.now) STREAMS.now
 unfoldable pub captures : List Words
 captures = map (λ r. words_at r.0 r.1.now r.2.now r.3.now r.4.now) CAPTURES.now
 
--- the refusals of bundles, schedules and runs
+-- the refusals of bundles, schedules, runs and totals
 unfoldable pub runs : List Words
 runs = map (λ r. words_at r.0 r.1.now r.2.now r.3.now r.4.now) RUNS.now
 

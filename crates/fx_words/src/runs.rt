@@ -1,4 +1,4 @@
-//! The refusals of bundles, schedules and runs.
+//! The refusals of bundles, schedules, runs and totals.
 ghost use Rattle.std.specs.Prelude.{◌≡◌, map};
 ghost use Rattle.fx_words.specs.Table.{runs};
 ghost use Rattle.fx_words.specs.Words.{words_at};
@@ -101,6 +101,15 @@ pub const RUNS: &[Row] = &[
         "Name a class whose region holds all fields of the packet, and one of that class's \
          paths.",
         "FORMATS, a run",
+    ),
+    (
+        refusals::TOTALS_FORM,
+        "A text isn't that of totals of the network's report, or a line of it isn't in its place.",
+        "totals of another report, an answer in place of totals, a text that was cut off or \
+         edited, keys that don't ascend, or lines that end in CR and LF.",
+        "Give texts that once collect, run or replay wrote over networks with this report, as \
+         they were written.",
+        "FORMATS, totals",
     ),
 ];
 
