@@ -16,12 +16,16 @@ pub record Totals : Type 0 where
 abbrev pub nothing : Layout → Totals
 nothing layout = record { layout = layout; entries = []; unassigned = 0 }
 
+-- so many records more couldn't be tallied
+abbrev pub with_unassigned : Totals → ℕ → Totals
+with_unassigned t records = record t { unassigned = (t.unassigned + records) % 2 ^ 64 }
+
 -- the counts are added at the record's key under the layout; a record whose layout doesn't refine it is unassigned
 abbrev pub with_record : Totals → Record → Totals
 with_record t r =
     if refines r.key.layout t.layout
     then record t { entries = add_at t.entries (project r.key t.layout) r.counts }
-    else record t { unassigned = (t.unassigned + 1) % 2 ^ 64 }
+    else with_unassigned t 1
 
 -- one record after another
 abbrev pub with_records : Totals → List Record → Totals

@@ -4,7 +4,7 @@ ghost use Rattle.fx_base.specs.Fault.{IsMemory};
 ghost use Rattle.fx_layout.specs.Keys.{HasBits};
 ghost use Rattle.fx_machine.specs.States.{add_at};
 ghost use Rattle.fx_machine.specs.Sums.{total_at};
-ghost use Rattle.fx_collect.specs.Totals.{nothing, with_record, with_records, totals_of};
+ghost use Rattle.fx_collect.specs.Totals.{nothing, with_record, with_records, with_unassigned, totals_of};
 ghost use Rattle.fx_collect.specs.Report.{KeysAscend};
 
 use fx_base::{Counts, Fault};
@@ -89,6 +89,13 @@ impl Totals {
                 Ok(())
             }
         }
+    }
+
+    /// Counts so many records more that had no key under the layout, modulo 2 to the 64.
+    pub fn add_unassigned(&mut self, records: u64)
+        ensures { self.new ≡ with_unassigned self.old records }
+    {
+        self.unassigned = self.unassigned.wrapping_add(records);
     }
 
     /// What a network has counted so far: its totals under the keys of its report, and the number of its
