@@ -7,3 +7,4 @@ pub mod SoundLeaves
 pub mod AcceptedCertificates
 pub mod PlanAndTraffic
 pub mod Numbers
+pub mod JoinedCertificates

@@ -4,3 +4,4 @@ pub mod FirstRefusal
 pub mod Certificates
 pub mod Remaining
 pub mod Outcomes
+pub mod Declarations

@@ -10,6 +10,7 @@ ghost use Rattle.fx_tables.specs.Classes as traffic;
 ghost use Rattle.fx_tables.specs.Network as network;
 ghost use Rattle.fx_tables.specs.Ranks.{IsNetwork};
 ghost use Rattle.fx_check.specs.Certificates.{IsCertificate};
+ghost use Rattle.fx_check.specs.Declarations.{AllCertified, all_classes};
 ghost use Rattle.fx_check.specs.Judging.{judge_of, IsWrong};
 ghost use Rattle.fx_traffic.specs.Targets.{AreRegions, Target, targets_of};
 ghost use Rattle.fx_check.specs.FirstRefusal.{Line, first_refusal, whole};
@@ -35,6 +36,18 @@ pub fn certificates_count_once()
     // However large the sums are, the totals are the plain sums modulo 2 to the 64.
     ensures modulo { (net : network.Net) (classes : List traffic.Class) (lines : List Line)
         → IsNetwork net → IsCertificate net classes lines → OnceModulo net classes }
+{}
+
+/// Where each of several traffic declarations over one network has a certificate of its own, each packet of all their
+/// classes together is counted exactly once by every complete run over them, and those of exempt classes never: more
+/// traffic than one document holds is checked one document at a time.
+pub fn certificates_join()
+    ensures once { (net : network.Net) (declarations : List (List traffic.Class)) → IsNetwork net
+        → AllCertified net declarations → ExactlyOnce net (all_classes declarations) }
+    // However large the sums are, the totals are the plain sums modulo 2 to the 64.
+    ensures modulo { (net : network.Net) (declarations : List (List traffic.Class))
+        → IsNetwork net → AllCertified net declarations
+        → OnceModulo net (all_classes declarations) }
 {}
 
 /// Where something is wrong with a leaf for a region, its number says why no leaf is sound there, or is 410 where

@@ -10,5 +10,7 @@ mod stack;
 mod tables;
 
 pub use checking::check;
-pub use laws::{certificates_are_accepted, certificates_count_once, wrong_leaves_are_told};
+pub use laws::{
+    certificates_are_accepted, certificates_count_once, certificates_join, wrong_leaves_are_told,
+};
 pub use tables::tables_of;
