@@ -1,0 +1,158 @@
+//! Where a certificate says that packets are counted.
+ghost use Rattle.std.specs.Prelude.{IfErr};
+ghost use Rattle.fx_base.specs.Fault.{IsMemory};
+
+use crate::documents::Documents;
+use crate::dot::Dot;
+use crate::lines::next_line;
+use crate::marks::{Mark, draw_metering};
+use crate::nodes;
+use fx_base::{Fault, LineReader, Octets, entry_numbered};
+use fx_cert::{Item, read_item};
+use fx_traffic::Target;
+use std::alloc::{AllocError, Global};
+
+/// Where a leaf says that the packets of a path are counted.
+#[derive(Clone, Copy, PartialEq, Eq, Drop)]
+struct Place {
+    class: u64,
+    path: u64,
+    crossing: u64,
+    point: u64,
+    process: u64,
+}
+
+/// The places that a certificate's leaves name, each once for a path, in order.
+#[derive(Drop)]
+struct Places {
+    class: u64,
+    path: u64,
+    places: Vec<Place>,
+    /// Where those of the path begin.
+    begun: usize,
+}
+
+/// Whether a place is one of these, from a place in the list on.
+fn is_among(places: &[Place], begun: usize, place: &Place) -> bool {
+    for at in begun..places.len() {
+        if places[at] == *place {
+            return true;
+        }
+    }
+    false
+}
+
+impl Places {
+    /// Takes a leaf.
+    fn leaf(&mut self, crossing: u64, point: u64, process: u64) -> Result<(), AllocError> {
+        let place = Place {
+            class: self.class,
+            path: self.path,
+            crossing,
+            point,
+            process,
+        };
+        if !is_among(self.places.as_slice(), self.begun, &place) {
+            self.places.push(place)?;
+        }
+        Ok(())
+    }
+
+    /// Takes what a line says.
+    fn take(&mut self, item: &Item) -> Result<(), AllocError> {
+        match item {
+            Item::Class { class, path } => {
+                self.class = *class;
+                self.path = *path;
+                self.begun = self.places.len();
+                Ok(())
+            }
+            Item::Leaf {
+                crossing,
+                point,
+                process,
+            } => self.leaf(*crossing, *point, *process),
+            _ => Ok(()),
+        }
+    }
+}
+
+/// The places that the leaves of a certificate's text name.
+fn places_of(alloc: Global, certificate: &[u8]) -> Result<Places, Fault>
+    ensures { IfErr result IsMemory }
+{
+    let mut lines = LineReader::new(alloc, Octets::new(certificate))?;
+    let mut places = Places {
+        class: 0,
+        path: 0,
+        places: Vec::new(alloc),
+        begun: 0,
+    };
+    'lines: while next_line(&mut lines) {
+        if let Ok(item) = read_item(&lines.line()) {
+            places.take(&item)?;
+        }
+    }
+    Ok(places)
+}
+
+/// Draws where packets of a path are counted.
+fn draw_place(
+    dot: &mut Dot,
+    documents: &Documents,
+    targets: &[Target<'_>],
+    place: &Place,
+) -> Result<(), AllocError> {
+    for target in targets {
+        if target.class == place.class && target.path == place.path {
+            if let Some(crossing) = entry_numbered(target.crossings, place.crossing) {
+                return draw_counted(dot, documents, place, crossing.device);
+            }
+        }
+    }
+    Ok(())
+}
+
+/// Draws where packets of a path are counted, in a device.
+fn draw_counted(
+    dot: &mut Dot,
+    documents: &Documents,
+    place: &Place,
+    device: u64,
+) -> Result<(), AllocError> {
+    let Some(config) = documents.plan.device(device) else {
+        return Ok(());
+    };
+    let mark = Mark {
+        colour: "darkgreen",
+        word: "counted at crossing ",
+        number: place.crossing,
+    };
+    let packets = nodes::packets(place.class, place.path);
+    draw_metering(
+        dot,
+        mark,
+        packets,
+        device,
+        config,
+        place.point,
+        place.process,
+    )
+}
+
+/// Draws where a certificate says that the packets of each path are counted.
+pub(crate) fn draw_certificate(
+    alloc: Global,
+    dot: &mut Dot,
+    documents: &Documents,
+    targets: &[Target<'_>],
+    certificate: &[u8],
+) -> Result<(), Fault>
+    ensures { IfErr result IsMemory }
+{
+    let places = places_of(alloc, certificate)?;
+    for place in places.places.as_slice() {
+        draw_place(dot, documents, targets, place)?;
+    }
+    Ok(())
+}

@@ -1,0 +1,99 @@
+//! What stands in labels: keys, filters and names in a row.
+use crate::dot::{Dot, Piece};
+use fx_base::Name;
+use fx_config::{CacheKind, Direction, ExportMode, Method, PropertyMatch};
+use fx_elements::{Axis, width};
+use fx_layout::Part;
+use std::alloc::AllocError;
+
+/// The name of an axis's element (RFC 7012).
+pub(crate) fn axis_name(axis: Axis) -> &'static str {
+    match axis {
+        Axis::Source => "sourceIPv4Address",
+        Axis::Destination => "destinationIPv4Address",
+        Axis::Protocol => "protocolIdentifier",
+        Axis::SourcePort => "sourceTransportPort",
+        Axis::DestinationPort => "destinationTransportPort",
+        Axis::ClassOfService => "ipClassOfService",
+        Axis::Version => "ipVersion",
+        Axis::Source6 => "sourceIPv6Address",
+        Axis::Destination6 => "destinationIPv6Address",
+    }
+}
+
+/// The directions in which an observation point sees packets, as a document spells them.
+pub(crate) fn direction_name(direction: Direction) -> &'static str {
+    match direction {
+        Direction::Ingress => "ingress",
+        Direction::Egress => "egress",
+        Direction::Both => "both directions",
+    }
+}
+
+/// The kind of a cache in words.
+pub(crate) fn kind_name(kind: CacheKind) -> &'static str {
+    match kind {
+        CacheKind::Immediate => "immediate cache",
+        CacheKind::Timeout => "timeout cache",
+        CacheKind::Natural => "natural cache",
+        CacheKind::Permanent => "permanent cache",
+    }
+}
+
+/// The mode of an exporting process, as a document spells it.
+pub(crate) fn mode_name(mode: ExportMode) -> &'static str {
+    match mode {
+        ExportMode::Parallel => "parallel",
+        ExportMode::LoadBalancing => "load balancing",
+        ExportMode::Fallback => "fallback",
+    }
+}
+
+/// Adds a line of a label with names, one behind the other.
+pub(crate) fn add_names(dot: &mut Dot, names: &[Name]) -> Result<(), AllocError> {
+    let mut separator = "";
+    for name in names {
+        dot.add(&[Piece::Text(separator), Piece::Text(name.as_str())])?;
+        separator = ", ";
+    }
+    Ok(())
+}
+
+/// Adds a line of a label for each part of a key: its element, and how many leading bits where those aren't all.
+pub(crate) fn add_key(dot: &mut Dot, parts: &[Part]) -> Result<(), AllocError> {
+    if parts.is_empty() {
+        return dot.add(&[Piece::Code("\\nall packets together")]);
+    }
+    for part in parts {
+        dot.add(&[Piece::Code("\\nby "), Piece::Code(axis_name(part.axis))])?;
+        if part.bits < width(part.axis) {
+            dot.add(&[Piece::Code("/"), Piece::Number(u64::from(part.bits))])?;
+        }
+    }
+    Ok(())
+}
+
+/// Adds a line of a label with what a filter passes: an element with one value, or with the addresses of a prefix.
+pub(crate) fn add_match(dot: &mut Dot, filter: &PropertyMatch) -> Result<(), AllocError> {
+    dot.add(&[
+        Piece::Code("\\n"),
+        Piece::Code(axis_name(filter.axis)),
+        Piece::Code(" "),
+        Piece::Value(filter.axis, filter.range.low),
+    ])?;
+    if filter.range.low == filter.range.high {
+        return Ok(());
+    }
+    dot.add(&[
+        Piece::Code("/"),
+        Piece::Number(u64::from(filter.range.bits)),
+    ])
+}
+
+/// Adds a line of a label with what a selector passes.
+pub(crate) fn add_method(dot: &mut Dot, method: &Method) -> Result<(), AllocError> {
+    match method {
+        Method::SelectAll => dot.add(&[Piece::Code("\\nall packets")]),
+        Method::FilterMatch(filter) => add_match(dot, filter),
+    }
+}

@@ -1,0 +1,18 @@
+//! Drawings: a network, the traffic that crosses it, and what a certificate or a refutation says of it, as a graph in the
+//! DOT language of Graphviz.
+#![tactic(auto)]
+
+mod certificates;
+mod devices;
+mod documents;
+mod dot;
+mod drawing;
+mod edges;
+mod labels;
+mod lines;
+mod marks;
+mod nodes;
+mod refutations;
+mod traffic;
+
+pub use drawing::put_drawing;

@@ -1,0 +1,66 @@
+//! Edges that a certificate or a refutation marks.
+use crate::dot::{Dot, Piece};
+use crate::edges::cache_of;
+use crate::nodes::{self, Node};
+use fx_base::entry_numbered;
+use fx_config::Device;
+use fx_walk::place_of;
+use std::alloc::AllocError;
+
+/// How an edge is marked.
+#[derive(Clone, Copy, Drop)]
+pub(crate) struct Mark {
+    /// The colour, as Graphviz calls it.
+    pub(crate) colour: &'static str,
+    /// What the edge's label begins with.
+    pub(crate) word: &'static str,
+    /// The number behind the word.
+    pub(crate) number: u64,
+}
+
+/// Draws a marked edge, with the mark's word and number.
+pub(crate) fn draw_mark(dot: &mut Dot, mark: Mark, from: Node, to: Node) -> Result<(), AllocError> {
+    dot.line(&[
+        Piece::Code("  "),
+        Piece::Node(from),
+        Piece::Code(" -> "),
+        Piece::Node(to),
+        Piece::Code(" [color="),
+        Piece::Code(mark.colour),
+        Piece::Code(", fontcolor="),
+        Piece::Code(mark.colour),
+        Piece::Code(", penwidth=3, label=\""),
+        Piece::Code(mark.word),
+        Piece::Number(mark.number),
+        Piece::Code("\"];"),
+    ])
+}
+
+/// Draws marked edges from packets through an observation point and a selection process into its cache.
+pub(crate) fn draw_metering(
+    dot: &mut Dot,
+    mark: Mark,
+    packets: Node,
+    number: u64,
+    device: &Device,
+    point: u64,
+    process: u64,
+) -> Result<(), AllocError> {
+    let observation = nodes::point(number, point);
+    draw_mark(dot, mark, packets, observation)?;
+    let Some(entry) = entry_numbered(device.observation_points.as_slice(), point) else {
+        return Ok(());
+    };
+    let Some(name) = entry_numbered(entry.selection_processes.as_slice(), process) else {
+        return Ok(());
+    };
+    let Some(place) = place_of(device.selection_processes.as_slice(), name) else {
+        return Ok(());
+    };
+    let selection = nodes::selection(number, (place as u64).saturating_add(1));
+    draw_mark(dot, mark, observation, selection)?;
+    match cache_of(device, place) {
+        Some(cache) => draw_mark(dot, mark, selection, nodes::cache(number, cache)),
+        None => Ok(()),
+    }
+}

@@ -1,0 +1,305 @@
+//! The run of a refutation, step by step, and what it comes to.
+ghost use Rattle.std.specs.Prelude.{IfErr};
+ghost use Rattle.fx_base.specs.Fault.{IsMemory};
+ghost use Rattle.fx_collect.specs.Report.{KeysAscend};
+
+use crate::documents::Documents;
+use crate::dot::{Dot, Piece};
+use crate::edges::{end_of, number_of, report_of, target_of};
+use crate::marks::{Mark, draw_mark, draw_metering};
+use crate::nodes::{self, Node};
+use fx_base::{Fault, Name, Room, entry_numbered};
+use fx_collect::Totals;
+use fx_config::{ExportMode, ExportingProcess};
+use fx_plan::Plan;
+use fx_refute::Refutation;
+use fx_run_text::Step;
+use fx_tables::{HolderName, Packet};
+use fx_topology::NetworkDevice;
+use std::alloc::{AllocError, Global};
+
+/// The mark of a step of this number, from 1.
+fn step_mark(number: u64) -> Mark {
+    Mark {
+        colour: "darkorange",
+        word: "step ",
+        number,
+    }
+}
+
+/// Draws where a packet is metered at a crossing of its path.
+fn draw_crossing(
+    alloc: Global,
+    dot: &mut Dot,
+    documents: &Documents,
+    packet: &Packet,
+    number: u64,
+    mark: Mark,
+) -> Result<(), AllocError> {
+    let crossings = documents.traffic.classes().path_of(packet);
+    let Some(crossing) = entry_numbered(crossings, number) else {
+        return Ok(());
+    };
+    let Some(config) = documents.plan.device(crossing.device) else {
+        return Ok(());
+    };
+    let net = documents.plan.net();
+    let occurrences = net.occurrences(alloc, crossing, &packet.fields)?;
+    let packets = nodes::packets(packet.class, packet.path);
+    for occurrence in occurrences.as_slice() {
+        let point = occurrence.point as u64;
+        let process = occurrence.process as u64;
+        draw_metering(dot, mark, packets, crossing.device, config, point, process)?;
+    }
+    Ok(())
+}
+
+/// Whether an exporting process sends a record over this destination, by the choice of a step where it chooses one.
+fn sends(process: &ExportingProcess, chosen: Option<u64>, destination: u64) -> bool {
+    matches!(process.mode, ExportMode::Parallel) || chosen == Some(destination)
+}
+
+/// Draws over which destinations an exporting process sends a record.
+fn draw_export(
+    dot: &mut Dot,
+    plan: &Plan,
+    number: u64,
+    device: &NetworkDevice,
+    exporter: u64,
+    process: &ExportingProcess,
+    chosen: Option<u64>,
+    mark: Mark,
+) -> Result<(), AllocError> {
+    let from = nodes::exporter(number, exporter);
+    let destinations = process.destinations.as_slice();
+    for place in 0..destinations.len() {
+        let destination = place as u64 + 1;
+        if sends(process, chosen, destination) {
+            let entry = &destinations[place];
+            let to = target_of(plan, number, device, exporter, process, destination, entry)?;
+            draw_mark(dot, mark, from, to)?;
+        }
+    }
+    Ok(())
+}
+
+/// Draws over which destinations the exporting processes of these names send a record, by the choices of a step, one for
+/// each that isn't parallel.
+fn draw_exports(
+    dot: &mut Dot,
+    plan: &Plan,
+    number: u64,
+    device: &NetworkDevice,
+    from: Node,
+    names: &[Name],
+    choices: &[Option<u64>],
+    mark: Mark,
+) -> Result<(), AllocError> {
+    let processes = device.config.exporting_processes.as_slice();
+    let mut made: usize = 0;
+    for name in names {
+        if let Some(exporter) = number_of(processes, name) {
+            if let Some(process) = entry_numbered(processes, exporter) {
+                let mut chosen = None;
+                if !matches!(process.mode, ExportMode::Parallel) {
+                    chosen = choices.get(made).copied().flatten();
+                    made = made.saturating_add(1);
+                }
+                draw_mark(dot, mark, from, nodes::exporter(number, exporter))?;
+                draw_export(dot, plan, number, device, exporter, process, chosen, mark)?;
+            }
+        }
+    }
+    Ok(())
+}
+
+/// Draws where a record goes that leaves what holds it.
+fn draw_expiry(
+    dot: &mut Dot,
+    plan: &Plan,
+    holder: HolderName,
+    choices: &[Option<u64>],
+    mark: Mark,
+) -> Result<(), AllocError> {
+    let number = match holder {
+        HolderName::Cache { device, .. } => device,
+        HolderName::Aggregation { device, .. } => device,
+    };
+    let Some(device) = entry_numbered(plan.network().devices.as_slice(), number) else {
+        return Ok(());
+    };
+    match holder {
+        HolderName::Cache { cache, .. } => {
+            let Some(entry) = entry_numbered(device.config.caches.as_slice(), cache) else {
+                return Ok(());
+            };
+            let from = nodes::cache(number, cache);
+            let names = entry.exporting_processes.as_slice();
+            draw_exports(dot, plan, number, device, from, names, choices, mark)
+        }
+        HolderName::Aggregation {
+            process,
+            aggregation,
+            ..
+        } => draw_expired_aggregation(
+            dot,
+            plan,
+            number,
+            device,
+            process,
+            aggregation,
+            choices,
+            mark,
+        ),
+    }
+}
+
+/// Draws where a record goes that leaves an aggregation of a collecting process.
+fn draw_expired_aggregation(
+    dot: &mut Dot,
+    plan: &Plan,
+    number: u64,
+    device: &NetworkDevice,
+    process: u64,
+    aggregation: u64,
+    choices: &[Option<u64>],
+    mark: Mark,
+) -> Result<(), AllocError> {
+    let processes = device.config.collecting_processes.as_slice();
+    let Some(collector) = entry_numbered(processes, process) else {
+        return Ok(());
+    };
+    let Some(entry) = entry_numbered(collector.aggregations.as_slice(), aggregation) else {
+        return Ok(());
+    };
+    let from = nodes::aggregation(number, process, aggregation);
+    let names = entry.exporting_processes.as_slice();
+    draw_exports(dot, plan, number, device, from, names, choices, mark)
+}
+
+/// Draws where a record goes that comes over a link to a collecting process: to its exporting processes, and into
+/// aggregations that take it in.
+fn draw_arrival(
+    dot: &mut Dot,
+    plan: &Plan,
+    link: u64,
+    choices: &[Option<u64>],
+    mark: Mark,
+) -> Result<(), AllocError> {
+    let Some(link) = entry_numbered(plan.network().links.as_slice(), link) else {
+        return Ok(());
+    };
+    let Some(end) = end_of(plan, link) else {
+        return Ok(());
+    };
+    let Some(device) = entry_numbered(plan.network().devices.as_slice(), end.first) else {
+        return Ok(());
+    };
+    let processes = device.config.collecting_processes.as_slice();
+    let Some(process) = entry_numbered(processes, end.second) else {
+        return Ok(());
+    };
+    dot.line(&[
+        Piece::Code("  "),
+        Piece::Node(end),
+        Piece::Code(" -> "),
+        Piece::Node(end),
+        Piece::Code(" [color=darkorange, fontcolor=darkorange, penwidth=3, label=\"step "),
+        Piece::Number(mark.number),
+        Piece::Code(": arrives\"];"),
+    ])?;
+    let names = process.exporting_processes.as_slice();
+    draw_exports(dot, plan, end.first, device, end, names, choices, mark)
+}
+
+/// Draws a step of a refutation.
+fn draw_step(
+    alloc: Global,
+    dot: &mut Dot,
+    documents: &Documents,
+    packet: &Packet,
+    step: &Step,
+    number: u64,
+) -> Result<(), AllocError> {
+    let mark = step_mark(number);
+    match step {
+        Step::Cross { crossing, .. } => {
+            draw_crossing(alloc, dot, documents, packet, *crossing, mark)
+        }
+        Step::Expire {
+            holder,
+            choices,
+            ..
+        } => draw_expiry(dot, &documents.plan, *holder, choices.as_slice(), mark),
+        Step::Arrive { link, choices, .. } => {
+            draw_arrival(dot, &documents.plan, *link, choices.as_slice(), mark)
+        }
+    }
+}
+
+/// Adds totals to a label, as reports have them.
+fn add_totals(dot: &mut Dot, totals: &Totals) -> Result<(), AllocError>
+    requires { KeysAscend totals.now.entries }
+{
+    let mut octets = [0; 4096];
+    let mut room = Room::new(&mut octets);
+    // What has no room there is left out.
+    let _written = totals.put_report(&mut room);
+    dot.add(&[Piece::Lines(room.octets())])
+}
+
+/// Draws what the run comes to, and what it should come to, beside the report.
+pub(crate) fn draw_outcome(
+    dot: &mut Dot,
+    plan: &Plan,
+    mut ran: Totals,
+    mut plain: Totals,
+) -> Result<(), Fault>
+    ensures { IfErr result IsMemory }
+{
+    ran.sort()?;
+    plain.sort()?;
+    dot.add(&[
+        Piece::Code("  "),
+        Piece::Node(nodes::outcome()),
+        Piece::Code(
+            " [shape=note, color=red, fontcolor=red, label=\"in the end the collector holds\\n",
+        ),
+    ])?;
+    add_totals(dot, &ran)?;
+    dot.add(&[Piece::Code("and it should hold\\n")])?;
+    add_totals(dot, &plain)?;
+    dot.line(&[Piece::Code("\"];")])?;
+    if let Some(report) = report_of(plan) {
+        dot.line(&[
+            Piece::Code("  "),
+            Piece::Node(report),
+            Piece::Code(" -> "),
+            Piece::Node(nodes::outcome()),
+            Piece::Code(" [color=red, dir=none, style=dotted];"),
+        ])?;
+    }
+    Ok(())
+}
+
+/// Draws the run of a refutation, each step with its number.
+pub(crate) fn draw_refutation(
+    alloc: Global,
+    dot: &mut Dot,
+    documents: &Documents,
+    refutation: &Refutation,
+) -> Result<(), AllocError> {
+    let steps = refutation.steps();
+    for place in 0..steps.len() {
+        let packet = refutation.packet();
+        draw_step(
+            alloc,
+            dot,
+            documents,
+            packet,
+            &steps[place],
+            place as u64 + 1,
+        )?;
+    }
+    Ok(())
+}
