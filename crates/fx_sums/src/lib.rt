@@ -1,0 +1,11 @@
+//! Sums of totals that were collected apart: texts of totals read and added up, and the sum's own text.
+#![tactic(auto)]
+
+mod note;
+mod notes;
+mod notes_put;
+mod record_line;
+mod sum;
+mod text_lines;
+
+pub use sum::Sum;
