@@ -1,1 +1,5 @@
 pub mod Puts
+pub mod ValuesRead
+pub mod Lines
+pub mod Tallying
+pub mod NotesRead
