@@ -3,3 +3,4 @@ pub mod ValuesRead
 pub mod Lines
 pub mod Tallying
 pub mod NotesRead
+pub mod Adding

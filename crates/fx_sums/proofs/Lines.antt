@@ -80,8 +80,8 @@ gives_line old new on rest left =
     let at = on.meets rest left in
     let m = at.2 in
     (at.0, at.1, ap (λ (ls : List TextLine). next_line (old.number, ls)) m.2 ∙ line_is m.0 m.1 m.3.0 m.3.1) where
-  line_is : (l : TextLine) (ls : List TextLine) → bytes_of new.number l ≡ Ok new.line → ls ≡ text_lines rest → next_line (old.number, l ∷ ls) ≡ Ok (new.line, (new.number, text_lines rest))
-  line_is l ls said same = rw (← on.number, said, same) refl
+      line_is : (l : TextLine) (ls : List TextLine) → bytes_of new.number l ≡ Ok new.line → ls ≡ text_lines rest → next_line (old.number, l ∷ ls) ≡ Ok (new.line, (new.number, text_lines rest))
+      line_is l ls said same = rw (← on.number, said, same) refl
 
 pub refuses_line : (old new : Lines) (e : Fault) → Fails old new e ⊎ MeetsFault old e → Refuses next_line old new e
 refuses_line old new e (inl f) = inl f

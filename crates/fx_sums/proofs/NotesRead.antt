@@ -1,5 +1,5 @@
 -- Notes up to the end of a text, one after another.
-use Rattle.std.proofs.Common.{◌≡◌, ℕ, ◌⊎◌, true, false, List, [], ◌∷◌, Some, None, Ok, Err, refl, ap, sym, ◌∙◌, inl, inr}
+use Rattle.std.proofs.Common.{◌≡◌, ℕ, ◌⊎◌, Bool, true, false, List, [], ◌∷◌, Some, None, Ok, Err, refl, ap, sym, ◌∙◌, subst, inl, inr}
 use Rattle.fx_base.specs.declared.fault.Fault.{Fault}
 use Rattle.fx_base.specs.Device.{MayBeLeft, MayHaveLeft}
 use Rattle.fx_base.specs.Lines.{Lines, GoesOnToLines, Fails, text_lines, next_number}
@@ -7,7 +7,7 @@ use Rattle.fx_base.proofs.GoingOn.{something_left}
 use Rattle.fx_sums.specs.declared.notes.Notes.{Notes}
 use Rattle.fx_sums.specs.Sums.{no_notes}
 use Rattle.fx_sums.specs.SumLines.{notes_with, are_whole}
-use Rattle.fx_sums.specs.SumReading.{◌>>=◌, TextLine, missing, wrong, bytes_of, formed, notes_to_end, MayEnd, MayMeet, GoesOnToLine, IsAtEnd}
+use Rattle.fx_sums.specs.SumReading.{◌>>=◌, TextLine, missing, wrong, bytes_of, formed, notes_to_end, MayEnd, MayMeet, GoesOnToLine, GoesOnOrEnds, IsAtEnd}
 use Rattle.fx_sums.proofs.Lines.{MeetsFault}
 use Rattle.fx_sums.proofs.Tallying.{fails_behind}
 
@@ -27,8 +27,8 @@ module _ (first now : Lines) (notes : Notes) (on : NotesOn first now notes) wher
       let m = meets.2 in
       let all = on meets.0 meets.1 in
       (all.0, all.1, all.2 ∙ ap (notes_to_end notes now.number) m.2 ∙ behind m.0 m.1 m.3.0 m.3.1) where
-    behind : (l : TextLine) (ls : List TextLine) → bytes_of new.number l ≡ Ok new.line → ls ≡ text_lines rest → notes_to_end notes now.number (l ∷ ls) ≡ notes_to_end more new.number (text_lines rest)
-    behind l ls said same = rw (← line.number, said, is, same) refl
+        behind : (l : TextLine) (ls : List TextLine) → bytes_of new.number l ≡ Ok new.line → ls ≡ text_lines rest → notes_to_end notes now.number (l ∷ ls) ≡ notes_to_end more new.number (text_lines rest)
+        behind l ls said same = rw (← line.number, said, is, same) refl
 
   pub notes_wrong : (new : Lines) → GoesOnToLine now new → notes_with notes new.line ≡ None → MayEnd no_notes first (Err (wrong new.number))
   notes_wrong new line is =
@@ -37,8 +37,8 @@ module _ (first now : Lines) (notes : Notes) (on : NotesOn first now notes) wher
       let m = meets.2 in
       let all = on meets.0 meets.1 in
       (all.0, all.1, all.2 ∙ ap (notes_to_end notes now.number) m.2 ∙ behind m.0 m.1 m.3.0) where
-    behind : (l : TextLine) (ls : List TextLine) → bytes_of new.number l ≡ Ok new.line → notes_to_end notes now.number (l ∷ ls) ≡ Err (wrong new.number)
-    behind l ls said = rw (← line.number, said, is) refl
+        behind : (l : TextLine) (ls : List TextLine) → bytes_of new.number l ≡ Ok new.line → notes_to_end notes now.number (l ∷ ls) ≡ Err (wrong new.number)
+        behind l ls said = rw (← line.number, said, is) refl
 
   pub notes_refused : (new : Lines) (e : Fault) → now.stopped ≡ None → GoesOnToLines first now → Fails now new e ⊎ MeetsFault now e → Fails first new e ⊎ MayEnd no_notes first (Err e)
   notes_refused new e going since (inl fails) = inl (fails_behind first now new e going since fails)
@@ -55,3 +55,6 @@ module _ (first now : Lines) (notes : Notes) (on : NotesOn first now notes) wher
   notes_missing new at whole =
       let all = on at.ends.0 at.ends.1 in
       (all.0, all.1, all.2 ∙ rw (at.ends.2, whole, ← at.number) refl)
+
+pub goes_on_of : (old new : Lines) (going : Bool) → GoesOnOrEnds old new (Ok going) → going ≡ true → GoesOnToLine old new
+goes_on_of old new going h e = subst (λ b. GoesOnOrEnds old new (Ok b)) e h

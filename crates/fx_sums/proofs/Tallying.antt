@@ -1,14 +1,15 @@
 -- Lines of keys that are tallied one after another, and what is read behind what was read.
-use Rattle.std.proofs.Common.{◌≡◌, ℕ, suc, ◌-◌, ◌<◌, ◌⊎◌, List, Option, Some, None, Result, Ok, Err, refl, ap, sym, ◌∙◌, arith, inl, inr, subst}
+use Rattle.std.proofs.Common.{◌≡◌, ℕ, suc, ◌-◌, ◌<◌, ◌⊎◌, true, false, cond, List, Option, Some, None, Result, Ok, Err, refl, ap, sym, ◌∙◌, arith, inl, inr, subst}
 use Rattle.fx_base.specs.declared.fault.Fault.{Fault}
 use Rattle.fx_base.specs.declared.fault.Place.TheVariants as places
 use Rattle.fx_base.specs.Device.{MayBeLeft, MayHaveLeft}
 use Rattle.fx_base.specs.Fault.{fault_at}
 use Rattle.fx_base.specs.Lines.{Lines, GoesOnToLines, Fails, text_lines}
 use Rattle.fx_base.proofs.GoingOn.{cut_off_behind}
-use Rattle.fx_layout.specs.Keys.{Layout}
+use Rattle.fx_layout.specs.Keys.{Layout, refines, project}
 use Rattle.fx_tables.specs.declared.record.Record.{Record}
-use Rattle.fx_collect.specs.Totals.{Totals, with_record}
+use Rattle.fx_machine.specs.States.{add_at}
+use Rattle.fx_collect.specs.Totals.{Totals, with_record, with_unassigned}
 use Rattle.fx_sums.specs.SumLines.{record_behind}
 use Rattle.fx_sums.specs.SumReading.{◌>>=◌, Rest, in_line, tallied, MayGive, Gives, Refuses}
 
@@ -44,6 +45,14 @@ module _ (layout : Layout) (count : ℕ) (before : Totals) (first now : Lines) (
       let all = on text left in
       let one_more : more ≡ suc (more - 1) = omega arith in
       inr (all.0, all.1, all.2 ∙ ap (λ (n : ℕ). tallied layout n last t (now.number, text_lines text)) one_more ∙ rw is refl)
+
+-- a record more leaves the layout
+pub layout_kept : (t : Totals) (r : Record) → (with_record t r).layout ≡ t.layout
+layout_kept t r =
+    elim (refines r.key.layout t.layout) as (λ b. (cond b (record t { entries = add_at t.entries (project r.key t.layout) r.counts }) (with_unassigned t 1)).layout ≡ t.layout) [
+      | true ↦ refl
+      | false ↦ refl
+    ]
 
 -- ---- one behind another
 

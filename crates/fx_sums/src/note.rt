@@ -35,11 +35,7 @@ pub(crate) fn read_last_number(words: Words<'_>) -> Option<u64>
     ensures { result ≡ last_number words.entry }
 {
     let (number, words) = words.number()?;
-    if words.is_empty() {
-        Some(number)
-    } else {
-        None
-    }
+    if words.is_empty() { Some(number) } else { None }
 }
 
 /// The number of a line that is this word and a number.

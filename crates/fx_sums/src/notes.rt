@@ -54,10 +54,7 @@ fn sum_of(first: Option<u64>, second: Option<u64>) -> Option<u64>
 }
 
 /// The sums modulo 2 to the 64 where both are there.
-fn frames_of(
-    first: Option<SkippedFrames>,
-    second: Option<SkippedFrames>,
-) -> Option<SkippedFrames>
+fn frames_of(first: Option<SkippedFrames>, second: Option<SkippedFrames>) -> Option<SkippedFrames>
     ensures { result ≡ joined plus_frames first second }
 {
     match first {

@@ -139,11 +139,7 @@ fn is_behind(last: &Option<Key>, key: &Key) -> bool
 
 /// The record that a line says, if it says one whose key comes behind the last one.
 #[tactic(auto, unfolding(crate::specs::SumLines::record_behind))]
-pub(crate) fn read_record_behind(
-    layout: &Layout,
-    last: &Option<Key>,
-    line: &[u8],
-) -> Option<Record>
+pub(crate) fn read_record_behind(layout: &Layout, last: &Option<Key>, line: &[u8]) -> Option<Record>
     ensures { result ≡ record_behind layout.now (option_map (λ k. k.values) last.now) line.now }
 {
     let entry = read_record(layout, line)?;

@@ -95,6 +95,7 @@ fn tally_records<R: Source>(
 ) -> Result<(), Fault>
     requires { lines.old.stopped ≡ None }
     ensures going { OnOk result (lines.new.stopped ≡ None) }
+    ensures layout { totals.new.layout ≡ totals.old.layout }
     ensures on { OnOk result (GoesOnToLines lines.old lines.new) }
     ensures ok { OnOk result (Gives (tallied layout.now count None totals.old) lines.old lines.new
         totals.new) }
@@ -120,6 +121,7 @@ pub(crate) fn add_totals<R: Source>(
     lines: &mut LineReader<R>,
 ) -> Result<(), Fault>
     ensures going { OnOk result (lines.new.stopped ≡ None) }
+    ensures layout { totals.new.layout ≡ totals.old.layout }
     ensures on { OnOk result (GoesOnToLines lines.old lines.new) }
     ensures ok { OnOk result (Gives (totals_with layout.now totals.old) lines.old lines.new
         totals.new) }

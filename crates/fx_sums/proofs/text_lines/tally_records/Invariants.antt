@@ -8,6 +8,7 @@ abbrev pub invariant-loop-left : goal.invariant-loop-left
 invariant-loop-left g l = record {
   going : l.lines.stopped ≡ None;
   on : GoesOnToLines l.fn.lines l.lines;
+  same : l.totals.layout ≡ l.fn.totals.layout;
   tallies : TalliesOn l.layout l.fn.count l.fn.totals l.fn.lines l.lines l.left (option_map (λ (k : Key). k.values) l.last) l.totals;
 }
 
