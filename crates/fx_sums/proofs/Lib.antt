@@ -4,3 +4,4 @@ pub mod Lines
 pub mod Tallying
 pub mod NotesRead
 pub mod Adding
+pub mod SumsOfParts

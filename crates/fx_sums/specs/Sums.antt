@@ -1,6 +1,7 @@
 -- What totals of one report come to that were collected apart, and what was noted beside them.
 use Rattle.std.specs.Prelude.{◌≡◌, ℕ, ◌+◌, ◌%◌, ◌^◌, ◌&&◌, Bool, List, [], Option, Some, None}
-use Rattle.fx_layout.specs.Keys.{Layout}
+use Rattle.fx_layout.specs.Keys.{Layout, Key}
+use Rattle.fx_machine.specs.Sums.{total_at}
 use Rattle.fx_collect.specs.Totals.{Totals, nothing, with_records, with_unassigned}
 use Rattle.fx_sums.specs.declared.notes.Notes.{Notes}
 use Rattle.fx_sums.specs.declared.notes.SkippedFrames.{SkippedFrames}
@@ -50,3 +51,12 @@ plus_totals t u = with_unassigned (with_records t u.entries) u.unassigned
 
 abbrev pub plus : Sum → Sum → Sum
 plus s t = record { totals = plus_totals s.totals t.totals; notes = plus_notes s.notes t.notes }
+
+-- ---- alike
+
+-- the same total at each key, and as many unassigned records
+abbrev pub HaveSameTotals : Totals → Totals → Type 0
+HaveSameTotals t u = ((key : Key) → total_at t.entries key ≡ total_at u.entries key) × (t.unassigned ≡ u.unassigned)
+
+abbrev pub AreAlike : Sum → Sum → Type 0
+AreAlike s t = HaveSameTotals s.totals t.totals × (s.notes ≡ t.notes)

@@ -1,0 +1,15 @@
+//! Laws: no code, but contracts over the definitions.
+ghost use Rattle.std.specs.Prelude.{◌++◌, List};
+ghost use Rattle.fx_layout.specs.Keys.{Layout, IsLayout};
+ghost use Rattle.fx_tables.specs.declared.record.Record.{Record};
+ghost use Rattle.fx_collect.specs.Totals.{nothing, with_records};
+ghost use Rattle.fx_sums.specs.Sums.{Sum, plus, plus_totals, AreAlike, HaveSameTotals};
+
+/// What is collected apart and summed is what is collected together: at each key the total, and as many unassigned
+/// records. It doesn't matter which of two texts is added first.
+pub fn sums_of_parts()
+    ensures together { (layout : Layout) (a b : List Record) → IsLayout layout → HaveSameTotals
+        (plus_totals (with_records (nothing layout) a) (with_records (nothing layout) b))
+        (with_records (nothing layout) (a ++ b)) }
+    ensures exchanged { (s t u : Sum) → AreAlike (plus (plus s t) u) (plus (plus s u) t) }
+{}
