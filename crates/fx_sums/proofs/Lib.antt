@@ -5,3 +5,6 @@ pub mod Tallying
 pub mod NotesRead
 pub mod Adding
 pub mod SumsOfParts
+pub mod LinesFound
+pub mod TextsFound
+pub mod LinesRead

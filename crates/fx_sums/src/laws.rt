@@ -1,9 +1,12 @@
 //! Laws: no code, but contracts over the definitions.
-ghost use Rattle.std.specs.Prelude.{◌++◌, List};
+ghost use Rattle.std.specs.Prelude.{◌≡◌, ◌++◌, ℕ, List, Ok};
+ghost use Rattle.fx_base.specs.Lines.{text_lines};
 ghost use Rattle.fx_layout.specs.Keys.{Layout, IsLayout};
 ghost use Rattle.fx_tables.specs.declared.record.Record.{Record};
 ghost use Rattle.fx_collect.specs.Totals.{nothing, with_records};
 ghost use Rattle.fx_sums.specs.Sums.{Sum, plus, plus_totals, AreAlike, HaveSameTotals};
+ghost use Rattle.fx_sums.specs.SumText.{noted_text, IsNoted};
+ghost use Rattle.fx_sums.specs.SumReading.{sum_with};
 
 /// What is collected apart and summed is what is collected together: at each key the total, and as many unassigned
 /// records. It doesn't matter which of two texts is added first.
@@ -12,4 +15,12 @@ pub fn sums_of_parts()
         (plus_totals (with_records (nothing layout) a) (with_records (nothing layout) b))
         (with_records (nothing layout) (a ++ b)) }
     ensures exchanged { (s t u : Sum) → AreAlike (plus (plus s t) u) (plus (plus s u) t) }
+{}
+
+/// What is read as a text of totals and added is the text of these totals and notes, under the keys of the sum's
+/// layout, which ascend.
+pub fn totals_texts()
+    ensures only { (s result : Sum) (text : List ℕ) (n : ℕ) → IsLayout s.totals.layout
+        → sum_with s (n, text_lines text) ≡ Ok result
+        → (t : Sum) × (text ≡ noted_text t) × IsNoted s.totals.layout t × (result ≡ plus s t) }
 {}

@@ -9,5 +9,5 @@ mod record_line;
 mod sum;
 mod text_lines;
 
-pub use laws::sums_of_parts;
+pub use laws::{sums_of_parts, totals_texts};
 pub use sum::Sum;
