@@ -8,3 +8,4 @@ pub mod SumsOfParts
 pub mod LinesFound
 pub mod TextsFound
 pub mod LinesRead
+pub mod TextsRead

@@ -14,7 +14,7 @@ use Rattle.fx_elements.specs.declared.axis.Axis.{Axis}
 use Rattle.fx_elements.specs.declared.axis.Axis.TheVariants as axis
 use Rattle.fx_elements.specs.Axes.{axis_index, axis_width, tops}
 use Rattle.fx_elements.specs.Groups.{group, half, groups}
-use Rattle.fx_elements.specs.Spelling.{◌>>=◌, largest, number_of, quad}
+use Rattle.fx_elements.specs.Spelling.{◌>>=◌, largest, number_of, quad, cut_at}
 use Rattle.fx_elements.specs.Values.{written_on, value_text, bits_text, leading_text}
 use Rattle.fx_elements.specs.Words.{Words, words}
 use Rattle.fx_elements.proofs.Cuts.{cut_text}
@@ -174,24 +174,18 @@ on_axis x v lt = let top = top_is x in omega (arith, top, lt)
 
 start_read : (part : Part) (x : ℕ) → can_stand part ≡ true → x < 2 ^ part.bits → start_of part (leading_text part.axis part.bits x) ≡ Some (x * 2 ^ (axis_width part.axis - part.bits))
 unfolding prefix_start
-start_read part x stands lt = by_fewer (nat_lt part.bits (axis_width part.axis)) refl where
-  size : ℕ
-  size = 2 ^ (axis_width part.axis - part.bits)
-
-  within = stands_within part stands
-
-  small = start_below part x within.1 lt
-
-  bits_small : part.bits ≤ 128
-  bits_small = let most = width_most part.axis in omega (arith, within.1, most)
-
-  value = written_text part.axis (x * 2 ^ (axis_width part.axis - part.bits)) (on_axis part.axis _ small)
-
-  cut = cut_text 47 (value_text part.axis (x * 2 ^ (axis_width part.axis - part.bits))) (decimal part.bits) (value_avoids 47 part.axis _ slash small)
-
-  by_fewer : (b : Bool) → nat_lt part.bits (axis_width part.axis) ≡ b → start_of part (leading_text part.axis part.bits x) ≡ Some (x * 2 ^ (axis_width part.axis - part.bits))
-  by_fewer true e = rw (e, cut, number_64 part.bits (omega (arith, bits_small)), value, eq-eqb part.bits part.bits refl, mul-mod_left x (2 ^ (axis_width part.axis - part.bits))) refl
-  by_fewer false e = rw (e, append-nil (value_text part.axis (x * 2 ^ (axis_width part.axis - part.bits))), value) refl
+start_read part x stands lt =
+    let within = stands_within part stands in
+    let most = width_most part.axis in
+    let bits_small : part.bits ≤ 128 = omega (arith, within.1, most) in
+    let small = start_below part x within.1 lt in
+    let v : ℕ = x * 2 ^ (axis_width part.axis - part.bits) in
+    by_fewer (nat_lt part.bits (axis_width part.axis)) refl (number_64 part.bits (omega (arith, bits_small))) (written_text part.axis v (on_axis part.axis v small)) (cut_text 47 (value_text part.axis v) (decimal part.bits) (value_avoids 47 part.axis v slash small)) where
+  by_fewer : (b : Bool) → nat_lt part.bits (axis_width part.axis) ≡ b → number_of largest (decimal part.bits) ≡ Some part.bits → written_on part.axis (value_text part.axis (x * 2 ^ (axis_width part.axis - part.bits))) ≡ Some (x * 2 ^ (axis_width part.axis - part.bits))
+      → cut_at 47 (value_text part.axis (x * 2 ^ (axis_width part.axis - part.bits)) ++ 47 ∷ decimal part.bits) ≡ Some (value_text part.axis (x * 2 ^ (axis_width part.axis - part.bits)), decimal part.bits)
+      → start_of part (leading_text part.axis part.bits x) ≡ Some (x * 2 ^ (axis_width part.axis - part.bits))
+  by_fewer true e number value cut = rw (e, cut, number, value, eq-eqb part.bits part.bits refl, mul-mod_left x (2 ^ (axis_width part.axis - part.bits))) refl
+  by_fewer false e number value cut = rw (e, append-nil (value_text part.axis (x * 2 ^ (axis_width part.axis - part.bits))), value) refl
 
 pub values_read : (parts : Layout) (values : List ℕ) (ws : Words) → list_all can_stand parts ≡ true → HasBits parts values → values_first parts (part_words parts values ++ ws) ≡ Some (values, ws)
 unfolding values_first
@@ -263,11 +257,11 @@ abbrev pub note_bytes : Note → List ℕ
 note_bytes note = join_with_byte 32 (note_words note)
 
 note_avoids : (c : ℕ) (note : Note) → IsOutside c → IsNote note → avoids c (codes "complete") ≡ true → avoids c (codes "yes") ≡ true → avoids c (codes "no") ≡ true → avoids c (codes "skipped") ≡ true → avoids c (codes "other") ≡ true → avoids c (codes "malformed") ≡ true → avoids c (codes "gaps") ≡ true → AllAvoid c (note_words note)
-note_avoids c (Complete true) out h co ye no sk ot ma ga = (written c (codes "complete") co, (written c (codes "yes") ye, tt))
-note_avoids c (Complete false) out h co ye no sk ot ma ga = (written c (codes "complete") co, (written c (codes "no") no, tt))
-note_avoids c (Frames f) out h co ye no sk ot ma ga = (written c (codes "skipped") sk, (written c (codes "other") ot, (number_avoids c f.other out h.0, (written c (codes "malformed") ma, (number_avoids c f.malformed out h.1, tt)))))
-note_avoids c (Gaps n) out h co ye no sk ot ma ga = (written c (codes "gaps") ga, (number_avoids c n out h, tt))
-note_avoids c (Skipped n) out h co ye no sk ot ma ga = (written c (codes "skipped") sk, (number_avoids c n out h, tt))
+note_avoids c (Complete true) out h co ye nay sk ot ma ga = (written c (codes "complete") co, (written c (codes "yes") ye, tt))
+note_avoids c (Complete false) out h co ye nay sk ot ma ga = (written c (codes "complete") co, (written c (codes "no") nay, tt))
+note_avoids c (Frames f) out h co ye nay sk ot ma ga = (written c (codes "skipped") sk, (written c (codes "other") ot, (number_avoids c f.other out h.0, (written c (codes "malformed") ma, (number_avoids c f.malformed out h.1, tt)))))
+note_avoids c (Gaps n) out h co ye nay sk ot ma ga = (written c (codes "gaps") ga, (number_avoids c n out h, tt))
+note_avoids c (Skipped n) out h co ye nay sk ot ma ga = (written c (codes "skipped") sk, (number_avoids c n out h, tt))
 
 pub note_plain : (note : Note) → IsNote note → Avoids 10 (note_bytes note)
 note_plain note h = line_join (note_words note) (note_avoids 10 note feed h refl refl refl refl refl refl refl)
