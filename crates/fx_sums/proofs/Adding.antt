@@ -2,14 +2,13 @@
 use Rattle.std.proofs.Common.{◌≡◌, ℕ, ◌⊎◌, codes, None, Result, Ok, Err, ap, sym, ◌∙◌, refl, inl, inr}
 use Rattle.fx_base.specs.declared.fault.Fault.{Fault}
 use Rattle.fx_base.specs.Lines.{Lines, GoesOnToLines, Fails, text_lines}
-use Rattle.fx_base.proofs.GoingOn.{goes_then, something_left}
 use Rattle.fx_layout.specs.Keys.{Layout}
 use Rattle.fx_collect.specs.Totals.{Totals, with_unassigned}
 use Rattle.fx_sums.specs.declared.notes.Notes.{Notes}
 use Rattle.fx_sums.specs.Sums.{Sum, no_notes, plus_notes}
 use Rattle.fx_sums.specs.SumLines.{number_behind}
 use Rattle.fx_sums.specs.SumReading.{◌>>=◌, Rest, in_line, tallied, totals_with, notes_to_end, sum_with, MayGive, Gives, MayEnd, Refuses}
-use Rattle.fx_sums.proofs.Tallying.{fails_behind, gives_then, refuses_then, refuses_first}
+use Rattle.fx_sums.proofs.Tallying.{fails_behind, refuses_then, refuses_first}
 
 abbrev keys_in : Rest → Result (ℕ × Rest) Fault
 keys_in = in_line (number_behind (codes "keys"))

@@ -1,17 +1,17 @@
 -- What a reader of lines comes to, line by line.
-use Rattle.std.proofs.Common.{◌≡◌, ℕ, ◌<◌, ◌≤◌, ◌⊎◌, Bool, true, false, not, List, [], ◌∷◌, length, Option, Some, None, Result, Ok, Err, IfSome, refl, ap, sym, ◌∙◌, arith, inl, inr, subst, lt-ltb}
+use Rattle.std.proofs.Common.{◌≡◌, ℕ, ◌<◌, ◌≤◌, ◌⊎◌, Bool, true, false, not, List, [], ◌∷◌, length, Option, Some, None, Ok, Err, IfSome, refl, ap, sym, ◌∙◌, arith, inl, inr, subst, lt-ltb}
 use Rattle.std.specs.Prelude.{nat_lt, ◌==◌}
 use Rattle.std.proofs.lemmas.Bool.{le-ltb}
 use Rattle.std.proofs.lemmas.List.Sums.{prefix_len-le-length}
 use Rattle.std.proofs.lemmas.List.{length-take-le}
 use Rattle.fx_base.specs.declared.fault.Fault.{Fault}
 use Rattle.fx_base.specs.declared.fault.Place.TheVariants as places
-use Rattle.fx_base.specs.Device.{MayBeLeft, MayHaveLeft}
+use Rattle.fx_base.specs.Device.{MayBeLeft}
 use Rattle.fx_base.specs.Fault.{fault_at}
-use Rattle.fx_base.specs.Lines.{Lines, AtLine, AtTextEnd, GoesOnToLines, text_lines, next_number, line_len, first_line, line_ends, after_line, AdvancesToLine, RefusesText, StopsText, Fails}
-use Rattle.fx_base.proofs.GoingOn.{cut_off_behind, something_follows, something_left, may_follow, nothing_left, to_line}
+use Rattle.fx_base.specs.Lines.{Lines, AtLine, AtTextEnd, text_lines, next_number, line_len, first_line, line_ends, after_line, AdvancesToLine, RefusesText, StopsText, Fails}
+use Rattle.fx_base.proofs.GoingOn.{something_follows, something_left, may_follow, nothing_left, to_line}
 use Rattle.fx_base.proofs.TextLines.{lines_first}
-use Rattle.fx_sums.specs.SumReading.{◌>>=◌, TextLine, Rest, missing, wrong, bytes_of, formed, next_line, in_line, MayGive, Gives, Refuses, MayMeet, GoesOnToLine, IsAtEnd}
+use Rattle.fx_sums.specs.SumReading.{TextLine, missing, wrong, bytes_of, next_line, in_line, MayGive, Gives, Refuses, MayMeet, GoesOnToLine, IsAtEnd}
 
 -- ---- going on
 

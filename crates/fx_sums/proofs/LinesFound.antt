@@ -1,5 +1,5 @@
 -- What is read in a line of totals: the line is its text.
-use Rattle.std.proofs.Common.{◌≡◌, ℕ, ◌+◌, ◌-◌, ◌*◌, ◌/◌, ◌%◌, ◌^◌, ◌<◌, ◌≤◌, Bool, true, false, List, [], ◌∷◌, ◌++◌, Option, Some, None, refl, ap, ap₂, sym, ◌∙◌, subst, arith, inl, inr, append_assoc, codes, eqb-true, slice_index, ◌⊎◌, pow-add}
+use Rattle.std.proofs.Common.{◌≡◌, ℕ, ◌+◌, ◌-◌, ◌*◌, ◌/◌, ◌%◌, ◌^◌, ◌<◌, ◌≤◌, true, false, List, [], ◌∷◌, ◌++◌, Option, Some, None, refl, ap, ap₂, sym, ◌∙◌, subst, arith, inl, inr, append_assoc, codes, eqb-true, slice_index, ◌⊎◌, pow-add}
 use Rattle.std.specs.Prelude.{nat_lt, ◌==◌}
 use Rattle.std.specs.Fmt.{decimal}
 use Rattle.std.specs.Option.{option_map}
@@ -14,8 +14,8 @@ use Rattle.std.proofs.lemmas.Slice.Eq.{bytes_eq-Decides}
 use Rattle.fx_base.specs.declared.counts.Counts.{Counts}
 use Rattle.fx_elements.specs.declared.axis.Axis.{Axis}
 use Rattle.fx_elements.specs.Axes.{axis_index, axis_width, tops}
-use Rattle.fx_elements.specs.Spelling.{◌>>=◌, largest, number_of, cut_at}
-use Rattle.fx_elements.specs.Values.{written_on, value_text, bits_text, leading_text}
+use Rattle.fx_elements.specs.Spelling.{largest, number_of, cut_at}
+use Rattle.fx_elements.specs.Values.{written_on, value_text, leading_text}
 use Rattle.fx_elements.specs.Words.{Words, words, in_first, first_word, number_first}
 use Rattle.fx_elements.proofs.Cuts.{chosen, cut_parts}
 use Rattle.fx_elements.proofs.Decimals.{number_found}
@@ -23,13 +23,12 @@ use Rattle.fx_elements.proofs.Addresses.{by_some, some_is}
 use Rattle.fx_elements.proofs.AxisTexts.{written_found}
 use Rattle.fx_elements.proofs.EveryAxis.{top_below}
 use Rattle.fx_layout.specs.declared.layout.Part.{Part}
-use Rattle.fx_layout.specs.Keys.{Layout, Key, HasBits, IsLayout, can_stand, leading_bits}
+use Rattle.fx_layout.specs.Keys.{Layout, HasBits, IsLayout, can_stand, leading_bits}
 use Rattle.fx_layout.proofs.Layouts.{stands_within}
 use Rattle.fx_layout.proofs.Projections.{and_true}
 use Rattle.fx_tables.specs.declared.record.Record.{Record}
 use Rattle.fx_machine.specs.Sums.{IsBelow}
-use Rattle.fx_collect.specs.Report.{space_before, parts_text, fields_text, record_line, number_line}
-use Rattle.fx_sums.specs.declared.notes.SkippedFrames.{SkippedFrames}
+use Rattle.fx_collect.specs.Report.{parts_text, fields_text, record_line, number_line}
 use Rattle.fx_sums.specs.declared.note.Note.{Note}
 use Rattle.fx_sums.specs.declared.note.Note.TheVariants.{Complete, Frames, Gaps, Skipped}
 use Rattle.fx_sums.specs.SumText.{complete_text, frames_text, comes_behind, IsRecordUnder}
@@ -77,8 +76,8 @@ last_found ws n e =
     let w = number_word ws m pm in
     let f = end_found m.0 n m.1 em in
     parts m.0 m.1 w.0 w.1 f.0 f.1) where
-  parts : (m : ℕ) (rest : Words) → ws ≡ decimal m ∷ rest → IsNumber m → rest ≡ [] → m ≡ n → (ws ≡ decimal n ∷ []) × IsNumber n
-  parts m rest is small none same = (is ∙ ap₂ (λ (x : ℕ) (xs : Words). decimal x ∷ xs) same none, subst IsNumber same small)
+      parts : (m : ℕ) (rest : Words) → ws ≡ decimal m ∷ rest → IsNumber m → rest ≡ [] → m ≡ n → (ws ≡ decimal n ∷ []) × IsNumber n
+      parts m rest is small none same = (is ∙ ap₂ (λ (x : ℕ) (xs : Words). decimal x ∷ xs) same none, subst IsNumber same small)
 
 -- a line is its words with spaces between them
 line_is : (line : List ℕ) (ws : Words) → words line ≡ ws → line ≡ join_with_byte 32 ws
@@ -146,9 +145,9 @@ whole_found part word v le all e =
     let none : axis_width part.axis - part.bits ≡ 0 = not_fewer (cases_lt part.bits (axis_width part.axis)) in
     let back : leading_bits (axis_width part.axis) part.bits v * 2 ^ (axis_width part.axis - part.bits) ≡ v = begun part.axis part.bits v le (ap (λ (n : ℕ). v % 2 ^ n) none ∙ omega arith) in
     (w.0 ∙ sym (append-nil (value_text part.axis v)) ∙ rw (back, all) refl, leading_below (axis_width part.axis) part.bits v le (within part.axis v w.1)) where
-  not_fewer : (part.bits < axis_width part.axis) ⊎ (axis_width part.axis ≤ part.bits) → axis_width part.axis - part.bits ≡ 0
-  not_fewer (inl lt) = let k : nat_lt part.bits (axis_width part.axis) ≡ true = lt-ltb part.bits (axis_width part.axis) lt in absurd cc
-  not_fewer (inr ge) = omega arith
+      not_fewer : (part.bits < axis_width part.axis) ⊎ (axis_width part.axis ≤ part.bits) → axis_width part.axis - part.bits ≡ 0
+      not_fewer (inl lt) = let k : nat_lt part.bits (axis_width part.axis) ≡ true = lt-ltb part.bits (axis_width part.axis) lt in absurd cc
+      not_fewer (inr ge) = omega arith
 
 start_found : (part : Part) (word : List ℕ) (v : ℕ) → can_stand part ≡ true → start_of part word ≡ Some v → StartIs part word v
 start_found part word v stands e =
@@ -177,10 +176,10 @@ values_found (part ∷ parts) ws r stand e =
     let here = start_found part f.0 start.0 two.0 f.2 in
     let behind = values_found parts start.1 values two.1 pv in
     joined f.0 start.0 start.1 values.0 values.1 f.1 here behind.0 behind.1 (some_is ev))) where
-  joined : (w : List ℕ) (v : ℕ) (rest : Words) (values : List ℕ) (rest' : Words) → ws ≡ w ∷ rest → StartIs part w v → rest ≡ part_words parts values ++ rest' → HasBits parts values → (leading_bits (axis_width part.axis) part.bits v ∷ values, rest') ≡ r → (ws ≡ part_words (part ∷ parts) r.0 ++ r.1) × HasBits (part ∷ parts) r.0
-  joined w v rest values rest' is here behind bits same =
-      subst (λ (r : List ℕ × Words). (ws ≡ part_words (part ∷ parts) r.0 ++ r.1) × HasBits (part ∷ parts) r.0) same
-      (is ∙ ap₂ (λ (x : List ℕ) (xs : Words). x ∷ xs) here.0 behind, (here.1, bits))
+      joined : (w : List ℕ) (v : ℕ) (rest : Words) (values : List ℕ) (rest' : Words) → ws ≡ w ∷ rest → StartIs part w v → rest ≡ part_words parts values ++ rest' → HasBits parts values → (leading_bits (axis_width part.axis) part.bits v ∷ values, rest') ≡ r → (ws ≡ part_words (part ∷ parts) r.0 ++ r.1) × HasBits (part ∷ parts) r.0
+      joined w v rest values rest' is here behind bits same =
+          subst (λ (r : List ℕ × Words). (ws ≡ part_words (part ∷ parts) r.0 ++ r.1) × HasBits (part ∷ parts) r.0) same
+          (is ∙ ap₂ (λ (x : List ℕ) (xs : Words). x ∷ xs) here.0 behind, (here.1, bits))
 
 -- the words of a key
 abbrev pub key_words : Layout → List ℕ → Words
@@ -208,9 +207,9 @@ counts_found ws c e =
     by_some (word_first (codes "octets") p.1) _ c ep (λ b pb eb.
     by_some (last_number b) _ c eb (λ o po eo.
     joined a p.0 p.1 b o (word_first_found (codes "packets") ws a pa) (number_word a p pp) (word_first_found (codes "octets") p.1 b pb) (last_found b o po) (some_is eo))))) where
-  joined : (a : Words) (p : ℕ) (r b : Words) (o : ℕ) → ws ≡ codes "packets" ∷ a → (a ≡ decimal p ∷ r) × IsNumber p → r ≡ codes "octets" ∷ b → (b ≡ decimal o ∷ []) × IsNumber o → record { packets = p; octets = o } ≡ c → (ws ≡ count_words c) × IsBelow c
-  joined a p r b o ha hp hb ho is =
-      subst (λ (c : Counts). (ws ≡ count_words c) × IsBelow c) is (rw (ha, hp.0, hb, ho.0) refl, (hp.1, ho.1))
+      joined : (a : Words) (p : ℕ) (r b : Words) (o : ℕ) → ws ≡ codes "packets" ∷ a → (a ≡ decimal p ∷ r) × IsNumber p → r ≡ codes "octets" ∷ b → (b ≡ decimal o ∷ []) × IsNumber o → record { packets = p; octets = o } ≡ c → (ws ≡ count_words c) × IsBelow c
+      joined a p r b o ha hp hb ho is =
+          subst (λ (c : Counts). (ws ≡ count_words c) × IsBelow c) is (rw (ha, hp.0, hb, ho.0) refl, (hp.1, ho.1))
 
 -- ---- the line of a key
 
@@ -246,11 +245,11 @@ record_found layout line r is e =
     let key = key_found layout (words line) k is.stands pk in
     let counts = counts_found k.1 c pc in
     whole k.0 k.1 c key.0 key.1 counts.0 counts.1 (some_is ec))) where
-  whole : (values : List ℕ) (rest : Words) (c : Counts) → words line ≡ key_words layout values ++ rest → HasBits layout values → rest ≡ count_words c → IsBelow c → record { key = record { layout = layout; values = values }; counts = c } ≡ r → (line ++ 10 ∷ [] ≡ record_line r) × IsRecordUnder layout r
-  whole values rest c key bits counts small same =
-      let own : Record = record { key = record { layout = layout; values = values }; counts = c } in
-      let text = line_is line (key_words layout values ++ count_words c) (key ∙ ap (λ (x : Words). key_words layout values ++ x) counts) in
-      subst (λ (r : Record). (line ++ 10 ∷ [] ≡ record_line r) × IsRecordUnder layout r) same (ap (λ (x : List ℕ). x ++ 10 ∷ []) text ∙ record_text own bits, (refl, bits, small))
+      whole : (values : List ℕ) (rest : Words) (c : Counts) → words line ≡ key_words layout values ++ rest → HasBits layout values → rest ≡ count_words c → IsBelow c → record { key = record { layout = layout; values = values }; counts = c } ≡ r → (line ++ 10 ∷ [] ≡ record_line r) × IsRecordUnder layout r
+      whole values rest c key bits counts small same =
+          let own : Record = record { key = record { layout = layout; values = values }; counts = c } in
+          let text = line_is line (key_words layout values ++ count_words c) (key ∙ ap (λ (x : Words). key_words layout values ++ x) counts) in
+          subst (λ (r : Record). (line ++ 10 ∷ [] ≡ record_line r) × IsRecordUnder layout r) same (ap (λ (x : List ℕ). x ++ 10 ∷ []) text ∙ record_text own bits, (refl, bits, small))
 
 pub behind_found : (layout : Layout) (last : Option (List ℕ)) (line : List ℕ) (r : Record) → record_behind layout last line ≡ Some r → (record_of layout line ≡ Some r) × (comes_behind last r.key.values ≡ true)
 unfolding record_behind
@@ -304,9 +303,9 @@ complete_found ws note e =
         | inr i ↦ absurd cc
       ]
     ]) where
-  said : (w : List ℕ) (rest : Words) (word : List ℕ) (own : Note) → ws ≡ w ∷ rest → w ≡ word → rest ≡ [] → codes "complete" ∷ word ∷ [] ≡ note_words own → IsNote own → own ≡ note → NoteIs (codes "complete" ∷ ws) note
-  said w rest word own is same none words_are fine here =
-      subst (λ (n : Note). NoteIs (codes "complete" ∷ ws) n) here (ap (λ (x : Words). codes "complete" ∷ x) (is ∙ ap₂ (λ (x : List ℕ) (xs : Words). x ∷ xs) same none) ∙ words_are, fine)
+      said : (w : List ℕ) (rest : Words) (word : List ℕ) (own : Note) → ws ≡ w ∷ rest → w ≡ word → rest ≡ [] → codes "complete" ∷ word ∷ [] ≡ note_words own → IsNote own → own ≡ note → NoteIs (codes "complete" ∷ ws) note
+      said w rest word own is same none words_are fine here =
+          subst (λ (n : Note). NoteIs (codes "complete" ∷ ws) n) here (ap (λ (x : Words). codes "complete" ∷ x) (is ∙ ap₂ (λ (x : List ℕ) (xs : Words). x ∷ xs) same none) ∙ words_are, fine)
 
 frames_found : (ws : Words) (note : Note) → frames_of ws ≡ Some note → NoteIs (codes "skipped" ∷ codes "other" ∷ ws) note
 unfolding frames_of
@@ -315,9 +314,9 @@ frames_found ws note e =
     by_some (word_first (codes "malformed") a.1) _ note ea (λ b pb eb.
     by_some (last_number b) _ note eb (λ m pm em.
     whole a.0 a.1 b m (number_word ws a pa) (word_first_found (codes "malformed") a.1 b pb) (last_found b m pm) (some_is em)))) where
-  whole : (o : ℕ) (r b : Words) (m : ℕ) → (ws ≡ decimal o ∷ r) × IsNumber o → r ≡ codes "malformed" ∷ b → (b ≡ decimal m ∷ []) × IsNumber m → Frames (record { other = o; malformed = m }) ≡ note → NoteIs (codes "skipped" ∷ codes "other" ∷ ws) note
-  whole o r b m ho hb hm is =
-      subst (λ (n : Note). NoteIs (codes "skipped" ∷ codes "other" ∷ ws) n) is (rw (ho.0, hb, hm.0) refl, (ho.1, hm.1))
+      whole : (o : ℕ) (r b : Words) (m : ℕ) → (ws ≡ decimal o ∷ r) × IsNumber o → r ≡ codes "malformed" ∷ b → (b ≡ decimal m ∷ []) × IsNumber m → Frames (record { other = o; malformed = m }) ≡ note → NoteIs (codes "skipped" ∷ codes "other" ∷ ws) note
+      whole o r b m ho hb hm is =
+          subst (λ (n : Note). NoteIs (codes "skipped" ∷ codes "other" ∷ ws) n) is (rw (ho.0, hb, hm.0) refl, (ho.1, hm.1))
 
 skipped_found : (ws : Words) (note : Note) → skipped_of ws ≡ Some note → NoteIs (codes "skipped" ∷ ws) note
 unfolding skipped_of
@@ -330,9 +329,9 @@ skipped_found ws note e =
           let f = end_found (Skipped n) note w.1 en in
           whole w.0 w.1 n (word_found ws w pw) number.0 (omega (arith, number.1)) f.0 f.1)
     ]) where
-  whole : (w : List ℕ) (rest : Words) (n : ℕ) → ws ≡ w ∷ rest → w ≡ decimal n → IsNumber n → rest ≡ [] → Skipped n ≡ note → NoteIs (codes "skipped" ∷ ws) note
-  whole w rest n is same small none here =
-      subst (λ (m : Note). NoteIs (codes "skipped" ∷ ws) m) here (rw (is, same, none) refl, small)
+      whole : (w : List ℕ) (rest : Words) (n : ℕ) → ws ≡ w ∷ rest → w ≡ decimal n → IsNumber n → rest ≡ [] → Skipped n ≡ note → NoteIs (codes "skipped" ∷ ws) note
+      whole w rest n is same small none here =
+          subst (λ (m : Note). NoteIs (codes "skipped" ∷ ws) m) here (rw (is, same, none) refl, small)
 
 gaps_found : (ws : Words) (note : Note) → option_map (λ n. Gaps n) (last_number ws) ≡ Some note → NoteIs (codes "gaps" ∷ ws) note
 gaps_found ws note e = by_number (last_number ws) refl e where

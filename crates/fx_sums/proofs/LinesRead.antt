@@ -1,6 +1,6 @@
 -- The lines of totals and notes are read as what they are the text of.
-use Rattle.std.proofs.Common.{◌≡◌, ◌≢◌, ℕ, ◌+◌, ◌-◌, ◌*◌, ◌/◌, ◌%◌, ◌^◌, ◌<◌, ◌≤◌, Bool, true, false, ◌&&◌, not, cond, eqb, List, [], ◌∷◌, ◌++◌, Option, Some, None, refl, ap, ap₂, sym, ◌∙◌, subst, arith, inl, ne_eqb, eq-eqb, codes, slice_index, pow-add}
-use Rattle.std.specs.Prelude.{nat_lt, ◌==◌}
+use Rattle.std.proofs.Common.{◌≡◌, ◌≢◌, ℕ, ◌+◌, ◌-◌, ◌*◌, ◌/◌, ◌%◌, ◌^◌, ◌<◌, ◌≤◌, Bool, true, false, ◌&&◌, not, cond, eqb, List, [], ◌∷◌, ◌++◌, Option, Some, refl, ap, sym, ◌∙◌, subst, arith, inl, ne_eqb, eq-eqb, codes, slice_index, pow-add}
+use Rattle.std.specs.Prelude.{nat_lt}
 use Rattle.std.specs.Fmt.{decimal}
 use Rattle.std.specs.List.{AllByRecursion, join_with_byte, list_all}
 use Rattle.std.specs.Str.{bytes_eq}
@@ -14,7 +14,7 @@ use Rattle.fx_elements.specs.declared.axis.Axis.{Axis}
 use Rattle.fx_elements.specs.declared.axis.Axis.TheVariants as axis
 use Rattle.fx_elements.specs.Axes.{axis_index, axis_width, tops}
 use Rattle.fx_elements.specs.Groups.{group, half, groups}
-use Rattle.fx_elements.specs.Spelling.{◌>>=◌, largest, number_of, quad, cut_at}
+use Rattle.fx_elements.specs.Spelling.{largest, number_of, quad, cut_at}
 use Rattle.fx_elements.specs.Values.{written_on, value_text, bits_text, leading_text}
 use Rattle.fx_elements.specs.Words.{Words, words}
 use Rattle.fx_elements.proofs.Cuts.{cut_text}
@@ -160,8 +160,8 @@ start_below part x le lt =
     let whole : axis_width part.axis ≡ part.bits + (axis_width part.axis - part.bits) = omega arith in
     let two : 2 ^ axis_width part.axis ≡ 2 ^ part.bits * size = ap (λ n. 2 ^ n) whole ∙ pow-add 2 part.bits (axis_width part.axis - part.bits) in
     subst (λ n. x * size < n) (sym two) (times x (2 ^ part.bits) size lt (pow_pos (axis_width part.axis - part.bits))) where
-  times : (a b c : ℕ) → a < b → 0 < c → a * c < b * c
-  times a b c h k = grind arith
+      times : (a b c : ℕ) → a < b → 0 < c → a * c < b * c
+      times a b c h k = grind arith
 
 leads : (part : Part) (x : ℕ) → leading_bits (axis_width part.axis) part.bits (x * 2 ^ (axis_width part.axis - part.bits)) ≡ x
 leads part x =
@@ -181,11 +181,11 @@ start_read part x stands lt =
     let small = start_below part x within.1 lt in
     let v : ℕ = x * 2 ^ (axis_width part.axis - part.bits) in
     by_fewer (nat_lt part.bits (axis_width part.axis)) refl (number_64 part.bits (omega (arith, bits_small))) (written_text part.axis v (on_axis part.axis v small)) (cut_text 47 (value_text part.axis v) (decimal part.bits) (value_avoids 47 part.axis v slash small)) where
-  by_fewer : (b : Bool) → nat_lt part.bits (axis_width part.axis) ≡ b → number_of largest (decimal part.bits) ≡ Some part.bits → written_on part.axis (value_text part.axis (x * 2 ^ (axis_width part.axis - part.bits))) ≡ Some (x * 2 ^ (axis_width part.axis - part.bits))
-      → cut_at 47 (value_text part.axis (x * 2 ^ (axis_width part.axis - part.bits)) ++ 47 ∷ decimal part.bits) ≡ Some (value_text part.axis (x * 2 ^ (axis_width part.axis - part.bits)), decimal part.bits)
-      → start_of part (leading_text part.axis part.bits x) ≡ Some (x * 2 ^ (axis_width part.axis - part.bits))
-  by_fewer true e number value cut = rw (e, cut, number, value, eq-eqb part.bits part.bits refl, mul-mod_left x (2 ^ (axis_width part.axis - part.bits))) refl
-  by_fewer false e number value cut = rw (e, append-nil (value_text part.axis (x * 2 ^ (axis_width part.axis - part.bits))), value) refl
+      by_fewer : (b : Bool) → nat_lt part.bits (axis_width part.axis) ≡ b → number_of largest (decimal part.bits) ≡ Some part.bits → written_on part.axis (value_text part.axis (x * 2 ^ (axis_width part.axis - part.bits))) ≡ Some (x * 2 ^ (axis_width part.axis - part.bits))
+          → cut_at 47 (value_text part.axis (x * 2 ^ (axis_width part.axis - part.bits)) ++ 47 ∷ decimal part.bits) ≡ Some (value_text part.axis (x * 2 ^ (axis_width part.axis - part.bits)), decimal part.bits)
+          → start_of part (leading_text part.axis part.bits x) ≡ Some (x * 2 ^ (axis_width part.axis - part.bits))
+      by_fewer true e number value cut = rw (e, cut, number, value, eq-eqb part.bits part.bits refl, mul-mod_left x (2 ^ (axis_width part.axis - part.bits))) refl
+      by_fewer false e number value cut = rw (e, append-nil (value_text part.axis (x * 2 ^ (axis_width part.axis - part.bits))), value) refl
 
 pub values_read : (parts : Layout) (values : List ℕ) (ws : Words) → list_all can_stand parts ≡ true → HasBits parts values → values_first parts (part_words parts values ++ ws) ≡ Some (values, ws)
 unfolding values_first
@@ -212,9 +212,9 @@ leading_avoids c part x out line stands lt =
     let le = (stands_within part stands).1 in
     let most = width_most part.axis in
     avoids_both c (value_text part.axis (x * 2 ^ (axis_width part.axis - part.bits))) (bits_text part.axis part.bits) (value_avoids c part.axis _ out (start_below part x le lt)) (by_fewer (nat_lt part.bits (axis_width part.axis)) (number_avoids c part.bits out (omega (arith, le, most)))) where
-  by_fewer : (b : Bool) → Avoids c (decimal part.bits) → Avoids c (cond b (47 ∷ decimal part.bits) [])
-  by_fewer true h = (line, h)
-  by_fewer false h = tt
+      by_fewer : (b : Bool) → Avoids c (decimal part.bits) → Avoids c (cond b (47 ∷ decimal part.bits) [])
+      by_fewer true h = (line, h)
+      by_fewer false h = tt
 
 parts_avoid : (c : ℕ) (parts : Layout) (values : List ℕ) → IsOutside c → 47 ≢ c → list_all can_stand parts ≡ true → HasBits parts values → AllAvoid c (part_words parts values)
 parts_avoid c [] values out line stand h = tt
@@ -243,9 +243,9 @@ unfolding record_of
 record_read r is bits small =
     let ws : words (key_line r) ≡ key_words r.key.layout r.key.values ++ count_words r.counts = line_words (key_words r.key.layout r.key.values) (all_both 32 (key_words r.key.layout r.key.values) (count_words r.counts) (key_avoids 32 r.key.layout r.key.values space (λ e. absurd cc) refl is.stands bits) (counts_avoid r.counts 32 space small refl refl)) in
     rw (ws, key_read r.key.layout r.key.values (count_words r.counts) is.stands bits, counts_read r.counts small) refl where
-  line_words : (a : Words) → AllAvoid 32 (a ++ count_words r.counts) → words (join_with_byte 32 (a ++ count_words r.counts)) ≡ a ++ count_words r.counts
-  line_words [] h = words_join _ _ h
-  line_words (x ∷ xs) h = words_join x (xs ++ count_words r.counts) h
+      line_words : (a : Words) → AllAvoid 32 (a ++ count_words r.counts) → words (join_with_byte 32 (a ++ count_words r.counts)) ≡ a ++ count_words r.counts
+      line_words [] h = words_join _ _ h
+      line_words (x ∷ xs) h = words_join x (xs ++ count_words r.counts) h
 
 pub behind_read : (layout : Layout) (last : Option (List ℕ)) (line : List ℕ) (r : Record) → record_of layout line ≡ Some r → comes_behind last r.key.values ≡ true → record_behind layout last line ≡ Some r
 unfolding record_behind

@@ -1,13 +1,13 @@
 -- Notes up to the end of a text, one after another.
-use Rattle.std.proofs.Common.{◌≡◌, ℕ, ◌⊎◌, Bool, true, false, List, [], ◌∷◌, Some, None, Ok, Err, refl, ap, sym, ◌∙◌, subst, inl, inr}
+use Rattle.std.proofs.Common.{◌≡◌, ℕ, ◌⊎◌, Bool, true, false, List, ◌∷◌, Some, None, Ok, Err, refl, ap, ◌∙◌, subst, inl, inr}
 use Rattle.fx_base.specs.declared.fault.Fault.{Fault}
 use Rattle.fx_base.specs.Device.{MayBeLeft, MayHaveLeft}
-use Rattle.fx_base.specs.Lines.{Lines, GoesOnToLines, Fails, text_lines, next_number}
+use Rattle.fx_base.specs.Lines.{Lines, GoesOnToLines, Fails, text_lines}
 use Rattle.fx_base.proofs.GoingOn.{something_left}
 use Rattle.fx_sums.specs.declared.notes.Notes.{Notes}
 use Rattle.fx_sums.specs.Sums.{no_notes}
 use Rattle.fx_sums.specs.SumLines.{notes_with, are_whole}
-use Rattle.fx_sums.specs.SumReading.{◌>>=◌, TextLine, missing, wrong, bytes_of, formed, notes_to_end, MayEnd, MayMeet, GoesOnToLine, GoesOnOrEnds, IsAtEnd}
+use Rattle.fx_sums.specs.SumReading.{TextLine, missing, wrong, bytes_of, notes_to_end, MayEnd, GoesOnToLine, GoesOnOrEnds, IsAtEnd}
 use Rattle.fx_sums.proofs.Lines.{MeetsFault}
 use Rattle.fx_sums.proofs.Tallying.{fails_behind}
 

@@ -1,5 +1,5 @@
 -- What is collected apart and summed is what is collected together.
-use Rattle.std.proofs.Common.{◌≡◌, ℕ, ◌+◌, ◌%◌, ◌^◌, ◌<◌, Bool, true, false, ◌&&◌, cond, List, [], ◌∷◌, ◌++◌, map, length, Option, Some, None, refl, sym, ap, ap₂, ◌∙◌, subst, arith}
+use Rattle.std.proofs.Common.{◌≡◌, ℕ, ◌+◌, ◌%◌, ◌^◌, ◌<◌, Bool, true, false, ◌&&◌, cond, List, [], ◌∷◌, ◌++◌, Option, Some, None, refl, sym, ap, ap₂, ◌∙◌, subst, arith}
 use Rattle.std.proofs.lemmas.List.{length-map}
 use Rattle.fx_base.specs.declared.counts.Counts.{Counts}
 use Rattle.fx_base.specs.Counts.{add_counts}
@@ -195,8 +195,8 @@ unassigned_of_parts layout a b l =
     let both : all.unassigned % 2 ^ 64 ≡ (0 + (lost layout a + lost layout b)) % 2 ^ 64 = left_out (nothing layout) (a ++ b) ∙ ap (λ (n : ℕ). (0 + n) % 2 ^ 64) (lost_both layout a b) in
     let small : all.unassigned < 2 ^ 64 = below (nothing layout) (a ++ b) (omega arith) in
     numbers (with_records first second.entries).unassigned first.unassigned (lost layout second.entries) second.unassigned all.unassigned (lost layout a) (lost layout b) none out one two both small where
-  numbers : (w f e s all m n : ℕ) → 0 % 2 ^ 64 ≡ (0 + e) % 2 ^ 64 → w % 2 ^ 64 ≡ (f + e) % 2 ^ 64 → f % 2 ^ 64 ≡ (0 + m) % 2 ^ 64 → s % 2 ^ 64 ≡ (0 + n) % 2 ^ 64 → all % 2 ^ 64 ≡ (0 + (m + n)) % 2 ^ 64 → all < 2 ^ 64 → (w + s) % 2 ^ 64 ≡ all
-  numbers w f e s all m n none out one two both small = omega (arith, none, out, one, two, both, small)
+      numbers : (w f e s all m n : ℕ) → 0 % 2 ^ 64 ≡ (0 + e) % 2 ^ 64 → w % 2 ^ 64 ≡ (f + e) % 2 ^ 64 → f % 2 ^ 64 ≡ (0 + m) % 2 ^ 64 → s % 2 ^ 64 ≡ (0 + n) % 2 ^ 64 → all % 2 ^ 64 ≡ (0 + (m + n)) % 2 ^ 64 → all < 2 ^ 64 → (w + s) % 2 ^ 64 ≡ all
+      numbers w f e s all m n none out one two both small = omega (arith, none, out, one, two, both, small)
 
 pub parts_alike : (layout : Layout) (a b : List Record) → IsLayout layout → HaveSameTotals (plus_totals (with_records (nothing layout) a) (with_records (nothing layout) b)) (with_records (nothing layout) (a ++ b))
 parts_alike layout a b l = (λ key. totals_of_parts layout a b key l, unassigned_of_parts layout a b l)
@@ -212,8 +212,8 @@ unassigned_exchanged s t u =
     let first = left_out s t.entries in
     let second : (with_records (plus_totals s t) u.entries).unassigned % 2 ^ 64 ≡ ((plus_totals s t).unassigned + lost s.layout u.entries) % 2 ^ 64 = left_out (plus_totals s t) u.entries ∙ ap (λ (k : Layout). ((plus_totals s t).unassigned + lost k u.entries) % 2 ^ 64) (layouts_kept s t.entries) in
     numbers (with_records s t.entries).unassigned (with_records (plus_totals s t) u.entries).unassigned s.unassigned (lost s.layout t.entries) t.unassigned (lost s.layout u.entries) u.unassigned first second where
-  numbers : (v w a b c d e : ℕ) → v % 2 ^ 64 ≡ (a + b) % 2 ^ 64 → w % 2 ^ 64 ≡ ((v + c) % 2 ^ 64 + d) % 2 ^ 64 → (w + e) % 2 ^ 64 ≡ (a + (b + c) + (d + e)) % 2 ^ 64
-  numbers v w a b c d e first second = omega (arith, first, second)
+      numbers : (v w a b c d e : ℕ) → v % 2 ^ 64 ≡ (a + b) % 2 ^ 64 → w % 2 ^ 64 ≡ ((v + c) % 2 ^ 64 + d) % 2 ^ 64 → (w + e) % 2 ^ 64 ≡ (a + (b + c) + (d + e)) % 2 ^ 64
+      numbers v w a b c d e first second = omega (arith, first, second)
 
 -- ---- notes
 

@@ -1,9 +1,7 @@
 -- Lines of keys that are tallied one after another, and what is read behind what was read.
-use Rattle.std.proofs.Common.{◌≡◌, ℕ, suc, ◌-◌, ◌<◌, ◌⊎◌, true, false, cond, List, Option, Some, None, Result, Ok, Err, refl, ap, sym, ◌∙◌, arith, inl, inr, subst}
+use Rattle.std.proofs.Common.{◌≡◌, ℕ, suc, ◌-◌, ◌<◌, true, false, cond, List, Option, Some, None, Result, Err, refl, ap, ◌∙◌, arith, inl, inr}
 use Rattle.fx_base.specs.declared.fault.Fault.{Fault}
-use Rattle.fx_base.specs.declared.fault.Place.TheVariants as places
 use Rattle.fx_base.specs.Device.{MayBeLeft, MayHaveLeft}
-use Rattle.fx_base.specs.Fault.{fault_at}
 use Rattle.fx_base.specs.Lines.{Lines, GoesOnToLines, Fails, text_lines}
 use Rattle.fx_base.proofs.GoingOn.{cut_off_behind}
 use Rattle.fx_layout.specs.Keys.{Layout, refines, project}

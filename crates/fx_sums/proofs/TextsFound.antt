@@ -1,5 +1,5 @@
 -- A text that is read as totals and notes is their text.
-use Rattle.std.proofs.Common.{◌≡◌, ℕ, zero, suc, ◌^◌, ◌<◌, ◌≤◌, Bool, true, false, cond, eqb, ◌||◌, ◌&&◌, not, List, [], ◌∷◌, ◌++◌, length, Option, Some, None, Result, Ok, Err, IfSome, is_some, refl, ap, ap₂, sym, ◌∙◌, subst, arith, eqb-true, inl, inr, append_assoc, codes}
+use Rattle.std.proofs.Common.{◌≡◌, ℕ, zero, suc, ◌^◌, ◌<◌, Bool, true, false, cond, eqb, ◌||◌, ◌&&◌, not, List, [], ◌∷◌, ◌++◌, length, Option, Some, None, Result, Ok, Err, IfSome, is_some, refl, ap, ap₂, sym, ◌∙◌, subst, eqb-true, inl, inr, append_assoc, codes}
 use Rattle.std.specs.Prelude.{flat_map, nat_lt}
 use Rattle.std.specs.Fmt.{decimal}
 use Rattle.std.specs.List.{AllByRecursion}
@@ -8,7 +8,6 @@ use Rattle.fx_base.specs.declared.fault.Fault.{Fault}
 use Rattle.fx_base.specs.Lines.{text_lines, begin_line, next_number}
 use Rattle.fx_elements.proofs.Cuts.{chosen}
 use Rattle.fx_elements.proofs.Addresses.{by_some, some_is}
-
 use Rattle.fx_layout.specs.Keys.{Layout, IsLayout}
 use Rattle.fx_tables.specs.declared.record.Record.{Record}
 use Rattle.fx_collect.specs.Totals.{Totals, with_record, with_records, with_unassigned}
@@ -17,9 +16,9 @@ use Rattle.fx_sums.specs.declared.notes.Notes.{Notes}
 use Rattle.fx_sums.specs.declared.notes.SkippedFrames.{SkippedFrames}
 use Rattle.fx_sums.specs.declared.note.Note.{Note}
 use Rattle.fx_sums.specs.declared.note.Note.TheVariants.{Complete, Frames, Gaps, Skipped}
-use Rattle.fx_sums.specs.Sums.{Sum, plus, plus_totals, plus_notes, no_notes}
-use Rattle.fx_sums.specs.SumText.{complete_text, frames_text, number_text, notes_text, noted_text, comes_behind, KeysAscendBehind, IsRecordUnder, AreNotes, IsNoted}
-use Rattle.fx_sums.specs.SumLines.{number_behind, record_of, record_behind, note_of, with_note, notes_with, are_whole}
+use Rattle.fx_sums.specs.Sums.{Sum, plus, plus_notes, no_notes}
+use Rattle.fx_sums.specs.SumText.{complete_text, frames_text, number_text, notes_text, noted_text, KeysAscendBehind, IsRecordUnder, AreNotes, IsNoted}
+use Rattle.fx_sums.specs.SumLines.{number_behind, record_behind, note_of, with_note, notes_with, are_whole}
 use Rattle.fx_sums.specs.SumReading.{◌>>=◌, TextLine, Rest, bytes_of, formed, next_line, in_line, tallied, totals_with, notes_to_end, sum_with}
 use Rattle.fx_sums.proofs.LinesFound.{IsNumber, number_line_found, record_found, behind_found, note_text, IsNote, note_found}
 
@@ -140,26 +139,26 @@ totals_found layout t rest r is e =
     let last = line_found (number_behind (codes "unassigned")) s.1 u pu in
     let number = number_line_found (codes "unassigned") last.0 u.0 last.2 in
     whole k s u m keys.0 last.0 keys.1 last.1 count.0 number.0 count.1 number.1 (ok_is eu)))) where
-  whole : (k : ℕ × Rest) (s : Totals × Rest) (u : ℕ × Rest) (m : Tallied layout k.0 None t k.1.1 s) (keys last : List ℕ) → IsLineBefore rest.1 keys k.1.1 → IsLineBefore s.1.1 last u.1.1 → keys ≡ codes "keys" ++ 32 ∷ decimal k.0 → last ≡ codes "unassigned" ++ 32 ∷ decimal u.0 → IsNumber k.0 → IsNumber u.0 → (with_unassigned s.0 u.0, u.1) ≡ r → TotalsRead layout t rest.1 r
-  whole k s u m keys last first end keys_are last_is some small same =
-      let kline = number_line (codes "keys ") (length m.rs) in
-      let uline = number_line (codes "unassigned ") u.0 in
-      let one : keys ++ 10 ∷ [] ≡ kline = ap (λ (x : List ℕ). x ++ 10 ∷ []) keys_are ∙ ap (λ (n : ℕ). number_line (codes "keys ") n) (sym m.many) in
-      let two : last ++ 10 ∷ [] ≡ uline = ap (λ (x : List ℕ). x ++ 10 ∷ []) last_is in
-      let text : text_of rest.1 ≡ kline ++ (record_lines m.rs ++ (uline ++ text_of u.1.1)) =
-      first ∙ ap₂ (λ (x y : List ℕ). x ++ y) one (m.text ∙ ap (λ (y : List ℕ). record_lines m.rs ++ y) (end ∙ ap (λ (x : List ℕ). x ++ text_of u.1.1) two)) in
-      let joined : kline ++ (record_lines m.rs ++ (uline ++ text_of u.1.1)) ≡ (kline ++ (record_lines m.rs ++ uline)) ++ text_of u.1.1 =
-      ap (λ (y : List ℕ). kline ++ y) (sym (append_assoc (record_lines m.rs) uline (text_of u.1.1))) ∙ sym (append_assoc kline (record_lines m.rs ++ uline) (text_of u.1.1)) in
-      subst (λ (r : Totals × Rest). TotalsRead layout t rest.1 r) same (record {
-        rs = m.rs;
-        unassigned = u.0;
-        text = text ∙ joined;
-        under = m.under;
-        ascend = m.ascend;
-        few = subst IsNumber (sym m.many) some;
-        small = small;
-        total = ap (λ (x : Totals). with_unassigned x u.0) m.total;
-      })
+      whole : (k : ℕ × Rest) (s : Totals × Rest) (u : ℕ × Rest) (m : Tallied layout k.0 None t k.1.1 s) (keys last : List ℕ) → IsLineBefore rest.1 keys k.1.1 → IsLineBefore s.1.1 last u.1.1 → keys ≡ codes "keys" ++ 32 ∷ decimal k.0 → last ≡ codes "unassigned" ++ 32 ∷ decimal u.0 → IsNumber k.0 → IsNumber u.0 → (with_unassigned s.0 u.0, u.1) ≡ r → TotalsRead layout t rest.1 r
+      whole k s u m keys last first end keys_are last_is some small same =
+          let kline = number_line (codes "keys ") (length m.rs) in
+          let uline = number_line (codes "unassigned ") u.0 in
+          let one : keys ++ 10 ∷ [] ≡ kline = ap (λ (x : List ℕ). x ++ 10 ∷ []) keys_are ∙ ap (λ (n : ℕ). number_line (codes "keys ") n) (sym m.many) in
+          let two : last ++ 10 ∷ [] ≡ uline = ap (λ (x : List ℕ). x ++ 10 ∷ []) last_is in
+          let text : text_of rest.1 ≡ kline ++ (record_lines m.rs ++ (uline ++ text_of u.1.1)) =
+          first ∙ ap₂ (λ (x y : List ℕ). x ++ y) one (m.text ∙ ap (λ (y : List ℕ). record_lines m.rs ++ y) (end ∙ ap (λ (x : List ℕ). x ++ text_of u.1.1) two)) in
+          let joined : kline ++ (record_lines m.rs ++ (uline ++ text_of u.1.1)) ≡ (kline ++ (record_lines m.rs ++ uline)) ++ text_of u.1.1 =
+          ap (λ (y : List ℕ). kline ++ y) (sym (append_assoc (record_lines m.rs) uline (text_of u.1.1))) ∙ sym (append_assoc kline (record_lines m.rs ++ uline) (text_of u.1.1)) in
+          subst (λ (r : Totals × Rest). TotalsRead layout t rest.1 r) same (record {
+            rs = m.rs;
+            unassigned = u.0;
+            text = text ∙ joined;
+            under = m.under;
+            ascend = m.ascend;
+            few = subst IsNumber (sym m.many) some;
+            small = small;
+            total = ap (λ (x : Totals). with_unassigned x u.0) m.total;
+          })
 
 -- ---- notes
 
@@ -202,8 +201,7 @@ gaps_more : (n : Notes) (x : ℕ) → IsNumber x → SoFar n → n.gaps ≡ None
 gaps_more n x h so g s =
     let text = complete_text n.complete in
     let frames = frames_text n.frames in
-    let gaps = number_line (codes "gaps ") x in
-    (
+    let gaps = number_line (codes "gaps ") x in (
       rw (g, s) (ap (λ (y : List ℕ). text ++ (frames ++ y)) (append-nil gaps) ∙ sym (append_assoc text frames gaps) ∙ sym (ap (λ (y : List ℕ). (text ++ y) ++ gaps) (append-nil frames))),
       record { frames = so.frames; gaps = h; skipped = rw s tt; behind = λ e. s },
     )
@@ -213,8 +211,7 @@ skipped_more n x h so g s =
     let text = complete_text n.complete in
     let frames = frames_text n.frames in
     let gaps = number_text (codes "gaps ") n.gaps in
-    let skipped = number_line (codes "skipped ") x in
-    (
+    let skipped = number_line (codes "skipped ") x in (
       rw s (sym (append_assoc text (frames ++ (gaps ++ [])) skipped ∙ ap (λ (y : List ℕ). text ++ y) (append_assoc frames (gaps ++ []) skipped ∙ ap (λ (y : List ℕ). frames ++ (y ++ skipped)) (append-nil gaps)))),
       record { frames = so.frames; gaps = so.gaps; skipped = h; behind = λ e. absurd (cc) },
     )
@@ -274,8 +271,7 @@ notes_found (l ∷ ls) k n m so e =
     by_ok (bytes_of (next_number k) l) _ m e (λ line pl el.
     by_ok (formed (next_number k) (notes_with n line)) _ m el (λ more pm em.
     let one = with_found n line more so (formed_found (next_number k) (notes_with n line) more pm) in
-    let behind = notes_found ls (next_number k) more m one.1 em in
-    (
+    let behind = notes_found ls (next_number k) more m one.1 em in (
       behind.0 ∙ ap (λ (x : List ℕ). x ++ text_of ls) one.0 ∙ append_assoc (notes_text n) (line ++ 10 ∷ []) (text_of ls) ∙ ap (λ (x : List ℕ). notes_text n ++ (x ++ text_of ls)) (sym (bytes_found (next_number k) l line pl)),
       behind.1,
     )))
@@ -293,12 +289,11 @@ text_found s result text n is e =
     let totals = totals_found s.totals.layout s.totals (n, text_lines text) t is pt in
     let found = notes_found t.1.1 t.1.0 no_notes notes (record { frames = tt; gaps = tt; skipped = tt; behind = λ h. refl }) pn in
     whole t notes totals found.0 found.1 (ok_is en))) where
-  whole : (t : Totals × Rest) (notes : Notes) (totals : TotalsRead s.totals.layout s.totals (text_lines text) t) → notes_text notes ≡ text_of t.1.1 → AreNotes notes → record { totals = t.0; notes = plus_notes s.notes notes } ≡ result → IsReadIn s result text
-  whole t notes totals more fine same =
-      let read : Totals = record { layout = s.totals.layout; entries = totals.rs; unassigned = totals.unassigned } in
-      (
-        record { totals = read; notes = notes },
-        sym (text_back text) ∙ totals.text ∙ ap (λ (x : List ℕ). totals_text read ++ x) (sym more),
-        record { layout_is = refl; records = totals.under; ascend = totals.ascend; count = totals.few; unassigned = totals.small; notes_are = fine },
-        sym same ∙ ap (λ (x : Totals). record { totals = x; notes = plus_notes s.notes notes }) totals.total,
-      )
+      whole : (t : Totals × Rest) (notes : Notes) (totals : TotalsRead s.totals.layout s.totals (text_lines text) t) → notes_text notes ≡ text_of t.1.1 → AreNotes notes → record { totals = t.0; notes = plus_notes s.notes notes } ≡ result → IsReadIn s result text
+      whole t notes totals more fine same =
+          let read : Totals = record { layout = s.totals.layout; entries = totals.rs; unassigned = totals.unassigned } in (
+            record { totals = read; notes = notes },
+            sym (text_back text) ∙ totals.text ∙ ap (λ (x : List ℕ). totals_text read ++ x) (sym more),
+            record { layout_is = refl; records = totals.under; ascend = totals.ascend; count = totals.few; unassigned = totals.small; notes_are = fine },
+            sym same ∙ ap (λ (x : Totals). record { totals = x; notes = plus_notes s.notes notes }) totals.total,
+          )

@@ -1,6 +1,5 @@
 -- The text of totals and notes is read as they are.
-use Rattle.std.proofs.Common.{◌≡◌, ◌≢◌, ℕ, zero, suc, ◌^◌, ◌<◌, ◌≤◌, Bool, true, false, ◌||◌, not, List, [], ◌∷◌, ◌++◌, length, Option, Some, None, Result, Ok, Err, IfSome, is_some, refl, ap, ap₂, sym, ◌∙◌, subst, arith, ne_eqb, le-ltb, append_assoc, codes}
-use Rattle.std.specs.Prelude.{nat_lt}
+use Rattle.std.proofs.Common.{◌≡◌, ℕ, zero, suc, ◌≤◌, Bool, true, List, [], ◌∷◌, ◌++◌, length, Option, Some, None, Ok, IfSome, is_some, refl, ap, sym, ◌∙◌, subst, ne_eqb, le-ltb, append_assoc, codes}
 use Rattle.std.specs.Fmt.{decimal}
 use Rattle.std.specs.List.{AllByRecursion}
 use Rattle.std.proofs.lemmas.List.{append-nil}
@@ -8,17 +7,16 @@ use Rattle.fx_base.specs.Lines.{text_lines, next_number}
 use Rattle.fx_elements.proofs.Addresses.{Avoids}
 use Rattle.fx_layout.specs.Keys.{Layout, IsLayout, HasBits}
 use Rattle.fx_tables.specs.declared.record.Record.{Record}
-use Rattle.fx_machine.specs.Sums.{IsBelow}
-use Rattle.fx_collect.specs.Totals.{Totals, with_record, with_records, with_unassigned}
-use Rattle.fx_collect.specs.Report.{record_line, record_lines, number_line, totals_text}
+use Rattle.fx_collect.specs.Totals.{Totals, with_record, with_records}
+use Rattle.fx_collect.specs.Report.{record_line, record_lines, number_line}
 use Rattle.fx_sums.specs.declared.notes.Notes.{Notes}
 use Rattle.fx_sums.specs.declared.notes.SkippedFrames.{SkippedFrames}
 use Rattle.fx_sums.specs.declared.note.Note.{Note}
 use Rattle.fx_sums.specs.declared.note.Note.TheVariants.{Complete, Frames, Gaps, Skipped}
 use Rattle.fx_sums.specs.Sums.{Sum, plus, no_notes}
-use Rattle.fx_sums.specs.SumText.{complete_text, frames_text, number_text, notes_text, noted_text, comes_behind, KeysAscendBehind, IsRecordUnder, AreNotes, IsNoted, HasShortLines}
-use Rattle.fx_sums.specs.SumLines.{number_behind, record_of, record_behind, note_of, with_note, notes_with, are_whole}
-use Rattle.fx_sums.specs.SumReading.{◌>>=◌, TextLine, Rest, bytes_of, formed, next_line, in_line, tallied, totals_with, notes_to_end, sum_with}
+use Rattle.fx_sums.specs.SumText.{complete_text, frames_text, number_text, notes_text, noted_text, KeysAscendBehind, IsRecordUnder, AreNotes, IsNoted, HasShortLines}
+use Rattle.fx_sums.specs.SumLines.{number_behind, record_of, record_behind, with_note, notes_with}
+use Rattle.fx_sums.specs.SumReading.{TextLine, bytes_of, in_line, tallied, totals_with, notes_to_end, sum_with}
 use Rattle.fx_sums.proofs.LinesFound.{IsNumber, IsNote, note_text, note_line, record_text}
 use Rattle.fx_sums.proofs.LinesRead.{written, number_read, number_line_plain, key_line, key_plain, record_read, behind_read, note_bytes, note_plain, note_read}
 
@@ -89,8 +87,7 @@ one_note n note m k rest is fits short =
     let text : note_text note ++ rest ≡ (line ++ 10 ∷ []) ++ rest = ap (λ (x : List ℕ). x ++ rest) (sym (note_line note)) in
     let fine : HasShortLines ((line ++ 10 ∷ []) ++ rest) = subst HasShortLines text short in
     let plain = note_plain note is in
-    let bytes = bytes_read line rest plain fine (next_number k) in
-    (
+    let bytes = bytes_read line rest plain fine (next_number k) in (
       next_number k,
       ap (λ (x : List ℕ). notes_to_end n k (text_lines x)) text ∙ ap (λ (ls : List TextLine). notes_to_end n k ls) (first_line_is line rest plain) ∙ rw (bytes, note_read note is, fits) refl,
       short_behind line rest plain fine,

@@ -1,8 +1,7 @@
 -- Fields that have the values that were read for each part.
-use Rattle.std.proofs.Common.{◌≡◌, ◌≢◌, ℕ, suc, ◌-◌, ◌<◌, ◌≤◌, List, [], ◌∷◌, length, get_or, take, drop, map, Option, Some, None, refl, sym, ap, ap₂, ◌∙◌, subst, arith, slice_index}
+use Rattle.std.proofs.Common.{◌≡◌, ◌≢◌, ℕ, suc, ◌-◌, ◌<◌, ◌≤◌, List, [], ◌∷◌, length, get_or, take, drop, Option, Some, refl, sym, ap, ap₂, arith, slice_index}
 use Rattle.std.proofs.lemmas.List.{length-drop, take_all}
 use Rattle.fx_elements.specs.Axes.{Fields, field, axis_index, axis_width}
-use Rattle.fx_elements.specs.Spelling.{◌>>=◌}
 use Rattle.fx_elements.specs.Words.{Words, in_first, first_word}
 use Rattle.fx_elements.proofs.Addresses.{some_is}
 use Rattle.fx_layout.specs.declared.layout.Part.{Part}

@@ -1,5 +1,5 @@
 -- What a line of totals says.
-use Rattle.std.specs.Prelude.{◌≡◌, ℕ, ◌-◌, ◌*◌, ◌/◌, ◌%◌, ◌^◌, ◌==◌, ◌&&◌, ◌||◌, not, nat_lt, Bool, true, false, is_some, if◌then◌else◌, List, [], ◌∷◌, map, codes, Option, Some, None}
+use Rattle.std.specs.Prelude.{ℕ, ◌-◌, ◌%◌, ◌^◌, ◌==◌, ◌&&◌, ◌||◌, not, nat_lt, Bool, true, false, is_some, if◌then◌else◌, List, [], ◌∷◌, map, codes, Option, Some, None}
 use Rattle.std.specs.Option.{option_map}
 use Rattle.std.specs.Str.{bytes_eq}
 use Rattle.fx_base.specs.declared.counts.Counts.{Counts}
@@ -11,7 +11,6 @@ use Rattle.fx_layout.specs.declared.layout.Part.{Part}
 use Rattle.fx_layout.specs.Keys.{Layout, leading_bits}
 use Rattle.fx_tables.specs.declared.record.Record.{Record}
 use Rattle.fx_sums.specs.declared.notes.Notes.{Notes}
-use Rattle.fx_sums.specs.declared.notes.SkippedFrames.{SkippedFrames}
 use Rattle.fx_sums.specs.declared.note.Note.{Note}
 use Rattle.fx_sums.specs.declared.note.Note.TheVariants.{Complete, Frames, Gaps, Skipped}
 use Rattle.fx_sums.specs.SumText.{comes_behind}

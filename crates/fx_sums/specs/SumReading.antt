@@ -8,7 +8,6 @@ use Rattle.fx_base.specs.Limits.{line_length_limit}
 use Rattle.fx_base.specs.Lines.{Lines, GoesOnToLines, Fails, text_lines, next_number, line_budget}
 use Rattle.fx_base.specs.Refusals.{long_line, totals_form}
 use Rattle.fx_layout.specs.Keys.{Layout}
-use Rattle.fx_tables.specs.declared.record.Record.{Record}
 use Rattle.fx_collect.specs.Totals.{Totals, with_record, with_unassigned}
 use Rattle.fx_sums.specs.declared.notes.Notes.{Notes}
 use Rattle.fx_sums.specs.Sums.{Sum, no_notes, plus_notes}

@@ -1,5 +1,5 @@
 -- What totals of one report come to that were collected apart, and what was noted beside them.
-use Rattle.std.specs.Prelude.{◌≡◌, ℕ, ◌+◌, ◌%◌, ◌^◌, ◌&&◌, Bool, List, [], Option, Some, None}
+use Rattle.std.specs.Prelude.{◌≡◌, ℕ, ◌+◌, ◌%◌, ◌^◌, ◌&&◌, Bool, Option, Some, None}
 use Rattle.fx_layout.specs.Keys.{Layout, Key}
 use Rattle.fx_machine.specs.Sums.{total_at}
 use Rattle.fx_collect.specs.Totals.{Totals, nothing, with_records, with_unassigned}

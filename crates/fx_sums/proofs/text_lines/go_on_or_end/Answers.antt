@@ -1,6 +1,6 @@
 use Rattle.std.proofs.Common.{inr, sym, ◌∙◌}
 use Rattle.std.proofs.lemmas.Result.{err_from_is_err_and}
-use Rattle.fx_sums.proofs.Lines.{at_line_of, at_end_of, stops_at, unended, goes_on, stays}
+use Rattle.fx_sums.proofs.Lines.{at_line_of, stops_at, unended}
 use Rattle.fx_sums.proofs.text_lines.go_on_or_end.Goals as goal
 
 pub returns-in_err-advance : goal.returns-in_err-advance

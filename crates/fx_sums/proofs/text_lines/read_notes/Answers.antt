@@ -1,5 +1,4 @@
-use Rattle.std.proofs.Common.{◌≡◌, None, inr, ap, sym, ◌∙◌}
-use Rattle.fx_sums.specs.SumReading.{GoesOnToLine, GoesOnOrEnds}
+use Rattle.std.proofs.Common.{inr, ap, sym, ◌∙◌}
 use Rattle.fx_sums.specs.SumLines.{notes_with}
 use Rattle.fx_sums.proofs.NotesRead.{goes_on_of, notes_wrong}
 use Rattle.fx_sums.proofs.text_lines.read_notes.Goals as goal

@@ -1,4 +1,4 @@
-use Rattle.std.proofs.Common.{◌≡◌, None, inr, ap, sym, ◌∙◌}
+use Rattle.std.proofs.Common.{inr, ap, sym, ◌∙◌}
 use Rattle.fx_sums.specs.SumLines.{number_behind}
 use Rattle.fx_sums.proofs.Lines.{wrong_in_line}
 use Rattle.fx_sums.proofs.text_lines.read_number.Goals as goal

@@ -1,4 +1,4 @@
-use Rattle.std.proofs.Common.{◌≡◌, None, inr, ap, sym, ◌∙◌}
+use Rattle.std.proofs.Common.{inr, ap, sym, ◌∙◌}
 use Rattle.std.specs.Option.{option_map}
 use Rattle.fx_layout.specs.Keys.{Key}
 use Rattle.fx_sums.specs.SumLines.{record_behind}

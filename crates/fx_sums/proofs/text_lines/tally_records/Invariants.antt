@@ -1,4 +1,4 @@
-use Rattle.std.proofs.Common.{◌≡◌, ℕ, List, None, option_map}
+use Rattle.std.proofs.Common.{◌≡◌, None, option_map}
 use Rattle.fx_base.specs.Lines.{GoesOnToLines}
 use Rattle.fx_layout.specs.Keys.{Key}
 use Rattle.fx_sums.proofs.Tallying.{TalliesOn}

@@ -1,4 +1,4 @@
-use Rattle.std.proofs.Common.{◌++◌, OnOk, refl, subst}
+use Rattle.std.proofs.Common.{OnOk, refl, subst}
 use Rattle.fx_base.specs.Device.{Writes}
 use Rattle.fx_collect.specs.Report.{totals_text}
 use Rattle.fx_sums.specs.Sums.{Sum}
