@@ -20,6 +20,8 @@ mod pcap;
 #[cfg(test)]
 mod store;
 #[cfg(test)]
+mod sums;
+#[cfg(test)]
 mod wire;
 #[cfg(test)]
 mod words;

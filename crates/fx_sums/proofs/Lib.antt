@@ -1,0 +1,11 @@
+pub mod Puts
+pub mod ValuesRead
+pub mod Lines
+pub mod Tallying
+pub mod NotesRead
+pub mod Adding
+pub mod SumsOfParts
+pub mod LinesFound
+pub mod TextsFound
+pub mod LinesRead
+pub mod TextsRead

@@ -1,0 +1,4 @@
+pub mod Sums
+pub mod SumText
+pub mod SumLines
+pub mod SumReading

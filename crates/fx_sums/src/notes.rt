@@ -1,0 +1,170 @@
+//! What is noted beside totals.
+ghost use Rattle.std.specs.Prelude.{◌≡◌, ◌&&◌, Bool};
+ghost use Rattle.fx_sums.specs.Sums.{joined, no_notes, plus_numbers, plus_frames, plus_notes};
+ghost use Rattle.fx_sums.specs.SumLines.{notes_with, with_note, are_whole};
+
+use crate::note::{Note, read_note};
+
+/// How many frames of a capture were left out.
+#[derive(Clone, Copy)]
+pub(crate) struct SkippedFrames {
+    /// Those that have no packet of IP.
+    pub other: u64,
+    /// Those that are malformed.
+    pub malformed: u64,
+}
+
+/// What is noted beside totals, each where its kind of totals was told.
+#[derive(Clone, Copy)]
+pub(crate) struct Notes {
+    /// Whether all replayed runs were complete.
+    pub complete: Option<bool>,
+    /// How many frames of captures were left out.
+    pub frames: Option<SkippedFrames>,
+    /// The number of gaps of streams, modulo 2 to the 64.
+    pub gaps: Option<u64>,
+    /// The number of records of streams that were skipped, modulo 2 to the 64.
+    pub skipped: Option<u64>,
+}
+
+/// Both where both are there.
+fn both(first: Option<bool>, second: Option<bool>) -> Option<bool>
+    ensures { result ≡ joined (λ (a b : Bool). a && b) first second }
+{
+    match first {
+        None => second,
+        Some(a) => match second {
+            None => Some(a),
+            Some(b) => Some(a && b),
+        },
+    }
+}
+
+/// The sum modulo 2 to the 64 where both are there.
+fn sum_of(first: Option<u64>, second: Option<u64>) -> Option<u64>
+    ensures { result ≡ joined plus_numbers first second }
+{
+    match first {
+        None => second,
+        Some(a) => match second {
+            None => Some(a),
+            Some(b) => Some(a.wrapping_add(b)),
+        },
+    }
+}
+
+/// The sums modulo 2 to the 64 where both are there.
+fn frames_of(first: Option<SkippedFrames>, second: Option<SkippedFrames>) -> Option<SkippedFrames>
+    ensures { result ≡ joined plus_frames first second }
+{
+    match first {
+        None => second,
+        Some(a) => match second {
+            None => Some(a),
+            Some(b) => Some(SkippedFrames {
+                other: a.other.wrapping_add(b.other),
+                malformed: a.malformed.wrapping_add(b.malformed),
+            }),
+        },
+    }
+}
+
+impl Notes {
+    /// Nothing is noted.
+    pub(crate) fn new() -> Notes
+        ensures { result ≡ no_notes }
+    {
+        Notes {
+            complete: None,
+            frames: None,
+            gaps: None,
+            skipped: None,
+        }
+    }
+
+    /// The notes of both: complete where both are, and the sums of the numbers.
+    pub(crate) fn plus(self, other: Notes) -> Notes
+        ensures { result ≡ plus_notes self other }
+    {
+        Notes {
+            complete: both(self.complete, other.complete),
+            frames: frames_of(self.frames, other.frames),
+            gaps: sum_of(self.gaps, other.gaps),
+            skipped: sum_of(self.skipped, other.skipped),
+        }
+    }
+
+    /// The notes with one more, if it may stand behind these.
+    fn with(self, note: Note) -> Option<Notes>
+        ensures { result ≡ with_note self note }
+    {
+        let Notes {
+            complete,
+            frames,
+            gaps,
+            skipped,
+        } = self;
+        match note {
+            Note::Complete(yes) => {
+                if complete.is_some() || frames.is_some() || gaps.is_some() {
+                    return None;
+                }
+                Some(Notes {
+                    complete: Some(yes),
+                    frames,
+                    gaps,
+                    skipped,
+                })
+            }
+            Note::Frames(counted) => {
+                if frames.is_some() || gaps.is_some() {
+                    return None;
+                }
+                Some(Notes {
+                    complete,
+                    frames: Some(counted),
+                    gaps,
+                    skipped,
+                })
+            }
+            Note::Gaps(number) => {
+                if gaps.is_some() {
+                    return None;
+                }
+                Some(Notes {
+                    complete,
+                    frames,
+                    gaps: Some(number),
+                    skipped,
+                })
+            }
+            Note::Skipped(number) => {
+                if gaps.is_none() || skipped.is_some() {
+                    return None;
+                }
+                Some(Notes {
+                    complete,
+                    frames,
+                    gaps,
+                    skipped: Some(number),
+                })
+            }
+        }
+    }
+
+    /// The notes with that of a line, if it says one that may stand behind these.
+    #[tactic(auto, unfolding(crate::specs::SumLines::notes_with))]
+    pub(crate) fn with_line(self, line: &[u8]) -> Option<Notes>
+        ensures { result ≡ notes_with self line.now }
+    {
+        let note = read_note(line)?;
+        self.with(note)
+    }
+
+    /// Whether gaps stand together with skipped records.
+    pub(crate) fn are_whole(self) -> bool
+        ensures { result ≡ are_whole self }
+    {
+        self.gaps.is_none() || self.skipped.is_some()
+    }
+}

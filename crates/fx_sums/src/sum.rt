@@ -1,0 +1,108 @@
+//! Sums of totals.
+ghost use Rattle.std.specs.Prelude.{◌≡◌, ◌⊎◌, Ok, Err, IfOk, IfErr, OnOk, IsPermutation};
+ghost use Rattle.fx_base.specs.Device.{Writes, IsWriteFault, KeepsGoing};
+ghost use Rattle.fx_base.specs.Fault.{IsMemory};
+ghost use Rattle.fx_base.specs.Lines.{Fails};
+ghost use Rattle.fx_collect.specs.Report.{KeysAscend};
+ghost use Rattle.fx_sums.specs.Sums.{no_sum, IsSumBut};
+ghost use Rattle.fx_sums.specs.SumText.{noted_text};
+ghost use Rattle.fx_sums.specs.SumReading.{sum_with, MayGive, Refuses};
+
+use crate::notes::Notes;
+use crate::notes_put::put_notes;
+use crate::text_lines::{add_totals, read_notes};
+use fx_base::{Fault, LineReader, Sink, Source};
+use fx_collect::Totals;
+use fx_layout::{Layout, Seed};
+use std::alloc::Global;
+use std::marker::Model;
+
+/// What totals of one report come to that were collected apart: the counts under each key, the unassigned records,
+/// and what was noted beside them.
+#[derive(Drop)]
+pub struct Sum {
+    layout: Layout,
+    totals: Totals,
+    notes: Notes,
+}
+
+impl Model for Sum {
+    ghost use Rattle.std.specs.Prelude.{◌≡◌};
+    ghost use Rattle.fx_sums.specs.Sums as sums;
+
+    ghost Value = { sums.Sum };
+
+    ghost view = { λ s. record { totals = s.totals; notes = s.notes } };
+
+    ghost invariant = { λ s. s.layout ≡ s.totals.layout };
+}
+
+impl Sum {
+    /// The sum of nothing under the keys of this layout, which hashes keys by the seed.
+    ///
+    /// Fails with 900, at no place, for want of memory.
+    pub fn new(alloc: Global, seed: Seed, layout: Layout) -> Result<Sum, Fault>
+        ensures ok { IfOk result (λ sum. sum ≡ no_sum layout) }
+        ensures err { IfErr result IsMemory }
+    {
+        let totals = Totals::new(alloc, seed, layout.copy())?;
+        Ok(Sum {
+            layout,
+            totals,
+            notes: Notes::new(),
+        })
+    }
+
+    /// Adds the totals of a text, which begins with the next line and ends with the last: the counts key by key, the
+    /// unassigned records and the numbers of its notes, each modulo 2 to the 64; the sum is complete where all
+    /// texts that say so are. Each line is tallied as it is read.
+    ///
+    /// The text is a line `keys N`; N lines `KEY packets P octets O`, where KEY has the values of the layout's
+    /// parts in axis order with single spaces between them, as `Totals::put_report` of fx_collect writes them, or is
+    /// `all` for a layout without parts, and the keys ascend, none of them twice; a line `unassigned U`; and notes
+    /// in this order, each at most once: `complete yes` or `complete no` (of a replay), `skipped other A malformed
+    /// B` (of a run over a capture), `gaps G` and `skipped S` (of a stream, both or neither). Numbers are decimal
+    /// without leading zeros, below 2 to the 64. A line feed ends each line.
+    ///
+    /// Fails, at the first line where something is wrong, with 861 where the line isn't such a one or is missing, or
+    /// comes behind the last. Fails as the reader of lines does where that stands (901, 903), and with 900, at no
+    /// place, for want of memory. After a fault the sum is of no use.
+    pub fn add_text<R: Source>(&mut self, lines: &mut LineReader<R>) -> Result<(), Fault>
+        ensures ok { OnOk result (MayGive (sum_with self.old) lines.old (Ok self.new)) }
+        ensures err { IfErr result (λ e. IsMemory e
+            ⊎ Refuses (sum_with self.old) lines.old lines.new e) }
+    {
+        add_totals(&mut self.totals, &self.layout, lines)?;
+        let notes = read_notes(lines)?;
+        self.notes = self.notes.plus(notes);
+        Ok(())
+    }
+
+    /// Puts the keys in order: by the first value that differs.
+    ///
+    /// Fails with 900, at no place, for want of memory; the sum is as before then.
+    pub fn sort(&mut self) -> Result<(), Fault>
+        ensures sorted { OnOk result (KeysAscend self.new.totals.entries) }
+        ensures same { OnOk result (IsPermutation self.old.totals.entries self.new.totals.entries) }
+        ensures rest { OnOk result (IsSumBut self.old self.new) }
+        ensures err { IfErr result (λ e. IsMemory e × (self.new ≡ self.old)) }
+    {
+        self.totals.sort()
+    }
+
+    /// Writes the sum as a text of totals, which [`Sum::add_text`] reads: the totals, and behind them a line for each
+    /// note.
+    ///
+    /// The keys are to ascend, as after [`Sum::sort`]. Fails with 902, at no place, where a write fails; how much
+    /// the sink has taken then is open.
+    pub fn put_text<S: Sink>(&self, sink: &mut S) -> Result<(), Fault>
+        requires { KeysAscend self.now.totals.entries }
+        ensures ok { OnOk result (Writes (S.taken sink.old) (S.taken sink.new)
+            (noted_text self.now)) }
+        ensures going { OnOk result (KeepsGoing (S.failed sink.old) (S.failed sink.new)) }
+        ensures err { IfErr result (IsWriteFault (S.failed sink.new)) }
+    {
+        self.totals.put_report(sink)?;
+        put_notes(sink, &self.notes)
+    }
+}

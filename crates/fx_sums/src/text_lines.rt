@@ -1,0 +1,158 @@
+//! Going from line to line of a text of totals.
+ghost use Rattle.std.specs.Prelude.{◌≡◌, ◌⊎◌, ◌<◌, None, Some, Ok, Err, IfOk, IfErr, OnOk, option_map};
+ghost use Rattle.fx_base.specs.Fault.{IsMemory};
+ghost use Rattle.fx_base.specs.Lines.{GoesOnToLines, Fails};
+ghost use Rattle.fx_sums.specs.Sums.{no_notes};
+ghost use Rattle.fx_sums.specs.SumLines.{number_behind, record_behind};
+ghost use Rattle.fx_sums.specs.SumReading.{next_line, in_line, tallied, totals_with, missing, wrong, Gives, MayEnd, Refuses, GoesOnToLine, GoesOnOrEnds};
+
+use crate::note::read_number_line;
+use crate::notes::Notes;
+use crate::record_line::read_record_behind;
+use fx_base::{Fault, LineReader, Source, refusals};
+use fx_collect::Totals;
+use fx_layout::{Key, Layout};
+use fx_tables::Record;
+
+/// Goes on to the next line, which a line feed has to end, and answers whether there is one.
+fn go_on_or_end<R: Source>(lines: &mut LineReader<R>) -> Result<bool, Fault>
+    ensures { GoesOnOrEnds lines.old lines.new result }
+{
+    if !lines.advance()? {
+        return Ok(false);
+    }
+    let line = lines.line();
+    if !line.ended {
+        return Err(Fault::at_line(refusals::TOTALS_FORM, line.number));
+    }
+    Ok(true)
+}
+
+/// What is refused where a line is missing behind the last one.
+fn missing_line<R: Source>(lines: &LineReader<R>) -> Fault
+    ensures { result ≡ missing lines.now.number }
+{
+    Fault::at_line(refusals::TOTALS_FORM, lines.number().saturating_add(1))
+}
+
+/// What is refused where the line doesn't say what it should.
+fn wrong_line<R: Source>(lines: &LineReader<R>) -> Fault
+    ensures { result ≡ wrong lines.now.number }
+{
+    Fault::at_line(refusals::TOTALS_FORM, lines.number())
+}
+
+/// Goes on to the next line, which has to be there.
+fn go_on<R: Source>(lines: &mut LineReader<R>) -> Result<(), Fault>
+    ensures ok { OnOk result (GoesOnToLine lines.old lines.new) }
+    ensures err { IfErr result (Refuses next_line lines.old lines.new) }
+{
+    if !go_on_or_end(lines)? {
+        return Err(missing_line(lines));
+    }
+    Ok(())
+}
+
+/// Reads the next line, which is this word and a number.
+fn read_number<R: Source>(lines: &mut LineReader<R>, word: &[u8]) -> Result<u64, Fault>
+    ensures on { OnOk result (GoesOnToLine lines.old lines.new) }
+    ensures ok { IfOk result (λ n.
+        Gives (in_line (number_behind word.now)) lines.old lines.new n) }
+    ensures err { IfErr result (Refuses (in_line (number_behind word.now)) lines.old lines.new) }
+{
+    go_on(lines)?;
+    match read_number_line(word, lines.line().bytes) {
+        Some(number) => Ok(number),
+        None => Err(wrong_line(lines)),
+    }
+}
+
+/// Reads the next line, which is that of a key behind the last one.
+fn read_record<R: Source>(
+    lines: &mut LineReader<R>,
+    layout: &Layout,
+    last: &Option<Key>,
+) -> Result<Record, Fault>
+    ensures on { OnOk result (GoesOnToLine lines.old lines.new) }
+    ensures ok { IfOk result (λ entry. Gives (in_line (record_behind layout.now
+        (option_map (λ k. k.values) last.now))) lines.old lines.new entry) }
+    ensures err { IfErr result (Refuses (in_line (record_behind layout.now
+        (option_map (λ k. k.values) last.now))) lines.old lines.new) }
+{
+    go_on(lines)?;
+    match read_record_behind(layout, last, lines.line().bytes) {
+        Some(entry) => Ok(entry),
+        None => Err(wrong_line(lines)),
+    }
+}
+
+/// Tallies so many records, each of which stands on a line, in the order of their keys.
+fn tally_records<R: Source>(
+    totals: &mut Totals,
+    layout: &Layout,
+    lines: &mut LineReader<R>,
+    count: u64,
+) -> Result<(), Fault>
+    requires { lines.old.stopped ≡ None }
+    ensures going { OnOk result (lines.new.stopped ≡ None) }
+    ensures layout { totals.new.layout ≡ totals.old.layout }
+    ensures on { OnOk result (GoesOnToLines lines.old lines.new) }
+    ensures ok { OnOk result (Gives (tallied layout.now count None totals.old) lines.old lines.new
+        totals.new) }
+    ensures err { IfErr result (λ e. IsMemory e
+        ⊎ Refuses (tallied layout.now count None totals.old) lines.old lines.new e) }
+{
+    let mut last = None;
+    let mut left = count;
+    while left > 0 {
+        let entry = read_record(lines, layout, &last)?;
+        totals.tally(&entry)?;
+        let Record { key, .. } = entry;
+        last = Some(key);
+        left -= 1;
+    }
+    Ok(())
+}
+
+/// Reads the text of totals under the keys of this layout, which begins with the next line, and adds it to these.
+pub(crate) fn add_totals<R: Source>(
+    totals: &mut Totals,
+    layout: &Layout,
+    lines: &mut LineReader<R>,
+) -> Result<(), Fault>
+    ensures going { OnOk result (lines.new.stopped ≡ None) }
+    ensures layout { totals.new.layout ≡ totals.old.layout }
+    ensures on { OnOk result (GoesOnToLines lines.old lines.new) }
+    ensures ok { OnOk result (Gives (totals_with layout.now totals.old) lines.old lines.new
+        totals.new) }
+    ensures err { IfErr result (λ e. IsMemory e
+        ⊎ Refuses (totals_with layout.now totals.old) lines.old lines.new e) }
+{
+    let count = read_number(lines, b"keys")?;
+    tally_records(totals, layout, lines, count)?;
+    let unassigned = read_number(lines, b"unassigned")?;
+    totals.add_unassigned(unassigned);
+    Ok(())
+}
+
+/// Reads notes up to the end of the text.
+pub(crate) fn read_notes<R: Source>(lines: &mut LineReader<R>) -> Result<Notes, Fault>
+    requires { lines.old.stopped ≡ None }
+    ensures ok { IfOk result (λ notes. MayEnd no_notes lines.old (Ok notes)) }
+    ensures err { IfErr result (λ e. Fails lines.old lines.new e
+        ⊎ MayEnd no_notes lines.old (Err e)) }
+{
+    let mut notes = Notes::new();
+    'notes: loop {
+        if !go_on_or_end(lines)? {
+            if notes.are_whole() {
+                return Ok(notes);
+            }
+            return Err(missing_line(lines));
+        }
+        match notes.with_line(lines.line().bytes) {
+            Some(more) => notes = more,
+            None => return Err(wrong_line(lines)),
+        }
+    }
+}

@@ -1,0 +1,194 @@
+//! Texts of totals added up, and the sum's own text.
+use fx_base::{Fault, Fuse, LineReader, Octets, Room};
+use fx_elements::Axis;
+use fx_layout::{Layout, Seed};
+use fx_sums::{Sum, sums_of_parts, totals_texts};
+use std::alloc::Global;
+use std::test::Fail;
+
+/// By 24 bits of the source and by protocol.
+fn layout() -> Result<Layout, Fail> {
+    let layout = Layout::new().with(Axis::Source, 24).ok_or("source")?;
+    Ok(layout.with(Axis::Protocol, 8).ok_or("protocol")?)
+}
+
+/// By version and by 32 bits of the source of IPv6.
+fn layout_of_ipv6() -> Result<Layout, Fail> {
+    let layout = Layout::new().with(Axis::Version, 8).ok_or("version")?;
+    Ok(layout.with(Axis::Source6, 32).ok_or("source")?)
+}
+
+fn add(alloc: Global, sum: &mut Sum, text: &[u8]) -> Result<(), Fault> {
+    let mut lines = LineReader::new(alloc, Octets::new(text))?;
+    sum.add_text(&mut lines)
+}
+
+fn is_text(sum: &mut Sum, text: &[u8]) -> Result<bool, Fault> {
+    let mut octets = [0u8; 512];
+    let mut room = Room::new(&mut octets);
+    sum.sort()?;
+    sum.put_text(&mut room)?;
+    Ok(room.octets() == text)
+}
+
+/// Whether these texts come to that one, and that one alone comes to itself.
+fn come_to(alloc: Global, layout: &Layout, texts: &[&[u8]], text: &[u8]) -> Result<bool, Fault> {
+    let mut sum = Sum::new(alloc, Seed::new(1, 2), layout.copy())?;
+    for part in texts {
+        add(alloc, &mut sum, part)?;
+    }
+    let mut again = Sum::new(alloc, Seed::new(3, 4), layout.copy())?;
+    add(alloc, &mut again, text)?;
+    Ok(is_text(&mut sum, text)? && is_text(&mut again, text)?)
+}
+
+/// Of two streams.
+const FIRST: &[u8] =
+    b"keys 2\n10.1.1.0/24 6 packets 3 octets 300\n10.1.2.0/24 17 packets 1 octets 40\nunassigned 2\ngaps 1\nskipped 5\n";
+
+const SECOND: &[u8] =
+    b"keys 2\n10.1.0.0/24 6 packets 7 octets 70\n10.1.1.0/24 6 packets 2 octets 11\nunassigned 1\ngaps 2\nskipped 0\n";
+
+/// Of a run over a capture, and of two replays.
+const RUN: &[u8] =
+    b"keys 1\n10.1.1.0/24 6 packets 1 octets 1\nunassigned 0\nskipped other 4 malformed 6\n";
+
+const WHOLE: &[u8] = b"keys 0\nunassigned 0\ncomplete yes\n";
+
+const PART: &[u8] = b"keys 1\n10.1.1.0/24 7 packets 1 octets 1\nunassigned 0\ncomplete no\n";
+
+#[test]
+fn adds_streams_up(rt: HostRuntime) -> Result<(), Fail> {
+    sums_of_parts();
+    totals_texts();
+    let text =
+        b"keys 3\n10.1.0.0/24 6 packets 7 octets 70\n10.1.1.0/24 6 packets 5 octets 311\n10.1.2.0/24 17 packets 1 octets 40\nunassigned 3\ngaps 3\nskipped 5\n";
+    let layout = layout()?;
+    assert!(rt; come_to(rt.alloc(), &layout, &[FIRST, SECOND], text)?);
+    assert!(rt; come_to(rt.alloc(), &layout, &[SECOND, FIRST], text)?);
+    Ok(())
+}
+
+#[test]
+fn tells_notes_of_all_kinds(rt: HostRuntime) -> Result<(), Fail> {
+    let text =
+        b"keys 3\n10.1.1.0/24 6 packets 5 octets 302\n10.1.1.0/24 7 packets 1 octets 1\n10.1.2.0/24 17 packets 1 octets 40\nunassigned 2\ncomplete no\nskipped other 8 malformed 12\ngaps 1\nskipped 5\n";
+    let layout = layout()?;
+    assert!(rt; come_to(rt.alloc(), &layout, &[RUN, WHOLE, FIRST, PART, RUN], text)?);
+    assert!(rt; come_to(rt.alloc(), &layout, &[WHOLE, WHOLE], WHOLE)?);
+    assert!(rt; come_to(rt.alloc(), &layout, &[], b"keys 0\nunassigned 0\n")?);
+    Ok(())
+}
+
+#[test]
+fn adds_modulo_2_to_the_64(rt: HostRuntime) -> Result<(), Fail> {
+    let most =
+        b"keys 1\nall packets 18446744073709551615 octets 18446744073709551615\nunassigned 18446744073709551615\n";
+    let two = b"keys 1\nall packets 2 octets 3\nunassigned 4\n";
+    let text = b"keys 1\nall packets 1 octets 2\nunassigned 3\n";
+    assert!(rt; come_to(rt.alloc(), &Layout::new(), &[most, two], text)?);
+    Ok(())
+}
+
+#[test]
+fn adds_totals_of_ipv6(rt: HostRuntime) -> Result<(), Fail> {
+    let one = b"keys 1\n6 2001:db8:0:0:0:0:0:0/32 packets 3 octets 9\nunassigned 0\n";
+    let text = b"keys 1\n6 2001:db8:0:0:0:0:0:0/32 packets 6 octets 18\nunassigned 0\n";
+    assert!(rt; come_to(rt.alloc(), &layout_of_ipv6()?, &[one, one], text)?);
+    Ok(())
+}
+
+/// What isn't a text of totals, and the line at which it is refused.
+const REFUSED: [(&[u8], u64); 34] = [
+    (b"", 1),
+    (b"keys 0", 1),
+    (b"keys 00\nunassigned 0\n", 1),
+    (b"key 0\nunassigned 0\n", 1),
+    (b"keys  0\nunassigned 0\n", 1),
+    (b"keys 0 \nunassigned 0\n", 1),
+    (b"keys 0\r\nunassigned 0\r\n", 1),
+    (b"keys 18446744073709551616\nunassigned 0\n", 1),
+    (b"keys 0\n", 2),
+    (b"keys 1\nunassigned 0\n", 2),
+    (
+        b"keys 0\n10.1.1.0/24 6 packets 1 octets 1\nunassigned 0\n",
+        2,
+    ),
+    (
+        b"keys 1\n10.1.1.1/24 6 packets 1 octets 1\nunassigned 0\n",
+        2,
+    ),
+    (
+        b"keys 1\n10.1.1.0/25 6 packets 1 octets 1\nunassigned 0\n",
+        2,
+    ),
+    (b"keys 1\n10.1.1.0 6 packets 1 octets 1\nunassigned 0\n", 2),
+    (
+        b"keys 1\n10.1.1.0/24 256 packets 1 octets 1\nunassigned 0\n",
+        2,
+    ),
+    (b"keys 1\n10.1.1.0/24 packets 1 octets 1\nunassigned 0\n", 2),
+    (
+        b"keys 1\n10.1.1.0/24 6 7 packets 1 octets 1\nunassigned 0\n",
+        2,
+    ),
+    (b"keys 1\nall packets 1 octets 1\nunassigned 0\n", 2),
+    (
+        b"keys 1\n10.1.1.0/24 6 octets 1 packets 1\nunassigned 0\n",
+        2,
+    ),
+    (
+        b"keys 1\n10.1.1.0/24 6 packets 1 octets 1 \nunassigned 0\n",
+        2,
+    ),
+    (
+        b"keys 1\n10.1.1.0/24 6 packets 1 octets -1\nunassigned 0\n",
+        2,
+    ),
+    (
+        b"keys 2\n10.1.1.0/24 6 packets 1 octets 1\n10.1.1.0/24 6 packets 1 octets 1\nunassigned 0\n",
+        3,
+    ),
+    (
+        b"keys 2\n10.1.1.0/24 6 packets 1 octets 1\n10.1.0.0/24 9 packets 1 octets 1\nunassigned 0\n",
+        3,
+    ),
+    (
+        b"keys 1\n10.1.1.0/24 6 packets 1 octets 1\n10.1.2.0/24 6 packets 1 octets 1\nunassigned 0\n",
+        3,
+    ),
+    (b"keys 0\nunassigned 0\nunassigned 0\n", 3),
+    (b"keys 0\nunassigned 0\n\n", 3),
+    (b"keys 0\nunassigned 0\ncomplete maybe\n", 3),
+    (b"keys 0\nunassigned 0\ncomplete yes no\n", 3),
+    (b"keys 0\nunassigned 0\ncomplete yes\ncomplete yes\n", 4),
+    (
+        b"keys 0\nunassigned 0\nskipped other 1 malformed 1\ncomplete yes\n",
+        4,
+    ),
+    (b"keys 0\nunassigned 0\nskipped 1\ngaps 1\n", 3),
+    (b"keys 0\nunassigned 0\ngaps 1\n", 4),
+    (b"keys 0\nunassigned 0\ngaps 1\nskipped 1\nskipped 1\n", 5),
+    (
+        b"keys 0\nunassigned 0\ngaps 1\nskipped 1\nskipped other 1 malformed 1\n",
+        5,
+    ),
+];
+
+#[test]
+fn refuses_other_texts(rt: HostRuntime) -> Result<(), Fail> {
+    let layout = layout()?;
+    for (text, line) in REFUSED {
+        let mut sum = Sum::new(rt.alloc(), Seed::new(1, 2), layout.copy())?;
+        assert!(rt; add(rt.alloc(), &mut sum, text) == Err(Fault::at_line(861, line)));
+    }
+    Ok(())
+}
+
+#[test]
+fn fails_where_a_read_fails(rt: HostRuntime) -> Result<(), Fail> {
+    let mut sum = Sum::new(rt.alloc(), Seed::new(1, 2), layout()?)?;
+    let mut lines = LineReader::new(rt.alloc(), Fuse::new(Octets::new(FIRST), 1))?;
+    assert!(rt; sum.add_text(&mut lines) == Err(Fault::bare(901)));
+    Ok(())
+}
