@@ -13,7 +13,7 @@ use crate::traffic::draw_traffic;
 use fx_base::{Fault, LineReader, Octets, Sink, put_text};
 use fx_check::check;
 use fx_plan::{Plan, read_plan};
-use fx_refute::{confirm, read_refutation};
+use fx_refute::{Refutation, confirm, read_refutation};
 use std::alloc::{AllocError, Global};
 
 /// What the text of a certificate begins with.
@@ -48,6 +48,19 @@ fn draw_checked(
     draw_certificate(alloc, dot, documents, targets.as_slice(), certificate)
 }
 
+/// Draws what the run of a refutation comes to, where that is confirmed, and the run.
+fn draw_ran(
+    alloc: Global,
+    dot: &mut Dot,
+    documents: &Documents,
+    refutation: &Refutation,
+) -> Result<(), Fault> {
+    let (ran, plain) = confirm(alloc, &documents.plan, &documents.traffic, refutation)?;
+    draw_outcome(dot, &documents.plan, ran, plain)?;
+    draw_refutation(alloc, dot, documents, refutation)?;
+    Ok(())
+}
+
 /// Draws a refutation that is confirmed.
 fn draw_confirmed(
     alloc: Global,
@@ -57,9 +70,7 @@ fn draw_confirmed(
 ) -> Result<(), Fault> {
     let mut lines = LineReader::new(alloc, Octets::new(text))?;
     let refutation = read_refutation(alloc, &mut lines)?;
-    let (ran, plain) = confirm(alloc, &documents.plan, &documents.traffic, &refutation)?;
-    draw_refutation(alloc, dot, documents, &refutation)?;
-    draw_outcome(dot, &documents.plan, ran, plain)
+    draw_ran(alloc, dot, documents, &refutation)
 }
 
 /// Draws the traffic over a network, and what a certificate or a refutation says of it.
