@@ -97,31 +97,21 @@ fn places_of(alloc: Global, certificate: &[u8]) -> Result<Places, Fault>
 }
 
 /// Draws where packets of a path are counted.
-fn draw_place(
-    dot: &mut Dot,
-    documents: &Documents,
-    targets: &[Target<'_>],
-    place: &Place,
-) -> Result<(), AllocError> {
+fn draw_place(dot: &mut Dot, documents: &Documents, targets: &[Target<'_>], place: &Place) {
     for target in targets {
         if target.class == place.class && target.path == place.path {
             if let Some(crossing) = entry_numbered(target.crossings, place.crossing) {
-                return draw_counted(dot, documents, place, crossing.device);
+                draw_counted(dot, documents, place, crossing.device);
+                return;
             }
         }
     }
-    Ok(())
 }
 
 /// Draws where packets of a path are counted, in a device.
-fn draw_counted(
-    dot: &mut Dot,
-    documents: &Documents,
-    place: &Place,
-    device: u64,
-) -> Result<(), AllocError> {
+fn draw_counted(dot: &mut Dot, documents: &Documents, place: &Place, device: u64) {
     let Some(config) = documents.plan.device(device) else {
-        return Ok(());
+        return;
     };
     let mark = Mark {
         colour: "darkgreen",
@@ -152,7 +142,7 @@ pub(crate) fn draw_certificate(
 {
     let places = places_of(alloc, certificate)?;
     for place in places.places.as_slice() {
-        draw_place(dot, documents, targets, place)?;
+        draw_place(dot, documents, targets, place);
     }
     Ok(())
 }

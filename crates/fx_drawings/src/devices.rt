@@ -11,15 +11,9 @@ use fx_config::{
 use fx_layout::Part;
 use fx_plan::Plan;
 use fx_topology::{NetworkDevice, Report};
-use std::alloc::AllocError;
 
 /// Begins a node with its name as the first line of its label.
-fn begin<'x>(
-    dot: &mut Dot,
-    node: nodes::Node,
-    look: &'static str,
-    name: &'x Name,
-) -> Result<(), AllocError> {
+fn begin<'x>(dot: &mut Dot, node: nodes::Node, look: &'static str, name: &'x Name) {
     dot.add(&[
         Piece::Code("    "),
         Piece::Node(node),
@@ -31,70 +25,54 @@ fn begin<'x>(
 }
 
 /// Ends a node.
-fn end(dot: &mut Dot) -> Result<(), AllocError> {
+fn end(dot: &mut Dot) {
     dot.line(&[Piece::Code("\"];")])
 }
 
 /// Draws an observation point: its interfaces, and the directions in which it sees packets.
-fn draw_point(
-    dot: &mut Dot,
-    node: nodes::Node,
-    point: &ObservationPoint,
-) -> Result<(), AllocError> {
-    begin(dot, node, "shape=cds", &point.name)?;
-    dot.add(&[Piece::Code("\\n")])?;
-    add_names(dot, point.interfaces.as_slice())?;
+fn draw_point(dot: &mut Dot, node: nodes::Node, point: &ObservationPoint) {
+    begin(dot, node, "shape=cds", &point.name);
+    dot.add(&[Piece::Code("\\n")]);
+    add_names(dot, point.interfaces.as_slice());
     dot.add(&[
         Piece::Code(" "),
         Piece::Code(direction_name(point.direction)),
-    ])?;
+    ]);
     end(dot)
 }
 
 /// Draws a selection process: what its selectors pass.
-fn draw_selection(
-    dot: &mut Dot,
-    node: nodes::Node,
-    process: &SelectionProcess,
-) -> Result<(), AllocError> {
-    begin(dot, node, "shape=hexagon", &process.name)?;
+fn draw_selection(dot: &mut Dot, node: nodes::Node, process: &SelectionProcess) {
+    begin(dot, node, "shape=hexagon", &process.name);
     for selector in process.selectors.as_slice() {
-        add_method(dot, &selector.method)?;
+        add_method(dot, &selector.method);
     }
     end(dot)
 }
 
 /// Draws a cache: its kind and its flow keys.
-fn draw_cache(dot: &mut Dot, node: nodes::Node, cache: &Cache) -> Result<(), AllocError> {
-    begin(dot, node, "shape=cylinder", &cache.name)?;
-    dot.add(&[Piece::Code("\\n"), Piece::Code(kind_name(cache.kind))])?;
-    add_key(dot, cache.layout.parts())?;
+fn draw_cache(dot: &mut Dot, node: nodes::Node, cache: &Cache) {
+    begin(dot, node, "shape=cylinder", &cache.name);
+    dot.add(&[Piece::Code("\\n"), Piece::Code(kind_name(cache.kind))]);
+    add_key(dot, cache.layout.parts());
     end(dot)
 }
 
 /// Draws an exporting process: its mode.
-fn draw_exporter(
-    dot: &mut Dot,
-    node: nodes::Node,
-    process: &ExportingProcess,
-) -> Result<(), AllocError> {
-    begin(dot, node, "shape=cds", &process.name)?;
-    dot.add(&[Piece::Code("\\n"), Piece::Code(mode_name(process.mode))])?;
+fn draw_exporter(dot: &mut Dot, node: nodes::Node, process: &ExportingProcess) {
+    begin(dot, node, "shape=cds", &process.name);
+    dot.add(&[Piece::Code("\\n"), Piece::Code(mode_name(process.mode))]);
     end(dot)
 }
 
 /// Draws an aggregation: which records it takes in, and their key.
-fn draw_aggregation(
-    dot: &mut Dot,
-    node: nodes::Node,
-    aggregation: &Aggregation,
-) -> Result<(), AllocError> {
-    begin(dot, node, "shape=cylinder", &aggregation.name)?;
-    dot.add(&[Piece::Code("\\naggregation")])?;
+fn draw_aggregation(dot: &mut Dot, node: nodes::Node, aggregation: &Aggregation) {
+    begin(dot, node, "shape=cylinder", &aggregation.name);
+    dot.add(&[Piece::Code("\\naggregation")]);
     for filter in aggregation.matches.as_slice() {
-        add_match(dot, filter)?;
+        add_match(dot, filter);
     }
-    add_key(dot, aggregation.key.parts())?;
+    add_key(dot, aggregation.key.parts());
     end(dot)
 }
 
@@ -109,44 +87,34 @@ fn draw_collector(
     node: nodes::Node,
     process: &CollectingProcess,
     key: Option<&[Part]>,
-) -> Result<(), AllocError> {
+) {
     let Some(key) = key else {
-        begin(dot, node, "shape=box", &process.name)?;
-        return end(dot);
+        begin(dot, node, "shape=box", &process.name);
+        end(dot);
+        return;
     };
     begin(
         dot,
         node,
         "shape=box, peripheries=2, style=bold",
         &process.name,
-    )?;
-    dot.add(&[Piece::Code("\\nreport")])?;
-    add_key(dot, key)?;
+    );
+    dot.add(&[Piece::Code("\\nreport")]);
+    add_key(dot, key);
     end(dot)
 }
 
 /// Draws the aggregations of a collecting process.
-fn draw_aggregations(
-    dot: &mut Dot,
-    device: u64,
-    number: u64,
-    process: &CollectingProcess,
-) -> Result<(), AllocError> {
+fn draw_aggregations(dot: &mut Dot, device: u64, number: u64, process: &CollectingProcess) {
     let aggregations = process.aggregations.as_slice();
     for place in 0..aggregations.len() {
         let node = nodes::aggregation(device, number, place as u64 + 1);
-        draw_aggregation(dot, node, &aggregations[place])?;
+        draw_aggregation(dot, node, &aggregations[place]);
     }
-    Ok(())
 }
 
 /// Draws the collecting processes of a device, with their aggregations.
-fn draw_collectors(
-    dot: &mut Dot,
-    plan: &Plan,
-    number: u64,
-    device: &NetworkDevice,
-) -> Result<(), AllocError> {
+fn draw_collectors(dot: &mut Dot, plan: &Plan, number: u64, device: &NetworkDevice) {
     let processes = device.config.collecting_processes.as_slice();
     for place in 0..processes.len() {
         let process = &processes[place];
@@ -156,71 +124,61 @@ fn draw_collectors(
             None
         };
         let node = nodes::collector(number, place as u64 + 1);
-        draw_collector(dot, node, process, key)?;
-        draw_aggregations(dot, number, place as u64 + 1, process)?;
+        draw_collector(dot, node, process, key);
+        draw_aggregations(dot, number, place as u64 + 1, process);
     }
-    Ok(())
 }
 
 /// Draws the observation points of a device.
-fn draw_points(dot: &mut Dot, number: u64, device: &NetworkDevice) -> Result<(), AllocError> {
+fn draw_points(dot: &mut Dot, number: u64, device: &NetworkDevice) {
     let points = device.config.observation_points.as_slice();
     for place in 0..points.len() {
-        draw_point(dot, nodes::point(number, place as u64 + 1), &points[place])?;
+        draw_point(dot, nodes::point(number, place as u64 + 1), &points[place]);
     }
-    Ok(())
 }
 
 /// Draws the selection processes of a device.
-fn draw_selections(dot: &mut Dot, number: u64, device: &NetworkDevice) -> Result<(), AllocError> {
+fn draw_selections(dot: &mut Dot, number: u64, device: &NetworkDevice) {
     let processes = device.config.selection_processes.as_slice();
     for place in 0..processes.len() {
         let node = nodes::selection(number, place as u64 + 1);
-        draw_selection(dot, node, &processes[place])?;
+        draw_selection(dot, node, &processes[place]);
     }
-    Ok(())
 }
 
 /// Draws the caches of a device.
-fn draw_caches(dot: &mut Dot, number: u64, device: &NetworkDevice) -> Result<(), AllocError> {
+fn draw_caches(dot: &mut Dot, number: u64, device: &NetworkDevice) {
     let caches = device.config.caches.as_slice();
     for place in 0..caches.len() {
-        draw_cache(dot, nodes::cache(number, place as u64 + 1), &caches[place])?;
+        draw_cache(dot, nodes::cache(number, place as u64 + 1), &caches[place]);
     }
-    Ok(())
 }
 
 /// Draws the exporting processes of a device.
-fn draw_exporters(dot: &mut Dot, number: u64, device: &NetworkDevice) -> Result<(), AllocError> {
+fn draw_exporters(dot: &mut Dot, number: u64, device: &NetworkDevice) {
     let processes = device.config.exporting_processes.as_slice();
     for place in 0..processes.len() {
         let node = nodes::exporter(number, place as u64 + 1);
-        draw_exporter(dot, node, &processes[place])?;
+        draw_exporter(dot, node, &processes[place]);
     }
-    Ok(())
 }
 
 /// Draws the device of this number, from 1, as a box around what it is made of.
-pub(crate) fn draw_device(
-    dot: &mut Dot,
-    plan: &Plan,
-    number: u64,
-    device: &NetworkDevice,
-) -> Result<(), AllocError> {
+pub(crate) fn draw_device(dot: &mut Dot, plan: &Plan, number: u64, device: &NetworkDevice) {
     dot.line(&[
         Piece::Code("  subgraph cluster_"),
         Piece::Number(number),
         Piece::Code(" {"),
-    ])?;
+    ]);
     dot.line(&[
         Piece::Code("    label=\""),
         Piece::Text(device.name.as_str()),
         Piece::Code("\"; style=rounded; color=gray40;"),
-    ])?;
-    draw_points(dot, number, device)?;
-    draw_selections(dot, number, device)?;
-    draw_caches(dot, number, device)?;
-    draw_collectors(dot, plan, number, device)?;
-    draw_exporters(dot, number, device)?;
+    ]);
+    draw_points(dot, number, device);
+    draw_selections(dot, number, device);
+    draw_caches(dot, number, device);
+    draw_collectors(dot, plan, number, device);
+    draw_exporters(dot, number, device);
     dot.line(&[Piece::Code("  }")])
 }

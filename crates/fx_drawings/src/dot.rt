@@ -1,11 +1,12 @@
 //! Text in the DOT language of Graphviz that is gathered before any of it is written.
-ghost use Rattle.std.specs.Prelude.{◌≡◌};
+ghost use Rattle.std.specs.Prelude.{◌≡◌, true, IfOk};
 ghost use Rattle.fx_base.specs.Fault.{shown};
-ghost use Rattle.fx_drawings.specs.Drawings.{IsPlainText};
+ghost use Rattle.fx_drawings.specs.Drawings.{IsPlainText, is_plain};
 
 use crate::nodes::Node;
 use fx_base::Room;
 use fx_elements::{Axis, put_value, top, width};
+use itoa::Buffer;
 use std::alloc::{AllocError, Global};
 use std::marker::Model;
 
@@ -26,11 +27,12 @@ pub(crate) enum Piece<'a> {
     Value(Axis, u128),
 }
 
-/// Statements of a graph, without control characters but line feeds: those of a document stand as `?`.
+/// Statements of a graph, without control characters but line feeds: those of a document stand as `?`. Where there is no
+/// memory for more, nothing is added from then on, and that is told at the end alone.
 #[derive(Drop)]
 pub(crate) struct Dot {
     octets: Vec<u8>,
-    alloc: Global,
+    is_short: bool,
 }
 
 impl Model for Dot {
@@ -60,74 +62,83 @@ impl Dot {
     pub(crate) fn new(alloc: Global) -> Dot {
         Dot {
             octets: Vec::new(alloc),
-            alloc,
+            is_short: false,
         }
     }
 
-    /// The statements.
-    pub(crate) fn octets(&self) -> &[u8]
-        ensures plain { IsPlainText result.now }
+    /// The statements, where there was memory for all of them.
+    pub(crate) fn octets(&self) -> Result<&[u8], AllocError>
+        ensures plain { IfOk result (λ octets. IsPlainText octets.now) }
     {
-        self.octets.as_slice()
+        if self.is_short {
+            return Err(AllocError);
+        }
+        Ok(self.octets.as_slice())
+    }
+
+    /// Adds an octet, which is a line feed or no control character.
+    fn octet(&mut self, octet: u8)
+        requires { is_plain octet ≡ true }
+    {
+        if !self.is_short && self.octets.push(octet).is_err() {
+            self.is_short = true;
+        }
     }
 
     /// Adds octets as they are.
-    fn code(&mut self, octets: &[u8]) -> Result<(), AllocError> {
+    fn code(&mut self, octets: &[u8]) {
         for octet in octets {
-            self.octets.push(shown_octet(*octet))?;
+            self.octet(shown_octet(*octet));
         }
-        Ok(())
     }
 
     /// Ends the line.
-    fn end_line(&mut self) -> Result<(), AllocError> {
-        self.octets.push(b'\n')?;
-        Ok(())
+    fn end_line(&mut self) {
+        self.octet(b'\n');
     }
 
     /// Adds octets within quotation marks.
-    fn quoted(&mut self, octets: &[u8]) -> Result<(), AllocError> {
+    fn quoted(&mut self, octets: &[u8]) {
         for octet in octets {
             match octet {
-                b'"' => self.code(b"\\\"")?,
-                b'\\' => self.code(b"\\\\")?,
-                b'\n' => self.code(b"\\n")?,
-                _ => self.code(&[*octet])?,
+                b'"' => self.code(b"\\\""),
+                b'\\' => self.code(b"\\\\"),
+                b'\n' => self.code(b"\\n"),
+                _ => self.octet(shown_octet(*octet)),
             }
         }
-        Ok(())
     }
 
     /// Adds a number.
-    fn number(&mut self, number: u64) -> Result<(), AllocError> {
-        let text = format!(in self.alloc; "{number}")?;
-        self.code(text.as_bytes())
+    fn number(&mut self, number: u64) {
+        let mut buffer = Buffer::new();
+        self.code(buffer.format(number).as_bytes());
     }
 
     /// Adds a node's name: its kind and its numbers.
-    fn node(&mut self, node: &Node) -> Result<(), AllocError> {
-        self.code(node.kind.as_bytes())?;
-        self.number(node.first)?;
-        self.code(b"_")?;
-        self.number(node.second)?;
-        self.code(b"_")?;
-        self.number(node.third)
+    fn node(&mut self, node: &Node) {
+        self.code(node.kind.as_bytes());
+        self.number(node.first);
+        self.code(b"_");
+        self.number(node.second);
+        self.code(b"_");
+        self.number(node.third);
     }
 
     /// Adds a value of an axis, which is one of its values.
-    fn value(&mut self, axis: Axis, value: u128) -> Result<(), AllocError> {
+    fn value(&mut self, axis: Axis, value: u128) {
         if value > top(axis) {
-            return Ok(());
+            return;
         }
         let mut octets = [0; 64];
         let mut room = Room::new(&mut octets);
         // No value is longer than the room.
         let _written = put_value(&mut room, axis, width(axis), value);
-        self.code(room.octets())
+        self.code(room.octets());
     }
 
     /// Adds a piece of a statement.
-    fn piece(&mut self, piece: &Piece<'_>) -> Result<(), AllocError> {
+    fn piece(&mut self, piece: &Piece<'_>) {
         match piece {
             Piece::Code(text) => self.code(text.as_bytes()),
             Piece::Node(node) => self.node(node),
@@ -139,16 +150,15 @@ impl Dot {
     }
 
     /// Adds the pieces, one after another.
-    pub(crate) fn add(&mut self, pieces: &[Piece<'_>]) -> Result<(), AllocError> {
+    pub(crate) fn add(&mut self, pieces: &[Piece<'_>]) {
         for piece in pieces {
-            self.piece(piece)?;
+            self.piece(piece);
         }
-        Ok(())
     }
 
     /// Adds the pieces, and ends the line.
-    pub(crate) fn line(&mut self, pieces: &[Piece<'_>]) -> Result<(), AllocError> {
-        self.add(pieces)?;
-        self.end_line()
+    pub(crate) fn line(&mut self, pieces: &[Piece<'_>]) {
+        self.add(pieces);
+        self.end_line();
     }
 }

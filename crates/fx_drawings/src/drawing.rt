@@ -21,13 +21,13 @@ const CERTIFICATE: &[u8] = b"once-certificate";
 
 /// Draws the devices of a network, and the edges within and between them.
 fn draw_network(dot: &mut Dot, plan: &Plan) -> Result<(), AllocError> {
-    dot.line(&[Piece::Code("digraph network {")])?;
+    dot.line(&[Piece::Code("digraph network {")]);
     dot.line(&[Piece::Code(
         "  rankdir=LR; node [fontname=\"Helvetica\", fontsize=10]; edge [fontname=\"Helvetica\", fontsize=9];",
-    )])?;
+    )]);
     let devices = plan.network().devices.as_slice();
     for place in 0..devices.len() {
-        draw_device(dot, plan, place as u64 + 1, &devices[place])?;
+        draw_device(dot, plan, place as u64 + 1, &devices[place]);
     }
     for place in 0..devices.len() {
         draw_edges(dot, plan, place as u64 + 1, &devices[place])?;
@@ -81,7 +81,7 @@ fn draw_over(
     said: Option<&[u8]>,
 ) -> Result<(), Fault> {
     let targets = documents.traffic.targets(alloc)?;
-    draw_traffic(dot, documents, targets.as_slice())?;
+    draw_traffic(dot, documents, targets.as_slice());
     match said {
         Some(text) => {
             if text.starts_with(CERTIFICATE) {
@@ -109,7 +109,7 @@ fn drawing_of(
         let documents = with_traffic(alloc, plan, traffic)?;
         draw_over(alloc, &mut dot, &documents, said)?;
     }
-    dot.line(&[Piece::Code("}")])?;
+    dot.line(&[Piece::Code("}")]);
     Ok(dot)
 }
 
@@ -137,5 +137,5 @@ pub fn put_drawing<S: Sink>(
     ensures err { IfErr result (λ e. (sink.new ≡ sink.old) ⊎ IsWriteFault (S.failed sink.new) e) }
 {
     let dot = drawing_of(alloc, network, traffic, said)?;
-    put_text(sink, dot.octets())
+    put_text(sink, dot.octets()?)
 }

@@ -15,7 +15,7 @@ pub(crate) fn number_of<T: Named>(entries: &[T], name: &Name) -> Option<u64> {
 }
 
 /// Draws an edge.
-fn draw_edge(dot: &mut Dot, from: Node, to: Node) -> Result<(), AllocError> {
+fn draw_edge(dot: &mut Dot, from: Node, to: Node) {
     dot.line(&[
         Piece::Code("  "),
         Piece::Node(from),
@@ -26,19 +26,12 @@ fn draw_edge(dot: &mut Dot, from: Node, to: Node) -> Result<(), AllocError> {
 }
 
 /// Draws an edge to each exporting process of these names.
-fn draw_exports(
-    dot: &mut Dot,
-    number: u64,
-    device: &Device,
-    from: Node,
-    names: &[Name],
-) -> Result<(), AllocError> {
+fn draw_exports(dot: &mut Dot, number: u64, device: &Device, from: Node, names: &[Name]) {
     for name in names {
         if let Some(exporter) = number_of(device.exporting_processes.as_slice(), name) {
-            draw_edge(dot, from, nodes::exporter(number, exporter))?;
+            draw_edge(dot, from, nodes::exporter(number, exporter));
         }
     }
-    Ok(())
 }
 
 /// Draws the edges from an observation point to its selection processes.
@@ -48,23 +41,21 @@ fn draw_from_point(
     device: &Device,
     from: Node,
     point: &ObservationPoint,
-) -> Result<(), AllocError> {
+) {
     for name in point.selection_processes.as_slice() {
         if let Some(process) = number_of(device.selection_processes.as_slice(), name) {
-            draw_edge(dot, from, nodes::selection(number, process))?;
+            draw_edge(dot, from, nodes::selection(number, process));
         }
     }
-    Ok(())
 }
 
 /// Draws the edges from the observation points of a device.
-fn draw_from_points(dot: &mut Dot, number: u64, device: &Device) -> Result<(), AllocError> {
+fn draw_from_points(dot: &mut Dot, number: u64, device: &Device) {
     let points = device.observation_points.as_slice();
     for place in 0..points.len() {
         let from = nodes::point(number, place as u64 + 1);
-        draw_from_point(dot, number, device, from, &points[place])?;
+        draw_from_point(dot, number, device, from, &points[place]);
     }
-    Ok(())
 }
 
 /// The number of the cache to which a selection process of this number hands packets.
@@ -77,25 +68,23 @@ pub(crate) fn cache_of(device: &Device, selection: usize) -> Option<u64> {
 }
 
 /// Draws the edges from the selection processes of a device to their caches.
-fn draw_from_selections(dot: &mut Dot, number: u64, device: &Device) -> Result<(), AllocError> {
+fn draw_from_selections(dot: &mut Dot, number: u64, device: &Device) {
     for place in 0..device.selection_processes.as_slice().len() {
         if let Some(cache) = cache_of(device, place) {
             let from = nodes::selection(number, place as u64 + 1);
-            draw_edge(dot, from, nodes::cache(number, cache))?;
+            draw_edge(dot, from, nodes::cache(number, cache));
         }
     }
-    Ok(())
 }
 
 /// Draws the edges from the caches of a device.
-fn draw_from_caches(dot: &mut Dot, number: u64, device: &Device) -> Result<(), AllocError> {
+fn draw_from_caches(dot: &mut Dot, number: u64, device: &Device) {
     let caches = device.caches.as_slice();
     for place in 0..caches.len() {
         let from = nodes::cache(number, place as u64 + 1);
         let names = caches[place].exporting_processes.as_slice();
-        draw_exports(dot, number, device, from, names)?;
+        draw_exports(dot, number, device, from, names);
     }
-    Ok(())
 }
 
 /// Draws the edges to the aggregations of a collecting process, and from them.
@@ -105,28 +94,26 @@ fn draw_aggregated(
     device: &Device,
     collector: u64,
     process: &CollectingProcess,
-) -> Result<(), AllocError> {
+) {
     let aggregations = process.aggregations.as_slice();
     for place in 0..aggregations.len() {
         let node = nodes::aggregation(number, collector, place as u64 + 1);
-        draw_edge(dot, nodes::collector(number, collector), node)?;
+        draw_edge(dot, nodes::collector(number, collector), node);
         let names = aggregations[place].exporting_processes.as_slice();
-        draw_exports(dot, number, device, node, names)?;
+        draw_exports(dot, number, device, node, names);
     }
-    Ok(())
 }
 
 /// Draws the edges from the collecting processes of a device.
-fn draw_from_collectors(dot: &mut Dot, number: u64, device: &Device) -> Result<(), AllocError> {
+fn draw_from_collectors(dot: &mut Dot, number: u64, device: &Device) {
     let processes = device.collecting_processes.as_slice();
     for place in 0..processes.len() {
         let collector = place as u64 + 1;
         let from = nodes::collector(number, collector);
         let names = processes[place].exporting_processes.as_slice();
-        draw_exports(dot, number, device, from, names)?;
-        draw_aggregated(dot, number, device, collector, &processes[place])?;
+        draw_exports(dot, number, device, from, names);
+        draw_aggregated(dot, number, device, collector, &processes[place]);
     }
-    Ok(())
 }
 
 /// The link that leads from a destination, if there is one.
@@ -169,7 +156,7 @@ pub(crate) fn target_of(
 }
 
 /// Draws a node where records are lost.
-fn draw_lost(dot: &mut Dot, node: Node) -> Result<(), AllocError> {
+fn draw_lost(dot: &mut Dot, node: Node) {
     dot.line(&[
         Piece::Code("  "),
         Piece::Node(node),
@@ -178,14 +165,9 @@ fn draw_lost(dot: &mut Dot, node: Node) -> Result<(), AllocError> {
 }
 
 /// Draws the edge from an exporting process over one of its destinations.
-fn draw_destination(
-    dot: &mut Dot,
-    from: Node,
-    to: Node,
-    destination: &Destination,
-) -> Result<(), AllocError> {
+fn draw_destination(dot: &mut Dot, from: Node, to: Node, destination: &Destination) {
     let look = if to.kind == "lost" {
-        draw_lost(dot, to)?;
+        draw_lost(dot, to);
         ", color=red, fontcolor=red, style=dashed];"
     } else {
         ", penwidth=2];"
@@ -217,7 +199,7 @@ fn draw_from_exporter(
         let entry = &destinations[place];
         let destination = place as u64 + 1;
         let to = target_of(plan, number, device, exporter, process, destination, entry)?;
-        draw_destination(dot, from, to, entry)?;
+        draw_destination(dot, from, to, entry);
     }
     Ok(())
 }
@@ -244,10 +226,10 @@ pub(crate) fn draw_edges(
     number: u64,
     device: &NetworkDevice,
 ) -> Result<(), AllocError> {
-    draw_from_points(dot, number, &device.config)?;
-    draw_from_selections(dot, number, &device.config)?;
-    draw_from_caches(dot, number, &device.config)?;
-    draw_from_collectors(dot, number, &device.config)?;
+    draw_from_points(dot, number, &device.config);
+    draw_from_selections(dot, number, &device.config);
+    draw_from_caches(dot, number, &device.config);
+    draw_from_collectors(dot, number, &device.config);
     draw_from_exporters(dot, plan, number, device)
 }
 

@@ -4,7 +4,6 @@ use fx_base::Name;
 use fx_config::{CacheKind, Direction, ExportMode, Method, PropertyMatch};
 use fx_elements::{Axis, width};
 use fx_layout::Part;
-use std::alloc::AllocError;
 
 /// The name of an axis's element (RFC 7012).
 pub(crate) fn axis_name(axis: Axis) -> &'static str {
@@ -50,39 +49,38 @@ pub(crate) fn mode_name(mode: ExportMode) -> &'static str {
 }
 
 /// Adds a line of a label with names, one behind the other.
-pub(crate) fn add_names(dot: &mut Dot, names: &[Name]) -> Result<(), AllocError> {
+pub(crate) fn add_names(dot: &mut Dot, names: &[Name]) {
     let mut separator = "";
     for name in names {
-        dot.add(&[Piece::Text(separator), Piece::Text(name.as_str())])?;
+        dot.add(&[Piece::Text(separator), Piece::Text(name.as_str())]);
         separator = ", ";
     }
-    Ok(())
 }
 
 /// Adds a line of a label for each part of a key: its element, and how many leading bits where those aren't all.
-pub(crate) fn add_key(dot: &mut Dot, parts: &[Part]) -> Result<(), AllocError> {
+pub(crate) fn add_key(dot: &mut Dot, parts: &[Part]) {
     if parts.is_empty() {
-        return dot.add(&[Piece::Code("\\nall packets together")]);
+        dot.add(&[Piece::Code("\\nall packets together")]);
+        return;
     }
     for part in parts {
-        dot.add(&[Piece::Code("\\nby "), Piece::Code(axis_name(part.axis))])?;
+        dot.add(&[Piece::Code("\\nby "), Piece::Code(axis_name(part.axis))]);
         if part.bits < width(part.axis) {
-            dot.add(&[Piece::Code("/"), Piece::Number(u64::from(part.bits))])?;
+            dot.add(&[Piece::Code("/"), Piece::Number(u64::from(part.bits))]);
         }
     }
-    Ok(())
 }
 
 /// Adds a line of a label with what a filter passes: an element with one value, or with the addresses of a prefix.
-pub(crate) fn add_match(dot: &mut Dot, filter: &PropertyMatch) -> Result<(), AllocError> {
+pub(crate) fn add_match(dot: &mut Dot, filter: &PropertyMatch) {
     dot.add(&[
         Piece::Code("\\n"),
         Piece::Code(axis_name(filter.axis)),
         Piece::Code(" "),
         Piece::Value(filter.axis, filter.range.low),
-    ])?;
+    ]);
     if filter.range.low == filter.range.high {
-        return Ok(());
+        return;
     }
     dot.add(&[
         Piece::Code("/"),
@@ -91,7 +89,7 @@ pub(crate) fn add_match(dot: &mut Dot, filter: &PropertyMatch) -> Result<(), All
 }
 
 /// Adds a line of a label with what a selector passes.
-pub(crate) fn add_method(dot: &mut Dot, method: &Method) -> Result<(), AllocError> {
+pub(crate) fn add_method(dot: &mut Dot, method: &Method) {
     match method {
         Method::SelectAll => dot.add(&[Piece::Code("\\nall packets")]),
         Method::FilterMatch(filter) => add_match(dot, filter),

@@ -5,7 +5,6 @@ use crate::nodes::{self, Node};
 use fx_base::entry_numbered;
 use fx_config::Device;
 use fx_walk::place_of;
-use std::alloc::AllocError;
 
 /// How an edge is marked.
 #[derive(Clone, Copy, Drop)]
@@ -19,7 +18,7 @@ pub(crate) struct Mark {
 }
 
 /// Draws a marked edge, with the mark's word and number.
-pub(crate) fn draw_mark(dot: &mut Dot, mark: Mark, from: Node, to: Node) -> Result<(), AllocError> {
+pub(crate) fn draw_mark(dot: &mut Dot, mark: Mark, from: Node, to: Node) {
     dot.line(&[
         Piece::Code("  "),
         Piece::Node(from),
@@ -45,22 +44,22 @@ pub(crate) fn draw_metering(
     device: &Device,
     point: u64,
     process: u64,
-) -> Result<(), AllocError> {
+) {
     let observation = nodes::point(number, point);
-    draw_mark(dot, mark, packets, observation)?;
+    draw_mark(dot, mark, packets, observation);
     let Some(entry) = entry_numbered(device.observation_points.as_slice(), point) else {
-        return Ok(());
+        return;
     };
     let Some(name) = entry_numbered(entry.selection_processes.as_slice(), process) else {
-        return Ok(());
+        return;
     };
     let Some(place) = place_of(device.selection_processes.as_slice(), name) else {
-        return Ok(());
+        return;
     };
     let selection = nodes::selection(number, (place as u64).saturating_add(1));
-    draw_mark(dot, mark, observation, selection)?;
+    draw_mark(dot, mark, observation, selection);
     match cache_of(device, place) {
         Some(cache) => draw_mark(dot, mark, selection, nodes::cache(number, cache)),
-        None => Ok(()),
+        None => {}
     }
 }

@@ -49,7 +49,7 @@ fn draw_crossing(
     for occurrence in occurrences.as_slice() {
         let point = occurrence.point as u64;
         let process = occurrence.process as u64;
-        draw_metering(dot, mark, packets, crossing.device, config, point, process)?;
+        draw_metering(dot, mark, packets, crossing.device, config, point, process);
     }
     Ok(())
 }
@@ -77,7 +77,7 @@ fn draw_export(
         if sends(process, chosen, destination) {
             let entry = &destinations[place];
             let to = target_of(plan, number, device, exporter, process, destination, entry)?;
-            draw_mark(dot, mark, from, to)?;
+            draw_mark(dot, mark, from, to);
         }
     }
     Ok(())
@@ -105,7 +105,7 @@ fn draw_exports(
                     chosen = choices.get(made).copied().flatten();
                     made = made.saturating_add(1);
                 }
-                draw_mark(dot, mark, from, nodes::exporter(number, exporter))?;
+                draw_mark(dot, mark, from, nodes::exporter(number, exporter));
                 draw_export(dot, plan, number, device, exporter, process, chosen, mark)?;
             }
         }
@@ -207,7 +207,7 @@ fn draw_arrival(
         Piece::Code(" [color=darkorange, fontcolor=darkorange, penwidth=3, label=\"step "),
         Piece::Number(mark.number),
         Piece::Code(": arrives\"];"),
-    ])?;
+    ]);
     let names = process.exporting_processes.as_slice();
     draw_exports(dot, plan, end.first, device, end, names, choices, mark)
 }
@@ -238,14 +238,14 @@ fn draw_step(
 }
 
 /// Adds totals to a label, as reports have them.
-fn add_totals(dot: &mut Dot, totals: &Totals) -> Result<(), AllocError>
+fn add_totals(dot: &mut Dot, totals: &Totals)
     requires { KeysAscend totals.now.entries }
 {
     let mut octets = [0; 4096];
     let mut room = Room::new(&mut octets);
     // What has no room there is left out.
     let _written = totals.put_report(&mut room);
-    dot.add(&[Piece::Lines(room.octets())])
+    dot.add(&[Piece::Lines(room.octets())]);
 }
 
 /// Draws what the run comes to, and what it should come to, beside the report.
@@ -265,11 +265,11 @@ pub(crate) fn draw_outcome(
         Piece::Code(
             " [shape=note, color=red, fontcolor=red, label=\"in the end the collector holds\\n",
         ),
-    ])?;
-    add_totals(dot, &ran)?;
-    dot.add(&[Piece::Code("and it should hold\\n")])?;
-    add_totals(dot, &plain)?;
-    dot.line(&[Piece::Code("\"];")])?;
+    ]);
+    add_totals(dot, &ran);
+    dot.add(&[Piece::Code("and it should hold\\n")]);
+    add_totals(dot, &plain);
+    dot.line(&[Piece::Code("\"];")]);
     if let Some(report) = report_of(plan) {
         dot.line(&[
             Piece::Code("  "),
@@ -277,7 +277,7 @@ pub(crate) fn draw_outcome(
             Piece::Code(" -> "),
             Piece::Node(nodes::outcome()),
             Piece::Code(" [color=red, dir=none, style=dotted];"),
-        ])?;
+        ]);
     }
     Ok(())
 }

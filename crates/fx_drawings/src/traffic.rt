@@ -5,14 +5,9 @@ use crate::nodes::{self, Node};
 use fx_plan::Plan;
 use fx_tables::Crossing;
 use fx_traffic::Target;
-use std::alloc::AllocError;
 
 /// Draws the packets of a class that take a path.
-fn draw_packets(
-    dot: &mut Dot,
-    documents: &Documents,
-    target: &Target<'_>,
-) -> Result<(), AllocError> {
+fn draw_packets(dot: &mut Dot, documents: &Documents, target: &Target<'_>) {
     let exempt = if target.exempt {
         "\\nexempt: never to be counted"
     } else {
@@ -31,7 +26,7 @@ fn draw_packets(
 }
 
 /// Draws an edge from packets to what sees them at a crossing.
-fn draw_sight(dot: &mut Dot, from: Node, to: Node, crossing: u64) -> Result<(), AllocError> {
+fn draw_sight(dot: &mut Dot, from: Node, to: Node, crossing: u64) {
     dot.line(&[
         Piece::Code("  "),
         Piece::Node(from),
@@ -44,12 +39,7 @@ fn draw_sight(dot: &mut Dot, from: Node, to: Node, crossing: u64) -> Result<(), 
 }
 
 /// Draws a crossing that no observation point sees.
-fn draw_unseen<'x>(
-    dot: &mut Dot,
-    plan: &'x Plan,
-    node: Node,
-    crossing: &'x Crossing,
-) -> Result<(), AllocError> {
+fn draw_unseen<'x>(dot: &mut Dot, plan: &'x Plan, node: Node, crossing: &'x Crossing) {
     let direction = if crossing.inwards {
         " ingress"
     } else {
@@ -82,49 +72,37 @@ fn place_before(number: u64) -> usize {
 }
 
 /// Draws what sees a crossing, and answers whether anything does.
-fn draw_seeing(
-    dot: &mut Dot,
-    plan: &Plan,
-    from: Node,
-    number: u64,
-    crossing: &Crossing,
-) -> Result<bool, AllocError> {
+fn draw_seeing(dot: &mut Dot, plan: &Plan, from: Node, number: u64, crossing: &Crossing) -> bool {
     let mut seen = false;
     let points = plan.net().points_of(crossing.device);
     for place in 0..points.len() {
         if points[place].watches(crossing) {
             let to = nodes::point(crossing.device, place as u64 + 1);
-            draw_sight(dot, from, to, number)?;
+            draw_sight(dot, from, to, number);
             seen = true;
         }
     }
-    Ok(seen)
+    seen
 }
 
 /// Draws a path of a class: its packets, and each crossing with what sees it.
-fn draw_path(dot: &mut Dot, documents: &Documents, target: &Target<'_>) -> Result<(), AllocError> {
-    draw_packets(dot, documents, target)?;
+fn draw_path(dot: &mut Dot, documents: &Documents, target: &Target<'_>) {
+    draw_packets(dot, documents, target);
     let from = nodes::packets(target.class, target.path);
     for place in 0..target.crossings.len() {
         let crossing = &target.crossings[place];
         let number = place as u64 + 1;
-        if !draw_seeing(dot, &documents.plan, from, number, crossing)? {
+        if !draw_seeing(dot, &documents.plan, from, number, crossing) {
             let node = nodes::unseen(target.class, target.path, number);
-            draw_unseen(dot, &documents.plan, node, crossing)?;
-            draw_sight(dot, from, node, number)?;
+            draw_unseen(dot, &documents.plan, node, crossing);
+            draw_sight(dot, from, node, number);
         }
     }
-    Ok(())
 }
 
 /// Draws all paths of all classes.
-pub(crate) fn draw_traffic(
-    dot: &mut Dot,
-    documents: &Documents,
-    targets: &[Target<'_>],
-) -> Result<(), AllocError> {
+pub(crate) fn draw_traffic(dot: &mut Dot, documents: &Documents, targets: &[Target<'_>]) {
     for target in targets {
-        draw_path(dot, documents, target)?;
+        draw_path(dot, documents, target);
     }
-    Ok(())
 }
