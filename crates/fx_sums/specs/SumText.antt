@@ -65,7 +65,3 @@ pub record IsNoted (layout : Layout) (s : Sum) : Type 0 where
   pub count : length s.totals.entries < 2 ^ 64
   pub unassigned : s.totals.unassigned < 2 ^ 64
   pub notes_are : AreNotes s.notes
-
--- no line has more than 4,096 bytes
-abbrev pub HasShortLines : List ℕ → Type 0
-HasShortLines text = AllByRecursion (λ l. length l.0 ≤ line_length_limit) (text_lines text)

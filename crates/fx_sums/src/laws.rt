@@ -5,7 +5,7 @@ ghost use Rattle.fx_layout.specs.Keys.{Layout, IsLayout};
 ghost use Rattle.fx_tables.specs.declared.record.Record.{Record};
 ghost use Rattle.fx_collect.specs.Totals.{nothing, with_records};
 ghost use Rattle.fx_sums.specs.Sums.{Sum, plus, plus_totals, AreAlike, HaveSameTotals};
-ghost use Rattle.fx_sums.specs.SumText.{noted_text, IsNoted, HasShortLines};
+ghost use Rattle.fx_sums.specs.SumText.{noted_text, IsNoted};
 ghost use Rattle.fx_sums.specs.SumReading.{sum_with};
 
 /// What is collected apart and summed is what is collected together: at each key the total, and as many unassigned
@@ -18,10 +18,9 @@ pub fn sums_of_parts()
 {}
 
 /// The text of totals and notes under the keys of a sum's layout, which ascend, is read as these and added, and what is
-/// read and added is such a text. No line of it has more than 4,096 bytes.
+/// read and added is such a text.
 pub fn totals_texts()
     ensures read { (s t : Sum) (n : ℕ) → IsLayout s.totals.layout → IsNoted s.totals.layout t
-        → HasShortLines (noted_text t)
         → sum_with s (n, text_lines (noted_text t)) ≡ Ok (plus s t) }
     ensures only { (s result : Sum) (text : List ℕ) (n : ℕ) → IsLayout s.totals.layout
         → sum_with s (n, text_lines text) ≡ Ok result
