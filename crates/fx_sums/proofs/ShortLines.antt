@@ -1,12 +1,12 @@
 -- No line of totals and notes has more than 4,096 bytes.
-use Rattle.std.proofs.Common.{◌≡◌, ℕ, suc, ◌+◌, ◌-◌, ◌*◌, ◌/◌, ◌%◌, ◌^◌, ◌<◌, ◌≤◌, Bool, true, false, cond, List, [], ◌∷◌, ◌++◌, length, ap, sym, ◌∙◌, subst, arith, codes, length-append}
+use Rattle.std.proofs.Common.{◌≡◌, ℕ, ◌+◌, ◌-◌, ◌*◌, ◌/◌, ◌%◌, ◌^◌, ◌<◌, ◌≤◌, Bool, true, false, cond, List, [], ◌∷◌, ◌++◌, length, ap, arith, codes, length-append}
 use Rattle.std.specs.Prelude.{nat_lt}
 use Rattle.std.specs.Fmt.{decimal}
 use Rattle.std.specs.List.{list_all}
 use Rattle.std.proofs.lemmas.Fmt.{length-decimal-le}
 use Rattle.fx_elements.specs.declared.axis.Axis.{Axis}
 use Rattle.fx_elements.specs.declared.axis.Axis.TheVariants as axis
-use Rattle.fx_elements.specs.Axes.{axis_width, axis_count}
+use Rattle.fx_elements.specs.Axes.{axis_width}
 use Rattle.fx_elements.specs.Groups.{hex_digit, group, half, groups}
 use Rattle.fx_elements.specs.Spelling.{quad}
 use Rattle.fx_elements.specs.Values.{value_text, bits_text, leading_text}

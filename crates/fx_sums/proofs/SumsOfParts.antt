@@ -247,12 +247,11 @@ notes_exchanged m n o =
     rw (joined_exchange both both_assoc both_swap m.complete n.complete o.complete, joined_exchange plus_frames frames_assoc frames_swap m.frames n.frames o.frames, joined_exchange plus_numbers numbers_assoc numbers_swap m.gaps n.gaps o.gaps, joined_exchange plus_numbers numbers_assoc numbers_swap m.skipped n.skipped o.skipped) refl
 
 neighbours : (s t u : Sum) → AreAlike (plus (plus s t) u) (plus (plus s u) t)
-neighbours s t u =
-    (
-      (totals, unassigned_exchanged s.totals t.totals u.totals ∙ omega arith ∙ sym (unassigned_exchanged s.totals u.totals t.totals)),
-      layout t u ∙ sym (layout u t),
-      notes_exchanged s.notes t.notes u.notes,
-    ) where
+neighbours s t u = (
+  (totals, unassigned_exchanged s.totals t.totals u.totals ∙ omega arith ∙ sym (unassigned_exchanged s.totals u.totals t.totals)),
+  layout t u ∙ sym (layout u t),
+  notes_exchanged s.notes t.notes u.notes,
+) where
   totals : (key : Key) → total_at (plus (plus s t) u).totals.entries key ≡ total_at (plus (plus s u) t).totals.entries key
   totals key =
       totals_exchanged s.totals t.totals u.totals key
@@ -266,21 +265,21 @@ neighbours s t u =
 alike_plus : (s s' t : Sum) → AreAlike s s' → AreAlike (plus s t) (plus s' t)
 alike_plus s s' t ((totals, unassigned), layout, notes) =
     ((λ key. at_key_of key, left), layouts_kept s.totals t.totals.entries ∙ layout ∙ sym (layouts_kept s'.totals t.totals.entries), ap (λ (m : Notes). plus_notes m t.notes) notes) where
-  at_key_of : (key : Key) → total_at (plus s t).totals.entries key ≡ total_at (plus s' t).totals.entries key
-  at_key_of key =
-      told s.totals key t.totals.entries
-      ∙ ap₂ (λ (o : Option Counts) (l : Layout). joined add_counts o (shares l key t.totals.entries)) (totals key) layout
-      ∙ sym (told s'.totals key t.totals.entries)
+      at_key_of : (key : Key) → total_at (plus s t).totals.entries key ≡ total_at (plus s' t).totals.entries key
+      at_key_of key =
+          told s.totals key t.totals.entries
+          ∙ ap₂ (λ (o : Option Counts) (l : Layout). joined add_counts o (shares l key t.totals.entries)) (totals key) layout
+          ∙ sym (told s'.totals key t.totals.entries)
 
-  numbers : (a b c : ℕ) → a % 2 ^ 64 ≡ b % 2 ^ 64 → (a + c) % 2 ^ 64 ≡ (b + c) % 2 ^ 64
-  numbers a b c h = omega (arith, h)
+      numbers : (a b c : ℕ) → a % 2 ^ 64 ≡ b % 2 ^ 64 → (a + c) % 2 ^ 64 ≡ (b + c) % 2 ^ 64
+      numbers a b c h = omega (arith, h)
 
-  left : (plus s t).totals.unassigned ≡ (plus s' t).totals.unassigned
-  left =
-      let one = left_out s.totals t.totals.entries in
-      let two = left_out s'.totals t.totals.entries in
-      let same : (s.totals.unassigned + lost s.totals.layout t.totals.entries) % 2 ^ 64 ≡ (s'.totals.unassigned + lost s'.totals.layout t.totals.entries) % 2 ^ 64 = ap₂ (λ (n : ℕ) (l : Layout). (n + lost l t.totals.entries) % 2 ^ 64) unassigned layout in
-      numbers (with_records s.totals t.totals.entries).unassigned (with_records s'.totals t.totals.entries).unassigned t.totals.unassigned (one ∙ same ∙ sym two)
+      left : (plus s t).totals.unassigned ≡ (plus s' t).totals.unassigned
+      left =
+          let one = left_out s.totals t.totals.entries in
+          let two = left_out s'.totals t.totals.entries in
+          let same : (s.totals.unassigned + lost s.totals.layout t.totals.entries) % 2 ^ 64 ≡ (s'.totals.unassigned + lost s'.totals.layout t.totals.entries) % 2 ^ 64 = ap₂ (λ (n : ℕ) (l : Layout). (n + lost l t.totals.entries) % 2 ^ 64) unassigned layout in
+          numbers (with_records s.totals t.totals.entries).unassigned (with_records s'.totals t.totals.entries).unassigned t.totals.unassigned (one ∙ same ∙ sym two)
 
 alike_all : (s s' : Sum) (ts : List Sum) → AreAlike s s' → AreAlike (sum_of s ts) (sum_of s' ts)
 alike_all s s' [] h = h

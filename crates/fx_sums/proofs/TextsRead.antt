@@ -1,5 +1,5 @@
 -- The text of totals and notes is read as they are.
-use Rattle.std.proofs.Common.{◌≡◌, ℕ, zero, suc, ◌≤◌, Bool, true, List, [], ◌∷◌, ◌++◌, length, Option, Some, None, Ok, IfSome, is_some, refl, ap, sym, ◌∙◌, subst, arith, ne_eqb, le-ltb, append_assoc, codes}
+use Rattle.std.proofs.Common.{◌≡◌, ℕ, suc, ◌≤◌, Bool, true, List, [], ◌∷◌, ◌++◌, length, Option, Some, None, Ok, IfSome, is_some, refl, ap, sym, ◌∙◌, subst, arith, ne_eqb, le-ltb, append_assoc, codes}
 use Rattle.std.specs.Fmt.{decimal}
 use Rattle.std.specs.List.{AllByRecursion}
 use Rattle.std.proofs.lemmas.List.{append-nil}

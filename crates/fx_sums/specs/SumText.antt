@@ -1,8 +1,6 @@
 -- The text of totals and of what was noted beside them.
-use Rattle.std.specs.Prelude.{◌≡◌, ℕ, ◌^◌, ◌≤◌, ◌<◌, Bool, true, false, List, [], ◌∷◌, ◌++◌, length, codes, decimal, Option, Some, None, IfSome, is_some}
+use Rattle.std.specs.Prelude.{◌≡◌, ℕ, ◌^◌, ◌<◌, Bool, true, false, List, [], ◌∷◌, ◌++◌, length, codes, decimal, Option, Some, None, IfSome, is_some}
 use Rattle.std.specs.List.{AllByRecursion}
-use Rattle.fx_base.specs.Lines.{text_lines}
-use Rattle.fx_base.specs.Limits.{line_length_limit}
 use Rattle.fx_layout.specs.Keys.{Layout, HasBits, comes_before}
 use Rattle.fx_tables.specs.declared.record.Record.{Record}
 use Rattle.fx_machine.specs.Sums.{IsBelow}
