@@ -6,6 +6,7 @@ pub mod NotesRead
 pub mod Adding
 pub mod SumsOfParts
 pub mod LinesFound
+pub mod ShortLines
 pub mod TextsFound
 pub mod LinesRead
 pub mod TextsRead

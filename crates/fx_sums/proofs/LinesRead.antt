@@ -154,7 +154,7 @@ number_line_plain word n plain lt = line_before word (decimal n) plain (number_a
 -- ---- values
 
 -- the first value with these leading bits
-start_below : (part : Part) (x : ℕ) → part.bits ≤ axis_width part.axis → x < 2 ^ part.bits → x * 2 ^ (axis_width part.axis - part.bits) < 2 ^ axis_width part.axis
+pub start_below : (part : Part) (x : ℕ) → part.bits ≤ axis_width part.axis → x < 2 ^ part.bits → x * 2 ^ (axis_width part.axis - part.bits) < 2 ^ axis_width part.axis
 start_below part x le lt =
     let size = 2 ^ (axis_width part.axis - part.bits) in
     let whole : axis_width part.axis ≡ part.bits + (axis_width part.axis - part.bits) = omega arith in

@@ -1,5 +1,5 @@
 -- What totals of one report come to that were collected apart, and what was noted beside them.
-use Rattle.std.specs.Prelude.{◌≡◌, ℕ, ◌+◌, ◌%◌, ◌^◌, ◌&&◌, Bool, Option, Some, None}
+use Rattle.std.specs.Prelude.{◌≡◌, ℕ, ◌+◌, ◌%◌, ◌^◌, ◌&&◌, Bool, List, [], ◌∷◌, Option, Some, None}
 use Rattle.fx_layout.specs.Keys.{Layout, Key}
 use Rattle.fx_machine.specs.Sums.{total_at}
 use Rattle.fx_collect.specs.Totals.{Totals, nothing, with_records, with_unassigned}
@@ -52,11 +52,17 @@ plus_totals t u = with_unassigned (with_records t u.entries) u.unassigned
 abbrev pub plus : Sum → Sum → Sum
 plus s t = record { totals = plus_totals s.totals t.totals; notes = plus_notes s.notes t.notes }
 
+-- one after another is added
+abbrev pub sum_of : Sum → List Sum → Sum
+sum_of s [] = s
+sum_of s (t ∷ ts) = sum_of (plus s t) ts
+
 -- ---- alike
 
 -- the same total at each key, and as many unassigned records
 abbrev pub HaveSameTotals : Totals → Totals → Type 0
 HaveSameTotals t u = ((key : Key) → total_at t.entries key ≡ total_at u.entries key) × (t.unassigned ≡ u.unassigned)
 
+-- the same totals under one layout, and the same notes
 abbrev pub AreAlike : Sum → Sum → Type 0
-AreAlike s t = HaveSameTotals s.totals t.totals × (s.notes ≡ t.notes)
+AreAlike s t = HaveSameTotals s.totals t.totals × (s.totals.layout ≡ t.totals.layout) × (s.notes ≡ t.notes)
