@@ -20,7 +20,12 @@ pub(crate) fn axis_word(axis: Axis) -> &'static str {
 }
 
 /// Tells the values of a region on an axis, from the least to the greatest.
-fn tell_range(story: &mut Story, axis: Axis, low: u128, high: u128) -> Result<(), AllocError> {
+pub(crate) fn tell_range(
+    story: &mut Story,
+    axis: Axis,
+    low: u128,
+    high: u128,
+) -> Result<(), AllocError> {
     story.tell(&[
         Piece::Text(axis_word(axis)),
         Piece::Text(" "),
