@@ -1,11 +1,11 @@
 //! Members that an object may have, and those that one has which it may not.
 use crate::near::near_of;
 use crate::pointers::last_member;
-use crate::story::{Piece, Story};
+use crate::story::{Piece, Story, between};
 use serde_json::Value;
 use std::alloc::{AllocError, Global};
 
-/// The members of an object at a pointer whose last member is this one that both documents may have, or a network's.
+/// The members of an object of a network's document.
 fn members_of_network(member: &str) -> &'static [&'static str] {
     match member {
         "" => &["devices", "links", "report"],
@@ -121,21 +121,27 @@ fn members_allowed(member: &str, is_network: bool) -> &'static [&'static str] {
     }
 }
 
-/// Tells those of these names that an object doesn't have yet.
+/// Tells which of these names an object doesn't have yet, which may not have a member of another name.
 fn tell_free(
     story: &mut Story,
     object: &Value,
+    name: &str,
     names: &'static [&'static str],
 ) -> Result<(), AllocError> {
-    let mut separator = "allowed there, and not there yet: ";
-    for name in names {
-        if object.get(*name).is_none() {
-            story.tell(&[Piece::Text(separator), Piece::Text(name)])?;
-            separator = ", ";
+    story.tell(&[
+        Piece::Text("no member "),
+        Piece::Quoted(name),
+        Piece::Text(" may be there; those that may, and aren't there yet: "),
+    ])?;
+    let mut told = false;
+    for free in names {
+        if object.get(*free).is_none() {
+            story.tell(&[Piece::Text(between(told, ", ")), Piece::Text(free)])?;
+            told = true;
         }
     }
-    if separator != ", " {
-        story.tell(&[Piece::Text("all members that are allowed there are there")])?;
+    if !told {
+        story.tell(&[Piece::Text("none")])?;
     }
     story.end_line()
 }
@@ -157,6 +163,19 @@ fn tell_near<'x>(
     ])
 }
 
+/// What a document seems to be that has a member of the other kind of document.
+fn other_document(pointer: &str, is_network: bool) -> Option<&'static str> {
+    match pointer {
+        "/classes" if is_network => Some(
+            "this looks like a traffic declaration, and is read as a network",
+        ),
+        "/devices" | "/links" | "/report" if !is_network => {
+            Some("this looks like a network, and is read as a traffic declaration")
+        }
+        _ => None,
+    }
+}
+
 /// Tells a member that an object may not have: the nearest name that is allowed, or the names that are. The pointer leads
 /// to the member.
 pub(crate) fn tell_unknown_member(
@@ -174,7 +193,11 @@ pub(crate) fn tell_unknown_member(
     };
     let names = members_allowed(last_member(place), is_network);
     match near_of(alloc, name, names)? {
-        Some(known) => tell_near(story, object, name, known),
-        None => tell_free(story, object, names),
+        Some(known) => tell_near(story, object, name, known)?,
+        None => tell_free(story, object, name, names)?,
+    }
+    match other_document(pointer, is_network) {
+        Some(words) => story.sentence(&[Piece::Text(words)]),
+        None => Ok(()),
     }
 }

@@ -1,6 +1,6 @@
 //! Values that aren't allowed, and the elements that they name.
 use crate::near::near_of;
-use crate::pointers::text_member;
+use crate::pointers::{text_member, text_or_none};
 use crate::story::{Piece, Story};
 use fx_elements::{Element, by_id, by_name};
 use serde_json::Value;
@@ -40,11 +40,18 @@ const ON_AXES: usize = 9;
 /// How many of these are axes, or prefixes of addresses on one.
 const OF_AXES: usize = 13;
 
+/// Whether the element that an object names is one of an enterprise.
+fn is_of_enterprise(object: &Value) -> bool {
+    match object.get("ieEnterpriseNumber") {
+        Some(number) => number.as_u64() != Some(0),
+        None => false,
+    }
+}
+
 /// The element that an object names, by its name or by its number.
 pub(crate) fn element_of(object: &Value) -> Element {
-    match object.get("ieEnterpriseNumber") {
-        Some(number) if number.as_u64() != Some(0) => return Element::Other,
-        _ => {}
+    if is_of_enterprise(object) {
+        return Element::Other;
     }
     if let Some(name) = text_member(object, "ieName") {
         return by_name(name);
@@ -65,17 +72,6 @@ fn is_of_axis(element: Element) -> bool {
     matches!(element, Element::OnAxis(_) | Element::Prefix(_))
 }
 
-/// Tells of a name that no element has which is told apart.
-fn tell_unknown(alloc: Global, story: &mut Story, name: &str) -> Result<(), AllocError> {
-    match near_of(alloc, name, &NAMES)? {
-        Some(known) => tell_near(story, name, known),
-        None => story.sentence(&[
-            Piece::Text("no element that is read is named "),
-            Piece::Quoted(name),
-        ]),
-    }
-}
-
 /// Tells the name of the element that a misspelled one stands for.
 fn tell_near<'x>(story: &mut Story, name: &'x str, known: &'x str) -> Result<(), AllocError> {
     story.sentence(&[
@@ -86,23 +82,41 @@ fn tell_near<'x>(story: &mut Story, name: &'x str, known: &'x str) -> Result<(),
     ])
 }
 
-/// Tells that packets aren't told apart by the element that an object names.
-fn tell_no_axis(alloc: Global, story: &mut Story, object: &Value) -> Result<(), AllocError> {
-    if let Some(name) = text_member(object, "ieName") {
-        return match by_name(name) {
-            Element::Other => tell_unknown(alloc, story, name),
-            _ => story.sentence(&[
-                Piece::Text(name),
-                Piece::Text(" is no field by which packets are told apart"),
-            ]),
-        };
-    }
-    match number_of(object) {
-        Some(number) => story.sentence(&[
-            Piece::Text("element "),
-            Piece::Number(number),
+/// Tells that packets aren't told apart by the element of this name.
+fn tell_named(story: &mut Story, name: &str) -> Result<(), AllocError> {
+    match by_name(name) {
+        Element::Other => story.sentence(&[
+            Piece::Text("no element that is read is named "),
+            Piece::Quoted(name),
+        ]),
+        _ => story.sentence(&[
+            Piece::Text(name),
             Piece::Text(" is no field by which packets are told apart"),
         ]),
+    }
+}
+
+/// Tells that packets aren't told apart by the element of this number.
+fn tell_numbered(story: &mut Story, number: u64) -> Result<(), AllocError> {
+    story.sentence(&[
+        Piece::Text("element "),
+        Piece::Number(number),
+        Piece::Text(" is no field by which packets are told apart"),
+    ])
+}
+
+/// Tells that packets aren't told apart by the element that an object names.
+fn tell_no_axis(story: &mut Story, object: &Value) -> Result<(), AllocError> {
+    if is_of_enterprise(object) {
+        return story.sentence(&[Piece::Text(
+            "packets are told apart by no element of an enterprise",
+        )]);
+    }
+    if let Some(name) = text_member(object, "ieName") {
+        return tell_named(story, name);
+    }
+    match number_of(object) {
+        Some(number) => tell_numbered(story, number),
         None => Ok(()),
     }
 }
@@ -118,8 +132,17 @@ fn tell_choice(story: &mut Story, prefixes: bool) -> Result<(), AllocError> {
     story.end_line()
 }
 
-/// Tells what is wrong with the element that an object names, where packets aren't told apart by it, and the elements by
-/// which they are: by those of prefixes only where these may stand there. Answers whether packets are told apart by it.
+/// The nearest name to that which an object gives to its element, where no element has that name.
+fn near_name(alloc: Global, object: &Value) -> Result<Option<&'static str>, AllocError> {
+    match text_member(object, "ieName") {
+        Some(name) if by_name(name) == Element::Other => near_of(alloc, name, &NAMES),
+        _ => Ok(None),
+    }
+}
+
+/// Tells what is wrong with the element that an object names, where packets aren't told apart by it: the nearest name, or
+/// the elements by which they are, those of prefixes only where these may stand there. Answers whether packets are told
+/// apart by it.
 pub(crate) fn tell_element(
     alloc: Global,
     story: &mut Story,
@@ -129,8 +152,13 @@ pub(crate) fn tell_element(
     if is_of_axis(element_of(object)) {
         return Ok(true);
     }
-    tell_no_axis(alloc, story, object)?;
-    tell_choice(story, prefixes)?;
+    match near_name(alloc, object)? {
+        Some(known) => tell_near(story, text_or_none(object, "ieName"), known)?,
+        None => {
+            tell_no_axis(story, object)?;
+            tell_choice(story, prefixes)?;
+        }
+    }
     Ok(false)
 }
 

@@ -31,10 +31,9 @@ fn tell_both(
         Piece::Text(" overlap: both hold "),
     ])?;
     tell_region(story, both)?;
-    story.sentence(&[
-        Piece::Text("; once run takes such a packet for one of class "),
-        Piece::Number(first),
-    ])
+    story.sentence(&[Piece::Text(
+        "; once run takes a packet to be of the first class that holds it",
+    )])
 }
 
 /// Tells with which classes behind it the class at a place overlaps, as long as few were told, and answers how many

@@ -73,6 +73,14 @@ fn tell_text(
     }
 }
 
+/// Whether a value is a number of octets that a field may have.
+fn is_length(value: &Value) -> bool {
+    match value.as_u64() {
+        Some(octets) => 0 < octets && octets < 0x1_0000,
+        None => false,
+    }
+}
+
 /// Tells how many octets the element of a field has.
 fn tell_octets(story: &mut Story, field: &Value) -> Result<(), AllocError> {
     let octets = match element_of(field) {
@@ -81,7 +89,7 @@ fn tell_octets(story: &mut Story, field: &Value) -> Result<(), AllocError> {
         _ => return Ok(()),
     };
     story.sentence(&[
-        Piece::Text("octets that this element has as a flow key, or as a counter: "),
+        Piece::Text("octets that this element has to have there: "),
         Piece::Number(octets),
     ])
 }
@@ -219,9 +227,8 @@ pub(crate) fn tell_wrong(
         }
         _ => {}
     }
-    tell_allowed(story, member, is_network)?;
     match value_above(document, pointer) {
-        Some(field) if member == "ieLength" => tell_octets(story, field),
-        _ => Ok(()),
+        Some(field) if member == "ieLength" && is_length(value) => tell_octets(story, field),
+        _ => tell_allowed(story, member, is_network),
     }
 }
