@@ -220,12 +220,12 @@ pub(crate) fn tell_wrong(
     is_network: bool,
 ) -> Result<(), AllocError> {
     let member = last_member(pointer);
-    match value {
-        Value::Object(_) => return tell_object(alloc, story, document, pointer, value),
-        Value::String(text) if words_allowed(member, is_network).is_empty() => {
-            return tell_text(story, member, text.as_str(), is_network);
-        }
-        _ => {}
+    if words_allowed(member, is_network).is_empty() {
+        return match value {
+            Value::Object(_) => tell_object(alloc, story, document, pointer, value),
+            Value::String(text) => tell_text(story, member, text.as_str(), is_network),
+            _ => Ok(()),
+        };
     }
     match value_above(document, pointer) {
         Some(field) if member == "ieLength" && is_length(value) => tell_octets(story, field),
