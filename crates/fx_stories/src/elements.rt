@@ -1,7 +1,7 @@
 //! Values that aren't allowed, and the elements that they name.
 use crate::near::near_of;
 use crate::pointers::{text_member, text_or_none};
-use crate::story::{Piece, Story};
+use crate::story::{Piece, Story, between};
 use fx_elements::{Element, by_id, by_name};
 use serde_json::Value;
 use std::alloc::{AllocError, Global};
@@ -123,11 +123,13 @@ fn tell_no_axis(story: &mut Story, object: &Value) -> Result<(), AllocError> {
 
 /// Tells the elements that may be named where packets are told apart, those that are axes or their prefixes too.
 fn tell_choice(story: &mut Story, prefixes: bool) -> Result<(), AllocError> {
-    let mut separator = "elements that are allowed there: ";
     let count = if prefixes { OF_AXES } else { ON_AXES };
-    for name in NAMES.iter().take(count) {
-        story.tell(&[Piece::Text(separator), Piece::Text(name)])?;
-        separator = ", ";
+    story.tell(&[Piece::Text("elements that are allowed there: ")])?;
+    for place in 0..count {
+        story.tell(&[
+            Piece::Text(between(place > 0, ", ")),
+            Piece::Text(NAMES[place]),
+        ])?;
     }
     story.end_line()
 }

@@ -119,20 +119,19 @@ fn tell_single(story: &mut Story, axis: Axis, text: &str) -> Result<(), AllocErr
 
 /// Tells what is wrong with the number of bits behind an address, if something is.
 fn tell_bits(story: &mut Story, axis: Axis, text: &str) -> Result<(), AllocError> {
-    let bits = read_number(text.as_bytes(), u128::from(width(axis)));
-    match bits {
-        Some(0) => story.sentence(&[Piece::Text(
-            "a prefix has 1 bit at least; for all addresses leave it out",
-        )]),
-        Some(_) => Ok(()),
-        None => story.sentence(&[
+    let Some(bits) = read_number(text.as_bytes(), u128::from(width(axis))) else {
+        return story.sentence(&[
             Piece::Text("the length of the prefix is "),
             Piece::Quoted(text),
             Piece::Text("; allowed there: a number from 1 to "),
             Piece::Number(u64::from(width(axis))),
             Piece::Text(" without a zero in front"),
-        ]),
+        ]);
+    };
+    if bits > 0 {
+        return Ok(());
     }
+    story.sentence(&[Piece::Text("a prefix has 1 bit at least; for all addresses leave it out")])
 }
 
 /// Tells what is wrong with a text that should spell a prefix, if something is.
