@@ -176,8 +176,8 @@ fn other_document(pointer: &str, is_network: bool) -> Option<&'static str> {
     }
 }
 
-/// Tells a member that an object may not have: the nearest name that is allowed, or the names that are. The pointer leads
-/// to the member.
+/// Tells a member that an object may not have: the nearest name that is allowed, or the names that are. The pointer
+/// leads to the member.
 pub(crate) fn tell_unknown_member(
     alloc: Global,
     story: &mut Story,

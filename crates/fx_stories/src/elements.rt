@@ -142,9 +142,9 @@ fn near_name(alloc: Global, object: &Value) -> Result<Option<&'static str>, Allo
     }
 }
 
-/// Tells what is wrong with the element that an object names, where packets aren't told apart by it: the nearest name, or
-/// the elements by which they are, those of prefixes only where these may stand there. Answers whether packets are told
-/// apart by it.
+/// Tells what is wrong with the element that an object names, where packets aren't told apart by it: the nearest name,
+/// or the elements by which they are, those of prefixes only where these may stand there. Answers whether packets are
+/// told apart by it.
 pub(crate) fn tell_element(
     alloc: Global,
     story: &mut Story,
