@@ -2,8 +2,8 @@
 """rows_in_words.py PROGRAM [ROW..]: runs the worked rows with `--words`, in front of their other words and behind them.
 
 What stands first on standard output must be what the row prints without it, with the row's status, and nothing may
-stand on standard error. Behind it must stand what the row's file `told` has, if there is one: what the program says of
-these very files. Behind a refusal, an answer of no and `unknown 601` must stand what is wrong and what to do.
+stand on standard error. Behind a refusal, an answer of no and `unknown 601` must stand what is wrong and what to do; and in
+front of that the lines of the row's file `told`, where it has one.
 
 Prints a line for each row that fails, and last `N passed, M failed`. The exit status is 1 where a row failed.
 """
@@ -30,11 +30,6 @@ def ways(words):
         yield words + ["--words"]
 
 
-def said_first(behind, told):
-    """Whether what is said of the files is this, and what is said of all refusals of the number comes next."""
-    return behind.startswith(told) and (behind == told or behind[len(told) :].startswith(b"wrong: "))
-
-
 def faults(program, row):
     words = shlex.split(octets_of(row, "words").decode())
     wanted, status = octets_of(row, "stdout", None), int(octets_of(row, "status"))
@@ -48,12 +43,13 @@ def faults(program, row):
             yield "printed %r in front, in place of %r" % (run.stdout[:200], wanted[:200])
         if run.stderr:
             yield "printed %r on standard error" % run.stderr[:200]
-        behind, told = run.stdout[len(wanted or b"") :], octets_of(row, "told", None)
-        if told is not None and not said_first(behind, told):
-            yield "told %r behind it, in place of %r" % (behind[:1000], told)
         if wanted is not None and ASKS.match(wanted):
+            behind = run.stdout[len(wanted) :]
             if b"\nwrong: " not in b"\n" + behind or b"\nwhat to do: " not in behind:
                 yield "printed no words behind %r: %r" % (wanted, behind[:200])
+        told = octets_of(row, "told", None)
+        if told is not None and (b"\n" + told) not in b"\n" + run.stdout:
+            yield "told %r, which lacks %r" % (run.stdout, told)
 
 
 def is_read(name):

@@ -1,7 +1,7 @@
 //! Selection processes that select nothing, since two of their filters exclude one another.
-use crate::regions::tell_range;
+use crate::regions::{axis_word, tell_values};
 use crate::story::{Piece, Story};
-use fx_config::{Method, SelectionProcess, Selector};
+use fx_config::{Method, PropertyMatch, SelectionProcess, Selector};
 use fx_plan::Plan;
 use fx_topology::NetworkDevice;
 use std::alloc::AllocError;
@@ -20,15 +20,24 @@ fn excluding<'a>(selectors: &'a [Selector], other: &Selector) -> Option<&'a Sele
     selectors.iter().find(|selector| exclude(selector, other))
 }
 
+/// Tells the values that pass a filter.
+fn tell_passing(story: &mut Story, filter: PropertyMatch) -> Result<(), AllocError> {
+    story.tell(&[
+        Piece::Text(" ("),
+        Piece::Text(axis_word(filter.axis)),
+        Piece::Text(" "),
+    ])?;
+    tell_values(story, filter.axis, filter.range.low, filter.range.high)?;
+    story.tell(&[Piece::Text(")")])
+}
+
 /// Tells a selector, and the values that pass it.
 fn tell_selector(story: &mut Story, selector: &Selector) -> Result<(), AllocError> {
     story.tell(&[Piece::Quoted(selector.name.as_str())])?;
-    let Method::FilterMatch(filter) = &selector.method else {
-        return Ok(());
-    };
-    story.tell(&[Piece::Text(" (")])?;
-    tell_range(story, filter.axis, filter.range.low, filter.range.high)?;
-    story.tell(&[Piece::Text(")")])
+    match selector.method {
+        Method::FilterMatch(filter) => tell_passing(story, filter),
+        Method::SelectAll => Ok(()),
+    }
 }
 
 /// Tells that two selectors of a selection process exclude one another.

@@ -1,5 +1,5 @@
 //! Matches of aggregations that don't hold for all packets of a region.
-use crate::regions::tell_range;
+use crate::regions::{axis_word, tell_values};
 use crate::story::{Piece, Story};
 use fx_boxes::Region;
 use fx_config::{Aggregation, CollectingProcess, PropertyMatch};
@@ -36,8 +36,10 @@ fn tell_match<'x>(
         Piece::Text(" of "),
         Piece::Text(device.name.as_str()),
         Piece::Text(": its match on "),
+        Piece::Text(axis_word(property.axis)),
+        Piece::Text(" "),
     ])?;
-    tell_range(
+    tell_values(
         story,
         property.axis,
         property.range.low,
