@@ -4,6 +4,7 @@
   words    the program's words, in one line; the files that they name stand beside it (no file: no words)
   stdin    what it gets on standard input (no file: nothing)
   stdout   what it must print, octet for octet (no file: not looked at)
+  told     what stands behind that with `--words`, but for what is said of each refusal of its number (rows_in_words.py)
   output   the file that its standard output is, as /dev/full (no file: it is read)
   status   its exit status
   refutes  stands there where it must print a refutation that `confirm` accepts, over the same documents; with a

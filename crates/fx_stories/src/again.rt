@@ -30,7 +30,7 @@ pub(crate) fn value_again(alloc: Global, octets: &[u8]) -> Result<Option<Value>,
 }
 
 /// What was read, or none where it is refused.
-fn unless_refused<T: Drop>(outcome: Result<T, Fault>) -> Result<Option<T>, AllocError> {
+pub(crate) fn unless_refused<T: Drop>(outcome: Result<T, Fault>) -> Result<Option<T>, AllocError> {
     match outcome {
         Ok(value) => Ok(Some(value)),
         Err(fault) => {

@@ -117,7 +117,7 @@ fn tell_tree(
     tell_region_line(story, region)?;
     if is_of_packets(number) {
         tell_watching(story, &documents.plan, region, target.crossings)?;
-        tell_following(alloc, story, &documents.plan, target.crossings)?;
+        tell_following(alloc, story, &documents.plan, region, target.crossings)?;
     }
     if number == refusals::CUT_REGION {
         tell_cut(alloc, story, &documents.plan, target.crossings, region)?;
@@ -266,9 +266,10 @@ fn story_of<C: Source>(
 
 /// Writes in sentences what a refusal of a certificate, 401 to 415 at a line, is about: the line, at most 200 octets of
 /// it; the class and the path by name; the region of the line, with what the line names; and for a leaf what sees the
-/// region's packets along the path and where its records go, up to the report, and where to split it, if something cuts it. The documents
-/// are those over which the certificate was refused, the lines those of its text, opened anew. What can't be told is
-/// left out. The text has no control characters but line feeds.
+/// region's packets along the path and where its records go, up to the report, with the matches of aggregations that
+/// don't hold for all of them, and where to split it, if something cuts it. The documents are those over which the
+/// certificate was refused, the lines those of its text, opened anew. What can't be told is left out. The text has no
+/// control characters but line feeds.
 ///
 /// Fails with 900 for want of memory; with 901 where a read fails, or the reader hasn't ended after 4,294,967,296 calls;
 /// with 903 at a line of more than 4,096 octets; with 902 where a write fails. Nothing is written for a fault other than

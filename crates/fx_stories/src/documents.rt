@@ -5,7 +5,9 @@ ghost use Rattle.fx_base.specs.Fault.{IsMemory};
 ghost use Rattle.fx_stories.specs.Stories.{WritesStory};
 
 use crate::again::{plan_again, value_again};
-use crate::elements::{tell_allowed, tell_value};
+use crate::allowed::tell_unknown_member;
+use crate::circles::tell_circle;
+use crate::elements::tell_value;
 use crate::ends::{
     tell_cycle, tell_link_ends, tell_report_end, tell_unknown_device, tell_unknown_name,
 };
@@ -13,6 +15,7 @@ use crate::json::tell_json;
 use crate::members::tell_lacking;
 use crate::pointers::last_member;
 use crate::story::{Piece, Story};
+use crate::values::tell_wrong;
 use fx_base::{Fault, Place, Sink, put_text, refusals};
 use serde_json::Value;
 use std::alloc::{AllocError, Global};
@@ -63,11 +66,12 @@ fn tell_at(
     let Some(value) = document.pointer(pointer) else {
         return Ok(());
     };
+    let is_network = refused.traffic.is_none();
     match number {
-        refusals::MISSING_MEMBER => {
-            let is_network = refused.traffic.is_none();
-            tell_lacking(story, value, last_member(pointer), is_network)
+        refusals::UNKNOWN_MEMBER => {
+            tell_unknown_member(alloc, story, document, pointer, is_network)
         }
+        refusals::MISSING_MEMBER => tell_lacking(story, value, last_member(pointer), is_network),
         refusals::WRONG_KIND
         | refusals::BAD_VALUE
         | refusals::NAME_TWICE
@@ -78,7 +82,7 @@ fn tell_at(
         | refusals::CLASS_TWICE
         | refusals::TRAFFIC_VALUE => {
             tell_value(alloc, story, value)?;
-            tell_allowed(story, last_member(pointer), refused.traffic.is_none())
+            tell_wrong(alloc, story, document, pointer, value, is_network)
         }
         _ => tell_names(story, &refused.network, value, pointer, number),
     }
@@ -93,7 +97,8 @@ fn tell_refused(
 ) -> Result<(), AllocError> {
     match &fault.place {
         Place::Text(text) if fault.number == refusals::LINK_CYCLE => {
-            tell_cycle(story, &refused.network, text.as_str())
+            tell_cycle(story, &refused.network, text.as_str())?;
+            tell_circle(alloc, story, &refused.network)
         }
         Place::Text(text) => tell_at(alloc, story, refused, text.as_str(), fault.number),
         Place::None => tell_at(alloc, story, refused, "", fault.number),
@@ -164,10 +169,11 @@ fn story_of(
 
 /// Writes in sentences what a refusal of a document, 101 to 115, 201 to 207 or 301 to 305, is about: the name of the
 /// file, which is the network's where the network is refused, else the traffic's; where a text is no JSON, the line, the
-/// column and the reason; which members are missing and which are there; a value that isn't allowed, at most 200 octets
-/// of its JSON text, with what is wrong with the elements that it names; which name names nothing, and the names that
-/// there are; which collecting processes stand on a circle of links. The octets are those that were refused. What can't
-/// be told is left out. The text has no control characters but line feeds.
+/// column and the reason; which members are missing and which are there; the name for which a misspelled member stands,
+/// or the members that are allowed; a value that isn't allowed, at most 200 octets of its JSON text, with what is wrong
+/// in it or with the elements that it names, and the values that are allowed; which name names nothing, and the names
+/// that there are; which collecting processes stand on a circle of links, and the links of one. The octets are those
+/// that were refused. What can't be told is left out. The text has no control characters but line feeds.
 ///
 /// Fails with 900 for want of memory, and then nothing is written; with 902 where a write fails.
 pub fn put_document_words<S: Sink>(

@@ -1,14 +1,15 @@
-//! Values that aren't allowed, and the elements that they are about.
-use crate::pointers::{items_member, text_member};
-use crate::story::{Piece, Story};
-use fx_elements::{Element, by_name};
+//! Values that aren't allowed, and the elements that they name.
+use crate::near::near_of;
+use crate::pointers::{text_member, text_or_none};
+use crate::story::{Piece, Story, between};
+use fx_elements::{Element, by_id, by_name};
 use serde_json::Value;
 use std::alloc::{AllocError, Global};
 
 /// How many octets of a value are told.
 const TOLD: usize = 200;
 
-/// The elements that are told apart, by name.
+/// The elements that are told apart, by name: those that are axes, the prefixes of addresses, then the others.
 const NAMES: [&str; 21] = [
     "sourceIPv4Address",
     "destinationIPv4Address",
@@ -19,51 +20,75 @@ const NAMES: [&str; 21] = [
     "ipVersion",
     "sourceIPv6Address",
     "destinationIPv6Address",
-    "octetDeltaCount",
-    "packetDeltaCount",
-    "octetTotalCount",
-    "packetTotalCount",
     "sourceIPv4Prefix",
     "destinationIPv4Prefix",
     "sourceIPv6Prefix",
     "destinationIPv6Prefix",
+    "octetDeltaCount",
+    "packetDeltaCount",
+    "octetTotalCount",
+    "packetTotalCount",
     "sourceIPv4PrefixLength",
     "destinationIPv4PrefixLength",
     "sourceIPv6PrefixLength",
     "destinationIPv6PrefixLength",
 ];
 
-/// The name of an element that differs from this one in the case of its letters alone, or is the same.
-fn name_in_other_case(name: &str) -> Option<&'static str> {
-    for known in NAMES {
-        if known.eq_ignore_ascii_case(name) {
-            return Some(known);
-        }
+/// How many of these are axes.
+const ON_AXES: usize = 9;
+
+/// How many of these are axes, or prefixes of addresses on one.
+const OF_AXES: usize = 13;
+
+/// Whether the element that an object names is one of an enterprise.
+fn is_of_enterprise(object: &Value) -> bool {
+    match object.get("ieEnterpriseNumber") {
+        Some(number) => number.as_u64() != Some(0),
+        None => false,
     }
-    None
 }
 
-/// Tells of a name that no element has which is told apart.
-fn tell_unknown(story: &mut Story, name: &str) -> Result<(), AllocError> {
-    match name_in_other_case(name) {
-        Some(known) => story.sentence(&[
-            Piece::Text("no element is named "),
-            Piece::Quoted(name),
-            Piece::Text("; the element is "),
-            Piece::Text(known),
-        ]),
-        None => story.sentence(&[
+/// The element that an object names, by its name or by its number.
+pub(crate) fn element_of(object: &Value) -> Element {
+    if is_of_enterprise(object) {
+        return Element::Other;
+    }
+    if let Some(name) = text_member(object, "ieName") {
+        return by_name(name);
+    }
+    match number_of(object) {
+        Some(number) if number < 0x8000 => by_id(number as u16, 0),
+        _ => Element::Other,
+    }
+}
+
+/// The number of the element that an object names.
+fn number_of(object: &Value) -> Option<u64> {
+    object.get("ieId")?.as_u64()
+}
+
+/// Whether packets are told apart by an element, or by the leading bits of it.
+fn is_of_axis(element: Element) -> bool {
+    matches!(element, Element::OnAxis(_) | Element::Prefix(_))
+}
+
+/// Tells the name of the element that a misspelled one stands for.
+fn tell_near<'x>(story: &mut Story, name: &'x str, known: &'x str) -> Result<(), AllocError> {
+    story.sentence(&[
+        Piece::Text("no element is named "),
+        Piece::Quoted(name),
+        Piece::Text("; the nearest name is "),
+        Piece::Text(known),
+    ])
+}
+
+/// Tells that packets aren't told apart by the element of this name.
+fn tell_named(story: &mut Story, name: &str) -> Result<(), AllocError> {
+    match by_name(name) {
+        Element::Other => story.sentence(&[
             Piece::Text("no element that is read is named "),
             Piece::Quoted(name),
         ]),
-    }
-}
-
-/// Tells what an element's name stands for, where that is no axis.
-fn tell_element(story: &mut Story, name: &str) -> Result<(), AllocError> {
-    match by_name(name) {
-        Element::Other => tell_unknown(story, name),
-        Element::OnAxis(_) | Element::Prefix(_) => Ok(()),
         _ => story.sentence(&[
             Piece::Text(name),
             Piece::Text(" is no field by which packets are told apart"),
@@ -71,32 +96,75 @@ fn tell_element(story: &mut Story, name: &str) -> Result<(), AllocError> {
     }
 }
 
-/// Tells the elements of the fields of a key that are no axes.
-fn tell_key(story: &mut Story, object: &Value) -> Result<(), AllocError> {
-    for field in items_member(object, "key") {
-        if let Some(name) = text_member(field, "ieName") {
-            tell_element(story, name)?;
+/// Tells that packets aren't told apart by the element of this number.
+fn tell_numbered(story: &mut Story, number: u64) -> Result<(), AllocError> {
+    story.sentence(&[
+        Piece::Text("element "),
+        Piece::Number(number),
+        Piece::Text(" is no field by which packets are told apart"),
+    ])
+}
+
+/// Tells that packets aren't told apart by the element that an object names.
+fn tell_no_axis(story: &mut Story, object: &Value) -> Result<(), AllocError> {
+    if is_of_enterprise(object) {
+        return story.sentence(&[Piece::Text(
+            "packets are told apart by no element of an enterprise",
+        )]);
+    }
+    if let Some(name) = text_member(object, "ieName") {
+        return tell_named(story, name);
+    }
+    match number_of(object) {
+        Some(number) => tell_numbered(story, number),
+        None => Ok(()),
+    }
+}
+
+/// Tells the elements that may be named where packets are told apart, those that are axes or their prefixes too.
+fn tell_choice(story: &mut Story, prefixes: bool) -> Result<(), AllocError> {
+    let count = if prefixes { OF_AXES } else { ON_AXES };
+    story.tell(&[Piece::Text("elements that are allowed there: ")])?;
+    for place in 0..count {
+        story.tell(&[
+            Piece::Text(between(place > 0, ", ")),
+            Piece::Text(NAMES[place]),
+        ])?;
+    }
+    story.end_line()
+}
+
+/// The nearest name to that which an object gives to its element, where no element has that name.
+fn near_name(alloc: Global, object: &Value) -> Result<Option<&'static str>, AllocError> {
+    match text_member(object, "ieName") {
+        Some(name) if by_name(name) == Element::Other => near_of(alloc, name, &NAMES),
+        _ => Ok(None),
+    }
+}
+
+/// Tells what is wrong with the element that an object names, where packets aren't told apart by it: the nearest name,
+/// or the elements by which they are, those of prefixes only where these may stand there. Answers whether packets are
+/// told apart by it.
+pub(crate) fn tell_element(
+    alloc: Global,
+    story: &mut Story,
+    object: &Value,
+    prefixes: bool,
+) -> Result<bool, AllocError> {
+    if is_of_axis(element_of(object)) {
+        return Ok(true);
+    }
+    match near_name(alloc, object)? {
+        Some(known) => tell_near(story, text_or_none(object, "ieName"), known)?,
+        None => {
+            tell_no_axis(story, object)?;
+            tell_choice(story, prefixes)?;
         }
     }
-    Ok(())
+    Ok(false)
 }
 
-/// Tells which words a member may have, of a network's document or of a traffic declaration, where they are few.
-pub(crate) fn tell_allowed(
-    story: &mut Story,
-    member: &str,
-    is_network: bool,
-) -> Result<(), AllocError> {
-    let words: &'static str = match member {
-        "direction" if is_network => "ingress, egress or both",
-        "direction" => "ingress or egress",
-        "exportMode" => "parallel, loadBalancing or fallback",
-        _ => return Ok(()),
-    };
-    story.sentence(&[Piece::Text("allowed there: "), Piece::Text(words)])
-}
-
-/// Tells a value that isn't allowed, as far as it is short, and what is wrong with the elements that it names.
+/// Tells a value that isn't allowed, as far as it is short.
 pub(crate) fn tell_value(
     alloc: Global,
     story: &mut Story,
@@ -108,9 +176,5 @@ pub(crate) fn tell_value(
     story.sentence(&[
         Piece::Text("the value there: "),
         Piece::Octets(&octets[..end]),
-    ])?;
-    if let Some(name) = text_member(value, "ieName") {
-        tell_element(story, name)?;
-    }
-    tell_key(story, value)
+    ])
 }

@@ -1,9 +1,11 @@
 //! What becomes of records behind the devices at which a path's packets are metered.
 use crate::holders::leads_to_report;
+use crate::matches::tell_matches;
 use crate::names::entry_named;
 use crate::sending::{tell_end, tell_sending};
 use crate::story::{Piece, Story};
 use fx_base::{Name, entry_at, entry_numbered};
+use fx_boxes::Region;
 use fx_config::{Aggregation, CollectingProcess};
 use fx_plan::Plan;
 use fx_tables::Crossing;
@@ -100,11 +102,12 @@ fn tell_process(
     Ok(())
 }
 
-/// Tells what the collecting process does to which a link leads.
+/// Tells what the collecting process does with the records of a region's packets to which a link leads.
 fn tell_link(
     story: &mut Story,
     found: &mut Vec<usize>,
     plan: &Plan,
+    region: &Region,
     link: &NamedLink,
 ) -> Result<(), AllocError> {
     tell_end(story, link)?;
@@ -115,17 +118,20 @@ fn tell_link(
         let processes = device.config.collecting_processes.as_slice();
         if let Some(process) = entry_named(processes, &link.to_process) {
             tell_process(story, found, plan, device, process)?;
+            story.end_line()?;
+            return tell_matches(story, region, device, process);
         }
     }
     story.end_line()
 }
 
-/// Tells the collecting processes to which the records of a path's packets may come, each once and 64 at most, and where
-/// each sends them.
+/// Tells the collecting processes to which the records of a region's packets may come that take a path, each once and 64
+/// at most, where each sends them, and which matches of their aggregations don't hold for all of these packets.
 pub(crate) fn tell_following(
     alloc: Global,
     story: &mut Story,
     plan: &Plan,
+    region: &Region,
     crossings: &[Crossing],
 ) -> Result<(), AllocError> {
     let mut found: Vec<usize> = Vec::new(alloc);
@@ -137,7 +143,7 @@ pub(crate) fn tell_following(
             return Ok(());
         };
         if let Some(link) = entry_at(plan.network().links.as_slice(), place) {
-            tell_link(story, &mut found, plan, link)?;
+            tell_link(story, &mut found, plan, region, link)?;
         }
     }
     Ok(())

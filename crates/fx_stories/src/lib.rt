@@ -2,31 +2,41 @@
 #![tactic(auto)]
 
 mod again;
+mod allowed;
 mod certificates;
+mod circles;
 mod crossings;
+mod directions;
 mod documents;
 mod elements;
 mod ends;
+mod excluding;
 mod following;
 mod holders;
 mod json;
 mod leaves;
 mod lines;
 mod lints;
+mod matches;
 mod members;
 mod names;
+mod near;
+mod overlapping;
 mod paths;
 mod pointers;
+mod prefixes;
 mod refutations;
 mod regions;
 mod runs;
 mod scanning;
 mod sending;
+mod spelling;
 mod steps;
 mod story;
 mod unread;
 mod unseen;
 mod unused;
+mod values;
 mod walk;
 mod watching;
 

@@ -5,12 +5,17 @@ ghost use Rattle.fx_base.specs.Fault.{IsMemory};
 ghost use Rattle.fx_stories.specs.Stories.{WritesStory};
 
 use crate::again::{Documents, class_name, documents_again, plan_again, value_again};
+use crate::directions::tell_directions;
+use crate::excluding::tell_excluding;
+use crate::overlapping::tell_overlapping;
+use crate::prefixes::{tell_prefixes, tell_prefixes_of_classes};
 use crate::scanning::tell_twice;
 use crate::story::{Piece, Story};
 use crate::unread::tell_unread_members;
 use crate::unseen::tell_unseen;
 use crate::unused::tell_unused;
 use fx_base::{Fault, Sink, put_text};
+use fx_plan::Plan;
 use std::alloc::{AllocError, Global};
 
 /// Tells what is read in silence in a network's document.
@@ -20,10 +25,17 @@ fn tell_network(alloc: Global, story: &mut Story, network: &[u8]) -> Result<(), 
     };
     tell_twice(alloc, story, "network", network)?;
     tell_unread_members(story, &value)?;
+    tell_prefixes(story, &value)?;
     match plan_again(alloc, network)? {
-        Some(plan) => tell_unused(story, &plan),
+        Some(plan) => tell_plan(story, &plan),
         None => Ok(()),
     }
+}
+
+/// Tells what of a network leads nowhere, and what selects nothing.
+fn tell_plan(story: &mut Story, plan: &Plan) -> Result<(), AllocError> {
+    tell_unused(story, plan)?;
+    tell_excluding(story, plan)
 }
 
 /// Tells which classes are exempt, or that there is no class.
@@ -64,7 +76,10 @@ fn tell_traffic(
     tell_twice(alloc, story, "traffic", traffic)?;
     let targets = documents.traffic.targets(alloc)?;
     tell_classes(story, &documents)?;
+    tell_prefixes_of_classes(story, &documents.classes)?;
+    tell_overlapping(story, &documents)?;
     tell_unseen(story, &documents, targets.as_slice())?;
+    tell_directions(alloc, story, &documents, targets.as_slice())?;
     Ok(())
 }
 
@@ -81,11 +96,13 @@ fn story_of(alloc: Global, network: &[u8], traffic: Option<&[u8]>) -> Result<Sto
 }
 
 /// Writes in sentences what is read in silence in a network's document that is accepted, and in a traffic declaration:
-/// members that stand twice in an object, of which the last one counts; members that nothing reads; observation points,
-/// selection processes, caches, destinations and aggregations that lead nowhere; caches and collecting processes that
-/// nothing feeds; classes that are exempt, or that there are none; crossings whose interface is at no observation point,
-/// and paths of which no observation point sees a crossing. Where there is nothing of the kind, nothing is written. The
-/// text has no control characters but line feeds.
+/// members that stand twice in an object, of which the last one counts; members that nothing reads; prefixes whose
+/// address has bits behind its length; observation points, selection processes, caches, destinations and aggregations
+/// that lead nowhere; caches and collecting processes that nothing feeds; selection processes whose filters exclude one
+/// another; classes that are exempt, or that there are none, and classes that overlap; crossings whose interface is at
+/// no observation point, paths of which no observation point sees a crossing, and observation points that observe the
+/// other direction alone. Where there is nothing of the kind, nothing is written. The text has no control characters but
+/// line feeds.
 ///
 /// Fails with 900 for want of memory, and then nothing is written; with 902 where a write fails.
 pub fn put_lint_words<S: Sink>(

@@ -10,6 +10,22 @@ struct Required {
     one: &'static [&'static str],
 }
 
+/// Of which members exactly one has to be there in the object at a pointer whose last member is this one.
+pub(crate) fn one_required(member: &str) -> &'static [&'static str] {
+    match member {
+        "selector" => &["selectAll", "filterMatch"],
+        "filterMatch" | "match" | "cacheField" | "key" => &["ieName", "ieId"],
+        "cache" => &[
+            "immediateCache",
+            "timeoutCache",
+            "naturalCache",
+            "permanentCache",
+        ],
+        "destination" => &["tcpExporter", "sctpExporter", "udpExporter"],
+        _ => &[],
+    }
+}
+
 /// What has to be there in the object at a pointer whose last member is this one, or in the whole of a network's or a
 /// traffic's document.
 fn members_required(member: &str, is_network: bool) -> Required {
@@ -38,18 +54,7 @@ fn members_required(member: &str, is_network: bool) -> Required {
         "once-audit:aggregation" => &["name"],
         _ => &[],
     };
-    let one: &'static [&'static str] = match member {
-        "selector" => &["selectAll", "filterMatch"],
-        "filterMatch" | "match" | "cacheField" | "key" => &["ieName", "ieId"],
-        "cache" => &[
-            "immediateCache",
-            "timeoutCache",
-            "naturalCache",
-            "permanentCache",
-        ],
-        "destination" => &["tcpExporter", "sctpExporter", "udpExporter"],
-        _ => &[],
-    };
+    let one = one_required(member);
     Required { all, one }
 }
 

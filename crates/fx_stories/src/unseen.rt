@@ -20,10 +20,15 @@ fn is_among(names: &[Name], name: &Name) -> bool {
     false
 }
 
+/// Whether an observation point is at the interface of this name.
+pub(crate) fn is_at(point: &ObservationPoint, interface: &Name) -> bool {
+    is_among(point.interfaces.as_slice(), interface)
+}
+
 /// Whether one of these observation points is at the interface of this name.
 fn is_watched(points: &[ObservationPoint], interface: &Name) -> bool {
     for point in points {
-        if is_among(point.interfaces.as_slice(), interface) {
+        if is_at(point, interface) {
             return true;
         }
     }

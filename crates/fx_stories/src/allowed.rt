@@ -1,0 +1,203 @@
+//! Members that an object may have, and those that one has which it may not.
+use crate::near::near_of;
+use crate::pointers::last_member;
+use crate::story::{Piece, Story, between};
+use serde_json::Value;
+use std::alloc::{AllocError, Global};
+
+/// The members of an object of a network's document.
+fn members_of_network(member: &str) -> &'static [&'static str] {
+    match member {
+        "" => &["devices", "links", "report"],
+        "devices" => &["name", "config"],
+        "config" => &["ietf-ipfix-psamp:ipfix"],
+        "links" => &[
+            "device",
+            "exportingProcess",
+            "destination",
+            "toDevice",
+            "toProcess",
+        ],
+        "report" => &["device", "collectingProcess", "key"],
+        _ => members_of_device(member),
+    }
+}
+
+/// The members of an object of a device's configuration, but for those that are refused with a number of their own.
+fn members_of_device(member: &str) -> &'static [&'static str] {
+    match member {
+        "ietf-ipfix-psamp:ipfix" => &[
+            "observationPoint",
+            "selectionProcess",
+            "cache",
+            "exportingProcess",
+            "collectingProcess",
+        ],
+        "observationPoint" => &[
+            "name",
+            "observationDomainId",
+            "ifName",
+            "direction",
+            "selectionProcess",
+        ],
+        "selectionProcess" => &["name", "selector", "cache"],
+        "selector" => &["name", "selectAll", "filterMatch"],
+        "filterMatch" | "match" => &["ieName", "ieId", "ieEnterpriseNumber", "value"],
+        "exportingProcess" => &["name", "exportMode", "destination", "options"],
+        "destination" => &["name", "tcpExporter", "sctpExporter", "udpExporter"],
+        "collectingProcess" => &[
+            "name",
+            "tcpCollector",
+            "sctpCollector",
+            "udpCollector",
+            "exportingProcess",
+            "once-audit:aggregation",
+        ],
+        "once-audit:aggregation" => &["name", "key", "match", "exportingProcess"],
+        "key" => &["ieName", "ieId", "prefixLength"],
+        _ => members_of_cache(member),
+    }
+}
+
+/// The members of a cache, and of what stands in one.
+fn members_of_cache(member: &str) -> &'static [&'static str] {
+    match member {
+        "cache" => &[
+            "name",
+            "immediateCache",
+            "timeoutCache",
+            "naturalCache",
+            "permanentCache",
+            "exportingProcess",
+        ],
+        "immediateCache" | "timeoutCache" | "naturalCache" | "permanentCache" => &[
+            "maxFlows",
+            "activeTimeout",
+            "idleTimeout",
+            "exportInterval",
+            "cacheLayout",
+        ],
+        "cacheLayout" => &["cacheField"],
+        "cacheField" => &[
+            "name",
+            "ieName",
+            "ieId",
+            "ieLength",
+            "ieEnterpriseNumber",
+            "isFlowKey",
+        ],
+        _ => &[],
+    }
+}
+
+/// The members of an object of a traffic declaration.
+fn members_of_traffic(member: &str) -> &'static [&'static str] {
+    match member {
+        "" => &["classes"],
+        "classes" => &["name", "region", "paths", "exempt"],
+        "region" => &[
+            "sourceIPv4Address",
+            "destinationIPv4Address",
+            "protocolIdentifier",
+            "sourceTransportPort",
+            "destinationTransportPort",
+            "ipClassOfService",
+            "ipVersion",
+            "sourceIPv6Address",
+            "destinationIPv6Address",
+        ],
+        "paths" => &["device", "interface", "direction"],
+        _ => &[],
+    }
+}
+
+/// The members that may stand in the object at a pointer whose last member is this one, of a network's document or of a
+/// traffic declaration.
+fn members_allowed(member: &str, is_network: bool) -> &'static [&'static str] {
+    if is_network {
+        members_of_network(member)
+    } else {
+        members_of_traffic(member)
+    }
+}
+
+/// Tells which of these names an object doesn't have yet, which may not have a member of another name.
+fn tell_free(
+    story: &mut Story,
+    object: &Value,
+    name: &str,
+    names: &'static [&'static str],
+) -> Result<(), AllocError> {
+    story.tell(&[
+        Piece::Text("no member "),
+        Piece::Quoted(name),
+        Piece::Text(" may be there; those that may, and aren't there yet: "),
+    ])?;
+    let mut told = false;
+    for free in names {
+        if object.get(*free).is_none() {
+            story.tell(&[Piece::Text(between(told, ", ")), Piece::Text(free)])?;
+            told = true;
+        }
+    }
+    if !told {
+        story.tell(&[Piece::Text("none")])?;
+    }
+    story.end_line()
+}
+
+/// Tells the name that a misspelled member stands for.
+fn tell_near<'x>(
+    story: &mut Story,
+    object: &Value,
+    name: &'x str,
+    known: &'x str,
+) -> Result<(), AllocError> {
+    let there = object.get(known).is_some();
+    story.sentence(&[
+        Piece::Text("no member "),
+        Piece::Quoted(name),
+        Piece::Text(" may be there; the nearest name is "),
+        Piece::Text(known),
+        Piece::Text(if there { ", which is there too" } else { "" }),
+    ])
+}
+
+/// What a document seems to be that has a member of the other kind of document.
+fn other_document(pointer: &str, is_network: bool) -> Option<&'static str> {
+    match pointer {
+        "/classes" if is_network => Some(
+            "this looks like a traffic declaration, and is read as a network",
+        ),
+        "/devices" | "/links" | "/report" if !is_network => {
+            Some("this looks like a network, and is read as a traffic declaration")
+        }
+        _ => None,
+    }
+}
+
+/// Tells a member that an object may not have: the nearest name that is allowed, or the names that are. The pointer
+/// leads to the member.
+pub(crate) fn tell_unknown_member(
+    alloc: Global,
+    story: &mut Story,
+    document: &Value,
+    pointer: &str,
+    is_network: bool,
+) -> Result<(), AllocError> {
+    let Some((place, name)) = pointer.rsplit_once('/') else {
+        return Ok(());
+    };
+    let Some(object) = document.pointer(place) else {
+        return Ok(());
+    };
+    let names = members_allowed(last_member(place), is_network);
+    match near_of(alloc, name, names)? {
+        Some(known) => tell_near(story, object, name, known)?,
+        None => tell_free(story, object, name, names)?,
+    }
+    match other_document(pointer, is_network) {
+        Some(words) => story.sentence(&[Piece::Text(words)]),
+        None => Ok(()),
+    }
+}

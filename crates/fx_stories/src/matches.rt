@@ -1,0 +1,78 @@
+//! Matches of aggregations that don't hold for all packets of a region.
+use crate::regions::{axis_word, tell_values};
+use crate::story::{Piece, Story};
+use fx_boxes::Region;
+use fx_config::{Aggregation, CollectingProcess, PropertyMatch};
+use fx_topology::NetworkDevice;
+use std::alloc::AllocError;
+
+/// For how many of a region's packets a match holds, in words, where it doesn't hold for all.
+fn hold_words(region: &Region, property: &PropertyMatch) -> Option<&'static str> {
+    let low = region.corner().get(property.axis);
+    let high = region.far_corner().get(property.axis);
+    if property.range.low <= low && high <= property.range.high {
+        None
+    } else if high < property.range.low || property.range.high < low {
+        Some(" holds for none of these packets")
+    } else {
+        Some(" holds for some of these packets and not all")
+    }
+}
+
+/// Tells for how many of a region's packets a match of an aggregation holds.
+fn tell_match<'x>(
+    story: &mut Story,
+    device: &'x NetworkDevice,
+    process: &'x CollectingProcess,
+    aggregation: &'x Aggregation,
+    property: &PropertyMatch,
+    words: &'static str,
+) -> Result<(), AllocError> {
+    story.tell(&[
+        Piece::Text("aggregation "),
+        Piece::Quoted(aggregation.name.as_str()),
+        Piece::Text(" of collecting process "),
+        Piece::Quoted(process.name.as_str()),
+        Piece::Text(" of "),
+        Piece::Text(device.name.as_str()),
+        Piece::Text(": its match on "),
+        Piece::Text(axis_word(property.axis)),
+        Piece::Text(" "),
+    ])?;
+    tell_values(
+        story,
+        property.axis,
+        property.range.low,
+        property.range.high,
+    )?;
+    story.sentence(&[Piece::Text(words)])
+}
+
+/// Tells which matches of an aggregation don't hold for all packets of a region.
+fn tell_aggregation(
+    story: &mut Story,
+    region: &Region,
+    device: &NetworkDevice,
+    process: &CollectingProcess,
+    aggregation: &Aggregation,
+) -> Result<(), AllocError> {
+    for property in aggregation.matches.as_slice() {
+        if let Some(words) = hold_words(region, property) {
+            tell_match(story, device, process, aggregation, property, words)?;
+        }
+    }
+    Ok(())
+}
+
+/// Tells which matches of the aggregations of a collecting process don't hold for all packets of a region.
+pub(crate) fn tell_matches(
+    story: &mut Story,
+    region: &Region,
+    device: &NetworkDevice,
+    process: &CollectingProcess,
+) -> Result<(), AllocError> {
+    for aggregation in process.aggregations.as_slice() {
+        tell_aggregation(story, region, device, process, aggregation)?;
+    }
+    Ok(())
+}

@@ -1,0 +1,67 @@
+//! Names that a misspelled one may stand for.
+use std::alloc::{AllocError, Global};
+use strsim::osa_distance;
+
+/// How many octets a name has at most that is compared.
+const COMPARED: usize = 64;
+
+/// A character as it is compared: upper case letters as lower case ones.
+fn lower(character: char) -> char {
+    match character {
+        'A'..='Z' => char::from(character as u8 + 32),
+        _ => character,
+    }
+}
+
+/// The name behind a module's prefix, as in `once-audit:aggregation`.
+fn behind_prefix(name: &str) -> &str {
+    match name.split_once(':') {
+        Some((_, behind)) => behind,
+        None => name,
+    }
+}
+
+/// A name as it is compared: without its module, hyphens and low lines, in lower case.
+fn plain(alloc: Global, name: &str) -> Result<String, AllocError> {
+    let mut text = String::new(alloc);
+    for character in behind_prefix(name).chars() {
+        if character != '-' && character != '_' {
+            text.push(lower(character))?;
+        }
+    }
+    Ok(text)
+}
+
+/// How many letters have to be changed, put in, taken out or swapped with the next, at least, to make one of two names
+/// of the other.
+fn distance(alloc: Global, one: &str, other: &str) -> Result<usize, AllocError> {
+    let one = plain(alloc, one)?;
+    let other = plain(alloc, other)?;
+    osa_distance(alloc, one.as_str(), other.as_str())
+}
+
+/// How far from a name a misspelled one may be: a letter, and one more for each six.
+fn reach(name: &str) -> usize {
+    1 + name.len() / 6
+}
+
+/// The nearest of these names, if one is near: of several that are as near the first.
+pub(crate) fn near_of(
+    alloc: Global,
+    name: &str,
+    names: &[&'static str],
+) -> Result<Option<&'static str>, AllocError> {
+    let mut nearest = None;
+    let mut least = usize::MAX;
+    if name.len() > COMPARED {
+        return Ok(None);
+    }
+    for known in names {
+        let apart = distance(alloc, name, known)?;
+        if apart < least && apart <= reach(known) {
+            nearest = Some(*known);
+            least = apart;
+        }
+    }
+    Ok(nearest)
+}

@@ -1,0 +1,234 @@
+//! What is wrong with a value that isn't allowed, and which values are.
+use crate::elements::{element_of, tell_element};
+use crate::members::one_required;
+use crate::pointers::{last_member, text_member};
+use crate::spelling::{tell_spelling, tell_values};
+use crate::story::{Piece, Story};
+use fx_elements::{Element, by_name, width};
+use serde_json::Value;
+use std::alloc::{AllocError, Global};
+
+/// Which values a member may have, of a network's document or of a traffic declaration, where that can be said in a few
+/// words.
+fn words_allowed(member: &str, is_network: bool) -> &'static str {
+    match member {
+        "direction" if is_network => "ingress, egress or both",
+        "direction" => "ingress or egress",
+        "exportMode" => "parallel, loadBalancing or fallback",
+        "observationDomainId"
+        | "maxFlows"
+        | "activeTimeout"
+        | "idleTimeout"
+        | "exportInterval"
+        | "ieEnterpriseNumber" => "a whole number from 0 to 4294967295",
+        "ieId" => "a whole number from 1 to 32767",
+        "ieLength" => "a whole number of octets from 1 to 65535",
+        "prefixLength" => "a whole number of bits from 1 to 32, of IPv6 to 128",
+        "isFlowKey" | "exempt" => "[null] or true",
+        "selectAll" => "[null], true or {}",
+        _ => "",
+    }
+}
+
+/// Tells which values a member may have.
+fn tell_allowed(story: &mut Story, member: &str, is_network: bool) -> Result<(), AllocError> {
+    let words = words_allowed(member, is_network);
+    if words.is_empty() {
+        return Ok(());
+    }
+    story.sentence(&[Piece::Text("allowed there: "), Piece::Text(words)])
+}
+
+/// Why a text is no name, if it is none.
+fn name_words(text: &str) -> Option<&'static str> {
+    if text.is_empty() {
+        Some("the name is empty")
+    } else if text.len() > 255 {
+        Some("the name has more than 255 octets")
+    } else if text.trim().len() != text.len() {
+        Some("the name has white space at an end")
+    } else {
+        None
+    }
+}
+
+/// Tells why a text is no name, if it is none.
+fn tell_name(story: &mut Story, text: &str) -> Result<(), AllocError> {
+    match name_words(text) {
+        Some(words) => story.sentence(&[Piece::Text(words)]),
+        None => Ok(()),
+    }
+}
+
+/// Tells what is wrong with the text of a member that isn't one of a few words.
+fn tell_text(
+    story: &mut Story,
+    member: &str,
+    text: &str,
+    is_network: bool,
+) -> Result<(), AllocError> {
+    match by_name(member) {
+        Element::OnAxis(axis) if !is_network => tell_values(story, axis, text),
+        _ => tell_name(story, text),
+    }
+}
+
+/// Whether a value is a number of octets that a field may have.
+fn is_length(value: &Value) -> bool {
+    match value.as_u64() {
+        Some(octets) => 0 < octets && octets < 0x1_0000,
+        None => false,
+    }
+}
+
+/// Tells how many octets the element of a field has.
+fn tell_octets(story: &mut Story, field: &Value) -> Result<(), AllocError> {
+    let octets = match element_of(field) {
+        Element::OnAxis(axis) => u64::from(width(axis) / 8),
+        Element::OctetDeltaCount | Element::PacketDeltaCount => 8,
+        _ => return Ok(()),
+    };
+    story.sentence(&[
+        Piece::Text("octets that this element has to have there: "),
+        Piece::Number(octets),
+    ])
+}
+
+/// Tells those of several members, of which one may be there, that are.
+fn tell_several(
+    story: &mut Story,
+    object: &Value,
+    names: &'static [&'static str],
+) -> Result<(), AllocError> {
+    let mut separator = "only one of these may be there: ";
+    for name in names {
+        if object.get(*name).is_some() {
+            story.tell(&[Piece::Text(separator), Piece::Text(name)])?;
+            separator = ", ";
+        }
+    }
+    story.end_line()
+}
+
+/// Whether more than one of these members are there.
+fn are_several(object: &Value, names: &'static [&'static str]) -> bool {
+    names
+        .iter()
+        .filter(|name| object.get(**name).is_some())
+        .count()
+        > 1
+}
+
+/// Tells what is wrong with an object that names an element and a value of it.
+fn tell_match(alloc: Global, story: &mut Story, object: &Value) -> Result<(), AllocError> {
+    if !tell_element(alloc, story, object, true)? {
+        return Ok(());
+    }
+    match text_member(object, "value") {
+        Some(text) => tell_spelling(story, element_of(object), text),
+        None => Ok(()),
+    }
+}
+
+/// Whether two fields of a key are of one axis.
+fn is_same_axis(one: &Value, other: &Value) -> bool {
+    match (element_of(one), element_of(other)) {
+        (
+            Element::OnAxis(one) | Element::Prefix(one),
+            Element::OnAxis(other) | Element::Prefix(other),
+        ) => one == other,
+        _ => false,
+    }
+}
+
+/// Tells what is wrong with a field of a key, behind these fields.
+fn tell_field(
+    alloc: Global,
+    story: &mut Story,
+    field: &Value,
+    earlier: &[Value],
+) -> Result<(), AllocError> {
+    if !tell_element(alloc, story, field, true)? {
+        return Ok(());
+    }
+    let is_axis = matches!(element_of(field), Element::OnAxis(_));
+    if is_axis && field.get("prefixLength").is_some() {
+        story.sentence(&[Piece::Text(
+            "prefixLength stands beside the element of a prefix alone, as sourceIPv4Prefix",
+        )])?;
+    }
+    if earlier.iter().any(|other| is_same_axis(other, field)) {
+        story.sentence(&[Piece::Text(
+            "an earlier field of the key has this axis; an address and its prefix are one axis",
+        )])?;
+    }
+    Ok(())
+}
+
+/// Tells what is wrong with the fields of a key.
+fn tell_key(alloc: Global, story: &mut Story, fields: &[Value]) -> Result<(), AllocError> {
+    for place in 0..fields.len() {
+        tell_field(alloc, story, &fields[place], &fields[..place])?;
+    }
+    Ok(())
+}
+
+/// The value in which the one at a pointer stands.
+fn value_above<'a>(document: &'a Value, pointer: &str) -> Option<&'a Value> {
+    let (above, _) = pointer.rsplit_once('/')?;
+    document.pointer(above)
+}
+
+/// Tells what is wrong with an object at a pointer that isn't allowed.
+fn tell_object(
+    alloc: Global,
+    story: &mut Story,
+    document: &Value,
+    pointer: &str,
+    object: &Value,
+) -> Result<(), AllocError> {
+    let member = last_member(pointer);
+    let choice = one_required(member);
+    if are_several(object, choice) {
+        return tell_several(story, object, choice);
+    }
+    match member {
+        "filterMatch" | "match" => tell_match(alloc, story, object),
+        "cacheField" => {
+            let _of_axis = tell_element(alloc, story, object, false)?;
+            Ok(())
+        }
+        "report" => match object.get("key") {
+            Some(Value::Array(fields)) => tell_key(alloc, story, fields.as_slice()),
+            _ => Ok(()),
+        },
+        "key" => match value_above(document, pointer) {
+            Some(Value::Array(fields)) => tell_key(alloc, story, fields.as_slice()),
+            _ => Ok(()),
+        },
+        _ => Ok(()),
+    }
+}
+
+/// Tells what is wrong with a value at a pointer that isn't allowed, and which values are.
+pub(crate) fn tell_wrong(
+    alloc: Global,
+    story: &mut Story,
+    document: &Value,
+    pointer: &str,
+    value: &Value,
+    is_network: bool,
+) -> Result<(), AllocError> {
+    let member = last_member(pointer);
+    if words_allowed(member, is_network).is_empty() {
+        return match value {
+            Value::Object(_) => tell_object(alloc, story, document, pointer, value),
+            Value::String(text) => tell_text(story, member, text.as_str(), is_network),
+            _ => Ok(()),
+        };
+    }
+    match value_above(document, pointer) {
+        Some(field) if member == "ieLength" && is_length(value) => tell_octets(story, field),
+        _ => tell_allowed(story, member, is_network),
+    }
+}

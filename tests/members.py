@@ -1,0 +1,108 @@
+#!/usr/bin/env python3
+"""members.py PROGRAM: whether `lint --words` names, for each object, the members that the schemas of docs/schemas allow.
+
+Each object of the documents of `schema_cases` gets a member more, of a name that is near none. Behind `refused 102` must
+stand those members that the object's schema names and the object doesn't have, but for those that are refused with a
+number of their own, whose schema is `"not": {}`.
+
+Prints a line for each object that isn't told so, and last `N passed, M failed`. The exit status is 1 where one failed.
+"""
+import copy
+import json
+import os
+import subprocess
+import sys
+import tempfile
+
+from verdict import told
+
+TOP = os.path.dirname(os.path.dirname(os.path.abspath(__file__)))
+STRANGE = "zzzzzzzz"
+BEGIN = 'no member "%s" may be there; those that may, and aren\'t there yet: ' % STRANGE
+
+
+def document(*names):
+    with open(os.path.join(TOP, *names), encoding="utf-8") as file:
+        return json.load(file)
+
+
+def behind(schema, whole):
+    """A schema, and those to which it points and of which it is made."""
+    yield schema
+    if "$ref" in schema:
+        yield from behind(whole["$defs"][schema["$ref"].rpartition("/")[2]], whole)
+
+
+def part(schema, whole, step):
+    """The schema of an object's member, or of a list's items."""
+    for one in behind(schema, whole):
+        found = one.get("items") if isinstance(step, int) else one.get("properties", {}).get(step)
+        if found is not None:
+            yield from behind(found, whole)
+
+
+def names_of(schemas, whole):
+    """The members that an object of these schemas may have, in their order."""
+    for schema in schemas:
+        if "propertyNames" in schema:
+            names = schema["propertyNames"]
+            names = names.get("enum") or [one["const"] for one in names["anyOf"] if "const" in one]
+            return [n for n in names if not any(s.get("not") == {} for s in part(schema, whole, n))]
+    return None
+
+
+def objects(value, schemas, whole, place=()):
+    """The objects of a document, each with its place and the members that it may have."""
+    if isinstance(value, dict):
+        yield place, names_of(schemas, whole)
+    steps = value.items() if isinstance(value, dict) else enumerate(value) if isinstance(value, list) else ()
+    for step, below in steps:
+        found = [one for schema in schemas for one in part(schema, whole, step)]
+        if found:
+            yield from objects(below, found, whole, place + (step,))
+
+
+def at(value, place):
+    for step in place:
+        value = value[step]
+    return value
+
+
+def allowed(program, folder, documents):
+    """The members that the program says are allowed, and not there yet, beside the strange one."""
+    files = []
+    for name, value in documents:
+        files.append(os.path.join(folder, name))
+        with open(files[-1], "w", encoding="utf-8") as file:
+            json.dump(value, file)
+    run = subprocess.run([program, "lint", *files, "--words"], stdout=subprocess.PIPE, text=True, timeout=60)
+    for line in run.stdout.splitlines():
+        if line.startswith(BEGIN):
+            return [name for name in line[len(BEGIN) :].split(", ") if name != "none"]
+    return run.stdout[:300]
+
+
+def cases(program, folder, kind):
+    """Each object of one of the documents, with its faults."""
+    network = document("tests", "schema_cases", "network.json")
+    whole = document("docs", "schemas", kind + ".schema.json")
+    value = document("tests", "schema_cases", kind + ".json")
+    for place, names in objects(value, list(behind(whole, whole)), whole):
+        if names is None:
+            continue
+        changed = copy.deepcopy(value)
+        at(changed, place)[STRANGE] = 0
+        others = [("network.json", network)] if kind == "traffic" else []
+        found = allowed(program, folder, others + [(kind + ".json", changed)])
+        wanted = [name for name in names if name not in at(value, place)]
+        where = "/".join(map(str, ("",) + place))
+        wrong = not isinstance(found, list) or sorted(found) != sorted(wanted)
+        yield "%s %s" % (kind, where), ["names %r in place of %r" % (found, wanted)] if wrong else []
+
+
+if __name__ == "__main__":
+    if len(sys.argv) != 2:
+        sys.exit(__doc__)
+    with tempfile.TemporaryDirectory() as folder:
+        program = os.path.abspath(sys.argv[1])
+        sys.exit(told(case for kind in ("network", "traffic") for case in cases(program, folder, kind)))
