@@ -13,7 +13,7 @@ use Rattle.std.proofs.lemmas.Slice.Eq.{bytes_eq-Decides}
 use Rattle.fx_cli.specs.Words.{NamesWith, is_double_hyphen, is_flag}
 use Rattle.fx_cli.specs.CommandLine.{once_app}
 use Rattle.fx_cli.proofs.SingleWords.{Fails, fails_first, or_none, top, top_knows, bool_cases, plain_word, flag_word}
-use Rattle.fx_cli.proofs.CommandTable.{Kind, NoneOf, audit, check, collect, confirm, explain, is_taking, kind_named, kinds, lint, name_of, named_kind, nameless, none_named, one_kind, replay, run, taking_of}
+use Rattle.fx_cli.proofs.CommandTable.{Kind, NoneOf, audit, check, collect, confirm, draw, explain, is_taking, kind_named, kinds, lint, name_of, named_kind, nameless, none_named, one_kind, replay, run, sum, taking_of}
 use Rattle.fx_cli.proofs.OptionCommand.{IsCount, Taking, arguments, taking}
 use Rattle.fx_cli.proofs.OptionRows.{HoldsFirst}
 use Rattle.fx_cli.proofs.OptionSaid.{HoldsAtEnd, IsFine}
@@ -103,6 +103,8 @@ is_known confirm = is_command (taking_of confirm) refl refl (λ rest. refl) (λ 
 is_known audit = is_command (taking_of audit) refl refl (λ rest. refl) (λ rest. refl)
 is_known run = is_command (taking_of run) refl refl (λ rest. refl) (λ rest. refl)
 is_known lint = is_command (taking_of lint) refl refl (λ rest. refl) (λ rest. refl)
+is_known draw = is_command (taking_of draw) refl refl (λ rest. refl) (λ rest. refl)
+is_known sum = is_command (taking_of sum) refl refl (λ rest. refl) (λ rest. refl)
 is_known explain = is_command (taking_of explain) refl refl (λ rest. refl) (λ rest. refl)
 
 -- ---- no command
@@ -197,7 +199,7 @@ at_other program command rest none = record {
         subst (λ c. Fails (fault_of once_app (program ∷ c ∷ rest))) same (help_fails program rest)
     | inr strange ↦
         let n : NoneOf command kinds = none_named command kinds none in
-        other_fails program command rest (rw (n.0, n.1.0, n.1.1.0, n.1.1.1.0, n.1.1.1.1.0, n.1.1.1.1.1.0, n.1.1.1.1.1.1.0, n.1.1.1.1.1.1.1.0, strange) refl)
+        other_fails program command rest (rw (n.0, n.1.0, n.1.1.0, n.1.1.1.0, n.1.1.1.1.0, n.1.1.1.1.1.0, n.1.1.1.1.1.1.0, n.1.1.1.1.1.1.1.0, n.1.1.1.1.1.1.1.1.0, n.1.1.1.1.1.1.1.1.1.0, strange) refl)
   ];
   unnamed = λ k files option count fine n. nameless command k none (sym (ap second n.words_are));
 }

@@ -16,8 +16,8 @@ use Rattle.fx_audit.specs.declared.answer.Answer.{Answer}
 use Rattle.fx_cli.specs.Running.{EndsAs, EndsInWords, HasFailedInWords, HasFailedToWrite, IsCallText, IsTextWithin}
 use Rattle.fx_cli.specs.Words.{Names, NamesAudit, NamesFiles, NamesWith, IsLimit, IsLimitSet, file_names}
 use Rattle.fx_cli.specs.declared.words.Call.{Call}
-use Rattle.fx_cli.specs.declared.words.Call.TheVariants.{Audit, Check, Collect, Confirm, Explain, Lint, Replay, Run}
-use Rattle.fx_cli.proofs.CommandTable.{Kind, audit, check, collect, confirm, explain, limit_name, lint, name_of, nameless, replay, run}
+use Rattle.fx_cli.specs.declared.words.Call.TheVariants.{Audit, Check, Collect, Confirm, Draw, Explain, Lint, Replay, Run, Sum}
+use Rattle.fx_cli.proofs.CommandTable.{Kind, audit, check, collect, confirm, draw, explain, limit_name, lint, name_of, nameless, replay, run, sum}
 use Rattle.fx_cli.proofs.AcceptedWords.{behind, second}
 use Rattle.fx_cli.proofs.OptionNames.{option_alone}
 
@@ -30,6 +30,8 @@ kind_of (Confirm a b c) = confirm
 kind_of (Audit a b limit) = audit
 kind_of (Run a b c d links) = run
 kind_of (Lint a b) = lint
+kind_of (Draw a b c) = draw
+kind_of (Sum a b) = sum
 kind_of (Explain a) = explain
 
 command_word : (words : List Text) (call : Call) → Names words call → second words ≡ name_of (kind_of call)
@@ -40,6 +42,11 @@ command_word words (Confirm a b c) n = ap second n.words_are
 command_word words (Audit a b limit) n = ap second n.words_are
 command_word words (Run a b c d links) n = ap second n.words_are
 command_word words (Lint a b) n = ap second n.words_are
+command_word words (Draw a None None) n = ap second n.words_are
+command_word words (Draw a (Some b) None) n = ap second n.words_are
+command_word words (Draw a (Some b) (Some c)) n = ap second n.words_are
+command_word words (Draw a None (Some c)) n = absurd n
+command_word words (Sum a b) n = ap second n.words_are
 command_word words (Explain a) n = ap second n.words_are
 
 -- the program's own name alone names no call
@@ -91,6 +98,8 @@ same_text words (Confirm a b c) (Confirm d e f) n m answer text is = is
 same_text words (Audit a b k) (Audit d e l) n m answer text is = subst (λ (limit : ℕ). IsTextWithin limit answer text) (one_limit n m) is
 same_text words (Run a b c h k) (Run d e f g l) n m answer text is = is
 same_text words (Lint a b) (Lint d e) n m answer text is = is
+same_text words (Draw a b c) (Draw d e f) n m answer text is = is
+same_text words (Sum a b) (Sum d e) n m answer text is = is
 same_text words (Explain a) (Explain d) n m answer text is = explained_alike words (string_bytes a) (string_bytes d) n m answer text is
 same_text words one other n m answer text is = absurd (apart words one other n m refl)
 

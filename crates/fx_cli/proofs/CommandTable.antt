@@ -17,6 +17,8 @@ pub data Kind : Type 0 where
   audit : Kind
   run : Kind
   lint : Kind
+  draw : Kind
+  sum : Kind
   explain : Kind
 
 abbrev pub documents_and : Text → List Text
@@ -46,6 +48,8 @@ taking_of run = record {
   default = [];
 }
 taking_of lint = some_files (codes "lint") 1 (codes "NETWORK" ∷ codes "TRAFFIC" ∷ [])
+taking_of draw = some_files (codes "draw") 1 (documents_and (codes "ANSWER"))
+taking_of sum = files_alone (codes "sum") (codes "NETWORK" ∷ codes "TOTALS" ∷ [])
 taking_of explain = files_alone (codes "explain") (codes "NUMBER" ∷ [])
 
 pub limit_name : IsName (codes "limit")
@@ -78,6 +82,8 @@ is_taking run = record {
   no_default = λ none. absurd (true≢false none);
 }
 is_taking lint = takes_some_files (codes "lint") 1 (codes "NETWORK" ∷ codes "TRAFFIC" ∷ []) (omega arith) (omega arith) ((refl, (refl, tt)), ((refl, tt), (tt, tt)))
+is_taking draw = takes_some_files (codes "draw") 1 (documents_and (codes "ANSWER")) (omega arith) (omega arith) ((refl, (refl, (refl, tt))), ((refl, (refl, tt)), ((refl, tt), (tt, tt))))
+is_taking sum = takes_files_alone (codes "sum") (codes "NETWORK" ∷ codes "TOTALS" ∷ []) (omega arith) ((refl, (refl, tt)), ((refl, tt), (tt, tt)))
 is_taking explain = takes_files_alone (codes "explain") (codes "NUMBER" ∷ []) (omega arith) ((refl, tt), (tt, tt))
 
 -- ---- a command by its name
@@ -89,7 +95,7 @@ abbrev pub has_name : Text → Kind → Bool
 has_name word k = bytes_eq (name_of k) word
 
 abbrev pub kinds : List Kind
-kinds = replay ∷ collect ∷ check ∷ confirm ∷ audit ∷ run ∷ lint ∷ explain ∷ []
+kinds = replay ∷ collect ∷ check ∷ confirm ∷ audit ∷ run ∷ lint ∷ draw ∷ sum ∷ explain ∷ []
 
 abbrev pub kind_named : Text → Option Kind
 kind_named word = find (has_name word) kinds
@@ -102,6 +108,8 @@ kind_of_name confirm = refl
 kind_of_name audit = refl
 kind_of_name run = refl
 kind_of_name lint = refl
+kind_of_name draw = refl
+kind_of_name sum = refl
 kind_of_name explain = refl
 
 -- two commands have two names

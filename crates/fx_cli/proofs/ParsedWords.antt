@@ -18,14 +18,14 @@ use Rattle.clap.specs.declared.error.kind.ErrorKind.TheVariants.{OutOfMemory}
 use Rattle.std.specs.Prelude.{Box, IfErr, IfOk, IfSome, IsSome, Result, Ok, Err, MatchResult, IsErrAnd, string_bytes}
 use Rattle.std.specs.Box.{box_value}
 use Rattle.fx_cli.specs.declared.words.Call.{Call}
-use Rattle.fx_cli.specs.declared.words.Call.TheVariants.{Audit, Check, Collect, Confirm, Explain, Lint, Replay, Run}
+use Rattle.fx_cli.specs.declared.words.Call.TheVariants.{Audit, Check, Collect, Confirm, Draw, Explain, Lint, Replay, Run, Sum}
 use Rattle.clap.proofs.WalkLemmas.{first_value-rows, one_text-rows}
-use Rattle.fx_cli.specs.Words.{IsLimitSet, Names, NamesFiles, file_given, NamesNoCall, NamesWith}
+use Rattle.fx_cli.specs.Words.{IsLimitSet, Names, NamesDrawing, NamesFiles, file_given, NamesNoCall, NamesWith}
 use Rattle.fx_cli.specs.CommandLine.{AreMatchesOf, file_rule, limit_rule, links_rule, number_alone, once_app, over_capture, over_documents, over_network, wants_command}
-use Rattle.fx_cli.specs.Matches.{HoldsFile, HoldsLimit, HasFile, IsAuditOf, IsCheckOf, IsCollectOf, IsConfirmOf, IsExplainOf, IsLintOf, IsReplayOf, IsRunCall}
+use Rattle.fx_cli.specs.Matches.{HoldsFile, HoldsLimit, HasFile, IsAuditOf, IsCheckOf, IsCollectOf, IsConfirmOf, IsDrawOf, IsExplainOf, IsLintOf, IsReplayOf, IsRunCall, IsSumOf}
 use Rattle.fx_cli.proofs.SingleWords.{Fails}
 use Rattle.fx_cli.proofs.AcceptedWords.{NamesBy, Refuses, Takes, decide_words}
-use Rattle.fx_cli.proofs.CommandTable.{Kind, audit, check, collect, confirm, explain, lint, name_of, one_kind, replay, run, taking_of}
+use Rattle.fx_cli.proofs.CommandTable.{Kind, audit, check, collect, confirm, draw, explain, lint, name_of, one_kind, replay, run, sum, taking_of}
 use Rattle.fx_cli.proofs.LimitWords.{limit_read, limit_taken}
 use Rattle.fx_cli.proofs.OptionCommand.{IsCount, Taking, files_alone, some_files}
 use Rattle.fx_cli.proofs.OptionRows.{HasAll, HoldsFirst, Lacks, all_first, first_held, one_held}
@@ -77,6 +77,11 @@ no_call words r (Check a b c) n = r.unnamed check (string_bytes a ∷ string_byt
 no_call words r (Confirm a b c) n = r.unnamed confirm (string_bytes a ∷ string_bytes b ∷ string_bytes c ∷ []) None (omega arith, omega arith) tt (named_alone n)
 no_call words r (Lint a None) n = r.unnamed lint (string_bytes a ∷ []) None (omega arith, omega arith) tt (named_alone n)
 no_call words r (Lint a (Some b)) n = r.unnamed lint (string_bytes a ∷ string_bytes b ∷ []) None (omega arith, omega arith) tt (named_alone n)
+no_call words r (Draw a None None) n = r.unnamed draw (string_bytes a ∷ []) None (omega arith, omega arith) tt (named_alone n)
+no_call words r (Draw a (Some b) None) n = r.unnamed draw (string_bytes a ∷ string_bytes b ∷ []) None (omega arith, omega arith) tt (named_alone n)
+no_call words r (Draw a (Some b) (Some c)) n = r.unnamed draw (string_bytes a ∷ string_bytes b ∷ string_bytes c ∷ []) None (omega arith, omega arith) tt (named_alone n)
+no_call words r (Draw a None (Some c)) n = absurd n
+no_call words r (Sum a b) n = r.unnamed sum (string_bytes a ∷ string_bytes b ∷ []) None (omega arith, omega arith) tt (named_alone n)
 no_call words r (Explain a) n = r.unnamed explain (string_bytes a ∷ []) None (omega arith, omega arith) tt (named_alone n)
 no_call words r (Audit a b limit) n =
     r.unnamed audit (string_bytes a ∷ string_bytes b ∷ []) n.option (omega arith, omega arith) (limit_fine n.option limit n.limit_is) (record { program = n.program; rest = n.rest; words_are = n.words_are; named = n.named })
@@ -134,8 +139,8 @@ abbrev IsNotFound : Text → ArgMatches → Type 0
 IsNotFound name m = subcommand_name_of m ≡ Some name → false ≡ true
 
 pub taken_replay : (words : List Text) (m : ArgMatches) → AreMatchesOf words m → IsNotFound (codes "collect") m → IsNotFound (codes "check") m → IsNotFound (codes "confirm") m
-    → IsNotFound (codes "audit") m → IsNotFound (codes "run") m → IsNotFound (codes "lint") m → IsNotFound (codes "explain") m → subcommand_name_of m ≡ Some (codes "replay")
-taken_replay words m are not_collect not_check not_confirm not_audit not_run not_lint not_explain = let t = taken words m are in go t.0 (taken_name (taking_of t.0) words m t.1)
+    → IsNotFound (codes "audit") m → IsNotFound (codes "run") m → IsNotFound (codes "lint") m → IsNotFound (codes "draw") m → IsNotFound (codes "sum") m → IsNotFound (codes "explain") m → subcommand_name_of m ≡ Some (codes "replay")
+taken_replay words m are not_collect not_check not_confirm not_audit not_run not_lint not_draw not_sum not_explain = let t = taken words m are in go t.0 (taken_name (taking_of t.0) words m t.1)
   where
     go : (k : Kind) → subcommand_name_of m ≡ Some (name_of k) → subcommand_name_of m ≡ Some (codes "replay")
     go replay name = name
@@ -145,6 +150,8 @@ taken_replay words m are not_collect not_check not_confirm not_audit not_run not
     go audit name = absurd (true≢false (sym (not_audit name)))
     go run name = absurd (true≢false (sym (not_run name)))
     go lint name = absurd (true≢false (sym (not_lint name)))
+    go draw name = absurd (true≢false (sym (not_draw name)))
+    go sum name = absurd (true≢false (sym (not_sum name)))
     go explain name = absurd (true≢false (sym (not_explain name)))
 
 -- ---- the values that are found
@@ -204,12 +211,16 @@ pub all_found : {c : Taking} {words : List Text} (found : Found) → HasWords c 
 all_found {c} found f all = every_found found c.ids f.files (every_there found f all)
 
 -- a network is there, where nothing else must be
+first_found : (found : Found) (ids files : List Text) → 1 ≤ length files → HoldsFirst (rows_of found) (codes "NETWORK" ∷ ids) files → HasFile found (codes "NETWORK")
+first_found found ids [] many has = absurd (omega (arith, many))
+first_found found ids (file ∷ files) many has =
+    subst (λ (o : Option Text). IsSome o) (sym (first_value-rows found (codes "NETWORK") ∙ first_held (rows_of found) (codes "NETWORK") file has.0)) refl
+
 pub network_found : {words : List Text} (found : Found) → HasWords (taking_of lint) words found → HasFile found (codes "NETWORK")
-network_found found f = first f.files f.count_is.0 f.files_are
-  where
-    first : (files : List Text) → 1 ≤ length files → HoldsFirst (rows_of found) (codes "NETWORK" ∷ codes "TRAFFIC" ∷ []) files → HasFile found (codes "NETWORK")
-    first [] many has = absurd (omega (arith, many))
-    first (file ∷ files) many has = subst (λ (o : Option Text). IsSome o) (sym (first_value-rows found (codes "NETWORK") ∙ first_held (rows_of found) (codes "NETWORK") file has.0)) refl
+network_found found f = first_found found (codes "TRAFFIC" ∷ []) f.files f.count_is.0 f.files_are
+
+pub drawn_found : {words : List Text} (found : Found) → HasWords (taking_of draw) words found → HasFile found (codes "NETWORK")
+drawn_found found f = first_found found (codes "TRAFFIC" ∷ codes "ANSWER" ∷ []) f.files f.count_is.0 f.files_are
 
 -- the files under these names are these
 abbrev pub HoldsFiles : Found → List Text → List Text → Type 0
@@ -243,6 +254,13 @@ files_there command ids words names found f holds = alone_named f.option f.accep
 none_held : (found : Found) (id : Text) → Lacks (rows_of found) id → first_value found id ≡ None
 none_held found id lacks = first_value-rows found id ∙ ap (λ (o : Option Row). option_and_then (λ r. slice_get r.values 0) o) lacks
 
+-- the value that is read where a file is held, and where none is
+file_held : (found : Found) (id file name : Text) → first_value found id ≡ Some name → HoldsFirst (rows_of found) (id ∷ []) (file ∷ []) → file ≡ name
+file_held found id file name holds first = some_same file name (first_value found id) (first_value-rows found id ∙ first_held (rows_of found) id file first.0) holds
+
+given_held : (found : Found) (id file : Text) (o : Option Text) → first_value found id ≡ o → HoldsFirst (rows_of found) (id ∷ []) (file ∷ []) → Some file ≡ o
+given_held found id file o given first = sym (first_value-rows found id ∙ first_held (rows_of found) id file first.0) ∙ given
+
 -- a network, and a declaration of traffic where one is given
 linted_files : (found : Found) (files : List Text) (network : Text) (traffic : Option Text) → 1 ≤ length files → HoldsFirst (rows_of found) (codes "NETWORK" ∷ codes "TRAFFIC" ∷ []) files
     → HoldsFile found (codes "NETWORK") network → first_value found (codes "TRAFFIC") ≡ traffic → files ≡ network ∷ file_given traffic
@@ -256,6 +274,28 @@ linted_files found (a ∷ b ∷ []) network traffic many first holds given =
     (some_same a network (first_value found (codes "NETWORK")) (first_value-rows found (codes "NETWORK") ∙ first_held (rows_of found) (codes "NETWORK") a first.0) holds)
     (sym (first_value-rows found (codes "TRAFFIC") ∙ first_held (rows_of found) (codes "TRAFFIC") b first.1.0) ∙ given)
 linted_files found (a ∷ b ∷ c ∷ files) network traffic many first holds given = absurd first.1.1
+
+-- a network, a declaration of traffic where one is given, and an answer where one is given too
+drawn_files : (words : List Text) (found : Found) (files : List Text) (network : Text) (traffic answer : Option Text) → 1 ≤ length files
+    → HoldsFirst (rows_of found) (codes "NETWORK" ∷ codes "TRAFFIC" ∷ codes "ANSWER" ∷ []) files → HoldsFile found (codes "NETWORK") network → first_value found (codes "TRAFFIC") ≡ traffic
+    → first_value found (codes "ANSWER") ≡ answer → NamesFiles words (codes "draw") files → NamesDrawing words network traffic answer
+drawn_files words found [] network traffic answer many first holds given said named = absurd (omega (arith, many))
+drawn_files words found (a ∷ []) network traffic answer many first holds given said named =
+    let no_traffic : None ≡ traffic = sym (none_held found (codes "TRAFFIC") first.1.0) ∙ given in
+    let no_answer : None ≡ answer = sym (none_held found (codes "ANSWER") first.1.1.0) ∙ said in
+    let same : a ≡ network = file_held found (codes "NETWORK") a network holds (first.0, tt) in
+    subst (λ (o : Option Text). NamesDrawing words network o answer) no_traffic (subst (λ (o : Option Text). NamesDrawing words network None o) no_answer (subst (λ (x : Text). NamesDrawing words x None None) same named))
+drawn_files words found (a ∷ b ∷ []) network traffic answer many first holds given said named =
+    let is_traffic : Some b ≡ traffic = given_held found (codes "TRAFFIC") b traffic given (first.1.0, tt) in
+    let no_answer : None ≡ answer = sym (none_held found (codes "ANSWER") first.1.1.0) ∙ said in
+    let same : a ≡ network = file_held found (codes "NETWORK") a network holds (first.0, tt) in
+    subst (λ (o : Option Text). NamesDrawing words network o answer) is_traffic (subst (λ (o : Option Text). NamesDrawing words network (Some b) o) no_answer (subst (λ (x : Text). NamesDrawing words x (Some b) None) same named))
+drawn_files words found (a ∷ b ∷ c ∷ []) network traffic answer many first holds given said named =
+    let is_traffic : Some b ≡ traffic = given_held found (codes "TRAFFIC") b traffic given (first.1.0, tt) in
+    let is_answer : Some c ≡ answer = given_held found (codes "ANSWER") c answer said (first.1.1.0, tt) in
+    let same : a ≡ network = file_held found (codes "NETWORK") a network holds (first.0, tt) in
+    subst (λ (o : Option Text). NamesDrawing words network o answer) is_traffic (subst (λ (o : Option Text). NamesDrawing words network (Some b) o) is_answer (subst (λ (x : Text). NamesDrawing words x (Some b) (Some c)) same named))
+drawn_files words found (a ∷ b ∷ c ∷ d ∷ files) network traffic answer many first holds given said named = absurd first.1.1.1
 
 -- ---- the option
 
@@ -295,6 +335,8 @@ IsCallOf confirm found call = IsConfirmOf found call
 IsCallOf audit found call = IsAuditOf found call
 IsCallOf run found call = IsRunCall found call
 IsCallOf lint found call = IsLintOf found call
+IsCallOf draw found call = IsDrawOf found call
+IsCallOf sum found call = IsSumOf found call
 IsCallOf explain found call = IsExplainOf found call
 
 pub names_call : (k : Kind) (words : List Text) (found : Found) → HasWords (taking_of k) words found → (call : Call) → IsCallOf k found call → Names words call
@@ -305,6 +347,9 @@ names_call confirm words found f (Confirm a b c) h = files_there (codes "confirm
 names_call lint words found f (Lint a o) h =
     alone_named f.option f.accepted
     (subst (λ (files : List Text). NamesBy (taking_of lint) words files f.option) (linted_files found f.files (string_bytes a) (option_map string_bytes o) f.count_is.0 f.files_are h.0 h.1) f.named)
+names_call draw words found f (Draw a o p) h =
+    drawn_files words found f.files (string_bytes a) (option_map string_bytes o) (option_map string_bytes p) f.count_is.0 f.files_are h.0 h.1 h.2 (alone_named f.option f.accepted f.named)
+names_call sum words found f (Sum a b) h = files_there (codes "sum") (taking_of sum).ids words (string_bytes a ∷ string_bytes b ∷ []) found f (h.0, (h.1, tt))
 names_call explain words found f (Explain a) h = files_there (codes "explain") (taking_of explain).ids words (string_bytes a ∷ []) found f (h, tt)
 names_call audit words found f (Audit a b limit) h =
     let n = named_there (taking_of audit) words (string_bytes a ∷ string_bytes b ∷ []) found f (omega arith) (h.0, (h.1, tt)) in
@@ -323,8 +368,8 @@ pub record IsBuilt (c : Command) (a : App) : Type 0 where
   pub app : app_of c ≡ a
   pub local : (out-Command c).has_globals ≡ false
 
-abbrev AreBuilt : Command → Command → Command → Command → Command → Command → Command → Command → Type 0
-AreBuilt replaying collecting checking confirming auditing running linting explaining =
+abbrev AreBuilt : Command → Command → Command → Command → Command → Command → Command → Command → Command → Command → Type 0
+AreBuilt replaying collecting checking confirming auditing running linting drawing summing explaining =
     IsBuilt replaying (over_documents (codes "replay") (file_rule (codes "RUN")))
     × IsBuilt collecting (over_network (codes "collect") (file_rule (codes "STREAM")))
     × IsBuilt checking (over_documents (codes "check") (file_rule (codes "CERTIFICATE")))
@@ -332,11 +377,13 @@ AreBuilt replaying collecting checking confirming auditing running linting expla
     × IsBuilt auditing (with_rule (over_network (codes "audit") (file_rule (codes "TRAFFIC"))) limit_rule)
     × IsBuilt running (with_rule (over_capture (codes "run")) links_rule)
     × IsBuilt linting (over_network (codes "lint") (new_rule (codes "TRAFFIC")))
+    × IsBuilt drawing (with_rule (over_network (codes "draw") (new_rule (codes "TRAFFIC"))) (new_rule (codes "ANSWER")))
+    × IsBuilt summing (over_network (codes "sum") (file_rule (codes "TOTALS")))
     × IsBuilt explaining (number_alone (codes "explain"))
 
-with_each : (once replaying collecting checking confirming auditing running linting explaining whole : Command) → AddsInTurn AddsSubcommand once (replaying ∷ collecting ∷ checking ∷ confirming ∷ auditing ∷ running ∷ linting ∷ explaining ∷ []) whole
-    → app_of once ≡ on_top wants_command (new_app (codes "once")) → AreBuilt replaying collecting checking confirming auditing running linting explaining → app_of whole ≡ once_app
-with_each once replaying collecting checking confirming auditing running linting explaining whole (one, first, (two, second, (three, third, (four, fourth, (five, fifth, (six, sixth, (seven, seventh, (eight, eighth, is)))))))) o (r, l, k, c, a, u, n, x) =
+with_each : (once replaying collecting checking confirming auditing running linting drawing summing explaining whole : Command) → AddsInTurn AddsSubcommand once (replaying ∷ collecting ∷ checking ∷ confirming ∷ auditing ∷ running ∷ linting ∷ drawing ∷ summing ∷ explaining ∷ []) whole
+    → app_of once ≡ on_top wants_command (new_app (codes "once")) → AreBuilt replaying collecting checking confirming auditing running linting drawing summing explaining → app_of whole ≡ once_app
+with_each once replaying collecting checking confirming auditing running linting drawing summing explaining whole (one, first, (two, second, (three, third, (four, fourth, (five, fifth, (six, sixth, (seven, seventh, (eight, eighth, (nine, ninth, (ten, tenth, is)))))))))) o (r, l, k, c, a, u, n, d, s, x) =
     let step = λ (x y : App). with_subcommand x y.top in
     let to_one = first.shape r.local ∙ ap₂ step o r.app in
     let to_two = second.shape l.local ∙ ap₂ step to_one l.app in
@@ -345,11 +392,13 @@ with_each once replaying collecting checking confirming auditing running linting
     let to_five = fifth.shape a.local ∙ ap₂ step to_four a.app in
     let to_six = sixth.shape u.local ∙ ap₂ step to_five u.app in
     let to_seven = seventh.shape n.local ∙ ap₂ step to_six n.app in
-    ap app_of (sym is) ∙ eighth.shape x.local ∙ ap₂ step to_seven x.app
+    let to_eight = eighth.shape d.local ∙ ap₂ step to_seven d.app in
+    let to_nine = ninth.shape s.local ∙ ap₂ step to_eight s.app in
+    ap app_of (sym is) ∙ tenth.shape x.local ∙ ap₂ step to_nine x.app
 
-pub all_commands : {Z : Type 0} (once replaying collecting checking confirming auditing running linting explaining : Command) (items : List Command) (r : Result Command Z) → IfOk r (λ whole. AddsInTurn AddsSubcommand once items whole)
-    → items ≡ replaying ∷ collecting ∷ checking ∷ confirming ∷ auditing ∷ running ∷ linting ∷ explaining ∷ [] → app_of once ≡ on_top wants_command (new_app (codes "once")) → AreBuilt replaying collecting checking confirming auditing running linting explaining
+pub all_commands : {Z : Type 0} (once replaying collecting checking confirming auditing running linting drawing summing explaining : Command) (items : List Command) (r : Result Command Z) → IfOk r (λ whole. AddsInTurn AddsSubcommand once items whole)
+    → items ≡ replaying ∷ collecting ∷ checking ∷ confirming ∷ auditing ∷ running ∷ linting ∷ drawing ∷ summing ∷ explaining ∷ [] → app_of once ≡ on_top wants_command (new_app (codes "once")) → AreBuilt replaying collecting checking confirming auditing running linting drawing summing explaining
     → IfOk r (λ whole. app_of whole ≡ once_app)
-all_commands once replaying collecting checking confirming auditing running linting explaining items (Ok whole) adds are o built =
-    with_each once replaying collecting checking confirming auditing running linting explaining whole (subst (λ (xs : List Command). AddsInTurn AddsSubcommand once xs whole) are adds) o built
-all_commands once replaying collecting checking confirming auditing running linting explaining items (Err error) adds are o built = tt
+all_commands once replaying collecting checking confirming auditing running linting drawing summing explaining items (Ok whole) adds are o built =
+    with_each once replaying collecting checking confirming auditing running linting drawing summing explaining whole (subst (λ (xs : List Command). AddsInTurn AddsSubcommand once xs whole) are adds) o built
+all_commands once replaying collecting checking confirming auditing running linting drawing summing explaining items (Err error) adds are o built = tt

@@ -55,9 +55,11 @@ once_app =
     let three = with_subcommand (with_subcommand (with_subcommand (on_top wants_command (new_app (codes "once"))) replay.top) collect.top) check.top in
     let run = with_rule (over_capture (codes "run")) links_rule in
     let lint = over_network (codes "lint") (new_rule (codes "TRAFFIC")) in
+    let draw = with_rule (over_network (codes "draw") (new_rule (codes "TRAFFIC"))) (new_rule (codes "ANSWER")) in
+    let sum = over_network (codes "sum") (file_rule (codes "TOTALS")) in
     let explain = number_alone (codes "explain") in
     let seven = with_subcommand (with_subcommand (with_subcommand (with_subcommand three confirm.top) audit.top) run.top) lint.top in
-    with_subcommand seven explain.top
+    with_subcommand (with_subcommand (with_subcommand seven draw.top) sum.top) explain.top
 
 -- what the program's command line makes of these words, which have no fault
 pub record AreMatchesOf (words : List Text) (m : ArgMatches) : Type 0 where

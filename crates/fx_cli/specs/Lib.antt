@@ -1,4 +1,5 @@
 pub mod CommandLine
+pub mod Drawing
 pub mod Ending
 pub mod Explaining
 pub mod Matches

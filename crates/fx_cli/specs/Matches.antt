@@ -4,7 +4,7 @@ use Rattle.clap.specs.Words.{Text, first_value, one_text}
 use Rattle.clap.specs.declared.parser.matches.Found.{Found}
 use Rattle.fx_cli.specs.Words.{IsLimit}
 use Rattle.fx_cli.specs.declared.words.Call.{Call}
-use Rattle.fx_cli.specs.declared.words.Call.TheVariants.{Audit, Check, Collect, Confirm, Explain, Lint, Replay, Run}
+use Rattle.fx_cli.specs.declared.words.Call.TheVariants.{Audit, Check, Collect, Confirm, Draw, Explain, Lint, Replay, Run, Sum}
 
 -- there is a value under this name
 abbrev pub HasFile : Found → Text → Type 0
@@ -53,6 +53,15 @@ HoldsOption found name text = first_value found name ≡ text
 abbrev pub IsLintOf : Found → Call → Type 0
 IsLintOf found (Lint network traffic) = HoldsFile found (codes "NETWORK") (string_bytes network) × HoldsOption found (codes "TRAFFIC") (option_map string_bytes traffic)
 IsLintOf found _ = ⊥
+
+abbrev pub IsDrawOf : Found → Call → Type 0
+IsDrawOf found (Draw network traffic answer) =
+    HoldsFile found (codes "NETWORK") (string_bytes network) × HoldsOption found (codes "TRAFFIC") (option_map string_bytes traffic) × HoldsOption found (codes "ANSWER") (option_map string_bytes answer)
+IsDrawOf found _ = ⊥
+
+abbrev pub IsSumOf : Found → Call → Type 0
+IsSumOf found (Sum network totals) = HoldsFile found (codes "NETWORK") (string_bytes network) × HoldsFile found (codes "TOTALS") (string_bytes totals)
+IsSumOf found _ = ⊥
 
 abbrev pub IsRunCall : Found → Call → Type 0
 IsRunCall found (Run network traffic capture schedule links) =

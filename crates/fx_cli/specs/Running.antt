@@ -7,11 +7,12 @@ use Rattle.fx_base.specs.declared.fault.Place.TheVariants as places
 use Rattle.fx_base.specs.Refusals.{failed_write}
 use Rattle.fx_audit.specs.declared.answer.Answer.{Answer}
 use Rattle.fx_audit.specs.Commands.{IsAudited}
-use Rattle.fx_audit.specs.Texts.{IsCheckText, IsCollectText, IsConfirmText, IsLintText, IsReplayText, IsRunText}
+use Rattle.fx_audit.specs.Texts.{IsCheckText, IsCollectText, IsConfirmText, IsLintText, IsReplayText, IsRunText, IsSumText}
+use Rattle.fx_cli.specs.Drawing.{IsDrawingText}
 use Rattle.fx_cli.specs.Explaining.{IsExplainText}
 use Rattle.fx_cli.specs.Ending.{refusal_line, refusal_status, status}
 use Rattle.fx_cli.specs.declared.words.Call.{Call}
-use Rattle.fx_cli.specs.declared.words.Call.TheVariants.{Audit, Check, Collect, Confirm, Explain, Lint, Replay, Run}
+use Rattle.fx_cli.specs.declared.words.Call.TheVariants.{Audit, Check, Collect, Confirm, Draw, Explain, Lint, Replay, Run, Sum}
 
 -- an audit of what the two files may have held, with at most so many split and leaf lines, answers this and prints this text
 abbrev pub IsTextWithin : ℕ → Answer → List ℕ → Type 0
@@ -26,6 +27,8 @@ IsCallText (Confirm network traffic refutation) answer text = IsConfirmText answ
 IsCallText (Audit network traffic limit) answer text = IsTextWithin limit answer text
 IsCallText (Run network traffic capture schedule links) answer text = IsRunText answer text
 IsCallText (Lint network traffic) answer text = IsLintText answer text
+IsCallText (Draw network traffic said) answer text = IsDrawingText answer text
+IsCallText (Sum network totals) answer text = IsSumText answer text
 IsCallText (Explain number) answer text = IsExplainText (string_bytes number) answer text
 
 -- Of what octets go to, in the end: its last call failed, or one failed and then the line that says so was taken.

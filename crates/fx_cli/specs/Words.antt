@@ -4,7 +4,7 @@ use Rattle.std.specs.Str.Parse.{IsNumeral, digits_value, without_leading_plus}
 use Rattle.std.specs.Str.{bytes_eq, chars}
 use Rattle.clap.specs.Words.{Text}
 use Rattle.fx_cli.specs.declared.words.Call.{Call}
-use Rattle.fx_cli.specs.declared.words.Call.TheVariants.{Audit, Check, Collect, Confirm, Explain, Lint, Replay, Run}
+use Rattle.fx_cli.specs.declared.words.Call.TheVariants.{Audit, Check, Collect, Confirm, Draw, Explain, Lint, Replay, Run, Sum}
 
 -- a word that begins with `-` (45) and goes on
 abbrev pub is_flag : Text → Bool
@@ -33,6 +33,14 @@ pub record NamesFiles (words : List Text) (command : Text) (files : List Text) :
 abbrev pub file_given : Option Text → List Text
 file_given None = []
 file_given (Some file) = file ∷ []
+
+-- the words are the program's own name, `draw`, and words that name a network, a declaration of traffic where one is given,
+-- and the text of an answer about both where one is given too
+abbrev pub NamesDrawing : List Text → Text → Option Text → Option Text → Type 0
+NamesDrawing words network None None = NamesFiles words (codes "draw") (network ∷ [])
+NamesDrawing words network (Some traffic) None = NamesFiles words (codes "draw") (network ∷ traffic ∷ [])
+NamesDrawing words network (Some traffic) (Some answer) = NamesFiles words (codes "draw") (network ∷ traffic ∷ answer ∷ [])
+NamesDrawing words network None (Some answer) = ⊥
 
 -- The text says this limit, a whole number from 1 to 1,000,000, in decimal digits. Zeros may stand before them, and a plus
 -- before all, since Rust reads such texts as numbers.
@@ -86,7 +94,8 @@ pub record NamesRun (words : List Text) (files : List Text) (links : Option Text
 
 -- `once replay NETWORK TRAFFIC RUN`, `once collect NETWORK STREAM`, `once check NETWORK TRAFFIC CERTIFICATE`,
 -- `once confirm NETWORK TRAFFIC REFUTATION`, `once audit NETWORK TRAFFIC [--limit N]`,
--- `once run NETWORK TRAFFIC CAPTURE SCHEDULE [--links PREFIX]`, `once lint NETWORK [TRAFFIC]` and `once explain NUMBER`
+-- `once run NETWORK TRAFFIC CAPTURE SCHEDULE [--links PREFIX]`, `once sum NETWORK TOTALS`, `once lint NETWORK [TRAFFIC]`,
+-- `once draw NETWORK [TRAFFIC [ANSWER]]` and `once explain NUMBER`
 abbrev pub Names : List Text → Call → Type 0
 Names words (Replay network traffic run) =
     NamesFiles words (codes "replay") (string_bytes network ∷ string_bytes traffic ∷ string_bytes run ∷ [])
@@ -99,6 +108,8 @@ Names words (Audit network traffic limit) = NamesAudit words (string_bytes netwo
 Names words (Run network traffic capture schedule links) =
     NamesRun words (string_bytes network ∷ string_bytes traffic ∷ string_bytes capture ∷ string_bytes schedule ∷ []) (option_map string_bytes links)
 Names words (Lint network traffic) = NamesFiles words (codes "lint") (string_bytes network ∷ file_given (option_map string_bytes traffic))
+Names words (Draw network traffic answer) = NamesDrawing words (string_bytes network) (option_map string_bytes traffic) (option_map string_bytes answer)
+Names words (Sum network totals) = NamesFiles words (codes "sum") (string_bytes network ∷ string_bytes totals ∷ [])
 Names words (Explain number) = NamesFiles words (codes "explain") (string_bytes number ∷ [])
 
 abbrev pub NamesNoCall : List Text → Type 0

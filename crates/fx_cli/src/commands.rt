@@ -4,9 +4,10 @@ ghost use Rattle.fx_base.specs.Fault.{fault_at, IsMemory};
 ghost use Rattle.fx_base.specs.Refusals.{failed_read};
 ghost use Rattle.fx_base.specs.declared.fault.Place.TheVariants as places;
 ghost use Rattle.fx_audit.specs.Outputs.{AnswersWith};
-ghost use Rattle.fx_audit.specs.Texts.{IsCheckText, IsCollectText, IsConfirmText, IsLintText, IsReplayText, IsRunText};
+ghost use Rattle.fx_audit.specs.Texts.{IsCheckText, IsCollectText, IsConfirmText, IsLintText, IsReplayText, IsRunText, IsSumText};
 ghost use Rattle.fx_cli.specs.Running.{IsCallText, IsTextWithin};
 
+use crate::drawing::draw;
 use crate::explaining::explain_bytes;
 use crate::files::open;
 use crate::kept::KeptSource;
@@ -17,7 +18,7 @@ use crate::seeds::seed_at_random;
 use crate::words::Call;
 use fx_audit::{
     Answer, audit_bytes, check_bytes, collect_bytes, confirm_bytes, lint_both_bytes, lint_bytes,
-    replay_bytes, run_bytes,
+    replay_bytes, run_bytes, sum_bytes,
 };
 use fx_base::{Fault, LineReader, Outside, Sink, Source};
 use fx_layout::Seed;
@@ -264,6 +265,26 @@ fn lint<R: AllocGlobal + Files, S: Sink>(
     answer
 }
 
+/// Adds up the totals in this file.
+fn sum<R: AllocGlobal + Files + RandomSource, S: Sink>(
+    rt: &R,
+    network: &str,
+    totals: &str,
+    notes: &mut Notes,
+    sink: &mut S,
+) -> Result<Answer, Fault>
+    ensures { AnswersWith S.taken S.failed IsSumText sink.old sink.new result }
+{
+    let seed = seed_at_random(rt)?;
+    let network = open(rt, network, notes)?;
+    let totals = open(rt, totals, notes)?;
+    let mut network = notes.source(network);
+    let mut lines = LineReader::new(rt.alloc(), totals)?;
+    let answer = sum_bytes(rt.alloc(), seed, &mut network, &mut lines, sink);
+    notes.network = network.into_copy();
+    answer
+}
+
 /// Opens the files that a call names, in the order of its words, and only then reads them and answers. What words behind
 /// the answer need is noted.
 ///
@@ -345,6 +366,19 @@ pub(crate) fn answer_call<R: AllocGlobal + Clock + Eprint + Files + RandomSource
         Call::Lint { network, traffic } => {
             lint(rt, network.as_str(), traffic.as_deref(), notes, sink)
         }
+        Call::Draw {
+            network,
+            traffic,
+            answer,
+        } => draw(
+            rt,
+            network.as_str(),
+            traffic.as_deref(),
+            answer.as_deref(),
+            notes,
+            sink,
+        ),
+        Call::Sum { network, totals } => sum(rt, network.as_str(), totals.as_str(), notes, sink),
         Call::Explain { number } => explain_bytes(number.as_str(), sink),
     }
 }

@@ -11,6 +11,7 @@ The way through:
                                              shows a wrong total
   once check NETWORK TRAFFIC ANSWER          does this certificate show it? (whoever made it needn't be trusted)
   once confirm NETWORK TRAFFIC ANSWER        does this run show a wrong total? With what is counted and what should be
+  once draw NETWORK TRAFFIC ANSWER           all of it as a picture (Graphviz)
 
 NETWORK is a JSON document of devices, links and the report, TRAFFIC one of the classes of packets and their paths.
 `once help COMMAND` tells what its files are, with an example. `once explain NUMBER` tells what a refusal means.
@@ -152,6 +153,43 @@ Prints `ok` (status 0) where every command would take the document; else its fir
 --words tells the fault in sentences, and of a document that is taken what was read in silence: a member that stands
 twice, members that mean nothing here, a destination without a link, a cache that nothing feeds, a class that is exempt,
 a crossing at an interface that no observation point has, a path of which no observation point sees a crossing.";
+
+/// Behind the help of `draw`.
+pub const DRAW: &str = "\
+Examples:
+  once draw network.json | dot -Tsvg > network.svg
+  once draw network.json traffic.json certificate.txt | dot -Tsvg > counted.svg
+
+Files:
+  NETWORK  JSON: \"devices\", \"links\", \"report\"
+  TRAFFIC  JSON: \"classes\" with regions and paths; may be left out
+  ANSWER   what `once audit` printed of both, a certificate or a refutation; may be left out
+
+Prints a graph in the DOT language (status 0), of which Graphviz's `dot` makes a picture: a box for each device, with its
+observation points, selection processes, caches, collecting and exporting processes; in red what is lost, with two lines
+around the report. With TRAFFIC in blue the packets of each path, and what sees them; with a certificate in green where
+they are counted; with a refutation in orange the steps of its run, and in red what it comes to. A text that is refused:
+`refused NUMBER PLACE` (status 2), also a certificate that `once check` and a refutation that `once confirm` refuses.
+
+--words tells what is refused in sentences.";
+
+/// Behind the help of `sum`.
+pub const SUM: &str = "\
+Example:
+  for stream in streams/*; do once collect network.json $stream > totals/${stream##*/}; done
+  cat totals/* | once sum network.json /dev/stdin
+
+Files:
+  NETWORK  JSON: of it only the report's key counts here
+  TOTALS   lines: one or more totals as `once collect`, `once run` or `once replay` print them, one directly behind the
+           other, of networks with this report
+
+Prints totals again (status 0): for each key the sums of its packets and octets, `unassigned N` and, where one of the
+texts has them, `complete`, `skipped other N malformed N`, `gaps N` and `skipped N`, added up likewise. So what was
+collected apart and summed is what would have been collected together, in any order; and sums can be summed. A text that is refused:
+`refused 861 line N` (status 2).
+
+--words tells what is refused in sentences.";
 
 /// Behind the help of `explain`.
 pub const EXPLAIN: &str = "\

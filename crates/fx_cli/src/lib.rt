@@ -2,6 +2,7 @@
 #![tactic(auto)]
 
 mod commands;
+mod drawing;
 mod ending;
 mod explaining;
 mod files;

@@ -268,8 +268,15 @@ fn documents_of(call: &Call) -> Option<(&str, Option<&str>)> {
             traffic,
             ..
         } => Some((network.as_str(), Some(traffic.as_str()))),
-        Call::Collect { network, .. } => Some((network.as_str(), None)),
+        Call::Collect { network, .. } | Call::Sum { network, .. } => {
+            Some((network.as_str(), None))
+        }
         Call::Lint { network, traffic } => Some((network.as_str(), traffic.as_deref())),
+        Call::Draw {
+            network,
+            traffic,
+            ..
+        } => Some((network.as_str(), traffic.as_deref())),
         Call::Explain { .. } => None,
     }
 }

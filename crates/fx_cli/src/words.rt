@@ -4,7 +4,7 @@ ghost use Rattle.clap.specs.Simple.{on_top};
 ghost use Rattle.clap.specs.Words.{app_of, fault_of, found_of, HasKind, kind_of, new_app, new_rule, rule_of, Text, with_rule};
 ghost use Rattle.clap.specs.declared.builder.command.Command.TheViews.{out-Command};
 ghost use Rattle.fx_cli.specs.CommandLine.{AreMatchesOf, file_rule, limit_rule, links_rule, once_app, network_alone, number_alone, over_capture, over_documents, over_network, wants_command};
-ghost use Rattle.fx_cli.specs.Matches.{HoldsFile, HoldsLimit, HoldsOption, IsAuditOf, IsCheckOf, IsCollectOf, IsConfirmOf, HasFile, IsExplainOf, IsLintOf, IsReplayOf, IsRunCall};
+ghost use Rattle.fx_cli.specs.Matches.{HoldsFile, HoldsLimit, HoldsOption, IsAuditOf, IsCheckOf, IsCollectOf, IsConfirmOf, IsDrawOf, HasFile, IsExplainOf, IsLintOf, IsReplayOf, IsRunCall, IsSumOf};
 ghost use Rattle.fx_cli.specs.Words.{Names, NamesNoCall};
 
 use crate::help_text;
@@ -77,6 +77,22 @@ pub enum Call {
         network: String,
         /// The traffic declaration, where one is given.
         traffic: Option<String>,
+    },
+    /// Draws a network as a graph.
+    Draw {
+        /// The network document.
+        network: String,
+        /// The traffic declaration, where one is given.
+        traffic: Option<String>,
+        /// The text of a certificate or a refutation, where one is given.
+        answer: Option<String>,
+    },
+    /// Adds totals up.
+    Sum {
+        /// The network document.
+        network: String,
+        /// The texts of totals, one behind the other.
+        totals: String,
     },
     /// Explains the refusals of a number.
     Explain {
@@ -281,6 +297,43 @@ fn lint_command<'a>(alloc: Global) -> Result<Command<'a>, AllocError>
     command.arg(Arg::new(alloc, "TRAFFIC").help("The traffic declaration (JSON)"))
 }
 
+/// The command `draw`.
+fn draw_command<'a>(alloc: Global) -> Result<Command<'a>, AllocError>
+    ensures app { IfOk result (λ c. app_of c
+        ≡ with_rule (over_network (codes "draw") (new_rule (codes "TRAFFIC"))) (new_rule (codes "ANSWER"))) }
+    ensures local { IfOk result (λ c. (out-Command c).has_globals ≡ false) }
+{
+    let command = network_command(
+        alloc,
+        "draw",
+        "Draws a network, its traffic, and what a certificate or a refutation says of them",
+        help_text::DRAW,
+    )?;
+    let traffic = Arg::new(alloc, "TRAFFIC").help("The traffic declaration (JSON)");
+    let answer = Arg::new(alloc, "ANSWER").help("The text of a certificate or a refutation");
+    command.arg(traffic)?.arg(answer)
+}
+
+/// The command `sum`.
+fn sum_command<'a>(alloc: Global) -> Result<Command<'a>, AllocError>
+    ensures app { IfOk result (λ c. app_of c
+        ≡ over_network (codes "sum") (file_rule (codes "TOTALS"))) }
+    ensures local { IfOk result (λ c. (out-Command c).has_globals ≡ false) }
+{
+    let command = network_command(
+        alloc,
+        "sum",
+        "Adds up totals of one report that were collected apart",
+        help_text::SUM,
+    )?;
+    with_file(
+        alloc,
+        command,
+        "TOTALS",
+        "The texts of totals, one behind the other",
+    )
+}
+
 /// The command `explain`.
 fn explain_command<'a>(alloc: Global) -> Result<Command<'a>, AllocError>
     ensures app { IfOk result (λ c. app_of c ≡ number_alone (codes "explain")) }
@@ -320,6 +373,8 @@ fn command_line<'a>(alloc: Global) -> Result<Command<'a>, AllocError>
     commands.push(audit_command(alloc)?)?;
     commands.push(run_command(alloc)?)?;
     commands.push(lint_command(alloc)?)?;
+    commands.push(draw_command(alloc)?)?;
+    commands.push(sum_command(alloc)?)?;
     commands.push(explain_command(alloc)?)?;
     program(alloc).subcommands(commands)
 }
@@ -447,6 +502,30 @@ fn lint_call(alloc: Global, matches: &ArgMatches<'_>) -> Result<Call, AllocError
     })
 }
 
+/// The call of `draw`, by the matches of its words.
+fn draw_call(alloc: Global, matches: &ArgMatches<'_>) -> Result<Call, AllocError>
+    requires { HasFile (found_of matches.now) (codes "NETWORK") }
+    ensures { IfOk result (IsDrawOf (found_of matches.now)) }
+{
+    Ok(Call::Draw {
+        network: file_name(alloc, matches, "NETWORK")?,
+        traffic: text_of(alloc, matches, "TRAFFIC")?,
+        answer: text_of(alloc, matches, "ANSWER")?,
+    })
+}
+
+/// The call of `sum`, by the matches of its words.
+fn sum_call(alloc: Global, matches: &ArgMatches<'_>) -> Result<Call, AllocError>
+    requires { HasFile (found_of matches.now) (codes "NETWORK")
+        × HasFile (found_of matches.now) (codes "TOTALS") }
+    ensures { IfOk result (IsSumOf (found_of matches.now)) }
+{
+    Ok(Call::Sum {
+        network: file_name(alloc, matches, "NETWORK")?,
+        totals: file_name(alloc, matches, "TOTALS")?,
+    })
+}
+
 /// The call of `explain`, by the matches of its words.
 fn explain_call(alloc: Global, matches: &ArgMatches<'_>) -> Result<Call, AllocError>
     requires { HasFile (found_of matches.now) (codes "NUMBER") }
@@ -479,6 +558,12 @@ fn call_of(alloc: Global, matches: &ArgMatches<'_>) -> Result<Call, AllocError>
     }
     if let Some(lint) = matches.subcommand_matches("lint") {
         return lint_call(alloc, lint);
+    }
+    if let Some(draw) = matches.subcommand_matches("draw") {
+        return draw_call(alloc, draw);
+    }
+    if let Some(sum) = matches.subcommand_matches("sum") {
+        return sum_call(alloc, sum);
     }
     if let Some(explain) = matches.subcommand_matches("explain") {
         return explain_call(alloc, explain);

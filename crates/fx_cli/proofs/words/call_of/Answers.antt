@@ -1,7 +1,7 @@
 use Rattle.std.proofs.Common.{arith, refl}
 use Rattle.clap.specs.Words.{found_of}
-use Rattle.fx_cli.proofs.CommandTable.{audit, check, collect, confirm, explain, lint, replay, run, taking_of}
-use Rattle.fx_cli.proofs.ParsedWords.{all_found, if_some, limit_found, names_call, network_found, ok_as, taken_replay, words_of}
+use Rattle.fx_cli.proofs.CommandTable.{audit, check, collect, confirm, draw, explain, lint, replay, run, sum, taking_of}
+use Rattle.fx_cli.proofs.ParsedWords.{all_found, drawn_found, if_some, limit_found, names_call, network_found, ok_as, taken_replay, words_of}
 use Rattle.fx_cli.proofs.words.call_of.Goals as goal
 
 -- ---- where the command is `collect`
@@ -99,19 +99,50 @@ returns-in-Some-subcommand_matches-5 c = λ words are.
     let found = found_of some.lint.now in
     ok_as c.lint_call.result _ _ (names_call lint words found (words_of lint words c.args.matches.now found are (some.ensures.found.0 refl) some.ensures.rows)) c.lint_call.ensures
 
+-- ---- where the command is `draw`
+
+pub draw_call-requires : goal.draw_call-requires
+draw_call-requires c =
+    let some = c.in-Some-subcommand_matches-6 in
+    let found = found_of some.draw.now in
+    let f = words_of draw c.requires.0 c.args.matches.now found c.requires.1 (some.ensures.found.0 refl) some.ensures.rows in
+    drawn_found found f
+
+pub returns-in-Some-subcommand_matches-6 : goal.returns-in-Some-subcommand_matches-6
+returns-in-Some-subcommand_matches-6 c = λ words are.
+    let some = c.in-Some-subcommand_matches-6 in
+    let found = found_of some.draw.now in
+    ok_as c.draw_call.result _ _ (names_call draw words found (words_of draw words c.args.matches.now found are (some.ensures.found.0 refl) some.ensures.rows)) c.draw_call.ensures
+
+-- ---- where the command is `sum`
+
+pub sum_call-requires : goal.sum_call-requires
+sum_call-requires c =
+    let some = c.in-Some-subcommand_matches-7 in
+    let found = found_of some.sum.now in
+    let f = words_of sum c.requires.0 c.args.matches.now found c.requires.1 (some.ensures.found.0 refl) some.ensures.rows in
+    let h = all_found found f (omega arith) in
+    (h.0, h.1.0)
+
+pub returns-in-Some-subcommand_matches-7 : goal.returns-in-Some-subcommand_matches-7
+returns-in-Some-subcommand_matches-7 c = λ words are.
+    let some = c.in-Some-subcommand_matches-7 in
+    let found = found_of some.sum.now in
+    ok_as c.sum_call.result _ _ (names_call sum words found (words_of sum words c.args.matches.now found are (some.ensures.found.0 refl) some.ensures.rows)) c.sum_call.ensures
+
 -- ---- where the command is `explain`
 
 pub explain_call-requires : goal.explain_call-requires
 explain_call-requires c =
-    let some = c.in-Some-subcommand_matches-6 in
+    let some = c.in-Some-subcommand_matches-8 in
     let found = found_of some.explain.now in
     let f = words_of explain c.requires.0 c.args.matches.now found c.requires.1 (some.ensures.found.0 refl) some.ensures.rows in
     let h = all_found found f (omega arith) in
     h.0
 
-pub returns-in-Some-subcommand_matches-6 : goal.returns-in-Some-subcommand_matches-6
-returns-in-Some-subcommand_matches-6 c = λ words are.
-    let some = c.in-Some-subcommand_matches-6 in
+pub returns-in-Some-subcommand_matches-8 : goal.returns-in-Some-subcommand_matches-8
+returns-in-Some-subcommand_matches-8 c = λ words are.
+    let some = c.in-Some-subcommand_matches-8 in
     let found = found_of some.explain.now in
     ok_as c.explain_call.result _ _ (names_call explain words found (words_of explain words c.args.matches.now found are (some.ensures.found.0 refl) some.ensures.rows)) c.explain_call.ensures
 
@@ -119,13 +150,13 @@ returns-in-Some-subcommand_matches-6 c = λ words are.
 
 pub unwrap-requires : goal.unwrap-requires
 unwrap-requires c =
-    c.subcommand_matches-8.ensures.found.1 (taken_replay c.requires.0 c.args.matches.now c.requires.1 c.in_default.ensures.found.1 c.in_default-subcommand_matches.ensures.found.1 c.in_default-subcommand_matches-2.ensures.found.1 c.in_default-subcommand_matches-3.ensures.found.1 c.in_default-subcommand_matches-4.ensures.found.1 c.in_default-subcommand_matches-5.ensures.found.1 c.in_default-subcommand_matches-6.ensures.found.1)
+    c.subcommand_matches-10.ensures.found.1 (taken_replay c.requires.0 c.args.matches.now c.requires.1 c.in_default.ensures.found.1 c.in_default-subcommand_matches.ensures.found.1 c.in_default-subcommand_matches-2.ensures.found.1 c.in_default-subcommand_matches-3.ensures.found.1 c.in_default-subcommand_matches-4.ensures.found.1 c.in_default-subcommand_matches-5.ensures.found.1 c.in_default-subcommand_matches-6.ensures.found.1 c.in_default-subcommand_matches-7.ensures.found.1 c.in_default-subcommand_matches-8.ensures.found.1)
 
 pub replay_call-requires : goal.replay_call-requires
 replay_call-requires c =
     let found = found_of c.unwrap.result.now in
-    let name = taken_replay c.requires.0 c.args.matches.now c.requires.1 c.in_default.ensures.found.1 c.in_default-subcommand_matches.ensures.found.1 c.in_default-subcommand_matches-2.ensures.found.1 c.in_default-subcommand_matches-3.ensures.found.1 c.in_default-subcommand_matches-4.ensures.found.1 c.in_default-subcommand_matches-5.ensures.found.1 c.in_default-subcommand_matches-6.ensures.found.1 in
-    let rows = if_some c.subcommand_matches-8.result c.unwrap.result _ c.unwrap.ensures c.subcommand_matches-8.ensures.rows in
+    let name = taken_replay c.requires.0 c.args.matches.now c.requires.1 c.in_default.ensures.found.1 c.in_default-subcommand_matches.ensures.found.1 c.in_default-subcommand_matches-2.ensures.found.1 c.in_default-subcommand_matches-3.ensures.found.1 c.in_default-subcommand_matches-4.ensures.found.1 c.in_default-subcommand_matches-5.ensures.found.1 c.in_default-subcommand_matches-6.ensures.found.1 c.in_default-subcommand_matches-7.ensures.found.1 c.in_default-subcommand_matches-8.ensures.found.1 in
+    let rows = if_some c.subcommand_matches-10.result c.unwrap.result _ c.unwrap.ensures c.subcommand_matches-10.ensures.rows in
     let f = words_of replay c.requires.0 c.args.matches.now found c.requires.1 name rows in
     let h = all_found found f (omega arith) in
     (h.0, h.1.0, h.1.1.0)
@@ -133,6 +164,6 @@ replay_call-requires c =
 pub returns : goal.returns
 returns c = λ words are.
     let found = found_of c.unwrap.result.now in
-    let name = taken_replay words c.args.matches.now are c.in_default.ensures.found.1 c.in_default-subcommand_matches.ensures.found.1 c.in_default-subcommand_matches-2.ensures.found.1 c.in_default-subcommand_matches-3.ensures.found.1 c.in_default-subcommand_matches-4.ensures.found.1 c.in_default-subcommand_matches-5.ensures.found.1 c.in_default-subcommand_matches-6.ensures.found.1 in
-    let rows = if_some c.subcommand_matches-8.result c.unwrap.result _ c.unwrap.ensures c.subcommand_matches-8.ensures.rows in
+    let name = taken_replay words c.args.matches.now are c.in_default.ensures.found.1 c.in_default-subcommand_matches.ensures.found.1 c.in_default-subcommand_matches-2.ensures.found.1 c.in_default-subcommand_matches-3.ensures.found.1 c.in_default-subcommand_matches-4.ensures.found.1 c.in_default-subcommand_matches-5.ensures.found.1 c.in_default-subcommand_matches-6.ensures.found.1 c.in_default-subcommand_matches-7.ensures.found.1 c.in_default-subcommand_matches-8.ensures.found.1 in
+    let rows = if_some c.subcommand_matches-10.result c.unwrap.result _ c.unwrap.ensures c.subcommand_matches-10.ensures.rows in
     ok_as c.replay_call.result _ _ (names_call replay words found (words_of replay words c.args.matches.now found are name rows)) c.replay_call.ensures
