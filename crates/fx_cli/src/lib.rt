@@ -1,6 +1,7 @@
 //! The program's words, files and statuses.
 #![tactic(auto)]
 
+mod asked;
 mod commands;
 mod ending;
 mod explaining;
@@ -10,9 +11,11 @@ mod kept;
 mod link_files;
 mod notes;
 mod progress;
+mod reading_again;
 mod running;
 mod seeds;
 mod telling;
+mod text_again;
 mod word_flag;
 mod words;
 mod words_ending;

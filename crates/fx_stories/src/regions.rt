@@ -19,13 +19,14 @@ pub(crate) fn axis_word(axis: Axis) -> &'static str {
     }
 }
 
-/// Tells the values of a region on an axis, from the least to the greatest.
-fn tell_range(story: &mut Story, axis: Axis, low: u128, high: u128) -> Result<(), AllocError> {
-    story.tell(&[
-        Piece::Text(axis_word(axis)),
-        Piece::Text(" "),
-        Piece::Value(axis, low),
-    ])?;
+/// Tells the values from a least to a greatest on an axis.
+pub(crate) fn tell_values(
+    story: &mut Story,
+    axis: Axis,
+    low: u128,
+    high: u128,
+) -> Result<(), AllocError> {
+    story.tell(&[Piece::Value(axis, low)])?;
     if low == high {
         return Ok(());
     }
@@ -41,8 +42,12 @@ pub(crate) fn tell_region(story: &mut Story, region: &Region) -> Result<(), Allo
         let low = least.get(axis);
         let high = greatest.get(axis);
         if low != 0 || high != top(axis) {
-            story.tell(&[Piece::Text(separator)])?;
-            tell_range(story, axis, low, high)?;
+            story.tell(&[
+                Piece::Text(separator),
+                Piece::Text(axis_word(axis)),
+                Piece::Text(" "),
+            ])?;
+            tell_values(story, axis, low, high)?;
             separator = ", ";
         }
     }

@@ -3,12 +3,11 @@ use crate::again::Documents;
 use crate::crossings::tell_crossing;
 use crate::holders::{tell_arrival, tell_expiry};
 use crate::names::selection_process;
+use crate::packets::tell_fields;
 use crate::paths::tell_class;
-use crate::regions::axis_word;
 use crate::story::{Piece, Story};
 use fx_base::entry_numbered;
 use fx_config::Device;
-use fx_elements::EVERY_AXIS;
 use fx_plan::Plan;
 use fx_run_text::Step;
 use fx_tables::{Crossing, Occurrence, Packet};
@@ -25,21 +24,7 @@ pub(crate) fn tell_packet(
     if documents.traffic.classes().exempts(packet) {
         story.tell(&[Piece::Text(" (exempt: it may not be counted)")])?;
     }
-    for axis in EVERY_AXIS {
-        let value = packet.fields.get(axis);
-        if value != 0 {
-            story.tell(&[
-                Piece::Text(", "),
-                Piece::Text(axis_word(axis)),
-                Piece::Text(" "),
-                Piece::Value(axis, value),
-            ])?;
-        }
-    }
-    story.sentence(&[
-        Piece::Text(", 0 in all other fields, octets "),
-        Piece::Number(packet.octets),
-    ])
+    tell_fields(story, ", ", &packet.fields, packet.octets)
 }
 
 /// Tells the cache at which a packet is metered.
