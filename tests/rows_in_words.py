@@ -2,7 +2,8 @@
 """rows_in_words.py PROGRAM [ROW..]: runs the worked rows with `--words`, in front of their other words and behind them.
 
 What stands first on standard output must be what the row prints without it, with the row's status, and nothing may
-stand on standard error. Behind a refusal, an answer of no and `unknown 601` must stand what is wrong and what to do.
+stand on standard error. Behind a refusal, an answer of no and `unknown 601` must stand what is wrong and what to do; and in
+front of that the lines of the row's file `told`, where it has one.
 
 Prints a line for each row that fails, and last `N passed, M failed`. The exit status is 1 where a row failed.
 """
@@ -46,6 +47,9 @@ def faults(program, row):
             behind = run.stdout[len(wanted) :]
             if b"\nwrong: " not in b"\n" + behind or b"\nwhat to do: " not in behind:
                 yield "printed no words behind %r: %r" % (wanted, behind[:200])
+        told = octets_of(row, "told", None)
+        if told is not None and (b"\n" + told) not in b"\n" + run.stdout:
+            yield "told %r, which lacks %r" % (run.stdout, told)
 
 
 def is_read(name):

@@ -1,8 +1,8 @@
 //! What was asked, as far as the words behind an answer are about it.
 
+use crate::bundles::question_of_bundle;
 use crate::notes::Notes;
 use crate::words::Call;
-use fx_audit::AUDIT_LIMIT;
 
 /// Where the lines of a text are.
 #[derive(Clone, Copy, Drop)]
@@ -147,57 +147,6 @@ fn question_of_call<'a>(call: &'a Call, notes: &'a Notes) -> Question<'a> {
             None => None,
         },
     }
-}
-
-/// What stands in front of the first line `%%`, and what stands behind it.
-fn first_text(octets: &[u8]) -> Option<(&[u8], &[u8])> {
-    if let Some(rest) = octets.strip_prefix(b"%%\n") {
-        return Some((b"", rest));
-    }
-    for place in 0..octets.len() {
-        let (text, rest) = octets.split_at(place);
-        if text.ends_with(b"\n") {
-            if let Some(behind) = rest.strip_prefix(b"%%\n") {
-                return Some((text, behind));
-            }
-        }
-    }
-    None
-}
-
-/// What the first line of a bundle asks of the third of its texts.
-fn asked_of<'a>(command: &[u8], third: &'a [u8]) -> Option<Asked<'a>> {
-    let lines = LinesAt::Octets(third);
-    match command {
-        b"audit" => Some(Asked::Audit(AUDIT_LIMIT)),
-        b"check" => Some(Asked::Check(lines)),
-        b"confirm" => Some(Asked::Confirm(lines)),
-        b"replay" => Some(Asked::Replay(lines)),
-        _ => None,
-    }
-}
-
-/// What a bundle asks, or none where the octets are none.
-fn question_of_bundle(octets: &[u8]) -> Option<Question<'_>> {
-    let end = octets.iter().position(|octet| *octet == b'\n')?;
-    let (command, rest) = octets.split_at_checked(end)?;
-    let (network, rest) = first_text(rest.strip_prefix(b"\n")?)?;
-    let (traffic, rest) = first_text(rest)?;
-    let third = match first_text(rest) {
-        Some((third, _)) => third,
-        None => b"",
-    };
-    Some(Question {
-        asked: asked_of(command, third)?,
-        network: Some(DocumentRead {
-            name: "the network in the bundle",
-            octets: Some(network),
-        }),
-        traffic: Some(DocumentRead {
-            name: "the traffic in the bundle",
-            octets: Some(traffic),
-        }),
-    })
 }
 
 /// What was asked by a call, or by a bundle where there is none.

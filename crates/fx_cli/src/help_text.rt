@@ -18,7 +18,8 @@ NETWORK is a JSON document of devices, links and the report, TRAFFIC one of the 
 With no words, a bundle (a command and its files in one text) is read from standard input: a line `audit`, `check`,
 `confirm` or `replay`, then its texts in their order, each followed by a line `%%`.
 
---words, with any command: behind the answer, sentences that tell what it means and what to do.
+--words, with any command or a bundle: behind the answer, sentences that tell what it means and what to do; `explain`
+says all of a number by itself.
 --progress, with audit, collect and run: how far it has come, on standard error, at most once a second.
 
 Exit status:

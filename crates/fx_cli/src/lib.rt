@@ -1,7 +1,9 @@
 //! The program's words, files and statuses.
 #![tactic(auto)]
 
+mod advice;
 mod asked;
+mod bundles;
 mod commands;
 mod ending;
 mod explaining;

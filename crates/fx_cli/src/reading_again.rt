@@ -51,10 +51,7 @@ name that.\n",
 }
 
 /// Writes that the lines of a text can't be read once more.
-pub(crate) fn put_lines_not_again<S: Sink>(
-    lines: LinesAt<'_>,
-    sink: &mut S,
-) -> Result<(), Fault> {
+pub(crate) fn put_lines_not_again<S: Sink>(lines: LinesAt<'_>, sink: &mut S) -> Result<(), Fault> {
     match lines {
         LinesAt::File(path) => put_not_again(path, sink),
         LinesAt::Octets(_) => Ok(()),

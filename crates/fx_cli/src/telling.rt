@@ -1,6 +1,7 @@
 //! The words behind an answer: what it is about, by name, and for a refusal what is wrong and what to do.
 
 use crate::asked::{Asked, LinesAt, Question, documents_of, question_of};
+use crate::bundles::put_bundle_words;
 use crate::notes::Notes;
 use crate::reading_again::{lines_again, open_again, put_lines_not_again, put_not_again};
 use crate::words::Call;
@@ -24,6 +25,10 @@ none of those of exempt classes.\n";
 const TO_MEND: &[u8] =
     b"what to do: Change what a step names, as a point, a filter, a link or an export mode, so that \
 one record of each packet comes to the report, and audit again.\n";
+
+/// What to do about an answer of no whose text can't be read once more.
+const TO_LOOK_UP: &[u8] =
+    b"what to do: `once explain NUMBER` tells what the number behind `no` means.\n";
 
 /// What stands in the text of a replay.
 const REPLAYED: &[u8] =
@@ -72,11 +77,20 @@ fn put_words<R: AllocGlobal + Files, S: Sink>(
         },
         Err(fault) => {
             put_file_words(call, notes, fault, sink)?;
-            if let Some(question) = &question {
-                put_refused_words(rt, question, fault, sink)?;
+            match &question {
+                Some(question) => put_refused_words(rt, question, fault, sink)?,
+                None => put_no_bundle_words(notes, fault, sink)?,
             }
             put_reason(sink, fault.number)
         }
+    }
+}
+
+/// Writes why what standard input has is no bundle.
+fn put_no_bundle_words<S: Sink>(notes: &Notes, fault: &Fault, sink: &mut S) -> Result<(), Fault> {
+    match (fault.number, notes.bundle.octets()) {
+        (refusals::SCHEDULE_OR_BUNDLE, Some(octets)) => put_bundle_words(octets, sink),
+        _ => Ok(()),
     }
 }
 
@@ -182,11 +196,18 @@ fn put_denied_certificate<R: AllocGlobal + Files, S: Sink>(
     sink: &mut S,
 ) -> Result<(), Fault> {
     let Some(mut lines) = lines_again(rt, certificate)? else {
-        return put_lines_not_again(certificate, sink);
+        put_lines_not_again(certificate, sink)?;
+        return put_text(sink, TO_LOOK_UP);
     };
     let mut text = Outside::new(Vec::new(rt.alloc()));
     let (mut network, mut traffic) = both_octets(question);
-    check_bytes(rt.alloc(), &mut network, &mut traffic, &mut lines, &mut text)?;
+    check_bytes(
+        rt.alloc(),
+        &mut network,
+        &mut traffic,
+        &mut lines,
+        &mut text,
+    )?;
     let Some(fault) = refusal_said(text.into_inner().as_slice()) else {
         return Ok(());
     };
@@ -202,11 +223,18 @@ fn put_denied_refutation<R: AllocGlobal + Files, S: Sink>(
     sink: &mut S,
 ) -> Result<(), Fault> {
     let Some(mut lines) = lines_again(rt, refutation)? else {
-        return put_lines_not_again(refutation, sink);
+        put_lines_not_again(refutation, sink)?;
+        return put_text(sink, TO_LOOK_UP);
     };
     let mut text = Outside::new(Vec::new(rt.alloc()));
     let (mut network, mut traffic) = both_octets(question);
-    confirm_bytes(rt.alloc(), &mut network, &mut traffic, &mut lines, &mut text)?;
+    confirm_bytes(
+        rt.alloc(),
+        &mut network,
+        &mut traffic,
+        &mut lines,
+        &mut text,
+    )?;
     let Some(fault) = refusal_said(text.into_inner().as_slice()) else {
         return Ok(());
     };
@@ -381,7 +409,15 @@ fn put_packet_words<R: AllocGlobal + Files, S: Sink>(
     };
     match lines_again(rt, schedule)? {
         Some(mut lines) => {
-            put_schedule_words(rt.alloc(), network, traffic, &mut lines, frames, fault, sink)
+            put_schedule_words(
+                rt.alloc(),
+                network,
+                traffic,
+                &mut lines,
+                frames,
+                fault,
+                sink,
+            )
         }
         None => put_lines_not_again(schedule, sink),
     }

@@ -35,7 +35,7 @@ fn tell_live(story: &mut Story, templates: &Templates, domain: u32) -> Result<()
         }
     }
     if told == 0 {
-        return story.sentence(&[Piece::Text("this domain has no template there")]);
+        return story.sentence(&[Piece::Text("its domain has no template at all there")]);
     }
     story.end_line()
 }
@@ -89,11 +89,11 @@ fn tell_no_template(
 ) -> Result<(), AllocError> {
     message.tell_set(story, set)?;
     story.sentence(&[
-        Piece::Text(" has records of template "),
+        Piece::Text(" needs template "),
         Piece::Number(u64::from(set.id)),
-        Piece::Text(", which observation domain "),
+        Piece::Text(", and observation domain "),
         Piece::Number(u64::from(message.domain())),
-        Piece::Text(" hasn't there"),
+        Piece::Text(" has none of this id there"),
     ])?;
     tell_elsewhere(story, templates, message.domain(), set.id)?;
     tell_live(story, templates, message.domain())
@@ -127,12 +127,7 @@ fn wanted(field: &FieldSpecifier, octets: &[u8]) -> u64 {
 
 impl DataThere<'_> {
     /// Tells the field of this place of the record.
-    fn tell(
-        &self,
-        story: &mut Story,
-        declared: &Declared,
-        place: usize,
-    ) -> Result<(), AllocError> {
+    fn tell(&self, story: &mut Story, declared: &Declared, place: usize) -> Result<(), AllocError> {
         story.tell(&[
             Piece::Text("record "),
             Piece::Number(self.number),

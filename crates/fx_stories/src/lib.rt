@@ -20,6 +20,7 @@ mod members;
 mod messages;
 mod names;
 mod packets;
+mod passing;
 mod paths;
 mod places;
 mod pointers;

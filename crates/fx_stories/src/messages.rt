@@ -124,7 +124,9 @@ impl MessageThere<'_> {
             return story.sentence(&[
                 Piece::Text("at octet "),
                 Piece::Number(self.place_in_stream(set.place)),
-                Piece::Text(" the message has octets left, but fewer than the 4 of a set's header: "),
+                Piece::Text(
+                    " the message has octets left, but fewer than the 4 of a set's header: ",
+                ),
                 Piece::Number(left as u64),
             ]);
         }

@@ -4,7 +4,7 @@ use crate::regions::{axis_word, tell_values};
 use crate::story::{Piece, Story, between};
 use fx_base::entry_numbered;
 use fx_boxes::{Fields, Region};
-use fx_elements::EVERY_AXIS;
+use fx_elements::{Axis, EVERY_AXIS};
 use fx_tables::Class;
 use std::alloc::AllocError;
 
@@ -38,8 +38,21 @@ pub(crate) fn tell_fields(
     ])
 }
 
+/// What is to be said of the value of a field that packets of the other version have.
+fn absence(axis: Axis, fields: &Fields) -> &'static str {
+    match (axis, fields.get(Axis::Version)) {
+        (Axis::Source | Axis::Destination, 6) => " (a packet of IPv6 has none)",
+        (Axis::Source6 | Axis::Destination6, 4) => " (a packet of IPv4 has none)",
+        _ => "",
+    }
+}
+
 /// Tells the fields that lie outside a region, each with the region's values there.
-fn tell_outside(story: &mut Story, region: &Region, fields: &Fields) -> Result<(), AllocError> {
+pub(crate) fn tell_outside(
+    story: &mut Story,
+    region: &Region,
+    fields: &Fields,
+) -> Result<(), AllocError> {
     let least = region.corner();
     let greatest = region.far_corner();
     let mut told = false;
@@ -52,7 +65,12 @@ fn tell_outside(story: &mut Story, region: &Region, fields: &Fields) -> Result<(
                 Piece::Text(axis_word(axis)),
                 Piece::Text(" "),
                 Piece::Value(axis, value),
-                Piece::Text(if low == high { " isn't " } else { " lies outside " }),
+                Piece::Text(absence(axis, fields)),
+                Piece::Text(if low == high {
+                    " isn't "
+                } else {
+                    " lies outside "
+                }),
             ])?;
             tell_values(story, axis, low, high)?;
             told = true;

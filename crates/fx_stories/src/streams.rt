@@ -106,7 +106,14 @@ impl Reading {
                 octets: part(rest, 0, length),
             };
             let sets = message.sets(self.alloc)?;
-            take_sets(self.alloc, story, &mut self.templates, &message, sets.as_slice(), None)?;
+            take_sets(
+                self.alloc,
+                story,
+                &mut self.templates,
+                &message,
+                sets.as_slice(),
+                None,
+            )?;
             at = at.saturating_add(length);
             self.place = self.place.saturating_add(length as u64);
             self.number = self.number.saturating_add(1);
@@ -148,20 +155,20 @@ impl Reading {
         match format_of(self.octets.as_slice()) {
             Some(words) => story.sentence(&[Piece::Text(words)])?,
             None => story.sentence(&[
-                Piece::Text("The first two octets say version "),
+                Piece::Text("they say version "),
                 Piece::Number(u64::from(number16(self.octets.as_slice(), 0))),
-                Piece::Text(" in place of 10."),
+                Piece::Text(" in place of 10"),
             ])?,
         }
         if self.number == 1 {
             return Ok(());
         }
         story.sentence(&[
-            Piece::Text(
-                "Messages that stand before it in order: ",
-            ),
+            Piece::Text("messages before it: "),
             Piece::Number(self.number.saturating_sub(1)),
-            Piece::Text(". Either the length of the last one is wrong, or other octets stand between."),
+            Piece::Text(
+                "; either the last of them says a wrong length, or other octets stand between",
+            ),
         ])
     }
 
@@ -171,20 +178,22 @@ impl Reading {
         let there = self.octets.len();
         if there < HEADER {
             return story.sentence(&[
-                Piece::Text("The stream ends before the 16 octets of its header do; octets there: "),
+                Piece::Text(
+                    "the stream ends before the 16 octets of its header do; octets there are ",
+                ),
                 Piece::Number(there as u64),
             ]);
         }
         let length = number16(self.octets.as_slice(), 2);
         story.tell(&[
-            Piece::Text("Its header says the length "),
+            Piece::Text("its header says length "),
             Piece::Number(u64::from(length)),
         ])?;
         if usize::from(length) < HEADER {
             return story.sentence(&[Piece::Text(", which is below the 16 of the header itself")]);
         }
         story.sentence(&[
-            Piece::Text(", and the stream ends before; octets there: "),
+            Piece::Text(", and the stream ends before; octets there are "),
             Piece::Number(there as u64),
         ])
     }

@@ -77,7 +77,9 @@ impl Templates {
 
     /// The template that stands for records of this id in this domain.
     pub(crate) fn live(&self, domain: u32, id: u16) -> Option<&Declared> {
-        self.items.iter().find(|declared| declared.is_live(domain, id))
+        self.items
+            .iter()
+            .find(|declared| declared.is_live(domain, id))
     }
 
     /// Keeps a template, unless it is declared already.
