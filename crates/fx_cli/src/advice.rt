@@ -28,6 +28,10 @@ const OPTIONS: [(&str, &str); 6] = [
     ("--version", "Write `once --version` alone."),
 ];
 
+/// What to do about the number behind --limit.
+const LIMIT: &str =
+    "Write --limit once, with a whole number from 1 to 1000000 behind it, as in --limit 20000.";
+
 /// What to do about an option that isn't there.
 const NO_OPTION: &str =
     "There is no such option. --words goes with each command, --progress with audit, collect and run, --limit with audit \
@@ -72,8 +76,11 @@ fn option_advice(word: &str) -> Option<&'static str> {
 
 /// What to do about a word that the command doesn't take.
 fn unknown_word_advice(word: &str) -> &'static str {
-    if !word.starts_with("-") {
+    let Some(behind) = word.strip_prefix("-") else {
         return "Leave it out: the usage line has all that the command takes, in this order.";
+    };
+    if behind.parse::<u64>().is_ok() {
+        return LIMIT;
     }
     option_advice(word).unwrap_or(NO_OPTION)
 }

@@ -7,6 +7,7 @@ ghost use Rattle.fx_stories.specs.Stories.{IsUntold, WritesStory};
 use crate::again::{Documents, documents_again};
 use crate::lines::{next_line, tell_line, tell_line_numbered, unless_wrong};
 use crate::packets::{tell_fields, tell_named_class};
+use crate::refutations::tell_unconfirmed;
 use crate::steps::tell_step;
 use crate::story::{Piece, Story};
 use fx_base::{
@@ -206,6 +207,28 @@ fn tell_at_line<C: Source>(
     }
 }
 
+/// What is to be told of the refusal of a run or of a refutation at no place.
+fn tell_whole<C: Source>(
+    alloc: Global,
+    story: &mut Story,
+    network: &[u8],
+    traffic: &[u8],
+    lines: &mut LineReader<C>,
+    fault: u16,
+) -> Result<(), Fault>
+    ensures { IfErr result IsUntold }
+{
+    match fault {
+        refusals::STEP_NOT_ENABLED | refusals::WRONG_CHOICES | refusals::NO_RECORD_THERE => {
+            tell_refused_step(alloc, story, network, traffic, lines)
+        }
+        refusals::RUN_NOT_COMPLETE | refusals::TOTALS_AGREE => {
+            tell_unconfirmed(alloc, story, network, traffic, lines, fault)
+        }
+        _ => Ok(()),
+    }
+}
+
 /// What is to be told of the refusal of a run.
 fn story_of<C: Source>(
     alloc: Global,
@@ -227,8 +250,8 @@ fn story_of<C: Source>(
             fault.number,
             *number,
         )?;
-    } else if (refusals::STEP_NOT_ENABLED..=refusals::NO_RECORD_THERE).contains(&fault.number) {
-        tell_refused_step(alloc, &mut story, network, traffic, lines)?;
+    } else {
+        tell_whole(alloc, &mut story, network, traffic, lines, fault.number)?;
     }
     Ok(story)
 }
@@ -236,7 +259,8 @@ fn story_of<C: Source>(
 /// Writes in sentences what a refusal of a run or of a refutation is about. A refusal at a line: that line, at most 200
 /// octets of it; of a refutation's step that can't be made what it names, and of a packet that isn't in its class its
 /// number in the run, its fields and which of them lie outside of the class's region. One of 851 to 853: the line of the
-/// first step of the run that is refused, with its number, and what it names. The documents are those over which the run was refused, the lines those of its text, opened anew. What can't
+/// first step of the run that is refused, with its number, and what it names. One of 504 and 505: the refutation's run,
+/// and of one that isn't complete what it leaves undone. The documents are those over which the run was refused, the lines those of its text, opened anew. What can't
 /// be told is left out. The text has no control characters but line feeds.
 ///
 /// Fails with 900 for want of memory; with 901 where a read fails, or the reader hasn't ended after 4,294,967,296 calls;
