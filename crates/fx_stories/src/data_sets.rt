@@ -227,7 +227,7 @@ fn tell_records(
             return Ok(false);
         }
         let record = DataThere {
-            message,
+            message: &*message,
             number: passed as u64 + 1,
             place: set.end().saturating_sub(rest.len()),
         };

@@ -130,7 +130,8 @@ fn tell_line_packet(
     version: TextVersion,
     line: &Line<'_>,
 ) -> Result<(), AllocError> {
-    let Some(RunLine::Packet(packet)) = read_run_line(alloc, version, line.bytes)? else {
+    let read = read_run_line(alloc, version, line.bytes)?;
+    let Some(RunLine::Packet(packet)) = &read else {
         return Ok(());
     };
     // The first line is the form's.

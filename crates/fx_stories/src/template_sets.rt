@@ -307,7 +307,7 @@ pub(crate) fn take_templates(
             return Ok(false);
         }
         let record = RecordThere {
-            message,
+            message: &*message,
             kind,
             place: set.end().saturating_sub(rest.len()),
         };
