@@ -22,6 +22,25 @@ pub(crate) fn open_again<R: Files>(rt: &R, path: &str) -> Option<Outside<R::File
     }
 }
 
+/// The text in a file that was read, once more.
+fn file_again<'a, R: Files>(rt: &R, path: &str) -> Option<TextAgain<'a, R::File>> {
+    if path == NOTHING {
+        return Some(TextAgain::of_octets(b""));
+    }
+    match open_again(rt, path) {
+        Some(file) => Some(TextAgain::of_file(file)),
+        None => None,
+    }
+}
+
+/// A text that was read, once more.
+fn text_again<'a, R: Files>(rt: &R, lines: LinesAt<'a>) -> Option<TextAgain<'a, R::File>> {
+    match lines {
+        LinesAt::Octets(octets) => Some(TextAgain::of_octets(octets)),
+        LinesAt::File(path) => file_again(rt, path),
+    }
+}
+
 /// The lines of a text that was read, once more. None where it can't be read once more.
 ///
 /// Fails with 900 for want of memory.
@@ -29,12 +48,7 @@ pub(crate) fn lines_again<'a, R: AllocGlobal + Files>(
     rt: &R,
     lines: LinesAt<'a>,
 ) -> Result<Option<LineReader<TextAgain<'a, R::File>>>, Fault> {
-    let text = match lines {
-        LinesAt::File(NOTHING) => Some(TextAgain::of_octets(b"")),
-        LinesAt::Octets(octets) => Some(TextAgain::of_octets(octets)),
-        LinesAt::File(path) => open_again(rt, path).map(TextAgain::of_file),
-    };
-    match text {
+    match text_again(rt, lines) {
         Some(text) => Ok(Some(LineReader::new(rt.alloc(), text)?)),
         None => Ok(None),
     }
