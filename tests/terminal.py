@@ -1,15 +1,69 @@
 #!/usr/bin/env python3
-"""terminal.py PROGRAM: runs the program without words on a terminal, where it must print its help and not wait.
+"""terminal.py PROGRAM: runs the program as a person does who is new to it.
 
-Prints last `N passed, M failed`. The exit status is 1 where something failed.
+Without words on a terminal it must print its help and not wait. With words that don't parse it must end with status 6,
+and tell last what to do (`ADVICE`), without the tip that an option is a file's name. With `--words` it must not wait for
+a pipe that it has read to its end.
+
+Prints a line for each fault, and last `N passed, M failed`. The exit status is 1 where something failed.
 """
 import os
 import pty
+import shlex
 import subprocess
 import sys
+import tempfile
+import threading
+
+import rows
+from verdict import told
+
+WORDS = "Write --words once; it goes with each command, in front of it or behind its files."
+PROGRESS = "Write --progress once; it goes with audit, collect and run."
+LIMIT = "--limit goes with audit alone, behind that word: `once audit NETWORK TRAFFIC --limit N`."
+LINKS = "--links goes with run alone, behind that word: `once run NETWORK TRAFFIC CAPTURE SCHEDULE --links PREFIX`."
+NUMBER = "Write --limit once, with a whole number from 1 to 1000000 behind it, as in --limit 20000."
+OPTION = (
+    "There is no such option. --words goes with each command, --progress with audit, collect and run, --limit with audit "
+    "and --links with run. A file whose name begins with - is named behind --, as in `once lint -- -file`."
+)
+COMMAND = "The first word is a command: `once help` lists them."
+MISSING = "Write what is missing, in the order of the usage line; `once help COMMAND` tells what each is."
+
+# Words that don't parse, with what is told to be done about them.
+ADVICE = {
+    "--words --words check n t c": WORDS,
+    "check n t c --words --words": WORDS,
+    "--word check n t c": WORDS,
+    "check n t c --wrods": WORDS,
+    "check n t c --Word": WORDS,
+    "words check n t c": WORDS,
+    "audit n t --progress --progress": PROGRESS,
+    "collect n s --progres": PROGRESS,
+    "audit n t --limit many": NUMBER,
+    "audit n t --limit 0": NUMBER,
+    "audit n t --limit 1000001": NUMBER,
+    "audit n t --limit -5": NUMBER,
+    "audit n t --limit": NUMBER,
+    "audit n t --limit 5 --limit 6": NUMBER,
+    "audit n t --limt 5": LIMIT,
+    "check n t c --limit 5": LIMIT,
+    "--limit 5 audit n t": LIMIT,
+    "audit n t --links x": LINKS,
+    "check n t c --link x": LINKS,
+    "run n t c s --links": "Write --links once, with what the names of the links' files are to begin with behind it, as in --links link.",
+    "check -w n t c": OPTION,
+    "check n t c --quiet": OPTION,
+    "-v": OPTION,
+    "check n t c d": "Leave it out: the usage line has all that the command takes, in this order.",
+    "check n t": MISSING,
+    "explain": MISSING,
+    "chek n t c": COMMAND,
+    "help audits": COMMAND,
+}
 
 
-def faults(program):
+def faults_on_terminal(program):
     own, other = pty.openpty()
     try:
         wanted = subprocess.run([program, "--help"], stdout=subprocess.PIPE, timeout=60)
@@ -26,15 +80,54 @@ def faults(program):
         yield "printed %r in place of its help" % run.stdout[:200]
 
 
-def main(program):
-    found = list(faults(program))
-    for fault in found:
-        print(fault)
-    print("%d passed, %d failed" % (not found, bool(found)))
-    return 1 if found else 0
+def faults_of_words(program, words, advice):
+    run = subprocess.run(
+        [program, *shlex.split(words)], stdin=subprocess.DEVNULL, stdout=subprocess.PIPE, stderr=subprocess.PIPE, timeout=60
+    )
+    printed = run.stdout.decode()
+    if run.returncode != 6 or run.stderr:
+        yield "status %d, and %r on standard error" % (run.returncode, run.stderr[:200])
+    if not printed.startswith("error: ") or not printed.endswith("\n\nwhat to do: %s\n" % advice):
+        yield "printed %r, which doesn't end in %r" % (printed, advice)
+    if "to pass '" in printed or "\n\n\n" in printed:
+        yield "printed a tip that is none: %r" % printed
+
+
+def faults_of_pipe(program):
+    row = os.path.join(rows.ROWS, "certificate-of-another-selection-process")
+    words = shlex.split(rows.octets_of(row, "words").decode())
+    with tempfile.TemporaryDirectory() as folder:
+        pipe = os.path.join(folder, "pipe")
+        os.mkfifo(pipe)
+        with open(os.path.join(row, words[-1]), "rb") as file:
+            feeder = threading.Thread(target=feed, args=(pipe, file.read()), daemon=True)
+        feeder.start()
+        try:
+            run = subprocess.run([program, "--words", *words[:-1], pipe], cwd=row, stdout=subprocess.PIPE, timeout=60)
+        except subprocess.TimeoutExpired:
+            yield "it waits for the pipe once more"
+            return
+    wanted = rows.octets_of(row, "stdout") + (
+        "%s can't be read once more, as a file can, so what stands there isn't told. Write it to a file first, and name that.\n"
+        "what to do: `once explain NUMBER` tells what the number behind `no` means.\n" % pipe
+    ).encode()
+    if run.stdout != wanted:
+        yield "printed %r in place of %r" % (run.stdout, wanted)
+
+
+def feed(pipe, octets):
+    with open(pipe, "wb") as file:
+        file.write(octets)
+
+
+def cases(program):
+    yield "terminal", faults_on_terminal(program)
+    for words, advice in ADVICE.items():
+        yield words, faults_of_words(program, words, advice)
+    yield "pipe", faults_of_pipe(program)
 
 
 if __name__ == "__main__":
     if len(sys.argv) != 2:
         sys.exit(__doc__)
-    sys.exit(main(os.path.abspath(sys.argv[1])))
+    sys.exit(told(cases(os.path.abspath(sys.argv[1]))))

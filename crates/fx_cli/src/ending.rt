@@ -7,7 +7,7 @@ use fx_audit::Answer;
 use fx_base::{Fault, Sink, put_fault, put_number, put_text, refusals};
 
 /// The exit status of a write that failed.
-const WRITE_FAILED: u8 = 5;
+pub(crate) const WRITE_FAILED: u8 = 5;
 
 /// Writes the line of a refusal.
 fn put_refusal<S: Sink>(sink: &mut S, fault: &Fault) -> Result<(), Fault>
@@ -41,6 +41,18 @@ fn status_of_refusal(fault: &Fault) -> u8
     }
 }
 
+/// The exit status of an answer.
+fn status_of_answer(answer: Answer) -> u8
+    ensures status { result ≡ status (Ok answer) }
+    ensures exit { IsExitStatus result }
+{
+    match answer {
+        Answer::Yes => 0,
+        Answer::No => 1,
+        Answer::Unknown => 3,
+    }
+}
+
 /// Ends a command: writes the line of a refusal, and gives the program's exit status. An answer's text has been
 /// written before.
 ///
@@ -54,25 +66,11 @@ pub fn finish<S: Sink>(outcome: &Result<Answer, Fault>, sink: &mut S) -> u8
     ensures exit { IsExitStatus result }
 {
     match outcome {
-        Ok(Answer::Yes) => 0,
-        Ok(Answer::No) => 1,
-        Ok(Answer::Unknown) => 3,
+        Ok(answer) => status_of_answer(*answer),
         Err(fault) => match put_refusal(sink, fault) {
             Ok(()) => status_of_refusal(fault),
             Err(_) => WRITE_FAILED,
         },
-    }
-}
-
-/// The exit status of an answer.
-fn status_of_answer(answer: Answer) -> u8
-    ensures status { result ≡ status (Ok answer) }
-    ensures exit { IsExitStatus result }
-{
-    match answer {
-        Answer::Yes => 0,
-        Answer::No => 1,
-        Answer::Unknown => 3,
     }
 }
 

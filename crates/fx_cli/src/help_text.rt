@@ -19,7 +19,8 @@ NETWORK is a JSON document of devices, links and the report, TRAFFIC one of the 
 With no words, a bundle (a command and its files in one text) is read from standard input: a line `audit`, `check`,
 `confirm` or `replay`, then its texts in their order, each followed by a line `%%`.
 
---words, with any command: behind the answer, sentences that tell what it means and what to do.
+--words, with any command or a bundle: behind the answer, sentences that tell what it means and what to do. Of `explain`
+they are none, but where it has no such number.
 --progress, with audit, collect and run: how far it has come, on standard error, at most once a second.
 
 Exit status:
@@ -82,7 +83,8 @@ Prints `refuted` (status 0), then behind the line `run` what the collector count
 `plain` what it should; or `no NUMBER PLACE` (status 1), 501 to 505. A document that is refused: `refused NUMBER PLACE`
 (status 2).
 
---words tells the run step by step, by name.";
+--words tells the run step by step, by name: where the packet is metered, or which observation points pass it over and
+why.";
 
 /// Behind the help of `replay`.
 pub const REPLAY: &str = "\
@@ -116,6 +118,8 @@ Prints the totals (status 0): `keys N`, a line for each key, `unassigned N`, `ga
 isn't the next one), `skipped N` (records without both counters). A stream that is refused: `refused NUMBER octet N`
 (status 2), 611 to 620, at the first octet of the message. Counters must have 8 octets (618).
 
+--words tells of a refused message which it is and what stands there: its set, template, field or record. For that the
+stream is read once more, which a pipe can't be.
 --progress tells on standard error, at most once a second, how many octets of the stream were read.";
 
 /// Behind the help of `run`.
@@ -136,6 +140,8 @@ Prints the totals (status 0): `keys N`, a line for each key, `unassigned N`, `sk
 are no packets). With --links the IPFIX octets of link 1 go to the file PREFIX1, and so on. A text that is refused:
 `refused NUMBER PLACE` (status 2), 701 to 704 of the capture, 801 to 804 of the schedule.
 
+--words tells of a refused line what it is about: of 803 and 804 which packet, and which of its fields lie outside of
+which class.
 --progress tells on standard error, at most once a second, how many octets of the capture were read.";
 
 /// Behind the help of `lint`.

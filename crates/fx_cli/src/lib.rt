@@ -1,6 +1,9 @@
 //! The program's words, files and statuses.
 #![tactic(auto)]
 
+mod advice;
+mod asked;
+mod bundles;
 mod commands;
 mod drawing;
 mod ending;
@@ -11,9 +14,11 @@ mod kept;
 mod link_files;
 mod notes;
 mod progress;
+mod reading_again;
 mod running;
 mod seeds;
 mod telling;
+mod text_again;
 mod word_flag;
 mod words;
 mod words_ending;

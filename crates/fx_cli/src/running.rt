@@ -10,7 +10,7 @@ ghost use Rattle.fx_cli.specs.WordsEnding.{IsWordsStatus};
 ghost use Rattle.fx_base.specs.Device.{KeepsGoing};
 
 use crate::commands::answer_call;
-use crate::ending::{finish, finish_with};
+use crate::ending::{WRITE_FAILED, finish, finish_with};
 use crate::notes::Notes;
 use crate::seeds::seed_at_random;
 use crate::telling::words_of;
@@ -24,9 +24,6 @@ use std::io::{self, BufWriter};
 use std::random::RandomSource;
 use std::rt::{Clock, Env, Files};
 use std::{env, mem};
-
-/// The exit status of a write that failed.
-const WRITE_FAILED: u8 = 5;
 
 /// Answers the bundle on standard input.
 fn answer_input<R: AllocGlobal + Input + RandomSource, S: Sink>(

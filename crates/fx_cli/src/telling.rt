@@ -1,18 +1,19 @@
 //! The words behind an answer: what it is about, by name, and for a refusal what is wrong and what to do.
 
-use crate::files::open;
+use crate::asked::{Asked, LinesAt, Question, documents_of, question_of};
+use crate::bundles::put_bundle_words;
 use crate::notes::Notes;
-use crate::seeds::seed_at_random;
+use crate::reading_again::{lines_again, open_again, put_lines_not_again, put_not_again};
 use crate::words::Call;
-use fx_audit::{Answer, audit_bytes, bundle_bytes, check_bytes, confirm_bytes};
+use fx_audit::{Answer, audit_bytes, check_bytes, confirm_bytes};
 use fx_base::{Fault, LineReader, Octets, Outside, Sink, put_text, refusals};
 use fx_search::Unwatched;
 use fx_stories::{
     put_certificate_words, put_document_words, put_lint_words, put_refutation_story, put_run_words,
+    put_schedule_words, put_stream_words,
 };
 use fx_words::put_reason;
 use std::alloc::Global;
-use std::random::RandomSource;
 use std::rt::Files;
 
 /// What a certificate shows.
@@ -24,6 +25,10 @@ none of those of exempt classes.\n";
 const TO_MEND: &[u8] =
     b"what to do: Change what a step names, as a point, a filter, a link or an export mode, so that \
 one record of each packet comes to the report, and audit again.\n";
+
+/// What to do about an answer of no whose text can't be read once more.
+const TO_LOOK_UP: &[u8] =
+    b"what to do: `once explain NUMBER` tells what the number behind `no` means.\n";
 
 /// What stands in the text of a replay.
 const REPLAYED: &[u8] =
@@ -37,13 +42,19 @@ const COLLECTED: &[u8] =
 report's key. gaps: messages whose sequence number isn't the next one, so that records were lost before them. skipped: \
 records without both counters, which add nothing.\n";
 
+/// What stands in the text of a sum.
+const SUMMED: &[u8] =
+    b"keys: how many keys of the report have totals, a line each, with the sums over all texts. unassigned: records \
+without the report's key. Then what the texts noted, added up: complete, where all that say so are; skipped frames; gaps \
+and skipped records.\n";
+
 /// What stands in the text of a run.
 const METERED: &[u8] =
     b"keys: how many keys of the report have totals, a line each. unassigned: records without the \
 report's key. skipped: frames that are no packets of IP (other), or that end before their header does (malformed).\n";
 
 /// The words behind an answer or a refusal. Where there is no memory for them, there are none.
-pub(crate) fn words_of<R: AllocGlobal + Files + RandomSource>(
+pub(crate) fn words_of<R: AllocGlobal + Files>(
     rt: &R,
     call: Option<&Call>,
     notes: &Notes,
@@ -57,228 +68,246 @@ pub(crate) fn words_of<R: AllocGlobal + Files + RandomSource>(
 }
 
 /// Writes the words behind an answer or a refusal.
-fn put_words<R: AllocGlobal + Files + RandomSource, S: Sink>(
+fn put_words<R: AllocGlobal + Files, S: Sink>(
     rt: &R,
     call: Option<&Call>,
     notes: &Notes,
     outcome: &Result<Answer, Fault>,
     sink: &mut S,
 ) -> Result<(), Fault> {
+    let question = question_of(call, notes);
     match outcome {
-        Ok(Answer::Yes) => put_yes_words(rt, call, notes, sink),
-        Ok(Answer::No) => put_no_words(rt, call, notes, sink),
-        Ok(Answer::Unknown) => put_reason(sink, refusals::SEARCH_TOO_LARGE),
+        Ok(answer) => match &question {
+            Some(question) => put_answer_words(rt, question, *answer, sink),
+            None => Ok(()),
+        },
         Err(fault) => {
             put_file_words(call, notes, fault, sink)?;
-            put_refused_words(rt, call, notes, fault, sink)?;
+            match &question {
+                Some(question) => put_refused_words(rt, question, fault, sink)?,
+                None => put_no_bundle_words(notes, fault, sink)?,
+            }
             put_reason(sink, fault.number)
         }
     }
 }
 
-/// Writes what an answer of yes says.
-fn put_yes_words<R: AllocGlobal + Files + RandomSource, S: Sink>(
-    rt: &R,
-    call: Option<&Call>,
-    notes: &Notes,
-    sink: &mut S,
-) -> Result<(), Fault> {
-    match call {
-        Some(Call::Check { .. } | Call::Audit { .. }) => {
-            put_text(sink, COUNTED_ONCE)?;
-            put_silent_words(rt.alloc(), notes, sink)
-        }
-        Some(Call::Confirm { refutation, .. }) => put_story(rt, refutation.as_str(), notes, sink),
-        Some(Call::Lint { .. }) => put_silent_words(rt.alloc(), notes, sink),
-        Some(call) => put_text(sink, totals_words(call)),
-        None => Ok(()),
+/// Writes why what standard input has is no bundle.
+fn put_no_bundle_words<S: Sink>(notes: &Notes, fault: &Fault, sink: &mut S) -> Result<(), Fault> {
+    match (fault.number, notes.bundle.octets()) {
+        (refusals::SCHEDULE_OR_BUNDLE, Some(octets)) => put_bundle_words(octets, sink),
+        _ => Ok(()),
     }
 }
 
-/// What the lines of a call's totals mean.
-fn totals_words(call: &Call) -> &'static [u8] {
-    match call {
-        Call::Replay { .. } => REPLAYED,
-        Call::Collect { .. } => COLLECTED,
-        Call::Run { .. } => METERED,
-        _ => b"",
+/// Writes the words behind an answer.
+fn put_answer_words<R: AllocGlobal + Files, S: Sink>(
+    rt: &R,
+    question: &Question<'_>,
+    answer: Answer,
+    sink: &mut S,
+) -> Result<(), Fault> {
+    match answer {
+        Answer::Yes => put_yes_words(rt, question, sink),
+        Answer::No => put_no_words(rt, question, sink),
+        Answer::Unknown => put_reason(sink, refusals::SEARCH_TOO_LARGE),
+    }
+}
+
+/// Writes what an answer of yes says.
+fn put_yes_words<R: AllocGlobal + Files, S: Sink>(
+    rt: &R,
+    question: &Question<'_>,
+    sink: &mut S,
+) -> Result<(), Fault> {
+    match question.asked {
+        Asked::Check(_) | Asked::Audit(_) => {
+            put_text(sink, COUNTED_ONCE)?;
+            put_silent_words(rt.alloc(), question, sink)
+        }
+        Asked::Confirm(lines) => put_story(rt, lines, question, sink),
+        Asked::Lint => put_silent_words(rt.alloc(), question, sink),
+        Asked::Replay(_) => put_text(sink, REPLAYED),
+        Asked::Collect(_) => put_text(sink, COLLECTED),
+        Asked::Run { .. } => put_text(sink, METERED),
+        Asked::Sum => put_text(sink, SUMMED),
+        // Behind a graph words would be no part of it.
+        Asked::Draw(_) | Asked::Explain => Ok(()),
     }
 }
 
 /// Writes what is read in silence in the documents.
-fn put_silent_words<S: Sink>(alloc: Global, notes: &Notes, sink: &mut S) -> Result<(), Fault> {
-    match notes.network.octets() {
-        Some(network) => put_lint_words(alloc, network, notes.traffic.octets(), sink),
+fn put_silent_words<S: Sink>(
+    alloc: Global,
+    question: &Question<'_>,
+    sink: &mut S,
+) -> Result<(), Fault> {
+    let network = question.network.and_then(|network| network.octets);
+    let traffic = question.traffic.and_then(|traffic| traffic.octets);
+    match network {
+        Some(network) => put_lint_words(alloc, network, traffic, sink),
         None => Ok(()),
     }
 }
 
 /// Writes what an answer of no says: a refutation's run, or what is wrong with a certificate or a refutation.
-fn put_no_words<R: AllocGlobal + Files + RandomSource, S: Sink>(
+fn put_no_words<R: AllocGlobal + Files, S: Sink>(
     rt: &R,
-    call: Option<&Call>,
-    notes: &Notes,
+    question: &Question<'_>,
     sink: &mut S,
 ) -> Result<(), Fault> {
-    if let Some(Call::Explain { .. }) = call {
-        return put_text(sink, b"`once explain all` lists the numbers.\n");
-    }
-    let Ok(text) = answer_again(rt, call, notes) else {
-        return Ok(());
-    };
-    if let Some(Call::Audit { .. }) = call {
-        put_found_story(rt, notes, text.as_slice(), sink)?;
-        return put_text(sink, TO_MEND);
-    }
-    let Some(fault) = refusal_said(text.as_slice()) else {
-        return Ok(());
-    };
-    match call {
-        Some(Call::Check { certificate, .. }) => {
-            put_line_words(rt, certificate.as_str(), notes, &fault, sink)?
-        }
-        Some(Call::Confirm { refutation, .. }) => {
-            put_step_words(rt, refutation.as_str(), notes, &fault, sink)?
-        }
-        _ => {}
-    }
-    put_reason(sink, fault.number)
-}
-
-/// The text of an answer that has been given, worked out once more of what was kept.
-fn answer_again<R: AllocGlobal + Files + RandomSource>(
-    rt: &R,
-    call: Option<&Call>,
-    notes: &Notes,
-) -> Result<Vec<u8>, Fault> {
-    let mut text = Outside::new(Vec::new(rt.alloc()));
-    let mut network = Octets::new(notes.network.octets().unwrap_or(b""));
-    let mut traffic = Octets::new(notes.traffic.octets().unwrap_or(b""));
-    match call {
-        Some(Call::Check { certificate, .. }) => {
-            let mut lines = lines_anew(rt, certificate.as_str())?;
-            check_bytes(
-                rt.alloc(),
-                &mut network,
-                &mut traffic,
-                &mut lines,
-                &mut text,
-            )?;
-        }
-        Some(Call::Confirm { refutation, .. }) => {
-            let mut lines = lines_anew(rt, refutation.as_str())?;
-            confirm_bytes(
-                rt.alloc(),
-                &mut network,
-                &mut traffic,
-                &mut lines,
-                &mut text,
-            )?;
-        }
-        Some(Call::Audit { limit, .. }) => {
-            audit_bytes(
-                rt.alloc(),
-                &mut network,
-                &mut traffic,
-                *limit,
-                &mut Unwatched,
-                &mut text,
-            )?;
-        }
-        Some(_) => {}
-        None => {
-            let seed = seed_at_random(rt)?;
-            let mut bundle = Octets::new(notes.bundle.octets().unwrap_or(b""));
-            bundle_bytes(rt.alloc(), seed, &mut bundle, &mut text)?;
-        }
-    }
-    Ok(text.into_inner())
-}
-
-/// Writes what a refusal is about: a place of a document, or a step of a run.
-fn put_refused_words<R: AllocGlobal + Files + RandomSource, S: Sink>(
-    rt: &R,
-    call: Option<&Call>,
-    notes: &Notes,
-    fault: &Fault,
-    sink: &mut S,
-) -> Result<(), Fault> {
-    // A line that is too long can't be told.
-    if fault.number == refusals::LONG_LINE {
-        return Ok(());
-    }
-    if fault.number < refusals::CERTIFICATE_FIRST {
-        return put_document_place(rt, call, notes, fault, sink);
-    }
-    match call {
-        Some(Call::Replay { run, .. }) => put_step_words(rt, run.as_str(), notes, fault, sink),
-        Some(Call::Run { schedule, .. }) => {
-            put_step_words(rt, schedule.as_str(), notes, fault, sink)
-        }
+    match question.asked {
+        Asked::Explain => put_text(sink, b"`once explain all` lists the numbers.\n"),
+        Asked::Audit(limit) => put_found_story(rt.alloc(), limit, question, sink),
+        Asked::Check(lines) => put_denied_certificate(rt, lines, question, sink),
+        Asked::Confirm(lines) => put_denied_refutation(rt, lines, question, sink),
         _ => Ok(()),
     }
 }
 
-/// Writes which document a refusal is about, and what stands there.
-fn put_document_place<R: AllocGlobal, S: Sink>(
+/// The octets of both documents; those of one that wasn't read are none.
+fn both_octets<'a>(question: &Question<'a>) -> (Octets<'a>, Octets<'a>) {
+    let (network, traffic) = question.both().unwrap_or((b"", b""));
+    (Octets::new(network), Octets::new(traffic))
+}
+
+/// Writes the story of the refutation that an audit has found, which is searched for once more.
+fn put_found_story<S: Sink>(
+    alloc: Global,
+    limit: u64,
+    question: &Question<'_>,
+    sink: &mut S,
+) -> Result<(), Fault> {
+    let mut text = Outside::new(Vec::new(alloc));
+    let (mut network, mut traffic) = both_octets(question);
+    audit_bytes(
+        alloc,
+        &mut network,
+        &mut traffic,
+        limit,
+        &mut Unwatched,
+        &mut text,
+    )?;
+    if let Some((network, traffic)) = question.both() {
+        let found = text.into_inner();
+        let mut lines = LineReader::new(alloc, Octets::new(found.as_slice()))?;
+        put_refutation_story(alloc, network, traffic, &mut lines, sink)?;
+    }
+    put_text(sink, TO_MEND)
+}
+
+/// Writes what is wrong with a certificate that was denied: it is checked once more.
+fn put_denied_certificate<R: AllocGlobal + Files, S: Sink>(
     rt: &R,
-    call: Option<&Call>,
-    notes: &Notes,
+    certificate: LinesAt<'_>,
+    question: &Question<'_>,
+    sink: &mut S,
+) -> Result<(), Fault> {
+    let Some(mut lines) = lines_again(rt, certificate)? else {
+        put_lines_not_again(certificate, sink)?;
+        return put_text(sink, TO_LOOK_UP);
+    };
+    let mut text = Outside::new(Vec::new(rt.alloc()));
+    let (mut network, mut traffic) = both_octets(question);
+    check_bytes(
+        rt.alloc(),
+        &mut network,
+        &mut traffic,
+        &mut lines,
+        &mut text,
+    )?;
+    let Some(fault) = refusal_said(text.into_inner().as_slice()) else {
+        return Ok(());
+    };
+    put_line_words(rt, certificate, question, &fault, sink)?;
+    put_reason(sink, fault.number)
+}
+
+/// Writes what is wrong with a refutation that was denied: it is confirmed once more.
+fn put_denied_refutation<R: AllocGlobal + Files, S: Sink>(
+    rt: &R,
+    refutation: LinesAt<'_>,
+    question: &Question<'_>,
+    sink: &mut S,
+) -> Result<(), Fault> {
+    let Some(mut lines) = lines_again(rt, refutation)? else {
+        put_lines_not_again(refutation, sink)?;
+        return put_text(sink, TO_LOOK_UP);
+    };
+    let mut text = Outside::new(Vec::new(rt.alloc()));
+    let (mut network, mut traffic) = both_octets(question);
+    confirm_bytes(
+        rt.alloc(),
+        &mut network,
+        &mut traffic,
+        &mut lines,
+        &mut text,
+    )?;
+    let Some(fault) = refusal_said(text.into_inner().as_slice()) else {
+        return Ok(());
+    };
+    put_step_words(rt, refutation, question, &fault, sink)?;
+    put_reason(sink, fault.number)
+}
+
+/// Writes what a refusal is about: a place of a document, a line or a step of a text, or what stands in a stream.
+fn put_refused_words<R: AllocGlobal + Files, S: Sink>(
+    rt: &R,
+    question: &Question<'_>,
     fault: &Fault,
     sink: &mut S,
 ) -> Result<(), Fault> {
-    let Some((network_name, traffic_name)) = call.and_then(documents_of) else {
+    // A line that is too long can't be told, and a failed read is no place.
+    if fault.number >= refusals::WANT_OF_MEMORY {
         return Ok(());
-    };
-    let Some(network) = notes.network.octets() else {
-        return Ok(());
-    };
-    let traffic = match (traffic_name, notes.traffic.octets()) {
-        (Some(name), Some(octets)) => Some((name, octets)),
-        _ => None,
-    };
-    put_document_words(rt.alloc(), network_name, network, traffic, fault, sink)
+    }
+    if fault.number < refusals::CERTIFICATE_FIRST {
+        return put_document_place(rt.alloc(), question, fault, sink);
+    }
+    match question.asked {
+        Asked::Replay(run) => put_step_words(rt, run, question, fault, sink),
+        Asked::Run { capture, schedule } => {
+            put_metering_words(rt, capture, schedule, question, fault, sink)
+        }
+        Asked::Collect(stream) => put_message_words(rt, stream, fault, sink),
+        Asked::Draw(Some(answer)) => put_undrawn_words(rt, answer, question, fault, sink),
+        _ => Ok(()),
+    }
 }
 
-/// The names of a call's documents: the network's, and the traffic's where it has one.
-fn documents_of(call: &Call) -> Option<(&str, Option<&str>)> {
-    match call {
-        Call::Replay {
-            network,
-            traffic,
-            ..
-        }
-        | Call::Check {
-            network,
-            traffic,
-            ..
-        }
-        | Call::Confirm {
-            network,
-            traffic,
-            ..
-        }
-        | Call::Audit {
-            network,
-            traffic,
-            ..
-        }
-        | Call::Run {
-            network,
-            traffic,
-            ..
-        } => Some((network.as_str(), Some(traffic.as_str()))),
-        Call::Collect { network, .. } | Call::Sum { network, .. } => {
-            Some((network.as_str(), None))
-        }
-        Call::Lint { network, traffic } => Some((network.as_str(), traffic.as_deref())),
-        Call::Draw {
-            network,
-            traffic,
-            ..
-        } => Some((network.as_str(), traffic.as_deref())),
-        Call::Explain { .. } => None,
+/// Writes what is wrong with the text of an answer that isn't drawn: the line of a certificate, or the step of a
+/// refutation.
+fn put_undrawn_words<R: AllocGlobal + Files, S: Sink>(
+    rt: &R,
+    answer: LinesAt<'_>,
+    question: &Question<'_>,
+    fault: &Fault,
+    sink: &mut S,
+) -> Result<(), Fault> {
+    if fault.number < refusals::REFUTATION_FIRST {
+        return put_line_words(rt, answer, question, fault, sink);
     }
+    put_step_words(rt, answer, question, fault, sink)
+}
+
+/// Writes which document a refusal is about, and what stands there.
+fn put_document_place<S: Sink>(
+    alloc: Global,
+    question: &Question<'_>,
+    fault: &Fault,
+    sink: &mut S,
+) -> Result<(), Fault> {
+    let Some(network) = question.network else {
+        return Ok(());
+    };
+    let Some(octets) = network.octets else {
+        return Ok(());
+    };
+    let traffic = match question.traffic {
+        Some(traffic) => traffic.octets.map(|octets| (traffic.name, octets)),
+        None => None,
+    };
+    put_document_words(alloc, network.name, octets, traffic, fault, sink)
 }
 
 /// Writes which file couldn't be opened, read, made or written, or has too long a line, and why it couldn't be opened or
@@ -329,84 +358,124 @@ fn file_of_lines(call: &Call) -> Option<&str> {
         Call::Check { certificate, .. } => Some(certificate.as_str()),
         Call::Confirm { refutation, .. } => Some(refutation.as_str()),
         Call::Run { schedule, .. } => Some(schedule.as_str()),
+        Call::Sum { totals, .. } => Some(totals.as_str()),
+        Call::Draw { answer, .. } => answer.as_deref(),
         _ => None,
     }
 }
 
-/// The lines of a file that is opened anew.
-fn lines_anew<R: AllocGlobal + Files + RandomSource>(
-    rt: &R,
-    path: &str,
-) -> Result<LineReader<Outside<R::File>>, Fault> {
-    let mut notes = Notes::new(rt.alloc(), false, false);
-    let file = open(rt, path, &mut notes)?;
-    Ok(LineReader::new(rt.alloc(), file)?)
-}
-
 /// Writes what the line of a certificate is about.
-fn put_line_words<R: AllocGlobal + Files + RandomSource, S: Sink>(
+fn put_line_words<R: AllocGlobal + Files, S: Sink>(
     rt: &R,
-    path: &str,
-    notes: &Notes,
+    certificate: LinesAt<'_>,
+    question: &Question<'_>,
     fault: &Fault,
     sink: &mut S,
 ) -> Result<(), Fault> {
-    let (Some(network), Some(traffic)) = (notes.network.octets(), notes.traffic.octets()) else {
+    let Some((network, traffic)) = question.both() else {
         return Ok(());
     };
-    match lines_anew(rt, path) {
-        Ok(mut lines) => {
+    match lines_again(rt, certificate)? {
+        Some(mut lines) => {
             put_certificate_words(rt.alloc(), network, traffic, &mut lines, fault, sink)
         }
-        Err(_) => Ok(()),
+        None => put_lines_not_again(certificate, sink),
     }
 }
 
 /// Writes what the step of a run, or of a refutation, is about.
-fn put_step_words<R: AllocGlobal + Files + RandomSource, S: Sink>(
+fn put_step_words<R: AllocGlobal + Files, S: Sink>(
     rt: &R,
-    path: &str,
-    notes: &Notes,
+    run: LinesAt<'_>,
+    question: &Question<'_>,
     fault: &Fault,
     sink: &mut S,
 ) -> Result<(), Fault> {
-    let (Some(network), Some(traffic)) = (notes.network.octets(), notes.traffic.octets()) else {
+    let Some((network, traffic)) = question.both() else {
         return Ok(());
     };
-    match lines_anew(rt, path) {
-        Ok(mut lines) => put_run_words(rt.alloc(), network, traffic, &mut lines, fault, sink),
-        Err(_) => Ok(()),
+    match lines_again(rt, run)? {
+        Some(mut lines) => put_run_words(rt.alloc(), network, traffic, &mut lines, fault, sink),
+        None => put_lines_not_again(run, sink),
     }
 }
 
-/// Writes the story of the refutation in a file.
-fn put_story<R: AllocGlobal + Files + RandomSource, S: Sink>(
+/// Writes what the refusal of a run over a capture is about: the line of its schedule, or the packet of the capture.
+fn put_metering_words<R: AllocGlobal + Files, S: Sink>(
     rt: &R,
-    path: &str,
-    notes: &Notes,
+    capture: &str,
+    schedule: &str,
+    question: &Question<'_>,
+    fault: &Fault,
     sink: &mut S,
 ) -> Result<(), Fault> {
-    let (Some(network), Some(traffic)) = (notes.network.octets(), notes.traffic.octets()) else {
-        return Ok(());
-    };
-    match lines_anew(rt, path) {
-        Ok(mut lines) => put_refutation_story(rt.alloc(), network, traffic, &mut lines, sink),
-        Err(_) => Ok(()),
+    let lines = LinesAt::File(schedule);
+    match fault.number {
+        refusals::NOT_IN_NAMED_CLASS | refusals::IN_NO_CLASS => {
+            put_packet_words(rt, capture, lines, question, fault, sink)
+        }
+        _ => put_step_words(rt, lines, question, fault, sink),
     }
 }
 
-/// Writes the story of the refutation that an audit has found.
-fn put_found_story<R: AllocGlobal, S: Sink>(
+/// Writes which packet of a capture isn't in its class, and why.
+fn put_packet_words<R: AllocGlobal + Files, S: Sink>(
     rt: &R,
-    notes: &Notes,
-    found: &[u8],
+    capture: &str,
+    schedule: LinesAt<'_>,
+    question: &Question<'_>,
+    fault: &Fault,
     sink: &mut S,
 ) -> Result<(), Fault> {
-    let (Some(network), Some(traffic)) = (notes.network.octets(), notes.traffic.octets()) else {
+    let Some((network, traffic)) = question.both() else {
         return Ok(());
     };
-    let mut lines = LineReader::new(rt.alloc(), Octets::new(found))?;
-    put_refutation_story(rt.alloc(), network, traffic, &mut lines, sink)
+    let Some(frames) = open_again(rt, capture) else {
+        return put_not_again(capture, sink);
+    };
+    match lines_again(rt, schedule)? {
+        Some(mut lines) => {
+            put_schedule_words(
+                rt.alloc(),
+                network,
+                traffic,
+                &mut lines,
+                frames,
+                fault,
+                sink,
+            )
+        }
+        None => put_lines_not_again(schedule, sink),
+    }
+}
+
+/// Writes which message of a stream is refused, and what stands there.
+fn put_message_words<R: AllocGlobal + Files, S: Sink>(
+    rt: &R,
+    stream: &str,
+    fault: &Fault,
+    sink: &mut S,
+) -> Result<(), Fault> {
+    match open_again(rt, stream) {
+        Some(mut file) => put_stream_words(rt.alloc(), &mut file, fault, sink),
+        None => put_not_again(stream, sink),
+    }
+}
+
+/// Writes the story of a refutation.
+fn put_story<R: AllocGlobal + Files, S: Sink>(
+    rt: &R,
+    refutation: LinesAt<'_>,
+    question: &Question<'_>,
+    sink: &mut S,
+) -> Result<(), Fault> {
+    let Some((network, traffic)) = question.both() else {
+        return Ok(());
+    };
+    match lines_again(rt, refutation)? {
+        Some(mut lines) => put_refutation_story(rt.alloc(), network, traffic, &mut lines, sink),
+        None => put_lines_not_again(refutation, sink),
+    }
 }
 
 /// The refusal that the line of an answer of no says: `no`, a number, and a line where there is one.

@@ -5,15 +5,13 @@ ghost use Rattle.fx_cli.specs.Ending.{EndsWith, IsExitStatus};
 ghost use Rattle.fx_cli.specs.WordsEnding.{memory_line, unread_status, unread_text, words_status};
 ghost use Rattle.fx_base.specs.Device.{KeepsGoing};
 
-use crate::ending::finish;
+use crate::advice::with_advice;
+use crate::ending::{WRITE_FAILED, finish};
 use clap::Error;
 use clap::error::ErrorKind;
 use fx_base::{Fault, Sink, put_text, refusals};
-use std::alloc::Global;
+use std::alloc::{AllocError, Global};
 use std::io;
-
-/// The exit status of a write that failed.
-const WRITE_FAILED: u8 = 5;
 
 /// The exit status of words that don't parse.
 const NO_CALL: u8 = 6;
@@ -40,7 +38,17 @@ fn status_of_words(kind: ErrorKind) -> u8
     }
 }
 
-/// Ends a command whose words name no call: writes the error's text, and gives the program's exit status.
+/// The error's text, with what to do behind it.
+///
+/// Fails for want of memory.
+fn told_text(alloc: Global, error: &Error) -> Result<String, AllocError> {
+    match error.to_string(alloc) {
+        Ok(text) => with_advice(alloc, error.kind(), text.as_str()),
+        Err(_) => Err(AllocError),
+    }
+}
+
+/// Ends a command whose words name no call: writes the error's text, what to do behind it, and gives the program's exit status.
 ///
 /// 0 where the words ask for help, 6 where they don't parse; 4 for want of memory, also where the text can't be made
 /// for it (`memory 900` is written then); 5 where nothing can be written.
@@ -56,7 +64,7 @@ pub fn finish_words<S: Sink>(alloc: Global, error: &Error, sink: &mut S) -> u8
     if matches!(kind, ErrorKind::OutOfMemory) {
         return finish(&Err(Fault::bare(refusals::WANT_OF_MEMORY)), sink);
     }
-    match error.to_string(alloc) {
+    match told_text(alloc, error) {
         Ok(text) => put_and_end(text.as_bytes(), status_of_words(kind), sink),
         Err(_) => finish(&Err(Fault::bare(refusals::WANT_OF_MEMORY)), sink),
     }

@@ -6,6 +6,7 @@ ghost use Rattle.fx_collect.specs.Report.{KeysAscend};
 ghost use Rattle.fx_stories.specs.Stories.{IsUntold, WritesStory};
 
 use crate::again::{Documents, documents_again};
+use crate::crossings::tell_numbered;
 use crate::holders::leads_to_report;
 use crate::lines::unless_wrong;
 use crate::steps::{tell_packet, tell_step};
@@ -107,6 +108,78 @@ fn tell_sums(
     }
 }
 
+/// Tells the packet of a refutation, its steps, and at which of them a record reaches the report.
+fn tell_run(
+    alloc: Global,
+    story: &mut Story,
+    documents: &Documents,
+    refutation: &Refutation,
+) -> Result<(), AllocError> {
+    let packets = [*refutation.packet()];
+    tell_packet(story, documents, refutation.packet())?;
+    tell_steps(alloc, story, documents, &packets, refutation.steps())?;
+    tell_reported(story, documents, refutation.steps())
+}
+
+/// Whether one of the steps makes the crossing of this number.
+fn is_made(steps: &[Step], number: u64) -> bool {
+    steps.iter().any(|step| match step {
+        Step::Cross { crossing, .. } => *crossing == number,
+        _ => false,
+    })
+}
+
+/// Tells what a refutation's run leaves undone.
+fn tell_undone(
+    story: &mut Story,
+    documents: &Documents,
+    refutation: &Refutation,
+) -> Result<(), AllocError> {
+    let crossings = documents.traffic.classes().path_of(refutation.packet());
+    let mut told = false;
+    for place in 0..crossings.len() {
+        let number = place as u64 + 1;
+        if !is_made(refutation.steps(), number) {
+            tell_numbered(story, &documents.plan, number, &crossings[place])?;
+            story.sentence(&[Piece::Text(" is still to come")])?;
+            told = true;
+        }
+    }
+    if told {
+        return Ok(());
+    }
+    story.sentence(&[Piece::Text(
+        "each crossing is made, so a record is still in a cache or an aggregation, or on a link",
+    )])
+}
+
+/// Tells the run of a refutation that isn't confirmed, though each of its steps can be made: one that isn't complete
+/// (504), or whose totals are the plain sums (505).
+///
+/// Fails with 901 and 903 where the lines can't be read again, and with 900 for want of memory.
+pub(crate) fn tell_unconfirmed<C: Source>(
+    alloc: Global,
+    story: &mut Story,
+    network: &[u8],
+    traffic: &[u8],
+    lines: &mut LineReader<C>,
+    fault: u16,
+) -> Result<(), Fault>
+    ensures { IfErr result IsUntold }
+{
+    let Some(documents) = documents_again(alloc, network, traffic)? else {
+        return Ok(());
+    };
+    let Some(refutation) = unless_wrong(read_refutation(alloc, lines))? else {
+        return Ok(());
+    };
+    tell_run(alloc, story, &documents, &refutation)?;
+    if fault == refusals::RUN_NOT_COMPLETE {
+        tell_undone(story, &documents, &refutation)?;
+    }
+    Ok(())
+}
+
 /// Tells a refutation over the documents.
 fn tell_refutation(
     alloc: Global,
@@ -116,10 +189,7 @@ fn tell_refutation(
 ) -> Result<(), Fault>
     ensures { IfErr result IsMemory }
 {
-    let packets = [*refutation.packet()];
-    tell_packet(story, documents, refutation.packet())?;
-    tell_steps(alloc, story, documents, &packets, refutation.steps())?;
-    tell_reported(story, documents, refutation.steps())?;
+    tell_run(alloc, story, documents, refutation)?;
     tell_sums(alloc, story, documents, refutation)
 }
 

@@ -5,7 +5,9 @@ ghost use Rattle.fx_base.specs.Fault.{IsMemory};
 ghost use Rattle.fx_stories.specs.Stories.{IsUntold, WritesStory};
 
 use crate::again::{Documents, documents_again};
-use crate::lines::{tell_line, tell_line_numbered, unless_wrong};
+use crate::lines::{next_line, tell_line, tell_line_numbered, unless_wrong};
+use crate::packets::{tell_fields, tell_named_class};
+use crate::refutations::tell_unconfirmed;
 use crate::steps::tell_step;
 use crate::story::{Piece, Story};
 use fx_base::{
@@ -13,7 +15,7 @@ use fx_base::{
 };
 use fx_machine::State;
 use fx_refute::read_refutation;
-use fx_run_text::{Run, Step, put_step_line, read_run};
+use fx_run_text::{Run, RunLine, Step, TextVersion, put_step_line, read_run, read_run_line};
 use std::alloc::{AllocError, Global};
 
 /// The place of the first step that is refused, or none where all can be made.
@@ -111,6 +113,123 @@ fn tell_refused_step<C: Source>(
     Ok(())
 }
 
+/// The version of a text by its first line.
+fn version_of(line: &[u8]) -> TextVersion {
+    if line.ends_with(b" 1") {
+        TextVersion::One
+    } else {
+        TextVersion::Two
+    }
+}
+
+/// Tells the packet that a line has, and why it isn't in its class.
+fn tell_line_packet(
+    alloc: Global,
+    story: &mut Story,
+    documents: &Documents,
+    version: TextVersion,
+    line: &Line<'_>,
+) -> Result<(), AllocError> {
+    let read = read_run_line(alloc, version, line.bytes)?;
+    let Some(RunLine::Packet(packet)) = &read else {
+        return Ok(());
+    };
+    // The first line is the form's.
+    story.tell(&[
+        Piece::Text("packet "),
+        Piece::Number(line.number.saturating_sub(1)),
+    ])?;
+    tell_fields(story, ": ", &packet.fields, packet.octets)?;
+    tell_named_class(story, documents, packet.class, packet.path, &packet.fields)
+}
+
+/// Tells the line of this number, and why the packet that it has isn't in its class.
+fn tell_refused_packet<C: Source>(
+    alloc: Global,
+    story: &mut Story,
+    documents: &Documents,
+    lines: &mut LineReader<C>,
+    number: u64,
+) -> Result<(), Fault>
+    ensures { IfErr result IsUntold }
+{
+    let mut version = TextVersion::Two;
+    'lines: while next_line(lines)? {
+        let line = lines.line();
+        if line.number == 1 {
+            version = version_of(line.bytes);
+        }
+        if line.number == number {
+            tell_line(story, &line)?;
+            tell_line_packet(alloc, story, documents, version, &line)?;
+            return Ok(());
+        }
+    }
+    Ok(())
+}
+
+/// Tells the packet of a run or a refutation, at the line of this number, that isn't in its class.
+fn tell_packet_outside<C: Source>(
+    alloc: Global,
+    story: &mut Story,
+    network: &[u8],
+    traffic: &[u8],
+    lines: &mut LineReader<C>,
+    number: u64,
+) -> Result<(), Fault>
+    ensures { IfErr result IsUntold }
+{
+    match documents_again(alloc, network, traffic)? {
+        Some(documents) => tell_refused_packet(alloc, story, &documents, lines, number),
+        None => tell_line_numbered(story, lines, number),
+    }
+}
+
+/// What is to be told of the refusal of a run at a line.
+fn tell_at_line<C: Source>(
+    alloc: Global,
+    story: &mut Story,
+    network: &[u8],
+    traffic: &[u8],
+    lines: &mut LineReader<C>,
+    fault: u16,
+    number: u64,
+) -> Result<(), Fault>
+    ensures { IfErr result IsUntold }
+{
+    match fault {
+        refusals::REFUTATION_STEP => {
+            tell_refutation_step(alloc, story, network, traffic, lines, number)
+        }
+        refusals::REFUTATION_PACKET | refusals::RUN_PACKET => {
+            tell_packet_outside(alloc, story, network, traffic, lines, number)
+        }
+        _ => tell_line_numbered(story, lines, number),
+    }
+}
+
+/// What is to be told of the refusal of a run or of a refutation at no place.
+fn tell_whole<C: Source>(
+    alloc: Global,
+    story: &mut Story,
+    network: &[u8],
+    traffic: &[u8],
+    lines: &mut LineReader<C>,
+    fault: u16,
+) -> Result<(), Fault>
+    ensures { IfErr result IsUntold }
+{
+    match fault {
+        refusals::STEP_NOT_ENABLED | refusals::WRONG_CHOICES | refusals::NO_RECORD_THERE => {
+            tell_refused_step(alloc, story, network, traffic, lines)
+        }
+        refusals::RUN_NOT_COMPLETE | refusals::TOTALS_AGREE => {
+            tell_unconfirmed(alloc, story, network, traffic, lines, fault)
+        }
+        _ => Ok(()),
+    }
+}
+
 /// What is to be told of the refusal of a run.
 fn story_of<C: Source>(
     alloc: Global,
@@ -123,20 +242,26 @@ fn story_of<C: Source>(
 {
     let mut story = Story::new(alloc);
     if let Place::Line(number) = &fault.place {
-        if fault.number == refusals::REFUTATION_STEP {
-            tell_refutation_step(alloc, &mut story, network, traffic, lines, *number)?;
-        } else {
-            tell_line_numbered(&mut story, lines, *number)?;
-        }
-    } else if (refusals::STEP_NOT_ENABLED..=refusals::NO_RECORD_THERE).contains(&fault.number) {
-        tell_refused_step(alloc, &mut story, network, traffic, lines)?;
+        tell_at_line(
+            alloc,
+            &mut story,
+            network,
+            traffic,
+            lines,
+            fault.number,
+            *number,
+        )?;
+    } else {
+        tell_whole(alloc, &mut story, network, traffic, lines, fault.number)?;
     }
     Ok(story)
 }
 
 /// Writes in sentences what a refusal of a run or of a refutation is about. A refusal at a line: that line, at most 200
-/// octets of it, and of a refutation's step that can't be made what it names. One of 851 to 853: the line of the first step of the run that is refused, with its number, and what it
-/// names. The documents are those over which the run was refused, the lines those of its text, opened anew. What can't
+/// octets of it; of a refutation's step that can't be made what it names, and of a packet that isn't in its class its
+/// number in the run, its fields and which of them lie outside of the class's region. One of 851 to 853: the line of the
+/// first step of the run that is refused, with its number, and what it names. One of 504 and 505: the refutation's run,
+/// and of one that isn't complete what it leaves undone. The documents are those over which the run was refused, the lines those of its text, opened anew. What can't
 /// be told is left out. The text has no control characters but line feeds.
 ///
 /// Fails with 900 for want of memory; with 901 where a read fails, or the reader hasn't ended after 4,294,967,296 calls;

@@ -3,12 +3,12 @@ use crate::again::Documents;
 use crate::crossings::tell_crossing;
 use crate::holders::{tell_arrival, tell_expiry};
 use crate::names::selection_process;
+use crate::packets::tell_fields;
+use crate::passing::tell_unmetered;
 use crate::paths::tell_class;
-use crate::regions::axis_word;
 use crate::story::{Piece, Story};
 use fx_base::entry_numbered;
 use fx_config::Device;
-use fx_elements::EVERY_AXIS;
 use fx_plan::Plan;
 use fx_run_text::Step;
 use fx_tables::{Crossing, Occurrence, Packet};
@@ -25,24 +25,10 @@ pub(crate) fn tell_packet(
     if documents.traffic.classes().exempts(packet) {
         story.tell(&[Piece::Text(" (exempt: it may not be counted)")])?;
     }
-    for axis in EVERY_AXIS {
-        let value = packet.fields.get(axis);
-        if value != 0 {
-            story.tell(&[
-                Piece::Text(", "),
-                Piece::Text(axis_word(axis)),
-                Piece::Text(" "),
-                Piece::Value(axis, value),
-            ])?;
-        }
-    }
-    story.sentence(&[
-        Piece::Text(", 0 in all other fields, octets "),
-        Piece::Number(packet.octets),
-    ])
+    tell_fields(story, ", ", &packet.fields, packet.octets)
 }
 
-/// Tells the cache at which a packet is metered.
+/// Tells where a packet is metered: the observation point, the selection process and the cache.
 fn tell_occurrence(
     story: &mut Story,
     device: &Device,
@@ -57,7 +43,11 @@ fn tell_occurrence(
     };
     match &process.cache {
         Some(cache) => story.tell(&[
-            Piece::Text("cache "),
+            Piece::Text("observation point "),
+            Piece::Quoted(point.name.as_str()),
+            Piece::Text(", selection process "),
+            Piece::Quoted(process.name.as_str()),
+            Piece::Text(": cache "),
             Piece::Quoted(cache.as_str()),
             Piece::Text(" holds a record of it"),
         ]),
@@ -84,17 +74,6 @@ fn tell_occurrences(
     Ok(())
 }
 
-/// Tells why a packet isn't metered at a crossing.
-fn tell_unmetered(story: &mut Story, plan: &Plan, crossing: &Crossing) -> Result<(), AllocError> {
-    let points = plan.net().points_of(crossing.device);
-    let seen = points.iter().any(|point| point.watches(crossing));
-    story.tell(&[Piece::Text(if seen {
-        ": it isn't metered there, since no selection process of a point that sees it selects it and has a cache"
-    } else {
-        ": it isn't metered there, since no observation point sees that interface and direction"
-    })])
-}
-
 /// Tells that a packet of this number makes a crossing, and where it is metered.
 fn tell_metering(
     alloc: Global,
@@ -113,7 +92,7 @@ fn tell_metering(
     let occurrences = plan.net().occurrences(alloc, crossing, &packet.fields)?;
     tell_occurrences(story, plan, crossing.device, occurrences.as_slice())?;
     if occurrences.as_slice().is_empty() {
-        tell_unmetered(story, plan, crossing)?;
+        tell_unmetered(story, plan, crossing, &packet.fields)?;
     }
     story.end_line()
 }

@@ -1,0 +1,157 @@
+//! What to do about words that don't parse.
+
+use clap::error::ErrorKind;
+use std::alloc::{AllocError, Global};
+
+/// The options, each with where it goes.
+const OPTIONS: [(&str, &str); 6] = [
+    (
+        "--words",
+        "Write --words once; it goes with each command, in front of it or behind its files.",
+    ),
+    (
+        "--progress",
+        "Write --progress once; it goes with audit, collect and run.",
+    ),
+    (
+        "--limit",
+        "--limit goes with audit alone, behind that word: `once audit NETWORK TRAFFIC --limit N`.",
+    ),
+    (
+        "--links",
+        "--links goes with run alone, behind that word: `once run NETWORK TRAFFIC CAPTURE SCHEDULE --links PREFIX`.",
+    ),
+    (
+        "--help",
+        "Write `once help COMMAND`, or --help behind the command.",
+    ),
+    ("--version", "Write `once --version` alone."),
+];
+
+/// What to do about the number behind --limit.
+const LIMIT: &str =
+    "Write --limit once, with a whole number from 1 to 1000000 behind it, as in --limit 20000.";
+
+/// What to do about an option that isn't there.
+const NO_OPTION: &str =
+    "There is no such option. --words goes with each command, --progress with audit, collect and run, --limit with audit \
+and --links with run. A file whose name begins with - is named behind --, as in `once lint -- -file`.";
+
+/// How many octets are the same at the front of both.
+fn same_in_front(a: &[u8], b: &[u8]) -> usize {
+    a.iter()
+        .zip(b.iter())
+        .take_while(|(x, y)| x.eq_ignore_ascii_case(y))
+        .count()
+}
+
+/// How many octets are the same at the end of both.
+fn same_behind(a: &[u8], b: &[u8]) -> usize {
+    a.iter()
+        .rev()
+        .zip(b.iter().rev())
+        .take_while(|(x, y)| x.eq_ignore_ascii_case(y))
+        .count()
+}
+
+/// Whether a word may be meant for an option: at most two of its letters that stand together are others, too many or
+/// missing, whatever their case.
+fn is_near(word: &[u8], option: &[u8]) -> bool {
+    let longest = word.len().max(option.len());
+    same_in_front(word, option)
+        .saturating_add(same_behind(word, option))
+        .saturating_add(2)
+        >= longest
+}
+
+/// Where the option goes for which a word may be meant.
+fn option_advice(word: &str) -> Option<&'static str> {
+    for (option, advice) in OPTIONS {
+        if is_near(word.as_bytes(), option.as_bytes()) {
+            return Some(advice);
+        }
+    }
+    None
+}
+
+/// What to do about a word that the command doesn't take.
+fn unknown_word_advice(word: &str) -> &'static str {
+    let Some(behind) = word.strip_prefix("-") else {
+        return "Leave it out: the usage line has all that the command takes, in this order.";
+    };
+    if behind.parse::<u64>().is_ok() {
+        return LIMIT;
+    }
+    option_advice(word).unwrap_or(NO_OPTION)
+}
+
+/// The word that an error's text is about, which stands there first in quotation marks.
+fn word_told(text: &str) -> &str {
+    match text.split_once("'") {
+        Some((_, behind)) => match behind.split_once("'") {
+            Some((word, _)) => word,
+            None => "",
+        },
+        None => "",
+    }
+}
+
+/// What to do about words that don't parse, by the kind of the error and its text.
+fn advice_of(kind: ErrorKind, text: &str) -> Option<&'static str> {
+    match kind {
+        ErrorKind::UnknownArgument => Some(unknown_word_advice(word_told(text))),
+        ErrorKind::InvalidSubcommand => Some(option_advice(word_told(text)).unwrap_or(
+            "The first word is a command: `once help` lists them.",
+        )),
+        ErrorKind::MissingSubcommand => Some("Write a command: `once help` lists them."),
+        ErrorKind::MissingRequiredArgument => Some(
+            "Write what is missing, in the order of the usage line; `once help COMMAND` tells what each is.",
+        ),
+        ErrorKind::ValueValidation | ErrorKind::InvalidValue | ErrorKind::ArgumentConflict => {
+            value_advice(text)
+        }
+        _ => None,
+    }
+}
+
+/// What to do about the value of an option.
+fn value_advice(text: &str) -> Option<&'static str> {
+    if text.contains("--limit") {
+        Some(
+            "Write --limit once, with a whole number from 1 to 1000000 behind it, as in --limit 20000.",
+        )
+    } else if text.contains("--links") {
+        Some(
+            "Write --links once, with what the names of the links' files are to begin with behind it, as in --links link.",
+        )
+    } else {
+        None
+    }
+}
+
+/// A text but for the tip that a word may be a file's name, which is no help where an option is meant.
+fn without_tip(text: &str) -> (&str, &str) {
+    let Some((before, tip)) = text.split_once("\n\n  tip: to pass '") else {
+        return (text, "");
+    };
+    match tip.split_once("\n") {
+        Some((_, behind)) => (before, behind),
+        None => (before, ""),
+    }
+}
+
+/// The text of an error, with what to do behind it.
+///
+/// Fails for want of memory.
+pub(crate) fn with_advice(
+    alloc: Global,
+    kind: ErrorKind,
+    text: &str,
+) -> Result<String, AllocError> {
+    let Some(advice) = advice_of(kind, text) else {
+        return String::from_str(alloc, text);
+    };
+    let (before, behind) = without_tip(text);
+    let between = if behind.is_empty() { "" } else { "\n" };
+    format!(in alloc; "{before}{between}{behind}\nwhat to do: {advice}\n")
+}

@@ -1,0 +1,125 @@
+//! Bundles that were read from standard input, for the words behind their answers.
+
+use crate::asked::{Asked, DocumentRead, LinesAt, Question};
+use fx_audit::AUDIT_LIMIT;
+use fx_base::{Fault, Sink, put_number, put_text};
+
+/// The line that ends each text.
+const MARK: &[u8] = b"%%\n";
+
+/// What stands in front of the first line `%%`, and what stands behind it.
+fn first_text(octets: &[u8]) -> Option<(&[u8], &[u8])> {
+    if let Some(rest) = octets.strip_prefix(MARK) {
+        return Some((b"", rest));
+    }
+    for place in 0..octets.len() {
+        let (text, rest) = octets.split_at(place);
+        if text.ends_with(b"\n") {
+            if let Some(behind) = rest.strip_prefix(MARK) {
+                return Some((text, behind));
+            }
+        }
+    }
+    None
+}
+
+/// The first line without its line feed, and what stands behind it.
+fn first_line(octets: &[u8]) -> (&[u8], &[u8]) {
+    match octets.iter().position(|octet| *octet == b'\n') {
+        Some(end) => match (octets.get(..end), octets.get(end.saturating_add(1)..)) {
+            (Some(line), Some(rest)) => (line, rest),
+            _ => (octets, b""),
+        },
+        None => (octets, b""),
+    }
+}
+
+/// What the first line of a bundle asks of the third of its texts.
+fn asked_of<'a>(command: &[u8], third: &'a [u8]) -> Option<Asked<'a>> {
+    let lines = LinesAt::Octets(third);
+    match command {
+        b"audit" => Some(Asked::Audit(AUDIT_LIMIT)),
+        b"check" => Some(Asked::Check(lines)),
+        b"confirm" => Some(Asked::Confirm(lines)),
+        b"replay" => Some(Asked::Replay(lines)),
+        _ => None,
+    }
+}
+
+/// What a bundle asks, or none where the octets are none.
+pub(crate) fn question_of_bundle(octets: &[u8]) -> Option<Question<'_>> {
+    let (command, rest) = first_line(octets);
+    if texts_in(rest) != (texts_of(command), false) {
+        return None;
+    }
+    let (network, rest) = first_text(rest)?;
+    let (traffic, rest) = first_text(rest)?;
+    let third = match first_text(rest) {
+        Some((third, _)) => third,
+        None => b"",
+    };
+    Some(Question {
+        asked: asked_of(command, third)?,
+        network: Some(DocumentRead {
+            name: "standard input, the network in the bundle",
+            octets: Some(network),
+        }),
+        traffic: Some(DocumentRead {
+            name: "standard input, the traffic in the bundle",
+            octets: Some(traffic),
+        }),
+    })
+}
+
+/// How many lines `%%` these octets have, and whether something stands behind the last.
+fn texts_in(octets: &[u8]) -> (u64, bool) {
+    let mut rest = octets;
+    let mut count: u64 = 0;
+    for _ in 0..octets.len() {
+        let Some((_text, behind)) = first_text(rest) else {
+            break;
+        };
+        rest = behind;
+        count = count.saturating_add(1);
+    }
+    (count, !rest.is_empty())
+}
+
+/// How many texts stand behind a bundle's first line; 0 where that is no command.
+fn texts_of(command: &[u8]) -> u64 {
+    match command {
+        b"audit" => 2,
+        b"check" | b"confirm" | b"replay" => 3,
+        _ => 0,
+    }
+}
+
+/// Writes why octets are no bundle.
+pub(crate) fn put_bundle_words<S: Sink>(octets: &[u8], sink: &mut S) -> Result<(), Fault> {
+    if octets.is_empty() {
+        return put_text(
+            sink,
+            b"standard input has no octets; without other words a bundle is read from there\n",
+        );
+    }
+    let (command, rest) = first_line(octets);
+    let wanted = texts_of(command);
+    if wanted == 0 {
+        return put_text(
+            sink,
+            b"the first line of standard input is none of audit, check, confirm and replay\n",
+        );
+    }
+    let (count, has_more) = texts_in(rest);
+    if count != wanted {
+        put_text(sink, b"the bundle has ")?;
+        put_number(sink, count)?;
+        put_text(sink, b" lines %%; its command wants ")?;
+        put_number(sink, wanted)?;
+        return put_text(sink, b", one behind each text\n");
+    }
+    if has_more {
+        return put_text(sink, b"something stands behind the bundle's last line %%\n");
+    }
+    Ok(())
+}

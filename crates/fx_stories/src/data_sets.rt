@@ -1,0 +1,264 @@
+//! Data sets of a message that is refused.
+use crate::fields::{tell_element, tell_field};
+use crate::messages::{MessageThere, SetThere};
+use crate::places::{number_in, number16, part};
+use crate::story::{Piece, Story};
+use crate::templates::{Declared, Templates};
+use fx_base::refusals;
+use fx_elements::{Axis, Element, by_id, width};
+use fx_wire::{FieldSpecifier, TemplateKind, VARIABLE, cut_record, cut_value};
+use std::alloc::AllocError;
+
+/// How many ids of templates are told.
+const IDS: usize = 20;
+
+/// A data record: its message, its number in its set, from 1, and its place in the message.
+#[derive(Drop)]
+struct DataThere<'a> {
+    message: &'a MessageThere<'a>,
+    number: u64,
+    place: usize,
+}
+
+/// Tells the ids of the templates that stand for records of a domain.
+fn tell_live(story: &mut Story, templates: &Templates, domain: u32) -> Result<(), AllocError> {
+    let mut told: usize = 0;
+    for declared in templates.as_slice() {
+        if declared.domain == domain && declared.withdrawn.is_none() && told < IDS {
+            let before = if told == 0 {
+                "its templates there: "
+            } else {
+                ", "
+            };
+            story.tell(&[Piece::Text(before), Piece::Number(u64::from(declared.id))])?;
+            told += 1;
+        }
+    }
+    if told == 0 {
+        return story.sentence(&[Piece::Text("its domain has no template at all there")]);
+    }
+    story.end_line()
+}
+
+/// Tells where templates of an id were declared that don't stand for the records of a domain.
+fn tell_elsewhere(
+    story: &mut Story,
+    templates: &Templates,
+    domain: u32,
+    id: u16,
+) -> Result<(), AllocError> {
+    let mut told: usize = 0;
+    for declared in templates.as_slice() {
+        if declared.id == id && told < IDS {
+            tell_declared(story, declared, domain)?;
+            told += 1;
+        }
+    }
+    Ok(())
+}
+
+/// Tells where a template was declared, and why it doesn't stand for the records of a domain.
+fn tell_declared(story: &mut Story, declared: &Declared, domain: u32) -> Result<(), AllocError> {
+    story.tell(&[
+        Piece::Text("message "),
+        Piece::Number(declared.message),
+        Piece::Text(" declares template "),
+        Piece::Number(u64::from(declared.id)),
+    ])?;
+    if declared.domain != domain {
+        story.tell(&[
+            Piece::Text(" in another observation domain: "),
+            Piece::Number(u64::from(declared.domain)),
+        ])?;
+    }
+    if let Some(number) = declared.withdrawn {
+        story.tell(&[
+            Piece::Text("; it is withdrawn by message "),
+            Piece::Number(number),
+        ])?;
+    }
+    story.end_line()
+}
+
+/// Tells that a data set has no template.
+fn tell_no_template(
+    story: &mut Story,
+    templates: &Templates,
+    message: &MessageThere<'_>,
+    set: &SetThere,
+) -> Result<(), AllocError> {
+    message.tell_set(story, set)?;
+    story.sentence(&[
+        Piece::Text(" needs template "),
+        Piece::Number(u64::from(set.id)),
+        Piece::Text(", and observation domain "),
+        Piece::Number(u64::from(message.domain())),
+        Piece::Text(" has none of this id there"),
+    ])?;
+    tell_elsewhere(story, templates, message.domain(), set.id)?;
+    tell_live(story, templates, message.domain())
+}
+
+/// How few octets a record of these fields has.
+fn shortest(fields: &[FieldSpecifier]) -> usize {
+    let mut sum: usize = 0;
+    for field in fields {
+        let least = if field.field_length == VARIABLE {
+            1
+        } else {
+            usize::from(field.field_length)
+        };
+        sum = sum.saturating_add(least);
+    }
+    sum
+}
+
+/// How many octets a value wants that begins with these.
+fn wanted(field: &FieldSpecifier, octets: &[u8]) -> u64 {
+    if field.field_length != VARIABLE {
+        return u64::from(field.field_length);
+    }
+    match octets.first() {
+        None => 1,
+        Some(255) => u64::from(number16(octets, 1)) + 3,
+        Some(first) => u64::from(*first) + 1,
+    }
+}
+
+impl DataThere<'_> {
+    /// Tells the field of this place of the record.
+    fn tell(&self, story: &mut Story, declared: &Declared, place: usize) -> Result<(), AllocError> {
+        story.tell(&[
+            Piece::Text("record "),
+            Piece::Number(self.number),
+            Piece::Text(" of template "),
+            Piece::Number(u64::from(declared.id)),
+            Piece::Text(", at octet "),
+            Piece::Number(self.message.place_in_stream(self.place)),
+            Piece::Text(": field "),
+            Piece::Number((place as u64).saturating_add(1)),
+            Piece::Text(" of "),
+            Piece::Number(declared.fields.len() as u64),
+        ])
+    }
+
+    /// Tells the field at which the record passes its set's end, where it begins with these octets.
+    fn tell_cut(
+        &self,
+        story: &mut Story,
+        declared: &Declared,
+        octets: &[u8],
+    ) -> Result<(), AllocError> {
+        let mut rest = octets;
+        for place in 0..declared.fields.len() {
+            let field = &declared.fields[place];
+            match cut_value(field.field_length, rest) {
+                Some((_value, behind)) => rest = behind,
+                None => {
+                    self.tell(story, declared, place)?;
+                    story.tell(&[Piece::Text(", ")])?;
+                    tell_field(story, field)?;
+                    return story.sentence(&[
+                        Piece::Text(", wants octets: "),
+                        Piece::Number(wanted(field, rest)),
+                        Piece::Text("; the set has left: "),
+                        Piece::Number(rest.len() as u64),
+                    ]);
+                }
+            }
+        }
+        Ok(())
+    }
+
+    /// Tells the first length of a prefix that is longer than its address, where the record begins with these octets.
+    /// Answers whether there is one.
+    fn tell_prefix(
+        &self,
+        story: &mut Story,
+        declared: &Declared,
+        octets: &[u8],
+    ) -> Result<bool, AllocError> {
+        let mut rest = octets;
+        for place in 0..declared.fields.len() {
+            let field = &declared.fields[place];
+            let Some((value, behind)) = cut_value(field.field_length, rest) else {
+                return Ok(false);
+            };
+            rest = behind;
+            if let Some(axis) = long_prefix(field, value) {
+                self.tell(story, declared, place)?;
+                story.tell(&[Piece::Text(", ")])?;
+                tell_element(story, field)?;
+                story.sentence(&[
+                    Piece::Text(", is "),
+                    Piece::Number(number_in(value)),
+                    Piece::Text("; the address has bits: "),
+                    Piece::Number(u64::from(width(axis))),
+                ])?;
+                return Ok(true);
+            }
+        }
+        Ok(false)
+    }
+}
+
+/// The axis of the address whose prefix is longer than it by this value of a field.
+fn long_prefix(field: &FieldSpecifier, value: &[u8]) -> Option<Axis> {
+    match by_id(field.element, field.enterprise.unwrap_or(0)) {
+        Element::PrefixLength(axis) if number_in(value) > u64::from(width(axis)) => Some(axis),
+        _ => None,
+    }
+}
+
+/// Tells the first record of a data set that is refused, under its template. Answers whether there is one.
+fn tell_records(
+    story: &mut Story,
+    declared: &Declared,
+    message: &MessageThere<'_>,
+    set: &SetThere,
+    fault: u16,
+) -> Result<bool, AllocError> {
+    let content = part(message.octets, set.start(), set.end());
+    let least = shortest(declared.fields.as_slice());
+    let reads_prefixes = fault == refusals::PREFIX_LENGTH && declared.kind == TemplateKind::Plain;
+    let mut rest = content;
+    for passed in 0..content.len() {
+        if rest.len() < least {
+            return Ok(false);
+        }
+        let record = DataThere {
+            message: &*message,
+            number: passed as u64 + 1,
+            place: set.end().saturating_sub(rest.len()),
+        };
+        if reads_prefixes && record.tell_prefix(story, declared, rest)? {
+            return Ok(true);
+        }
+        let Some(behind) = cut_record(declared.fields.as_slice(), rest) else {
+            record.tell_cut(story, declared, rest)?;
+            return Ok(true);
+        };
+        rest = behind;
+    }
+    Ok(false)
+}
+
+/// Tells what a data set of a message is refused for, by the number of the message's fault. Answers whether it is.
+pub(crate) fn tell_data_set(
+    story: &mut Story,
+    templates: &Templates,
+    message: &MessageThere<'_>,
+    set: &SetThere,
+    fault: u16,
+) -> Result<bool, AllocError> {
+    match templates.live(message.domain(), set.id) {
+        Some(declared) => tell_records(story, declared, message, set, fault),
+        None => {
+            if templates.is_full() {
+                return Ok(false);
+            }
+            tell_no_template(story, templates, message, set)?;
+            Ok(true)
+        }
+    }
+}

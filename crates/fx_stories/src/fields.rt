@@ -1,0 +1,160 @@
+//! Fields of templates in words.
+use crate::story::{Piece, Story, between};
+use fx_elements::{Element, by_id, width};
+use fx_wire::{FieldSpecifier, VARIABLE};
+use std::alloc::AllocError;
+
+/// How many fields of a template are told.
+const FIELDS: usize = 20;
+
+/// The name of an element of the IANA registry (RFC 7012) that exporters send, or an empty text.
+fn element_name(number: u16) -> &'static str {
+    match number {
+        1 => "octetDeltaCount",
+        2 => "packetDeltaCount",
+        3 => "deltaFlowCount",
+        4 => "protocolIdentifier",
+        5 => "ipClassOfService",
+        6 => "tcpControlBits",
+        7 => "sourceTransportPort",
+        8 => "sourceIPv4Address",
+        9 => "sourceIPv4PrefixLength",
+        10 => "ingressInterface",
+        11 => "destinationTransportPort",
+        12 => "destinationIPv4Address",
+        13 => "destinationIPv4PrefixLength",
+        14 => "egressInterface",
+        15 => "ipNextHopIPv4Address",
+        16 => "bgpSourceAsNumber",
+        17 => "bgpDestinationAsNumber",
+        21 => "flowEndSysUpTime",
+        22 => "flowStartSysUpTime",
+        23 => "postOctetDeltaCount",
+        24 => "postPacketDeltaCount",
+        _ => later_element_name(number),
+    }
+}
+
+/// The same for the elements from 25 on.
+fn later_element_name(number: u16) -> &'static str {
+    match number {
+        27 => "sourceIPv6Address",
+        28 => "destinationIPv6Address",
+        29 => "sourceIPv6PrefixLength",
+        30 => "destinationIPv6PrefixLength",
+        31 => "flowLabelIPv6",
+        32 => "icmpTypeCodeIPv4",
+        44 => "sourceIPv4Prefix",
+        45 => "destinationIPv4Prefix",
+        56 => "sourceMacAddress",
+        58 => "vlanId",
+        60 => "ipVersion",
+        61 => "flowDirection",
+        62 => "ipNextHopIPv6Address",
+        80 => "destinationMacAddress",
+        82 => "interfaceName",
+        83 => "interfaceDescription",
+        85 => "octetTotalCount",
+        86 => "packetTotalCount",
+        89 => "forwardingStatus",
+        95 => "applicationId",
+        96 => "applicationName",
+        _ => last_element_name(number),
+    }
+}
+
+/// The same for the elements from 97 on.
+fn last_element_name(number: u16) -> &'static str {
+    match number {
+        130 => "exporterIPv4Address",
+        131 => "exporterIPv6Address",
+        136 => "flowEndReason",
+        138 => "observationPointId",
+        139 => "icmpTypeCodeIPv6",
+        143 => "meteringProcessId",
+        144 => "exportingProcessId",
+        145 => "templateId",
+        148 => "flowId",
+        149 => "observationDomainId",
+        150 => "flowStartSeconds",
+        151 => "flowEndSeconds",
+        152 => "flowStartMilliseconds",
+        153 => "flowEndMilliseconds",
+        160 => "systemInitTimeMilliseconds",
+        169 => "destinationIPv6Prefix",
+        170 => "sourceIPv6Prefix",
+        210 => "paddingOctets",
+        _ => "",
+    }
+}
+
+/// Tells a field's element: its name, where it is known, and its number and enterprise.
+pub(crate) fn tell_element(story: &mut Story, field: &FieldSpecifier) -> Result<(), AllocError> {
+    let number = Piece::Number(u64::from(field.element));
+    if let Some(enterprise) = field.enterprise {
+        return story.tell(&[
+            Piece::Text("element "),
+            number,
+            Piece::Text(" of enterprise "),
+            Piece::Number(u64::from(enterprise)),
+        ]);
+    }
+    match element_name(field.element) {
+        "" => story.tell(&[Piece::Text("element "), number]),
+        name => story.tell(&[
+            Piece::Text(name),
+            Piece::Text(" (element "),
+            number,
+            Piece::Text(")"),
+        ]),
+    }
+}
+
+/// Tells a field: its element and its length.
+pub(crate) fn tell_field(story: &mut Story, field: &FieldSpecifier) -> Result<(), AllocError> {
+    tell_element(story, field)?;
+    if field.field_length == VARIABLE {
+        return story.tell(&[Piece::Text(" of variable length")]);
+    }
+    story.tell(&[
+        Piece::Text(" of length "),
+        Piece::Number(u64::from(field.field_length)),
+    ])
+}
+
+/// Tells the fields of a template.
+pub(crate) fn tell_fields_of(
+    story: &mut Story,
+    fields: &[FieldSpecifier],
+) -> Result<(), AllocError> {
+    let told = fields.len().min(FIELDS);
+    for place in 0..told {
+        story.tell(&[Piece::Text(between(place > 0, ", "))])?;
+        tell_field(story, &fields[place])?;
+    }
+    if told < fields.len() {
+        story.tell(&[Piece::Text(", ..")])?;
+    }
+    Ok(())
+}
+
+/// Tells how many octets the values of a field's element must have.
+pub(crate) fn tell_allowed_length(
+    story: &mut Story,
+    field: &FieldSpecifier,
+) -> Result<(), AllocError> {
+    let wide = match by_id(field.element, field.enterprise.unwrap_or(0)) {
+        Element::OnAxis(axis) | Element::Prefix(axis) => width(axis) / 8,
+        Element::PrefixLength(_) => 1,
+        _ => return story.tell(&[Piece::Text("; it must have 1 octet at least")]),
+    };
+    match wide {
+        1 => story.tell(&[Piece::Text("; it must have 1 octet")]),
+        2 => story.tell(&[Piece::Text("; it must have 1 or 2 octets")]),
+        _ => story.tell(&[
+            Piece::Text("; it must have "),
+            Piece::Number(u64::from(wide)),
+            Piece::Text(" octets"),
+        ]),
+    }
+}

@@ -1,0 +1,69 @@
+//! What stands in the place of an IPFIX message, by its first octets.
+
+/// What octets are that are no IPFIX message, in words, with what to do about it.
+pub(crate) fn format_of(octets: &[u8]) -> Option<&'static str> {
+    capture_format(octets)
+        .or(flow_format(octets))
+        .or(packed_format(octets))
+        .or(text_format(octets))
+}
+
+/// What octets are that begin a capture.
+fn capture_format(octets: &[u8]) -> Option<&'static str> {
+    match octets {
+        [0xa1, 0xb2, 0xc3, 0xd4, ..]
+        | [0xd4, 0xc3, 0xb2, 0xa1, ..]
+        | [0xa1, 0xb2, 0x3c, 0x4d, ..]
+        | [0x4d, 0x3c, 0xb2, 0xa1, ..] => Some(
+            "These octets begin a capture (pcap). The messages stand inside of its packets: docs/GUIDE.md tells how to take them out.",
+        ),
+        [0x0a, 0x0d, 0x0d, 0x0a, ..] => Some(
+            "These octets begin a capture (pcapng). The messages stand inside of its packets: docs/GUIDE.md tells how to take them out.",
+        ),
+        _ => None,
+    }
+}
+
+/// What octets are that begin a message of another protocol of flows.
+fn flow_format(octets: &[u8]) -> Option<&'static str> {
+    match octets {
+        [0, 5, ..] => Some(
+            "This is version 5: a datagram of NetFlow 5 in place of IPFIX. Have the exporter send IPFIX (version 10).",
+        ),
+        [0, 9, ..] => Some(
+            "This is version 9: a datagram of NetFlow 9 in place of IPFIX. Have the exporter send IPFIX (version 10).",
+        ),
+        [0, 0, 0, 5, ..] => Some(
+            "These octets begin a datagram of sFlow 5 in place of IPFIX. Have the exporter send IPFIX (version 10).",
+        ),
+        _ => None,
+    }
+}
+
+/// What octets are that begin a compressed file.
+fn packed_format(octets: &[u8]) -> Option<&'static str> {
+    match octets {
+        [0x1f, 0x8b, ..] => Some("These octets begin a file of gzip. Unpack it first."),
+        [0xfd, 0x37, 0x7a, 0x58, 0x5a, 0, ..] => {
+            Some("These octets begin a file of xz. Unpack it first.")
+        }
+        [0x28, 0xb5, 0x2f, 0xfd, ..] => {
+            Some("These octets begin a file of zstd. Unpack it first.")
+        }
+        [b'B', b'Z', b'h', ..] => Some("These octets begin a file of bzip2. Unpack it first."),
+        _ => None,
+    }
+}
+
+/// What octets are that begin a text.
+fn text_format(octets: &[u8]) -> Option<&'static str> {
+    let told = octets.get(..4)?;
+    for octet in told {
+        if !octet.is_ascii_graphic() && !octet.is_ascii_whitespace() {
+            return None;
+        }
+    }
+    Some(
+        "These octets are text. Messages are octets; is the file another one than the stream, as a network document?",
+    )
+}

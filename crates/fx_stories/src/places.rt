@@ -1,0 +1,41 @@
+//! Numbers at places of octets.
+
+/// The octet at a place; 0 where there is none.
+fn octet_at(octets: &[u8], place: usize) -> u8 {
+    octets.get(place).copied().unwrap_or(0)
+}
+
+/// The number in the two octets from a place on, the higher one first. Octets that aren't there count as 0.
+pub(crate) fn number16(octets: &[u8], place: usize) -> u16 {
+    u16::from_be_bytes([
+        octet_at(octets, place),
+        octet_at(octets, place.saturating_add(1)),
+    ])
+}
+
+/// The number in the four octets from a place on, as [`number16`].
+pub(crate) fn number32(octets: &[u8], place: usize) -> u32 {
+    u32::from_be_bytes([
+        octet_at(octets, place),
+        octet_at(octets, place.saturating_add(1)),
+        octet_at(octets, place.saturating_add(2)),
+        octet_at(octets, place.saturating_add(3)),
+    ])
+}
+
+/// The number that so many octets are, the highest first, as far as it is below 2 to the 64.
+pub(crate) fn number_in(octets: &[u8]) -> u64 {
+    let mut number: u64 = 0;
+    for octet in octets {
+        number = number.saturating_mul(256).saturating_add(u64::from(*octet));
+    }
+    number
+}
+
+/// The octets from one place to another, or none where they aren't there.
+pub(crate) fn part(octets: &[u8], start: usize, end: usize) -> &[u8] {
+    match octets.get(start..end) {
+        Some(part) => part,
+        None => &[],
+    }
+}

@@ -1,0 +1,282 @@
+//! Why a message of an IPFIX stream is refused, in words.
+ghost use Rattle.std.specs.Prelude.{◌≡◌, ◌⊎◌, IfErr, OnOk};
+ghost use Rattle.fx_base.specs.Device.{IsWriteFault, KeepsGoing};
+ghost use Rattle.fx_base.specs.Fault.{IsMemory};
+ghost use Rattle.fx_stories.specs.Stories.{IsUntold, WritesStory};
+
+use crate::data_sets::tell_data_set;
+use crate::formats::format_of;
+use crate::messages::{HEADER, MessageThere, SetThere};
+use crate::places::{number16, part};
+use crate::story::{Piece, Story};
+use crate::template_sets::take_templates;
+use crate::templates::Templates;
+use fx_base::{Fault, PieceReader, Place, Sink, Source, put_text, refusals};
+use fx_wire::TemplateKind;
+use std::alloc::{AllocError, Global};
+
+/// The most octets that a message can have.
+const LONGEST: usize = 65_535;
+
+/// The hexadecimal digits.
+const DIGITS: [&str; 16] = [
+    "0", "1", "2", "3", "4", "5", "6", "7", "8", "9", "a", "b", "c", "d", "e", "f",
+];
+
+/// How far a stream was read once more.
+#[derive(Drop)]
+struct Reading {
+    alloc: Global,
+    /// The templates of the messages before.
+    templates: Templates,
+    /// The number of the message that comes next, from 1.
+    number: u64,
+    /// The place of its first octet.
+    place: u64,
+    /// The octets from there on, as far as they were read.
+    octets: Vec<u8>,
+    /// The number of the message's fault.
+    fault: u16,
+    /// The place of the refused message.
+    refused: u64,
+}
+
+/// Does what the set of a message says of templates, or tells what is wrong with it. Answers whether something is. The
+/// records of data sets are looked at where the message is refused.
+fn take_set(
+    alloc: Global,
+    story: &mut Story,
+    templates: &mut Templates,
+    message: &MessageThere<'_>,
+    set: &SetThere,
+    fault: Option<u16>,
+) -> Result<bool, AllocError> {
+    match (set.id, fault) {
+        (2, _) => take_templates(alloc, story, templates, message, set, TemplateKind::Plain),
+        (3, _) => take_templates(alloc, story, templates, message, set, TemplateKind::Options),
+        (_, Some(fault)) => tell_data_set(story, templates, message, set, fault),
+        (_, None) => Ok(false),
+    }
+}
+
+/// Does what the sets of a message say of templates, up to the first with which something is wrong, which is told.
+fn take_sets(
+    alloc: Global,
+    story: &mut Story,
+    templates: &mut Templates,
+    message: &MessageThere<'_>,
+    sets: &[SetThere],
+    fault: Option<u16>,
+) -> Result<(), AllocError> {
+    for set in sets {
+        if take_set(alloc, story, templates, message, set, fault)? {
+            return Ok(());
+        }
+    }
+    Ok(())
+}
+
+impl Reading {
+    /// Before the first octet.
+    fn new(alloc: Global, fault: u16, refused: u64) -> Reading {
+        Reading {
+            alloc,
+            templates: Templates::new(alloc),
+            number: 1,
+            place: 0,
+            octets: Vec::new(alloc),
+            fault,
+            refused,
+        }
+    }
+
+    /// Goes past the whole messages before the refused one.
+    fn pass_messages(&mut self, story: &mut Story) -> Result<(), AllocError> {
+        let count = self.octets.len();
+        let mut at: usize = 0;
+        for _ in 0..count {
+            let rest = part(self.octets.as_slice(), at, count);
+            let length = usize::from(number16(rest, 2));
+            if self.place >= self.refused || length < HEADER || rest.len() < length {
+                break;
+            }
+            let message = MessageThere {
+                number: self.number,
+                place: self.place,
+                octets: part(rest, 0, length),
+            };
+            let sets = message.sets(self.alloc)?;
+            take_sets(
+                self.alloc,
+                story,
+                &mut self.templates,
+                &message,
+                sets.as_slice(),
+                None,
+            )?;
+            at = at.saturating_add(length);
+            self.place = self.place.saturating_add(length as u64);
+            self.number = self.number.saturating_add(1);
+        }
+        self.octets = Vec::from_slice(self.alloc, part(self.octets.as_slice(), at, count))?;
+        Ok(())
+    }
+
+    /// Reads on with a piece, and answers whether no more is wanted.
+    fn take(&mut self, story: &mut Story, piece: &[u8]) -> Result<bool, AllocError> {
+        self.octets.extend_from_slice(piece)?;
+        self.pass_messages(story)?;
+        Ok(self.octets.len() >= LONGEST)
+    }
+
+    /// Tells the first octets of the refused message, and what they begin where they are no message.
+    fn tell_start(&self, story: &mut Story) -> Result<(), AllocError> {
+        let start = part(self.octets.as_slice(), 0, self.octets.len().min(HEADER));
+        story.tell(&[
+            Piece::Text("message "),
+            Piece::Number(self.number),
+            Piece::Text(" of the stream, from octet "),
+            Piece::Number(self.place),
+            Piece::Text(" on: its first octets are"),
+        ])?;
+        for octet in start {
+            story.tell(&[
+                Piece::Text(" "),
+                Piece::Text(DIGITS[usize::from(*octet / 16)]),
+                Piece::Text(DIGITS[usize::from(*octet % 16)]),
+            ])?;
+        }
+        story.end_line()
+    }
+
+    /// Tells what stands in the place of a message of version 10.
+    fn tell_version(&self, story: &mut Story) -> Result<(), AllocError> {
+        self.tell_start(story)?;
+        match format_of(self.octets.as_slice()) {
+            Some(words) => story.sentence(&[Piece::Text(words)])?,
+            None => story.sentence(&[
+                Piece::Text("they say version "),
+                Piece::Number(u64::from(number16(self.octets.as_slice(), 0))),
+                Piece::Text(" in place of 10"),
+            ])?,
+        }
+        if self.number == 1 {
+            return Ok(());
+        }
+        story.sentence(&[
+            Piece::Text("messages before it: "),
+            Piece::Number(self.number.saturating_sub(1)),
+            Piece::Text(
+                "; either the last of them says a wrong length, or other octets stand between",
+            ),
+        ])
+    }
+
+    /// Tells why the refused message has a wrong length.
+    fn tell_length(&self, story: &mut Story) -> Result<(), AllocError> {
+        self.tell_start(story)?;
+        let there = self.octets.len();
+        if there < HEADER {
+            return story.sentence(&[
+                Piece::Text(
+                    "the stream ends before the 16 octets of its header do; octets there are ",
+                ),
+                Piece::Number(there as u64),
+            ]);
+        }
+        let length = number16(self.octets.as_slice(), 2);
+        story.tell(&[
+            Piece::Text("its header says length "),
+            Piece::Number(u64::from(length)),
+        ])?;
+        if usize::from(length) < HEADER {
+            return story.sentence(&[Piece::Text(", which is below the 16 of the header itself")]);
+        }
+        story.sentence(&[
+            Piece::Text(", and the stream ends before; octets there are "),
+            Piece::Number(there as u64),
+        ])
+    }
+
+    /// Tells what is wrong with the sets of the refused message.
+    fn tell_sets(&mut self, story: &mut Story) -> Result<(), AllocError> {
+        let length = usize::from(number16(self.octets.as_slice(), 2));
+        let message = MessageThere {
+            number: self.number,
+            place: self.place,
+            octets: part(self.octets.as_slice(), 0, length),
+        };
+        message.tell(story)?;
+        let sets = message.sets(self.alloc)?;
+        let fault = self.fault;
+        match fault {
+            refusals::SET_LENGTH => message.tell_set_length(story, sets.as_slice()),
+            refusals::RESERVED_SET => message.tell_reserved(story, sets.as_slice()),
+            _ => take_sets(
+                self.alloc,
+                story,
+                &mut self.templates,
+                &message,
+                sets.as_slice(),
+                Some(fault),
+            ),
+        }
+    }
+
+    /// Tells the refused message, where the stream is as it was.
+    fn tell(&mut self, story: &mut Story) -> Result<(), AllocError> {
+        if self.place != self.refused || self.octets.is_empty() {
+            return story.sentence(&[Piece::Text(
+                "The message isn't told: the stream has no longer what was read of it.",
+            )]);
+        }
+        match self.fault {
+            refusals::MESSAGE_VERSION => self.tell_version(story),
+            refusals::MESSAGE_LENGTH => self.tell_length(story),
+            _ => self.tell_sets(story),
+        }
+    }
+}
+
+/// What is to be told of a stream.
+fn story_of<R: Source>(alloc: Global, stream: &mut R, fault: &Fault) -> Result<Story, Fault>
+    ensures { IfErr result IsUntold }
+{
+    let mut story = Story::new(alloc);
+    let Place::Octet(refused) = &fault.place else {
+        return Ok(story);
+    };
+    let mut reading = Reading::new(alloc, fault.number, *refused);
+    let mut pieces = PieceReader::new();
+    for _ in 0..u64::MAX {
+        if !pieces.advance(stream)? || reading.take(&mut story, pieces.piece())? {
+            break;
+        }
+    }
+    reading.tell(&mut story)?;
+    Ok(story)
+}
+
+/// Writes in sentences what a refusal of a message of an IPFIX stream is about (611 to 620): the message's number, the
+/// place of its first octet and its observation domain; and what is wrong in it: the first octets, where they are no
+/// message of version 10, and what they begin; the set, the template, its field with its element and its length, or
+/// the data record. The stream is the one that was refused, opened anew and read up to that message once more; of its
+/// templates 4,096 with 65,536 fields are kept. What can't be told is left out. The text has no control characters
+/// but line feeds.
+///
+/// Fails with 900 for want of memory; with 901 where a read fails, or the reader hasn't ended after 4,294,967,296 calls;
+/// with 902 where a write fails. Nothing is written for a fault other than 902.
+pub fn put_stream_words<R: Source, S: Sink>(
+    alloc: Global,
+    stream: &mut R,
+    fault: &Fault,
+    sink: &mut S,
+) -> Result<(), Fault>
+    ensures ok { OnOk result (WritesStory (S.taken sink.old) (S.taken sink.new)) }
+    ensures going { OnOk result (KeepsGoing (S.failed sink.old) (S.failed sink.new)) }
+    ensures err { IfErr result (λ e. (IsUntold e × (sink.new ≡ sink.old))
+        ⊎ IsWriteFault (S.failed sink.new) e) }
+{
+    let story = story_of(alloc, stream, fault)?;
+    put_text(sink, story.octets())
+}

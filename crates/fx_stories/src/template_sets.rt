@@ -1,0 +1,320 @@
+//! Template sets of a stream that is read once more.
+use crate::fields::{tell_allowed_length, tell_field};
+use crate::messages::{MessageThere, SetThere};
+use crate::places::{number16, number32, part};
+use crate::story::{Piece, Story};
+use crate::templates::{Declared, Templates, Withdrawn};
+use fx_elements::{Element, by_id};
+use fx_wire::{
+    FieldSpecifier, FieldSpecifiers, NewTemplate, TemplateHeading, TemplateKind, read_heading,
+};
+use std::alloc::{AllocError, Global};
+
+/// A template record: its message, its set, and its place in the message.
+#[derive(Drop)]
+struct RecordThere<'a> {
+    message: &'a MessageThere<'a>,
+    kind: TemplateKind,
+    place: usize,
+}
+
+impl RecordThere<'_> {
+    /// Tells the template of this id, and where its record begins in the stream.
+    fn tell(&self, story: &mut Story, id: u16) -> Result<(), AllocError> {
+        story.tell(&[
+            Piece::Text(match self.kind {
+                TemplateKind::Plain => "template ",
+                TemplateKind::Options => "options template ",
+            }),
+            Piece::Number(u64::from(id)),
+            Piece::Text(" at octet "),
+            Piece::Number(self.message.place_in_stream(self.place)),
+        ])
+    }
+
+    /// Tells the field of this place of a template, which has so many.
+    fn tell_place(
+        &self,
+        story: &mut Story,
+        new: &NewTemplate,
+        place: usize,
+    ) -> Result<(), AllocError> {
+        self.tell(story, new.id)?;
+        story.tell(&[
+            Piece::Text(": field "),
+            Piece::Number((place as u64).saturating_add(1)),
+            Piece::Text(" of "),
+            Piece::Number(u64::from(new.count)),
+        ])
+    }
+
+    /// Tells why the head of a record is refused.
+    fn tell_heading(&self, story: &mut Story, octets: &[u8]) -> Result<(), AllocError> {
+        let id = number16(octets, 0);
+        let count = number16(octets, 2);
+        self.tell(story, id)?;
+        if count == 0 {
+            return story.sentence(&[Piece::Text(
+                ": without fields it is a withdrawal, and the ids of templates begin at 256 (2 withdraws all templates, 3 all options templates, each in its own sets)",
+            )]);
+        }
+        if id < 256 {
+            return story.sentence(&[Piece::Text(": the ids of templates begin at 256")]);
+        }
+        if octets.len() < 6 {
+            return story.sentence(&[Piece::Text(": its set ends inside of its head")]);
+        }
+        story.sentence(&[
+            Piece::Text(": scope fields "),
+            Piece::Number(u64::from(number16(octets, 4))),
+            Piece::Text(" of "),
+            Piece::Number(u64::from(count)),
+            Piece::Text("; at least one of an options template's fields must be"),
+        ])
+    }
+
+    /// Tells why a field is refused that begins with these octets.
+    fn tell_wrong_field(
+        &self,
+        story: &mut Story,
+        new: &NewTemplate,
+        place: usize,
+        octets: &[u8],
+    ) -> Result<(), AllocError> {
+        self.tell_place(story, new, place)?;
+        let has_enterprise = number16(octets, 0) >= 0x8000;
+        if octets.len() < 4 || (has_enterprise && octets.len() < 8) {
+            return story.sentence(&[Piece::Text(" passes its set's end")]);
+        }
+        let field = FieldSpecifier {
+            element: number16(octets, 0) & 0x7fff,
+            field_length: number16(octets, 2),
+            enterprise: has_enterprise.then_some(number32(octets, 4)),
+        };
+        story.tell(&[Piece::Text(" is ")])?;
+        tell_field(story, &field)?;
+        tell_allowed_length(story, &field)?;
+        story.end_line()
+    }
+
+    /// Tells the first counter of flows of another length than 8 octets, and answers whether there is one.
+    fn tell_narrow(
+        &self,
+        story: &mut Story,
+        new: &NewTemplate,
+        fields: &[FieldSpecifier],
+    ) -> Result<bool, AllocError> {
+        for place in 0..fields.len() {
+            let field = &fields[place];
+            if is_narrow(field) {
+                self.tell_place(story, new, place)?;
+                story.tell(&[Piece::Text(" is ")])?;
+                tell_field(story, field)?;
+                story.sentence(&[Piece::Text("; it must have 8 octets")])?;
+                return Ok(true);
+            }
+        }
+        Ok(false)
+    }
+
+    /// Tells in what a template differs from the one for which its id stands, and answers whether it does.
+    fn tell_other(
+        &self,
+        story: &mut Story,
+        old: &Declared,
+        new: &Declared,
+    ) -> Result<bool, AllocError> {
+        let place = first_difference(old.fields.as_slice(), new.fields.as_slice());
+        if old.kind == new.kind && old.scope == new.scope && place.is_none() {
+            return Ok(false);
+        }
+        self.tell(story, new.id)?;
+        story.sentence(&[
+            Piece::Text(" isn't the one of this id that message "),
+            Piece::Number(old.message),
+            Piece::Text(" declared at octet "),
+            Piece::Number(old.place),
+            Piece::Text(", which hasn't been withdrawn"),
+        ])?;
+        tell_kinds(story, old, new)?;
+        tell_difference(story, old, new, place)?;
+        Ok(true)
+    }
+}
+
+/// Whether a counter of flows has another length than 8 octets.
+fn is_narrow(field: &FieldSpecifier) -> bool {
+    let element = by_id(field.element, field.enterprise.unwrap_or(0));
+    let is_counter = matches!(
+        element,
+        Element::OctetDeltaCount | Element::PacketDeltaCount
+    );
+    is_counter && field.field_length != 8
+}
+
+/// The place of the first field in which two lists differ, also where one ends there.
+fn first_difference(old: &[FieldSpecifier], new: &[FieldSpecifier]) -> Option<usize> {
+    for place in 0..old.len().min(new.len()) {
+        if old[place] != new[place] {
+            return Some(place);
+        }
+    }
+    if old.len() == new.len() {
+        None
+    } else {
+        Some(old.len().min(new.len()))
+    }
+}
+
+/// Tells whether a template and an options template differ in that, or two options templates in their scope.
+fn tell_kinds(story: &mut Story, old: &Declared, new: &Declared) -> Result<(), AllocError> {
+    if old.kind != new.kind {
+        return story.sentence(&[Piece::Text(match old.kind {
+            TemplateKind::Plain => "it was a template, and is an options template now",
+            TemplateKind::Options => "it was an options template, and is a template now",
+        })]);
+    }
+    if old.scope == new.scope {
+        return Ok(());
+    }
+    story.sentence(&[
+        Piece::Text("scope fields: it had "),
+        Piece::Number(u64::from(old.scope)),
+        Piece::Text(", and has "),
+        Piece::Number(u64::from(new.scope)),
+        Piece::Text(" now"),
+    ])
+}
+
+/// Tells the first fields in which two templates differ, or how many each has.
+fn tell_difference(
+    story: &mut Story,
+    old: &Declared,
+    new: &Declared,
+    place: Option<usize>,
+) -> Result<(), AllocError> {
+    let Some(place) = place else {
+        return Ok(());
+    };
+    match (old.fields.get(place), new.fields.get(place)) {
+        (Some(was), Some(is)) => {
+            story.tell(&[
+                Piece::Text("field "),
+                Piece::Number((place as u64).saturating_add(1)),
+                Piece::Text(" was "),
+            ])?;
+            tell_field(story, was)?;
+            story.tell(&[Piece::Text(", and is ")])?;
+            tell_field(story, is)?;
+            story.sentence(&[Piece::Text(" now")])
+        }
+        _ => story.sentence(&[
+            Piece::Text("fields: it had "),
+            Piece::Number(old.fields.len() as u64),
+            Piece::Text(", and has "),
+            Piece::Number(new.fields.len() as u64),
+            Piece::Text(" now; as many as both have are the same"),
+        ]),
+    }
+}
+
+/// Keeps a template whose fields are at the front of the octets, and answers the octets behind it; none where it is
+/// refused, which is told.
+fn declare<'o>(
+    alloc: Global,
+    story: &mut Story,
+    templates: &mut Templates,
+    record: &RecordThere<'_>,
+    new: NewTemplate,
+    octets: &'o [u8],
+) -> Result<Option<&'o [u8]>, AllocError> {
+    let mut fields: Vec<FieldSpecifier> = Vec::new(alloc);
+    let mut left = FieldSpecifiers::new(new.count, octets);
+    while let Some(next) = left.next() {
+        let Ok(field) = next else {
+            record.tell_wrong_field(story, &new, fields.len(), left.rest())?;
+            return Ok(None);
+        };
+        fields.push(field)?;
+    }
+    if record.kind == TemplateKind::Plain && record.tell_narrow(story, &new, fields.as_slice())? {
+        return Ok(None);
+    }
+    let declared = Declared {
+        domain: record.message.domain(),
+        id: new.id,
+        kind: record.kind,
+        scope: new.scope,
+        fields,
+        message: record.message.number,
+        place: record.message.place_in_stream(record.place),
+        withdrawn: None,
+    };
+    if let Some(old) = templates.live(declared.domain, declared.id) {
+        if record.tell_other(story, old, &declared)? {
+            return Ok(None);
+        }
+    }
+    templates.declare(declared)?;
+    Ok(Some(left.rest()))
+}
+
+/// Does what the template record at the front of the octets says, and answers the octets behind it; none where it is
+/// refused, which is told.
+fn take_record<'o>(
+    alloc: Global,
+    story: &mut Story,
+    templates: &mut Templates,
+    record: &RecordThere<'_>,
+    octets: &'o [u8],
+) -> Result<Option<&'o [u8]>, AllocError> {
+    if octets.len() < 4 {
+        return Ok(None);
+    }
+    let (domain, message) = (record.message.domain(), record.message.number);
+    match read_heading(record.kind, octets) {
+        Err(_) => {
+            record.tell_heading(story, octets)?;
+            Ok(None)
+        }
+        Ok((TemplateHeading::Withdrawal(id), rest)) => {
+            templates.withdraw(domain, Withdrawn::Id(id), message);
+            Ok(Some(rest))
+        }
+        Ok((TemplateHeading::WithdrawalOfAll, rest)) => {
+            templates.withdraw(domain, Withdrawn::Kind(record.kind), message);
+            Ok(Some(rest))
+        }
+        Ok((TemplateHeading::Declaration(new), rest)) => {
+            declare(alloc, story, templates, record, new, rest)
+        }
+    }
+}
+
+/// Does what the template records of a set say, up to the first that is refused, which is told. Answers whether one is.
+pub(crate) fn take_templates(
+    alloc: Global,
+    story: &mut Story,
+    templates: &mut Templates,
+    message: &MessageThere<'_>,
+    set: &SetThere,
+    kind: TemplateKind,
+) -> Result<bool, AllocError> {
+    let content = part(message.octets, set.start(), set.end());
+    let mut rest = content;
+    for _ in 0..content.len() {
+        if rest.len() < 4 {
+            return Ok(false);
+        }
+        let record = RecordThere {
+            message: &*message,
+            kind,
+            place: set.end().saturating_sub(rest.len()),
+        };
+        match take_record(alloc, story, templates, &record, rest)? {
+            Some(behind) => rest = behind,
+            None => return Ok(true),
+        }
+    }
+    Ok(false)
+}
