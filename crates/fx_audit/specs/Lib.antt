@@ -6,6 +6,7 @@ pub mod Documents
 pub mod Outputs
 pub mod Replay
 pub mod Streams
+pub mod Sums
 pub mod Texts
 pub mod Audits
 pub mod Metering

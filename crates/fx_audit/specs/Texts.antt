@@ -17,6 +17,8 @@ use Rattle.fx_audit.specs.Confirms.{RefutesNothing, refuted_text}
 use Rattle.fx_audit.specs.Metering.{IsMeteredText}
 use Rattle.fx_audit.specs.Replay.{IsTextOf}
 use Rattle.fx_audit.specs.Streams.{IsTotalsText}
+use Rattle.fx_audit.specs.Sums.{IsTextOfSum}
+use Rattle.fx_sums.specs.Sums.{Sum}
 
 -- a lint prints that there is nothing to say
 abbrev pub ok_line : List ℕ
@@ -36,6 +38,10 @@ IsCollectText answer text = (answer ≡ Yes) × ((totals : Totals) × (gaps : �
 -- a run's totals, and how many frames of its capture were skipped
 abbrev pub IsRunText : Answer → List ℕ → Type 0
 IsRunText answer text = (answer ≡ Yes) × ((totals : Totals) × (other : ℕ) × (malformed : ℕ) × IsMeteredText totals other malformed text)
+
+-- a sum prints totals, and what was noted beside them
+abbrev pub IsSumText : Answer → List ℕ → Type 0
+IsSumText answer text = (answer ≡ Yes) × ((sum : Sum) × IsTextOfSum sum text)
 
 -- a check prints `yes` or `no`, as it answers
 abbrev pub IsCheckText : Answer → List ℕ → Type 0

@@ -15,6 +15,7 @@ mod lint_command;
 mod replay_command;
 mod replaying;
 mod run_command;
+mod sum_command;
 
 pub use answer::Answer;
 pub use audit_command::{AUDIT_LIMIT, audit_bytes};
@@ -26,3 +27,4 @@ pub use laws::refusals_are_listed;
 pub use lint_command::{lint_both_bytes, lint_bytes};
 pub use replay_command::replay_bytes;
 pub use run_command::run_bytes;
+pub use sum_command::sum_bytes;

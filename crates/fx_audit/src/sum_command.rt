@@ -1,0 +1,70 @@
+//! The command that adds up totals, from octets to octets.
+ghost use Rattle.std.specs.Prelude.{◌≡◌, ◌⊎◌, IfOk, IfErr};
+ghost use Rattle.fx_base.specs.Device.{IsWriteFault, MayHaveLeft};
+ghost use Rattle.fx_base.specs.Fault.{IsMemory};
+ghost use Rattle.fx_base.specs.Lines.{Fails};
+ghost use Rattle.fx_audit.specs.Documents.{CannotRead, IfNetworkRefused};
+ghost use Rattle.fx_audit.specs.Outputs.{AnswersWith, FailsQuietly, Prints};
+ghost use Rattle.fx_audit.specs.Sums.{IsRefusedSum, IsRefusedTotals, IsSummed, IsSummedUnder};
+ghost use Rattle.fx_audit.specs.Texts.{IsSumText};
+ghost use Rattle.fx_audit.specs.declared.answer.Answer.TheVariants.{Yes};
+
+use crate::answer::Answer;
+use crate::document::network_from;
+use fx_base::{Fault, LineReader, Sink, Source};
+use fx_layout::{Layout, Seed};
+use fx_sums::Sum;
+use std::alloc::Global;
+
+/// Adds up the texts of totals under a layout's keys that a reader's lines say, and writes the sum.
+fn sum_lines<R: Source, S: Sink>(
+    alloc: Global,
+    seed: Seed,
+    layout: &Layout,
+    texts: &mut LineReader<R>,
+    sink: &mut S,
+) -> Result<Answer, Fault>
+    ensures ok { IfOk result (λ answer. (answer ≡ Yes)
+        × Prints (IsSummedUnder layout.now texts.old) (S.taken sink.old) (S.taken sink.new)) }
+    ensures err { IfErr result (λ e. IsMemory e
+        ⊎ (Fails texts.old texts.new e
+        ⊎ (IsWriteFault (S.failed sink.new) e
+        ⊎ IsRefusedTotals layout.now texts.old e))) }
+    ensures quiet { FailsQuietly S.failed sink.old sink.new result }
+{
+    let mut sum = Sum::new(alloc, seed, layout.copy())?;
+    sum.add_texts(texts)?;
+    sum.sort()?;
+    sum.put_text(sink)?;
+    Ok(Answer::Yes)
+}
+
+/// Reads a network document, adds up texts of totals under the key of its report, one or more, one directly behind
+/// another as the commands that collect, run and replay wrote them, and writes the sum as such a text. Totals hash keys
+/// by the seed.
+///
+/// Fails with the first refusal: 101 and those of [`fx_plan::read_plan`] for the network, with nothing of the texts read
+/// before; then those of [`Sum::add_texts`]: 861 at the first line that isn't in its place, 903 at a line of more than
+/// 4,096 octets. 901 comes where a read fails or a reader hasn't ended after 4,294,967,296 calls, 900 for want of memory,
+/// 902 where a write fails. Nothing is written for a fault other than 902, nor before all texts are read.
+pub fn sum_bytes<N: Source, R: Source, S: Sink>(
+    alloc: Global,
+    seed: Seed,
+    network: &mut N,
+    texts: &mut LineReader<R>,
+    sink: &mut S,
+) -> Result<Answer, Fault>
+    ensures ok { IfOk result (λ answer. (answer ≡ Yes)
+        × MayHaveLeft (N.left network.old) (λ n.
+        Prints (IsSummed n texts.old) (S.taken sink.old) (S.taken sink.new))) }
+    ensures err { IfErr result (λ e. IsMemory e
+        ⊎ (CannotRead N.left N.calls N.failed network.old network.new e
+        ⊎ (Fails texts.old texts.new e
+        ⊎ (IsWriteFault (S.failed sink.new) e
+        ⊎ MayHaveLeft (N.left network.old) (λ n. IsRefusedSum n texts.old e))))) }
+    ensures answers { AnswersWith S.taken S.failed IsSumText sink.old sink.new result }
+    ensures untouched { IfNetworkRefused (N.left network.old) (texts.new ≡ texts.old) }
+{
+    let plan = network_from(alloc, network)?;
+    sum_lines(alloc, seed, plan.net().report_layout(), texts, sink)
+}
