@@ -4,9 +4,10 @@ pub mod Lines
 pub mod Tallying
 pub mod NotesRead
 pub mod Adding
+pub mod Fewer
+pub mod TextsOn
 pub mod SumsOfParts
 pub mod LinesFound
-pub mod ShortLines
 pub mod TextsFound
 pub mod LinesRead
 pub mod TextsRead

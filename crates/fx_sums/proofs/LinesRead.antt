@@ -1,5 +1,5 @@
 -- The lines of totals and notes are read as what they are the text of.
-use Rattle.std.proofs.Common.{◌≡◌, ◌≢◌, ℕ, ◌+◌, ◌-◌, ◌*◌, ◌/◌, ◌%◌, ◌^◌, ◌<◌, ◌≤◌, Bool, true, false, ◌&&◌, not, cond, eqb, List, [], ◌∷◌, ◌++◌, Option, Some, refl, ap, sym, ◌∙◌, subst, arith, inl, ne_eqb, eq-eqb, codes, slice_index, pow-add}
+use Rattle.std.proofs.Common.{◌≡◌, ◌≢◌, ℕ, ◌+◌, ◌-◌, ◌*◌, ◌/◌, ◌%◌, ◌^◌, ◌<◌, ◌≤◌, Bool, true, false, ◌&&◌, not, cond, eqb, List, [], ◌∷◌, ◌++◌, Option, Some, None, refl, ap, sym, ◌∙◌, subst, arith, inl, ne_eqb, eq-eqb, codes, slice_index, pow-add}
 use Rattle.std.specs.Prelude.{nat_lt}
 use Rattle.std.specs.Fmt.{decimal}
 use Rattle.std.specs.List.{AllByRecursion, join_with_byte, list_all}
@@ -154,7 +154,7 @@ number_line_plain word n plain lt = line_before word (decimal n) plain (number_a
 -- ---- values
 
 -- the first value with these leading bits
-pub start_below : (part : Part) (x : ℕ) → part.bits ≤ axis_width part.axis → x < 2 ^ part.bits → x * 2 ^ (axis_width part.axis - part.bits) < 2 ^ axis_width part.axis
+start_below : (part : Part) (x : ℕ) → part.bits ≤ axis_width part.axis → x < 2 ^ part.bits → x * 2 ^ (axis_width part.axis - part.bits) < 2 ^ axis_width part.axis
 start_below part x le lt =
     let size = 2 ^ (axis_width part.axis - part.bits) in
     let whole : axis_width part.axis ≡ part.bits + (axis_width part.axis - part.bits) = omega arith in
@@ -287,6 +287,22 @@ note_of_words (Complete false) h line e = rw e refl
 note_of_words (Frames f) h line e = rw (e, number_64 f.other (omega (arith, h.0)), number_64 f.malformed (omega (arith, h.1))) refl
 note_of_words (Gaps n) h line e = rw (e, number_64 n (omega (arith, h))) refl
 note_of_words (Skipped n) h line e = rw (e, not_other n h, number_64 n (omega (arith, h))) refl
+
+-- no note is the first line of a text
+no_keys_in : (note : Note) (line : List ℕ) → words line ≡ note_words note → number_behind (codes "keys") line ≡ None
+unfolding number_behind
+no_keys_in (Complete true) line e = rw e refl
+no_keys_in (Complete false) line e = rw e refl
+no_keys_in (Frames f) line e = rw e refl
+no_keys_in (Gaps n) line e = rw e refl
+no_keys_in (Skipped n) line e = rw e refl
+
+pub note_no_keys : (note : Note) → IsNote note → number_behind (codes "keys") (note_bytes note) ≡ None
+note_no_keys (Complete true) h = no_keys_in (Complete true) (note_bytes (Complete true)) (words_join _ _ (spaced (Complete true) h))
+note_no_keys (Complete false) h = no_keys_in (Complete false) (note_bytes (Complete false)) (words_join _ _ (spaced (Complete false) h))
+note_no_keys (Frames f) h = no_keys_in (Frames f) (note_bytes (Frames f)) (words_join _ _ (spaced (Frames f) h))
+note_no_keys (Gaps n) h = no_keys_in (Gaps n) (note_bytes (Gaps n)) (words_join _ _ (spaced (Gaps n) h))
+note_no_keys (Skipped n) h = no_keys_in (Skipped n) (note_bytes (Skipped n)) (words_join _ _ (spaced (Skipped n) h))
 
 pub note_read : (note : Note) → IsNote note → note_of (note_bytes note) ≡ Some note
 note_read (Complete true) h = note_of_words (Complete true) h (note_bytes (Complete true)) (words_join _ _ (spaced (Complete true) h))

@@ -12,7 +12,7 @@ use Rattle.fx_collect.specs.Totals.{Totals, IsTable, nothing, with_record, with_
 use Rattle.fx_collect.proofs.TotalsOfTotals.{table_added, retold}
 use Rattle.fx_sums.specs.declared.notes.Notes.{Notes}
 use Rattle.fx_sums.specs.declared.notes.SkippedFrames.{SkippedFrames}
-use Rattle.fx_sums.specs.Sums.{Sum, joined, plus, plus_totals, plus_numbers, plus_frames, plus_notes, sum_of, HaveSameTotals, AreAlike}
+use Rattle.fx_sums.specs.Sums.{Sum, joined, plus, plus_totals, plus_numbers, plus_frames, plus_notes, HaveSameTotals, AreAlike}
 use Rattle.fx_sums.proofs.Tallying.{layout_kept}
 
 -- ---- counts
@@ -246,45 +246,10 @@ notes_exchanged : (m n o : Notes) → plus_notes (plus_notes m n) o ≡ plus_not
 notes_exchanged m n o =
     rw (joined_exchange both both_assoc both_swap m.complete n.complete o.complete, joined_exchange plus_frames frames_assoc frames_swap m.frames n.frames o.frames, joined_exchange plus_numbers numbers_assoc numbers_swap m.gaps n.gaps o.gaps, joined_exchange plus_numbers numbers_assoc numbers_swap m.skipped n.skipped o.skipped) refl
 
-neighbours : (s t u : Sum) → AreAlike (plus (plus s t) u) (plus (plus s u) t)
-neighbours s t u = (
-  (totals, unassigned_exchanged s.totals t.totals u.totals ∙ omega arith ∙ sym (unassigned_exchanged s.totals u.totals t.totals)),
-  layout t u ∙ sym (layout u t),
-  notes_exchanged s.notes t.notes u.notes,
-) where
+pub exchanged : (s t u : Sum) → AreAlike (plus (plus s t) u) (plus (plus s u) t)
+exchanged s t u = ((totals, unassigned_exchanged s.totals t.totals u.totals ∙ omega arith ∙ sym (unassigned_exchanged s.totals u.totals t.totals)), notes_exchanged s.notes t.notes u.notes) where
   totals : (key : Key) → total_at (plus (plus s t) u).totals.entries key ≡ total_at (plus (plus s u) t).totals.entries key
   totals key =
       totals_exchanged s.totals t.totals u.totals key
       ∙ joined_exchange add_counts counts_assoc counts_swap (total_at s.totals.entries key) (shares s.totals.layout key t.totals.entries) (shares s.totals.layout key u.totals.entries)
       ∙ sym (totals_exchanged s.totals u.totals t.totals key)
-
-  layout : (t u : Sum) → (plus (plus s t) u).totals.layout ≡ s.totals.layout
-  layout t u = layouts_kept (plus_totals s.totals t.totals) u.totals.entries ∙ layouts_kept s.totals t.totals.entries
-
--- more of the same leaves alike what is
-alike_plus : (s s' t : Sum) → AreAlike s s' → AreAlike (plus s t) (plus s' t)
-alike_plus s s' t ((totals, unassigned), layout, notes) =
-    ((λ key. at_key_of key, left), layouts_kept s.totals t.totals.entries ∙ layout ∙ sym (layouts_kept s'.totals t.totals.entries), ap (λ (m : Notes). plus_notes m t.notes) notes) where
-      at_key_of : (key : Key) → total_at (plus s t).totals.entries key ≡ total_at (plus s' t).totals.entries key
-      at_key_of key =
-          told s.totals key t.totals.entries
-          ∙ ap₂ (λ (o : Option Counts) (l : Layout). joined add_counts o (shares l key t.totals.entries)) (totals key) layout
-          ∙ sym (told s'.totals key t.totals.entries)
-
-      numbers : (a b c : ℕ) → a % 2 ^ 64 ≡ b % 2 ^ 64 → (a + c) % 2 ^ 64 ≡ (b + c) % 2 ^ 64
-      numbers a b c h = omega (arith, h)
-
-      left : (plus s t).totals.unassigned ≡ (plus s' t).totals.unassigned
-      left =
-          let one = left_out s.totals t.totals.entries in
-          let two = left_out s'.totals t.totals.entries in
-          let same : (s.totals.unassigned + lost s.totals.layout t.totals.entries) % 2 ^ 64 ≡ (s'.totals.unassigned + lost s'.totals.layout t.totals.entries) % 2 ^ 64 = ap₂ (λ (n : ℕ) (l : Layout). (n + lost l t.totals.entries) % 2 ^ 64) unassigned layout in
-          numbers (with_records s.totals t.totals.entries).unassigned (with_records s'.totals t.totals.entries).unassigned t.totals.unassigned (one ∙ same ∙ sym two)
-
-alike_all : (s s' : Sum) (ts : List Sum) → AreAlike s s' → AreAlike (sum_of s ts) (sum_of s' ts)
-alike_all s s' [] h = h
-alike_all s s' (t ∷ ts) h = alike_all (plus s t) (plus s' t) ts (alike_plus s s' t h)
-
-pub exchanged : (s t u : Sum) (before behind : List Sum) → AreAlike (sum_of s (before ++ t ∷ u ∷ behind)) (sum_of s (before ++ u ∷ t ∷ behind))
-exchanged s t u [] behind = alike_all (plus (plus s t) u) (plus (plus s u) t) behind (neighbours s t u)
-exchanged s t u (b ∷ bs) behind = exchanged (plus s b) t u bs behind

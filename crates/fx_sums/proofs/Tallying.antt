@@ -65,6 +65,6 @@ module _ {A B : Type 0} (first : Rest → Result (A × Rest) Fault) (next : A ×
   refuses_then e going on (inl fails) = inl (fails_behind old mid new e going on fails)
   refuses_then e going on (inr m) = inr (gives_then (Err e) m)
 
-pub refuses_first : {A B : Type 0} (first : Rest → Result (A × Rest) Fault) (next : A × Rest → Result B Fault) (old new : Lines) (e : Fault) → Refuses first old new e → Refuses (λ rest. first rest >>= next) old new e
+pub refuses_first : {A B : Type 0} (first : Rest → Result A Fault) (next : A → Result B Fault) (old new : Lines) (e : Fault) → Refuses first old new e → Refuses (λ rest. first rest >>= next) old new e
 refuses_first first next old new e (inl fails) = inl fails
 refuses_first first next old new e (inr (text, left, is)) = inr (text, left, rw is refl)

@@ -2,6 +2,7 @@
 use Rattle.std.proofs.Common.{◌≡◌, ℕ, zero, suc, ◌^◌, ◌<◌, Bool, true, false, cond, eqb, ◌||◌, ◌&&◌, not, List, [], ◌∷◌, ◌++◌, length, Option, Some, None, Result, Ok, Err, IfSome, is_some, refl, ap, ap₂, sym, ◌∙◌, subst, eqb-true, inl, inr, append_assoc, codes}
 use Rattle.std.specs.Prelude.{flat_map, nat_lt}
 use Rattle.std.specs.Fmt.{decimal}
+use Rattle.std.specs.Option.{option_map}
 use Rattle.std.specs.List.{AllByRecursion}
 use Rattle.std.proofs.lemmas.List.{append-nil}
 use Rattle.fx_base.specs.declared.fault.Fault.{Fault}
@@ -16,10 +17,14 @@ use Rattle.fx_sums.specs.declared.notes.Notes.{Notes}
 use Rattle.fx_sums.specs.declared.notes.SkippedFrames.{SkippedFrames}
 use Rattle.fx_sums.specs.declared.note.Note.{Note}
 use Rattle.fx_sums.specs.declared.note.Note.TheVariants.{Complete, Frames, Gaps, Skipped}
-use Rattle.fx_sums.specs.Sums.{Sum, plus, plus_notes, no_notes}
-use Rattle.fx_sums.specs.SumText.{complete_text, frames_text, number_text, notes_text, noted_text, KeysAscendBehind, IsRecordUnder, AreNotes, IsNoted}
-use Rattle.fx_sums.specs.SumLines.{number_behind, record_behind, note_of, with_note, notes_with, are_whole}
-use Rattle.fx_sums.specs.SumReading.{◌>>=◌, TextLine, Rest, bytes_of, formed, next_line, in_line, tallied, totals_with, notes_to_end, sum_with}
+use Rattle.fx_sums.specs.declared.line_behind.LineBehind.{LineBehind}
+use Rattle.fx_sums.specs.declared.line_behind.LineBehind.TheVariants as behind
+use Rattle.fx_sums.specs.Sums.{Sum, plus, plus_all, plus_notes, no_notes}
+use Rattle.fx_sums.specs.SumText.{complete_text, frames_text, number_text, notes_text, noted_text, noted_texts, KeysAscendBehind, IsRecordUnder, AreNotes, IsNoted}
+use Rattle.fx_sums.specs.SumLines.{number_behind, record_behind, note_of, with_note, notes_with, are_whole, notes_or_keys, line_behind}
+use Rattle.fx_sums.specs.SumReading.{◌>>=◌, TextLine, Rest, Next, bytes_of, formed, next_line, in_line, tallied, totals_with, on_or_next, notes_first, notes_of, sum_with, texts_up_to, sum_of_texts}
+use Rattle.fx_sums.proofs.Fewer.{ok_is, by_ok}
+use Rattle.fx_sums.proofs.SumsOfParts.{layouts_kept}
 use Rattle.fx_sums.proofs.LinesFound.{IsNumber, number_line_found, record_found, behind_found, note_text, IsNote, note_found}
 
 -- ---- the text of lines
@@ -43,16 +48,6 @@ text_back (b ∷ bs) = by_feed (eqb b 10) refl (text_back bs) where
   by_feed false e h = begun b (text_lines bs) ∙ ap (λ (x : List ℕ). b ∷ x) h
 
 -- ---- a line
-
-abbrev done : {A : Type 0} → A → Result A Fault
-done x = Ok x
-
-ok_is : {A : Type 0} {x y : A} → done x ≡ done y → x ≡ y
-ok_is e = cc
-
-by_ok : {A B P : Type 0} (o : Result A Fault) (f : A → Result B Fault) (y : B) → (o >>= f) ≡ Ok y → ((x : A) → o ≡ Ok x → f x ≡ Ok y → P) → P
-by_ok (Ok x) f y e k = k x refl e
-by_ok (Err x) f y e k = absurd cc
 
 bytes_found : (n : ℕ) (l : TextLine) (line : List ℕ) → bytes_of n l ≡ Ok line → line_text l ≡ line ++ 10 ∷ []
 bytes_found n l line e =
@@ -117,45 +112,37 @@ tallied_found layout (suc count) last t rest r is e =
     })
 
 -- the totals that were read
-record TotalsRead (layout : Layout) (t : Totals) (ls : List TextLine) (r : Totals × Rest) : Type 0 where
+record TotalsRead (layout : Layout) (keys : ℕ) (t : Totals) (ls : List TextLine) (r : Totals × Rest) : Type 0 where
   rs : List Record
   unassigned : ℕ
-  text : text_of ls ≡ totals_text (record { layout = layout; entries = rs; unassigned = unassigned }) ++ text_of r.1.1
+  many : length rs ≡ keys
+  text : text_of ls ≡ (record_lines rs ++ number_line (codes "unassigned ") unassigned) ++ text_of r.1.1
   under : AllByRecursion (IsRecordUnder layout) rs
   ascend : KeysAscendBehind None rs
-  few : length rs < 2 ^ 64
   small : unassigned < 2 ^ 64
   total : r.0 ≡ with_unassigned (with_records t rs) unassigned
 
-totals_found : (layout : Layout) (t : Totals) (rest : Rest) (r : Totals × Rest) → IsLayout layout → totals_with layout t rest ≡ Ok r → TotalsRead layout t rest.1 r
+totals_found : (layout : Layout) (keys : ℕ) (t : Totals) (rest : Rest) (r : Totals × Rest) → IsLayout layout → totals_with layout keys t rest ≡ Ok r → TotalsRead layout keys t rest.1 r
 unfolding totals_with
-totals_found layout t rest r is e =
-    by_ok (in_line (number_behind (codes "keys")) rest) _ r e (λ k pk ek.
-    by_ok (tallied layout k.0 None t k.1) _ r ek (λ s ps es.
+totals_found layout keys t rest r is e =
+    by_ok (tallied layout keys None t rest) _ r e (λ s ps es.
     by_ok (in_line (number_behind (codes "unassigned")) s.1) _ r es (λ u pu eu.
-    let keys = line_found (number_behind (codes "keys")) rest k pk in
-    let count = number_line_found (codes "keys") keys.0 k.0 keys.2 in
-    let m = tallied_found layout k.0 None t k.1 s is ps in
+    let m = tallied_found layout keys None t rest s is ps in
     let last = line_found (number_behind (codes "unassigned")) s.1 u pu in
     let number = number_line_found (codes "unassigned") last.0 u.0 last.2 in
-    whole k s u m keys.0 last.0 keys.1 last.1 count.0 number.0 count.1 number.1 (ok_is eu)))) where
-      whole : (k : ℕ × Rest) (s : Totals × Rest) (u : ℕ × Rest) (m : Tallied layout k.0 None t k.1.1 s) (keys last : List ℕ) → IsLineBefore rest.1 keys k.1.1 → IsLineBefore s.1.1 last u.1.1 → keys ≡ codes "keys" ++ 32 ∷ decimal k.0 → last ≡ codes "unassigned" ++ 32 ∷ decimal u.0 → IsNumber k.0 → IsNumber u.0 → (with_unassigned s.0 u.0, u.1) ≡ r → TotalsRead layout t rest.1 r
-      whole k s u m keys last first end keys_are last_is some small same =
-          let kline = number_line (codes "keys ") (length m.rs) in
+    whole s u m last.0 last.1 number.0 number.1 (ok_is eu))) where
+      whole : (s : Totals × Rest) (u : ℕ × Rest) (m : Tallied layout keys None t rest.1 s) (last : List ℕ) → IsLineBefore s.1.1 last u.1.1 → last ≡ codes "unassigned" ++ 32 ∷ decimal u.0 → IsNumber u.0 → (with_unassigned s.0 u.0, u.1) ≡ r → TotalsRead layout keys t rest.1 r
+      whole s u m last end last_is small same =
           let uline = number_line (codes "unassigned ") u.0 in
-          let one : keys ++ 10 ∷ [] ≡ kline = ap (λ (x : List ℕ). x ++ 10 ∷ []) keys_are ∙ ap (λ (n : ℕ). number_line (codes "keys ") n) (sym m.many) in
           let two : last ++ 10 ∷ [] ≡ uline = ap (λ (x : List ℕ). x ++ 10 ∷ []) last_is in
-          let text : text_of rest.1 ≡ kline ++ (record_lines m.rs ++ (uline ++ text_of u.1.1)) =
-          first ∙ ap₂ (λ (x y : List ℕ). x ++ y) one (m.text ∙ ap (λ (y : List ℕ). record_lines m.rs ++ y) (end ∙ ap (λ (x : List ℕ). x ++ text_of u.1.1) two)) in
-          let joined : kline ++ (record_lines m.rs ++ (uline ++ text_of u.1.1)) ≡ (kline ++ (record_lines m.rs ++ uline)) ++ text_of u.1.1 =
-          ap (λ (y : List ℕ). kline ++ y) (sym (append_assoc (record_lines m.rs) uline (text_of u.1.1))) ∙ sym (append_assoc kline (record_lines m.rs ++ uline) (text_of u.1.1)) in
-          subst (λ (r : Totals × Rest). TotalsRead layout t rest.1 r) same (record {
+          let text : text_of rest.1 ≡ record_lines m.rs ++ (uline ++ text_of u.1.1) = m.text ∙ ap (λ (y : List ℕ). record_lines m.rs ++ y) (end ∙ ap (λ (x : List ℕ). x ++ text_of u.1.1) two) in
+          subst (λ (r : Totals × Rest). TotalsRead layout keys t rest.1 r) same (record {
             rs = m.rs;
             unassigned = u.0;
-            text = text ∙ joined;
+            many = m.many;
+            text = text ∙ sym (append_assoc (record_lines m.rs) uline (text_of u.1.1));
             under = m.under;
             ascend = m.ascend;
-            few = subst IsNumber (sym m.many) some;
             small = small;
             total = ap (λ (x : Totals). with_unassigned x u.0) m.total;
           })
@@ -261,39 +248,131 @@ whole_notes n so whole = record { frames = so.frames; gaps = so.gaps; skipped = 
   same None (Some y) e h = absurd cc
   same (Some x) (Some y) e h = refl
 
-notes_found : (ls : List TextLine) (k : ℕ) (n m : Notes) → SoFar n → notes_to_end n k ls ≡ Ok m → (notes_text m ≡ notes_text n ++ text_of ls) × AreNotes m
-notes_found [] k n m so e =
-    elim (chosen (are_whole n) (Ok n) _ (Ok m) e) [
-      | inl h ↦ subst (λ (m : Notes). (notes_text m ≡ notes_text n ++ []) × AreNotes m) (ok_is h.1) (sym (append-nil (notes_text n)), whole_notes n so h.0)
+-- what a line behind notes was read as
+abbrev Said : Notes → List ℕ → LineBehind → Type 0
+Said n line (behind.Notes more) = notes_with n line ≡ Some more
+Said n line (behind.Keys keys) = (number_behind (codes "keys") line ≡ Some keys) × (are_whole n ≡ true)
+
+said_found : (n : Notes) (line : List ℕ) (said : LineBehind) → line_behind n line ≡ Some said → Said n line said
+unfolding line_behind
+said_found n line said e = by_number (number_behind (codes "keys") line) refl e where
+  by_notes : (o : Option Notes) → notes_with n line ≡ o → option_map (λ more. behind.Notes more) o ≡ Some said → Said n line said
+  by_notes None p q = absurd cc
+  by_notes (Some more) p q = subst (λ (said : LineBehind). Said n line said) (some_is q) p
+
+  by_number : (o : Option ℕ) → number_behind (codes "keys") line ≡ o → notes_or_keys n line o ≡ Some said → Said n line said
+  by_number None p q = by_notes (notes_with n line) refl q
+  by_number (Some keys) p q =
+      elim (chosen (are_whole n) (Some (behind.Keys keys)) None (Some said) q) [
+        | inl h ↦ subst (λ (said : LineBehind). Said n line said) (some_is h.1) (p, h.0)
+        | inr h ↦ absurd cc
+      ]
+
+-- the text that is left where a text ends
+abbrev next_text : Next → List ℕ
+next_text None = []
+next_text (Some next) = number_line (codes "keys ") next.0 ++ text_of next.1.1
+
+abbrev IsNext : Next → Type 0
+IsNext None = Unit {0}
+IsNext (Some next) = IsNumber next.0
+
+abbrev NotesAre : Notes → List ℕ → Notes × Next → Type 0
+NotesAre n text r = (notes_text r.0 ++ next_text r.1 ≡ notes_text n ++ text) × AreNotes r.0 × IsNext r.1
+
+notes_found : (ls : List TextLine) (k : ℕ) (n : Notes) (r : Notes × Next) → SoFar n → notes_first n k ls ≡ Ok r → NotesAre n (text_of ls) r
+notes_found [] k n r so e =
+    elim (chosen (are_whole n) (Ok (n, None)) _ (Ok r) e) [
+      | inl h ↦ subst (λ (r : Notes × Next). NotesAre n [] r) (ok_is h.1) (refl, whole_notes n so h.0, tt)
       | inr h ↦ absurd cc
     ]
-notes_found (l ∷ ls) k n m so e =
-    by_ok (bytes_of (next_number k) l) _ m e (λ line pl el.
-    by_ok (formed (next_number k) (notes_with n line)) _ m el (λ more pm em.
-    let one = with_found n line more so (formed_found (next_number k) (notes_with n line) more pm) in
-    let behind = notes_found ls (next_number k) more m one.1 em in (
-      behind.0 ∙ ap (λ (x : List ℕ). x ++ text_of ls) one.0 ∙ append_assoc (notes_text n) (line ++ 10 ∷ []) (text_of ls) ∙ ap (λ (x : List ℕ). notes_text n ++ (x ++ text_of ls)) (sym (bytes_found (next_number k) l line pl)),
-      behind.1,
-    )))
-
--- ---- both
-
-abbrev pub IsReadIn : Sum → Sum → List ℕ → Type 0
-IsReadIn s result text = (t : Sum) × (text ≡ noted_text t) × IsNoted s.totals.layout t × (result ≡ plus s t)
-
-pub text_found : (s result : Sum) (text : List ℕ) (n : ℕ) → IsLayout s.totals.layout → sum_with s (n, text_lines text) ≡ Ok result → IsReadIn s result text
-unfolding sum_with
-text_found s result text n is e =
-    by_ok (totals_with s.totals.layout s.totals (n, text_lines text)) _ result e (λ t pt et.
-    by_ok (notes_to_end no_notes t.1.0 t.1.1) _ result et (λ notes pn en.
-    let totals = totals_found s.totals.layout s.totals (n, text_lines text) t is pt in
-    let found = notes_found t.1.1 t.1.0 no_notes notes (record { frames = tt; gaps = tt; skipped = tt; behind = λ h. refl }) pn in
-    whole t notes totals found.0 found.1 (ok_is en))) where
-      whole : (t : Totals × Rest) (notes : Notes) (totals : TotalsRead s.totals.layout s.totals (text_lines text) t) → notes_text notes ≡ text_of t.1.1 → AreNotes notes → record { totals = t.0; notes = plus_notes s.notes notes } ≡ result → IsReadIn s result text
-      whole t notes totals more fine same =
-          let read : Totals = record { layout = s.totals.layout; entries = totals.rs; unassigned = totals.unassigned } in (
-            record { totals = read; notes = notes },
-            sym (text_back text) ∙ totals.text ∙ ap (λ (x : List ℕ). totals_text read ++ x) (sym more),
-            record { layout_is = refl; records = totals.under; ascend = totals.ascend; count = totals.few; unassigned = totals.small; notes_are = fine },
-            sym same ∙ ap (λ (x : Totals). record { totals = x; notes = plus_notes s.notes notes }) totals.total,
+notes_found (l ∷ ls) k n r so e =
+    by_ok (bytes_of (next_number k) l) _ r e (λ line pl el.
+    by_ok (formed (next_number k) (line_behind n line)) _ r el (λ said ps es.
+    by_said line (bytes_found (next_number k) l line pl) (λ more so e. notes_found ls (next_number k) more r so e) said (said_found n line said (formed_found (next_number k) (line_behind n line) said ps)) es)) where
+      by_said : (line : List ℕ) → line_text l ≡ line ++ 10 ∷ [] → ((more : Notes) → SoFar more → notes_first more (next_number k) ls ≡ Ok r → NotesAre more (text_of ls) r) → (said : LineBehind) → Said n line said → on_or_next (λ more. notes_first more (next_number k) ls) n (next_number k, ls) said ≡ Ok r → NotesAre n (text_of (l ∷ ls)) r
+      by_said line is on (behind.Notes more) p es =
+          let one = with_found n line more so p in
+          let rest = on more one.1 es in (
+            rest.0 ∙ ap (λ (x : List ℕ). x ++ text_of ls) one.0 ∙ append_assoc (notes_text n) (line ++ 10 ∷ []) (text_of ls) ∙ ap (λ (x : List ℕ). notes_text n ++ (x ++ text_of ls)) (sym is),
+            rest.1,
+            rest.2,
           )
+      by_said line is on (behind.Keys keys) p es =
+          let number = number_line_found (codes "keys") line keys p.0 in
+          let first : line_text l ≡ number_line (codes "keys ") keys = is ∙ ap (λ (x : List ℕ). x ++ 10 ∷ []) number.0 in
+          subst (λ (r : Notes × Next). NotesAre n (text_of (l ∷ ls)) r) (ok_is es) (ap (λ (x : List ℕ). notes_text n ++ (x ++ text_of ls)) (sym first), whole_notes n so p.1, number.1)
+
+-- ---- a text
+
+record TextRead (keys : ℕ) (s : Sum) (ls : List TextLine) (r : Sum × Next) : Type 0 where
+  t : Sum
+  text : number_line (codes "keys ") keys ++ text_of ls ≡ noted_text t ++ next_text r.1
+  noted : IsNoted s.totals.layout t
+  total : r.0 ≡ plus s t
+  next : IsNext r.1
+
+text_found : (keys : ℕ) (s : Sum) (rest : Rest) (r : Sum × Next) → IsLayout s.totals.layout → IsNumber keys → sum_with keys s rest ≡ Ok r → TextRead keys s rest.1 r
+unfolding sum_with
+text_found keys s rest r is few e =
+    by_ok (totals_with s.totals.layout keys s.totals rest) _ r e (λ t pt et.
+    by_ok (notes_of t.1) _ r et (λ notes pn en.
+    let totals = totals_found s.totals.layout keys s.totals rest t is pt in
+    let found = notes_found t.1.1 t.1.0 no_notes notes (record { frames = tt; gaps = tt; skipped = tt; behind = λ h. refl }) pn in
+    whole t notes totals found.0 found.1 found.2 (ok_is en))) where
+      whole : (t : Totals × Rest) (notes : Notes × Next) (totals : TotalsRead s.totals.layout keys s.totals rest.1 t) → notes_text notes.0 ++ next_text notes.1 ≡ text_of t.1.1 → AreNotes notes.0 → IsNext notes.1 → (record { totals = t.0; notes = plus_notes s.notes notes.0 }, notes.1) ≡ r → TextRead keys s rest.1 r
+      whole t notes totals more fine next same =
+          let read : Totals = record { layout = s.totals.layout; entries = totals.rs; unassigned = totals.unassigned } in
+          let kline = number_line (codes "keys ") in
+          let lines = record_lines totals.rs ++ number_line (codes "unassigned ") totals.unassigned in
+          let left = notes_text notes.0 ++ next_text notes.1 in
+          subst (λ (r : Sum × Next). TextRead keys s rest.1 r) same (record {
+            t = record { totals = read; notes = notes.0 };
+            text =
+                ap₂ (λ (n : ℕ) (x : List ℕ). kline n ++ x) (sym totals.many) (totals.text ∙ ap (λ (x : List ℕ). lines ++ x) (sym more))
+                ∙ sym (append_assoc (kline (length totals.rs)) lines left)
+                ∙ sym (append_assoc (totals_text read) (notes_text notes.0) (next_text notes.1));
+            noted = record { layout_is = refl; records = totals.under; ascend = totals.ascend; count = subst IsNumber (sym totals.many) few; unassigned = totals.small; notes_are = fine };
+            total = ap (λ (x : Totals). record { totals = x; notes = plus_notes s.notes notes.0 }) totals.total;
+            next = next;
+          })
+
+-- ---- texts
+
+abbrev TextsAre : Layout → Sum → List ℕ → Sum → Type 0
+TextsAre layout s text result = (ts : List Sum) × (text ≡ noted_texts ts) × AllByRecursion (IsNoted layout) ts × (result ≡ plus_all s ts)
+
+-- a text more leaves the layout
+pub layout_stays : (s t : Sum) → (plus s t).totals.layout ≡ s.totals.layout
+layout_stays s t = layouts_kept s.totals t.totals.entries
+
+each_found : (s result : Sum) (next : Next) (most : ℕ) → IsLayout s.totals.layout → IsNext next → texts_up_to s next most ≡ Ok result → TextsAre s.totals.layout s (next_text next) result
+each_found s result None most is fine e = ([], refl, tt, sym (ok_is e))
+each_found s result (Some next) zero is fine e = absurd cc
+each_found s result (Some next) (suc most) is fine e =
+    by_ok (sum_with next.0 s next.1) _ result e (λ r pr er.
+    let one = text_found next.0 s next.1 r is fine pr in
+    let own : r.0.totals.layout ≡ s.totals.layout = ap (λ (x : Sum). x.totals.layout) one.total ∙ layout_stays s one.t in
+    let rest = each_found r.0 result r.1 most (subst IsLayout (sym own) is) one.next er in (
+      one.t ∷ rest.0,
+      one.text ∙ ap (λ (x : List ℕ). noted_text one.t ++ x) rest.1,
+      (one.noted, subst (λ (l : Layout). AllByRecursion (IsNoted l) rest.0) own rest.2),
+      rest.3 ∙ ap (λ (x : Sum). plus_all x rest.0) one.total,
+    ))
+
+abbrev pub AreReadIn : Sum → Sum → List ℕ → Type 0
+AreReadIn s result text =
+    (t : Sum) × (ts : List Sum) × (text ≡ noted_texts (t ∷ ts)) × AllByRecursion (IsNoted s.totals.layout) (t ∷ ts) × (result ≡ plus_all s (t ∷ ts))
+
+pub texts_found : (s result : Sum) (text : List ℕ) (n : ℕ) → IsLayout s.totals.layout → sum_of_texts s (n, text_lines text) ≡ Ok result → AreReadIn s result text
+unfolding sum_of_texts
+texts_found s result text n is e =
+    by_ok (in_line (number_behind (codes "keys")) (n, text_lines text)) _ result e (λ first pf ef.
+    let line = line_found (number_behind (codes "keys")) (n, text_lines text) first pf in
+    let number = number_line_found (codes "keys") line.0 first.0 line.2 in
+    let read = each_found s result (Some first) (length (text_lines text)) is number.1 ef in
+    let all : text ≡ next_text (Some first) = sym (text_back text) ∙ line.1 ∙ ap (λ (x : List ℕ). (x ++ 10 ∷ []) ++ text_of first.1.1) number.0 in
+    some first all read.0 read.1 read.2 read.3) where
+      some : (first : ℕ × Rest) → text ≡ next_text (Some first) → (ts : List Sum) → next_text (Some first) ≡ noted_texts ts → AllByRecursion (IsNoted s.totals.layout) ts → result ≡ plus_all s ts → AreReadIn s result text
+      some first all [] none under total = absurd cc
+      some first all (t ∷ ts) is under total = (t, ts, all ∙ is, under, total)

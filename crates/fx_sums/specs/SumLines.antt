@@ -13,6 +13,8 @@ use Rattle.fx_tables.specs.declared.record.Record.{Record}
 use Rattle.fx_sums.specs.declared.notes.Notes.{Notes}
 use Rattle.fx_sums.specs.declared.note.Note.{Note}
 use Rattle.fx_sums.specs.declared.note.Note.TheVariants.{Complete, Frames, Gaps, Skipped}
+use Rattle.fx_sums.specs.declared.line_behind.LineBehind.{LineBehind}
+use Rattle.fx_sums.specs.declared.line_behind.LineBehind.TheVariants as behind
 use Rattle.fx_sums.specs.SumText.{comes_behind}
 
 -- ---- words
@@ -139,3 +141,14 @@ notes_with notes line = note_of line >>= λ note. with_note notes note
 -- gaps stand with skipped records alone
 abbrev pub are_whole : Notes → Bool
 are_whole n = not (is_some n.gaps) || is_some n.skipped
+
+-- ---- behind notes
+
+-- where a line says how many keys the next text has, the notes are whole
+abbrev pub notes_or_keys : Notes → List ℕ → Option ℕ → Option LineBehind
+notes_or_keys notes line (Some keys) = if are_whole notes then Some (behind.Keys keys) else None
+notes_or_keys notes line None = option_map (λ more. behind.Notes more) (notes_with notes line)
+
+-- the notes with that of a line, or how many keys the text has that begins there
+unfoldable pub line_behind : Notes → List ℕ → Option LineBehind
+line_behind notes line = notes_or_keys notes line (number_behind (codes "keys") line)

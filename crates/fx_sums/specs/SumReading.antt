@@ -11,7 +11,9 @@ use Rattle.fx_layout.specs.Keys.{Layout}
 use Rattle.fx_collect.specs.Totals.{Totals, with_record, with_unassigned}
 use Rattle.fx_sums.specs.declared.notes.Notes.{Notes}
 use Rattle.fx_sums.specs.Sums.{Sum, no_notes, plus_notes}
-use Rattle.fx_sums.specs.SumLines.{number_behind, record_behind, notes_with, are_whole}
+use Rattle.fx_sums.specs.declared.line_behind.LineBehind.{LineBehind}
+use Rattle.fx_sums.specs.declared.line_behind.LineBehind.TheVariants as behind
+use Rattle.fx_sums.specs.SumLines.{number_behind, record_behind, line_behind, are_whole}
 
 infixl 10 ◌>>=◌
 abbrev pub ◌>>=◌ : {A B : Type 0} → Result A Fault → (A → Result B Fault) → Result B Fault
@@ -64,30 +66,62 @@ abbrev pub tallied : Layout → ℕ → Option (List ℕ) → Totals → Rest �
 tallied layout zero last t rest = Ok (t, rest)
 tallied layout (suc more) last t rest = in_line (record_behind layout last) rest >>= λ r. tallied layout more (Some r.0.key.values) (with_record t r.0) r.1
 
--- the totals with those whose text comes
-unfoldable pub totals_with : Layout → Totals → Rest → Result (Totals × Rest) Fault
-totals_with layout t rest = do
-  keys ← in_line (number_behind (codes "keys")) rest
-  sum ← tallied layout keys.0 None t keys.1
+-- the totals with those of a text, behind the line that says how many keys it has
+unfoldable pub totals_with : Layout → ℕ → Totals → Rest → Result (Totals × Rest) Fault
+totals_with layout keys t rest = do
+  sum ← tallied layout keys None t rest
   unassigned ← in_line (number_behind (codes "unassigned")) sum.1
   Ok (with_unassigned sum.0 unassigned.0, unassigned.1)
 
--- these notes and those up to the end of the text
-abbrev pub notes_to_end : Notes → ℕ → List TextLine → Result Notes Fault
-notes_to_end notes n [] = if are_whole notes then Ok notes else Err (missing n)
-notes_to_end notes n (l ∷ ls) = do
-  line ← bytes_of (next_number n) l
-  more ← formed (next_number n) (notes_with notes line)
-  notes_to_end more (next_number n) ls
+-- where a text ends: at the end of the lines, or at the line that says how many keys the next one has, and what is behind it
+abbrev pub Next : Type 0
+Next = Option (ℕ × Rest)
 
--- the sum with the totals and the notes of a text
-unfoldable pub sum_with : Sum → Rest → Result Sum Fault
-sum_with s rest = do
-  totals ← totals_with s.totals.layout s.totals rest
-  notes ← notes_to_end no_notes totals.1.0 totals.1.1
-  Ok (record { totals = totals.0; notes = plus_notes s.notes notes })
+-- what is read behind a line, or where its text ends
+abbrev pub on_or_next : (Notes → Result (Notes × Next) Fault) → Notes → Rest → LineBehind → Result (Notes × Next) Fault
+on_or_next on notes rest (behind.Notes more) = on more
+on_or_next on notes rest (behind.Keys keys) = Ok (notes, Some (keys, rest))
+
+-- these notes and those up to where the text ends
+abbrev pub notes_first : Notes → ℕ → List TextLine → Result (Notes × Next) Fault
+notes_first notes n [] = if are_whole notes then Ok (notes, None) else Err (missing n)
+notes_first notes n (l ∷ ls) = do
+  line ← bytes_of (next_number n) l
+  said ← formed (next_number n) (line_behind notes line)
+  on_or_next (λ more. notes_first more (next_number n) ls) notes (next_number n, ls) said
+
+-- the notes of a text
+abbrev pub notes_of : Rest → Result (Notes × Next) Fault
+notes_of rest = notes_first no_notes rest.0 rest.1
+
+-- the sum with the totals and the notes of a text, behind the line that says how many keys it has
+unfoldable pub sum_with : ℕ → Sum → Rest → Result (Sum × Next) Fault
+sum_with keys s rest = do
+  totals ← totals_with s.totals.layout keys s.totals rest
+  notes ← notes_of totals.1
+  Ok (record { totals = totals.0; notes = plus_notes s.notes notes.0 }, notes.1)
+
+-- ---- texts
+
+-- the sum with each text up to the end; there are no more than so many
+abbrev pub texts_up_to : Sum → Next → ℕ → Result Sum Fault
+texts_up_to s None most = Ok s
+texts_up_to s (Some next) zero = Err (missing next.1.0)
+texts_up_to s (Some next) (suc most) = sum_with next.0 s next.1 >>= λ r. texts_up_to r.0 r.1 most
+
+-- the sum with one text or more; each has a line at least
+unfoldable pub sum_of_texts : Sum → Rest → Result Sum Fault
+sum_of_texts s rest = do
+  first ← in_line (number_behind (codes "keys")) rest
+  texts_up_to s (Some first) (length rest.1)
 
 -- ---- of a reader of lines
+
+-- it hasn't stopped, and has gone on
+pub record GoesOnFrom (old new : Lines) : Type 0 where
+  pub going : new.stopped ≡ None
+  pub on : GoesOnToLines old new
+  pub smaller : line_budget new < line_budget old
 
 -- this comes of what it may have left
 abbrev pub MayGive : {A : Type 0} → (Rest → Result A Fault) → Lines → Result A Fault → Type 0
@@ -101,9 +135,12 @@ Gives read old new x = (rest : List ℕ) → MayBeLeft new.left rest → MayGive
 abbrev pub Refuses : {A : Type 0} → (Rest → Result A Fault) → Lines → Lines → Fault → Type 0
 Refuses read old new e = Fails old new e ⊎ MayGive read old (Err e)
 
--- the same of notes, which end the text
-abbrev pub MayEnd : Notes → Lines → Result Notes Fault → Type 0
-MayEnd notes lines result = MayHaveLeft lines.left (λ text. notes_to_end notes lines.number (text_lines text) ≡ result)
+-- what was read ends a text, and the reader is where the text ends: at the end, or behind the next text's first line
+abbrev pub GivesText : {A : Type 0} → (Rest → Result (A × Next) Fault) → Lines → Lines → A → Option ℕ → Type 0
+GivesText read old new x None = MayGive read old (Ok (x, None))
+GivesText read old new x (Some keys) =
+    GoesOnFrom old new
+    × ((rest : List ℕ) → MayBeLeft new.left rest → MayGive read old (Ok (x, Some (keys, (new.number, text_lines rest)))))
 
 -- a line is left, and this holds of it and of the lines behind it
 abbrev pub MayMeet : Lines → (TextLine → List TextLine → Type 0) → Type 0

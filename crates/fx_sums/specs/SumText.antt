@@ -1,6 +1,8 @@
 -- The text of totals and of what was noted beside them.
-use Rattle.std.specs.Prelude.{◌≡◌, ℕ, ◌^◌, ◌<◌, Bool, true, false, List, [], ◌∷◌, ◌++◌, length, codes, decimal, Option, Some, None, IfSome, is_some}
+use Rattle.std.specs.Prelude.{◌≡◌, ℕ, ◌^◌, ◌≤◌, ◌<◌, Bool, true, false, List, [], ◌∷◌, ◌++◌, flat_map, length, codes, decimal, Option, Some, None, IfSome, is_some}
 use Rattle.std.specs.List.{AllByRecursion}
+use Rattle.fx_base.specs.Lines.{text_lines}
+use Rattle.fx_base.specs.Limits.{line_length_limit}
 use Rattle.fx_layout.specs.Keys.{Layout, HasBits, comes_before}
 use Rattle.fx_tables.specs.declared.record.Record.{Record}
 use Rattle.fx_machine.specs.Sums.{IsBelow}
@@ -31,6 +33,10 @@ notes_text n = complete_text n.complete ++ (frames_text n.frames ++ (number_text
 
 abbrev pub noted_text : Sum → List ℕ
 noted_text s = totals_text s.totals ++ notes_text s.notes
+
+-- one behind another
+abbrev pub noted_texts : List Sum → List ℕ
+noted_texts ts = flat_map noted_text ts
 
 -- ---- what has a text that is read
 
@@ -63,3 +69,7 @@ pub record IsNoted (layout : Layout) (s : Sum) : Type 0 where
   pub count : length s.totals.entries < 2 ^ 64
   pub unassigned : s.totals.unassigned < 2 ^ 64
   pub notes_are : AreNotes s.notes
+
+-- no line has more than 4,096 bytes
+abbrev pub HasShortLines : List ℕ → Type 0
+HasShortLines text = AllByRecursion (λ l. length l.0 ≤ line_length_limit) (text_lines text)

@@ -52,10 +52,10 @@ plus_totals t u = with_unassigned (with_records t u.entries) u.unassigned
 abbrev pub plus : Sum → Sum → Sum
 plus s t = record { totals = plus_totals s.totals t.totals; notes = plus_notes s.notes t.notes }
 
--- one after another is added
-abbrev pub sum_of : Sum → List Sum → Sum
-sum_of s [] = s
-sum_of s (t ∷ ts) = sum_of (plus s t) ts
+-- each in turn
+abbrev pub plus_all : Sum → List Sum → Sum
+plus_all s [] = s
+plus_all s (t ∷ ts) = plus_all (plus s t) ts
 
 -- ---- alike
 
@@ -63,6 +63,5 @@ sum_of s (t ∷ ts) = sum_of (plus s t) ts
 abbrev pub HaveSameTotals : Totals → Totals → Type 0
 HaveSameTotals t u = ((key : Key) → total_at t.entries key ≡ total_at u.entries key) × (t.unassigned ≡ u.unassigned)
 
--- the same totals under one layout, and the same notes
 abbrev pub AreAlike : Sum → Sum → Type 0
-AreAlike s t = HaveSameTotals s.totals t.totals × (s.totals.layout ≡ t.totals.layout) × (s.notes ≡ t.notes)
+AreAlike s t = HaveSameTotals s.totals t.totals × (s.notes ≡ t.notes)

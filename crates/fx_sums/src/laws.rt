@@ -1,30 +1,32 @@
 //! Laws: no code, but contracts over the definitions.
-ghost use Rattle.std.specs.Prelude.{◌≡◌, ◌++◌, ◌∷◌, ℕ, List, Ok};
+ghost use Rattle.std.specs.Prelude.{◌≡◌, ◌++◌, ℕ, List, ◌∷◌, Ok};
+ghost use Rattle.std.specs.List.{AllByRecursion};
 ghost use Rattle.fx_base.specs.Lines.{text_lines};
 ghost use Rattle.fx_layout.specs.Keys.{Layout, IsLayout};
 ghost use Rattle.fx_tables.specs.declared.record.Record.{Record};
 ghost use Rattle.fx_collect.specs.Totals.{nothing, with_records};
-ghost use Rattle.fx_sums.specs.Sums.{Sum, plus, plus_totals, sum_of, AreAlike, HaveSameTotals};
-ghost use Rattle.fx_sums.specs.SumText.{noted_text, IsNoted};
-ghost use Rattle.fx_sums.specs.SumReading.{sum_with};
+ghost use Rattle.fx_sums.specs.Sums.{Sum, plus, plus_all, plus_totals, AreAlike, HaveSameTotals};
+ghost use Rattle.fx_sums.specs.SumText.{noted_texts, IsNoted, HasShortLines};
+ghost use Rattle.fx_sums.specs.SumReading.{sum_of_texts};
 
 /// What is collected apart and summed is what is collected together: at each key the total, and as many unassigned
-/// records. Whatever texts are added before and behind them, it
-/// doesn't matter which of two neighbours comes first.
+/// records. It doesn't matter which of two texts is added first.
 pub fn sums_of_parts()
     ensures together { (layout : Layout) (a b : List Record) → IsLayout layout → HaveSameTotals
         (plus_totals (with_records (nothing layout) a) (with_records (nothing layout) b))
         (with_records (nothing layout) (a ++ b)) }
-    ensures exchanged { (s t u : Sum) (before behind : List Sum) → AreAlike
-        (sum_of s (before ++ t ∷ u ∷ behind)) (sum_of s (before ++ u ∷ t ∷ behind)) }
+    ensures exchanged { (s t u : Sum) → AreAlike (plus (plus s t) u) (plus (plus s u) t) }
 {}
 
-/// The text of totals and notes under the keys of a sum's layout, which ascend, is read as these and added, and what is
-/// read and added is such a text.
+/// Texts of totals and notes under the keys of a sum's layout, which ascend, one behind another, are read as these and
+/// each added in turn, and what is read and added are such texts, one or more. No line of them has more than 4,096
+/// bytes.
 pub fn totals_texts()
-    ensures read { (s t : Sum) (n : ℕ) → IsLayout s.totals.layout → IsNoted s.totals.layout t
-        → sum_with s (n, text_lines (noted_text t)) ≡ Ok (plus s t) }
+    ensures read { (s t : Sum) (ts : List Sum) (n : ℕ) → IsLayout s.totals.layout
+        → AllByRecursion (IsNoted s.totals.layout) (t ∷ ts) → HasShortLines (noted_texts (t ∷ ts))
+        → sum_of_texts s (n, text_lines (noted_texts (t ∷ ts))) ≡ Ok (plus_all s (t ∷ ts)) }
     ensures only { (s result : Sum) (text : List ℕ) (n : ℕ) → IsLayout s.totals.layout
-        → sum_with s (n, text_lines text) ≡ Ok result
-        → (t : Sum) × (text ≡ noted_text t) × IsNoted s.totals.layout t × (result ≡ plus s t) }
+        → sum_of_texts s (n, text_lines text) ≡ Ok result
+        → (t : Sum) × (ts : List Sum) × (text ≡ noted_texts (t ∷ ts))
+            × AllByRecursion (IsNoted s.totals.layout) (t ∷ ts) × (result ≡ plus_all s (t ∷ ts)) }
 {}

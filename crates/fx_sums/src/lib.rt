@@ -2,6 +2,7 @@
 #![tactic(auto)]
 
 mod laws;
+mod line_behind;
 mod note;
 mod notes;
 mod notes_put;

@@ -1,16 +1,15 @@
 //! Sums of totals.
-ghost use Rattle.std.specs.Prelude.{◌≡◌, ◌⊎◌, Ok, Err, IfOk, IfErr, OnOk, IsPermutation};
+ghost use Rattle.std.specs.Prelude.{◌≡◌, ◌⊎◌, None, Ok, Err, IfOk, IfErr, OnOk, IsPermutation};
 ghost use Rattle.fx_base.specs.Device.{Writes, IsWriteFault, KeepsGoing};
 ghost use Rattle.fx_base.specs.Fault.{IsMemory};
-ghost use Rattle.fx_base.specs.Lines.{Fails};
 ghost use Rattle.fx_collect.specs.Report.{KeysAscend};
 ghost use Rattle.fx_sums.specs.Sums.{no_sum, IsSumBut};
 ghost use Rattle.fx_sums.specs.SumText.{noted_text};
-ghost use Rattle.fx_sums.specs.SumReading.{sum_with, MayGive, Refuses};
+ghost use Rattle.fx_sums.specs.SumReading.{sum_with, sum_of_texts, MayGive, GivesText, Refuses};
 
 use crate::notes::Notes;
 use crate::notes_put::put_notes;
-use crate::text_lines::{add_totals, read_notes};
+use crate::text_lines::{add_totals, read_notes, read_number};
 use fx_base::{Fault, LineReader, Sink, Source};
 use fx_collect::Totals;
 use fx_layout::{Layout, Seed};
@@ -53,11 +52,30 @@ impl Sum {
         })
     }
 
-    /// Adds the totals of a text, which begins with the next line and ends with the last: the counts key by key, the
-    /// unassigned records and the numbers of its notes, each modulo 2 to the 64; the sum is complete where all
-    /// texts that say so are. Each line is tallied as it is read.
+    /// Adds a text, behind its first line, which says how many keys it has. Where another text comes, its first line
+    /// is read too, and how many keys it has is the answer.
+    fn add_text<R: Source>(
+        &mut self,
+        lines: &mut LineReader<R>,
+        keys: u64,
+    ) -> Result<Option<u64>, Fault>
+        requires { lines.old.stopped ≡ None }
+        ensures ok { IfOk result (GivesText (sum_with keys self.old) lines.old lines.new self.new) }
+        ensures err { IfErr result (λ e. IsMemory e
+            ⊎ Refuses (sum_with keys self.old) lines.old lines.new e) }
+    {
+        add_totals(&mut self.totals, &self.layout, lines, keys)?;
+        let (notes, next) = read_notes(lines)?;
+        self.notes = self.notes.plus(notes);
+        Ok(next)
+    }
+
+    /// Adds the totals of texts, one or more, one directly behind another: the first begins with the next line, and
+    /// the last ends with the last line. Added are the counts key by key, the unassigned records and the numbers of
+    /// notes, each modulo 2 to the 64; the sum is complete where all texts that say so are. Each line is tallied as
+    /// it is read.
     ///
-    /// The text is a line `keys N`; N lines `KEY packets P octets O`, where KEY has the values of the layout's
+    /// A text is a line `keys N`; N lines `KEY packets P octets O`, where KEY has the values of the layout's
     /// parts in axis order with single spaces between them, as `Totals::put_report` of fx_collect writes them, or is
     /// `all` for a layout without parts, and the keys ascend, none of them twice; a line `unassigned U`; and notes
     /// in this order, each at most once: `complete yes` or `complete no` (of a replay), `skipped other A malformed
@@ -65,17 +83,21 @@ impl Sum {
     /// without leading zeros, below 2 to the 64. A line feed ends each line.
     ///
     /// Fails, at the first line where something is wrong, with 861 where the line isn't such a one or is missing, or
-    /// comes behind the last. Fails as the reader of lines does where that stands (901, 903), and with 900, at no
-    /// place, for want of memory. After a fault the sum is of no use.
-    pub fn add_text<R: Source>(&mut self, lines: &mut LineReader<R>) -> Result<(), Fault>
-        ensures ok { OnOk result (MayGive (sum_with self.old) lines.old (Ok self.new)) }
+    /// is neither a note nor the first line of another text; at line 1 where there is none. Fails as the reader of
+    /// lines does where that stands (901, 903), and with 900, at no place, for want of memory. After a fault the sum
+    /// is of no use.
+    pub fn add_texts<R: Source>(&mut self, lines: &mut LineReader<R>) -> Result<(), Fault>
+        ensures ok { OnOk result (MayGive (sum_of_texts self.old) lines.old (Ok self.new)) }
         ensures err { IfErr result (λ e. IsMemory e
-            ⊎ Refuses (sum_with self.old) lines.old lines.new e) }
+            ⊎ Refuses (sum_of_texts self.old) lines.old lines.new e) }
     {
-        add_totals(&mut self.totals, &self.layout, lines)?;
-        let notes = read_notes(lines)?;
-        self.notes = self.notes.plus(notes);
-        Ok(())
+        let mut keys = read_number(lines, b"keys")?;
+        'texts: loop {
+            match self.add_text(lines, keys)? {
+                Some(next) => keys = next,
+                None => return Ok(()),
+            }
+        }
     }
 
     /// Puts the keys in order: by the first value that differs.
@@ -90,7 +112,7 @@ impl Sum {
         self.totals.sort()
     }
 
-    /// Writes the sum as a text of totals, which [`Sum::add_text`] reads: the totals, and behind them a line for each
+    /// Writes the sum as a text of totals, which [`Sum::add_texts`] reads: the totals, and behind them a line for each
     /// note.
     ///
     /// The keys are to ascend, as after [`Sum::sort`]. Fails with 902, at no place, where a write fails; how much

@@ -1,11 +1,11 @@
 //! Going from line to line of a text of totals.
-ghost use Rattle.std.specs.Prelude.{◌≡◌, ◌⊎◌, ◌<◌, None, Some, Ok, Err, IfOk, IfErr, OnOk, option_map};
+ghost use Rattle.std.specs.Prelude.{◌≡◌, ◌⊎◌, ◌≤◌, ◌<◌, None, Some, Ok, Err, IfOk, IfErr, OnOk, option_map};
 ghost use Rattle.fx_base.specs.Fault.{IsMemory};
-ghost use Rattle.fx_base.specs.Lines.{GoesOnToLines, Fails};
-ghost use Rattle.fx_sums.specs.Sums.{no_notes};
+ghost use Rattle.fx_base.specs.Lines.{GoesOnToLines, line_budget};
 ghost use Rattle.fx_sums.specs.SumLines.{number_behind, record_behind};
-ghost use Rattle.fx_sums.specs.SumReading.{next_line, in_line, tallied, totals_with, missing, wrong, Gives, MayEnd, Refuses, GoesOnToLine, GoesOnOrEnds};
+ghost use Rattle.fx_sums.specs.SumReading.{next_line, in_line, tallied, totals_with, notes_of, missing, wrong, Gives, GivesText, Refuses, GoesOnFrom, GoesOnToLine, GoesOnOrEnds};
 
+use crate::line_behind::{LineBehind, read_line_behind};
 use crate::note::read_number_line;
 use crate::notes::Notes;
 use crate::record_line::read_record_behind;
@@ -54,7 +54,7 @@ fn go_on<R: Source>(lines: &mut LineReader<R>) -> Result<(), Fault>
 }
 
 /// Reads the next line, which is this word and a number.
-fn read_number<R: Source>(lines: &mut LineReader<R>, word: &[u8]) -> Result<u64, Fault>
+pub(crate) fn read_number<R: Source>(lines: &mut LineReader<R>, word: &[u8]) -> Result<u64, Fault>
     ensures on { OnOk result (GoesOnToLine lines.old lines.new) }
     ensures ok { IfOk result (λ n.
         Gives (in_line (number_behind word.now)) lines.old lines.new n) }
@@ -97,6 +97,7 @@ fn tally_records<R: Source>(
     ensures going { OnOk result (lines.new.stopped ≡ None) }
     ensures layout { totals.new.layout ≡ totals.old.layout }
     ensures on { OnOk result (GoesOnToLines lines.old lines.new) }
+    ensures smaller { OnOk result (line_budget lines.new ≤ line_budget lines.old) }
     ensures ok { OnOk result (Gives (tallied layout.now count None totals.old) lines.old lines.new
         totals.new) }
     ensures err { IfErr result (λ e. IsMemory e
@@ -114,44 +115,47 @@ fn tally_records<R: Source>(
     Ok(())
 }
 
-/// Reads the text of totals under the keys of this layout, which begins with the next line, and adds it to these.
+/// Reads the totals of a text under the keys of this layout, behind the line that says how many there are, and adds
+/// them to these.
 pub(crate) fn add_totals<R: Source>(
     totals: &mut Totals,
     layout: &Layout,
     lines: &mut LineReader<R>,
+    keys: u64,
 ) -> Result<(), Fault>
-    ensures going { OnOk result (lines.new.stopped ≡ None) }
+    requires { lines.old.stopped ≡ None }
     ensures layout { totals.new.layout ≡ totals.old.layout }
-    ensures on { OnOk result (GoesOnToLines lines.old lines.new) }
-    ensures ok { OnOk result (Gives (totals_with layout.now totals.old) lines.old lines.new
+    ensures on { OnOk result (GoesOnFrom lines.old lines.new) }
+    ensures ok { OnOk result (Gives (totals_with layout.now keys totals.old) lines.old lines.new
         totals.new) }
     ensures err { IfErr result (λ e. IsMemory e
-        ⊎ Refuses (totals_with layout.now totals.old) lines.old lines.new e) }
+        ⊎ Refuses (totals_with layout.now keys totals.old) lines.old lines.new e) }
 {
-    let count = read_number(lines, b"keys")?;
-    tally_records(totals, layout, lines, count)?;
+    tally_records(totals, layout, lines, keys)?;
     let unassigned = read_number(lines, b"unassigned")?;
     totals.add_unassigned(unassigned);
     Ok(())
 }
 
-/// Reads notes up to the end of the text.
-pub(crate) fn read_notes<R: Source>(lines: &mut LineReader<R>) -> Result<Notes, Fault>
+/// Reads notes up to the end, or up to the first line of the next text, and answers how many keys that has.
+pub(crate) fn read_notes<R: Source>(
+    lines: &mut LineReader<R>,
+) -> Result<(Notes, Option<u64>), Fault>
     requires { lines.old.stopped ≡ None }
-    ensures ok { IfOk result (λ notes. MayEnd no_notes lines.old (Ok notes)) }
-    ensures err { IfErr result (λ e. Fails lines.old lines.new e
-        ⊎ MayEnd no_notes lines.old (Err e)) }
+    ensures ok { IfOk result (λ r. GivesText notes_of lines.old lines.new r.0 r.1) }
+    ensures err { IfErr result (Refuses notes_of lines.old lines.new) }
 {
     let mut notes = Notes::new();
     'notes: loop {
         if !go_on_or_end(lines)? {
             if notes.are_whole() {
-                return Ok(notes);
+                return Ok((notes, None));
             }
             return Err(missing_line(lines));
         }
-        match notes.with_line(lines.line().bytes) {
-            Some(more) => notes = more,
+        match read_line_behind(notes, lines.line().bytes) {
+            Some(LineBehind::Notes(more)) => notes = more,
+            Some(LineBehind::Keys(keys)) => return Ok((notes, Some(keys))),
             None => return Err(wrong_line(lines)),
         }
     }

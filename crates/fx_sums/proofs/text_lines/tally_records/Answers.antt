@@ -1,4 +1,4 @@
-use Rattle.std.proofs.Common.{inr, option_map, ap, ◌∙◌}
+use Rattle.std.proofs.Common.{arith, inr, option_map, ap, ◌∙◌}
 use Rattle.std.proofs.lemmas.Result.{err_from_is_err_and}
 use Rattle.fx_base.proofs.GoingOn.{goes_then}
 use Rattle.fx_layout.specs.Keys.{Key}
@@ -18,6 +18,7 @@ loop-left-preserved g c =
     record {
       going = c.in_ok-entry.ensures.on.going;
       on = goes_then c.args.lines.now c.loop-left.lines c.read_record.new.lines c.loop-left.invariant.on c.in_ok-entry.ensures.on.on;
+      smaller = omega (arith, c.in_ok-entry.ensures.on.smaller, c.loop-left.invariant.smaller);
       same = ap (λ (t : Totals). t.layout) c.in_ok-tally.ensures.ok ∙ layout_kept c.loop-left.totals c.in_ok-entry.entry ∙ c.loop-left.invariant.same;
       tallies = tallies_one c.args.layout.now c.args.count c.args.totals.now c.args.lines.now c.loop-left.lines last c.loop-left.totals c.read_record.new.lines c.loop-left.left c.in_ok-entry.entry c.tally.new.self c.loop-left.invariant.tallies c.loop-left-test.true c.in_ok-entry.ensures.ok c.in_ok-tally.ensures.ok;
     }
