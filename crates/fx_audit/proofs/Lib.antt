@@ -4,6 +4,7 @@ pub mod Marks
 pub mod Refusals
 pub mod Replays
 pub mod Streams
+pub mod Sums
 pub mod Collects
 pub mod Checks
 pub mod Confirms
@@ -19,3 +20,4 @@ pub mod ListedStreams
 pub mod ListedCaptures
 pub mod ListedRefutations
 pub mod ListedBundles
+pub mod ListedSums

@@ -1,11 +1,10 @@
 -- Each fault of a device's configuration has a number that is listed.
-use Rattle.std.proofs.Common.{◌≡◌, ◌⊎◌, ℕ, ◌+◌, Bool, true, false, refl, sym, ap, subst, List, [], ◌∷◌, ◌++◌, Option, Some, None, inl, inr, codes, true≢false}
-use Rattle.std.specs.Prelude.{⊤, ◌&&◌, map, is_some, not}
+use Rattle.std.proofs.Common.{ℕ, ◌+◌, Bool, true, false, refl, List, [], ◌∷◌, Option, Some, None, codes}
+use Rattle.std.specs.Prelude.{◌&&◌, map, not}
 use Rattle.serde_json.specs.Data.{Data}
 use Rattle.fx_elements.specs.declared.element.Element.{Element}
 use Rattle.fx_layout.specs.Keys.{Layout}
-use Rattle.fx_walk.specs.Pointer.{below, nth}
-use Rattle.fx_walk.specs.Walk.{FoundFault, Row, first, object_faults, optional}
+use Rattle.fx_walk.specs.Pointer.{nth}
 use Rattle.fx_config.specs.Aggregations.{aggregation_faults, aggregation_of, aggregation_rows}
 use Rattle.fx_config.specs.CacheFields.{cache_field_faults, cache_field_of, cache_field_rows, element_faults, fields_row, is_key_in, is_on_axis, is_total_count, length_faults, length_in}
 use Rattle.fx_config.specs.CacheFields as fields
@@ -16,7 +15,7 @@ use Rattle.fx_config.specs.Destinations.{destination_faults, destination_of, des
 use Rattle.fx_config.specs.Devices.{device_faults, device_rows, ipfix_faults, ipfix_rows, lists_of}
 use Rattle.fx_config.specs.ExportingProcesses.{export_mode_named, exporting_process_faults, exporting_process_of, exporting_process_rows}
 use Rattle.fx_config.specs.KeyFields.{key_element_in, key_field_faults, key_field_of, key_field_rows, prefix_check, prefix_length_in}
-use Rattle.fx_config.specs.Keys.{add_field, field_check, fields_faults, key_row}
+use Rattle.fx_config.specs.Keys.{add_field, fields_faults}
 use Rattle.fx_config.specs.ObservationPoints.{direction_named, observation_point_faults, observation_point_of, observation_point_rows}
 use Rattle.fx_config.specs.PropertyMatches.{property_match_faults, property_match_rows}
 use Rattle.fx_config.specs.References.{aggregation_references, cache_references, collecting_references, exporting_references, point_references, process_references, reference_faults, references_among}
@@ -28,7 +27,7 @@ use Rattle.fx_walk.specs.Lists.{name_once}
 use Rattle.fx_walk.specs.Scalars.{text_of}
 use Rattle.fx_base.specs.Refusals.{file_transport, key_without_axis, total_counter}
 use Rattle.fx_config.specs.GivenElements.{element_in}
-use Rattle.fx_audit.proofs.ListedNumbers.{AreListed, EntriesListed, FaultsListed, RowsListed, both_listed, check_listed, empty_listed, entries_faults_listed, entries_listed, faults_listed, if_listed, items_faults_listed, items_listed, list_by_listed, list_row_listed, more, name_listed, name_once_by_listed, name_once_listed, none, none_of_listed, object_listed, of_faults, one_of_listed, open_object_listed, optional_listed, references_listed, required_entries_listed, required_items_listed, required_listed, text_listed, text_that_listed, unknown_if_there_listed, unknown_listed, unread_listed, whole_listed, word_listed}
+use Rattle.fx_audit.proofs.ListedNumbers.{AreListed, EntriesListed, FaultsListed, both_listed, check_listed, empty_listed, entries_listed, faults_listed, if_listed, items_listed, list_row_listed, name_listed, name_once_listed, none, none_of_listed, object_listed, of_faults, one_of_listed, open_object_listed, optional_listed, references_listed, required_listed, text_listed, unknown_if_there_listed, unknown_listed, unread_listed, whole_listed, word_listed}
 
 points_listed : EntriesListed observation_point_faults
 points_listed earlier = object_listed (observation_point_rows earlier) (

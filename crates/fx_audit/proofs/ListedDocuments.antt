@@ -1,6 +1,6 @@
 -- Each refusal of a network's document and of a declaration of traffic has a number that is listed.
-use Rattle.std.proofs.Common.{◌≡◌, ◌⊎◌, ℕ, ◌+◌, Bool, true, false, refl, sym, ap, subst, List, [], ◌∷◌, ◌++◌, Option, Some, None, inl, inr, codes, true≢false}
-use Rattle.std.specs.Prelude.{⊤, map, is_some, unwrap_or}
+use Rattle.std.proofs.Common.{◌≡◌, ℕ, ◌+◌, true, refl, sym, ap, subst, List, [], ◌∷◌, ◌++◌, Option, Some, inl, inr, codes, true≢false}
+use Rattle.std.specs.Prelude.{map, is_some, unwrap_or}
 use Rattle.serde_json.specs.Data.{Data}
 use Rattle.fx_base.specs.Refusals.{class_twice, is_refusal_number, missing_member, no_path, too_many_entries, too_much_traffic, traffic_value}
 use Rattle.fx_base.specs.declared.fault.Fault.{Fault}
@@ -8,11 +8,9 @@ use Rattle.fx_base.specs.declared.fault.Place.{Place}
 use Rattle.fx_base.specs.declared.fault.Place.TheVariants as places
 use Rattle.fx_elements.specs.Axes.{axes}
 use Rattle.fx_elements.specs.declared.axis.Axis.{Axis}
-use Rattle.fx_elements.specs.declared.element.Element.{Element}
-use Rattle.fx_layout.specs.Keys.{Layout}
-use Rattle.fx_walk.specs.Pointer.{below, nth}
-use Rattle.fx_walk.specs.Walk.{FoundFault, Row, first, object_faults, optional}
-use Rattle.fx_topology.specs.Links.{link_faults, link_of, link_rows, links_faults, links_row}
+use Rattle.fx_walk.specs.Pointer.{nth}
+use Rattle.fx_walk.specs.Walk.{FoundFault, first, object_faults, optional}
+use Rattle.fx_topology.specs.Links.{link_faults, link_of, link_rows, links_faults}
 use Rattle.fx_topology.specs.NetworkDevices.{network_device_faults, network_device_of, network_device_rows}
 use Rattle.fx_topology.specs.Networks.{devices_of, network_faults, network_rows}
 use Rattle.fx_topology.specs.Reports.{report_faults, report_rows}
@@ -24,15 +22,14 @@ use Rattle.fx_traffic.specs.Classes.{class_faults, class_name, class_rows, exemp
 use Rattle.fx_traffic.specs.Crossings.{crossing_faults, crossing_rows, path_faults}
 use Rattle.fx_traffic.specs.Crossings as crossings
 use Rattle.fx_traffic.specs.Regions.{axis_name, region_faults, region_rows, values_faults, values_on}
-use Rattle.fx_audit.specs.Documents.{IsFirstFault, IsRefusedByDocuments, IsRefusedIn, IsRefusedNetwork, by_plan, by_walk, is_found}
+use Rattle.fx_audit.specs.Documents.{IsFirstFault, IsRefusedByDocuments, IsRefusedNetwork, by_plan, by_walk, is_found}
 use Rattle.fx_base.specs.Name.{is_name}
 use Rattle.fx_walk.specs.Lists.{entries_faults, items_faults, list_faults}
 use Rattle.fx_topology.specs.Limits.{device_limit, key_field_limit, link_limit}
 use Rattle.fx_traffic.specs.Limits.{class_limit, crossing_limit, path_limit}
 use Rattle.fx_traffic.specs.Texts as traffic_texts
 use Rattle.fx_traffic.specs.Lists as traffic_lists
-use Rattle.fx_audit.proofs.ListedNumbers.{AreListed, EntriesListed, FaultsListed, RowsListed, both_listed, check_listed, empty_listed, entries_faults_listed, entries_listed, faults_listed, if_listed, items_faults_listed, items_listed, list_by_listed, list_row_listed, more, name_listed, name_once_by_listed, name_once_listed, none, none_of_listed, object_listed, of_faults, one_of_listed, open_object_listed, optional_listed, references_listed, required_entries_listed, required_items_listed, required_listed, text_listed, text_that_listed, unknown_if_there_listed, unknown_listed, unread_listed, whole_listed}
-use Rattle.fx_config.specs.Devices.{device_faults}
+use Rattle.fx_audit.proofs.ListedNumbers.{AreListed, EntriesListed, FaultsListed, RowsListed, both_listed, check_listed, entries_faults_listed, faults_listed, if_listed, items_faults_listed, list_by_listed, more, name_listed, name_once_by_listed, name_once_listed, none, object_listed, of_faults, optional_listed, required_entries_listed, required_items_listed, required_listed, text_that_listed}
 use Rattle.fx_config.specs.KeyFields.{key_field_faults}
 use Rattle.fx_audit.proofs.ListedDevices.{devices_listed, key_fields_listed}
 

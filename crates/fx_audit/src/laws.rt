@@ -11,6 +11,7 @@ ghost use Rattle.fx_audit.specs.Commands.{IsRefusedBundle, IsRefusedCheck, IsRef
 ghost use Rattle.fx_audit.specs.Confirms.{IsRefusedRefutation, RefutesNothing};
 ghost use Rattle.fx_audit.specs.Documents.{IsRefusedByDocuments, IsRefusedNetwork};
 ghost use Rattle.fx_audit.specs.Metering.{IsRefusedMetering};
+ghost use Rattle.fx_audit.specs.Sums.{IsRefusedSum};
 
 /// The first fault of a network's document, that of a declaration of traffic, a number that makes the answer to a
 /// certificate or to a refutation `no`, what else a check ends with, and what each command refuses behind its documents
@@ -39,6 +40,8 @@ pub fn refusals_are_listed()
         → from.stopped ≡ None
         → IsRefusedMetering network traffic left asked (Unit {0}) from last before e
         → is_refusal_number e.number ≡ true }
+    ensures sum { (network : List ℕ) (lines : Lines) (e : faults.Fault)
+        → IsRefusedSum network lines e → is_refusal_number e.number ≡ true }
     ensures bundle { (octets : List ℕ) (e : faults.Fault)
         → IsRefusedBundle octets e → is_refusal_number e.number ≡ true }
 {}

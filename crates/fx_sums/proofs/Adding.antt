@@ -1,16 +1,15 @@
 -- The parts of a text of totals, one behind another, and one text behind another.
-use Rattle.std.proofs.Common.{◌≡◌, ℕ, zero, suc, ◌-◌, ◌<◌, ◌≤◌, List, length, codes, Option, Some, None, Result, Ok, Err, ap, sym, ◌∙◌, refl, arith, inl, inr}
+use Rattle.std.proofs.Common.{◌≡◌, ℕ, codes, Option, Some, None, Result, Ok, ap, sym, ◌∙◌, refl, arith, inl, inr}
 use Rattle.fx_base.specs.declared.fault.Fault.{Fault}
-use Rattle.fx_base.specs.Device.{MayBeLeft}
 use Rattle.fx_base.specs.Lines.{Lines, GoesOnToLines, text_lines}
 use Rattle.fx_base.proofs.GoingOn.{goes_then}
 use Rattle.fx_layout.specs.Keys.{Layout}
 use Rattle.fx_collect.specs.Totals.{Totals, with_unassigned}
 use Rattle.fx_sums.specs.declared.notes.Notes.{Notes}
-use Rattle.fx_sums.specs.Sums.{Sum, no_notes, plus_notes}
+use Rattle.fx_sums.specs.Sums.{Sum, plus_notes}
 use Rattle.fx_sums.specs.SumLines.{number_behind}
 use Rattle.fx_sums.specs.SumReading.{◌>>=◌, Rest, Next, in_line, tallied, totals_with, notes_of, sum_with, MayGive, Gives, GivesText, Refuses, GoesOnFrom}
-use Rattle.fx_sums.proofs.Tallying.{gives_then, refuses_then, refuses_first}
+use Rattle.fx_sums.proofs.Tallying.{refuses_then, refuses_first}
 
 abbrev unassigned_in : Rest → Result (ℕ × Rest) Fault
 unassigned_in = in_line (number_behind (codes "unassigned"))

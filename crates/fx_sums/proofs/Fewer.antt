@@ -1,5 +1,5 @@
 -- Each text takes lines.
-use Rattle.std.proofs.Common.{◌≡◌, ℕ, zero, suc, ◌<◌, ◌≤◌, List, [], ◌∷◌, length, Option, Some, None, Result, Ok, Err, codes, ap, sym, ◌∙◌, refl, subst, arith, inl, inr}
+use Rattle.std.proofs.Common.{◌≡◌, ℕ, zero, suc, ◌<◌, ◌≤◌, List, [], ◌∷◌, length, Option, Some, None, Result, Ok, Err, codes, ap, refl, arith, inl, inr}
 use Rattle.fx_base.specs.declared.fault.Fault.{Fault}
 use Rattle.fx_base.specs.Lines.{next_number}
 use Rattle.fx_elements.proofs.Cuts.{chosen}
@@ -8,9 +8,9 @@ use Rattle.fx_collect.specs.Totals.{Totals, with_record}
 use Rattle.fx_sums.specs.declared.line_behind.LineBehind.{LineBehind}
 use Rattle.fx_sums.specs.declared.line_behind.LineBehind.TheVariants as behind
 use Rattle.fx_sums.specs.declared.notes.Notes.{Notes}
-use Rattle.fx_sums.specs.Sums.{Sum, no_notes, plus_notes}
+use Rattle.fx_sums.specs.Sums.{Sum, no_notes}
 use Rattle.fx_sums.specs.SumLines.{number_behind, record_behind, line_behind, are_whole}
-use Rattle.fx_sums.specs.SumReading.{◌>>=◌, TextLine, Rest, Next, bytes_of, formed, next_line, in_line, tallied, totals_with, on_or_next, notes_first, notes_of, sum_with}
+use Rattle.fx_sums.specs.SumReading.{◌>>=◌, TextLine, Rest, Next, bytes_of, formed, next_line, in_line, tallied, totals_with, on_or_next, notes_first, notes_of, sum_with, texts_up_to}
 
 abbrev done : {A : Type 0} → A → Result A Fault
 done x = Ok x
@@ -86,3 +86,19 @@ text_fewer keys s rest r e =
     let there = notes_fewer t.1.1 t.1.0 no_notes notes pn in
     let same : lines_behind notes.1 ≡ lines_behind r.1 = ap (λ (r : Sum × Next). lines_behind r.1) (ok_is en) in
     omega (arith, here, there, same)))
+
+-- ---- the bound on the number of texts
+
+-- a bound above the number of lines is never reached
+pub enough : (s : Sum) (next : Next) (a b : ℕ) → lines_behind next < a → lines_behind next < b → texts_up_to s next a ≡ texts_up_to s next b
+enough s None a b h k = refl
+enough s (Some next) zero b h k = absurd (omega (arith, h))
+enough s (Some next) (suc a) zero h k = absurd (omega (arith, k))
+enough s (Some next) (suc a) (suc b) h k = by_text (λ r p q. enough r.0 r.1 a b p q) (sum_with next.0 s next.1) refl where
+  by_text : ((r : Sum × Next) → lines_behind r.1 < a → lines_behind r.1 < b → texts_up_to r.0 r.1 a ≡ texts_up_to r.0 r.1 b) → (o : Result (Sum × Next) Fault) → sum_with next.0 s next.1 ≡ o → (o >>= λ r. texts_up_to r.0 r.1 a) ≡ (o >>= λ r. texts_up_to r.0 r.1 b)
+  by_text on (Ok r) e = let fewer = text_fewer next.0 s next.1 r e in on r (omega (arith, fewer, h)) (omega (arith, fewer, k))
+  by_text on (Err f) e = refl
+
+-- so one text more may come: a text and then those behind it are read, as many as there are
+pub bound_not_met : (s : Sum) (next : ℕ × Rest) (most : ℕ) → length next.1.1 < most → texts_up_to s (Some next) most ≡ texts_up_to s (Some next) (suc most)
+bound_not_met s next most some = enough s (Some next) most (suc most) some (omega (arith, some))

@@ -7,7 +7,9 @@ pub mod Adding
 pub mod Fewer
 pub mod TextsOn
 pub mod SumsOfParts
+pub mod InAnyOrder
 pub mod LinesFound
 pub mod TextsFound
 pub mod LinesRead
 pub mod TextsRead
+pub mod RefusedTexts

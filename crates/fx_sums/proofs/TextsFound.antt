@@ -1,11 +1,10 @@
 -- A text that is read as totals and notes is their text.
-use Rattle.std.proofs.Common.{◌≡◌, ℕ, zero, suc, ◌^◌, ◌<◌, Bool, true, false, cond, eqb, ◌||◌, ◌&&◌, not, List, [], ◌∷◌, ◌++◌, length, Option, Some, None, Result, Ok, Err, IfSome, is_some, refl, ap, ap₂, sym, ◌∙◌, subst, eqb-true, inl, inr, append_assoc, codes}
+use Rattle.std.proofs.Common.{◌≡◌, ℕ, zero, suc, ◌^◌, ◌<◌, Bool, true, false, cond, eqb, ◌||◌, ◌&&◌, not, List, [], ◌∷◌, ◌++◌, length, Option, Some, None, Ok, IfSome, is_some, refl, ap, ap₂, sym, ◌∙◌, subst, eqb-true, inl, inr, append_assoc, codes}
 use Rattle.std.specs.Prelude.{flat_map, nat_lt}
 use Rattle.std.specs.Fmt.{decimal}
 use Rattle.std.specs.Option.{option_map}
 use Rattle.std.specs.List.{AllByRecursion}
 use Rattle.std.proofs.lemmas.List.{append-nil}
-use Rattle.fx_base.specs.declared.fault.Fault.{Fault}
 use Rattle.fx_base.specs.Lines.{text_lines, begin_line, next_number}
 use Rattle.fx_elements.proofs.Cuts.{chosen}
 use Rattle.fx_elements.proofs.Addresses.{by_some, some_is}
@@ -22,7 +21,7 @@ use Rattle.fx_sums.specs.declared.line_behind.LineBehind.TheVariants as behind
 use Rattle.fx_sums.specs.Sums.{Sum, plus, plus_all, plus_notes, no_notes}
 use Rattle.fx_sums.specs.SumText.{complete_text, frames_text, number_text, notes_text, noted_text, noted_texts, KeysAscendBehind, IsRecordUnder, AreNotes, IsNoted}
 use Rattle.fx_sums.specs.SumLines.{number_behind, record_behind, note_of, with_note, notes_with, are_whole, notes_or_keys, line_behind}
-use Rattle.fx_sums.specs.SumReading.{◌>>=◌, TextLine, Rest, Next, bytes_of, formed, next_line, in_line, tallied, totals_with, on_or_next, notes_first, notes_of, sum_with, texts_up_to, sum_of_texts}
+use Rattle.fx_sums.specs.SumReading.{TextLine, Rest, Next, bytes_of, formed, next_line, in_line, tallied, totals_with, on_or_next, notes_first, notes_of, sum_with, texts_up_to, sum_of_texts}
 use Rattle.fx_sums.proofs.Fewer.{ok_is, by_ok}
 use Rattle.fx_sums.proofs.SumsOfParts.{layouts_kept}
 use Rattle.fx_sums.proofs.LinesFound.{IsNumber, number_line_found, record_found, behind_found, note_text, IsNote, note_found}

@@ -1,13 +1,13 @@
 -- Texts up to the end, one after another.
-use Rattle.std.proofs.Common.{◌≡◌, ℕ, zero, suc, ◌-◌, ◌<◌, List, length, codes, Option, Some, None, Result, Ok, Err, ap, sym, ◌∙◌, refl, arith, inl, inr}
+use Rattle.std.proofs.Common.{◌≡◌, ℕ, suc, ◌-◌, ◌<◌, List, length, codes, Some, None, Result, Ok, ap, ◌∙◌, refl, arith, inl, inr}
 use Rattle.fx_base.specs.declared.fault.Fault.{Fault}
 use Rattle.fx_base.specs.Device.{MayBeLeft, MayHaveLeft}
 use Rattle.fx_base.specs.Lines.{Lines, GoesOnToLines, text_lines}
 use Rattle.fx_sums.specs.Sums.{Sum}
 use Rattle.fx_sums.specs.SumLines.{number_behind}
 use Rattle.fx_sums.specs.SumReading.{◌>>=◌, Rest, Next, in_line, sum_with, texts_up_to, sum_of_texts, MayGive, Gives, GivesText, Refuses}
-use Rattle.fx_sums.proofs.Fewer.{lines_behind, one_fewer, text_fewer}
-use Rattle.fx_sums.proofs.Tallying.{fails_behind, refuses_first}
+use Rattle.fx_sums.proofs.Fewer.{one_fewer, text_fewer}
+use Rattle.fx_sums.proofs.Tallying.{fails_behind}
 
 abbrev keys_in : Rest → Result (ℕ × Rest) Fault
 keys_in = in_line (number_behind (codes "keys"))

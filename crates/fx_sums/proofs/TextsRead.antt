@@ -118,18 +118,25 @@ stream_on c f (Some g) (Some s) k rest hg hs e short =
     let two = one_note (so_far c f (Some g) None) (Skipped s) (so_far c f (Some g) (Some s)) one.0 rest hs refl one.2 in
     (two.0, one.1 ∙ two.1, two.2)
 
-notes_read : (m : Notes) (k : ℕ) (rest : List ℕ) → AreNotes m → HasShortLines (notes_text m ++ rest) → NotesGo no_notes k (notes_text m ++ rest) m rest
-notes_read m k rest are short =
+-- the notes in order, with what is behind them
+notes_parts : (m : Notes) (rest : List ℕ) → notes_text m ++ rest ≡ complete_text m.complete ++ (frames_text m.frames ++ stream_text m.gaps m.skipped rest)
+notes_parts m rest =
     let complete = complete_text m.complete in
     let frames = frames_text m.frames in
     let gaps = number_text (codes "gaps ") m.gaps in
     let skipped = number_text (codes "skipped ") m.skipped in
+    append_assoc complete (frames ++ (gaps ++ skipped)) rest
+    ∙ ap (λ (x : List ℕ). complete ++ x) (append_assoc frames (gaps ++ skipped) rest)
+    ∙ ap (λ (x : List ℕ). complete ++ (frames ++ x)) (append_assoc gaps skipped rest)
+
+notes_read : (m : Notes) (k : ℕ) (rest : List ℕ) → AreNotes m → HasShortLines (notes_text m ++ rest) → NotesGo no_notes k (notes_text m ++ rest) m rest
+notes_read m k rest are short =
+    let text = notes_parts m rest in
     let behind = stream_text m.gaps m.skipped rest in
-    let text : notes_text m ++ rest ≡ complete ++ (frames ++ behind) = append_assoc complete (frames ++ (gaps ++ skipped)) rest ∙ ap (λ (x : List ℕ). complete ++ x) (append_assoc frames (gaps ++ skipped) rest ∙ ap (λ (x : List ℕ). frames ++ x) (append_assoc gaps skipped rest)) in
-    let one = complete_on m.complete k (frames ++ behind) (subst HasShortLines text short) in
+    let one = complete_on m.complete k (frames_text m.frames ++ behind) (subst HasShortLines text short) in
     let two = frames_on m.complete m.frames one.0 behind are.frames one.2 in
     let three = stream_on m.complete m.frames m.gaps m.skipped two.0 rest are.gaps are.skipped are.together two.2 in
-    (three.0, ap (λ (x : List ℕ). notes_first no_notes k (text_lines x)) text ∙ one.1 ∙ two.1 ∙ three.1, three.2)
+    (three.0, ap (λ (x : List ℕ). notes_first no_notes k (text_lines x)) text ∙ (one.1 ∙ (two.1 ∙ three.1)), three.2)
 
 whole_is : (g s : Option ℕ) → is_some s ≡ is_some g → (not (is_some g) || is_some s) ≡ true
 whole_is None s e = refl

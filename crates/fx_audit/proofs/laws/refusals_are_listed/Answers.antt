@@ -5,6 +5,7 @@ use Rattle.fx_audit.proofs.ListedCaptures.{metering_refusal_listed}
 use Rattle.fx_audit.proofs.ListedRefutations.{confirm_refusal_listed, refutation_refusal_listed}
 use Rattle.fx_audit.proofs.ListedRuns.{replay_refusal_listed}
 use Rattle.fx_audit.proofs.ListedStreams.{collect_refusal_listed}
+use Rattle.fx_audit.proofs.ListedSums.{sum_refusal_listed}
 use Rattle.fx_audit.proofs.laws.refusals_are_listed.Goals as goal
 
 pub returns-clause-network : goal.returns-clause-network
@@ -39,6 +40,9 @@ returns-clause-collect c network stream e refused = collect_refusal_listed netwo
 
 pub returns-clause-metering : goal.returns-clause-metering
 returns-clause-metering c network traffic left asked from last before e going refused = metering_refusal_listed network traffic left asked (Unit {0}) from last before e going refused
+
+pub returns-clause-sum : goal.returns-clause-sum
+returns-clause-sum c network lines e refused = sum_refusal_listed network lines e refused
 
 pub returns-clause-bundle : goal.returns-clause-bundle
 returns-clause-bundle c octets e refused = bundle_refusal_listed octets e refused
