@@ -20,7 +20,7 @@ fn layout_of_ipv6() -> Result<Layout, Fail> {
 
 fn add(alloc: Global, sum: &mut Sum, text: &[u8]) -> Result<(), Fault> {
     let mut lines = LineReader::new(alloc, Octets::new(text))?;
-    sum.add_text(&mut lines)
+    sum.add_texts(&mut lines)
 }
 
 fn is_text(sum: &mut Sum, text: &[u8]) -> Result<bool, Fault> {
@@ -70,6 +70,19 @@ fn adds_streams_up(rt: HostRuntime) -> Result<(), Fail> {
 }
 
 #[test]
+fn adds_texts_of_one_source(rt: HostRuntime) -> Result<(), Fail> {
+    let texts =
+        b"keys 2\n10.1.1.0/24 6 packets 3 octets 300\n10.1.2.0/24 17 packets 1 octets 40\nunassigned 2\ngaps 1\nskipped 5\nkeys 0\nunassigned 4\nkeys 1\n10.1.0.0/24 6 packets 7 octets 70\nunassigned 1\ncomplete yes\nkeys 1\n10.1.0.0/24 6 packets 1 octets 1\nunassigned 0\ncomplete no\ngaps 2\nskipped 0\n";
+    let text =
+        b"keys 3\n10.1.0.0/24 6 packets 8 octets 71\n10.1.1.0/24 6 packets 3 octets 300\n10.1.2.0/24 17 packets 1 octets 40\nunassigned 7\ncomplete no\ngaps 3\nskipped 5\n";
+    let layout = layout()?;
+    assert!(rt; come_to(rt.alloc(), &layout, &[texts], text)?);
+    let twice = b"keys 0\nunassigned 0\ncomplete yes\nkeys 0\nunassigned 0\ncomplete yes\n";
+    assert!(rt; come_to(rt.alloc(), &layout, &[twice, WHOLE], WHOLE)?);
+    Ok(())
+}
+
+#[test]
 fn tells_notes_of_all_kinds(rt: HostRuntime) -> Result<(), Fail> {
     let text =
         b"keys 3\n10.1.1.0/24 6 packets 5 octets 302\n10.1.1.0/24 7 packets 1 octets 1\n10.1.2.0/24 17 packets 1 octets 40\nunassigned 2\ncomplete no\nskipped other 8 malformed 12\ngaps 1\nskipped 5\n";
@@ -99,7 +112,7 @@ fn adds_totals_of_ipv6(rt: HostRuntime) -> Result<(), Fail> {
 }
 
 /// What isn't a text of totals, and the line at which it is refused.
-const REFUSED: [(&[u8], u64); 34] = [
+const REFUSED: [(&[u8], u64); 41] = [
     (b"", 1),
     (b"keys 0", 1),
     (b"keys 00\nunassigned 0\n", 1),
@@ -173,6 +186,19 @@ const REFUSED: [(&[u8], u64); 34] = [
         b"keys 0\nunassigned 0\ngaps 1\nskipped 1\nskipped other 1 malformed 1\n",
         5,
     ),
+    (b"keys 0\nunassigned 0\nkeys 0\n", 4),
+    (b"keys 0\nunassigned 0\nkeys 1\nunassigned 0\n", 4),
+    (b"keys 0\nunassigned 0\nkeys 0 \nunassigned 0\n", 3),
+    (b"keys 0\nunassigned 0\ngaps 1\nkeys 0\nunassigned 0\n", 4),
+    (b"keys 0\nkeys 0\nunassigned 0\n", 2),
+    (
+        b"keys 0\nunassigned 0\ncomplete yes\nkeys 0\nunassigned 0\ngaps 1\n",
+        7,
+    ),
+    (
+        b"keys 0\nunassigned 0\ncomplete yes\nkeys 0\nunassigned 0\ncomplete yes\ncomplete yes\n",
+        7,
+    ),
 ];
 
 #[test]
@@ -189,6 +215,6 @@ fn refuses_other_texts(rt: HostRuntime) -> Result<(), Fail> {
 fn fails_where_a_read_fails(rt: HostRuntime) -> Result<(), Fail> {
     let mut sum = Sum::new(rt.alloc(), Seed::new(1, 2), layout()?)?;
     let mut lines = LineReader::new(rt.alloc(), Fuse::new(Octets::new(FIRST), 1))?;
-    assert!(rt; sum.add_text(&mut lines) == Err(Fault::bare(901)));
+    assert!(rt; sum.add_texts(&mut lines) == Err(Fault::bare(901)));
     Ok(())
 }
