@@ -3,7 +3,7 @@
 
 SHELL := /bin/bash
 .DEFAULT_GOAL := help
-.PHONY: help kit replay once test proofs run-wrong wrong rows examples run-rows run-examples torture clean \
+.PHONY: help kit replay once test proofs run-wrong wrong rows examples run-rows run-examples pictures torture clean \
 	install uninstall deb manual
 
 # The libraries that the program stands on, lowest first, as crates.txt has them.
@@ -23,6 +23,7 @@ help:
 	@echo 'make wrong NAME=CRATE  tries the wrong bodies of one crate; NAME=CRATE/WORD those with WORD in their names'
 	@echo 'make rows              proves and builds the program, and runs it over the worked rows'
 	@echo 'make examples          the same over the examples'
+	@echo 'make pictures          draws the pictures of the examples anew (needs Graphviz)'
 	@echo 'make torture           the same over inputs that are made to do harm, for an hour or more'
 	@echo 'make clean             removes what was built'
 
@@ -79,6 +80,7 @@ run-rows:
 	python3 tests/callers.py
 	python3 tests/refusals.py --compare
 	python3 tests/schemas.py ./once
+	python3 tests/members.py ./once
 	python3 tests/yang_module.py
 	python3 tests/tools.py ./once
 	python3 tests/rows.py ./once
@@ -86,6 +88,7 @@ run-rows:
 	python3 tests/terminal.py ./once
 	python3 tests/progress.py ./once
 	python3 tests/pages.py ./once
+	python3 tests/drawings.py ./once
 	python3 packaging/manual.py ./once --compare
 	python3 tests/long_certificates.py ./once
 	python3 tests/refused_growth.py ./once
@@ -121,6 +124,15 @@ run-examples:
 	  ./once run $$example/network.json $$example/traffic.json $$capture $$example/schedule.txt | diff - $$example/metered.txt || exit 1; \
 	done
 	python3 tests/generated_networks.py ./once --examples
+
+# Draws the pictures of the examples anew, with Graphviz's dot: each network with its traffic and its certificate or
+# refutation.
+pictures: once
+	for network in examples/*/network.json; do \
+	  example=$$(dirname $$network); \
+	  ./once draw $$network $$example/traffic.json $$(ls $$example/certificate.txt $$example/refutation.txt 2>/dev/null) \
+	    | dot -Tsvg > $$example/picture.svg || exit 1; \
+	done
 
 # What takes an hour or more: the program over 100,000 changed inputs of each kind, over all cuts of the rows' files, over a
 # capture of 50,000,000 frames, and over streams that are made to cost.

@@ -19,9 +19,11 @@ _once()
         audit) options="--limit -h --help --words --progress" files=(json json) ;;
         run) options="--links -h --help --words --progress" files=(json json pcap txt) ;;
         lint) options="-h --help --words" files=(json json) ;;
+        draw) options="-h --help --words" files=(json json txt) ;;
+        sum) options="-h --help --words" files=(json txt) ;;
         explain) options="-h --help --words" files=(-) ;;
-        help) [[ $place -eq 0 ]] && COMPREPLY=($(compgen -W "replay collect check confirm audit run lint explain help" -- "$current")); return ;;
-        *) COMPREPLY=($(compgen -W "replay collect check confirm audit run lint explain help -h --help -V --version" -- "$current")); return ;;
+        help) [[ $place -eq 0 ]] && COMPREPLY=($(compgen -W "replay collect check confirm audit run lint draw sum explain help" -- "$current")); return ;;
+        *) COMPREPLY=($(compgen -W "replay collect check confirm audit run lint draw sum explain help -h --help -V --version" -- "$current")); return ;;
     esac
     file=${files[place]--}
     case $before in

@@ -300,7 +300,8 @@ fn lint_command<'a>(alloc: Global) -> Result<Command<'a>, AllocError>
 /// The command `draw`.
 fn draw_command<'a>(alloc: Global) -> Result<Command<'a>, AllocError>
     ensures app { IfOk result (λ c. app_of c
-        ≡ with_rule (over_network (codes "draw") (new_rule (codes "TRAFFIC"))) (new_rule (codes "ANSWER"))) }
+        ≡ with_rule (over_network (codes "draw") (new_rule (codes "TRAFFIC")))
+        (new_rule (codes "ANSWER"))) }
     ensures local { IfOk result (λ c. (out-Command c).has_globals ≡ false) }
 {
     let command = network_command(

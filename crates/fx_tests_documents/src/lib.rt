@@ -18,6 +18,8 @@ mod audit_replays;
 #[cfg(test)]
 mod audit_runs;
 #[cfg(test)]
+mod audit_sums;
+#[cfg(test)]
 mod audit_texts;
 #[cfg(test)]
 mod check;
@@ -29,6 +31,8 @@ mod config_caches;
 mod config_refusals;
 #[cfg(test)]
 mod documents;
+#[cfg(test)]
+mod drawings;
 #[cfg(test)]
 mod judging;
 #[cfg(test)]

@@ -3,6 +3,7 @@ use crate::audit_texts::{NETWORK, TRAFFIC};
 use fx_base::{Fault, LineReader, Octets, Room};
 use fx_stories::{
     put_certificate_words, put_document_words, put_lint_words, put_refutation_story, put_run_words,
+    put_schedule_words, put_stream_words,
 };
 use std::alloc::Global;
 use std::test::Fail;
@@ -27,7 +28,7 @@ end
 
 const REFUTATION_STORY: &[u8] =
     b"the packet: class 1 \"web\", path 1, source 10.0.0.1, destination 192.0.2.1, protocol 6, sport 1000, dport 80, version 4, 0 in all other fields, octets 100
-1. packet 1 crosses m1 eth0 ingress: cache \"ca\" holds a record of it
+1. packet 1 crosses m1 eth0 ingress: observation point \"op\", selection process \"sp\": cache \"ca\" holds a record of it
 no record reaches the report
 ";
 
@@ -58,6 +59,44 @@ const LINT_WORDS: &[u8] =
     b"class 1 \"web\", path 1: at m1 eth9 ingress the interface is at no observation point
 class 1 \"web\", path 1: no observation point sees any of its crossings
 ";
+
+/// The first octets of a capture, which are no message.
+const NO_STREAM: &[u8] = &[
+    0xd4, 0xc3, 0xb2, 0xa1, 2, 0, 4, 0, 0, 0, 0, 0, 0, 0, 0, 0, 0, 0, 4, 0, 1, 0, 0, 0,
+];
+
+const STREAM_WORDS: &[u8] =
+    b"message 1 of the stream, from octet 0 on: its first octets are d4 c3 b2 a1 02 00 04 00 00 00 00 00 00 00 00 00
+These octets begin a capture (pcap). The messages stand inside of its packets: docs/GUIDE.md tells how to take them out.
+";
+
+/// A capture without a packet, so that what the schedule asks for can't be told.
+const EMPTY_CAPTURE: &[u8] = &[
+    0xd4, 0xc3, 0xb2, 0xa1, 2, 0, 4, 0, 0, 0, 0, 0, 0, 0, 0, 0, 0, 0, 4, 0, 101, 0, 0, 0,
+];
+
+const SCHEDULE_WORDS: &[u8] = b"line 1: next 1 2\n";
+
+fn tells_stream(alloc: Global) -> Result<bool, Fault> {
+    let mut stream = Octets::new(NO_STREAM);
+    let mut octets = [0u8; 1000];
+    let mut room = Room::new(&mut octets);
+    put_stream_words(alloc, &mut stream, &Fault::at_octet(611, 0), &mut room)?;
+    Ok(room.octets() == STREAM_WORDS)
+}
+
+fn tells_schedule(alloc: Global) -> Result<bool, Fault> {
+    let mut lines = LineReader::new(alloc, Octets::new(b"next 1 2\n"))?;
+    let capture = Octets::new(EMPTY_CAPTURE);
+    let mut octets = [0u8; 1000];
+    let mut room = Room::new(&mut octets);
+    let (network, traffic) = (NETWORK.as_bytes(), TRAFFIC.as_bytes());
+    let fault = Fault::at_line(803, 1);
+    put_schedule_words(
+        alloc, network, traffic, &mut lines, capture, &fault, &mut room,
+    )?;
+    Ok(room.octets().starts_with(SCHEDULE_WORDS))
+}
 
 fn tells_certificate(alloc: Global) -> Result<bool, Fault> {
     let mut lines = LineReader::new(alloc, Octets::new(CERTIFICATE))?;
@@ -110,5 +149,7 @@ fn tells_stories(rt: HostRuntime) -> Result<(), Fail> {
     assert!(rt; tells_run(rt.alloc())?);
     assert!(rt; tells_document(rt.alloc())?);
     assert!(rt; tells_lints(rt.alloc())?);
+    assert!(rt; tells_stream(rt.alloc())?);
+    assert!(rt; tells_schedule(rt.alloc())?);
     Ok(())
 }

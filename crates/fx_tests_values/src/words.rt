@@ -19,7 +19,7 @@ fn known() -> u16 {
 #[test]
 fn finds_words_by_number(rt: HostRuntime) {
     let wrong = refusal_of(411).map(|refusal| refusal.wrong);
-    assert!(rt; known() == 75 && refusal_of(203).is_none());
+    assert!(rt; known() == 76 && refusal_of(203).is_none());
     assert_eq!(rt; wrong, Some("A line stands behind the line `end`."));
 }
 
@@ -73,7 +73,7 @@ fn is_listed() -> Result<bool, Fault> {
     put_refusal_list(&mut room)?;
     let list = room.octets();
     Ok(
-        lines_of(list) == 75
+        lines_of(list) == 76
             && list.starts_with(b"101  A document is no JSON text in UTF-8.\n102  ")
             && list.ends_with(b"\n903  A line has more than 4,096 octets.\n"),
     )
