@@ -60,6 +60,16 @@ fn parts(alloc: Global, call: &Call) -> Result<String, AllocError> {
             let traffic = traffic.as_deref().unwrap_or("");
             format!(in alloc; "lint|{network}|{traffic}")
         }
+        Call::Draw {
+            network,
+            traffic,
+            answer,
+        } => {
+            let traffic = traffic.as_deref().unwrap_or("");
+            let answer = answer.as_deref().unwrap_or("");
+            format!(in alloc; "draw|{network}|{traffic}|{answer}")
+        }
+        Call::Sum { network, totals } => format!(in alloc; "sum|{network}|{totals}"),
         Call::Explain { number } => format!(in alloc; "explain|{number}"),
     }
 }
@@ -76,6 +86,14 @@ fn reads_words(rt: HostRuntime) -> Result<(), Fail> {
             "once collect net.json stream.ipfix",
             "collect|net.json|stream.ipfix",
         ),
+        ("once draw net.json", "draw|net.json||"),
+        (
+            "once draw net.json t.json c.txt",
+            "draw|net.json|t.json|c.txt",
+        ),
+        ("once draw net.json t.json c.txt d", ""),
+        ("once sum net.json totals.txt", "sum|net.json|totals.txt"),
+        ("once sum net.json", ""),
         (
             "once check net.json traffic.json cert.txt",
             "check|net.json|traffic.json|cert.txt",
