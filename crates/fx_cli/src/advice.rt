@@ -7,7 +7,7 @@ use std::alloc::{AllocError, Global};
 const OPTIONS: [(&str, &str); 6] = [
     (
         "--words",
-        "Write --words once; it goes with each command, in front of it or behind its files.",
+        "Write --words once; it goes with each command, in front of it or behind its files, and before any --.",
     ),
     (
         "--progress",
@@ -96,10 +96,32 @@ fn word_told(text: &str) -> &str {
     }
 }
 
+/// What to do about a word too many behind a command that people give other words.
+fn extra_word_advice(text: &str) -> Option<&'static str> {
+    if text.contains("once explain") {
+        Some("Write the number alone, as in `once explain 407`, or `once explain all`.")
+    } else if text.contains("once sum") && !word_told(text).starts_with("-") {
+        Some("All totals come in one file: `cat FIRST SECOND | once sum NETWORK /dev/stdin`.")
+    } else if text.contains("once audit") && !word_told(text).starts_with("-") {
+        Some(
+            "An audit takes the network and the traffic; `once check` takes a certificate behind them.",
+        )
+    } else if word_told(text) == "-o" || word_told(text) == "--output" {
+        Some("The answer goes to standard output: write `> FILE` behind the command.")
+    } else {
+        None
+    }
+}
+
 /// What to do about words that don't parse, by the kind of the error and its text.
 fn advice_of(kind: ErrorKind, text: &str) -> Option<&'static str> {
+    if text.contains("remove the '--' before it") {
+        return None;
+    }
     match kind {
-        ErrorKind::UnknownArgument => Some(unknown_word_advice(word_told(text))),
+        ErrorKind::UnknownArgument => {
+            Some(extra_word_advice(text).unwrap_or(unknown_word_advice(word_told(text))))
+        }
         ErrorKind::InvalidSubcommand => Some(option_advice(word_told(text)).unwrap_or(
             "The first word is a command: `once help` lists them.",
         )),

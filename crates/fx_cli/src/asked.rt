@@ -37,8 +37,8 @@ pub(crate) enum Asked<'a> {
     Lint,
     /// A drawing, with the text of an answer where one is given.
     Draw(Option<LinesAt<'a>>),
-    /// A sum of totals.
-    Sum,
+    /// A sum of these totals.
+    Sum(LinesAt<'a>),
     /// What a number means.
     Explain,
 }
@@ -90,7 +90,7 @@ fn asked_by(call: &Call) -> Asked<'_> {
         Call::Collect { stream, .. } => Asked::Collect(stream.as_str()),
         Call::Lint { .. } => Asked::Lint,
         Call::Draw { answer, .. } => Asked::Draw(answer.as_deref().map(|name| LinesAt::File(name))),
-        Call::Sum { .. } => Asked::Sum,
+        Call::Sum { totals, .. } => Asked::Sum(LinesAt::File(totals.as_str())),
         Call::Explain { .. } => Asked::Explain,
     }
 }

@@ -25,7 +25,7 @@ they are none, but where it has no such number.
 
 Exit status:
   0  the answer stands on standard output
-  1  the answer is no: `no NUMBER PLACE` of check and confirm, a refutation of audit
+  1  the answer is no: `no NUMBER PLACE` of check and confirm, a refutation of audit, `unknown number` of explain
   2  a text is refused: `refused NUMBER PLACE`
   3  `unknown 601`: an audit found neither within its limits
   4  want of memory: `memory 900`
@@ -137,7 +137,8 @@ Files:
             read, expired and carried to the collector
 
 Prints the totals (status 0): `keys N`, a line for each key, `unassigned N`, `skipped other N malformed N` (frames that
-are no packets). With --links the IPFIX octets of link 1 go to the file PREFIX1, and so on. A text that is refused:
+are no packets). With --links the IPFIX octets of link 1 go to the file PREFIX1, and so on; files of these names are
+overwritten, so none of the files above may have one. A text that is refused:
 `refused NUMBER PLACE` (status 2), 701 to 704 of the capture, 801 to 804 of the schedule.
 
 --words tells of a refused line what it is about: of 803 and 804 which packet, and which of its fields lie outside of
@@ -176,13 +177,14 @@ observation points, selection processes, caches, collecting and exporting proces
 around the report. With TRAFFIC in blue the packets of each path, and what sees them; with a certificate in green where
 they are counted; with a refutation in orange the steps of its run, and in red what it comes to. A text that is refused:
 `refused NUMBER PLACE` (status 2), also a certificate that `once check` and a refutation that `once confirm` refuses.
+Where dot says `syntax error near 'refused'` or `near 'device'`, run `once draw .. --words` without dot.
 
 --words tells what is refused in sentences.";
 
 /// Behind the help of `sum`.
 pub const SUM: &str = "\
 Example:
-  for stream in streams/*; do once collect network.json $stream > totals/${stream##*/}; done
+  for s in streams/*; do once collect network.json $s > totals/${s##*/} || mv totals/${s##*/} refused/; done
   cat totals/* | once sum network.json /dev/stdin
 
 Files:

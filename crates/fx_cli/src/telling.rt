@@ -6,11 +6,11 @@ use crate::notes::Notes;
 use crate::reading_again::{lines_again, open_again, put_lines_not_again, put_not_again};
 use crate::words::Call;
 use fx_audit::{Answer, audit_bytes, check_bytes, confirm_bytes};
-use fx_base::{Fault, LineReader, Octets, Outside, Sink, put_text, refusals};
+use fx_base::{Fault, LineReader, Octets, Outside, Place, Sink, put_text, refusals};
 use fx_search::Unwatched;
 use fx_stories::{
     put_certificate_words, put_document_words, put_lint_words, put_refutation_story, put_run_words,
-    put_schedule_words, put_stream_words,
+    put_schedule_words, put_stream_words, put_totals_words,
 };
 use fx_words::put_reason;
 use std::alloc::Global;
@@ -23,8 +23,14 @@ none of those of exempt classes.\n";
 
 /// What to do about a refutation.
 const TO_MEND: &[u8] =
-    b"what to do: Change what a step names, as a point, a filter, a link or an export mode, so that \
-one record of each packet comes to the report, and audit again.\n";
+    b"what to do: Change what a step names, as a point, a filter, a cache's keys, a link or an \
+export mode, so that one record of each packet comes to the report with its key, or none where the class is exempt. Where \
+no step meters the packet, add a crossing or an observation point, write exempt in its class if it isn't to be counted, or \
+name ipVersion in the class's region if there are no such packets. Then audit again.\n";
+
+/// What a text is that is drawn as an answer and is none.
+const NO_ANSWER: &[u8] =
+    b"Its first line is neither that of a certificate nor that of a refutation: give what `once audit` printed.\n";
 
 /// What to do about an answer of no whose text can't be read once more.
 const TO_LOOK_UP: &[u8] =
@@ -39,7 +45,7 @@ last ones.\n";
 /// What stands in the text of a collection.
 const COLLECTED: &[u8] =
     b"keys: how many keys of the report have totals, a line each. unassigned: records without the \
-report's key. gaps: messages whose sequence number isn't the next one, so that records were lost before them. skipped: \
+report's key. gaps: messages whose sequence number isn't the next one: some were lost, came out of order or came twice. skipped: \
 records without both counters, which add nothing.\n";
 
 /// What stands in the text of a sum.
@@ -130,7 +136,7 @@ fn put_yes_words<R: AllocGlobal + Files, S: Sink>(
         Asked::Replay(_) => put_text(sink, REPLAYED),
         Asked::Collect(_) => put_text(sink, COLLECTED),
         Asked::Run { .. } => put_text(sink, METERED),
-        Asked::Sum => put_text(sink, SUMMED),
+        Asked::Sum(_) => put_text(sink, SUMMED),
         // Behind a graph words would be no part of it.
         Asked::Draw(_) | Asked::Explain => Ok(()),
     }
@@ -271,6 +277,7 @@ fn put_refused_words<R: AllocGlobal + Files, S: Sink>(
         }
         Asked::Collect(stream) => put_message_words(rt, stream, fault, sink),
         Asked::Draw(Some(answer)) => put_undrawn_words(rt, answer, question, fault, sink),
+        Asked::Sum(totals) => put_unsummed_words(rt, totals, fault, sink),
         _ => Ok(()),
     }
 }
@@ -287,7 +294,23 @@ fn put_undrawn_words<R: AllocGlobal + Files, S: Sink>(
     if fault.number < refusals::REFUTATION_FIRST {
         return put_line_words(rt, answer, question, fault, sink);
     }
+    if fault.number == refusals::REFUTATION_FORM && fault.place == Place::Line(1) {
+        put_text(sink, NO_ANSWER)?;
+    }
     put_step_words(rt, answer, question, fault, sink)
+}
+
+/// Writes what is wrong with a line of totals that aren't summed.
+fn put_unsummed_words<R: AllocGlobal + Files, S: Sink>(
+    rt: &R,
+    totals: LinesAt<'_>,
+    fault: &Fault,
+    sink: &mut S,
+) -> Result<(), Fault> {
+    match lines_again(rt, totals)? {
+        Some(mut lines) => put_totals_words(rt.alloc(), &mut lines, fault, sink),
+        None => put_lines_not_again(totals, sink),
+    }
 }
 
 /// Writes which document a refusal is about, and what stands there.
@@ -321,7 +344,7 @@ fn put_file_words<S: Sink>(
     let file = match (fault.number, notes.failed_file.told()) {
         (refusals::FAILED_READ | refusals::FAILED_WRITE, Some(file)) => Some(file),
         (refusals::FAILED_READ, None) => call.and_then(|call| unread_file(call, notes)),
-        (refusals::LONG_LINE, _) => call.and_then(file_of_lines),
+        (refusals::LONG_LINE | refusals::TOTALS_FORM, _) => call.and_then(file_of_lines),
         _ => None,
     };
     match file {

@@ -72,10 +72,15 @@ fn tell_at(
             tell_unknown_member(alloc, story, document, pointer, is_network)
         }
         refusals::MISSING_MEMBER => tell_lacking(story, value, last_member(pointer), is_network),
+        refusals::TOTAL_COUNTER => {
+            tell_value(alloc, story, value)?;
+            story.sentence(&[Piece::Text(
+                "it counts since the beginning; in its place stands octetDeltaCount or packetDeltaCount",
+            )])
+        }
         refusals::WRONG_KIND
         | refusals::BAD_VALUE
         | refusals::NAME_TWICE
-        | refusals::TOTAL_COUNTER
         | refusals::CACHE_COUNTER_LENGTH
         | refusals::KEY_WITHOUT_AXIS
         | refusals::REPORT_KEY

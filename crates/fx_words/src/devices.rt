@@ -14,8 +14,8 @@ pub const DEVICES: &[Row] = &[
         "a comma too many or too few, a comment, single quotes, a byte order mark, another \
          encoding, an empty file, or another file in the document's place. A value more than 127 \
          levels deep and a number of some 309 digits or more are refused so too.",
-        "Have another reader of JSON tell the line and the column, as `python3 -m json.tool \
-         FILE`. Where two documents are read, try both.",
+        "Mend the text at that line and column, or at the end of the line before; --words tells \
+         them and the file, as `python3 -m json.tool FILE` does.",
         "RFC 8259, sections 2 and 8.1",
     ),
     (

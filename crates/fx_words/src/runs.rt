@@ -105,8 +105,9 @@ pub const RUNS: &[Row] = &[
     (
         refusals::TOTALS_FORM,
         "A text isn't that of totals of the network's report, or a line of it isn't in its place.",
-        "totals of another report, an answer in place of totals, a text that was cut off or \
-         edited, keys that don't ascend, or lines that end in CR and LF.",
+        "totals of another report, a refusal in the place of totals, sentences of --words \
+         behind them, a text that was cut off or edited, keys that don't ascend, or lines that end \
+         in CR and LF.",
         "Give texts that once collect, run or replay wrote over networks with this report, as \
          they were written.",
         "FORMATS, totals",
