@@ -7,7 +7,7 @@ use std::alloc::{AllocError, Global};
 const OPTIONS: [(&str, &str); 6] = [
     (
         "--words",
-        "Write --words once; it goes with each command, in front of it or behind its files, and before any --.",
+        "Write --words once; it goes with each command, in front of it or behind its files.",
     ),
     (
         "--progress",
@@ -98,11 +98,11 @@ fn word_told(text: &str) -> &str {
 
 /// What to do about a word too many behind a command that people give other words.
 fn extra_word_advice(text: &str) -> Option<&'static str> {
-    if text.contains("once explain") {
+    if text.contains(" explain <") {
         Some("Write the number alone, as in `once explain 407`, or `once explain all`.")
-    } else if text.contains("once sum") && !word_told(text).starts_with("-") {
+    } else if text.contains(" sum <") && !word_told(text).starts_with("-") {
         Some("All totals come in one file: `cat FIRST SECOND | once sum NETWORK /dev/stdin`.")
-    } else if text.contains("once audit") && !word_told(text).starts_with("-") {
+    } else if text.contains(" audit [") && !word_told(text).starts_with("-") {
         Some(
             "An audit takes the network and the traffic; `once check` takes a certificate behind them.",
         )
