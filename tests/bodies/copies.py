@@ -11,7 +11,7 @@ import shutil
 from bodies.edits import module_of, proof_paths, read, sources
 from bodies.texts import functions
 
-MARK = "_wrong_"
+MARK = "_twin_"
 
 
 class Copies:
