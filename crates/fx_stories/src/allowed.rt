@@ -122,37 +122,27 @@ fn members_allowed(member: &str, is_network: bool) -> &'static [&'static str] {
 }
 
 /// Tells which of these names an object doesn't have yet, which may not have a member of another name.
-fn tell_free(
-    story: &mut Story,
-    object: &Value,
-    name: &str,
-    names: &'static [&'static str],
-) -> Result<(), AllocError> {
+fn tell_free(story: &mut Story, object: &Value, name: &str, names: &'static [&'static str]) {
     story.tell(&[
         Piece::Text("no member "),
         Piece::Quoted(name),
         Piece::Text(" may be there; those that may, and aren't there yet: "),
-    ])?;
+    ]);
     let mut told = false;
     for free in names {
         if object.get(*free).is_none() {
-            story.tell(&[Piece::Text(between(told, ", ")), Piece::Text(free)])?;
+            story.tell(&[Piece::Text(between(told, ", ")), Piece::Text(free)]);
             told = true;
         }
     }
     if !told {
-        story.tell(&[Piece::Text("none")])?;
+        story.tell(&[Piece::Text("none")]);
     }
-    story.end_line()
+    story.end_line();
 }
 
 /// Tells the name that a misspelled member stands for.
-fn tell_near<'x>(
-    story: &mut Story,
-    object: &Value,
-    name: &'x str,
-    known: &'x str,
-) -> Result<(), AllocError> {
+fn tell_near<'x>(story: &mut Story, object: &Value, name: &'x str, known: &'x str) {
     let there = object.get(known).is_some();
     story.sentence(&[
         Piece::Text("no member "),
@@ -160,7 +150,7 @@ fn tell_near<'x>(
         Piece::Text(" may be there; the nearest name is "),
         Piece::Text(known),
         Piece::Text(if there { ", which is there too" } else { "" }),
-    ])
+    ]);
 }
 
 /// What a document seems to be that has a member of the other kind of document.
@@ -193,11 +183,14 @@ pub(crate) fn tell_unknown_member(
     };
     let names = members_allowed(last_member(place), is_network);
     match near_of(alloc, name, names)? {
-        Some(known) => tell_near(story, object, name, known)?,
-        None => tell_free(story, object, name, names)?,
+        Some(known) => tell_near(story, object, name, known),
+        None => tell_free(story, object, name, names),
     }
     match other_document(pointer, is_network) {
-        Some(words) => story.sentence(&[Piece::Text(words)]),
+        Some(words) => {
+            story.sentence(&[Piece::Text(words)]);
+            Ok(())
+        }
         None => Ok(()),
     }
 }

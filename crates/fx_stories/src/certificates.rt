@@ -22,16 +22,16 @@ use fx_leaf::{Counted, Scratch, cut};
 use fx_plan::Plan;
 use fx_tables::Crossing;
 use fx_traffic::Target;
-use std::alloc::{AllocError, Global};
+use std::alloc::Global;
 
 /// Tells the line of a split as a certificate has it.
-fn tell_split_line(story: &mut Story, axis: Axis, at: u128) -> Result<(), AllocError> {
+fn tell_split_line(story: &mut Story, axis: Axis, at: u128) {
     let mut octets = [0; 100];
     let mut room = Room::new(&mut octets);
     // What has no room there is left out.
     let _written = put_item(&mut room, &Item::Split { axis, at });
-    story.tell(&[Piece::Text("its line is: ")])?;
-    story.lines_of(room.octets())
+    story.tell(&[Piece::Text("its line is: ")]);
+    story.lines_of(room.octets());
 }
 
 /// Tells where to split a region that something cuts.
@@ -52,26 +52,21 @@ fn tell_cut(
             Piece::Text(axis_word(axis)),
             Piece::Text(" at "),
             Piece::Value(axis, at),
-        ])?;
-        tell_split_line(story, axis, at)?;
+        ]);
+        tell_split_line(story, axis, at);
     }
     Ok(())
 }
 
 /// Tells a region in a line.
-fn tell_region_line(story: &mut Story, region: &Region) -> Result<(), Fault>
-    ensures err { IfErr result IsMemory }
-{
-    story.tell(&[Piece::Text("region: ")])?;
-    tell_region(story, region)?;
-    story.end_line()?;
-    Ok(())
+fn tell_region_line(story: &mut Story, region: &Region) {
+    story.tell(&[Piece::Text("region: ")]);
+    tell_region(story, region);
+    story.end_line();
 }
 
 /// Tells what a line of a region's tree is about.
-fn tell_item(story: &mut Story, plan: &Plan, target: &Target<'_>, item: &Item) -> Result<(), Fault>
-    ensures err { IfErr result IsMemory }
-{
+fn tell_item(story: &mut Story, plan: &Plan, target: &Target<'_>, item: &Item) {
     match item {
         Item::Leaf {
             crossing,
@@ -83,17 +78,16 @@ fn tell_item(story: &mut Story, plan: &Plan, target: &Target<'_>, item: &Item) -
                 point: *point,
                 process: *process,
             };
-            tell_leaf(story, plan, target.crossings, &leaf)?;
+            tell_leaf(story, plan, target.crossings, &leaf);
         }
         Item::Split { axis, at } => story.sentence(&[
             Piece::Text("the split is by "),
             Piece::Text(axis_word(*axis)),
             Piece::Text(" at "),
             Piece::Value(*axis, *at),
-        ])?,
+        ]),
         _ => {}
     }
-    Ok(())
 }
 
 /// Whether a refusal of this number is about what becomes of a leaf's packets.
@@ -114,7 +108,7 @@ fn tell_tree(
 ) -> Result<(), Fault>
     ensures err { IfErr result IsMemory }
 {
-    tell_region_line(story, region)?;
+    tell_region_line(story, region);
     if is_of_packets(number) {
         tell_watching(story, &documents.plan, region, target.crossings)?;
         tell_following(alloc, story, &documents.plan, region, target.crossings)?;
@@ -126,28 +120,20 @@ fn tell_tree(
 }
 
 /// Tells which line should stand between the trees.
-fn tell_between(
-    story: &mut Story,
-    documents: &Documents,
-    targets: &[Target<'_>],
-    begun: usize,
-) -> Result<(), Fault>
-    ensures err { IfErr result IsMemory }
-{
+fn tell_between(story: &mut Story, documents: &Documents, targets: &[Target<'_>], begun: usize) {
     match targets.get(begun) {
         Some(target) => {
-            story.tell(&[Piece::Text("what comes next is ")])?;
+            story.tell(&[Piece::Text("what comes next is ")]);
             tell_path(
                 story,
                 documents,
                 target.class,
                 target.path,
                 target.crossings,
-            )?;
+            );
         }
-        None => story.sentence(&[Piece::Text("all paths have their trees")])?,
+        None => story.sentence(&[Piece::Text("all paths have their trees")]),
     }
-    Ok(())
 }
 
 /// Tells where the walk stands, and what is wrong there.
@@ -163,7 +149,8 @@ fn tell_stand(
     ensures err { IfErr result IsMemory }
 {
     let Some(region) = &walk.region else {
-        return tell_between(story, documents, targets, walk.begun);
+        tell_between(story, documents, targets, walk.begun);
+        return Ok(());
     };
     let Some(target) = targets.get(walk.begun.saturating_sub(1)) else {
         return Ok(());
@@ -174,9 +161,9 @@ fn tell_stand(
         target.class,
         target.path,
         target.crossings,
-    )?;
+    );
     if let Some(item) = &item {
-        tell_item(story, &documents.plan, target, item)?;
+        tell_item(story, &documents.plan, target, item);
     }
     tell_tree(alloc, story, documents, target, region, number)
 }
@@ -209,7 +196,7 @@ fn tell_next<C: Source>(story: &mut Story, lines: &mut LineReader<C>) -> Result<
         return Ok(None);
     }
     let line = lines.line();
-    tell_line(story, &line)?;
+    tell_line(story, &line);
     Ok(read_item(&line).ok())
 }
 
@@ -231,7 +218,7 @@ fn tell_certificate<C: Source>(
     if number == 1 {
         story.sentence(&[Piece::Text(
             "the first line is once-certificate 1, or once-certificate 2 where a class is exempt",
-        )])?;
+        )]);
         return Ok(());
     }
     tell_stand(
@@ -288,5 +275,5 @@ pub fn put_certificate_words<C: Source, S: Sink>(
         ⊎ IsWriteFault (S.failed sink.new) e) }
 {
     let story = story_of(alloc, network, traffic, certificate, fault)?;
-    put_text(sink, story.octets())
+    put_text(sink, story.octets()?)
 }

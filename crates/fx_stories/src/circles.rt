@@ -176,7 +176,7 @@ impl<'a> Search<'a> {
 }
 
 /// Tells a link by its place in the document and its ends.
-fn tell_link(story: &mut Story, place: usize, link: &NamedLink) -> Result<(), AllocError> {
+fn tell_link(story: &mut Story, place: usize, link: &NamedLink) {
     story.tell(&[
         Piece::Text("on the circle: /links/"),
         Piece::Number(place as u64),
@@ -187,27 +187,21 @@ fn tell_link(story: &mut Story, place: usize, link: &NamedLink) -> Result<(), Al
         Piece::Text(" of "),
         Piece::Text(link.device.as_str()),
         Piece::Text(" to "),
-    ])?;
-    tell_end(story, link)?;
-    story.end_line()
+    ]);
+    tell_end(story, link);
+    story.end_line();
 }
 
 /// Tells the links of a way from the one at a place on.
-fn tell_way(
-    story: &mut Story,
-    links: &[NamedLink],
-    way: &[usize],
-    first: usize,
-) -> Result<(), AllocError> {
+fn tell_way(story: &mut Story, links: &[NamedLink], way: &[usize], first: usize) {
     let mut begun = false;
     for place in way {
         begun = begun || *place == first;
         match entry_at(links, *place) {
-            Some(link) if begun => tell_link(story, *place, link)?,
+            Some(link) if begun => tell_link(story, *place, link),
             _ => {}
         }
     }
-    Ok(())
 }
 
 /// Tells the links of a circle of a network, one behind another, by their places in the list of links.
@@ -221,12 +215,15 @@ pub(crate) fn tell_circle(
     };
     let mut search = Search::new(alloc, &network)?;
     match search.run()? {
-        Some(first) => tell_way(
-            story,
-            network.links.as_slice(),
-            search.way.as_slice(),
-            first,
-        ),
+        Some(first) => {
+            tell_way(
+                story,
+                network.links.as_slice(),
+                search.way.as_slice(),
+                first,
+            );
+            Ok(())
+        }
         None => Ok(()),
     }
 }

@@ -3,16 +3,11 @@ use crate::names::device_name;
 use crate::story::{Piece, Story};
 use fx_plan::Plan;
 use fx_tables::Crossing;
-use std::alloc::AllocError;
 
 /// Tells a crossing: its device, its interface and its direction.
-pub(crate) fn tell_crossing<'x>(
-    story: &mut Story,
-    plan: &'x Plan,
-    crossing: &'x Crossing,
-) -> Result<(), AllocError> {
+pub(crate) fn tell_crossing<'x>(story: &mut Story, plan: &'x Plan, crossing: &'x Crossing) {
     let Some(device) = device_name(plan, crossing.device) else {
-        return Ok(());
+        return;
     };
     let direction = if crossing.inwards {
         " ingress"
@@ -24,39 +19,29 @@ pub(crate) fn tell_crossing<'x>(
         Piece::Text(" "),
         Piece::Text(crossing.interface.as_str()),
         Piece::Text(direction),
-    ])
+    ]);
 }
 
 /// Tells the crossings of a path in order.
-pub(crate) fn tell_crossings(
-    story: &mut Story,
-    plan: &Plan,
-    crossings: &[Crossing],
-) -> Result<(), AllocError> {
+pub(crate) fn tell_crossings(story: &mut Story, plan: &Plan, crossings: &[Crossing]) {
     let mut separator = "";
     for crossing in crossings {
-        story.tell(&[Piece::Text(separator)])?;
-        tell_crossing(story, plan, crossing)?;
+        story.tell(&[Piece::Text(separator)]);
+        tell_crossing(story, plan, crossing);
         separator = ", then ";
     }
     if separator.is_empty() {
-        story.tell(&[Piece::Text("no crossing")])?;
+        story.tell(&[Piece::Text("no crossing")]);
     }
-    Ok(())
 }
 
 /// Tells the number of a crossing, and the crossing.
-pub(crate) fn tell_numbered(
-    story: &mut Story,
-    plan: &Plan,
-    number: u64,
-    crossing: &Crossing,
-) -> Result<(), AllocError> {
+pub(crate) fn tell_numbered(story: &mut Story, plan: &Plan, number: u64, crossing: &Crossing) {
     story.tell(&[
         Piece::Text("crossing "),
         Piece::Number(number),
         Piece::Text(" ("),
-    ])?;
-    tell_crossing(story, plan, crossing)?;
-    story.tell(&[Piece::Text(")")])
+    ]);
+    tell_crossing(story, plan, crossing);
+    story.tell(&[Piece::Text(")")]);
 }

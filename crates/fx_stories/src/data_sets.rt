@@ -7,7 +7,6 @@ use crate::templates::{Declared, Templates};
 use fx_base::refusals;
 use fx_elements::{Axis, Element, by_id, width};
 use fx_wire::{FieldSpecifier, TemplateKind, VARIABLE, cut_record, cut_value};
-use std::alloc::AllocError;
 
 /// How many ids of templates are told.
 const IDS: usize = 20;
@@ -21,7 +20,7 @@ struct DataThere<'a> {
 }
 
 /// Tells the ids of the templates that stand for records of a domain.
-fn tell_live(story: &mut Story, templates: &Templates, domain: u32) -> Result<(), AllocError> {
+fn tell_live(story: &mut Story, templates: &Templates, domain: u32) {
     let mut told: usize = 0;
     for declared in templates.as_slice() {
         if declared.domain == domain && declared.withdrawn.is_none() && told < IDS {
@@ -30,54 +29,49 @@ fn tell_live(story: &mut Story, templates: &Templates, domain: u32) -> Result<()
             } else {
                 ", "
             };
-            story.tell(&[Piece::Text(before), Piece::Number(u64::from(declared.id))])?;
+            story.tell(&[Piece::Text(before), Piece::Number(u64::from(declared.id))]);
             told += 1;
         }
     }
     if told == 0 {
-        return story.sentence(&[Piece::Text("its domain has no template at all there")]);
+        story.sentence(&[Piece::Text("its domain has no template at all there")]);
+        return;
     }
-    story.end_line()
+    story.end_line();
 }
 
 /// Tells where templates of an id were declared that don't stand for the records of a domain.
-fn tell_elsewhere(
-    story: &mut Story,
-    templates: &Templates,
-    domain: u32,
-    id: u16,
-) -> Result<(), AllocError> {
+fn tell_elsewhere(story: &mut Story, templates: &Templates, domain: u32, id: u16) {
     let mut told: usize = 0;
     for declared in templates.as_slice() {
         if declared.id == id && told < IDS {
-            tell_declared(story, declared, domain)?;
+            tell_declared(story, declared, domain);
             told += 1;
         }
     }
-    Ok(())
 }
 
 /// Tells where a template was declared, and why it doesn't stand for the records of a domain.
-fn tell_declared(story: &mut Story, declared: &Declared, domain: u32) -> Result<(), AllocError> {
+fn tell_declared(story: &mut Story, declared: &Declared, domain: u32) {
     story.tell(&[
         Piece::Text("message "),
         Piece::Number(declared.message),
         Piece::Text(" declares template "),
         Piece::Number(u64::from(declared.id)),
-    ])?;
+    ]);
     if declared.domain != domain {
         story.tell(&[
             Piece::Text(" in another observation domain: "),
             Piece::Number(u64::from(declared.domain)),
-        ])?;
+        ]);
     }
     if let Some(number) = declared.withdrawn {
         story.tell(&[
             Piece::Text("; it is withdrawn by message "),
             Piece::Number(number),
-        ])?;
+        ]);
     }
-    story.end_line()
+    story.end_line();
 }
 
 /// Tells that a data set has no template.
@@ -86,17 +80,17 @@ fn tell_no_template(
     templates: &Templates,
     message: &MessageThere<'_>,
     set: &SetThere,
-) -> Result<(), AllocError> {
-    message.tell_set(story, set)?;
+) {
+    message.tell_set(story, set);
     story.sentence(&[
         Piece::Text(" needs template "),
         Piece::Number(u64::from(set.id)),
         Piece::Text(", and observation domain "),
         Piece::Number(u64::from(message.domain())),
         Piece::Text(" has none of this id there"),
-    ])?;
-    tell_elsewhere(story, templates, message.domain(), set.id)?;
-    tell_live(story, templates, message.domain())
+    ]);
+    tell_elsewhere(story, templates, message.domain(), set.id);
+    tell_live(story, templates, message.domain());
 }
 
 /// How few octets a record of these fields has.
@@ -127,7 +121,7 @@ fn wanted(field: &FieldSpecifier, octets: &[u8]) -> u64 {
 
 impl DataThere<'_> {
     /// Tells the field of this place of the record.
-    fn tell(&self, story: &mut Story, declared: &Declared, place: usize) -> Result<(), AllocError> {
+    fn tell(&self, story: &mut Story, declared: &Declared, place: usize) {
         story.tell(&[
             Piece::Text("record "),
             Piece::Number(self.number),
@@ -139,66 +133,56 @@ impl DataThere<'_> {
             Piece::Number((place as u64).saturating_add(1)),
             Piece::Text(" of "),
             Piece::Number(declared.fields.len() as u64),
-        ])
+        ]);
     }
 
     /// Tells the field at which the record passes its set's end, where it begins with these octets.
-    fn tell_cut(
-        &self,
-        story: &mut Story,
-        declared: &Declared,
-        octets: &[u8],
-    ) -> Result<(), AllocError> {
+    fn tell_cut(&self, story: &mut Story, declared: &Declared, octets: &[u8]) {
         let mut rest = octets;
         for place in 0..declared.fields.len() {
             let field = &declared.fields[place];
             match cut_value(field.field_length, rest) {
                 Some((_value, behind)) => rest = behind,
                 None => {
-                    self.tell(story, declared, place)?;
-                    story.tell(&[Piece::Text(", ")])?;
-                    tell_field(story, field)?;
-                    return story.sentence(&[
+                    self.tell(story, declared, place);
+                    story.tell(&[Piece::Text(", ")]);
+                    tell_field(story, field);
+                    story.sentence(&[
                         Piece::Text(", wants octets: "),
                         Piece::Number(wanted(field, rest)),
                         Piece::Text("; the set has left: "),
                         Piece::Number(rest.len() as u64),
                     ]);
+                    return;
                 }
             }
         }
-        Ok(())
     }
 
     /// Tells the first length of a prefix that is longer than its address, where the record begins with these octets.
     /// Answers whether there is one.
-    fn tell_prefix(
-        &self,
-        story: &mut Story,
-        declared: &Declared,
-        octets: &[u8],
-    ) -> Result<bool, AllocError> {
+    fn tell_prefix(&self, story: &mut Story, declared: &Declared, octets: &[u8]) -> bool {
         let mut rest = octets;
         for place in 0..declared.fields.len() {
             let field = &declared.fields[place];
             let Some((value, behind)) = cut_value(field.field_length, rest) else {
-                return Ok(false);
+                return false;
             };
             rest = behind;
             if let Some(axis) = long_prefix(field, value) {
-                self.tell(story, declared, place)?;
-                story.tell(&[Piece::Text(", ")])?;
-                tell_element(story, field)?;
+                self.tell(story, declared, place);
+                story.tell(&[Piece::Text(", ")]);
+                tell_element(story, field);
                 story.sentence(&[
                     Piece::Text(", is "),
                     Piece::Number(number_in(value)),
                     Piece::Text("; the address has bits: "),
                     Piece::Number(u64::from(width(axis))),
-                ])?;
-                return Ok(true);
+                ]);
+                return true;
             }
         }
-        Ok(false)
+        false
     }
 }
 
@@ -217,30 +201,30 @@ fn tell_records(
     message: &MessageThere<'_>,
     set: &SetThere,
     fault: u16,
-) -> Result<bool, AllocError> {
+) -> bool {
     let content = part(message.octets, set.start(), set.end());
     let least = shortest(declared.fields.as_slice());
     let reads_prefixes = fault == refusals::PREFIX_LENGTH && declared.kind == TemplateKind::Plain;
     let mut rest = content;
     for passed in 0..content.len() {
         if rest.len() < least {
-            return Ok(false);
+            return false;
         }
         let record = DataThere {
             message: &*message,
             number: passed as u64 + 1,
             place: set.end().saturating_sub(rest.len()),
         };
-        if reads_prefixes && record.tell_prefix(story, declared, rest)? {
-            return Ok(true);
+        if reads_prefixes && record.tell_prefix(story, declared, rest) {
+            return true;
         }
         let Some(behind) = cut_record(declared.fields.as_slice(), rest) else {
-            record.tell_cut(story, declared, rest)?;
-            return Ok(true);
+            record.tell_cut(story, declared, rest);
+            return true;
         };
         rest = behind;
     }
-    Ok(false)
+    false
 }
 
 /// Tells what a data set of a message is refused for, by the number of the message's fault. Answers whether it is.
@@ -250,15 +234,15 @@ pub(crate) fn tell_data_set(
     message: &MessageThere<'_>,
     set: &SetThere,
     fault: u16,
-) -> Result<bool, AllocError> {
+) -> bool {
     match templates.live(message.domain(), set.id) {
         Some(declared) => tell_records(story, declared, message, set, fault),
         None => {
             if templates.is_full() {
-                return Ok(false);
+                return false;
             }
-            tell_no_template(story, templates, message, set)?;
-            Ok(true)
+            tell_no_template(story, templates, message, set);
+            true
         }
     }
 }

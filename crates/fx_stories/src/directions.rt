@@ -93,11 +93,7 @@ fn direction_words(point: &ObservationPoint) -> (&'static str, &'static str) {
 }
 
 /// Tells that an observation point sees nothing of what crosses its interfaces.
-fn tell_point<'x>(
-    story: &mut Story,
-    device: &'x NetworkDevice,
-    point: &'x ObservationPoint,
-) -> Result<(), AllocError> {
+fn tell_point<'x>(story: &mut Story, device: &'x NetworkDevice, point: &'x ObservationPoint) {
     let (observed, other) = direction_words(point);
     story.sentence(&[
         Piece::Text("observation point "),
@@ -109,15 +105,11 @@ fn tell_point<'x>(
         Piece::Text(" alone, and paths cross its interfaces "),
         Piece::Text(other),
         Piece::Text(" alone: it sees none of them"),
-    ])
+    ]);
 }
 
 /// Tells the observation points of a device that see nothing of what crosses their interfaces.
-fn tell_device(
-    story: &mut Story,
-    device: &NetworkDevice,
-    sights: &[Sight],
-) -> Result<(), AllocError> {
+fn tell_device(story: &mut Story, device: &NetworkDevice, sights: &[Sight]) {
     let points = device.config.observation_points.as_slice();
     for place in 0..points.len() {
         match sights.get(place) {
@@ -125,22 +117,20 @@ fn tell_device(
                 story,
                 device,
                 &points[place],
-            )?,
+            ),
             _ => {}
         }
     }
-    Ok(())
 }
 
 /// Tells the observation points of all devices that see nothing of what crosses their interfaces.
-fn tell_devices(story: &mut Story, plan: &Plan, sights: &[Vec<Sight>]) -> Result<(), AllocError> {
+fn tell_devices(story: &mut Story, plan: &Plan, sights: &[Vec<Sight>]) {
     let devices = plan.network().devices.as_slice();
     for place in 0..devices.len() {
         if let Some(sights) = sights.get(place) {
-            tell_device(story, &devices[place], sights.as_slice())?;
+            tell_device(story, &devices[place], sights.as_slice());
         }
     }
-    Ok(())
 }
 
 /// Tells the observation points that see no crossing of any path, though paths cross their interfaces in the other
@@ -155,5 +145,6 @@ pub(crate) fn tell_directions(
     for target in targets {
         note_path(&mut sights, &documents.plan, target.crossings);
     }
-    tell_devices(story, &documents.plan, sights.as_slice())
+    tell_devices(story, &documents.plan, sights.as_slice());
+    Ok(())
 }

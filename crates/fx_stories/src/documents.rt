@@ -21,25 +21,19 @@ use serde_json::Value;
 use std::alloc::{AllocError, Global};
 
 /// Tells what a refusal at a pointer into a network is about: which names name nothing there.
-fn tell_names(
-    story: &mut Story,
-    network: &Value,
-    value: &Value,
-    pointer: &str,
-    number: u16,
-) -> Result<(), AllocError> {
+fn tell_names(story: &mut Story, network: &Value, value: &Value, pointer: &str, number: u16) {
     match number {
         refusals::UNKNOWN_NAME => match value.as_str() {
             Some(name) => tell_unknown_name(story, network, pointer, name),
-            None => Ok(()),
+            None => {},
         },
         refusals::UNKNOWN_DEVICE => match value.as_str() {
             Some(name) => tell_unknown_device(story, network, name),
-            None => Ok(()),
+            None => {},
         },
         refusals::UNKNOWN_LINK_END => tell_link_ends(story, network, value),
         refusals::UNKNOWN_REPORT_PROCESS => tell_report_end(story, network, value),
-        _ => Ok(()),
+        _ => {},
     }
 }
 
@@ -71,12 +65,16 @@ fn tell_at(
         refusals::UNKNOWN_MEMBER => {
             tell_unknown_member(alloc, story, document, pointer, is_network)
         }
-        refusals::MISSING_MEMBER => tell_lacking(story, value, last_member(pointer), is_network),
+        refusals::MISSING_MEMBER => {
+            tell_lacking(story, value, last_member(pointer), is_network);
+            Ok(())
+        }
         refusals::TOTAL_COUNTER => {
             tell_value(alloc, story, value)?;
             story.sentence(&[Piece::Text(
                 "it counts since the beginning; in its place stands octetDeltaCount or packetDeltaCount",
-            )])
+            )]);
+            Ok(())
         }
         refusals::WRONG_KIND
         | refusals::BAD_VALUE
@@ -89,7 +87,10 @@ fn tell_at(
             tell_value(alloc, story, value)?;
             tell_wrong(alloc, story, document, pointer, value, is_network)
         }
-        _ => tell_names(story, &refused.network, value, pointer, number),
+        _ => {
+            tell_names(story, &refused.network, value, pointer, number);
+            Ok(())
+        }
     }
 }
 
@@ -102,7 +103,7 @@ fn tell_refused(
 ) -> Result<(), AllocError> {
     match &fault.place {
         Place::Text(text) if fault.number == refusals::LINK_CYCLE => {
-            tell_cycle(story, &refused.network, text.as_str())?;
+            tell_cycle(story, &refused.network, text.as_str());
             tell_circle(alloc, story, &refused.network)
         }
         Place::Text(text) => tell_at(alloc, story, refused, text.as_str(), fault.number),
@@ -163,10 +164,10 @@ fn story_of(
 ) -> Result<Story, AllocError> {
     let mut story = Story::new(alloc);
     if plan_again(alloc, network)?.is_none() {
-        story.sentence(&[Piece::Text("file: "), Piece::Text(name)])?;
+        story.sentence(&[Piece::Text("file: "), Piece::Text(name)]);
         tell_network(alloc, &mut story, network, fault)?;
     } else if let Some((name, traffic)) = traffic {
-        story.sentence(&[Piece::Text("file: "), Piece::Text(name)])?;
+        story.sentence(&[Piece::Text("file: "), Piece::Text(name)]);
         tell_traffic(alloc, &mut story, network, traffic, fault)?;
     }
     Ok(story)
@@ -195,5 +196,5 @@ pub fn put_document_words<S: Sink>(
         ⊎ IsWriteFault (S.failed sink.new) e) }
 {
     let story = story_of(alloc, network_name, network, traffic, fault)?;
-    put_text(sink, story.octets())
+    put_text(sink, story.octets()?)
 }

@@ -73,17 +73,17 @@ fn is_of_axis(element: Element) -> bool {
 }
 
 /// Tells the name of the element that a misspelled one stands for.
-fn tell_near<'x>(story: &mut Story, name: &'x str, known: &'x str) -> Result<(), AllocError> {
+fn tell_near<'x>(story: &mut Story, name: &'x str, known: &'x str) {
     story.sentence(&[
         Piece::Text("no element is named "),
         Piece::Quoted(name),
         Piece::Text("; the nearest name is "),
         Piece::Text(known),
-    ])
+    ]);
 }
 
 /// Tells that packets aren't told apart by the element of this name.
-fn tell_named(story: &mut Story, name: &str) -> Result<(), AllocError> {
+fn tell_named(story: &mut Story, name: &str) {
     match by_name(name) {
         Element::Other => story.sentence(&[
             Piece::Text("no element that is read is named "),
@@ -97,41 +97,41 @@ fn tell_named(story: &mut Story, name: &str) -> Result<(), AllocError> {
 }
 
 /// Tells that packets aren't told apart by the element of this number.
-fn tell_numbered(story: &mut Story, number: u64) -> Result<(), AllocError> {
+fn tell_numbered(story: &mut Story, number: u64) {
     story.sentence(&[
         Piece::Text("element "),
         Piece::Number(number),
         Piece::Text(" is no field by which packets are told apart"),
-    ])
+    ]);
 }
 
 /// Tells that packets aren't told apart by the element that an object names.
-fn tell_no_axis(story: &mut Story, object: &Value) -> Result<(), AllocError> {
+fn tell_no_axis(story: &mut Story, object: &Value) {
     if is_of_enterprise(object) {
-        return story.sentence(&[Piece::Text(
-            "packets are told apart by no element of an enterprise",
-        )]);
+        story.sentence(&[Piece::Text("packets are told apart by no element of an enterprise")]);
+        return;
     }
     if let Some(name) = text_member(object, "ieName") {
-        return tell_named(story, name);
+        tell_named(story, name);
+        return;
     }
     match number_of(object) {
         Some(number) => tell_numbered(story, number),
-        None => Ok(()),
+        None => {},
     }
 }
 
 /// Tells the elements that may be named where packets are told apart, those that are axes or their prefixes too.
-fn tell_choice(story: &mut Story, prefixes: bool) -> Result<(), AllocError> {
+fn tell_choice(story: &mut Story, prefixes: bool) {
     let count = if prefixes { OF_AXES } else { ON_AXES };
-    story.tell(&[Piece::Text("elements that are allowed there: ")])?;
+    story.tell(&[Piece::Text("elements that are allowed there: ")]);
     for place in 0..count {
         story.tell(&[
             Piece::Text(between(place > 0, ", ")),
             Piece::Text(NAMES[place]),
-        ])?;
+        ]);
     }
-    story.end_line()
+    story.end_line();
 }
 
 /// The nearest name to that which an object gives to its element, where no element has that name.
@@ -155,10 +155,10 @@ pub(crate) fn tell_element(
         return Ok(true);
     }
     match near_name(alloc, object)? {
-        Some(known) => tell_near(story, text_or_none(object, "ieName"), known)?,
+        Some(known) => tell_near(story, text_or_none(object, "ieName"), known),
         None => {
-            tell_no_axis(story, object)?;
-            tell_choice(story, prefixes)?;
+            tell_no_axis(story, object);
+            tell_choice(story, prefixes);
         }
     }
     Ok(false)
@@ -176,5 +176,6 @@ pub(crate) fn tell_value(
     story.sentence(&[
         Piece::Text("the value there: "),
         Piece::Octets(&octets[..end]),
-    ])
+    ]);
+    Ok(())
 }

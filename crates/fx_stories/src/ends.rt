@@ -4,36 +4,30 @@ use crate::pointers::{
 };
 use crate::story::{Piece, Story, between};
 use serde_json::Value;
-use std::alloc::AllocError;
 
 /// How many segments of a pointer lead to the configuration of a device.
 const CONFIGURATION: usize = 4;
 
 /// Tells that nothing of a kind has this name, and the names that there are.
-fn tell_unknown<'x>(
-    story: &mut Story,
-    kind: &'x str,
-    name: &'x str,
-    entries: &[Value],
-) -> Result<(), AllocError> {
+fn tell_unknown<'x>(story: &mut Story, kind: &'x str, name: &'x str, entries: &[Value]) {
     story.tell(&[
         Piece::Text("no "),
         Piece::Text(kind),
         Piece::Text(" is named "),
         Piece::Quoted(name),
         Piece::Text("; there are: "),
-    ])?;
+    ]);
     let mut told = false;
     for entry in entries {
         if let Some(known) = text_member(entry, "name") {
-            story.tell(&[Piece::Text(between(told, ", ")), Piece::Quoted(known)])?;
+            story.tell(&[Piece::Text(between(told, ", ")), Piece::Quoted(known)]);
             told = true;
         }
     }
     if !told {
-        story.tell(&[Piece::Text("none")])?;
+        story.tell(&[Piece::Text("none")]);
     }
-    story.end_line()
+    story.end_line();
 }
 
 /// The entry of this name in a list of an object, or, where it isn't there, none, and that is told.
@@ -43,75 +37,54 @@ fn entry_or_told<'a, 'x>(
     list: &str,
     kind: &'x str,
     name: &'x str,
-) -> Result<Option<&'a Value>, AllocError> {
+) -> Option<&'a Value> {
     let found = entry_of(value, list, name);
     if found.is_none() {
-        tell_unknown(story, kind, name, items_member(value, list))?;
+        tell_unknown(story, kind, name, items_member(value, list));
     }
-    Ok(found)
+    found
 }
 
 /// Tells that a device isn't there, or has no collecting process of this name.
-fn tell_process(
-    story: &mut Story,
-    network: &Value,
-    device: &str,
-    process: &str,
-) -> Result<(), AllocError> {
-    let Some(device) = entry_or_told(story, network, "devices", "device", device)? else {
-        return Ok(());
+fn tell_process(story: &mut Story, network: &Value, device: &str, process: &str) {
+    let Some(device) = entry_or_told(story, network, "devices", "device", device) else {
+        return;
     };
     if let Some(container) = configuration(device) {
         let list = "collectingProcess";
-        let _found = entry_or_told(story, container, list, "collecting process", process)?;
+        let _found = entry_or_told(story, container, list, "collecting process", process);
     }
-    Ok(())
 }
 
 /// Tells that a device isn't there, or has no exporting process of this name, or that no destination.
-fn tell_start(
-    story: &mut Story,
-    network: &Value,
-    device: &str,
-    process: &str,
-    destination: &str,
-) -> Result<(), AllocError> {
-    let Some(device) = entry_or_told(story, network, "devices", "device", device)? else {
-        return Ok(());
+fn tell_start(story: &mut Story, network: &Value, device: &str, process: &str, destination: &str) {
+    let Some(device) = entry_or_told(story, network, "devices", "device", device) else {
+        return;
     };
     let Some(container) = configuration(device) else {
-        return Ok(());
+        return;
     };
     let list = "exportingProcess";
-    if let Some(process) = entry_or_told(story, container, list, "exporting process", process)? {
-        let _found = entry_or_told(story, process, "destination", "destination", destination)?;
+    if let Some(process) = entry_or_told(story, container, list, "exporting process", process) {
+        let _found = entry_or_told(story, process, "destination", "destination", destination);
     }
-    Ok(())
 }
 
 /// Tells which ends of a link aren't there.
-pub(crate) fn tell_link_ends(
-    story: &mut Story,
-    network: &Value,
-    link: &Value,
-) -> Result<(), AllocError> {
+pub(crate) fn tell_link_ends(story: &mut Story, network: &Value, link: &Value) {
     let device = text_or_none(link, "device");
     let process = text_or_none(link, "exportingProcess");
     let destination = text_or_none(link, "destination");
-    tell_start(story, network, device, process, destination)?;
+    tell_start(story, network, device, process, destination);
     let device = text_or_none(link, "toDevice");
-    tell_process(story, network, device, text_or_none(link, "toProcess"))
+    tell_process(story, network, device, text_or_none(link, "toProcess"));
 }
 
 /// Tells what isn't there of the device and the collecting process of a report.
-pub(crate) fn tell_report_end(
-    story: &mut Story,
-    network: &Value,
-    report: &Value,
-) -> Result<(), AllocError> {
+pub(crate) fn tell_report_end(story: &mut Story, network: &Value, report: &Value) {
     let device = text_or_none(report, "device");
     let process = text_or_none(report, "collectingProcess");
-    tell_process(story, network, device, process)
+    tell_process(story, network, device, process);
 }
 
 /// What the entries of a list of a device are.
@@ -125,49 +98,36 @@ fn kind_of(list: &str) -> &'static str {
 }
 
 /// Tells the name at a pointer into a network, which names nothing of its device, and the names that there are.
-pub(crate) fn tell_unknown_name(
-    story: &mut Story,
-    network: &Value,
-    pointer: &str,
-    name: &str,
-) -> Result<(), AllocError> {
+pub(crate) fn tell_unknown_name(story: &mut Story, network: &Value, pointer: &str, name: &str) {
     let list = last_member(pointer);
     match value_behind(network, pointer, CONFIGURATION) {
         Some(container) => tell_unknown(story, kind_of(list), name, items_member(container, list)),
-        None => Ok(()),
+        None => {},
     }
 }
 
 /// Tells that no device of a network has this name, and the names that there are.
-pub(crate) fn tell_unknown_device(
-    story: &mut Story,
-    network: &Value,
-    name: &str,
-) -> Result<(), AllocError> {
-    tell_unknown(story, "device", name, items_member(network, "devices"))
+pub(crate) fn tell_unknown_device(story: &mut Story, network: &Value, name: &str) {
+    tell_unknown(story, "device", name, items_member(network, "devices"));
 }
 
 /// Tells a collecting process by the numbers of its device and its own, as `3.1`.
-fn tell_numbers<'x>(
-    story: &mut Story,
-    network: &'x Value,
-    numbers: &'x str,
-) -> Result<(), AllocError> {
+fn tell_numbers<'x>(story: &mut Story, network: &'x Value, numbers: &'x str) {
     let Some((device, process)) = numbers.split_once('.') else {
-        return Ok(());
+        return;
     };
     let (Ok(first), Ok(second)) = (device.parse::<usize>(), process.parse::<usize>()) else {
-        return Ok(());
+        return;
     };
     let Some(device) = items_member(network, "devices").get(first.saturating_sub(1)) else {
-        return Ok(());
+        return;
     };
     let Some(container) = configuration(device) else {
-        return Ok(());
+        return;
     };
     let processes = items_member(container, "collectingProcess");
     let Some(process) = processes.get(second.saturating_sub(1)) else {
-        return Ok(());
+        return;
     };
     story.sentence(&[
         Piece::Text(numbers),
@@ -175,17 +135,12 @@ fn tell_numbers<'x>(
         Piece::Quoted(text_or_none(process, "name")),
         Piece::Text(" of "),
         Piece::Text(text_or_none(device, "name")),
-    ])
+    ]);
 }
 
 /// Tells the collecting processes that stand on a circle of links, or behind one, by their numbers.
-pub(crate) fn tell_cycle(
-    story: &mut Story,
-    network: &Value,
-    place: &str,
-) -> Result<(), AllocError> {
+pub(crate) fn tell_cycle(story: &mut Story, network: &Value, place: &str) {
     for numbers in place.split(' ') {
-        tell_numbers(story, network, numbers)?;
+        tell_numbers(story, network, numbers);
     }
-    Ok(())
 }

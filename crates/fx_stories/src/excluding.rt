@@ -4,7 +4,6 @@ use crate::story::{Piece, Story};
 use fx_config::{Method, PropertyMatch, SelectionProcess, Selector};
 use fx_plan::Plan;
 use fx_topology::NetworkDevice;
-use std::alloc::AllocError;
 
 /// Whether no packet passes both of two selectors.
 fn exclude(one: &Selector, other: &Selector) -> bool {
@@ -21,22 +20,22 @@ fn excluding<'a>(selectors: &'a [Selector], other: &Selector) -> Option<&'a Sele
 }
 
 /// Tells the values that pass a filter.
-fn tell_passing(story: &mut Story, filter: PropertyMatch) -> Result<(), AllocError> {
+fn tell_passing(story: &mut Story, filter: PropertyMatch) {
     story.tell(&[
         Piece::Text(" ("),
         Piece::Text(axis_word(filter.axis)),
         Piece::Text(" "),
-    ])?;
-    tell_values(story, filter.axis, filter.range.low, filter.range.high)?;
-    story.tell(&[Piece::Text(")")])
+    ]);
+    tell_values(story, filter.axis, filter.range.low, filter.range.high);
+    story.tell(&[Piece::Text(")")]);
 }
 
 /// Tells a selector, and the values that pass it.
-fn tell_selector(story: &mut Story, selector: &Selector) -> Result<(), AllocError> {
-    story.tell(&[Piece::Quoted(selector.name.as_str())])?;
+fn tell_selector(story: &mut Story, selector: &Selector) {
+    story.tell(&[Piece::Quoted(selector.name.as_str())]);
     match selector.method {
         Method::FilterMatch(filter) => tell_passing(story, filter),
-        Method::SelectAll => Ok(()),
+        Method::SelectAll => {},
     }
 }
 
@@ -47,48 +46,42 @@ fn tell_both<'x>(
     process: &'x SelectionProcess,
     one: &Selector,
     other: &Selector,
-) -> Result<(), AllocError> {
+) {
     story.tell(&[
         Piece::Text("selection process "),
         Piece::Quoted(process.name.as_str()),
         Piece::Text(" of "),
         Piece::Text(device.name.as_str()),
         Piece::Text(" selects nothing: no packet passes both filters "),
-    ])?;
-    tell_selector(story, one)?;
-    story.tell(&[Piece::Text(" and ")])?;
-    tell_selector(story, other)?;
-    story.end_line()
+    ]);
+    tell_selector(story, one);
+    story.tell(&[Piece::Text(" and ")]);
+    tell_selector(story, other);
+    story.end_line();
 }
 
 /// Tells the first two selectors of a selection process that exclude one another.
-fn tell_process(
-    story: &mut Story,
-    device: &NetworkDevice,
-    process: &SelectionProcess,
-) -> Result<(), AllocError> {
+fn tell_process(story: &mut Story, device: &NetworkDevice, process: &SelectionProcess) {
     let selectors = process.selectors.as_slice();
     for place in 0..selectors.len() {
         let selector = &selectors[place];
         if let Some(other) = excluding(&selectors[..place], selector) {
-            return tell_both(story, device, process, other, selector);
+            tell_both(story, device, process, other, selector);
+            return;
         }
     }
-    Ok(())
 }
 
 /// Tells the selection processes of a device that select nothing.
-fn tell_device(story: &mut Story, device: &NetworkDevice) -> Result<(), AllocError> {
+fn tell_device(story: &mut Story, device: &NetworkDevice) {
     for process in device.config.selection_processes.as_slice() {
-        tell_process(story, device, process)?;
+        tell_process(story, device, process);
     }
-    Ok(())
 }
 
 /// Tells the selection processes of a network that select nothing, since two of their filters exclude one another.
-pub(crate) fn tell_excluding(story: &mut Story, plan: &Plan) -> Result<(), AllocError> {
+pub(crate) fn tell_excluding(story: &mut Story, plan: &Plan) {
     for device in plan.network().devices.as_slice() {
-        tell_device(story, device)?;
+        tell_device(story, device);
     }
-    Ok(())
 }

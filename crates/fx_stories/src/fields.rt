@@ -2,7 +2,6 @@
 use crate::story::{Piece, Story, between};
 use fx_elements::{Element, by_id, width};
 use fx_wire::{FieldSpecifier, VARIABLE};
-use std::alloc::AllocError;
 
 /// How many fields of a template are told.
 const FIELDS: usize = 20;
@@ -89,15 +88,16 @@ fn last_element_name(number: u16) -> &'static str {
 }
 
 /// Tells a field's element: its name, where it is known, and its number and enterprise.
-pub(crate) fn tell_element(story: &mut Story, field: &FieldSpecifier) -> Result<(), AllocError> {
+pub(crate) fn tell_element(story: &mut Story, field: &FieldSpecifier) {
     let number = Piece::Number(u64::from(field.element));
     if let Some(enterprise) = field.enterprise {
-        return story.tell(&[
+        story.tell(&[
             Piece::Text("element "),
             number,
             Piece::Text(" of enterprise "),
             Piece::Number(u64::from(enterprise)),
         ]);
+        return;
     }
     match element_name(field.element) {
         "" => story.tell(&[Piece::Text("element "), number]),
@@ -111,42 +111,39 @@ pub(crate) fn tell_element(story: &mut Story, field: &FieldSpecifier) -> Result<
 }
 
 /// Tells a field: its element and its length.
-pub(crate) fn tell_field(story: &mut Story, field: &FieldSpecifier) -> Result<(), AllocError> {
-    tell_element(story, field)?;
+pub(crate) fn tell_field(story: &mut Story, field: &FieldSpecifier) {
+    tell_element(story, field);
     if field.field_length == VARIABLE {
-        return story.tell(&[Piece::Text(" of variable length")]);
+        story.tell(&[Piece::Text(" of variable length")]);
+        return;
     }
     story.tell(&[
         Piece::Text(" of length "),
         Piece::Number(u64::from(field.field_length)),
-    ])
+    ]);
 }
 
 /// Tells the fields of a template.
-pub(crate) fn tell_fields_of(
-    story: &mut Story,
-    fields: &[FieldSpecifier],
-) -> Result<(), AllocError> {
+pub(crate) fn tell_fields_of(story: &mut Story, fields: &[FieldSpecifier]) {
     let told = fields.len().min(FIELDS);
     for place in 0..told {
-        story.tell(&[Piece::Text(between(place > 0, ", "))])?;
-        tell_field(story, &fields[place])?;
+        story.tell(&[Piece::Text(between(place > 0, ", "))]);
+        tell_field(story, &fields[place]);
     }
     if told < fields.len() {
-        story.tell(&[Piece::Text(", ..")])?;
+        story.tell(&[Piece::Text(", ..")]);
     }
-    Ok(())
 }
 
 /// Tells how many octets the values of a field's element must have.
-pub(crate) fn tell_allowed_length(
-    story: &mut Story,
-    field: &FieldSpecifier,
-) -> Result<(), AllocError> {
+pub(crate) fn tell_allowed_length(story: &mut Story, field: &FieldSpecifier) {
     let wide = match by_id(field.element, field.enterprise.unwrap_or(0)) {
         Element::OnAxis(axis) | Element::Prefix(axis) => width(axis) / 8,
         Element::PrefixLength(_) => 1,
-        _ => return story.tell(&[Piece::Text("; it must have 1 octet at least")]),
+        _ => {
+            story.tell(&[Piece::Text("; it must have 1 octet at least")]);
+            return;
+        },
     };
     match wide {
         1 => story.tell(&[Piece::Text("; it must have 1 octet")]),

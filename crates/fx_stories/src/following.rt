@@ -71,7 +71,7 @@ fn tell_aggregation(
         } else {
             ": "
         }),
-    ])?;
+    ]);
     let _made = tell_sending(story, plan, device, exporters, &[])?;
     Ok(())
 }
@@ -86,7 +86,7 @@ fn tell_process(
 ) -> Result<(), AllocError> {
     let exporters = process.exporting_processes.as_slice();
     if !exporters.is_empty() {
-        story.tell(&[Piece::Text("; it forwards: ")])?;
+        story.tell(&[Piece::Text("; it forwards: ")]);
         let _made = tell_sending(story, plan, device, exporters, &[])?;
         add_links(found, plan, device, exporters)?;
     }
@@ -110,19 +110,21 @@ fn tell_link(
     region: &Region,
     link: &NamedLink,
 ) -> Result<(), AllocError> {
-    tell_end(story, link)?;
+    tell_end(story, link);
     if leads_to_report(&plan.network().report, link) {
-        story.tell(&[Piece::Text(" is the report's")])?;
+        story.tell(&[Piece::Text(" is the report's")]);
     }
     if let Some(device) = entry_named(plan.network().devices.as_slice(), &link.to_device) {
         let processes = device.config.collecting_processes.as_slice();
         if let Some(process) = entry_named(processes, &link.to_process) {
             tell_process(story, found, plan, device, process)?;
-            story.end_line()?;
-            return tell_matches(story, region, device, process);
+            story.end_line();
+            tell_matches(story, region, device, process);
+            return Ok(());
         }
     }
-    story.end_line()
+    story.end_line();
+    Ok(())
 }
 
 /// Tells the collecting processes to which the records of a region's packets may come that take a path, each once and 64

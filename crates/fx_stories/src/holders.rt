@@ -21,12 +21,13 @@ fn tell_leaving(
         Piece::Text(" of "),
         Piece::Text(device.name.as_str()),
         Piece::Text(": "),
-    ])?;
+    ]);
     tell_sending(story, plan, device, exporters, choices)?;
     if exporters.is_empty() {
-        story.tell(&[Piece::Text("it has no exporting process, so the record is lost")])?;
+        story.tell(&[Piece::Text("it has no exporting process, so the record is lost")]);
     }
-    story.end_line()
+    story.end_line();
+    Ok(())
 }
 
 /// Tells that a record leaves the cache of this number.
@@ -38,12 +39,13 @@ fn tell_cache(
     choices: &[Option<u64>],
 ) -> Result<(), AllocError> {
     let Some(cache) = entry_numbered(device.config.caches.as_slice(), number) else {
-        return story.sentence(&[Piece::Text("there is no cache "), Piece::Number(number)]);
+        story.sentence(&[Piece::Text("there is no cache "), Piece::Number(number)]);
+        return Ok(());
     };
     story.tell(&[
         Piece::Text("a record leaves cache "),
         Piece::Quoted(cache.name.as_str()),
-    ])?;
+    ]);
     tell_leaving(
         story,
         plan,
@@ -64,21 +66,23 @@ fn tell_aggregation(
 ) -> Result<(), AllocError> {
     let processes = device.config.collecting_processes.as_slice();
     let Some(process) = entry_numbered(processes, process) else {
-        return story.sentence(&[
+        story.sentence(&[
             Piece::Text("there is no collecting process "),
             Piece::Number(process),
         ]);
+        return Ok(());
     };
     let Some(aggregation) = entry_numbered(process.aggregations.as_slice(), number) else {
-        return story.sentence(&[
+        story.sentence(&[
             Piece::Text("there is no aggregation "),
             Piece::Number(number),
         ]);
+        return Ok(());
     };
     story.tell(&[
         Piece::Text("a record leaves aggregation "),
         Piece::Quoted(aggregation.name.as_str()),
-    ])?;
+    ]);
     tell_leaving(
         story,
         plan,
@@ -100,7 +104,8 @@ pub(crate) fn tell_expiry(
         HolderName::Aggregation { device, .. } => device,
     };
     let Some(device) = entry_numbered(plan.network().devices.as_slice(), number) else {
-        return story.sentence(&[Piece::Text("there is no device "), Piece::Number(number)]);
+        story.sentence(&[Piece::Text("there is no device "), Piece::Number(number)]);
+        return Ok(());
     };
     match holder {
         HolderName::Cache { cache, .. } => tell_cache(story, plan, device, cache, choices),
@@ -118,27 +123,22 @@ pub(crate) fn leads_to_report(report: &Report, link: &NamedLink) -> bool {
 }
 
 /// Tells which of these aggregations take a record in, where so many of them do.
-fn tell_taking(
-    story: &mut Story,
-    aggregations: &[Aggregation],
-    taken: usize,
-) -> Result<(), AllocError> {
+fn tell_taking(story: &mut Story, aggregations: &[Aggregation], taken: usize) {
     let words = if taken >= aggregations.len() {
         " takes it in"
     } else {
         " may take it in"
     };
     if taken == 0 {
-        return Ok(());
+        return;
     }
     for aggregation in aggregations {
         story.tell(&[
             Piece::Text("; aggregation "),
             Piece::Quoted(aggregation.name.as_str()),
             Piece::Text(words),
-        ])?;
+        ]);
     }
-    Ok(())
 }
 
 /// Tells what a collecting process does with a record, by the choices of the step.
@@ -151,11 +151,12 @@ fn tell_handling(
 ) -> Result<(), AllocError> {
     let exporters = process.exporting_processes.as_slice();
     if !exporters.is_empty() {
-        story.tell(&[Piece::Text("; ")])?;
+        story.tell(&[Piece::Text("; ")]);
     }
     let made = tell_sending(story, plan, device, exporters, choices)?;
     let taken = choices.len().saturating_sub(made);
-    tell_taking(story, process.aggregations.as_slice(), taken)
+    tell_taking(story, process.aggregations.as_slice(), taken);
+    Ok(())
 }
 
 /// Tells that a record reaches the collecting process at the end of a link.
@@ -173,12 +174,12 @@ fn tell_reaching(
         Piece::Text(" of "),
         Piece::Text(link.device.as_str()),
         Piece::Text(" reaches "),
-    ])?;
-    tell_end(story, link)?;
+    ]);
+    tell_end(story, link);
     if leads_to_report(&plan.network().report, link) {
         story.tell(&[Piece::Text(
             "; it is counted, or unassigned where it lacks the report's key",
-        )])?;
+        )]);
     }
     let devices = plan.network().devices.as_slice();
     if let Some(device) = entry_named(devices, &link.to_device) {
@@ -187,7 +188,8 @@ fn tell_reaching(
             tell_handling(story, plan, device, process, choices)?;
         }
     }
-    story.end_line()
+    story.end_line();
+    Ok(())
 }
 
 /// Tells that a record on the link of this number reaches its end.
@@ -199,6 +201,9 @@ pub(crate) fn tell_arrival(
 ) -> Result<(), AllocError> {
     match entry_numbered(plan.network().links.as_slice(), number) {
         Some(link) => tell_reaching(story, plan, link, choices),
-        None => story.sentence(&[Piece::Text("there is no link "), Piece::Number(number)]),
+        None => {
+            story.sentence(&[Piece::Text("there is no link "), Piece::Number(number)]);
+            Ok(())
+        }
     }
 }

@@ -34,12 +34,7 @@ fn start_of_line(octets: &[u8], line: usize) -> usize {
 }
 
 /// Tells the octets of a line before a column, at most 60.
-fn tell_before(
-    story: &mut Story,
-    octets: &[u8],
-    line: usize,
-    column: usize,
-) -> Result<(), AllocError> {
+fn tell_before(story: &mut Story, octets: &[u8], line: usize, column: usize) {
     let start = start_of_line(octets, line);
     let end = start.saturating_add(column).min(octets.len());
     let first = start.max(end.saturating_sub(TOLD));
@@ -48,7 +43,7 @@ fn tell_before(
             Piece::Text("what stands there, up to that place: "),
             Piece::Octets(before),
         ]),
-        None => Ok(()),
+        None => {},
     }
 }
 
@@ -71,12 +66,7 @@ fn reason_in(text: &str) -> &str {
 }
 
 /// Tells a reason, and the line and the column where it stands.
-fn tell_reason(
-    story: &mut Story,
-    line: usize,
-    column: usize,
-    reason: &str,
-) -> Result<(), AllocError> {
+fn tell_reason(story: &mut Story, line: usize, column: usize, reason: &str) {
     story.sentence(&[
         Piece::Text("line "),
         Piece::Number(line as u64),
@@ -85,7 +75,7 @@ fn tell_reason(
         Piece::Text(": "),
         Piece::Text(reason),
         Piece::Text(limit_words(reason)),
-    ])
+    ]);
 }
 
 /// Tells where an error stands, and its reason.
@@ -96,7 +86,8 @@ fn tell_error(alloc: Global, story: &mut Story, error: &Error) -> Result<(), All
         error.line(),
         error.column(),
         reason_in(text.as_str()),
-    )
+    );
+    Ok(())
 }
 
 /// Tells why octets are no JSON text, if they aren't.
@@ -109,8 +100,14 @@ pub(crate) fn tell_json(alloc: Global, story: &mut Story, octets: &[u8]) -> Resu
             }
             tell_error(alloc, story, &error)?;
             match beginning_words(octets) {
-                Some(words) => story.sentence(&[Piece::Text(words)]),
-                None => tell_before(story, octets, error.line(), error.column()),
+                Some(words) => {
+                    story.sentence(&[Piece::Text(words)]);
+                    Ok(())
+                }
+                None => {
+                    tell_before(story, octets, error.line(), error.column());
+                    Ok(())
+                }
             }
         }
     }

@@ -5,7 +5,6 @@ ghost use Rattle.fx_stories.specs.Stories.{IsLineFault, IsUntold};
 
 use crate::story::{Piece, Story};
 use fx_base::{Fault, Line, LineReader, Place, Source, refusals};
-use std::alloc::AllocError;
 
 /// How many octets of a line are told.
 const TOLD: usize = 200;
@@ -32,14 +31,14 @@ pub(crate) fn next_line<C: Source>(lines: &mut LineReader<C>) -> Result<bool, Fa
 }
 
 /// Tells a line: its number and its first octets.
-pub(crate) fn tell_line(story: &mut Story, line: &Line<'_>) -> Result<(), AllocError> {
+pub(crate) fn tell_line(story: &mut Story, line: &Line<'_>) {
     let end = line.bytes.len().min(TOLD);
     story.sentence(&[
         Piece::Text("line "),
         Piece::Number(line.number),
         Piece::Text(": "),
         Piece::Octets(&line.bytes[..end]),
-    ])
+    ]);
 }
 
 /// What was read of lines, or none where it is refused for what they say.
@@ -68,7 +67,7 @@ pub(crate) fn tell_line_numbered<C: Source>(
 {
     'lines: while next_line(lines)? {
         if lines.number() == number {
-            tell_line(story, &lines.line())?;
+            tell_line(story, &lines.line());
             return Ok(());
         }
     }

@@ -24,8 +24,8 @@ fn tell_network(alloc: Global, story: &mut Story, network: &[u8]) -> Result<(), 
         return Ok(());
     };
     tell_twice(alloc, story, "network", network)?;
-    tell_unread_members(story, &value)?;
-    tell_prefixes(story, &value)?;
+    tell_unread_members(story, &value);
+    tell_prefixes(story, &value);
     match plan_again(alloc, network)? {
         Some(plan) => tell_plan(story, &plan),
         None => Ok(()),
@@ -35,16 +35,17 @@ fn tell_network(alloc: Global, story: &mut Story, network: &[u8]) -> Result<(), 
 /// Tells what of a network leads nowhere, and what selects nothing.
 fn tell_plan(story: &mut Story, plan: &Plan) -> Result<(), AllocError> {
     tell_unused(story, plan)?;
-    tell_excluding(story, plan)
+    tell_excluding(story, plan);
+    Ok(())
 }
 
 /// Tells which classes are exempt, or that there is no class.
-fn tell_classes(story: &mut Story, documents: &Documents) -> Result<(), AllocError> {
+fn tell_classes(story: &mut Story, documents: &Documents) {
     let classes = documents.traffic.classes().as_slice();
     if classes.is_empty() {
         story.sentence(&[Piece::Text(
             "traffic: it declares no class, so an answer is about no packet",
-        )])?;
+        )]);
     }
     for place in 0..classes.len() {
         if classes[place].exempt() {
@@ -55,10 +56,9 @@ fn tell_classes(story: &mut Story, documents: &Documents) -> Result<(), AllocErr
                 Piece::Text(" "),
                 Piece::Quoted(class_name(documents, number)),
                 Piece::Text(" is exempt: none of its packets may be counted"),
-            ])?;
+            ]);
         }
     }
-    Ok(())
 }
 
 /// Tells what is read in silence in a traffic declaration.
@@ -75,10 +75,10 @@ fn tell_traffic(
     };
     tell_twice(alloc, story, "traffic", traffic)?;
     let targets = documents.traffic.targets(alloc)?;
-    tell_classes(story, &documents)?;
-    tell_prefixes_of_classes(story, &documents.classes)?;
-    tell_overlapping(story, &documents)?;
-    tell_unseen(story, &documents, targets.as_slice())?;
+    tell_classes(story, &documents);
+    tell_prefixes_of_classes(story, &documents.classes);
+    tell_overlapping(story, &documents);
+    tell_unseen(story, &documents, targets.as_slice());
     tell_directions(alloc, story, &documents, targets.as_slice())?;
     Ok(())
 }
@@ -117,5 +117,5 @@ pub fn put_lint_words<S: Sink>(
         ⊎ IsWriteFault (S.failed sink.new) e) }
 {
     let story = story_of(alloc, network, traffic)?;
-    put_text(sink, story.octets())
+    put_text(sink, story.octets()?)
 }

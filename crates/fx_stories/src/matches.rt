@@ -4,7 +4,6 @@ use crate::story::{Piece, Story};
 use fx_boxes::Region;
 use fx_config::{Aggregation, CollectingProcess, PropertyMatch};
 use fx_topology::NetworkDevice;
-use std::alloc::AllocError;
 
 /// For how many of a region's packets a match holds, in words, where it doesn't hold for all.
 fn hold_words(region: &Region, property: &PropertyMatch) -> Option<&'static str> {
@@ -27,7 +26,7 @@ fn tell_match<'x>(
     aggregation: &'x Aggregation,
     property: &PropertyMatch,
     words: &'static str,
-) -> Result<(), AllocError> {
+) {
     story.tell(&[
         Piece::Text("aggregation "),
         Piece::Quoted(aggregation.name.as_str()),
@@ -38,14 +37,14 @@ fn tell_match<'x>(
         Piece::Text(": its match on "),
         Piece::Text(axis_word(property.axis)),
         Piece::Text(" "),
-    ])?;
+    ]);
     tell_values(
         story,
         property.axis,
         property.range.low,
         property.range.high,
-    )?;
-    story.sentence(&[Piece::Text(words)])
+    );
+    story.sentence(&[Piece::Text(words)]);
 }
 
 /// Tells which matches of an aggregation don't hold for all packets of a region.
@@ -55,13 +54,12 @@ fn tell_aggregation(
     device: &NetworkDevice,
     process: &CollectingProcess,
     aggregation: &Aggregation,
-) -> Result<(), AllocError> {
+) {
     for property in aggregation.matches.as_slice() {
         if let Some(words) = hold_words(region, property) {
-            tell_match(story, device, process, aggregation, property, words)?;
+            tell_match(story, device, process, aggregation, property, words);
         }
     }
-    Ok(())
 }
 
 /// Tells which matches of the aggregations of a collecting process don't hold for all packets of a region.
@@ -70,9 +68,8 @@ pub(crate) fn tell_matches(
     region: &Region,
     device: &NetworkDevice,
     process: &CollectingProcess,
-) -> Result<(), AllocError> {
+) {
     for aggregation in process.aggregations.as_slice() {
-        tell_aggregation(story, region, device, process, aggregation)?;
+        tell_aggregation(story, region, device, process, aggregation);
     }
-    Ok(())
 }

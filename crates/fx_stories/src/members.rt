@@ -1,7 +1,6 @@
 //! Which members an object lacks, and which it has.
 use crate::story::{Piece, Story};
 use serde_json::Value;
-use std::alloc::AllocError;
 
 /// The members that an object has to have: all of the first, and one of the second.
 #[derive(Clone, Copy)]
@@ -59,58 +58,47 @@ fn members_required(member: &str, is_network: bool) -> Required {
 }
 
 /// Tells those of these members that an object lacks.
-fn tell_missing(
-    story: &mut Story,
-    object: &Value,
-    names: &'static [&'static str],
-) -> Result<(), AllocError> {
+fn tell_missing(story: &mut Story, object: &Value, names: &'static [&'static str]) {
     for name in names {
         if object.get(*name).is_none() {
-            story.sentence(&[Piece::Text("missing: "), Piece::Text(name)])?;
+            story.sentence(&[Piece::Text("missing: "), Piece::Text(name)]);
         }
     }
-    Ok(())
 }
 
 /// Tells names, with a separator between two.
-fn tell_choice(story: &mut Story, names: &'static [&'static str]) -> Result<(), AllocError> {
+fn tell_choice(story: &mut Story, names: &'static [&'static str]) {
     let mut separator = "missing: one of ";
     for name in names {
-        story.tell(&[Piece::Text(separator), Piece::Text(name)])?;
+        story.tell(&[Piece::Text(separator), Piece::Text(name)]);
         separator = ", ";
     }
-    story.end_line()
+    story.end_line();
 }
 
 /// Tells the members that an object has.
-fn tell_members(story: &mut Story, object: &Value) -> Result<(), AllocError> {
+fn tell_members(story: &mut Story, object: &Value) {
     let Some(members) = object.as_object() else {
-        return Ok(());
+        return;
     };
     for (name, _) in members.iter() {
-        story.sentence(&[Piece::Text("there: "), Piece::Text(name.as_str())])?;
+        story.sentence(&[Piece::Text("there: "), Piece::Text(name.as_str())]);
     }
     if members.is_empty() {
-        story.sentence(&[Piece::Text("it has no members")])?;
+        story.sentence(&[Piece::Text("it has no members")]);
     }
-    Ok(())
 }
 
 /// Tells what an object lacks, at a pointer whose last member is this one, and what it has.
-pub(crate) fn tell_lacking(
-    story: &mut Story,
-    object: &Value,
-    member: &str,
-    is_network: bool,
-) -> Result<(), AllocError> {
+pub(crate) fn tell_lacking(story: &mut Story, object: &Value, member: &str, is_network: bool) {
     if !object.is_object() {
-        return Ok(());
+        return;
     }
     let required = members_required(member, is_network);
-    tell_missing(story, object, required.all)?;
+    tell_missing(story, object, required.all);
     let none = required.one.iter().all(|name| object.get(*name).is_none());
     if none && !required.one.is_empty() {
-        tell_choice(story, required.one)?;
+        tell_choice(story, required.one);
     }
-    tell_members(story, object)
+    tell_members(story, object);
 }

@@ -84,7 +84,7 @@ impl MessageThere<'_> {
     }
 
     /// Tells which message it is.
-    pub(crate) fn tell(&self, story: &mut Story) -> Result<(), AllocError> {
+    pub(crate) fn tell(&self, story: &mut Story) {
         story.sentence(&[
             Piece::Text("message "),
             Piece::Number(self.number),
@@ -94,11 +94,11 @@ impl MessageThere<'_> {
             Piece::Number(self.octets.len() as u64),
             Piece::Text(", observation domain "),
             Piece::Number(u64::from(self.domain())),
-        ])
+        ]);
     }
 
     /// Tells a set: its id and where it begins in the stream.
-    pub(crate) fn tell_set(&self, story: &mut Story, set: &SetThere) -> Result<(), AllocError> {
+    pub(crate) fn tell_set(&self, story: &mut Story, set: &SetThere) {
         story.tell(&[
             Piece::Text("the set at octet "),
             Piece::Number(self.place_in_stream(set.place)),
@@ -107,21 +107,17 @@ impl MessageThere<'_> {
             Piece::Text(", length "),
             Piece::Number(set.length as u64),
             Piece::Text(")"),
-        ])
+        ]);
     }
 
     /// Tells the first set that is refused for its length.
-    pub(crate) fn tell_set_length(
-        &self,
-        story: &mut Story,
-        sets: &[SetThere],
-    ) -> Result<(), AllocError> {
+    pub(crate) fn tell_set_length(&self, story: &mut Story, sets: &[SetThere]) {
         let Some(set) = sets.last() else {
-            return Ok(());
+            return;
         };
         let left = self.octets.len().saturating_sub(set.place);
         if left < 4 {
-            return story.sentence(&[
+            story.sentence(&[
                 Piece::Text("at octet "),
                 Piece::Number(self.place_in_stream(set.place)),
                 Piece::Text(
@@ -129,35 +125,33 @@ impl MessageThere<'_> {
                 ),
                 Piece::Number(left as u64),
             ]);
+            return;
         }
-        self.tell_set(story, set)?;
+        self.tell_set(story, set);
         if set.length < 4 {
-            return story.sentence(&[Piece::Text(
+            story.sentence(&[Piece::Text(
                 ": its length counts its header too, so it must be 4 at least",
             )]);
+            return;
         }
         story.sentence(&[
             Piece::Text(": it passes its message's end; octets left in the message: "),
             Piece::Number(left as u64),
-        ])
+        ]);
     }
 
     /// Tells the first set whose id is reserved.
-    pub(crate) fn tell_reserved(
-        &self,
-        story: &mut Story,
-        sets: &[SetThere],
-    ) -> Result<(), AllocError> {
+    pub(crate) fn tell_reserved(&self, story: &mut Story, sets: &[SetThere]) {
         for set in sets {
             if set.id < 256 && set.id != 2 && set.id != 3 {
-                self.tell_set(story, set)?;
-                return story.sentence(&[Piece::Text(if set.id < 2 {
+                self.tell_set(story, set);
+                story.sentence(&[Piece::Text(if set.id < 2 {
                     ": under this id stand the templates of NetFlow 9; those of IPFIX stand under 2 and 3"
                 } else {
                     ": this id is reserved"
                 })]);
+                return;
             }
         }
-        Ok(())
     }
 }

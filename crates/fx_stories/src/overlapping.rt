@@ -6,19 +6,12 @@ use crate::regions::tell_region;
 use crate::story::{Piece, Story};
 use fx_boxes::Region;
 use fx_tables::Class;
-use std::alloc::AllocError;
 
 /// How many pairs of classes are told.
 const TOLD: u64 = 16;
 
 /// Tells which packets two classes hold, by their numbers.
-fn tell_both(
-    story: &mut Story,
-    documents: &Documents,
-    first: u64,
-    second: u64,
-    both: &Region,
-) -> Result<(), AllocError> {
+fn tell_both(story: &mut Story, documents: &Documents, first: u64, second: u64, both: &Region) {
     story.tell(&[
         Piece::Text("traffic: class "),
         Piece::Number(first),
@@ -29,11 +22,11 @@ fn tell_both(
         Piece::Text(" "),
         Piece::Quoted(class_name(documents, second)),
         Piece::Text(" overlap: both hold "),
-    ])?;
-    tell_region(story, both)?;
+    ]);
+    tell_region(story, both);
     story.sentence(&[Piece::Text(
         "; once run takes a packet to be of the first class that holds it",
-    )])
+    )]);
 }
 
 /// Tells with which classes behind it the class at a place overlaps, as long as few were told, and answers how many
@@ -44,7 +37,7 @@ fn tell_behind(
     classes: &[Class],
     place: usize,
     before: u64,
-) -> Result<u64, AllocError>
+) -> u64
     requires { place < length classes.now }
 {
     let region = classes[place].region();
@@ -52,26 +45,25 @@ fn tell_behind(
     for other in place + 1..classes.len() {
         if let Some(both) = region.meet(&classes[other].region()) {
             if count < TOLD {
-                tell_both(story, documents, place as u64 + 1, other as u64 + 1, &both)?;
+                tell_both(story, documents, place as u64 + 1, other as u64 + 1, &both);
             }
             count = count.saturating_add(1);
         }
     }
-    Ok(count)
+    count
 }
 
 /// Tells which classes of a traffic declaration hold the same packets: the first 16 pairs, and how many there are more.
-pub(crate) fn tell_overlapping(story: &mut Story, documents: &Documents) -> Result<(), AllocError> {
+pub(crate) fn tell_overlapping(story: &mut Story, documents: &Documents) {
     let classes = documents.traffic.classes().as_slice();
     let mut count = 0;
     for place in 0..classes.len() {
-        count = tell_behind(story, documents, classes, place, count)?;
+        count = tell_behind(story, documents, classes, place, count);
     }
     if count > TOLD {
         story.sentence(&[
             Piece::Text("traffic: pairs of classes that overlap, besides these: "),
             Piece::Number(count - TOLD),
-        ])?;
+        ]);
     }
-    Ok(())
 }

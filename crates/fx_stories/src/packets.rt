@@ -6,7 +6,6 @@ use fx_base::entry_numbered;
 use fx_boxes::{Fields, Region};
 use fx_elements::{Axis, EVERY_AXIS};
 use fx_tables::Class;
-use std::alloc::AllocError;
 
 /// How many classes are told.
 const CLASSES: usize = 20;
@@ -17,7 +16,7 @@ pub(crate) fn tell_fields(
     separator: &'static str,
     fields: &Fields,
     octets: u64,
-) -> Result<(), AllocError> {
+) {
     let mut before = separator;
     for axis in EVERY_AXIS {
         let value = fields.get(axis);
@@ -27,7 +26,7 @@ pub(crate) fn tell_fields(
                 Piece::Text(axis_word(axis)),
                 Piece::Text(" "),
                 Piece::Value(axis, value),
-            ])?;
+            ]);
             before = ", ";
         }
     }
@@ -35,7 +34,7 @@ pub(crate) fn tell_fields(
         Piece::Text(before),
         Piece::Text("0 in all other fields, octets "),
         Piece::Number(octets),
-    ])
+    ]);
 }
 
 /// What is to be said of the value of a field that packets of the other version have.
@@ -48,11 +47,7 @@ fn absence(axis: Axis, fields: &Fields) -> &'static str {
 }
 
 /// Tells the fields that lie outside a region, each with the region's values there.
-pub(crate) fn tell_outside(
-    story: &mut Story,
-    region: &Region,
-    fields: &Fields,
-) -> Result<(), AllocError> {
+pub(crate) fn tell_outside(story: &mut Story, region: &Region, fields: &Fields) {
     let least = region.corner();
     let greatest = region.far_corner();
     let mut told = false;
@@ -71,12 +66,11 @@ pub(crate) fn tell_outside(
                 } else {
                     " lies outside "
                 }),
-            ])?;
-            tell_values(story, axis, low, high)?;
+            ]);
+            tell_values(story, axis, low, high);
             told = true;
         }
     }
-    Ok(())
 }
 
 /// Tells which fields keep a packet out of a class, in a line.
@@ -86,52 +80,42 @@ fn tell_class_outside(
     number: u64,
     class: &Class,
     fields: &Fields,
-) -> Result<(), AllocError> {
+) {
     story.tell(&[
         Piece::Text("class "),
         Piece::Number(number),
         Piece::Text(" "),
         Piece::Quoted(class_name(documents, number)),
         Piece::Text(": "),
-    ])?;
-    tell_outside(story, &class.region(), fields)?;
-    story.end_line()
+    ]);
+    tell_outside(story, &class.region(), fields);
+    story.end_line();
 }
 
 /// Tells, for each of the classes, which fields keep a packet out of it.
-pub(crate) fn tell_no_class(
-    story: &mut Story,
-    documents: &Documents,
-    fields: &Fields,
-) -> Result<(), AllocError> {
+pub(crate) fn tell_no_class(story: &mut Story, documents: &Documents, fields: &Fields) {
     let classes = documents.traffic.classes().as_slice();
     let told = classes.len().min(CLASSES);
     for place in 0..told {
-        tell_class_outside(story, documents, place as u64 + 1, &classes[place], fields)?;
+        tell_class_outside(story, documents, place as u64 + 1, &classes[place], fields);
     }
     if told < classes.len() {
         story.sentence(&[
             Piece::Text("and it is in none of the other classes, of which there are "),
             Piece::Number((classes.len() - told) as u64),
-        ])?;
+        ]);
     }
-    Ok(())
 }
 
 /// Tells that a number counts too far: how many there are of what is counted.
-fn tell_missing(
-    story: &mut Story,
-    words: &'static str,
-    number: u64,
-    there: usize,
-) -> Result<(), AllocError> {
+fn tell_missing(story: &mut Story, words: &'static str, number: u64, there: usize) {
     story.sentence(&[
         Piece::Text(words),
         Piece::Number(number),
         Piece::Text("; there are "),
         Piece::Number(there as u64),
         Piece::Text(", counted from 1"),
-    ])
+    ]);
 }
 
 /// Tells why a packet isn't in the class of this number with the path of that one.
@@ -141,22 +125,24 @@ pub(crate) fn tell_named_class(
     class: u64,
     path: u64,
     fields: &Fields,
-) -> Result<(), AllocError> {
+) {
     let classes = documents.traffic.classes().as_slice();
     let Some(named) = entry_numbered(classes, class) else {
-        return tell_missing(story, "the traffic has no class ", class, classes.len());
+        tell_missing(story, "the traffic has no class ", class, classes.len());
+        return;
     };
     if !named.holds(fields) {
-        return tell_class_outside(story, documents, class, named, fields);
+        tell_class_outside(story, documents, class, named, fields);
+        return;
     }
     if entry_numbered(named.paths(), path).is_some() {
-        return Ok(());
+        return;
     }
     story.tell(&[
         Piece::Text("class "),
         Piece::Number(class),
         Piece::Text(" "),
         Piece::Quoted(class_name(documents, class)),
-    ])?;
-    tell_missing(story, " has no path ", path, named.paths().len())
+    ]);
+    tell_missing(story, " has no path ", path, named.paths().len());
 }

@@ -8,7 +8,6 @@ use fx_config::{ObservationPoint, SelectionProcess};
 use fx_plan::Plan;
 use fx_tables::{Crossing, Point, Selection};
 use fx_topology::NetworkDevice;
-use std::alloc::AllocError;
 
 /// A packet that makes a crossing at a device.
 #[derive(Drop)]
@@ -29,19 +28,19 @@ fn tell_selection(
     passing: &Passing<'_>,
     process: &SelectionProcess,
     selection: &Selection,
-) -> Result<(), AllocError> {
+) {
     story.tell(&[
         Piece::Text("selection process "),
         Piece::Quoted(process.name.as_str()),
-    ])?;
+    ]);
     match &selection.region {
         None => story.tell(&[Piece::Text(" selects no packet")]),
         Some(region) if region.holds(passing.fields) => {
-            story.tell(&[Piece::Text(" selects it and has no cache")])
+            story.tell(&[Piece::Text(" selects it and has no cache")]);
         }
         Some(region) => {
-            story.tell(&[Piece::Text(" doesn't select it: ")])?;
-            tell_outside(story, region, passing.fields)
+            story.tell(&[Piece::Text(" doesn't select it: ")]);
+            tell_outside(story, region, passing.fields);
         }
     }
 }
@@ -52,77 +51,64 @@ fn tell_selections(
     passing: &Passing<'_>,
     named: &ObservationPoint,
     selections: &[Selection],
-) -> Result<(), AllocError> {
-    story.tell(&[Piece::Text(" sees it; ")])?;
+) {
+    story.tell(&[Piece::Text(" sees it; ")]);
     if selections.is_empty() {
-        return story.tell(&[Piece::Text("it has no selection process")]);
+        story.tell(&[Piece::Text("it has no selection process")]);
+        return;
     }
     for place in 0..selections.len() {
-        story.tell(&[Piece::Text(between(place > 0, "; "))])?;
+        story.tell(&[Piece::Text(between(place > 0, "; "))]);
         if let Some(process) = selection_process(&passing.device.config, named, place as u64 + 1) {
-            tell_selection(story, passing, process, &selections[place])?;
+            tell_selection(story, passing, process, &selections[place]);
         }
     }
-    Ok(())
 }
 
 /// Tells why a point at the crossing's interface doesn't meter a packet.
-fn tell_point(
-    story: &mut Story,
-    passing: &Passing<'_>,
-    named: &ObservationPoint,
-    point: &Point,
-) -> Result<(), AllocError> {
+fn tell_point(story: &mut Story, passing: &Passing<'_>, named: &ObservationPoint, point: &Point) {
     story.tell(&[
         Piece::Text("observation point "),
         Piece::Quoted(named.name.as_str()),
-    ])?;
+    ]);
     if point.watches(passing.crossing) {
-        return tell_selections(story, passing, named, point.selections());
+        tell_selections(story, passing, named, point.selections());
+        return;
     }
     story.tell(&[Piece::Text(if passing.crossing.inwards {
         " sees packets that go out there, and none that come in"
     } else {
         " sees packets that come in there, and none that go out"
-    })])
+    })]);
 }
 
 /// Tells why the points of a device don't meter a packet.
-fn tell_points(
-    story: &mut Story,
-    passing: &Passing<'_>,
-    points: &[Point],
-) -> Result<(), AllocError> {
+fn tell_points(story: &mut Story, passing: &Passing<'_>, points: &[Point]) {
     let mut told = false;
     let named = passing.device.config.observation_points.as_slice();
     for place in 0..points.len() {
         if let Some(one) = entry_at(named, place) {
             if is_among(one.interfaces.as_slice(), &passing.crossing.interface) {
-                story.tell(&[Piece::Text(between(told, "; "))])?;
-                tell_point(story, passing, one, &points[place])?;
+                story.tell(&[Piece::Text(between(told, "; "))]);
+                tell_point(story, passing, one, &points[place]);
                 told = true;
             }
         }
     }
     if told {
-        return Ok(());
+        return;
     }
     story.tell(&[
         Piece::Text("no observation point of "),
         Piece::Text(passing.device.name.as_str()),
         Piece::Text(" is at that interface"),
-    ])
+    ]);
 }
 
 /// Tells why a packet with these fields isn't metered at a crossing.
-pub(crate) fn tell_unmetered(
-    story: &mut Story,
-    plan: &Plan,
-    crossing: &Crossing,
-    fields: &Fields,
-) -> Result<(), AllocError> {
+pub(crate) fn tell_unmetered(story: &mut Story, plan: &Plan, crossing: &Crossing, fields: &Fields) {
     let number = crossing.device;
-    story.tell(&[Piece::Text(": it isn't metered there: ")])?;
+    story.tell(&[Piece::Text(": it isn't metered there: ")]);
     match entry_numbered(plan.network().devices.as_slice(), number) {
         Some(device) => {
             let passing = Passing {
@@ -130,8 +116,8 @@ pub(crate) fn tell_unmetered(
                 crossing,
                 fields,
             };
-            tell_points(story, &passing, plan.net().points_of(number))
+            tell_points(story, &passing, plan.net().points_of(number));
         }
-        None => Ok(()),
+        None => {},
     }
 }

@@ -4,7 +4,6 @@ use crate::pointers::{configuration, items_member, text_member, text_or_none};
 use crate::story::{Piece, Story};
 use fx_elements::{Axis, Element, Range, by_name, read_on, read_value};
 use serde_json::Value;
-use std::alloc::AllocError;
 
 /// The addresses for which the text of a prefix on an axis stands, where its address has bits behind its length.
 fn addresses_meant(axis: Axis, text: &str) -> Option<Range> {
@@ -18,14 +17,14 @@ fn addresses_meant(axis: Axis, text: &str) -> Option<Range> {
 }
 
 /// Tells which addresses a prefix means.
-fn tell_meant(story: &mut Story, text: &str, axis: Axis, range: Range) -> Result<(), AllocError> {
+fn tell_meant(story: &mut Story, text: &str, axis: Axis, range: Range) {
     story.sentence(&[
         Piece::Text(text),
         Piece::Text(" has bits behind its length; it means "),
         Piece::Value(axis, range.low),
         Piece::Text(" to "),
         Piece::Value(axis, range.high),
-    ])
+    ]);
 }
 
 /// What an entry of a device is called: its own kind and name, and those of the entry in which it stands.
@@ -44,13 +43,13 @@ fn tell_match<'x>(
     kind: &'static str,
     name: &'x str,
     object: &Value,
-) -> Result<(), AllocError> {
+) {
     let Element::Prefix(axis) = element_of(object) else {
-        return Ok(());
+        return;
     };
     let text = text_or_none(object, "value");
     let Some(range) = addresses_meant(axis, text) else {
-        return Ok(());
+        return;
     };
     story.tell(&[
         Piece::Text(kind),
@@ -60,12 +59,12 @@ fn tell_match<'x>(
         Piece::Text(" of "),
         Piece::Text(title.device),
         Piece::Text(": "),
-    ])?;
-    tell_meant(story, text, axis, range)
+    ]);
+    tell_meant(story, text, axis, range);
 }
 
 /// Tells the prefixes of the filters of a selection process.
-fn tell_filters(story: &mut Story, device: &str, process: &Value) -> Result<(), AllocError> {
+fn tell_filters(story: &mut Story, device: &str, process: &Value) {
     let title = Title {
         device,
         above: " of selection process ",
@@ -79,80 +78,65 @@ fn tell_filters(story: &mut Story, device: &str, process: &Value) -> Result<(), 
                 "filter ",
                 text_or_none(selector, "name"),
                 filter,
-            )?;
+            );
         }
     }
-    Ok(())
 }
 
 /// Tells the prefixes of the matches of an aggregation.
-fn tell_matches<'x>(
-    story: &mut Story,
-    title: Title<'x>,
-    aggregation: &'x Value,
-) -> Result<(), AllocError> {
+fn tell_matches<'x>(story: &mut Story, title: Title<'x>, aggregation: &'x Value) {
     let name = text_or_none(aggregation, "name");
     for object in items_member(aggregation, "match") {
-        tell_match(story, title, "match of aggregation ", name, object)?;
+        tell_match(story, title, "match of aggregation ", name, object);
     }
-    Ok(())
 }
 
 /// Tells the prefixes of the aggregations of a collecting process.
-fn tell_aggregations(story: &mut Story, device: &str, process: &Value) -> Result<(), AllocError> {
+fn tell_aggregations(story: &mut Story, device: &str, process: &Value) {
     let title = Title {
         device,
         above: " of collecting process ",
         name: text_or_none(process, "name"),
     };
     for aggregation in items_member(process, "once-audit:aggregation") {
-        tell_matches(story, title, aggregation)?;
+        tell_matches(story, title, aggregation);
     }
-    Ok(())
 }
 
 /// Tells the prefixes of the filters of a device.
-fn tell_selecting(story: &mut Story, device: &str, container: &Value) -> Result<(), AllocError> {
+fn tell_selecting(story: &mut Story, device: &str, container: &Value) {
     for process in items_member(container, "selectionProcess") {
-        tell_filters(story, device, process)?;
+        tell_filters(story, device, process);
     }
-    Ok(())
 }
 
 /// Tells the prefixes of the aggregations of a device.
-fn tell_collecting(story: &mut Story, device: &str, container: &Value) -> Result<(), AllocError> {
+fn tell_collecting(story: &mut Story, device: &str, container: &Value) {
     for process in items_member(container, "collectingProcess") {
-        tell_aggregations(story, device, process)?;
+        tell_aggregations(story, device, process);
     }
-    Ok(())
 }
 
 /// Tells the prefixes of a network's document whose addresses have bits behind their length, and what they mean.
-pub(crate) fn tell_prefixes(story: &mut Story, network: &Value) -> Result<(), AllocError> {
+pub(crate) fn tell_prefixes(story: &mut Story, network: &Value) {
     for device in items_member(network, "devices") {
         if let Some(container) = configuration(device) {
-            tell_selecting(story, text_or_none(device, "name"), container)?;
-            tell_collecting(story, text_or_none(device, "name"), container)?;
+            tell_selecting(story, text_or_none(device, "name"), container);
+            tell_collecting(story, text_or_none(device, "name"), container);
         }
     }
-    Ok(())
 }
 
 /// Tells which addresses a member of a region means, where that isn't plain.
-fn tell_member<'x>(
-    story: &mut Story,
-    class: &'x str,
-    name: &'x str,
-    region: &'x Value,
-) -> Result<(), AllocError> {
+fn tell_member<'x>(story: &mut Story, class: &'x str, name: &'x str, region: &'x Value) {
     let Element::OnAxis(axis) = by_name(name) else {
-        return Ok(());
+        return;
     };
     let Some(text) = text_member(region, name) else {
-        return Ok(());
+        return;
     };
     let Some(range) = addresses_meant(axis, text) else {
-        return Ok(());
+        return;
     };
     story.tell(&[
         Piece::Text("traffic: class "),
@@ -160,31 +144,26 @@ fn tell_member<'x>(
         Piece::Text(", "),
         Piece::Text(name),
         Piece::Text(": "),
-    ])?;
-    tell_meant(story, text, axis, range)
+    ]);
+    tell_meant(story, text, axis, range);
 }
 
 /// Tells the prefixes of the region of a class.
-fn tell_region(story: &mut Story, class: &Value) -> Result<(), AllocError> {
+fn tell_region(story: &mut Story, class: &Value) {
     let Some(region) = class.get("region") else {
-        return Ok(());
+        return;
     };
     let Some(members) = region.as_object() else {
-        return Ok(());
+        return;
     };
     for (name, _) in members.iter() {
-        tell_member(story, text_or_none(class, "name"), name.as_str(), region)?;
+        tell_member(story, text_or_none(class, "name"), name.as_str(), region);
     }
-    Ok(())
 }
 
 /// Tells the prefixes of a traffic declaration whose addresses have bits behind their length, and what they mean.
-pub(crate) fn tell_prefixes_of_classes(
-    story: &mut Story,
-    traffic: &Value,
-) -> Result<(), AllocError> {
+pub(crate) fn tell_prefixes_of_classes(story: &mut Story, traffic: &Value) {
     for class in items_member(traffic, "classes") {
-        tell_region(story, class)?;
+        tell_region(story, class);
     }
-    Ok(())
 }

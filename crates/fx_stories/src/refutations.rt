@@ -27,7 +27,7 @@ fn tell_steps(
     steps: &[Step],
 ) -> Result<(), AllocError> {
     for place in 0..steps.len() {
-        story.tell(&[Piece::Number(place as u64 + 1), Piece::Text(". ")])?;
+        story.tell(&[Piece::Number(place as u64 + 1), Piece::Text(". ")]);
         tell_step(alloc, story, documents, packets, &steps[place])?;
     }
     Ok(())
@@ -46,11 +46,7 @@ fn is_reported(documents: &Documents, step: &Step) -> bool {
 }
 
 /// Tells at which steps a record reaches the report.
-fn tell_reported(
-    story: &mut Story,
-    documents: &Documents,
-    steps: &[Step],
-) -> Result<(), AllocError> {
+fn tell_reported(story: &mut Story, documents: &Documents, steps: &[Step]) {
     let mut told = false;
     for place in 0..steps.len() {
         if is_reported(documents, &steps[place]) {
@@ -59,25 +55,25 @@ fn tell_reported(
             } else {
                 "a record reaches the report at step "
             };
-            story.tell(&[Piece::Text(before), Piece::Number(place as u64 + 1)])?;
+            story.tell(&[Piece::Text(before), Piece::Number(place as u64 + 1)]);
             told = true;
         }
     }
     if !told {
-        story.tell(&[Piece::Text("no record reaches the report")])?;
+        story.tell(&[Piece::Text("no record reaches the report")]);
     }
-    story.end_line()
+    story.end_line();
 }
 
 /// Tells totals as reports have them.
-fn tell_totals(story: &mut Story, totals: &Totals) -> Result<(), AllocError>
+fn tell_totals(story: &mut Story, totals: &Totals)
     requires { KeysAscend totals.now.entries }
 {
     let mut octets = [0; 4096];
     let mut room = Room::new(&mut octets);
     // What has no room there is left out.
     let _written = totals.put_report(&mut room);
-    story.lines_of(room.octets())
+    story.lines_of(room.octets());
 }
 
 /// Tells what a refutation's run comes to, and what it should come to.
@@ -93,10 +89,10 @@ fn tell_sums(
         Ok((mut ran, mut plain)) => {
             ran.sort()?;
             plain.sort()?;
-            story.sentence(&[Piece::Text("in the end the collector holds")])?;
-            tell_totals(story, &ran)?;
-            story.sentence(&[Piece::Text("and it should hold")])?;
-            tell_totals(story, &plain)?;
+            story.sentence(&[Piece::Text("in the end the collector holds")]);
+            tell_totals(story, &ran);
+            story.sentence(&[Piece::Text("and it should hold")]);
+            tell_totals(story, &plain);
             Ok(())
         }
         Err(fault) => {
@@ -116,9 +112,10 @@ fn tell_run(
     refutation: &Refutation,
 ) -> Result<(), AllocError> {
     let packets = [*refutation.packet()];
-    tell_packet(story, documents, refutation.packet())?;
+    tell_packet(story, documents, refutation.packet());
     tell_steps(alloc, story, documents, &packets, refutation.steps())?;
-    tell_reported(story, documents, refutation.steps())
+    tell_reported(story, documents, refutation.steps());
+    Ok(())
 }
 
 /// Whether one of the steps makes the crossing of this number.
@@ -130,27 +127,23 @@ fn is_made(steps: &[Step], number: u64) -> bool {
 }
 
 /// Tells what a refutation's run leaves undone.
-fn tell_undone(
-    story: &mut Story,
-    documents: &Documents,
-    refutation: &Refutation,
-) -> Result<(), AllocError> {
+fn tell_undone(story: &mut Story, documents: &Documents, refutation: &Refutation) {
     let crossings = documents.traffic.classes().path_of(refutation.packet());
     let mut told = false;
     for place in 0..crossings.len() {
         let number = place as u64 + 1;
         if !is_made(refutation.steps(), number) {
-            tell_numbered(story, &documents.plan, number, &crossings[place])?;
-            story.sentence(&[Piece::Text(" is still to come")])?;
+            tell_numbered(story, &documents.plan, number, &crossings[place]);
+            story.sentence(&[Piece::Text(" is still to come")]);
             told = true;
         }
     }
     if told {
-        return Ok(());
+        return;
     }
     story.sentence(&[Piece::Text(
         "each crossing is made, so a record is still in a cache or an aggregation, or on a link",
-    )])
+    )]);
 }
 
 /// Tells the run of a refutation that isn't confirmed, though each of its steps can be made: one that isn't complete
@@ -175,7 +168,7 @@ pub(crate) fn tell_unconfirmed<C: Source>(
     };
     tell_run(alloc, story, &documents, &refutation)?;
     if fault == refusals::RUN_NOT_COMPLETE {
-        tell_undone(story, &documents, &refutation)?;
+        tell_undone(story, &documents, &refutation);
     }
     Ok(())
 }
@@ -232,5 +225,5 @@ pub fn put_refutation_story<C: Source, S: Sink>(
         ⊎ IsWriteFault (S.failed sink.new) e) }
 {
     let story = story_of(alloc, network, traffic, refutation)?;
-    put_text(sink, story.octets())
+    put_text(sink, story.octets()?)
 }

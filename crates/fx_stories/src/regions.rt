@@ -2,7 +2,6 @@
 use crate::story::{Piece, Story};
 use fx_boxes::Region;
 use fx_elements::{Axis, EVERY_AXIS, top};
-use std::alloc::AllocError;
 
 /// The word of an axis, as certificates have it.
 pub(crate) fn axis_word(axis: Axis) -> &'static str {
@@ -20,21 +19,16 @@ pub(crate) fn axis_word(axis: Axis) -> &'static str {
 }
 
 /// Tells the values from a least to a greatest on an axis.
-pub(crate) fn tell_values(
-    story: &mut Story,
-    axis: Axis,
-    low: u128,
-    high: u128,
-) -> Result<(), AllocError> {
-    story.tell(&[Piece::Value(axis, low)])?;
+pub(crate) fn tell_values(story: &mut Story, axis: Axis, low: u128, high: u128) {
+    story.tell(&[Piece::Value(axis, low)]);
     if low == high {
-        return Ok(());
+        return;
     }
-    story.tell(&[Piece::Text(" to "), Piece::Value(axis, high)])
+    story.tell(&[Piece::Text(" to "), Piece::Value(axis, high)]);
 }
 
 /// Tells a region: its values on each axis on which it doesn't have all.
-pub(crate) fn tell_region(story: &mut Story, region: &Region) -> Result<(), AllocError> {
+pub(crate) fn tell_region(story: &mut Story, region: &Region) {
     let least = region.corner();
     let greatest = region.far_corner();
     let mut separator = "";
@@ -46,13 +40,12 @@ pub(crate) fn tell_region(story: &mut Story, region: &Region) -> Result<(), Allo
                 Piece::Text(separator),
                 Piece::Text(axis_word(axis)),
                 Piece::Text(" "),
-            ])?;
-            tell_values(story, axis, low, high)?;
+            ]);
+            tell_values(story, axis, low, high);
             separator = ", ";
         }
     }
     if separator.is_empty() {
-        story.tell(&[Piece::Text("all packets")])?;
+        story.tell(&[Piece::Text("all packets")]);
     }
-    Ok(())
 }

@@ -32,7 +32,7 @@ fn refused_step(state: &mut State<'_>, steps: &[Step]) -> Result<Option<usize>, 
 }
 
 /// Tells a step as its line has it, which is of this number.
-fn tell_step_line(story: &mut Story, number: u64, step: &Step) -> Result<(), AllocError> {
+fn tell_step_line(story: &mut Story, number: u64, step: &Step) {
     let mut octets = [0; 200];
     let mut room = Room::new(&mut octets);
     // What has no room there is left out.
@@ -44,7 +44,7 @@ fn tell_step_line(story: &mut Story, number: u64, step: &Step) -> Result<(), All
         number,
         ended: true,
     };
-    tell_line(story, &line)
+    tell_line(story, &line);
 }
 
 /// Tells the first step of a run that is refused.
@@ -60,8 +60,8 @@ fn tell_run(alloc: Global, story: &mut Story, documents: &Documents, run: &Run) 
     };
     if let Some(place) = refused_step(&mut state, run.steps())? {
         if let Some(step) = run.steps().get(place) {
-            tell_step_line(story, first.saturating_add(place as u64), step)?;
-            story.tell(&[Piece::Text("this step can't be made: ")])?;
+            tell_step_line(story, first.saturating_add(place as u64), step);
+            story.tell(&[Piece::Text("this step can't be made: ")]);
             tell_step(alloc, story, documents, run.packets(), step)?;
         }
     }
@@ -88,8 +88,8 @@ fn tell_refutation_step<C: Source>(
     // The first line is the form's, the second the packet's.
     if let Some(step) = entry_numbered(refutation.steps(), number.saturating_sub(2)) {
         let packets = [*refutation.packet()];
-        tell_step_line(story, number, step)?;
-        story.tell(&[Piece::Text("this step can't be made: ")])?;
+        tell_step_line(story, number, step);
+        story.tell(&[Piece::Text("this step can't be made: ")]);
         tell_step(alloc, story, &documents, &packets, step)?;
     }
     Ok(())
@@ -138,9 +138,10 @@ fn tell_line_packet(
     story.tell(&[
         Piece::Text("packet "),
         Piece::Number(line.number.saturating_sub(1)),
-    ])?;
-    tell_fields(story, ": ", &packet.fields, packet.octets)?;
-    tell_named_class(story, documents, packet.class, packet.path, &packet.fields)
+    ]);
+    tell_fields(story, ": ", &packet.fields, packet.octets);
+    tell_named_class(story, documents, packet.class, packet.path, &packet.fields);
+    Ok(())
 }
 
 /// Tells the line of this number, and why the packet that it has isn't in its class.
@@ -160,7 +161,7 @@ fn tell_refused_packet<C: Source>(
             version = version_of(line.bytes);
         }
         if line.number == number {
-            tell_line(story, &line)?;
+            tell_line(story, &line);
             tell_line_packet(alloc, story, documents, version, &line)?;
             return Ok(());
         }
@@ -281,5 +282,5 @@ pub fn put_run_words<C: Source, S: Sink>(
         ⊎ IsWriteFault (S.failed sink.new) e) }
 {
     let story = story_of(alloc, network, traffic, run, fault)?;
-    put_text(sink, story.octets())
+    put_text(sink, story.octets()?)
 }

@@ -109,7 +109,8 @@ impl Scan {
             Piece::Text(": member \""),
             Piece::Octets(part(text, start, end)),
             Piece::Text("\" stands twice in one object; the last one counts"),
-        ])
+        ]);
+        Ok(())
     }
 
     /// Goes past an octet of a string, but for the quotation mark that ends it.

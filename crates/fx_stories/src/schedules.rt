@@ -58,7 +58,7 @@ fn taking_of<C: Source>(
     'lines: while next_line(lines)? {
         taking.take(&lines.line());
         if Some(lines.number()) == last {
-            tell_line(story, &lines.line())?;
+            tell_line(story, &lines.line());
             return Ok(taking);
         }
     }
@@ -108,9 +108,7 @@ fn tell_packet<F: Source>(
     capture: &Capture<F>,
     number: u64,
     named: Option<(u64, u64)>,
-) -> Result<(), Fault>
-    ensures { IfErr result IsUntold }
-{
+) {
     let skipped = capture.skipped();
     let frame = number
         .saturating_add(skipped.other)
@@ -121,13 +119,12 @@ fn tell_packet<F: Source>(
         Piece::Number(number),
         Piece::Text(" of the capture (frame "),
         Piece::Number(frame),
-    ])?;
-    tell_fields(story, "): ", &seen.fields, u64::from(seen.octets))?;
+    ]);
+    tell_fields(story, "): ", &seen.fields, u64::from(seen.octets));
     match named {
-        Some((class, path)) => tell_named_class(story, documents, class, path, &seen.fields)?,
-        None => tell_no_class(story, documents, &seen.fields)?,
+        Some((class, path)) => tell_named_class(story, documents, class, path, &seen.fields),
+        None => tell_no_class(story, documents, &seen.fields),
     }
-    Ok(())
 }
 
 /// Tells the packet of a capture that is refused where so much was taken, at a line or behind the last.
@@ -137,9 +134,7 @@ fn tell_refused_packet<F: Source>(
     capture: &mut Capture<F>,
     taking: Taking,
     at_line: bool,
-) -> Result<(), Fault>
-    ensures { IfErr result IsUntold }
-{
+) {
     let mut number = None;
     if go_on(capture, taking.packets) {
         number = if at_line {
@@ -153,8 +148,7 @@ fn tell_refused_packet<F: Source>(
         None => {
             story.sentence(&[Piece::Text(
                 "The packet isn't told: the capture has no longer what was read of it.",
-            )])?;
-            Ok(())
+            )]);
         }
     }
 }
@@ -180,7 +174,7 @@ fn story_of<C: Source, F: Source>(
         return Ok(story);
     };
     if let Some(mut capture) = capture_again(alloc, capture)? {
-        tell_refused_packet(&mut story, &documents, &mut capture, taking, last.is_some())?;
+        tell_refused_packet(&mut story, &documents, &mut capture, taking, last.is_some());
     }
     Ok(story)
 }
@@ -224,5 +218,5 @@ pub fn put_schedule_words<C: Source, F: Source, S: Sink>(
         ⊎ IsWriteFault (S.failed sink.new) e) }
 {
     let story = story_of(alloc, network, traffic, schedule, capture, fault)?;
-    put_text(sink, story.octets())
+    put_text(sink, story.octets()?)
 }

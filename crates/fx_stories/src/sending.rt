@@ -8,13 +8,13 @@ use fx_topology::{NamedLink, NetworkDevice};
 use std::alloc::AllocError;
 
 /// Tells the collecting process to which a link leads.
-pub(crate) fn tell_end(story: &mut Story, link: &NamedLink) -> Result<(), AllocError> {
+pub(crate) fn tell_end(story: &mut Story, link: &NamedLink) {
     story.tell(&[
         Piece::Text("collecting process "),
         Piece::Quoted(link.to_process.as_str()),
         Piece::Text(" of "),
         Piece::Text(link.to_device.as_str()),
-    ])
+    ]);
 }
 
 /// Tells where a destination's records come to.
@@ -30,15 +30,19 @@ fn tell_destination<'x>(
         Piece::Quoted(process.name.as_str()),
         Piece::Text(" sends to destination "),
         Piece::Quoted(destination.name.as_str()),
-    ])?;
+    ]);
     let links = &plan.network().links;
     let place = links.place_of(&device.name, &process.name, &destination.name)?;
     match entry_at(links.as_slice(), place.unwrap_or(usize::MAX)) {
         Some(link) => {
-            story.tell(&[Piece::Text(", which is linked to ")])?;
-            tell_end(story, link)
+            story.tell(&[Piece::Text(", which is linked to ")]);
+            tell_end(story, link);
+            Ok(())
         }
-        None => story.tell(&[Piece::Text(", which has no link: what it is sent is lost")]),
+        None => {
+            story.tell(&[Piece::Text(", which has no link: what it is sent is lost")]);
+            Ok(())
+        }
     }
 }
 
@@ -51,7 +55,7 @@ fn tell_destinations(
 ) -> Result<(), AllocError> {
     let mut separator = "";
     for destination in process.destinations.as_slice() {
-        story.tell(&[Piece::Text(separator)])?;
+        story.tell(&[Piece::Text(separator)]);
         tell_destination(story, plan, device, process, destination)?;
         separator = "; ";
     }
@@ -98,7 +102,7 @@ pub(crate) fn tell_sending(
                 chosen = choices.get(made).copied().flatten();
                 made = made.saturating_add(1);
             }
-            story.tell(&[Piece::Text(between(told, "; "))])?;
+            story.tell(&[Piece::Text(between(told, "; "))]);
             tell_process(story, plan, device, process, chosen)?;
             told = true;
         }

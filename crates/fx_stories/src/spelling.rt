@@ -1,7 +1,6 @@
 //! What is wrong with a text that should spell a value of an axis.
 use crate::story::{Piece, Story};
 use fx_elements::{Axis, Element, read_number, read_on, top, width};
-use std::alloc::AllocError;
 
 /// How many octets a text has at most that is looked at.
 const LONGEST: usize = 200;
@@ -24,18 +23,19 @@ fn number_words(text: &str) -> Option<&'static str> {
 }
 
 /// Tells what is wrong with an address of IPv4.
-fn tell_quad(story: &mut Story, text: &str) -> Result<(), AllocError> {
+fn tell_quad(story: &mut Story, text: &str) {
     let mut count: u64 = 0;
     for part in text.split('.') {
         count = count.saturating_add(1);
         if let Some(words) = number_words(part) {
-            return story.sentence(&[
+            story.sentence(&[
                 Piece::Text("in the address "),
                 Piece::Quoted(text),
                 Piece::Text(" "),
                 Piece::Quoted(part),
                 Piece::Text(words),
             ]);
+            return;
         }
     }
     story.sentence(&[
@@ -44,7 +44,7 @@ fn tell_quad(story: &mut Story, text: &str) -> Result<(), AllocError> {
         Piece::Text(" has this many numbers between dots: "),
         Piece::Number(count),
         Piece::Text("; one of IPv4 has four"),
-    ])
+    ]);
 }
 
 /// Whether a character may stand in an address of IPv6.
@@ -76,108 +76,103 @@ fn wide_words(text: &str) -> &'static str {
 }
 
 /// Tells what is wrong with an address of IPv6.
-fn tell_wide(story: &mut Story, text: &str) -> Result<(), AllocError> {
+fn tell_wide(story: &mut Story, text: &str) {
     story.sentence(&[
         Piece::Text("the address "),
         Piece::Quoted(text),
         Piece::Text(wide_words(text)),
-    ])
+    ]);
 }
 
 /// Tells which numbers an axis has.
-fn tell_number(story: &mut Story, axis: Axis) -> Result<(), AllocError> {
+fn tell_number(story: &mut Story, axis: Axis) {
     story.tell(&[
         Piece::Text("allowed there: a number from 0 to "),
         Piece::Value(axis, top(axis)),
         Piece::Text(", in decimal digits without a zero in front"),
-    ])?;
+    ]);
     if axis == Axis::Protocol {
-        story.tell(&[Piece::Text(" (ICMP is 1, TCP 6, UDP 17, ICMPv6 58)")])?;
+        story.tell(&[Piece::Text(" (ICMP is 1, TCP 6, UDP 17, ICMPv6 58)")]);
     }
-    story.end_line()
+    story.end_line();
 }
 
 /// Tells what is wrong with a text that should spell one value of an axis, if something is.
-fn tell_single(story: &mut Story, axis: Axis, text: &str) -> Result<(), AllocError> {
+fn tell_single(story: &mut Story, axis: Axis, text: &str) {
     if read_on(axis, text.as_bytes()).is_some() {
-        return Ok(());
+        return;
     }
     if axis.is_wide() {
-        tell_wide(story, text)
+        tell_wide(story, text);
     } else if !axis.is_address() {
-        tell_number(story, axis)
+        tell_number(story, axis);
     } else if text.contains(':') {
         story.sentence(&[
             Piece::Text("the address "),
             Piece::Quoted(text),
             Piece::Text(" is none of IPv4; for one of IPv6 name an element of IPv6"),
-        ])
+        ]);
     } else {
-        tell_quad(story, text)
+        tell_quad(story, text);
     }
 }
 
 /// Tells what is wrong with the number of bits behind an address, if something is.
-fn tell_bits(story: &mut Story, axis: Axis, text: &str) -> Result<(), AllocError> {
+fn tell_bits(story: &mut Story, axis: Axis, text: &str) {
     let Some(bits) = read_number(text.as_bytes(), u128::from(width(axis))) else {
-        return story.sentence(&[
+        story.sentence(&[
             Piece::Text("the length of the prefix is "),
             Piece::Quoted(text),
             Piece::Text("; allowed there: a number from 1 to "),
             Piece::Number(u64::from(width(axis))),
             Piece::Text(" without a zero in front"),
         ]);
+        return;
     };
     if bits > 0 {
-        return Ok(());
+        return;
     }
-    story.sentence(&[Piece::Text("a prefix has 1 bit at least; for all addresses leave it out")])
+    story.sentence(&[Piece::Text("a prefix has 1 bit at least; for all addresses leave it out")]);
 }
 
 /// Tells what is wrong with a text that should spell a prefix, if something is.
-fn tell_prefix(story: &mut Story, axis: Axis, text: &str) -> Result<(), AllocError> {
+fn tell_prefix(story: &mut Story, axis: Axis, text: &str) {
     let Some((address, bits)) = text.split_once('/') else {
-        return story.sentence(&[
+        story.sentence(&[
             Piece::Quoted(text),
             Piece::Text(" has no /n: a prefix is an address, / and the number of its leading bits"),
         ]);
+        return;
     };
-    tell_single(story, axis, address)?;
-    tell_bits(story, axis, bits)
+    tell_single(story, axis, address);
+    tell_bits(story, axis, bits);
 }
 
 /// Tells what is wrong with a text that should spell two values of an axis.
-fn tell_ends<'x>(
-    story: &mut Story,
-    axis: Axis,
-    low: &'x str,
-    high: &'x str,
-) -> Result<(), AllocError> {
+fn tell_ends<'x>(story: &mut Story, axis: Axis, low: &'x str, high: &'x str) {
     let Some(least) = read_on(axis, low.as_bytes()) else {
-        return tell_single(story, axis, low);
+        tell_single(story, axis, low);
+        return;
     };
     let Some(greatest) = read_on(axis, high.as_bytes()) else {
-        return tell_single(story, axis, high);
+        tell_single(story, axis, high);
+        return;
     };
     if least <= greatest {
-        return Ok(());
+        return;
     }
     story.sentence(&[
         Piece::Text(low),
         Piece::Text(" is above "),
         Piece::Text(high),
         Piece::Text("; the least value stands in front"),
-    ])
+    ]);
 }
 
 /// Tells what is wrong with a text that should spell a value of an element, or a prefix.
-pub(crate) fn tell_spelling(
-    story: &mut Story,
-    element: Element,
-    text: &str,
-) -> Result<(), AllocError> {
+pub(crate) fn tell_spelling(story: &mut Story, element: Element, text: &str) {
     if text.len() > LONGEST {
-        return Ok(());
+        return;
     }
     match element {
         Element::OnAxis(axis) if axis.is_address() && text.contains('/') => story.sentence(&[
@@ -185,20 +180,22 @@ pub(crate) fn tell_spelling(
         ]),
         Element::OnAxis(axis) => tell_single(story, axis, text),
         Element::Prefix(axis) => tell_prefix(story, axis, text),
-        _ => Ok(()),
+        _ => {},
     }
 }
 
 /// Tells what is wrong with a text that should spell values of a region on an axis.
-pub(crate) fn tell_values(story: &mut Story, axis: Axis, text: &str) -> Result<(), AllocError> {
+pub(crate) fn tell_values(story: &mut Story, axis: Axis, text: &str) {
     if text.len() > LONGEST {
-        return Ok(());
+        return;
     }
     if let Some((low, high)) = text.split_once('-') {
-        return tell_ends(story, axis, low, high);
+        tell_ends(story, axis, low, high);
+        return;
     }
     if axis.is_address() && text.contains('/') {
-        return tell_prefix(story, axis, text);
+        tell_prefix(story, axis, text);
+        return;
     }
-    tell_single(story, axis, text)
+    tell_single(story, axis, text);
 }

@@ -15,31 +15,23 @@ use fx_tables::{Crossing, Occurrence, Packet};
 use std::alloc::{AllocError, Global};
 
 /// Tells a packet: its class and its path, its fields that aren't 0, and its octets.
-pub(crate) fn tell_packet(
-    story: &mut Story,
-    documents: &Documents,
-    packet: &Packet,
-) -> Result<(), AllocError> {
-    story.tell(&[Piece::Text("the packet: ")])?;
-    tell_class(story, documents, packet.class, packet.path)?;
+pub(crate) fn tell_packet(story: &mut Story, documents: &Documents, packet: &Packet) {
+    story.tell(&[Piece::Text("the packet: ")]);
+    tell_class(story, documents, packet.class, packet.path);
     if documents.traffic.classes().exempts(packet) {
-        story.tell(&[Piece::Text(" (exempt: it may not be counted)")])?;
+        story.tell(&[Piece::Text(" (exempt: it may not be counted)")]);
     }
-    tell_fields(story, ", ", &packet.fields, packet.octets)
+    tell_fields(story, ", ", &packet.fields, packet.octets);
 }
 
 /// Tells where a packet is metered: the observation point, the selection process and the cache.
-fn tell_occurrence(
-    story: &mut Story,
-    device: &Device,
-    occurrence: &Occurrence,
-) -> Result<(), AllocError> {
+fn tell_occurrence(story: &mut Story, device: &Device, occurrence: &Occurrence) {
     let points = device.observation_points.as_slice();
     let Some(point) = entry_numbered(points, occurrence.point as u64) else {
-        return Ok(());
+        return;
     };
     let Some(process) = selection_process(device, point, occurrence.process as u64) else {
-        return Ok(());
+        return;
     };
     match &process.cache {
         Some(cache) => story.tell(&[
@@ -51,27 +43,21 @@ fn tell_occurrence(
             Piece::Quoted(cache.as_str()),
             Piece::Text(" holds a record of it"),
         ]),
-        None => Ok(()),
+        None => {},
     }
 }
 
 /// Tells the caches at which a packet is metered.
-fn tell_occurrences(
-    story: &mut Story,
-    plan: &Plan,
-    device: u64,
-    occurrences: &[Occurrence],
-) -> Result<(), AllocError> {
+fn tell_occurrences(story: &mut Story, plan: &Plan, device: u64, occurrences: &[Occurrence]) {
     let Some(device) = plan.device(device) else {
-        return Ok(());
+        return;
     };
     let mut separator = ": ";
     for occurrence in occurrences {
-        story.tell(&[Piece::Text(separator)])?;
-        tell_occurrence(story, device, occurrence)?;
+        story.tell(&[Piece::Text(separator)]);
+        tell_occurrence(story, device, occurrence);
         separator = "; ";
     }
-    Ok(())
 }
 
 /// Tells that a packet of this number makes a crossing, and where it is metered.
@@ -87,14 +73,15 @@ fn tell_metering(
         Piece::Text("packet "),
         Piece::Number(number),
         Piece::Text(" crosses "),
-    ])?;
-    tell_crossing(story, plan, crossing)?;
+    ]);
+    tell_crossing(story, plan, crossing);
     let occurrences = plan.net().occurrences(alloc, crossing, &packet.fields)?;
-    tell_occurrences(story, plan, crossing.device, occurrences.as_slice())?;
+    tell_occurrences(story, plan, crossing.device, occurrences.as_slice());
     if occurrences.as_slice().is_empty() {
-        tell_unmetered(story, plan, crossing, &packet.fields)?;
+        tell_unmetered(story, plan, crossing, &packet.fields);
     }
-    story.end_line()
+    story.end_line();
+    Ok(())
 }
 
 /// Tells a step at which a packet makes a crossing.
@@ -107,15 +94,19 @@ fn tell_crossing_made(
     crossing: u64,
 ) -> Result<(), AllocError> {
     let Some(packet) = entry_numbered(packets, number) else {
-        return story.sentence(&[Piece::Text("there is no packet "), Piece::Number(number)]);
+        story.sentence(&[Piece::Text("there is no packet "), Piece::Number(number)]);
+        return Ok(());
     };
     let crossings = documents.traffic.classes().path_of(packet);
     match entry_numbered(crossings, crossing) {
         Some(made) => tell_metering(alloc, story, &documents.plan, number, packet, made),
-        None => story.sentence(&[
-            Piece::Text("the packet's path has no crossing "),
-            Piece::Number(crossing),
-        ]),
+        None => {
+            story.sentence(&[
+                Piece::Text("the packet's path has no crossing "),
+                Piece::Number(crossing),
+            ]);
+            Ok(())
+        }
     }
 }
 

@@ -1,10 +1,11 @@
 //! Words that are gathered before any of them is written.
-ghost use Rattle.std.specs.Prelude.{◌≡◌};
+ghost use Rattle.std.specs.Prelude.{◌≡◌, true, IfOk};
 ghost use Rattle.fx_base.specs.Fault.{shown};
-ghost use Rattle.fx_stories.specs.Stories.{IsPlainText};
+ghost use Rattle.fx_stories.specs.Stories.{IsPlainText, is_plain};
 
 use fx_base::Room;
 use fx_elements::{Axis, put_value, top, width};
+use itoa::Buffer;
 use std::alloc::{AllocError, Global};
 use std::marker::Model;
 
@@ -23,11 +24,12 @@ pub(crate) enum Piece<'a> {
     Value(Axis, u128),
 }
 
-/// Lines of text without control characters: those of a document are told as `?`.
+/// Lines of text without control characters: those of a document are told as `?`. Where there is no memory for more, nothing
+/// is told from then on, and that is said at the end alone.
 #[derive(Drop)]
 pub(crate) struct Story {
     octets: Vec<u8>,
-    alloc: Global,
+    is_short: bool,
 }
 
 impl Model for Story {
@@ -62,70 +64,79 @@ impl Story {
     pub(crate) fn new(alloc: Global) -> Story {
         Story {
             octets: Vec::new(alloc),
-            alloc,
+            is_short: false,
         }
     }
 
-    /// What it tells.
-    pub(crate) fn octets(&self) -> &[u8]
-        ensures plain { IsPlainText result.now }
+    /// What it tells, where there was memory for all of it.
+    pub(crate) fn octets(&self) -> Result<&[u8], AllocError>
+        ensures plain { IfOk result (λ octets. IsPlainText octets.now) }
     {
-        self.octets.as_slice()
+        if self.is_short {
+            return Err(AllocError);
+        }
+        Ok(self.octets.as_slice())
+    }
+
+    /// Tells an octet, which is a line feed or no control character.
+    fn octet(&mut self, octet: u8)
+        requires { is_plain octet ≡ true }
+    {
+        if !self.is_short && self.octets.push(octet).is_err() {
+            self.is_short = true;
+        }
     }
 
     /// Tells these octets.
-    pub(crate) fn octets_of(&mut self, octets: &[u8]) -> Result<(), AllocError> {
+    pub(crate) fn octets_of(&mut self, octets: &[u8]) {
         for octet in octets {
-            self.octets.push(shown_octet(*octet))?;
+            self.octet(shown_octet(*octet));
         }
-        Ok(())
     }
 
     /// Tells lines, each of which a line feed ends.
-    pub(crate) fn lines_of(&mut self, octets: &[u8]) -> Result<(), AllocError> {
+    pub(crate) fn lines_of(&mut self, octets: &[u8]) {
         for octet in octets {
             if *octet == b'\n' {
-                self.end_line()?;
+                self.end_line();
             } else {
-                self.octets_of(&[*octet])?;
+                self.octet(shown_octet(*octet));
             }
         }
-        Ok(())
     }
 
     /// Ends the line.
-    pub(crate) fn end_line(&mut self) -> Result<(), AllocError> {
-        self.octets.push(b'\n')?;
-        Ok(())
+    pub(crate) fn end_line(&mut self) {
+        self.octet(b'\n');
     }
 
     /// Tells a number.
-    fn number(&mut self, number: u64) -> Result<(), AllocError> {
-        let text = format!(in self.alloc; "{number}")?;
-        self.octets_of(text.as_bytes())
+    fn number(&mut self, number: u64) {
+        let mut buffer = Buffer::new();
+        self.octets_of(buffer.format(number).as_bytes());
     }
 
     /// Tells a value of an axis, which is one of its values.
-    fn value(&mut self, axis: Axis, value: u128) -> Result<(), AllocError> {
+    fn value(&mut self, axis: Axis, value: u128) {
         if value > top(axis) {
-            return Ok(());
+            return;
         }
         let mut octets = [0; 64];
         let mut room = Room::new(&mut octets);
         // No value is longer than the room.
         let _written = put_value(&mut room, axis, width(axis), value);
-        self.octets_of(room.octets())
+        self.octets_of(room.octets());
     }
 
     /// Tells a piece of a sentence.
-    fn piece(&mut self, piece: &Piece<'_>) -> Result<(), AllocError> {
+    fn piece(&mut self, piece: &Piece<'_>) {
         match piece {
             Piece::Text(text) => self.octets_of(text.as_bytes()),
             Piece::Octets(octets) => self.octets_of(octets),
             Piece::Quoted(name) => {
-                self.octets_of(b"\"")?;
-                self.octets_of(name.as_bytes())?;
-                self.octets_of(b"\"")
+                self.octets_of(b"\"");
+                self.octets_of(name.as_bytes());
+                self.octets_of(b"\"");
             }
             Piece::Number(number) => self.number(*number),
             Piece::Value(axis, value) => self.value(*axis, *value),
@@ -133,16 +144,15 @@ impl Story {
     }
 
     /// Tells the pieces, one after another.
-    pub(crate) fn tell(&mut self, pieces: &[Piece<'_>]) -> Result<(), AllocError> {
+    pub(crate) fn tell(&mut self, pieces: &[Piece<'_>]) {
         for piece in pieces {
-            self.piece(piece)?;
+            self.piece(piece);
         }
-        Ok(())
     }
 
     /// Tells the pieces, and ends the line.
-    pub(crate) fn sentence(&mut self, pieces: &[Piece<'_>]) -> Result<(), AllocError> {
-        self.tell(pieces)?;
-        self.end_line()
+    pub(crate) fn sentence(&mut self, pieces: &[Piece<'_>]) {
+        self.tell(pieces);
+        self.end_line();
     }
 }

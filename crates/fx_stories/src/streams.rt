@@ -54,7 +54,7 @@ fn take_set(
     match (set.id, fault) {
         (2, _) => take_templates(alloc, story, templates, message, set, TemplateKind::Plain),
         (3, _) => take_templates(alloc, story, templates, message, set, TemplateKind::Options),
-        (_, Some(fault)) => tell_data_set(story, templates, message, set, fault),
+        (_, Some(fault)) => Ok(tell_data_set(story, templates, message, set, fault)),
         (_, None) => Ok(false),
     }
 }
@@ -130,7 +130,7 @@ impl Reading {
     }
 
     /// Tells the first octets of the refused message, and what they begin where they are no message.
-    fn tell_start(&self, story: &mut Story) -> Result<(), AllocError> {
+    fn tell_start(&self, story: &mut Story) {
         let start = part(self.octets.as_slice(), 0, self.octets.len().min(HEADER));
         story.tell(&[
             Piece::Text("message "),
@@ -138,30 +138,30 @@ impl Reading {
             Piece::Text(" of the stream, from octet "),
             Piece::Number(self.place),
             Piece::Text(" on: its first octets are"),
-        ])?;
+        ]);
         for octet in start {
             story.tell(&[
                 Piece::Text(" "),
                 Piece::Text(DIGITS[usize::from(*octet / 16)]),
                 Piece::Text(DIGITS[usize::from(*octet % 16)]),
-            ])?;
+            ]);
         }
-        story.end_line()
+        story.end_line();
     }
 
     /// Tells what stands in the place of a message of version 10.
-    fn tell_version(&self, story: &mut Story) -> Result<(), AllocError> {
-        self.tell_start(story)?;
+    fn tell_version(&self, story: &mut Story) {
+        self.tell_start(story);
         match format_of(self.octets.as_slice()) {
-            Some(words) => story.sentence(&[Piece::Text(words)])?,
+            Some(words) => story.sentence(&[Piece::Text(words)]),
             None => story.sentence(&[
                 Piece::Text("they say version "),
                 Piece::Number(u64::from(number16(self.octets.as_slice(), 0))),
                 Piece::Text(" in place of 10"),
-            ])?,
+            ]),
         }
         if self.number == 1 {
-            return Ok(());
+            return;
         }
         story.sentence(&[
             Piece::Text("messages before it: "),
@@ -169,33 +169,35 @@ impl Reading {
             Piece::Text(
                 "; either the last of them says a wrong length, or other octets stand between",
             ),
-        ])
+        ]);
     }
 
     /// Tells why the refused message has a wrong length.
-    fn tell_length(&self, story: &mut Story) -> Result<(), AllocError> {
-        self.tell_start(story)?;
+    fn tell_length(&self, story: &mut Story) {
+        self.tell_start(story);
         let there = self.octets.len();
         if there < HEADER {
-            return story.sentence(&[
+            story.sentence(&[
                 Piece::Text(
                     "the stream ends before the 16 octets of its header do; octets there are ",
                 ),
                 Piece::Number(there as u64),
             ]);
+            return;
         }
         let length = number16(self.octets.as_slice(), 2);
         story.tell(&[
             Piece::Text("its header says length "),
             Piece::Number(u64::from(length)),
-        ])?;
+        ]);
         if usize::from(length) < HEADER {
-            return story.sentence(&[Piece::Text(", which is below the 16 of the header itself")]);
+            story.sentence(&[Piece::Text(", which is below the 16 of the header itself")]);
+            return;
         }
         story.sentence(&[
             Piece::Text(", and the stream ends before; octets there are "),
             Piece::Number(there as u64),
-        ])
+        ]);
     }
 
     /// Tells what is wrong with the sets of the refused message.
@@ -206,12 +208,18 @@ impl Reading {
             place: self.place,
             octets: part(self.octets.as_slice(), 0, length),
         };
-        message.tell(story)?;
+        message.tell(story);
         let sets = message.sets(self.alloc)?;
         let fault = self.fault;
         match fault {
-            refusals::SET_LENGTH => message.tell_set_length(story, sets.as_slice()),
-            refusals::RESERVED_SET => message.tell_reserved(story, sets.as_slice()),
+            refusals::SET_LENGTH => {
+                message.tell_set_length(story, sets.as_slice());
+                Ok(())
+            }
+            refusals::RESERVED_SET => {
+                message.tell_reserved(story, sets.as_slice());
+                Ok(())
+            }
             _ => take_sets(
                 self.alloc,
                 story,
@@ -226,13 +234,20 @@ impl Reading {
     /// Tells the refused message, where the stream is as it was.
     fn tell(&mut self, story: &mut Story) -> Result<(), AllocError> {
         if self.place != self.refused || self.octets.is_empty() {
-            return story.sentence(&[Piece::Text(
+            story.sentence(&[Piece::Text(
                 "The message isn't told: the stream has no longer what was read of it.",
             )]);
+            return Ok(());
         }
         match self.fault {
-            refusals::MESSAGE_VERSION => self.tell_version(story),
-            refusals::MESSAGE_LENGTH => self.tell_length(story),
+            refusals::MESSAGE_VERSION => {
+                self.tell_version(story);
+                Ok(())
+            }
+            refusals::MESSAGE_LENGTH => {
+                self.tell_length(story);
+                Ok(())
+            }
             _ => self.tell_sets(story),
         }
     }
@@ -278,5 +293,5 @@ pub fn put_stream_words<R: Source, S: Sink>(
         ⊎ IsWriteFault (S.failed sink.new) e) }
 {
     let story = story_of(alloc, stream, fault)?;
-    put_text(sink, story.octets())
+    put_text(sink, story.octets()?)
 }

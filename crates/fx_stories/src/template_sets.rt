@@ -20,7 +20,7 @@ struct RecordThere<'a> {
 
 impl RecordThere<'_> {
     /// Tells the template of this id, and where its record begins in the stream.
-    fn tell(&self, story: &mut Story, id: u16) -> Result<(), AllocError> {
+    fn tell(&self, story: &mut Story, id: u16) {
         story.tell(&[
             Piece::Text(match self.kind {
                 TemplateKind::Plain => "template ",
@@ -29,40 +29,38 @@ impl RecordThere<'_> {
             Piece::Number(u64::from(id)),
             Piece::Text(" at octet "),
             Piece::Number(self.message.place_in_stream(self.place)),
-        ])
+        ]);
     }
 
     /// Tells the field of this place of a template, which has so many.
-    fn tell_place(
-        &self,
-        story: &mut Story,
-        new: &NewTemplate,
-        place: usize,
-    ) -> Result<(), AllocError> {
-        self.tell(story, new.id)?;
+    fn tell_place(&self, story: &mut Story, new: &NewTemplate, place: usize) {
+        self.tell(story, new.id);
         story.tell(&[
             Piece::Text(": field "),
             Piece::Number((place as u64).saturating_add(1)),
             Piece::Text(" of "),
             Piece::Number(u64::from(new.count)),
-        ])
+        ]);
     }
 
     /// Tells why the head of a record is refused.
-    fn tell_heading(&self, story: &mut Story, octets: &[u8]) -> Result<(), AllocError> {
+    fn tell_heading(&self, story: &mut Story, octets: &[u8]) {
         let id = number16(octets, 0);
         let count = number16(octets, 2);
-        self.tell(story, id)?;
+        self.tell(story, id);
         if count == 0 {
-            return story.sentence(&[Piece::Text(
+            story.sentence(&[Piece::Text(
                 ": without fields it is a withdrawal, and the ids of templates begin at 256 (2 withdraws all templates, 3 all options templates, each in its own sets)",
             )]);
+            return;
         }
         if id < 256 {
-            return story.sentence(&[Piece::Text(": the ids of templates begin at 256")]);
+            story.sentence(&[Piece::Text(": the ids of templates begin at 256")]);
+            return;
         }
         if octets.len() < 6 {
-            return story.sentence(&[Piece::Text(": its set ends inside of its head")]);
+            story.sentence(&[Piece::Text(": its set ends inside of its head")]);
+            return;
         }
         story.sentence(&[
             Piece::Text(": scope fields "),
@@ -70,75 +68,60 @@ impl RecordThere<'_> {
             Piece::Text(" of "),
             Piece::Number(u64::from(count)),
             Piece::Text("; at least one of an options template's fields must be"),
-        ])
+        ]);
     }
 
     /// Tells why a field is refused that begins with these octets.
-    fn tell_wrong_field(
-        &self,
-        story: &mut Story,
-        new: &NewTemplate,
-        place: usize,
-        octets: &[u8],
-    ) -> Result<(), AllocError> {
-        self.tell_place(story, new, place)?;
+    fn tell_wrong_field(&self, story: &mut Story, new: &NewTemplate, place: usize, octets: &[u8]) {
+        self.tell_place(story, new, place);
         let has_enterprise = number16(octets, 0) >= 0x8000;
         if octets.len() < 4 || (has_enterprise && octets.len() < 8) {
-            return story.sentence(&[Piece::Text(" passes its set's end")]);
+            story.sentence(&[Piece::Text(" passes its set's end")]);
+            return;
         }
         let field = FieldSpecifier {
             element: number16(octets, 0) & 0x7fff,
             field_length: number16(octets, 2),
             enterprise: has_enterprise.then_some(number32(octets, 4)),
         };
-        story.tell(&[Piece::Text(" is ")])?;
-        tell_field(story, &field)?;
-        tell_allowed_length(story, &field)?;
-        story.end_line()
+        story.tell(&[Piece::Text(" is ")]);
+        tell_field(story, &field);
+        tell_allowed_length(story, &field);
+        story.end_line();
     }
 
     /// Tells the first counter of flows of another length than 8 octets, and answers whether there is one.
-    fn tell_narrow(
-        &self,
-        story: &mut Story,
-        new: &NewTemplate,
-        fields: &[FieldSpecifier],
-    ) -> Result<bool, AllocError> {
+    fn tell_narrow(&self, story: &mut Story, new: &NewTemplate, fields: &[FieldSpecifier]) -> bool {
         for place in 0..fields.len() {
             let field = &fields[place];
             if is_narrow(field) {
-                self.tell_place(story, new, place)?;
-                story.tell(&[Piece::Text(" is ")])?;
-                tell_field(story, field)?;
-                story.sentence(&[Piece::Text("; it must have 8 octets")])?;
-                return Ok(true);
+                self.tell_place(story, new, place);
+                story.tell(&[Piece::Text(" is ")]);
+                tell_field(story, field);
+                story.sentence(&[Piece::Text("; it must have 8 octets")]);
+                return true;
             }
         }
-        Ok(false)
+        false
     }
 
     /// Tells in what a template differs from the one for which its id stands, and answers whether it does.
-    fn tell_other(
-        &self,
-        story: &mut Story,
-        old: &Declared,
-        new: &Declared,
-    ) -> Result<bool, AllocError> {
+    fn tell_other(&self, story: &mut Story, old: &Declared, new: &Declared) -> bool {
         let place = first_difference(old.fields.as_slice(), new.fields.as_slice());
         if old.kind == new.kind && old.scope == new.scope && place.is_none() {
-            return Ok(false);
+            return false;
         }
-        self.tell(story, new.id)?;
+        self.tell(story, new.id);
         story.sentence(&[
             Piece::Text(" isn't the one of this id that message "),
             Piece::Number(old.message),
             Piece::Text(" declared at octet "),
             Piece::Number(old.place),
             Piece::Text(", which hasn't been withdrawn"),
-        ])?;
-        tell_kinds(story, old, new)?;
-        tell_difference(story, old, new, place)?;
-        Ok(true)
+        ]);
+        tell_kinds(story, old, new);
+        tell_difference(story, old, new, place);
+        true
     }
 }
 
@@ -167,15 +150,16 @@ fn first_difference(old: &[FieldSpecifier], new: &[FieldSpecifier]) -> Option<us
 }
 
 /// Tells whether a template and an options template differ in that, or two options templates in their scope.
-fn tell_kinds(story: &mut Story, old: &Declared, new: &Declared) -> Result<(), AllocError> {
+fn tell_kinds(story: &mut Story, old: &Declared, new: &Declared) {
     if old.kind != new.kind {
-        return story.sentence(&[Piece::Text(match old.kind {
+        story.sentence(&[Piece::Text(match old.kind {
             TemplateKind::Plain => "it was a template, and is an options template now",
             TemplateKind::Options => "it was an options template, and is a template now",
         })]);
+        return;
     }
     if old.scope == new.scope {
-        return Ok(());
+        return;
     }
     story.sentence(&[
         Piece::Text("scope fields: it had "),
@@ -183,18 +167,13 @@ fn tell_kinds(story: &mut Story, old: &Declared, new: &Declared) -> Result<(), A
         Piece::Text(", and has "),
         Piece::Number(u64::from(new.scope)),
         Piece::Text(" now"),
-    ])
+    ]);
 }
 
 /// Tells the first fields in which two templates differ, or how many each has.
-fn tell_difference(
-    story: &mut Story,
-    old: &Declared,
-    new: &Declared,
-    place: Option<usize>,
-) -> Result<(), AllocError> {
+fn tell_difference(story: &mut Story, old: &Declared, new: &Declared, place: Option<usize>) {
     let Some(place) = place else {
-        return Ok(());
+        return;
     };
     match (old.fields.get(place), new.fields.get(place)) {
         (Some(was), Some(is)) => {
@@ -202,11 +181,11 @@ fn tell_difference(
                 Piece::Text("field "),
                 Piece::Number((place as u64).saturating_add(1)),
                 Piece::Text(" was "),
-            ])?;
-            tell_field(story, was)?;
-            story.tell(&[Piece::Text(", and is ")])?;
-            tell_field(story, is)?;
-            story.sentence(&[Piece::Text(" now")])
+            ]);
+            tell_field(story, was);
+            story.tell(&[Piece::Text(", and is ")]);
+            tell_field(story, is);
+            story.sentence(&[Piece::Text(" now")]);
         }
         _ => story.sentence(&[
             Piece::Text("fields: it had "),
@@ -232,12 +211,12 @@ fn declare<'o>(
     let mut left = FieldSpecifiers::new(new.count, octets);
     while let Some(next) = left.next() {
         let Ok(field) = next else {
-            record.tell_wrong_field(story, &new, fields.len(), left.rest())?;
+            record.tell_wrong_field(story, &new, fields.len(), left.rest());
             return Ok(None);
         };
         fields.push(field)?;
     }
-    if record.kind == TemplateKind::Plain && record.tell_narrow(story, &new, fields.as_slice())? {
+    if record.kind == TemplateKind::Plain && record.tell_narrow(story, &new, fields.as_slice()) {
         return Ok(None);
     }
     let declared = Declared {
@@ -251,7 +230,7 @@ fn declare<'o>(
         withdrawn: None,
     };
     if let Some(old) = templates.live(declared.domain, declared.id) {
-        if record.tell_other(story, old, &declared)? {
+        if record.tell_other(story, old, &declared) {
             return Ok(None);
         }
     }
@@ -274,7 +253,7 @@ fn take_record<'o>(
     let (domain, message) = (record.message.domain(), record.message.number);
     match read_heading(record.kind, octets) {
         Err(_) => {
-            record.tell_heading(story, octets)?;
+            record.tell_heading(story, octets);
             Ok(None)
         }
         Ok((TemplateHeading::Withdrawal(id), rest)) => {

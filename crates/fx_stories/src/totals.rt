@@ -6,7 +6,7 @@ ghost use Rattle.fx_stories.specs.Stories.{IsUntold, WritesStory};
 use crate::lines::{next_line, tell_line};
 use crate::story::{Piece, Story};
 use fx_base::{Fault, Line, LineReader, Place, Sink, Source, put_text};
-use std::alloc::{AllocError, Global};
+use std::alloc::Global;
 
 /// What a line is that no text of totals has, where it can be told.
 fn strange_line(octets: &[u8]) -> Option<&'static str> {
@@ -37,11 +37,12 @@ fn strange_line(octets: &[u8]) -> Option<&'static str> {
 }
 
 /// Tells which text of several a line is in, and which line of it.
-fn tell_place(story: &mut Story, number: u64, text: u64, begun: u64) -> Result<(), AllocError> {
+fn tell_place(story: &mut Story, number: u64, text: u64, begun: u64) {
     if text == 0 {
-        return story.sentence(&[Piece::Text(
+        story.sentence(&[Piece::Text(
             "no text of totals comes before it: the first line is keys and a number",
         )]);
+        return;
     }
     story.sentence(&[
         Piece::Text("it is line "),
@@ -50,30 +51,25 @@ fn tell_place(story: &mut Story, number: u64, text: u64, begun: u64) -> Result<(
         Piece::Number(text),
         Piece::Text(", which begins at line "),
         Piece::Number(begun),
-    ])
+    ]);
 }
 
 /// Tells the refused line, and what it is.
-fn tell_refused(
-    story: &mut Story,
-    line: &Line<'_>,
-    text: u64,
-    begun: u64,
-) -> Result<(), AllocError> {
-    tell_line(story, line)?;
-    tell_place(story, line.number, text, begun)?;
+fn tell_refused(story: &mut Story, line: &Line<'_>, text: u64, begun: u64) {
+    tell_line(story, line);
+    tell_place(story, line.number, text, begun);
     match strange_line(line.bytes) {
         Some(words) => story.sentence(&[Piece::Text(words)]),
-        None => Ok(()),
+        None => {},
     }
 }
 
 /// Tells the forms of lines, in their order.
-fn tell_forms(story: &mut Story) -> Result<(), AllocError> {
+fn tell_forms(story: &mut Story) {
     story.sentence(&[Piece::Text(
         "a text is: keys N; N lines KEY packets P octets O, with the fields of the report's key, each key above the one \
 before it; unassigned U; then, where they were told, complete yes or no, skipped other A malformed B, gaps G and skipped S",
-    )])
+    )]);
 }
 
 /// What is to be told of a line of totals that is refused.
@@ -90,8 +86,8 @@ fn story_of<C: Source>(
     'lines: while next_line(lines)? {
         let line = lines.line();
         if line.number == number {
-            tell_refused(&mut story, &line, text, begun)?;
-            tell_forms(&mut story)?;
+            tell_refused(&mut story, &line, text, begun);
+            tell_forms(&mut story);
             return Ok(story);
         }
         if line.bytes.starts_with(b"keys ") {
@@ -101,8 +97,8 @@ fn story_of<C: Source>(
     }
     story.sentence(&[Piece::Text(
         "the texts end before that line: one is cut off, or there is none",
-    )])?;
-    tell_forms(&mut story)?;
+    )]);
+    tell_forms(&mut story);
     Ok(story)
 }
 
@@ -129,5 +125,5 @@ pub fn put_totals_words<C: Source, S: Sink>(
         _ => 0,
     };
     let story = story_of(alloc, lines, number)?;
-    put_text(sink, story.octets())
+    put_text(sink, story.octets()?)
 }

@@ -2,7 +2,6 @@
 use crate::pointers::{configuration, items_member, text_or_none};
 use crate::story::{Piece, Story};
 use serde_json::Value;
-use std::alloc::AllocError;
 
 /// The transports of destinations and of collecting processes.
 const TRANSPORTS: [&str; 6] = [
@@ -29,7 +28,7 @@ fn tell_unread<'x>(
     kind: &'x str,
     name: &'x str,
     member: &'x str,
-) -> Result<(), AllocError> {
+) {
     story.sentence(&[
         Piece::Text(kind),
         Piece::Quoted(name),
@@ -38,26 +37,20 @@ fn tell_unread<'x>(
         Piece::Text(": what stands in "),
         Piece::Text(member),
         Piece::Text(" isn't read"),
-    ])
+    ]);
 }
 
 /// Tells the transports of an entry of a device in which something stands.
-fn tell_transports<'x>(
-    story: &mut Story,
-    device: &'x str,
-    kind: &'x str,
-    entry: &'x Value,
-) -> Result<(), AllocError> {
+fn tell_transports<'x>(story: &mut Story, device: &'x str, kind: &'x str, entry: &'x Value) {
     for member in TRANSPORTS {
         if has_content(entry, member) {
-            tell_unread(story, device, kind, text_or_none(entry, "name"), member)?;
+            tell_unread(story, device, kind, text_or_none(entry, "name"), member);
         }
     }
-    Ok(())
 }
 
 /// Tells what isn't read of the exporting processes of a device.
-fn tell_exporting(story: &mut Story, device: &str, container: &Value) -> Result<(), AllocError> {
+fn tell_exporting(story: &mut Story, device: &str, container: &Value) {
     for process in items_member(container, "exportingProcess") {
         if process.get("options").is_some() {
             tell_unread(
@@ -66,31 +59,25 @@ fn tell_exporting(story: &mut Story, device: &str, container: &Value) -> Result<
                 "exporting process ",
                 text_or_none(process, "name"),
                 "options",
-            )?;
+            );
         }
         for destination in items_member(process, "destination") {
-            tell_transports(story, device, "destination ", destination)?;
+            tell_transports(story, device, "destination ", destination);
         }
     }
-    Ok(())
 }
 
 /// Tells what isn't read of the collecting processes of a device.
-fn tell_collecting(story: &mut Story, device: &str, container: &Value) -> Result<(), AllocError> {
+fn tell_collecting(story: &mut Story, device: &str, container: &Value) {
     for process in items_member(container, "collectingProcess") {
-        tell_transports(story, device, "collecting process ", process)?;
+        tell_transports(story, device, "collecting process ", process);
     }
-    Ok(())
 }
 
 /// Tells the members of a device's configuration that are other modules'.
-fn tell_modules<'x>(
-    story: &mut Story,
-    device: &'x str,
-    config: &'x Value,
-) -> Result<(), AllocError> {
+fn tell_modules<'x>(story: &mut Story, device: &'x str, config: &'x Value) {
     let Some(members) = config.as_object() else {
-        return Ok(());
+        return;
     };
     for (name, _) in members.iter() {
         if name.as_str() != "ietf-ipfix-psamp:ipfix" {
@@ -100,29 +87,26 @@ fn tell_modules<'x>(
                 Piece::Text(": member "),
                 Piece::Text(name.as_str()),
                 Piece::Text(" of its configuration isn't read"),
-            ])?;
+            ]);
         }
     }
-    Ok(())
 }
 
 /// Tells what isn't read of a device.
-fn tell_device(story: &mut Story, device: &Value) -> Result<(), AllocError> {
+fn tell_device(story: &mut Story, device: &Value) {
     let name = text_or_none(device, "name");
     if let Some(config) = device.get("config") {
-        tell_modules(story, name, config)?;
+        tell_modules(story, name, config);
     }
     if let Some(container) = configuration(device) {
-        tell_exporting(story, name, container)?;
-        tell_collecting(story, name, container)?;
+        tell_exporting(story, name, container);
+        tell_collecting(story, name, container);
     }
-    Ok(())
 }
 
 /// Tells the members of a network's document that nothing reads, but for those that say when records leave.
-pub(crate) fn tell_unread_members(story: &mut Story, network: &Value) -> Result<(), AllocError> {
+pub(crate) fn tell_unread_members(story: &mut Story, network: &Value) {
     for device in items_member(network, "devices") {
-        tell_device(story, device)?;
+        tell_device(story, device);
     }
-    Ok(())
 }

@@ -8,7 +8,6 @@ use fx_config::ObservationPoint;
 use fx_plan::Plan;
 use fx_tables::Crossing;
 use fx_traffic::Target;
-use std::alloc::AllocError;
 
 /// Whether a name is among these.
 fn is_among(names: &[Name], name: &Name) -> bool {
@@ -64,44 +63,29 @@ fn is_any_seen(plan: &Plan, crossings: &[Crossing]) -> bool {
 }
 
 /// Tells the crossings of a path whose interfaces are at no observation point.
-fn tell_interfaces(
-    story: &mut Story,
-    documents: &Documents,
-    target: &Target<'_>,
-) -> Result<(), AllocError> {
+fn tell_interfaces(story: &mut Story, documents: &Documents, target: &Target<'_>) {
     for crossing in target.crossings {
         if !is_at_point(&documents.plan, crossing) {
-            tell_class(story, documents, target.class, target.path)?;
-            story.tell(&[Piece::Text(": at ")])?;
-            tell_crossing(story, &documents.plan, crossing)?;
-            story.sentence(&[Piece::Text(" the interface is at no observation point")])?;
+            tell_class(story, documents, target.class, target.path);
+            story.tell(&[Piece::Text(": at ")]);
+            tell_crossing(story, &documents.plan, crossing);
+            story.sentence(&[Piece::Text(" the interface is at no observation point")]);
         }
     }
-    Ok(())
 }
 
 /// Tells of a path what no observation point sees.
-fn tell_target(
-    story: &mut Story,
-    documents: &Documents,
-    target: &Target<'_>,
-) -> Result<(), AllocError> {
-    tell_interfaces(story, documents, target)?;
+fn tell_target(story: &mut Story, documents: &Documents, target: &Target<'_>) {
+    tell_interfaces(story, documents, target);
     if !is_any_seen(&documents.plan, target.crossings) {
-        tell_class(story, documents, target.class, target.path)?;
-        story.sentence(&[Piece::Text(": no observation point sees any of its crossings")])?;
+        tell_class(story, documents, target.class, target.path);
+        story.sentence(&[Piece::Text(": no observation point sees any of its crossings")]);
     }
-    Ok(())
 }
 
 /// Tells of each path of each class what no observation point sees.
-pub(crate) fn tell_unseen(
-    story: &mut Story,
-    documents: &Documents,
-    targets: &[Target<'_>],
-) -> Result<(), AllocError> {
+pub(crate) fn tell_unseen(story: &mut Story, documents: &Documents, targets: &[Target<'_>]) {
     for target in targets {
-        tell_target(story, documents, target)?;
+        tell_target(story, documents, target);
     }
-    Ok(())
 }

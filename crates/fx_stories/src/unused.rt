@@ -21,19 +21,14 @@ fn tell_destinations(
                 device.as_str(),
                 process.name.as_str(),
                 destination.name.as_str(),
-            )?;
+            );
         }
     }
     Ok(())
 }
 
 /// Tells that a destination has no link.
-fn tell_lost<'x>(
-    story: &mut Story,
-    device: &'x str,
-    process: &'x str,
-    destination: &'x str,
-) -> Result<(), AllocError> {
+fn tell_lost<'x>(story: &mut Story, device: &'x str, process: &'x str, destination: &'x str) {
     story.sentence(&[
         Piece::Text("destination "),
         Piece::Quoted(destination),
@@ -42,7 +37,7 @@ fn tell_lost<'x>(
         Piece::Text(" of "),
         Piece::Text(device),
         Piece::Text(" has no link: what it is sent is lost"),
-    ])
+    ]);
 }
 
 /// Whether a selection process hands packets to the cache of this name.
@@ -64,24 +59,23 @@ fn is_fed(processes: &[SelectionProcess], name: &Name) -> bool {
 }
 
 /// Tells that a cache is fed by nothing.
-fn tell_empty<'x>(story: &mut Story, device: &'x Name, cache: &'x Cache) -> Result<(), AllocError> {
+fn tell_empty<'x>(story: &mut Story, device: &'x Name, cache: &'x Cache) {
     story.sentence(&[
         Piece::Text("no selection process feeds cache "),
         Piece::Quoted(cache.name.as_str()),
         Piece::Text(" of "),
         Piece::Text(device.as_str()),
-    ])
+    ]);
 }
 
 /// Tells the caches of a device that no selection process feeds.
-fn tell_caches(story: &mut Story, device: &NetworkDevice) -> Result<(), AllocError> {
+fn tell_caches(story: &mut Story, device: &NetworkDevice) {
     let processes = device.config.selection_processes.as_slice();
     for cache in device.config.caches.as_slice() {
         if !is_fed(processes, &cache.name) {
-            tell_empty(story, &device.name, cache)?;
+            tell_empty(story, &device.name, cache);
         }
     }
-    Ok(())
 }
 
 /// Tells something by its kind and name, and what of it leads nowhere.
@@ -91,7 +85,7 @@ fn tell_end<'x>(
     name: &'x Name,
     device: &'x Name,
     words: &'static str,
-) -> Result<(), AllocError> {
+) {
     story.sentence(&[
         Piece::Text(kind),
         Piece::Text(" "),
@@ -99,15 +93,15 @@ fn tell_end<'x>(
         Piece::Text(" of "),
         Piece::Text(device.as_str()),
         Piece::Text(words),
-    ])
+    ]);
 }
 
 /// Tells the points and selection processes of a device by which no packet is metered.
-fn tell_unmetered(story: &mut Story, device: &NetworkDevice) -> Result<(), AllocError> {
+fn tell_unmetered(story: &mut Story, device: &NetworkDevice) {
     for point in device.config.observation_points.as_slice() {
         if point.selection_processes.as_slice().is_empty() {
             let words = " has no selection process, so nothing there is metered";
-            tell_end(story, "observation point", &point.name, &device.name, words)?;
+            tell_end(story, "observation point", &point.name, &device.name, words);
         }
     }
     for process in device.config.selection_processes.as_slice() {
@@ -119,44 +113,33 @@ fn tell_unmetered(story: &mut Story, device: &NetworkDevice) -> Result<(), Alloc
                 &process.name,
                 &device.name,
                 words,
-            )?;
+            );
         }
     }
-    Ok(())
 }
 
 /// Tells the caches of a device whose records go nowhere.
-fn tell_unexported(story: &mut Story, device: &NetworkDevice) -> Result<(), AllocError> {
+fn tell_unexported(story: &mut Story, device: &NetworkDevice) {
     for cache in device.config.caches.as_slice() {
         if cache.exporting_processes.as_slice().is_empty() {
             let words = " has no exporting process, so its records are lost";
-            tell_end(story, "cache", &cache.name, &device.name, words)?;
+            tell_end(story, "cache", &cache.name, &device.name, words);
         }
     }
-    Ok(())
 }
 
 /// Tells the aggregations of a collecting process whose records go nowhere.
-fn tell_unsent(
-    story: &mut Story,
-    device: &NetworkDevice,
-    process: &CollectingProcess,
-) -> Result<(), AllocError> {
+fn tell_unsent(story: &mut Story, device: &NetworkDevice, process: &CollectingProcess) {
     for aggregation in process.aggregations.as_slice() {
         if aggregation.exporting_processes.as_slice().is_empty() {
             let words = " has no exporting process, so its records are lost";
-            tell_end(story, "aggregation", &aggregation.name, &device.name, words)?;
+            tell_end(story, "aggregation", &aggregation.name, &device.name, words);
         }
     }
-    Ok(())
 }
 
 /// Tells the collecting processes of a device to which no link leads, and their aggregations whose records go nowhere.
-fn tell_collecting(
-    story: &mut Story,
-    links: &[NamedLink],
-    device: &NetworkDevice,
-) -> Result<(), AllocError> {
+fn tell_collecting(story: &mut Story, links: &[NamedLink], device: &NetworkDevice) {
     for process in device.config.collecting_processes.as_slice() {
         let linked = links.iter().any(|link| {
             link.to_device == device.name && link.to_process == process.name
@@ -169,11 +152,10 @@ fn tell_collecting(
                 &process.name,
                 &device.name,
                 words,
-            )?;
+            );
         }
-        tell_unsent(story, device, process)?;
+        tell_unsent(story, device, process);
     }
-    Ok(())
 }
 
 /// Tells what of a device leads nowhere, and what nothing feeds.
@@ -182,13 +164,14 @@ fn tell_device(
     links: &LinkTable,
     device: &NetworkDevice,
 ) -> Result<(), AllocError> {
-    tell_unmetered(story, device)?;
-    tell_caches(story, device)?;
-    tell_unexported(story, device)?;
+    tell_unmetered(story, device);
+    tell_caches(story, device);
+    tell_unexported(story, device);
     for process in device.config.exporting_processes.as_slice() {
         tell_destinations(story, links, &device.name, process)?;
     }
-    tell_collecting(story, links.as_slice(), device)
+    tell_collecting(story, links.as_slice(), device);
+    Ok(())
 }
 
 /// Tells the observation points, selection processes, caches, destinations and aggregations of a network that lead

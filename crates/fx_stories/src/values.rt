@@ -31,12 +31,12 @@ fn words_allowed(member: &str, is_network: bool) -> &'static str {
 }
 
 /// Tells which values a member may have.
-fn tell_allowed(story: &mut Story, member: &str, is_network: bool) -> Result<(), AllocError> {
+fn tell_allowed(story: &mut Story, member: &str, is_network: bool) {
     let words = words_allowed(member, is_network);
     if words.is_empty() {
-        return Ok(());
+        return;
     }
-    story.sentence(&[Piece::Text("allowed there: "), Piece::Text(words)])
+    story.sentence(&[Piece::Text("allowed there: "), Piece::Text(words)]);
 }
 
 /// Why a text is no name, if it is none.
@@ -53,20 +53,15 @@ fn name_words(text: &str) -> Option<&'static str> {
 }
 
 /// Tells why a text is no name, if it is none.
-fn tell_name(story: &mut Story, text: &str) -> Result<(), AllocError> {
+fn tell_name(story: &mut Story, text: &str) {
     match name_words(text) {
         Some(words) => story.sentence(&[Piece::Text(words)]),
-        None => Ok(()),
+        None => {},
     }
 }
 
 /// Tells what is wrong with the text of a member that isn't one of a few words.
-fn tell_text(
-    story: &mut Story,
-    member: &str,
-    text: &str,
-    is_network: bool,
-) -> Result<(), AllocError> {
+fn tell_text(story: &mut Story, member: &str, text: &str, is_network: bool) {
     match by_name(member) {
         Element::OnAxis(axis) if !is_network => tell_values(story, axis, text),
         _ => tell_name(story, text),
@@ -82,32 +77,28 @@ fn is_length(value: &Value) -> bool {
 }
 
 /// Tells how many octets the element of a field has.
-fn tell_octets(story: &mut Story, field: &Value) -> Result<(), AllocError> {
+fn tell_octets(story: &mut Story, field: &Value) {
     let octets = match element_of(field) {
         Element::OnAxis(axis) => u64::from(width(axis) / 8),
         Element::OctetDeltaCount | Element::PacketDeltaCount => 8,
-        _ => return Ok(()),
+        _ => return,
     };
     story.sentence(&[
         Piece::Text("octets that this element has to have there: "),
         Piece::Number(octets),
-    ])
+    ]);
 }
 
 /// Tells those of several members, of which one may be there, that are.
-fn tell_several(
-    story: &mut Story,
-    object: &Value,
-    names: &'static [&'static str],
-) -> Result<(), AllocError> {
+fn tell_several(story: &mut Story, object: &Value, names: &'static [&'static str]) {
     let mut separator = "only one of these may be there: ";
     for name in names {
         if object.get(*name).is_some() {
-            story.tell(&[Piece::Text(separator), Piece::Text(name)])?;
+            story.tell(&[Piece::Text(separator), Piece::Text(name)]);
             separator = ", ";
         }
     }
-    story.end_line()
+    story.end_line();
 }
 
 /// Whether more than one of these members are there.
@@ -125,7 +116,10 @@ fn tell_match(alloc: Global, story: &mut Story, object: &Value) -> Result<(), Al
         return Ok(());
     }
     match text_member(object, "value") {
-        Some(text) => tell_spelling(story, element_of(object), text),
+        Some(text) => {
+            tell_spelling(story, element_of(object), text);
+            Ok(())
+        }
         None => Ok(()),
     }
 }
@@ -155,12 +149,12 @@ fn tell_field(
     if is_axis && field.get("prefixLength").is_some() {
         story.sentence(&[Piece::Text(
             "prefixLength stands beside the element of a prefix alone, as sourceIPv4Prefix",
-        )])?;
+        )]);
     }
     if earlier.iter().any(|other| is_same_axis(other, field)) {
         story.sentence(&[Piece::Text(
             "an earlier field of the key has this axis; an address and its prefix are one axis",
-        )])?;
+        )]);
     }
     Ok(())
 }
@@ -190,7 +184,8 @@ fn tell_object(
     let member = last_member(pointer);
     let choice = one_required(member);
     if are_several(object, choice) {
-        return tell_several(story, object, choice);
+        tell_several(story, object, choice);
+        return Ok(());
     }
     match member {
         "filterMatch" | "match" => tell_match(alloc, story, object),
@@ -223,7 +218,10 @@ pub(crate) fn tell_wrong(
     if words_allowed(member, is_network).is_empty() {
         return match value {
             Value::Object(_) => tell_object(alloc, story, document, pointer, value),
-            Value::String(text) => tell_text(story, member, text.as_str(), is_network),
+            Value::String(text) => {
+                tell_text(story, member, text.as_str(), is_network);
+                Ok(())
+            }
             _ => Ok(()),
         };
     }
@@ -231,4 +229,5 @@ pub(crate) fn tell_wrong(
         Some(field) if member == "ieLength" && is_length(value) => tell_octets(story, field),
         _ => tell_allowed(story, member, is_network),
     }
+    Ok(())
 }

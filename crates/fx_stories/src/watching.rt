@@ -29,11 +29,12 @@ fn tell_cache(
     process: &SelectionProcess,
 ) -> Result<(), AllocError> {
     let Some(name) = &process.cache else {
-        return story.sentence(&[Piece::Text(" and has no cache")]);
+        story.sentence(&[Piece::Text(" and has no cache")]);
+        return Ok(());
     };
-    story.tell(&[Piece::Text(", cache "), Piece::Quoted(name.as_str())])?;
+    story.tell(&[Piece::Text(", cache "), Piece::Quoted(name.as_str())]);
     if let Some(cache) = entry_named(device.config.caches.as_slice(), name) {
-        story.tell(&[Piece::Text(": ")])?;
+        story.tell(&[Piece::Text(": ")]);
         tell_sending(
             story,
             plan,
@@ -42,10 +43,11 @@ fn tell_cache(
             &[],
         )?;
         if cache.exporting_processes.as_slice().is_empty() {
-            story.tell(&[Piece::Text("it has no exporting process, so its records are lost")])?;
+            story.tell(&[Piece::Text("it has no exporting process, so its records are lost")]);
         }
     }
-    story.end_line()
+    story.end_line();
+    Ok(())
 }
 
 /// A crossing of a path, and the region of packets that make it.
@@ -67,14 +69,14 @@ fn tell_selection<'x>(
     process: &'x SelectionProcess,
     selection: &Selection,
 ) -> Result<(), AllocError> {
-    tell_numbered(story, crossed.plan, crossed.number, crossed.crossing)?;
+    tell_numbered(story, crossed.plan, crossed.number, crossed.crossing);
     story.tell(&[
         Piece::Text(": observation point "),
         Piece::Quoted(point.name.as_str()),
         Piece::Text(", selection process "),
         Piece::Quoted(process.name.as_str()),
         Piece::Text(overlap_words(crossed.region, selection)),
-    ])?;
+    ]);
     tell_cache(story, crossed.plan, device, process)
 }
 
@@ -124,8 +126,9 @@ fn tell_at(story: &mut Story, crossed: &Crossed<'_>) -> Result<(), AllocError> {
     if tell_points(story, crossed, device, points)? {
         return Ok(());
     }
-    tell_numbered(story, crossed.plan, crossed.number, crossed.crossing)?;
-    story.sentence(&[Piece::Text(": no observation point with a selection process sees it")])
+    tell_numbered(story, crossed.plan, crossed.number, crossed.crossing);
+    story.sentence(&[Piece::Text(": no observation point with a selection process sees it")]);
+    Ok(())
 }
 
 /// Tells, for each crossing of a path, what sees the packets of a region there and where their records go.
