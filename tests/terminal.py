@@ -3,13 +3,15 @@
 
 Without words on a terminal it must print its help and not wait. With words that don't parse it must end with status 6,
 and tell last what to do (`ADVICE`), without the tip that an option is a file's name. With `--words` it must not wait for
-a pipe that it has read to its end.
+a pipe that it has read to its end, and it must say of a directory that it is one, and not write a link's file over one of
+a run's own.
 
 Prints a line for each fault, and last `N passed, M failed`. The exit status is 1 where something failed.
 """
 import os
 import pty
 import shlex
+import shutil
 import subprocess
 import sys
 import tempfile
@@ -29,6 +31,9 @@ OPTION = (
 )
 COMMAND = "The first word is a command: `once help` lists them."
 MISSING = "Write what is missing, in the order of the usage line; `once help COMMAND` tells what each is."
+
+# A run over a capture that puts octets on link 1.
+RUN_WITH_LINKS = "run-over-a-packet-of-ipv6"
 
 # Words that don't parse, with what is told to be done about them.
 ADVICE = {
@@ -115,6 +120,31 @@ def faults_of_pipe(program):
         yield "printed %r in place of %r" % (run.stdout, wanted)
 
 
+def faults_of_directory(program):
+    with tempfile.TemporaryDirectory() as folder:
+        run = subprocess.run([program, "lint", folder, "--words"], stdout=subprocess.PIPE, timeout=60)
+        wanted = "device 901\nfile: %s: it is a directory\n" % folder
+        if run.returncode != 5 or not run.stdout.decode().startswith(wanted):
+            yield "status %d, printed %r, which doesn't begin with %r" % (run.returncode, run.stdout, wanted)
+
+
+def faults_of_links_over_input(program):
+    """A link's file may not be one that the run reads."""
+    row = os.path.join(rows.ROWS, RUN_WITH_LINKS)
+    with tempfile.TemporaryDirectory() as folder:
+        for name in ("network.json", "traffic.json", "capture.pcap"):
+            shutil.copy(os.path.join(row, name), folder)
+        shutil.copy(os.path.join(row, "schedule"), os.path.join(folder, "link1"))
+        words = ["run", "network.json", "traffic.json", "capture.pcap", "link1", "--links", "link", "--words"]
+        run = subprocess.run([program, *words], cwd=folder, stdout=subprocess.PIPE, timeout=60)
+        wanted = b"device 902\nfile: link1: the command reads this file, and doesn't write over it\n"
+        if run.returncode != 5 or not run.stdout.startswith(wanted):
+            yield "status %d, printed %r, which doesn't begin with %r" % (run.returncode, run.stdout, wanted)
+        with open(os.path.join(folder, "link1"), "rb") as file:
+            if file.read() != rows.octets_of(row, "schedule"):
+                yield "the schedule was written over"
+
+
 def feed(pipe, octets):
     with open(pipe, "wb") as file:
         file.write(octets)
@@ -125,6 +155,8 @@ def cases(program):
     for words, advice in ADVICE.items():
         yield words, faults_of_words(program, words, advice)
     yield "pipe", faults_of_pipe(program)
+    yield "directory", faults_of_directory(program)
+    yield "links over input", faults_of_links_over_input(program)
 
 
 if __name__ == "__main__":

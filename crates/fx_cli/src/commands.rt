@@ -167,11 +167,12 @@ fn audit<R: AllocGlobal + Clock + Eprint + Files, S: Sink>(
 }
 
 /// Runs a network over a capture, as a schedule says, with the octets of each link in a file of its own, whose name begins
-/// with a prefix.
+/// with a prefix and isn't one of the input's files.
 fn run_onto_files<R: AllocGlobal + Files, N: Source, T: Source, C: Source, Q: Source, S: Sink>(
     rt: &R,
     seed: Seed,
     prefix: &str,
+    inputs: &[&str],
     network: &mut N,
     traffic: &mut T,
     capture: C,
@@ -182,7 +183,7 @@ fn run_onto_files<R: AllocGlobal + Files, N: Source, T: Source, C: Source, Q: So
     ensures { AnswersWith S.taken S.failed IsRunText sink.old sink.new result }
 {
     let alloc = rt.alloc();
-    let mut files = LinkFiles::new(alloc, rt, prefix, notes.failing_files());
+    let mut files = LinkFiles::new(alloc, rt, prefix, inputs, notes.failing_files());
     let answer = run_bytes(
         alloc, seed, network, traffic, capture, schedule, &mut files, sink,
     );
@@ -205,6 +206,7 @@ fn run_capture<R: AllocGlobal + Clock + Eprint + Files + RandomSource, S: Sink>(
     ensures { AnswersWith S.taken S.failed IsRunText sink.old sink.new result }
 {
     let seed = seed_at_random(rt)?;
+    let inputs = [network, traffic, capture, schedule];
     let network = open(rt, network, notes)?;
     let traffic = open(rt, traffic, notes)?;
     let frames = open(rt, capture, notes)?;
@@ -219,6 +221,7 @@ fn run_capture<R: AllocGlobal + Clock + Eprint + Files + RandomSource, S: Sink>(
             rt,
             seed,
             prefix,
+            &inputs,
             &mut network,
             &mut traffic,
             capture,

@@ -138,7 +138,7 @@ Files:
 
 Prints the totals (status 0): `keys N`, a line for each key, `unassigned N`, `skipped other N malformed N` (frames that
 are no packets). With --links the IPFIX octets of link 1 go to the file PREFIX1, and so on; files of these names are
-overwritten, so none of the files above may have one. A text that is refused:
+written over, but for the files above, where it ends with `device 902`. A text that is refused:
 `refused NUMBER PLACE` (status 2), 701 to 704 of the capture, 801 to 804 of the schedule.
 
 --words tells of a refused line what it is about: of 803 and 804 which packet, and which of its fields lie outside of

@@ -6,7 +6,7 @@ ghost use Rattle.fx_base.specs.Refusals.{failed_write};
 
 use crate::files::make;
 use crate::notes::FailedFile;
-use fx_base::{Fault, Outside, put_text};
+use fx_base::{Fault, Outside, put_text, refusals};
 use fx_link::Links;
 use itoa::Buffer;
 use std::alloc::{AllocError, Global};
@@ -24,23 +24,27 @@ fn link_path(alloc: Global, prefix: &str, link: u64) -> Result<String, AllocErro
 }
 
 /// Links with a file each. A link's file is made, or emptied, when the first octets are put on the link, and is kept
-/// open. Its name is a prefix and the link's number, from 1, in decimal. Links tell none of their octets.
+/// open. Its name is a prefix and the link's number, from 1, in decimal; a file of the run's own input isn't written over.
+/// Links tell none of their octets.
 #[derive(Drop)]
 pub struct LinkFiles<'a, R: Files> {
     alloc: Global,
     rt: &'a R,
     prefix: &'a str,
+    inputs: &'a [&'a str],
     files: BTreeMap<u64, Outside<R::File>>,
     failed: bool,
     failed_file: FailedFile,
 }
 
 impl<'a, R: Files> LinkFiles<'a, R> {
-    /// Links on which nothing was put yet, with this prefix of their files' names, and where a file that fails is noted.
+    /// Links on which nothing was put yet, with this prefix of their files' names, the names of the files that the run
+    /// reads, and where a file that fails is noted.
     pub fn new(
         alloc: Global,
         rt: &'a R,
         prefix: &'a str,
+        inputs: &'a [&'a str],
         failed_file: FailedFile,
     ) -> LinkFiles<'a, R>
         ensures { result.failed ≡ false }
@@ -49,6 +53,7 @@ impl<'a, R: Files> LinkFiles<'a, R> {
             alloc,
             rt,
             prefix,
+            inputs,
             files: BTreeMap::new(alloc),
             failed: false,
             failed_file,
@@ -63,6 +68,7 @@ impl<'a, R: Files> LinkFiles<'a, R> {
             alloc: _,
             rt: _,
             prefix: _,
+            inputs: _,
             files: _,
             failed: _,
             failed_file,
@@ -77,12 +83,26 @@ impl<'a, R: Files> LinkFiles<'a, R> {
         }
     }
 
+    /// Whether the run reads a file of this name.
+    fn is_input(&self, path: &str) -> bool {
+        for input in self.inputs {
+            if path == *input {
+                return true;
+            }
+        }
+        false
+    }
+
     /// Writes the first octets of a link, into a file that is made for it.
     fn begin(&mut self, link: u64, octets: &[u8]) -> Result<(), Fault>
         ensures { IfErr result (λ e. (e ≡ fault_at failed_write places.None)
             ⊎ IsMemory e) }
     {
         let path = link_path(self.alloc, self.prefix, link)?;
+        if self.is_input(path.as_str()) {
+            self.failed_file.read_too(path.as_str());
+            return Err(Fault::bare(refusals::FAILED_WRITE));
+        }
         let mut file = make(self.rt, path.as_str(), &mut self.failed_file)?;
         put_text(&mut file, octets)?;
         self.files.insert(link, file)?;

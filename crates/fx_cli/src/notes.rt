@@ -33,6 +33,15 @@ impl FailedFile {
         }
     }
 
+    /// Notes a file that isn't written since the command reads it.
+    pub fn read_too(&mut self, path: &str) {
+        if self.keeps {
+            self.told = format!(in self.alloc;
+                "{path}: the command reads this file, and doesn't write over it"
+            ).ok();
+        }
+    }
+
     /// Notes a file that can't be written, unless it is one that can't be made.
     pub fn unwritten(&mut self, path: &str) {
         if self.keeps && self.told.is_none() {

@@ -14,6 +14,7 @@ use fx_stories::{
 };
 use fx_words::put_reason;
 use std::alloc::Global;
+use std::fs;
 use std::rt::Files;
 
 /// What a certificate shows.
@@ -88,7 +89,7 @@ fn put_words<R: AllocGlobal + Files, S: Sink>(
             None => Ok(()),
         },
         Err(fault) => {
-            put_file_words(call, notes, fault, sink)?;
+            put_file_words(rt, call, notes, fault, sink)?;
             match &question {
                 Some(question) => put_refused_words(rt, question, fault, sink)?,
                 None => put_no_bundle_words(notes, fault, sink)?,
@@ -163,7 +164,10 @@ fn put_no_words<R: AllocGlobal + Files, S: Sink>(
     sink: &mut S,
 ) -> Result<(), Fault> {
     match question.asked {
-        Asked::Explain => put_text(sink, b"`once explain all` lists the numbers.\n"),
+        Asked::Explain => put_text(
+            sink,
+            b"Write the number alone, as in `once explain 407`; `once explain all` lists the numbers.\n",
+        ),
         Asked::Audit(limit) => put_found_story(rt.alloc(), limit, question, sink),
         Asked::Check(lines) => put_denied_certificate(rt, lines, question, sink),
         Asked::Confirm(lines) => put_denied_refutation(rt, lines, question, sink),
@@ -333,9 +337,18 @@ fn put_document_place<S: Sink>(
     put_document_words(alloc, network.name, octets, traffic, fault, sink)
 }
 
-/// Writes which file couldn't be opened, read, made or written, or has too long a line, and why it couldn't be opened or
-/// made.
-fn put_file_words<S: Sink>(
+/// Whether a directory has this name.
+fn is_directory<R: Files>(rt: &R, path: &str) -> bool {
+    match fs::metadata(rt, path) {
+        Ok(metadata) => metadata.is_dir(),
+        Err(_) => false,
+    }
+}
+
+/// Writes which file couldn't be opened, read, made or written, or has too long a line, and why it couldn't be opened,
+/// made or read.
+fn put_file_words<R: Files, S: Sink>(
+    rt: &R,
     call: Option<&Call>,
     notes: &Notes,
     fault: &Fault,
@@ -351,6 +364,9 @@ fn put_file_words<S: Sink>(
         Some(file) => {
             put_text(sink, b"file: ")?;
             put_text(sink, file.as_bytes())?;
+            if is_directory(rt, file) {
+                put_text(sink, b": it is a directory")?;
+            }
             put_text(sink, b"\n")
         }
         None => Ok(()),
