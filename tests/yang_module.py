@@ -1,10 +1,11 @@
 #!/usr/bin/env python3
 """yang_module.py: has yanglint (Debian's package `libyang2-tools`) look at docs/schemas/once-audit.yang.
 
-The module itself must be right; the documents of examples must be data of it, and some with a fault mustn't. What
-the module imports, `ietf-ipfix-psamp` of RFC 6728, isn't in this repository: it is looked for in the folders of the
-variable YANG_MODPATH, with colons between them, and where yanglint itself looks. Where yanglint or that module isn't
-there, a line says so, and nothing is looked at. Prints last `N passed, M failed`.
+The module itself must be right; the documents of examples must be data of it, the configuration of each of their devices
+must be data of RFC 6728's module with its augmentation, and some documents with a fault mustn't. What the module imports,
+`ietf-ipfix-psamp` of RFC 6728, isn't in this repository: it is looked for in the folders of the variable YANG_MODPATH, with
+colons between them, and where yanglint itself looks. Where yanglint or that module isn't there, a line says so, and nothing
+is looked at. Prints last `N passed, M failed`.
 """
 import copy
 import glob
@@ -21,9 +22,8 @@ from verdict import told_each
 TOP = os.path.dirname(os.path.dirname(os.path.abspath(__file__)))
 MODULE = os.path.join(TOP, "docs", "schemas", "once-audit.yang")
 IMPORTED = "ietf-ipfix-psamp"
-AGGREGATION = "once-audit:aggregation"
 AGGREGATED = "~1/collectingProcess/0/once-audit:aggregation/0"
-FEATURES = ["-F", IMPORTED + ":collector,exporter"]
+FEATURES = ["-F", IMPORTED + ":*"]
 # Faults that a YANG module can tell: names twice, and names that stand for nothing.
 WRONG = [
     ("network", "/devices/2/name", '"router"'),
@@ -54,7 +54,7 @@ def lint(*words):
 
 
 def data_of(network, traffic):
-    """The documents as data of the module: each path of a class is an object there, and configurations are left out."""
+    """The documents as data of the module: each path of a class is an object there, and configurations are looked at apart."""
     network, traffic = copy.deepcopy(network), copy.deepcopy(traffic)
     for device in network["devices"]:
         device["config"] = {}
@@ -65,19 +65,11 @@ def data_of(network, traffic):
     return {"once-audit:network": network, "once-audit:traffic": traffic}
 
 
-def aggregations_of(network):
-    """The aggregations of all devices as data that augments their collecting processes."""
-    found = []
-    for device in network["devices"]:
-        for process in device["config"]["ietf-ipfix-psamp:ipfix"].get("collectingProcess", []):
-            name = "%s of %s" % (process["name"], device["name"])
-            found.append({"name": name, AGGREGATION: process.get(AGGREGATION, [])})
-    return {"ietf-ipfix-psamp:ipfix": {"collectingProcess": found}}
-
-
 def refused(folder, network, traffic):
-    """What yanglint says against the documents, or nothing; of aggregations it looks at form and types (`get`)."""
-    for kind, data in (("data", data_of(network, traffic)), ("get", aggregations_of(network))):
+    """What yanglint says against the documents, or nothing; of a device's configuration it looks at form and types (`get`),
+    since aggregations aren't configured (`config false`) and `once` needs no destination's address."""
+    configurations = [("get", device["config"]) for device in network["devices"]]
+    for kind, data in [("data", data_of(network, traffic)), *configurations]:
         path = os.path.join(folder, "data.json")
         with open(path, "w", encoding="utf-8") as file:
             json.dump(data, file)
