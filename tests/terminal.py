@@ -3,8 +3,8 @@
 
 Without words on a terminal it must print its help and not wait. With words that don't parse it must end with status 6,
 and tell last what to do (`ADVICE`), without the tip that an option is a file's name. With `--words` it must not wait for
-a pipe that it has read to its end, and it must say of a directory that it is one, and not write a link's file over one of
-a run's own.
+a pipe that it has read to its end, and it must say of a directory that it is one, not write a link's file over one of a
+run's own, and take the documents that its help shows.
 
 Prints a line for each fault, and last `N passed, M failed`. The exit status is 1 where something failed.
 """
@@ -128,6 +128,23 @@ def faults_of_directory(program):
             yield "status %d, printed %r, which doesn't begin with %r" % (run.returncode, run.stdout, wanted)
 
 
+def faults_of_help_documents(program):
+    """The documents that the help of `lint` shows must be accepted as they stand there."""
+    said = subprocess.run([program, "lint", "--help"], stdout=subprocess.PIPE, timeout=60).stdout.decode()
+    found = [text for text in said.split("\n\n") if text.startswith("  {")]
+    if len(found) != 2:
+        yield "the help has %d documents in place of 2" % len(found)
+        return
+    with tempfile.TemporaryDirectory() as folder:
+        for name, text in zip(("network", "traffic"), found):
+            with open(os.path.join(folder, name), "w", encoding="utf-8") as file:
+                file.write(text)
+        words = [program, "lint", "network", "traffic", "--words"]
+        run = subprocess.run(words, cwd=folder, stdout=subprocess.PIPE, timeout=60)
+    if run.stdout != b"ok\n":
+        yield "printed %r of the documents in the help" % run.stdout
+
+
 def faults_of_links_over_input(program):
     """A link's file may not be one that the run reads."""
     row = os.path.join(rows.ROWS, RUN_WITH_LINKS)
@@ -156,6 +173,7 @@ def cases(program):
         yield words, faults_of_words(program, words, advice)
     yield "pipe", faults_of_pipe(program)
     yield "directory", faults_of_directory(program)
+    yield "documents in the help", faults_of_help_documents(program)
     yield "links over input", faults_of_links_over_input(program)
 
 

@@ -94,7 +94,9 @@ Example:
 Files:
   NETWORK  JSON: \"devices\", \"links\", \"report\"
   TRAFFIC  JSON: \"classes\" with regions and paths
-  RUN      lines: `once-run 2`, any number of `packet` lines, steps, `end`. A step is
+  RUN      lines: `once-run 2`, any number of lines
+           `packet CLASS PATH SOURCE DESTINATION PROTOCOL SPORT DPORT TOS VERSION SOURCE6 DESTINATION6 OCTETS`
+           (`once-run 1` without VERSION and what stands behind it but OCTETS), steps, `end`. A step is
            `cross PACKET CROSSING CHOICES`, `expire cache DEVICE CACHE POSITION CHOICES`,
            `expire aggregation DEVICE PROCESS AGGREGATION POSITION CHOICES` or `arrive LINK POSITION CHOICES`
 
@@ -153,6 +155,33 @@ Example:
 Files:
   NETWORK  JSON: \"devices\" with their configurations (RFC 6728 in the JSON of RFC 7951), \"links\", \"report\"
   TRAFFIC  JSON: \"classes\" with regions and paths; may be left out
+
+A network of one meter and one collector, to begin with; a filter in place of \"selectAll\" is written
+\"filterMatch\": {\"ieName\": \"destinationTransportPort\", \"value\": \"443\"}, an export to one destination of several
+\"exportMode\": \"loadBalancing\" or \"fallback\", an aggregation by prefix, in a collecting process,
+\"once-audit:aggregation\": [{\"name\": \"by network\", \"key\": [{\"ieName\": \"sourceIPv4Prefix\", \"prefixLength\": 24}],
+\"exportingProcess\": [\"export\"]}]:
+
+  {\"devices\": [
+     {\"name\": \"router\", \"config\": {\"ietf-ipfix-psamp:ipfix\": {
+        \"observationPoint\": [{\"name\": \"uplink\", \"observationDomainId\": 1, \"ifName\": [\"eth0\"],
+                              \"direction\": \"ingress\", \"selectionProcess\": [\"all\"]}],
+        \"selectionProcess\": [{\"name\": \"all\", \"selector\": [{\"name\": \"each\", \"selectAll\": [null]}], \"cache\": \"flows\"}],
+        \"cache\": [{\"name\": \"flows\", \"exportingProcess\": [\"export\"], \"timeoutCache\": {\"cacheLayout\": {\"cacheField\": [
+           {\"name\": \"source\", \"ieName\": \"sourceIPv4Address\", \"isFlowKey\": [null]},
+           {\"name\": \"octets\", \"ieName\": \"octetDeltaCount\"}, {\"name\": \"packets\", \"ieName\": \"packetDeltaCount\"}]}}}],
+        \"exportingProcess\": [{\"name\": \"export\", \"exportMode\": \"parallel\",
+                              \"destination\": [{\"name\": \"billing\", \"tcpExporter\": {}}]}]}}},
+     {\"name\": \"host\", \"config\": {\"ietf-ipfix-psamp:ipfix\": {\"collectingProcess\": [{\"name\": \"billing\"}]}}}],
+   \"links\": [{\"device\": \"router\", \"exportingProcess\": \"export\", \"destination\": \"billing\",
+              \"toDevice\": \"host\", \"toProcess\": \"billing\"}],
+   \"report\": {\"device\": \"host\", \"collectingProcess\": \"billing\", \"key\": [{\"ieName\": \"sourceIPv4Address\"}]}}
+
+Traffic through it; a region names a value, LOW-HIGH or ADDRESS/N of each field, a class that is never to be counted has
+\"exempt\": [null]:
+
+  {\"classes\": [{\"name\": \"customers\", \"region\": {\"sourceIPv4Address\": \"10.0.0.0/8\"},
+                \"paths\": [[{\"device\": \"router\", \"interface\": \"eth0\", \"direction\": \"ingress\"}]]}]}
 
 Prints `ok` (status 0) where every command would take the document; else its first fault, `refused NUMBER PLACE`
 (status 2), PLACE a JSON Pointer (RFC 6901).
