@@ -1,8 +1,9 @@
 //! Bundles that were read from standard input, for the words behind their answers.
 
 use crate::asked::{Asked, DocumentRead, LinesAt, Question};
+use crate::telling::Words;
 use fx_audit::AUDIT_LIMIT;
-use fx_base::{Fault, Sink, put_number, put_text};
+use fx_base::{Fault, put_number, put_text};
 
 /// The line that ends each text.
 const MARK: &[u8] = b"%%\n";
@@ -95,7 +96,7 @@ fn texts_of(command: &[u8]) -> u64 {
 }
 
 /// Writes why octets are no bundle.
-pub(crate) fn put_bundle_words<S: Sink>(octets: &[u8], sink: &mut S) -> Result<(), Fault> {
+pub(crate) fn put_bundle_words(octets: &[u8], sink: &mut Words) -> Result<(), Fault> {
     if octets.is_empty() {
         return put_text(
             sink,

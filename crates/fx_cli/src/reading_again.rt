@@ -1,8 +1,9 @@
 //! Files that were read, opened once more for the words behind an answer.
 
 use crate::asked::LinesAt;
+use crate::telling::Words;
 use crate::text_again::TextAgain;
-use fx_base::{Fault, LineReader, Outside, Sink, put_text};
+use fx_base::{Fault, LineReader, Outside, put_text};
 use std::fs;
 use std::rt::Files;
 
@@ -55,7 +56,7 @@ pub(crate) fn lines_again<'a, R: AllocGlobal + Files>(
 }
 
 /// Writes that a file can't be read once more.
-pub(crate) fn put_not_again<S: Sink>(path: &str, sink: &mut S) -> Result<(), Fault> {
+pub(crate) fn put_not_again(path: &str, sink: &mut Words) -> Result<(), Fault> {
     put_text(sink, path.as_bytes())?;
     put_text(
         sink,
@@ -65,7 +66,7 @@ name that.\n",
 }
 
 /// Writes that the lines of a text can't be read once more.
-pub(crate) fn put_lines_not_again<S: Sink>(lines: LinesAt<'_>, sink: &mut S) -> Result<(), Fault> {
+pub(crate) fn put_lines_not_again(lines: LinesAt<'_>, sink: &mut Words) -> Result<(), Fault> {
     match lines {
         LinesAt::File(path) => put_not_again(path, sink),
         LinesAt::Octets(_) => Ok(()),

@@ -6,7 +6,7 @@ use crate::notes::Notes;
 use crate::reading_again::{lines_again, open_again, put_lines_not_again, put_not_again};
 use crate::words::Call;
 use fx_audit::{Answer, audit_bytes, check_bytes, confirm_bytes};
-use fx_base::{Fault, LineReader, Octets, Outside, Place, Sink, put_text, refusals};
+use fx_base::{Fault, LineReader, Octets, Outside, Place, put_text, refusals};
 use fx_search::Unwatched;
 use fx_stories::{
     put_certificate_words, put_document_words, put_lint_words, put_refutation_story, put_run_words,
@@ -60,6 +60,9 @@ const METERED: &[u8] =
     b"keys: how many keys of the report have totals, a line each. unassigned: records without the \
 report's key. skipped: frames that are no packets of IP (other), or that end before their header does (malformed).\n";
 
+/// Words that are gathered before any of them is written.
+pub(crate) type Words = Outside<Vec<u8>>;
+
 /// The words behind an answer or a refusal. Where there is no memory for them, there are none.
 pub(crate) fn words_of<R: AllocGlobal + Files>(
     rt: &R,
@@ -67,7 +70,7 @@ pub(crate) fn words_of<R: AllocGlobal + Files>(
     notes: &Notes,
     outcome: &Result<Answer, Fault>,
 ) -> Vec<u8> {
-    let mut words = Outside::new(Vec::new(rt.alloc()));
+    let mut words: Words = Outside::new(Vec::new(rt.alloc()));
     match put_words(rt, call, notes, outcome, &mut words) {
         Ok(()) => words.into_inner(),
         Err(_) => Vec::new(rt.alloc()),
@@ -75,12 +78,12 @@ pub(crate) fn words_of<R: AllocGlobal + Files>(
 }
 
 /// Writes the words behind an answer or a refusal.
-fn put_words<R: AllocGlobal + Files, S: Sink>(
+fn put_words<R: AllocGlobal + Files>(
     rt: &R,
     call: Option<&Call>,
     notes: &Notes,
     outcome: &Result<Answer, Fault>,
-    sink: &mut S,
+    sink: &mut Words,
 ) -> Result<(), Fault> {
     let question = question_of(call, notes);
     match outcome {
@@ -100,7 +103,7 @@ fn put_words<R: AllocGlobal + Files, S: Sink>(
 }
 
 /// Writes why what standard input has is no bundle.
-fn put_no_bundle_words<S: Sink>(notes: &Notes, fault: &Fault, sink: &mut S) -> Result<(), Fault> {
+fn put_no_bundle_words(notes: &Notes, fault: &Fault, sink: &mut Words) -> Result<(), Fault> {
     match (fault.number, notes.bundle.octets()) {
         (refusals::SCHEDULE_OR_BUNDLE, Some(octets)) => put_bundle_words(octets, sink),
         _ => Ok(()),
@@ -108,11 +111,11 @@ fn put_no_bundle_words<S: Sink>(notes: &Notes, fault: &Fault, sink: &mut S) -> R
 }
 
 /// Writes the words behind an answer.
-fn put_answer_words<R: AllocGlobal + Files, S: Sink>(
+fn put_answer_words<R: AllocGlobal + Files>(
     rt: &R,
     question: &Question<'_>,
     answer: Answer,
-    sink: &mut S,
+    sink: &mut Words,
 ) -> Result<(), Fault> {
     match answer {
         Answer::Yes => put_yes_words(rt, question, sink),
@@ -122,10 +125,10 @@ fn put_answer_words<R: AllocGlobal + Files, S: Sink>(
 }
 
 /// Writes what an answer of yes says.
-fn put_yes_words<R: AllocGlobal + Files, S: Sink>(
+fn put_yes_words<R: AllocGlobal + Files>(
     rt: &R,
     question: &Question<'_>,
-    sink: &mut S,
+    sink: &mut Words,
 ) -> Result<(), Fault> {
     match question.asked {
         Asked::Check(_) | Asked::Audit(_) => {
@@ -144,11 +147,7 @@ fn put_yes_words<R: AllocGlobal + Files, S: Sink>(
 }
 
 /// Writes what is read in silence in the documents.
-fn put_silent_words<S: Sink>(
-    alloc: Global,
-    question: &Question<'_>,
-    sink: &mut S,
-) -> Result<(), Fault> {
+fn put_silent_words(alloc: Global, question: &Question<'_>, sink: &mut Words) -> Result<(), Fault> {
     let network = question.network.and_then(|network| network.octets);
     let traffic = question.traffic.and_then(|traffic| traffic.octets);
     match network {
@@ -158,10 +157,10 @@ fn put_silent_words<S: Sink>(
 }
 
 /// Writes what an answer of no says: a refutation's run, or what is wrong with a certificate or a refutation.
-fn put_no_words<R: AllocGlobal + Files, S: Sink>(
+fn put_no_words<R: AllocGlobal + Files>(
     rt: &R,
     question: &Question<'_>,
-    sink: &mut S,
+    sink: &mut Words,
 ) -> Result<(), Fault> {
     match question.asked {
         Asked::Explain => put_text(
@@ -182,11 +181,11 @@ fn both_octets<'a>(question: &Question<'a>) -> (Octets<'a>, Octets<'a>) {
 }
 
 /// Writes the story of the refutation that an audit has found, which is searched for once more.
-fn put_found_story<S: Sink>(
+fn put_found_story(
     alloc: Global,
     limit: u64,
     question: &Question<'_>,
-    sink: &mut S,
+    sink: &mut Words,
 ) -> Result<(), Fault> {
     let mut text = Outside::new(Vec::new(alloc));
     let (mut network, mut traffic) = both_octets(question);
@@ -207,11 +206,11 @@ fn put_found_story<S: Sink>(
 }
 
 /// Writes what is wrong with a certificate that was denied: it is checked once more.
-fn put_denied_certificate<R: AllocGlobal + Files, S: Sink>(
+fn put_denied_certificate<R: AllocGlobal + Files>(
     rt: &R,
     certificate: LinesAt<'_>,
     question: &Question<'_>,
-    sink: &mut S,
+    sink: &mut Words,
 ) -> Result<(), Fault> {
     let Some(mut lines) = lines_again(rt, certificate)? else {
         put_lines_not_again(certificate, sink)?;
@@ -234,11 +233,11 @@ fn put_denied_certificate<R: AllocGlobal + Files, S: Sink>(
 }
 
 /// Writes what is wrong with a refutation that was denied: it is confirmed once more.
-fn put_denied_refutation<R: AllocGlobal + Files, S: Sink>(
+fn put_denied_refutation<R: AllocGlobal + Files>(
     rt: &R,
     refutation: LinesAt<'_>,
     question: &Question<'_>,
-    sink: &mut S,
+    sink: &mut Words,
 ) -> Result<(), Fault> {
     let Some(mut lines) = lines_again(rt, refutation)? else {
         put_lines_not_again(refutation, sink)?;
@@ -261,11 +260,11 @@ fn put_denied_refutation<R: AllocGlobal + Files, S: Sink>(
 }
 
 /// Writes what a refusal is about: a place of a document, a line or a step of a text, or what stands in a stream.
-fn put_refused_words<R: AllocGlobal + Files, S: Sink>(
+fn put_refused_words<R: AllocGlobal + Files>(
     rt: &R,
     question: &Question<'_>,
     fault: &Fault,
-    sink: &mut S,
+    sink: &mut Words,
 ) -> Result<(), Fault> {
     // A line that is too long can't be told, and a failed read is no place.
     if fault.number >= refusals::WANT_OF_MEMORY {
@@ -288,12 +287,12 @@ fn put_refused_words<R: AllocGlobal + Files, S: Sink>(
 
 /// Writes what is wrong with the text of an answer that isn't drawn: the line of a certificate, or the step of a
 /// refutation.
-fn put_undrawn_words<R: AllocGlobal + Files, S: Sink>(
+fn put_undrawn_words<R: AllocGlobal + Files>(
     rt: &R,
     answer: LinesAt<'_>,
     question: &Question<'_>,
     fault: &Fault,
-    sink: &mut S,
+    sink: &mut Words,
 ) -> Result<(), Fault> {
     if fault.number < refusals::REFUTATION_FIRST {
         return put_line_words(rt, answer, question, fault, sink);
@@ -305,11 +304,11 @@ fn put_undrawn_words<R: AllocGlobal + Files, S: Sink>(
 }
 
 /// Writes what is wrong with a line of totals that aren't summed.
-fn put_unsummed_words<R: AllocGlobal + Files, S: Sink>(
+fn put_unsummed_words<R: AllocGlobal + Files>(
     rt: &R,
     totals: LinesAt<'_>,
     fault: &Fault,
-    sink: &mut S,
+    sink: &mut Words,
 ) -> Result<(), Fault> {
     match lines_again(rt, totals)? {
         Some(mut lines) => put_totals_words(rt.alloc(), &mut lines, fault, sink),
@@ -318,11 +317,11 @@ fn put_unsummed_words<R: AllocGlobal + Files, S: Sink>(
 }
 
 /// Writes which document a refusal is about, and what stands there.
-fn put_document_place<S: Sink>(
+fn put_document_place(
     alloc: Global,
     question: &Question<'_>,
     fault: &Fault,
-    sink: &mut S,
+    sink: &mut Words,
 ) -> Result<(), Fault> {
     let Some(network) = question.network else {
         return Ok(());
@@ -347,12 +346,12 @@ fn is_directory<R: Files>(rt: &R, path: &str) -> bool {
 
 /// Writes which file couldn't be opened, read, made or written, or has too long a line, and why it couldn't be opened,
 /// made or read.
-fn put_file_words<R: Files, S: Sink>(
+fn put_file_words<R: Files>(
     rt: &R,
     call: Option<&Call>,
     notes: &Notes,
     fault: &Fault,
-    sink: &mut S,
+    sink: &mut Words,
 ) -> Result<(), Fault> {
     let file = match (fault.number, notes.failed_file.told()) {
         (refusals::FAILED_READ | refusals::FAILED_WRITE, Some(file)) => Some(file),
@@ -404,12 +403,12 @@ fn file_of_lines(call: &Call) -> Option<&str> {
 }
 
 /// Writes what the line of a certificate is about.
-fn put_line_words<R: AllocGlobal + Files, S: Sink>(
+fn put_line_words<R: AllocGlobal + Files>(
     rt: &R,
     certificate: LinesAt<'_>,
     question: &Question<'_>,
     fault: &Fault,
-    sink: &mut S,
+    sink: &mut Words,
 ) -> Result<(), Fault> {
     let Some((network, traffic)) = question.both() else {
         return Ok(());
@@ -423,12 +422,12 @@ fn put_line_words<R: AllocGlobal + Files, S: Sink>(
 }
 
 /// Writes what the step of a run, or of a refutation, is about.
-fn put_step_words<R: AllocGlobal + Files, S: Sink>(
+fn put_step_words<R: AllocGlobal + Files>(
     rt: &R,
     run: LinesAt<'_>,
     question: &Question<'_>,
     fault: &Fault,
-    sink: &mut S,
+    sink: &mut Words,
 ) -> Result<(), Fault> {
     let Some((network, traffic)) = question.both() else {
         return Ok(());
@@ -440,13 +439,13 @@ fn put_step_words<R: AllocGlobal + Files, S: Sink>(
 }
 
 /// Writes what the refusal of a run over a capture is about: the line of its schedule, or the packet of the capture.
-fn put_metering_words<R: AllocGlobal + Files, S: Sink>(
+fn put_metering_words<R: AllocGlobal + Files>(
     rt: &R,
     capture: &str,
     schedule: &str,
     question: &Question<'_>,
     fault: &Fault,
-    sink: &mut S,
+    sink: &mut Words,
 ) -> Result<(), Fault> {
     let lines = LinesAt::File(schedule);
     match fault.number {
@@ -458,13 +457,13 @@ fn put_metering_words<R: AllocGlobal + Files, S: Sink>(
 }
 
 /// Writes which packet of a capture isn't in its class, and why.
-fn put_packet_words<R: AllocGlobal + Files, S: Sink>(
+fn put_packet_words<R: AllocGlobal + Files>(
     rt: &R,
     capture: &str,
     schedule: LinesAt<'_>,
     question: &Question<'_>,
     fault: &Fault,
-    sink: &mut S,
+    sink: &mut Words,
 ) -> Result<(), Fault> {
     let Some((network, traffic)) = question.both() else {
         return Ok(());
@@ -489,11 +488,11 @@ fn put_packet_words<R: AllocGlobal + Files, S: Sink>(
 }
 
 /// Writes which message of a stream is refused, and what stands there.
-fn put_message_words<R: AllocGlobal + Files, S: Sink>(
+fn put_message_words<R: AllocGlobal + Files>(
     rt: &R,
     stream: &str,
     fault: &Fault,
-    sink: &mut S,
+    sink: &mut Words,
 ) -> Result<(), Fault> {
     match open_again(rt, stream) {
         Some(mut file) => put_stream_words(rt.alloc(), &mut file, fault, sink),
@@ -502,11 +501,11 @@ fn put_message_words<R: AllocGlobal + Files, S: Sink>(
 }
 
 /// Writes the story of a refutation.
-fn put_story<R: AllocGlobal + Files, S: Sink>(
+fn put_story<R: AllocGlobal + Files>(
     rt: &R,
     refutation: LinesAt<'_>,
     question: &Question<'_>,
-    sink: &mut S,
+    sink: &mut Words,
 ) -> Result<(), Fault> {
     let Some((network, traffic)) = question.both() else {
         return Ok(());
