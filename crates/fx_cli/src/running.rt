@@ -40,6 +40,35 @@ fn answer_input<R: AllocGlobal + Input + RandomSource, S: Sink>(
     answer
 }
 
+/// Answers the bundle on standard input. Gives the exit status.
+fn finish_input<R: AllocGlobal + Input + RandomSource, S: Sink>(rt: &R, sink: &mut S) -> u8
+    ensures ended { EndsAs IsBundleText (S.taken sink.old) (S.taken sink.new)
+        (KeepsGoing (S.failed sink.old) (S.failed sink.new))
+        (HasFailedToWrite S.taken S.failed sink.new) result }
+    ensures exit { IsExitStatus result }
+{
+    let mut notes = Notes::new(rt.alloc(), false, false);
+    let answer = answer_input(rt, &mut notes, sink);
+    finish(&answer, sink)
+}
+
+/// Answers a call. Gives the exit status.
+fn finish_call<R: AllocGlobal + Clock + Eprint + Files + RandomSource, S: Sink>(
+    rt: &R,
+    call: &Call,
+    progress: bool,
+    sink: &mut S,
+) -> u8
+    ensures ended { EndsAs (IsCallText call.now) (S.taken sink.old) (S.taken sink.new)
+        (KeepsGoing (S.failed sink.old) (S.failed sink.new))
+        (HasFailedToWrite S.taken S.failed sink.new) result }
+    ensures exit { IsExitStatus result }
+{
+    let mut notes = Notes::new(rt.alloc(), false, progress);
+    let answer = answer_call(rt, call, &mut notes, sink);
+    finish(&answer, sink)
+}
+
 /// Answers words, of which the first is the program's own name: the call that they name, or, where there is no
 /// other, the bundle on standard input. Gives the exit status: with an answer's text that of the answer, with the line
 /// of a refusal that of the refusal, and 5 where a write failed.
@@ -61,16 +90,11 @@ fn answer_words<R: AllocGlobal + Clock + Eprint + Files + Input + RandomSource, 
         → IsWordsStatus (map string_bytes words.now) (S.failed sink.new) result }
     ensures exit { IsExitStatus result }
 {
-    let mut notes = Notes::new(rt.alloc(), false, progress);
     if words.len() < 2 {
-        let answer = answer_input(rt, &mut notes, sink);
-        return finish(&answer, sink);
+        return finish_input(rt, sink);
     }
     match read_words(rt.alloc(), words) {
-        Ok(call) => {
-            let answer = answer_call(rt, &call, &mut notes, sink);
-            finish(&answer, sink)
-        }
+        Ok(call) => finish_call(rt, &call, progress, sink),
         Err(error) => finish_words(rt.alloc(), &error, sink),
     }
 }

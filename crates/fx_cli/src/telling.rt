@@ -6,7 +6,7 @@ use crate::notes::Notes;
 use crate::reading_again::{lines_again, open_again, put_lines_not_again, put_not_again};
 use crate::words::Call;
 use fx_audit::{Answer, audit_bytes, check_bytes, confirm_bytes};
-use fx_base::{Fault, LineReader, Octets, Outside, Place, put_text, refusals};
+use fx_base::{Fault, LineReader, Octets, Outside, Place, Source, put_text, refusals};
 use fx_search::Unwatched;
 use fx_stories::{
     put_certificate_words, put_document_words, put_lint_words, put_refutation_story, put_run_words,
@@ -205,54 +205,64 @@ fn put_found_story(
     put_text(sink, TO_MEND)
 }
 
-/// Writes what is wrong with a certificate that was denied: it is checked once more.
+/// Why a certificate was denied: it is checked once more. None where it isn't any more.
+fn check_again<C: Source>(
+    alloc: Global,
+    question: &Question<'_>,
+    mut lines: LineReader<C>,
+) -> Result<Option<Fault>, Fault> {
+    let mut text = Outside::new(Vec::new(alloc));
+    let (mut network, mut traffic) = both_octets(question);
+    check_bytes(alloc, &mut network, &mut traffic, &mut lines, &mut text)?;
+    Ok(refusal_said(text.into_inner().as_slice()))
+}
+
+/// Why a refutation was denied: it is confirmed once more. None where it isn't any more.
+fn confirm_again<C: Source>(
+    alloc: Global,
+    question: &Question<'_>,
+    mut lines: LineReader<C>,
+) -> Result<Option<Fault>, Fault> {
+    let mut text = Outside::new(Vec::new(alloc));
+    let (mut network, mut traffic) = both_octets(question);
+    confirm_bytes(alloc, &mut network, &mut traffic, &mut lines, &mut text)?;
+    Ok(refusal_said(text.into_inner().as_slice()))
+}
+
+/// Writes that a text can't be read once more, and how to know all the same what its denial means.
+fn put_unread_denial(lines: LinesAt<'_>, sink: &mut Words) -> Result<(), Fault> {
+    put_lines_not_again(lines, sink)?;
+    put_text(sink, TO_LOOK_UP)
+}
+
+/// Writes what is wrong with a certificate that was denied.
 fn put_denied_certificate<R: AllocGlobal + Files>(
     rt: &R,
     certificate: LinesAt<'_>,
     question: &Question<'_>,
     sink: &mut Words,
 ) -> Result<(), Fault> {
-    let Some(mut lines) = lines_again(rt, certificate)? else {
-        put_lines_not_again(certificate, sink)?;
-        return put_text(sink, TO_LOOK_UP);
+    let Some(lines) = lines_again(rt, certificate)? else {
+        return put_unread_denial(certificate, sink);
     };
-    let mut text = Outside::new(Vec::new(rt.alloc()));
-    let (mut network, mut traffic) = both_octets(question);
-    check_bytes(
-        rt.alloc(),
-        &mut network,
-        &mut traffic,
-        &mut lines,
-        &mut text,
-    )?;
-    let Some(fault) = refusal_said(text.into_inner().as_slice()) else {
+    let Some(fault) = check_again(rt.alloc(), question, lines)? else {
         return Ok(());
     };
     put_line_words(rt, certificate, question, &fault, sink)?;
     put_reason(sink, fault.number)
 }
 
-/// Writes what is wrong with a refutation that was denied: it is confirmed once more.
+/// Writes what is wrong with a refutation that was denied.
 fn put_denied_refutation<R: AllocGlobal + Files>(
     rt: &R,
     refutation: LinesAt<'_>,
     question: &Question<'_>,
     sink: &mut Words,
 ) -> Result<(), Fault> {
-    let Some(mut lines) = lines_again(rt, refutation)? else {
-        put_lines_not_again(refutation, sink)?;
-        return put_text(sink, TO_LOOK_UP);
+    let Some(lines) = lines_again(rt, refutation)? else {
+        return put_unread_denial(refutation, sink);
     };
-    let mut text = Outside::new(Vec::new(rt.alloc()));
-    let (mut network, mut traffic) = both_octets(question);
-    confirm_bytes(
-        rt.alloc(),
-        &mut network,
-        &mut traffic,
-        &mut lines,
-        &mut text,
-    )?;
-    let Some(fault) = refusal_said(text.into_inner().as_slice()) else {
+    let Some(fault) = confirm_again(rt.alloc(), question, lines)? else {
         return Ok(());
     };
     put_step_words(rt, refutation, question, &fault, sink)?;
