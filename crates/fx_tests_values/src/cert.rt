@@ -1,9 +1,10 @@
 //! Lines of certificates read and written.
+use crate::answers::{ends, is_refused};
 use fx_base::{Fault, Line, Room};
 use fx_cert::{Item, Version, one_text, put_item, read_item};
 use fx_elements::Axis;
-use std::test::Fail;
 
+/// The item that a line says.
 fn read(text: &[u8]) -> Result<Item, Fault> {
     read_item(&Line {
         bytes: text,
@@ -12,61 +13,72 @@ fn read(text: &[u8]) -> Result<Item, Fault> {
     })
 }
 
-fn is_refused(text: &[u8]) -> bool {
-    read(text) == Err(Fault::at_line(402, 7))
+/// Whether an item that is read is this one.
+fn is_item(found: Result<Item, Fault>, item: Item) -> bool {
+    match found {
+        Ok(found) => found == item,
+        Err(_) => false,
+    }
 }
 
 /// Whether this text is read as the item, and the item is written as the text and a line feed.
-fn is_spelled(text: &str, item: Item) -> Result<bool, Fault> {
+fn is_spelled(text: &str, item: Item) -> bool {
     let mut octets = [0u8; 64];
     let mut room = Room::new(&mut octets);
-    put_item(&mut room, &item)?;
-    let is_written = match room.octets() {
-        [line @ .., b'\n'] => line == text.as_bytes(),
+    let is_read = is_item(read(text.as_bytes()), item) & ends(put_item(&mut room, &item), 0);
+    match room.octets() {
+        [line @ .., b'\n'] => is_read & (line == text.as_bytes()),
         _ => false,
-    };
-    Ok(is_written && read(text.as_bytes())? == item)
+    }
 }
 
+/// Lines, and the items that they say.
+const ITEMS: [(&str, Item); 7] = [
+    ("once-certificate 1", Item::Header(Version::One)),
+    ("once-certificate 2", Item::Header(Version::Two)),
+    ("end", Item::End),
+    ("class 1 path 12", Item::Class { class: 1, path: 12 }),
+    (
+        "S source 167772161",
+        Item::Split {
+            axis: Axis::Source,
+            at: 167772161,
+        },
+    ),
+    (
+        "L 0 18446744073709551615 3",
+        Item::Leaf {
+            crossing: 0,
+            point: 18446744073709551615,
+            process: 3,
+        },
+    ),
+    ("N", Item::Never),
+];
+
 #[test]
-fn reads_and_writes(rt: HostRuntime) -> Result<(), Fail> {
+fn reads_and_writes(rt: HostRuntime) {
     one_text();
-    let class = Item::Class { class: 1, path: 12 };
-    let split = Item::Split {
-        axis: Axis::Source,
-        at: 167772161,
-    };
-    let leaf = Item::Leaf {
-        crossing: 0,
-        point: 18446744073709551615,
-        process: 3,
-    };
-    for (text, item) in [
-        ("once-certificate 1", Item::Header(Version::One)),
-        ("once-certificate 2", Item::Header(Version::Two)),
-        ("end", Item::End),
-        ("class 1 path 12", class),
-        ("S source 167772161", split),
-        ("L 0 18446744073709551615 3", leaf),
-        ("N", Item::Never),
-    ] {
-        assert!(rt; is_spelled(text, item)?);
+    for (text, item) in &ITEMS {
+        assert!(rt; is_spelled(*text, *item));
     }
-    Ok(())
 }
+
+/// Lines that say no item.
+const REFUSED: [&str; 8] = [
+    "class 01 path 1",
+    "once-certificate 3",
+    "once-certificate 02",
+    "N ",
+    "N 1 1 1",
+    "S source 4294967296",
+    "L 1 18446744073709551616 1",
+    "L 1  1 1",
+];
 
 #[test]
 fn refuses(rt: HostRuntime) {
-    for text in [
-        "class 01 path 1",
-        "once-certificate 3",
-        "once-certificate 02",
-        "N ",
-        "N 1 1 1",
-        "S source 4294967296",
-        "L 1 18446744073709551616 1",
-        "L 1  1 1",
-    ] {
-        assert!(rt; is_refused(text.as_bytes()));
+    for text in &REFUSED {
+        assert!(rt; is_refused(read(text.as_bytes()), &Fault::at_line(402, 7)));
     }
 }

@@ -1,12 +1,12 @@
 //! Captures: frames that are lent, passed over and refused, at each cut and each failing read.
 ghost use Rattle.std.specs.Prelude.{false, Some};
 
+use crate::answers::{ends, is_refused};
 use crate::packets::{TCP, capture_of};
 use fx_base::{Fault, Fuse, Octets, Source};
 use fx_elements::Axis;
 use fx_pcap::{Capture, Frame, headers_one_by_one, records_by_cases};
 use std::alloc::Global;
-use std::test::Fail;
 
 /// Ethernet, little-endian, nanoseconds: a tagged packet, a later fragment, a packet without ports,
 /// and a record that is cut.
@@ -51,22 +51,35 @@ impl Source for Drops<'_> {
 }
 
 /// What a frame says: protocol, ports, class of service, octets and second.
-fn said(frame: &Frame<'_>) -> ([u128; 4], u32, u32) {
+type Said = ([u128; 4], u32, u32);
+
+/// Whether a frame says this.
+fn says(frame: &Frame<'_>, said: &Said) -> bool {
     let fields = [
         frame.fields.get(Axis::Protocol),
         frame.fields.get(Axis::SourcePort),
         frame.fields.get(Axis::DestinationPort),
         frame.fields.get(Axis::ClassOfService),
     ];
-    (fields, frame.octets, frame.second)
+    fields == said.0 && frame.octets == said.1 && frame.second == said.2
 }
 
-/// What the next frame says.
-fn next<S: Source>(capture: &mut Capture<S>) -> Result<Option<([u128; 4], u32, u32)>, Fault> {
-    match capture.next_packet()? {
-        Some(frame) => Ok(Some(said(&frame))),
-        None => Ok(None),
+/// Whether a frame is lent, and says this.
+fn is_lent(lent: Result<Option<Frame<'_>>, Fault>, said: &Said) -> bool {
+    match lent {
+        Ok(Some(frame)) => says(&frame, said),
+        Ok(None) => false,
+        Err(_fault) => false,
     }
+}
+
+/// Whether a capture lends these frames next.
+fn lends<S: Source>(capture: &mut Capture<S>, frames: &[Said]) -> bool {
+    let mut all = true;
+    for said in frames {
+        all &= is_lent(capture.next_packet(), said);
+    }
+    all
 }
 
 /// How many frames there are, and the number of the fault at which they end; 0 where they don't.
@@ -81,78 +94,86 @@ fn count<S: Source>(capture: &mut Capture<S>) -> (u32, u16) {
     (1000, 0)
 }
 
-/// Whether a reader's answer is this fault.
-fn is_refused<T: Drop>(answer: Result<T, Fault>, fault: &Fault) -> bool {
-    match answer {
-        Ok(_) => false,
-        Err(found) => found == *fault,
+/// Whether a capture lends these frames, and is refused with this fault from then on.
+fn fails_behind<S: Source>(alloc: Global, source: S, frames: &[Said], fault: &Fault) -> bool {
+    let Ok(mut capture) = Capture::new(alloc, source) else {
+        return false;
+    };
+    lends(&mut capture, frames)
+        & is_refused(capture.next_packet(), fault)
+        & is_refused(capture.next_packet(), fault)
+        & is_refused(capture.advance(), fault)
+}
+
+const FRAMES: [Said; 3] = [
+    ([6, 1000, 443, 0], 40, 1),
+    ([17, 0, 0, 0], 520, 2),
+    ([1, 0, 0, 0], 84, 3),
+];
+
+#[test]
+fn lends_frames(rt: HostRuntime) {
+    let source = Octets::new(&CAPTURE);
+    assert!(rt; fails_behind(rt.alloc(), source, &FRAMES, &Fault::at_octet(703, 182)));
+}
+
+/// Whether the next frame has these octets, source and destination.
+fn lends_octets<S: Source>(
+    capture: &mut Capture<S>,
+    octets: &[u8],
+    source: u128,
+    destination: u128,
+) -> bool {
+    if !capture.advance().unwrap_or(false) {
+        return false;
     }
+    let frame = capture.frame();
+    frame.captured == octets
+        && frame.fields.get(Axis::Source) == source
+        && frame.fields.get(Axis::Destination) == destination
 }
 
 #[test]
-fn lends_frames(rt: HostRuntime) -> Result<(), Fail> {
-    let mut capture = Capture::new(rt.alloc(), Octets::new(&CAPTURE))?;
-    for frame in [
-        ([6, 1000, 443, 0], 40, 1),
-        ([17, 0, 0, 0], 520, 2),
-        ([1, 0, 0, 0], 84, 3),
-    ] {
-        assert!(rt; next(&mut capture)? == Some(frame));
-    }
-    for _ in 0..2u8 {
-        assert!(rt; is_refused(next(&mut capture), &Fault::at_octet(703, 182)));
-    }
-    Ok(())
+fn lends_the_buffer(rt: HostRuntime) {
+    let mut capture = Capture::new(rt.alloc(), Octets::new(&CAPTURE)).expect(&rt, "a capture");
+    assert!(rt; lends_octets(&mut capture, &CAPTURE[40..82], 0x0a00_0001, 0xc000_0201));
 }
 
-/// The next frame's octets, source and destination.
-fn lent<S: Source>(capture: &mut Capture<S>) -> Result<Option<(&[u8], u128, u128)>, Fault> {
-    if !capture.advance()? {
-        return Ok(None);
-    }
-    let Frame {
-        fields,
-        captured,
-        ..
-    } = capture.frame();
-    Ok(Some((
-        captured,
-        fields.get(Axis::Source),
-        fields.get(Axis::Destination),
-    )))
-}
-
-#[test]
-fn lends_the_buffer(rt: HostRuntime) -> Result<(), Fail> {
-    let mut capture = Capture::new(rt.alloc(), Octets::new(&CAPTURE))?;
-    let frame = lent(&mut capture)?.ok_or("a frame")?;
-    assert!(rt; frame == (&CAPTURE[40..82], 0x0a00_0001, 0xc000_0201));
-    Ok(())
-}
-
-/// How many frames there are and the fault at which they end, or the fault of a file header.
-fn count_in(alloc: Global, octets: &[u8]) -> Result<(u32, u16), u16> {
-    match Capture::new(alloc, Octets::new(octets)) {
-        Ok(mut capture) => Ok(count(&mut capture)),
+/// How many frames there are and the fault at which they end, twice, or the fault of a file header.
+fn counts_in<S: Source>(alloc: Global, source: S) -> Result<[(u32, u16); 2], u16> {
+    match Capture::new(alloc, source) {
+        Ok(mut capture) => Ok([count(&mut capture), count(&mut capture)]),
         Err(fault) => Err(fault.number),
     }
+}
+
+/// How many frames the first octets of the capture have and the fault at which they end, or the
+/// fault of the file header.
+fn counts_of_cut(octets: usize) -> Result<(u32, u16), u16> {
+    match octets {
+        0..24 => Err(701),
+        24 => Ok((0, 0)),
+        25..82 => Ok((0, 703)),
+        82 => Ok((1, 0)),
+        83..132 => Ok((1, 703)),
+        132 => Ok((2, 0)),
+        133..182 => Ok((2, 703)),
+        182 => Ok((3, 0)),
+        _ => Ok((3, 703)),
+    }
+}
+
+/// The same, counted twice.
+fn twice(counts: Result<(u32, u16), u16>) -> Result<[(u32, u16); 2], u16> {
+    let (n, number) = counts?;
+    Ok([(n, number), (0, number)])
 }
 
 #[test]
 fn reads_every_cut(rt: HostRuntime) {
     for n in 0..=201usize {
-        let wanted = match n {
-            0..24 => Err(701),
-            24 => Ok((0, 0)),
-            25..82 => Ok((0, 703)),
-            82 => Ok((1, 0)),
-            83..132 => Ok((1, 703)),
-            132 => Ok((2, 0)),
-            133..182 => Ok((2, 703)),
-            182 => Ok((3, 0)),
-            _ => Ok((3, 703)),
-        };
-        assert!(rt; count_in(rt.alloc(), &CAPTURE[..n]) == wanted);
+        let found = counts_in(rt.alloc(), Octets::new(&CAPTURE[..n]));
+        assert!(rt; found == twice(counts_of_cut(n)));
     }
 }
 
@@ -162,9 +183,11 @@ fn is_other(alloc: Global, octets: &[u8], fault: &Fault) -> bool {
 }
 
 /// Whether a capture of the packet with this magic and link type is refused with this fault.
-fn is_other_link(alloc: Global, magic: u32, link: u8, fault: &Fault) -> Result<bool, Fault> {
-    let octets = capture_of(alloc, true, magic, link, &TCP)?;
-    Ok(is_other(alloc, octets.as_slice(), fault))
+fn is_other_link(alloc: Global, magic: u32, link: u8, fault: &Fault) -> bool {
+    match capture_of(alloc, true, magic, link, &TCP) {
+        Ok(octets) => is_other(alloc, octets.as_slice(), fault),
+        Err(_) => false,
+    }
 }
 
 /// A file header of version 3, and the magic of the next format.
@@ -176,14 +199,18 @@ const OTHERS: [&[u8]; 2] = [
 ];
 
 #[test]
-fn refuses_other_captures(rt: HostRuntime) -> Result<(), Fail> {
-    let first = Fault::at_octet(701, 0);
-    for octets in OTHERS {
-        assert!(rt; is_other(rt.alloc(), octets, &first));
+fn refuses_other_captures(rt: HostRuntime) {
+    for octets in &OTHERS {
+        assert!(rt; is_other(rt.alloc(), *octets, &Fault::at_octet(701, 0)));
     }
-    assert!(rt; is_other_link(rt.alloc(), 0x0a0d_0d0a, 1, &first)?);
-    assert!(rt; is_other_link(rt.alloc(), 0xa1b2_c3d4, 102, &Fault::bare(702))?);
-    Ok(())
+}
+
+#[test]
+fn refuses_other_magics_and_links(rt: HostRuntime) {
+    assert!(rt;
+        is_other_link(rt.alloc(), 0x0a0d_0d0a, 1, &Fault::at_octet(701, 0))
+            & is_other_link(rt.alloc(), 0xa1b2_c3d4, 102, &Fault::bare(702))
+    );
 }
 
 /// A raw capture up to the header of a record that is too long.
@@ -193,65 +220,43 @@ const TOO_LONG: [u8; 40] = [
 ];
 
 #[test]
-fn refuses_too_long_records_first(rt: HostRuntime) -> Result<(), Fail> {
-    let mut capture = Capture::new(rt.alloc(), Octets::new(&TOO_LONG))?;
-    for _ in 0..2u8 {
-        assert!(rt; is_refused(capture.advance(), &Fault::at_octet(704, 24)));
-    }
-    Ok(())
+fn refuses_too_long_records_first(rt: HostRuntime) {
+    let source = Octets::new(&TOO_LONG);
+    assert!(rt; fails_behind(rt.alloc(), source, &[], &Fault::at_octet(704, 24)));
 }
 
-/// Whether a capture of the packet has its frame and no other.
-fn is_read(alloc: Global, big: bool, magic: u32) -> Result<bool, Fault> {
-    let octets = capture_of(alloc, big, magic, 101, &TCP)?;
-    let mut capture = Capture::new(alloc, Octets::new(octets.as_slice()))?;
-    let first = next(&mut capture)?;
-    let second = next(&mut capture)?;
-    Ok(first == Some(([6, 1000, 443, 184], 40, 7)) && second.is_none())
+/// What two counts of the capture give where the read of this number fails.
+const FAILING: [(u64, [(u32, u16); 2]); 2] = [(2, [(3, 901), (0, 901)]), (3, [(3, 703), (0, 703)])];
+
+#[test]
+fn fails_at_each_read(rt: HostRuntime) {
+    assert!(rt;
+        ends(
+            Capture::new(rt.alloc(), Fuse::new(Octets::new(&CAPTURE), 1)),
+            901
+        )
+    );
+    for (calls, counts) in &FAILING {
+        let found = counts_in(rt.alloc(), Fuse::new(Octets::new(&CAPTURE), *calls));
+        assert!(rt; found == Ok(*counts));
+    }
 }
 
 #[test]
-fn reads_either_order_and_magic(rt: HostRuntime) -> Result<(), Fail> {
-    for (big, magic) in [
-        (true, 0xa1b2_c3d4),
-        (true, 0xa1b2_3c4d),
-        (false, 0xa1b2_c3d4),
-        (false, 0xa1b2_3c4d),
-    ] {
-        assert!(rt; is_read(rt.alloc(), big, magic)?);
-    }
-    Ok(())
-}
-
-/// What two counts of a capture give where the read of this number fails.
-fn counts_with_fuse(alloc: Global, calls: u64) -> Result<[(u32, u16); 2], Fault> {
-    let mut capture = Capture::new(alloc, Fuse::new(Octets::new(&CAPTURE), calls))?;
-    Ok([count(&mut capture), count(&mut capture)])
-}
-
-#[test]
-fn fails_at_each_read(rt: HostRuntime) -> Result<(), Fail> {
-    assert!(rt; is_refused(counts_with_fuse(rt.alloc(), 1), &Fault::bare(901)));
-    for (calls, counts) in [(2, [(3, 901), (0, 901)]), (3, [(3, 703), (0, 703)])] {
-        assert!(rt; counts_with_fuse(rt.alloc(), calls)? == counts);
-    }
-    Ok(())
-}
-
-#[test]
-fn reads_in_pieces(rt: HostRuntime) -> Result<(), Fail> {
+fn reads_in_pieces(rt: HostRuntime) {
+    records_by_cases();
+    headers_one_by_one();
     let source = Drops {
         rest: &CAPTURE,
         calls: 0,
     };
-    let mut capture = Capture::new(rt.alloc(), source)?;
-    let first = next(&mut capture)?;
-    assert!(rt; first == Some(([6, 1000, 443, 0], 40, 1)) && count(&mut capture) == (2, 703));
+    let mut capture = Capture::new(rt.alloc(), source).expect(&rt, "a capture");
     // 67 calls that give three octets each, and one at the end
-    assert!(rt; capture.get_ref().calls == 68);
-    records_by_cases();
-    headers_one_by_one();
-    Ok(())
+    assert!(rt;
+        lends(&mut capture, &FRAMES[..1])
+            & (count(&mut capture) == (2, 703))
+            & (capture.get_ref().calls == 68)
+    );
 }
 
 /// A packet of version 6 from 2001:db8::1 to 2001:db8::2: destination options, then UDP.
@@ -277,54 +282,81 @@ const LONGEST: [u8; 40] = [
     0x20, 0x01, 0x0d, 0xb8, 0x00, 0x00, 0x00, 0x00, 0x00, 0x00, 0x00, 0x00, 0x00, 0x00, 0x00, 0x02,
 ];
 
-/// What a frame says, its version, and its addresses: of IPv4 and of IPv6.
-fn whole(frame: &Frame<'_>) -> (([u128; 4], u32, u32), u128, [u128; 4]) {
+/// What the one frame of a capture of a packet says, its version, and its addresses: of IPv4 and of IPv6.
+type Whole = (Said, u128, [u128; 4]);
+
+/// Whether a frame says this, with its version and addresses.
+fn says_whole(frame: &Frame<'_>, whole: &Whole) -> bool {
     let addresses = [
         frame.fields.get(Axis::Source),
         frame.fields.get(Axis::Destination),
         frame.fields.get(Axis::Source6),
         frame.fields.get(Axis::Destination6),
     ];
-    (said(frame), frame.fields.get(Axis::Version), addresses)
+    says(frame, &whole.0) && frame.fields.get(Axis::Version) == whole.1 && addresses == whole.2
 }
 
-/// What the first frame of a raw capture of the packet says, with its version and addresses.
-fn whole_of(
-    alloc: Global,
-    packet: &[u8],
-) -> Result<Option<(([u128; 4], u32, u32), u128, [u128; 4])>, Fault> {
-    let octets = capture_of(alloc, true, 0xa1b2_c3d4, 101, packet)?;
-    let mut capture = Capture::new(alloc, Octets::new(octets.as_slice()))?;
-    match capture.next_packet()? {
-        Some(frame) => Ok(Some(whole(&frame))),
-        None => Ok(None),
+/// Whether a capture has one frame, which says this.
+fn has_one<S: Source>(alloc: Global, source: S, whole: &Whole) -> bool {
+    let Ok(mut capture) = Capture::new(alloc, source) else {
+        return false;
+    };
+    capture.advance().unwrap_or(false)
+        & says_whole(&capture.frame(), whole)
+        & !capture.advance().unwrap_or(true)
+}
+
+/// Whether a raw capture of the packet, in either order and with this magic, has one frame, which says this.
+fn is_read(alloc: Global, big: bool, magic: u32, packet: &[u8], whole: &Whole) -> bool {
+    match capture_of(alloc, big, magic, 101, packet) {
+        Ok(octets) => has_one(alloc, Octets::new(octets.as_slice()), whole),
+        Err(_) => false,
     }
 }
+
+/// What the packet of TCP says.
+const TCP_SAYS: Whole = (
+    ([6, 1000, 443, 184], 40, 7),
+    4,
+    [0x0a00_0001, 0xc000_0201, 0, 0],
+);
+
+/// The order of captures, and their magic.
+const MAGICS: [(bool, u32); 4] = [
+    (true, 0xa1b2_c3d4),
+    (true, 0xa1b2_3c4d),
+    (false, 0xa1b2_c3d4),
+    (false, 0xa1b2_3c4d),
+];
 
 #[test]
-fn reads_either_version(rt: HostRuntime) -> Result<(), Fail> {
-    let from = 0x2001_0db8_0000_0000_0000_0000_0000_0001;
-    let to = 0x2001_0db8_0000_0000_0000_0000_0000_0002;
-    for (packet, fields, octets, version, addresses) in [
-        (
-            OPTIONS.as_slice(),
-            [17, 53, 1000, 184],
-            56,
-            6,
-            [0, 0, from, to],
-        ),
-        (&FRAGMENT, [17, 0, 0, 184], 56, 6, [0, 0, from, to]),
-        (&LONGEST, [58, 0, 0, 255], 65_575, 6, [0, 0, from, to]),
-        (
-            &TCP,
-            [6, 1000, 443, 184],
-            40,
-            4,
-            [0x0a00_0001, 0xc000_0201, 0, 0],
-        ),
-    ] {
-        let frame = whole_of(rt.alloc(), packet)?;
-        assert!(rt; frame == Some(((fields, octets, 7), version, addresses)));
+fn reads_either_order_and_magic(rt: HostRuntime) {
+    for (big, magic) in &MAGICS {
+        assert!(rt; is_read(rt.alloc(), *big, *magic, &TCP, &TCP_SAYS));
     }
-    Ok(())
+}
+
+const FROM: u128 = 0x2001_0db8_0000_0000_0000_0000_0000_0001;
+
+const TO: u128 = 0x2001_0db8_0000_0000_0000_0000_0000_0002;
+
+/// Packets, and what they say.
+const PACKETS: [(&[u8], Whole); 4] = [
+    (
+        &OPTIONS,
+        (([17, 53, 1000, 184], 56, 7), 6, [0, 0, FROM, TO]),
+    ),
+    (&FRAGMENT, (([17, 0, 0, 184], 56, 7), 6, [0, 0, FROM, TO])),
+    (
+        &LONGEST,
+        (([58, 0, 0, 255], 65_575, 7), 6, [0, 0, FROM, TO]),
+    ),
+    (&TCP, TCP_SAYS),
+];
+
+#[test]
+fn reads_either_version(rt: HostRuntime) {
+    for (packet, whole) in &PACKETS {
+        assert!(rt; is_read(rt.alloc(), true, 0xa1b2_c3d4, *packet, whole));
+    }
 }

@@ -4,7 +4,6 @@ use fx_boxes::Fields;
 use fx_elements::Axis;
 use fx_layout::{Key, Layout, Seed};
 use fx_store::{BoundedStore, FlowStore, ListStore};
-use std::test::Fail;
 
 /// The counts of one packet.
 const COUNTS: Counts = Counts {
@@ -17,20 +16,34 @@ fn seed() -> Seed {
     Seed::new(1, 2)
 }
 
-/// The key of packets from this address.
-fn from(source: u128) -> Result<Key, Fail> {
-    let layout = Layout::new().with(Axis::Source, 32).ok_or("layout")?;
-    let fields = Fields::new([source, 0, 0, 0, 0, 0, 4, 0, 0]).ok_or("fields")?;
-    Ok(layout.key_of(&fields))
+/// The key of packets from this address by so many of its bits.
+fn from(source: u32, bits: u32) -> Option<Key> {
+    let layout = Layout::new().with(Axis::Source, bits)?;
+    Some(layout.key_of(&Fields::of([u128::from(source), 0, 0, 0, 0, 0, 4, 0, 0])))
 }
 
-/// Adds one packet of ten octets from an address, and answers the address that left.
-fn add<S: FlowStore>(store: &mut S, source: u128) -> Result<Option<u128>, Fail> {
-    Ok(
-        store
-            .add(from(source)?, COUNTS)?
-            .map(|left| left.0.bits_on(Axis::Source, 32)),
-    )
+/// The address that left a store, or 0 where none did.
+fn address(left: Option<(Key, Counts)>) -> u128 {
+    match left {
+        Some((key, _)) => key.bits_on(Axis::Source, 32),
+        None => 0,
+    }
+}
+
+/// Whether this address left a store when it took something in, or none for 0.
+fn is_left(answer: Result<Option<(Key, Counts)>, Fault>, left: u128) -> bool {
+    match answer {
+        Ok(found) => address(found) == left,
+        Err(_fault) => false,
+    }
+}
+
+/// Adds one packet of ten octets from an address: whether this address left then, or none for 0.
+fn adds<S: FlowStore>(store: &mut S, source: u32, left: u128) -> bool {
+    match from(source, 32) {
+        Some(key) => is_left(store.add(key, COUNTS), left),
+        None => false,
+    }
 }
 
 /// Takes the least key out: its address and counts.
@@ -40,88 +53,99 @@ fn least<S: FlowStore>(store: &mut S) -> Option<(u128, u64, u64)> {
 }
 
 /// Adds at three keys, one of them twice, and empties the store in order: whether it held them.
-fn is_filled_and_emptied<S: FlowStore>(store: &mut S) -> Result<bool, Fail> {
-    for source in [0x0a00_0002, 0x0a00_0001, 0x0a00_0002] {
-        if add(store, source)?.is_some() {
-            return Ok(false);
-        }
-    }
-    Ok(
-        store.len() == 2
-            && least(store) == Some((0x0a00_0001, 1, 10))
-            && least(store) == Some((0x0a00_0002, 2, 20))
-            && least(store).is_none(),
-    )
+fn is_filled_and_emptied<S: FlowStore>(mut store: S) -> bool {
+    adds(&mut store, 0x0a00_0002, 0)
+        & adds(&mut store, 0x0a00_0001, 0)
+        & adds(&mut store, 0x0a00_0002, 0)
+        & (store.len() == 2)
+        & (least(&mut store) == Some((0x0a00_0001, 1, 10)))
+        & (least(&mut store) == Some((0x0a00_0002, 2, 20)))
+        & least(&mut store).is_none()
 }
 
 #[test]
-fn fills_and_empties_a_list(rt: HostRuntime) -> Result<(), Fail> {
-    assert!(rt; is_filled_and_emptied(&mut ListStore::new(rt.alloc(), seed()))?);
-    Ok(())
+fn fills_and_empties_a_list(rt: HostRuntime) {
+    assert!(rt; is_filled_and_emptied(ListStore::new(rt.alloc(), seed())));
 }
 
 #[test]
-fn fills_and_empties_a_bounded_store(rt: HostRuntime) -> Result<(), Fail> {
-    assert!(rt; is_filled_and_emptied(&mut BoundedStore::new(rt.alloc(), seed(), 2)?)?);
-    Ok(())
+fn fills_and_empties_a_bounded_store(rt: HostRuntime) {
+    let store = BoundedStore::new(rt.alloc(), seed(), 2).expect(&rt, "memory");
+    assert!(rt; is_filled_and_emptied(store));
+}
+
+/// Whether a store for two keys lets the one leave that was added to longest ago, and keeps the others.
+fn lets_leave<S: FlowStore>(mut store: S) -> bool {
+    adds(&mut store, 1, 0)
+        & adds(&mut store, 2, 0)
+        & adds(&mut store, 1, 0)
+        & adds(&mut store, 3, 2)
+        & (store.len() == 2)
+        & (least(&mut store) == Some((1, 2, 20)))
+        & (least(&mut store) == Some((3, 1, 10)))
 }
 
 #[test]
-fn lets_the_least_recently_added_to_leave(rt: HostRuntime) -> Result<(), Fail> {
-    let mut store = BoundedStore::new(rt.alloc(), seed(), 2)?;
-    for (source, left) in [(1, None), (2, None), (1, None), (3, Some(2))] {
-        assert!(rt; add(&mut store, source)? == left);
-    }
-    assert!(rt;
-        store.len() == 2
-            && least(&mut store) == Some((1, 2, 20))
-            && least(&mut store) == Some((3, 1, 10))
-    );
-    Ok(())
+fn lets_the_least_recently_added_to_leave(rt: HostRuntime) {
+    assert!(rt; lets_leave(BoundedStore::new(rt.alloc(), seed(), 2).expect(&rt, "memory")));
 }
 
-/// Adds at a key, looks for another and takes the first one out: whether it was there alone.
-fn is_taken<S: FlowStore>(store: &mut S) -> Result<bool, Fail> {
-    let left = add(store, 7)?;
-    let other = store.take(&from(8)?);
-    let taken = store.take(&from(7)?);
-    Ok(left.is_none() && other.is_none() && taken == Some(COUNTS) && store.len() == 0)
+/// Takes out what is held of an address.
+fn take<S: FlowStore>(store: &mut S, source: u32) -> Option<Counts> {
+    store.take(&from(source, 32)?)
+}
+
+/// Adds at a key, looks for another, takes the first one out and adds again: whether it was there alone.
+fn is_taken<S: FlowStore>(mut store: S) -> bool {
+    adds(&mut store, 7, 0)
+        & take(&mut store, 8).is_none()
+        & (take(&mut store, 7) == Some(COUNTS))
+        & (store.len() == 0)
+        & adds(&mut store, 8, 0)
 }
 
 #[test]
-fn takes_a_key_out(rt: HostRuntime) -> Result<(), Fail> {
-    assert!(rt; is_taken(&mut ListStore::new(rt.alloc(), seed()))?);
-    let mut bounded = BoundedStore::new(rt.alloc(), seed(), 1)?;
-    assert!(rt; is_taken(&mut bounded)? && add(&mut bounded, 8)?.is_none());
-    Ok(())
+fn takes_a_key_out_of_a_list(rt: HostRuntime) {
+    assert!(rt; is_taken(ListStore::new(rt.alloc(), seed())));
 }
 
-/// Takes the least key out: whether it is of this layout.
-fn is_least_of<S: FlowStore>(store: &mut S, layout: &Layout) -> bool {
-    match store.take_least() {
-        Some((key, _)) => key.layout().same(layout),
+#[test]
+fn takes_a_key_out_of_a_bounded_store(rt: HostRuntime) {
+    assert!(rt; is_taken(BoundedStore::new(rt.alloc(), seed(), 1).expect(&rt, "memory")));
+}
+
+/// Whether the least key of a store has one part, of eight bits.
+fn is_wide(least: Option<(Key, Counts)>) -> bool {
+    match least {
+        Some((key, _)) => key.layout().reads(Axis::Source, 8)
+            & !key.layout().reads(Axis::Source, 9),
         None => false,
     }
 }
 
-/// Adds at keys of two layouts that have the same value: whether both are held, this layout's first.
-fn are_apart<S: FlowStore>(store: &mut S, wide: &Layout) -> Result<bool, Fail> {
-    let fields = Fields::new([0x0a00_0000, 0, 0, 0, 0, 0, 4, 0, 0]).ok_or("fields")?;
-    let left = add(store, 10)?;
-    store.add(wide.key_of(&fields), COUNTS)?;
-    Ok(left.is_none() && store.len() == 2 && is_least_of(store, wide))
+/// Adds at keys of two layouts that have the same value, 10: whether both are held, that of eight bits first.
+fn are_apart<S: FlowStore>(mut store: S, wide: Key) -> bool {
+    adds(&mut store, 10, 0)
+        & is_left(store.add(wide, COUNTS), 0)
+        & (store.len() == 2)
+        & is_wide(store.take_least())
 }
 
 #[test]
-fn tells_layouts_apart(rt: HostRuntime) -> Result<(), Fail> {
-    let wide = Layout::new().with(Axis::Source, 8).ok_or("layout")?;
-    assert!(rt; are_apart(&mut ListStore::new(rt.alloc(), seed()), &wide)?);
-    Ok(())
+fn tells_layouts_apart(rt: HostRuntime) {
+    let wide = from(0x0a00_0000, 8).expect(&rt, "a key");
+    assert!(rt; are_apart(ListStore::new(rt.alloc(), seed()), wide));
+}
+
+/// Whether a store is made, and holds nothing.
+fn is_empty<S: FlowStore>(made: Result<S, Fault>) -> bool {
+    match made {
+        Ok(store) => store.len() == 0,
+        Err(_) => false,
+    }
 }
 
 #[test]
-fn makes_a_large_store(rt: HostRuntime) -> Result<(), Fault> {
-    let store = BoundedStore::new(rt.alloc(), seed(), 65_536)?;
-    assert!(rt; store.len() == 0);
-    Ok(())
+fn makes_a_large_store(rt: HostRuntime) {
+    assert!(rt; is_empty(BoundedStore::new(rt.alloc(), seed(), 65_536)));
 }

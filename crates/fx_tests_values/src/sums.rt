@@ -1,45 +1,57 @@
 //! Texts of totals added up, and the sum's own text.
-use fx_base::{Fault, Fuse, LineReader, Octets, Room};
+use crate::answers::{ends, is_refused};
+use fx_base::{Fault, Fuse, LineReader, Octets, Room, Source};
 use fx_elements::Axis;
 use fx_layout::{Layout, Seed};
 use fx_sums::{Sum, sums_of_parts, totals_texts};
 use std::alloc::Global;
-use std::test::Fail;
 
 /// By 24 bits of the source and by protocol.
-fn layout() -> Result<Layout, Fail> {
-    let layout = Layout::new().with(Axis::Source, 24).ok_or("source")?;
-    Ok(layout.with(Axis::Protocol, 8).ok_or("protocol")?)
+fn layout() -> Option<Layout> {
+    Layout::new()
+        .with(Axis::Source, 24)?
+        .with(Axis::Protocol, 8)
 }
 
 /// By version and by 32 bits of the source of IPv6.
-fn layout_of_ipv6() -> Result<Layout, Fail> {
-    let layout = Layout::new().with(Axis::Version, 8).ok_or("version")?;
-    Ok(layout.with(Axis::Source6, 32).ok_or("source")?)
+fn layout_of_ipv6() -> Option<Layout> {
+    Layout::new()
+        .with(Axis::Version, 8)?
+        .with(Axis::Source6, 32)
 }
 
-fn add(alloc: Global, sum: &mut Sum, text: &[u8]) -> Result<(), Fault> {
-    let mut lines = LineReader::new(alloc, Octets::new(text))?;
+/// Adds texts to a sum.
+fn add<S: Source>(alloc: Global, sum: &mut Sum, texts: S) -> Result<(), Fault> {
+    let mut lines = LineReader::new(alloc, texts)?;
     sum.add_texts(&mut lines)
 }
 
-fn is_text(sum: &mut Sum, text: &[u8]) -> Result<bool, Fault> {
+/// Whether a sum's text is this one.
+fn is_text(sum: &mut Sum, text: &[u8]) -> bool {
     let mut octets = [0u8; 512];
     let mut room = Room::new(&mut octets);
-    sum.sort()?;
-    sum.put_text(&mut room)?;
-    Ok(room.octets() == text)
+    match sum.sort() {
+        Ok(()) => ends(sum.put_text(&mut room), 0) & (room.octets() == text),
+        Err(_) => false,
+    }
+}
+
+/// Whether these texts come to that one.
+fn comes(alloc: Global, seed: Seed, layout: &Layout, texts: &[&[u8]], text: &[u8]) -> bool {
+    let Ok(mut sum) = Sum::new(alloc, seed, layout.copy()) else {
+        return false;
+    };
+    let mut all = true;
+    for part in texts {
+        all &= ends(add(alloc, &mut sum, Octets::new(*part)), 0);
+    }
+    all & is_text(&mut sum, text)
 }
 
 /// Whether these texts come to that one, and that one alone comes to itself.
-fn come_to(alloc: Global, layout: &Layout, texts: &[&[u8]], text: &[u8]) -> Result<bool, Fault> {
-    let mut sum = Sum::new(alloc, Seed::new(1, 2), layout.copy())?;
-    for part in texts {
-        add(alloc, &mut sum, part)?;
-    }
-    let mut again = Sum::new(alloc, Seed::new(3, 4), layout.copy())?;
-    add(alloc, &mut again, text)?;
-    Ok(is_text(&mut sum, text)? && is_text(&mut again, text)?)
+fn come_to(alloc: Global, layout: &Layout, texts: &[&[u8]], text: &[u8]) -> bool {
+    comes(alloc, Seed::new(1, 2), layout, texts, text)
+        & comes(alloc, Seed::new(3, 4), layout, &[text], text)
 }
 
 /// Of two streams.
@@ -58,57 +70,59 @@ const WHOLE: &[u8] = b"keys 0\nunassigned 0\ncomplete yes\n";
 const PART: &[u8] = b"keys 1\n10.1.1.0/24 7 packets 1 octets 1\nunassigned 0\ncomplete no\n";
 
 #[test]
-fn adds_streams_up(rt: HostRuntime) -> Result<(), Fail> {
+fn adds_streams_up(rt: HostRuntime) {
     sums_of_parts();
     totals_texts();
     let text =
         b"keys 3\n10.1.0.0/24 6 packets 7 octets 70\n10.1.1.0/24 6 packets 5 octets 311\n10.1.2.0/24 17 packets 1 octets 40\nunassigned 3\ngaps 3\nskipped 5\n";
-    let layout = layout()?;
-    assert!(rt; come_to(rt.alloc(), &layout, &[FIRST, SECOND], text)?);
-    assert!(rt; come_to(rt.alloc(), &layout, &[SECOND, FIRST], text)?);
-    Ok(())
+    let layout = layout().expect(&rt, "a layout");
+    assert!(rt;
+        come_to(rt.alloc(), &layout, &[FIRST, SECOND], text)
+            & come_to(rt.alloc(), &layout, &[SECOND, FIRST], text)
+    );
 }
 
 #[test]
-fn adds_texts_of_one_source(rt: HostRuntime) -> Result<(), Fail> {
+fn adds_texts_of_one_source(rt: HostRuntime) {
     let texts =
         b"keys 2\n10.1.1.0/24 6 packets 3 octets 300\n10.1.2.0/24 17 packets 1 octets 40\nunassigned 2\ngaps 1\nskipped 5\nkeys 0\nunassigned 4\nkeys 1\n10.1.0.0/24 6 packets 7 octets 70\nunassigned 1\ncomplete yes\nkeys 1\n10.1.0.0/24 6 packets 1 octets 1\nunassigned 0\ncomplete no\ngaps 2\nskipped 0\n";
     let text =
         b"keys 3\n10.1.0.0/24 6 packets 8 octets 71\n10.1.1.0/24 6 packets 3 octets 300\n10.1.2.0/24 17 packets 1 octets 40\nunassigned 7\ncomplete no\ngaps 3\nskipped 5\n";
-    let layout = layout()?;
-    assert!(rt; come_to(rt.alloc(), &layout, &[texts], text)?);
     let twice = b"keys 0\nunassigned 0\ncomplete yes\nkeys 0\nunassigned 0\ncomplete yes\n";
-    assert!(rt; come_to(rt.alloc(), &layout, &[twice, WHOLE], WHOLE)?);
-    Ok(())
+    let layout = layout().expect(&rt, "a layout");
+    assert!(rt;
+        come_to(rt.alloc(), &layout, &[texts], text)
+            & come_to(rt.alloc(), &layout, &[twice, WHOLE], WHOLE)
+    );
 }
 
 #[test]
-fn tells_notes_of_all_kinds(rt: HostRuntime) -> Result<(), Fail> {
+fn tells_notes_of_all_kinds(rt: HostRuntime) {
     let text =
         b"keys 3\n10.1.1.0/24 6 packets 5 octets 302\n10.1.1.0/24 7 packets 1 octets 1\n10.1.2.0/24 17 packets 1 octets 40\nunassigned 2\ncomplete no\nskipped other 8 malformed 12\ngaps 1\nskipped 5\n";
-    let layout = layout()?;
-    assert!(rt; come_to(rt.alloc(), &layout, &[RUN, WHOLE, FIRST, PART, RUN], text)?);
-    assert!(rt; come_to(rt.alloc(), &layout, &[WHOLE, WHOLE], WHOLE)?);
-    assert!(rt; come_to(rt.alloc(), &layout, &[], b"keys 0\nunassigned 0\n")?);
-    Ok(())
+    let layout = layout().expect(&rt, "a layout");
+    assert!(rt;
+        come_to(rt.alloc(), &layout, &[RUN, WHOLE, FIRST, PART, RUN], text)
+            & come_to(rt.alloc(), &layout, &[WHOLE, WHOLE], WHOLE)
+            & come_to(rt.alloc(), &layout, &[], b"keys 0\nunassigned 0\n")
+    );
 }
 
 #[test]
-fn adds_modulo_2_to_the_64(rt: HostRuntime) -> Result<(), Fail> {
+fn adds_modulo_2_to_the_64(rt: HostRuntime) {
     let most =
         b"keys 1\nall packets 18446744073709551615 octets 18446744073709551615\nunassigned 18446744073709551615\n";
     let two = b"keys 1\nall packets 2 octets 3\nunassigned 4\n";
     let text = b"keys 1\nall packets 1 octets 2\nunassigned 3\n";
-    assert!(rt; come_to(rt.alloc(), &Layout::new(), &[most, two], text)?);
-    Ok(())
+    assert!(rt; come_to(rt.alloc(), &Layout::new(), &[most, two], text));
 }
 
 #[test]
-fn adds_totals_of_ipv6(rt: HostRuntime) -> Result<(), Fail> {
+fn adds_totals_of_ipv6(rt: HostRuntime) {
     let one = b"keys 1\n6 2001:db8:0:0:0:0:0:0/32 packets 3 octets 9\nunassigned 0\n";
     let text = b"keys 1\n6 2001:db8:0:0:0:0:0:0/32 packets 6 octets 18\nunassigned 0\n";
-    assert!(rt; come_to(rt.alloc(), &layout_of_ipv6()?, &[one, one], text)?);
-    Ok(())
+    let layout = layout_of_ipv6().expect(&rt, "a layout");
+    assert!(rt; come_to(rt.alloc(), &layout, &[one, one], text));
 }
 
 /// What isn't a text of totals, and the line at which it is refused.
@@ -201,20 +215,24 @@ const REFUSED: [(&[u8], u64); 41] = [
     ),
 ];
 
-#[test]
-fn refuses_other_texts(rt: HostRuntime) -> Result<(), Fail> {
-    let layout = layout()?;
-    for (text, line) in REFUSED {
-        let mut sum = Sum::new(rt.alloc(), Seed::new(1, 2), layout.copy())?;
-        assert!(rt; add(rt.alloc(), &mut sum, text) == Err(Fault::at_line(861, line)));
-    }
-    Ok(())
+/// Adds texts to a sum that has none.
+fn add_first<S: Source>(alloc: Global, layout: &Layout, texts: S) -> Result<(), Fault> {
+    let mut sum = Sum::new(alloc, Seed::new(1, 2), layout.copy())?;
+    add(alloc, &mut sum, texts)
 }
 
 #[test]
-fn fails_where_a_read_fails(rt: HostRuntime) -> Result<(), Fail> {
-    let mut sum = Sum::new(rt.alloc(), Seed::new(1, 2), layout()?)?;
-    let mut lines = LineReader::new(rt.alloc(), Fuse::new(Octets::new(FIRST), 1))?;
-    assert!(rt; sum.add_texts(&mut lines) == Err(Fault::bare(901)));
-    Ok(())
+fn refuses_other_texts(rt: HostRuntime) {
+    let layout = layout().expect(&rt, "a layout");
+    for (text, line) in &REFUSED {
+        let answer = add_first(rt.alloc(), &layout, Octets::new(*text));
+        assert!(rt; is_refused(answer, &Fault::at_line(861, *line)));
+    }
+}
+
+#[test]
+fn fails_where_a_read_fails(rt: HostRuntime) {
+    let layout = layout().expect(&rt, "a layout");
+    let texts = Fuse::new(Octets::new(FIRST), 1);
+    assert!(rt; ends(add_first(rt.alloc(), &layout, texts), 901));
 }

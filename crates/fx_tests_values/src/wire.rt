@@ -1,4 +1,5 @@
 //! Messages read and written, with their templates and records.
+use crate::answers::ends;
 use fx_base::Room;
 use fx_elements::{Axis, Element};
 use fx_wire::{
@@ -6,7 +7,6 @@ use fx_wire::{
     TemplateKind, VARIABLE, can_have, cut_record, cut_value, message_length, messages_are_read,
     parse, put_message, read_heading, shortest_record,
 };
-use std::test::Fail;
 
 /// A template of a source address and the two counters (id 256), and a record: 10.0.0.1, 300 octets, 2 packets.
 const FIRST: [u8; 60] = [
@@ -64,29 +64,29 @@ fn refusal(octets: &[u8]) -> u16 {
     }
 }
 
+/// Messages that are refused, and their numbers.
+const REFUSED: [(&[u8], u16); 4] = [
+    (&[0, 9, 0, 16, 0, 0, 0, 0, 0, 0, 0, 0, 0, 0, 0, 0], 611),
+    (&[0, 10, 0, 15, 0, 0, 0, 0, 0, 0, 0, 0, 0, 0, 0, 0], 612),
+    (
+        &[0, 10, 0, 20, 0, 0, 0, 0, 0, 0, 0, 0, 0, 0, 0, 0, 1, 0, 0, 3],
+        613,
+    ),
+    (
+        &[0, 10, 0, 20, 0, 0, 0, 0, 0, 0, 0, 0, 0, 0, 0, 0, 0, 5, 0, 4],
+        615,
+    ),
+];
+
 #[test]
 fn refuses_in_order(rt: HostRuntime) {
-    for (octets, number) in [
-        (
-            [0, 9, 0, 16, 0, 0, 0, 0, 0, 0, 0, 0, 0, 0, 0, 0].as_slice(),
-            611,
-        ),
-        (&[0, 10, 0, 15, 0, 0, 0, 0, 0, 0, 0, 0, 0, 0, 0, 0], 612),
-        (
-            &[0, 10, 0, 20, 0, 0, 0, 0, 0, 0, 0, 0, 0, 0, 0, 0, 1, 0, 0, 3],
-            613,
-        ),
-        (
-            &[0, 10, 0, 20, 0, 0, 0, 0, 0, 0, 0, 0, 0, 0, 0, 0, 0, 5, 0, 4],
-            615,
-        ),
-    ] {
-        assert!(rt; refusal(octets) == number);
+    for (octets, number) in &REFUSED {
+        assert!(rt; refusal(*octets) == *number);
     }
 }
 
 #[test]
-fn writes_a_message(rt: HostRuntime) -> Result<(), Fail> {
+fn writes_a_message(rt: HostRuntime) {
     messages_are_read();
     let sets = [Set {
         id: 256,
@@ -94,50 +94,52 @@ fn writes_a_message(rt: HostRuntime) -> Result<(), Fail> {
     }];
     let mut room = [0u8; 64];
     let mut sink = Room::new(&mut room);
-    put_message(&mut sink, &HEADER, &sets)?;
-    assert!(rt; message_length(&sets) == Some(40) && sink.octets() == SECOND.as_slice());
-    Ok(())
+    let is_put = ends(put_message(&mut sink, &HEADER, &sets), 0);
+    assert!(rt;
+        is_put & (message_length(&sets) == Some(40)) & (sink.octets() == SECOND.as_slice())
+    );
+}
+
+/// The length of a message of one set with this content, if it has one.
+fn length_with(content: &[u8]) -> Option<u16> {
+    message_length(&[Set { id: 256, content }])
 }
 
 #[test]
-fn tells_lengths_up_to_65535(rt: HostRuntime) -> Result<(), Fail> {
-    let content = vec![in rt.alloc(); 0; 65_516]?;
-    let longest = [Set {
-        id: 256,
-        content: &content[1..],
-    }];
-    let longer = [Set {
-        id: 256,
-        content: content.as_slice(),
-    }];
-    assert!(rt; message_length(&longest) == Some(65_535) && message_length(&longer).is_none());
-    Ok(())
+fn tells_lengths_up_to_65535(rt: HostRuntime) {
+    let content = vec![in rt.alloc(); 0; 65_516].expect(&rt, "memory");
+    assert!(rt;
+        (length_with(&content[1..]) == Some(65_535)) & length_with(content.as_slice()).is_none()
+    );
 }
 
 #[test]
 fn refuses_to_write_past_the_room(rt: HostRuntime) {
     let mut room = [0u8; 15];
-    let mut sink = Room::new(&mut room);
-    assert!(rt; put_message(&mut sink, &HEADER, &[]).is_err());
+    assert!(rt; ends(put_message(&mut Room::new(&mut room), &HEADER, &[]), 902));
 }
 
-/// Whether there are three fields, the first the source address, and no octets behind them.
-fn begin_with_source(mut fields: FieldSpecifiers<'_>) -> bool {
-    let Some(Ok(first)) = fields.next() else {
-        return false;
-    };
-    first.element() == Element::OnAxis(Axis::Source)
-        && fields.next().is_some()
-        && fields.next().is_some()
-        && fields.next().is_none()
-        && fields.rest().is_empty()
+/// Whether fields are of these elements, and no octets stand behind them.
+fn are_of(mut fields: FieldSpecifiers<'_>, elements: &[Element]) -> bool {
+    let mut all = true;
+    for element in elements {
+        all &= matches!(fields.next(), Some(Ok(field)) if field.element() == *element);
+    }
+    all && fields.next().is_none() && fields.rest().is_empty()
 }
+
+/// The elements of the first message's template.
+const OF_FIRST: [Element; 3] = [
+    Element::OnAxis(Axis::Source),
+    Element::OctetDeltaCount,
+    Element::PacketDeltaCount,
+];
 
 #[test]
 fn reads_a_template(rt: HostRuntime) {
     let held = match read_heading(TemplateKind::Plain, &FIRST[20..36]) {
         Ok((TemplateHeading::Declaration(new), rest)) => {
-            new.id == 256 && begin_with_source(FieldSpecifiers::new(new.count, rest))
+            new.id == 256 && are_of(FieldSpecifiers::new(new.count, rest), &OF_FIRST)
         }
         _ => false,
     };
@@ -156,36 +158,42 @@ fn refuses_a_short_address(rt: HostRuntime) {
 /// Fields of a source address, a source prefix, its length and the version.
 const IPV6: [u8; 16] = [0, 27, 0, 16, 0, 170, 0, 16, 0, 29, 0, 1, 0, 60, 0, 1];
 
+/// The elements of those fields.
+const OF_IPV6: [Element; 4] = [
+    Element::OnAxis(Axis::Source6),
+    Element::Prefix(Axis::Source6),
+    Element::PrefixLength(Axis::Source6),
+    Element::OnAxis(Axis::Version),
+];
+
 #[test]
 fn reads_fields_of_ipv6(rt: HostRuntime) {
-    let mut fields = FieldSpecifiers::new(4, &IPV6);
-    for expected in [
-        Element::OnAxis(Axis::Source6),
-        Element::Prefix(Axis::Source6),
-        Element::PrefixLength(Axis::Source6),
-        Element::OnAxis(Axis::Version),
-    ] {
-        assert!(rt; matches!(fields.next(), Some(Ok(field)) if field.element() == expected));
-    }
-    assert!(rt; fields.next().is_none() && fields.rest().is_empty());
+    assert!(rt; are_of(FieldSpecifiers::new(4, &IPV6), &OF_IPV6));
 }
+
+/// Elements, the length that their fields have, and lengths that they don't have.
+const LENGTHS: [(Element, u16, [u16; 3]); 6] = [
+    (Element::OnAxis(Axis::Destination), 4, [3, 16, VARIABLE]),
+    (Element::OnAxis(Axis::Destination6), 16, [4, 15, VARIABLE]),
+    (Element::Prefix(Axis::Destination), 4, [3, 16, VARIABLE]),
+    (Element::Prefix(Axis::Destination6), 16, [4, 17, VARIABLE]),
+    (
+        Element::PrefixLength(Axis::Destination6),
+        1,
+        [0, 2, VARIABLE],
+    ),
+    (Element::OnAxis(Axis::Version), 1, [0, 2, VARIABLE]),
+];
 
 #[test]
 fn takes_whole_addresses_alone(rt: HostRuntime) {
-    for (element, length, others) in [
-        (Element::OnAxis(Axis::Destination), 4, [3, 16, VARIABLE]),
-        (Element::OnAxis(Axis::Destination6), 16, [4, 15, VARIABLE]),
-        (Element::Prefix(Axis::Destination), 4, [3, 16, VARIABLE]),
-        (Element::Prefix(Axis::Destination6), 16, [4, 17, VARIABLE]),
-        (
-            Element::PrefixLength(Axis::Destination6),
-            1,
-            [0, 2, VARIABLE],
-        ),
-        (Element::OnAxis(Axis::Version), 1, [0, 2, VARIABLE]),
-    ] {
-        assert!(rt; can_have(element, length));
-        assert!(rt; others.iter().all(|other| !can_have(element, *other)));
+    for (element, length, [first, second, third]) in &LENGTHS {
+        assert!(rt;
+            can_have(*element, *length)
+                & !can_have(*element, *first)
+                & !can_have(*element, *second)
+                & !can_have(*element, *third)
+        );
     }
 }
 
@@ -210,9 +218,9 @@ const RECORD: [u8; 9] = [10, 0, 0, 1, 3, b'e', b't', b'h', 9];
 fn cuts_a_record(rt: HostRuntime) {
     let behind = [9].as_slice();
     assert!(rt;
-        shortest_record(&FIELDS) == 5
-            && cut_record(&FIELDS, &RECORD) == Some(behind)
-            && cut_record(&FIELDS, &RECORD[..7]).is_none()
-            && cut_value(VARIABLE, &RECORD[4..]) == Some((b"eth".as_slice(), behind))
+        (shortest_record(&FIELDS) == 5)
+            & (cut_record(&FIELDS, &RECORD) == Some(behind))
+            & cut_record(&FIELDS, &RECORD[..7]).is_none()
+            & (cut_value(VARIABLE, &RECORD[4..]) == Some((b"eth".as_slice(), behind)))
     );
 }

@@ -1,7 +1,7 @@
 //! Refusals in words: found by their numbers, written out, and listed.
+use crate::answers::ends;
 use fx_base::{Fault, Room, Sink};
 use fx_words::{put_explanation, put_reason, put_refusal_list, refusal_of};
-use std::test::Fail;
 
 /// How many numbers have words, which are those of the number.
 fn known() -> u16 {
@@ -16,11 +16,21 @@ fn known() -> u16 {
     found
 }
 
+/// What is wrong where this number is told.
+fn wrong(number: u16) -> &'static str {
+    match refusal_of(number) {
+        Some(refusal) => refusal.wrong,
+        None => "",
+    }
+}
+
 #[test]
 fn finds_words_by_number(rt: HostRuntime) {
-    let wrong = refusal_of(411).map(|refusal| refusal.wrong);
-    assert!(rt; known() == 76 && refusal_of(203).is_none());
-    assert_eq!(rt; wrong, Some("A line stands behind the line `end`."));
+    assert!(rt;
+        (known() == 76)
+            & refusal_of(203).is_none()
+            & (wrong(411) == "A line stands behind the line `end`.")
+    );
 }
 
 /// What is written of 411, a number that has words, and of 416, one that has none.
@@ -36,23 +46,29 @@ there is memory for.
 what to do: Give the program more memory, or cut what it reads into parts.
 ";
 
+/// Whether a number was explained, if it was, or had no words.
+fn is_explained(answer: Result<bool, Fault>, known: bool) -> bool {
+    match answer {
+        Ok(found) => found == known,
+        Err(_) => false,
+    }
+}
+
 /// Explains a number that has words and one that has none, and puts the reason of a number without a
-/// section: whether the numbers were known.
-fn put_words<S: Sink>(sink: &mut S) -> Result<(bool, bool), Fault> {
-    let first = put_explanation(sink, 411)?;
-    let second = put_explanation(sink, 416)?;
-    put_reason(sink, 416)?;
-    put_reason(sink, 900)?;
-    Ok((first, second))
+/// section: whether there was room, and the first number was known alone.
+fn puts_words<S: Sink>(sink: &mut S) -> bool {
+    is_explained(put_explanation(sink, 411), true)
+        & is_explained(put_explanation(sink, 416), false)
+        & ends(put_reason(sink, 416), 0)
+        & ends(put_reason(sink, 900), 0)
 }
 
 #[test]
-fn writes_words_line_by_line(rt: HostRuntime) -> Result<(), Fail> {
+fn writes_words_line_by_line(rt: HostRuntime) {
     let mut octets = [0u8; 1024];
     let mut room = Room::new(&mut octets);
-    let told = put_words(&mut room)?;
-    assert!(rt; told == (true, false) && room.octets() == WORDS);
-    Ok(())
+    let is_put = puts_words(&mut room);
+    assert!(rt; is_put & (room.octets() == WORDS));
 }
 
 /// How many lines octets have, each of them ended.
@@ -67,28 +83,19 @@ fn lines_of(octets: &[u8]) -> u16 {
 }
 
 /// Whether the list has a line for each number, begins with the first and ends with the last.
-fn is_listed() -> Result<bool, Fault> {
+fn is_listed() -> bool {
     let mut octets = [0u8; 8192];
     let mut room = Room::new(&mut octets);
-    put_refusal_list(&mut room)?;
+    let is_put = ends(put_refusal_list(&mut room), 0);
     let list = room.octets();
-    Ok(
-        lines_of(list) == 76
-            && list.starts_with(b"101  A document is no JSON text in UTF-8.\n102  ")
-            && list.ends_with(b"\n903  A line has more than 4,096 octets.\n"),
-    )
-}
-
-/// Whether the list is refused where there is no room for it.
-fn is_refused_for_room() -> bool {
-    match put_refusal_list(&mut Room::new(&mut [0u8; 64])) {
-        Ok(()) => false,
-        Err(fault) => fault == Fault::bare(902),
-    }
+    is_put
+        & (lines_of(list) == 76)
+        & list.starts_with(b"101  A document is no JSON text in UTF-8.\n102  ")
+        & list.ends_with(b"\n903  A line has more than 4,096 octets.\n")
 }
 
 #[test]
-fn lists_all_in_order(rt: HostRuntime) -> Result<(), Fail> {
-    assert!(rt; is_listed()? && is_refused_for_room());
-    Ok(())
+fn lists_all_in_order(rt: HostRuntime) {
+    let mut octets = [0u8; 64];
+    assert!(rt; is_listed() & ends(put_refusal_list(&mut Room::new(&mut octets)), 902));
 }
