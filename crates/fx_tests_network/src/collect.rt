@@ -1,144 +1,124 @@
 //! Totals of records, and their text.
-use fx_base::{Counts, Fault, Room};
+use crate::answers::ends;
+use fx_base::{Counts, Room};
 use fx_boxes::Fields;
 use fx_collect::{Totals, put_number_line};
 use fx_elements::{AXES, Axis};
 use fx_layout::{Key, Layout, Seed};
 use fx_tables::Record;
-use std::alloc::Global;
-use std::test::Fail;
+use std::process::Abort;
 
 /// The seed of all totals here.
 fn seed() -> Seed {
     Seed::new(1, 2)
 }
 
-fn layout() -> Result<Layout, Fail> {
-    let layout = Layout::new().with(Axis::Source, 24).ok_or("source")?;
-    Ok(layout.with(Axis::Protocol, 8).ok_or("protocol")?)
+fn layout(rt: &impl Abort) -> Layout {
+    let layout = Layout::new().with(Axis::Source, 24).expect(rt, "source");
+    layout.with(Axis::Protocol, 8).expect(rt, "protocol")
 }
 
-fn key(source: u128, protocol: u128) -> Result<Key, Fail> {
-    let fields = Fields::new([source, 0, protocol, 0, 0, 0, 4, 0, 0]).ok_or("fields")?;
-    Ok(layout()?.key_of(&fields))
+fn key(rt: &impl Abort, source: u32, protocol: u8) -> Key {
+    let (source, protocol) = (u128::from(source), u128::from(protocol));
+    layout(rt).key_of(&Fields::of([source, 0, protocol, 0, 0, 0, 4, 0, 0]))
 }
 
-/// The source and the protocol of a record, or none where it is of all packets; its packets and octets.
-type Flow = (Option<(u128, u128)>, u64, u64);
-
-fn record(flow: &Flow) -> Result<Record, Fail> {
-    let key = match flow.0 {
-        Some((source, protocol)) => key(source, protocol)?,
-        None => Layout::new().key_of(&Fields::of([0; AXES])),
-    };
-    let counts = Counts {
-        packets: flow.1,
-        octets: flow.2,
-    };
-    Ok(Record { key, counts })
+/// Tallies a record of this key: whether there was memory.
+fn tallies(totals: &mut Totals, key: Key, packets: u64, octets: u64) -> bool {
+    let counts = Counts { packets, octets };
+    ends(totals.tally(&Record { key, counts }), 0)
 }
 
-fn tally(totals: &mut Totals, flows: &[Flow]) -> Result<(), Fail> {
-    for flow in flows {
-        let tallied = totals.tally(&record(flow)?);
-        tallied?;
-    }
-    Ok(())
+/// The key of all packets.
+fn key_of_all() -> Key {
+    Layout::new().key_of(&Fields::of([0; AXES]))
 }
 
-/// What is counted under a key.
-fn counts_of(totals: &Totals, source: u128, protocol: u128) -> Result<Option<Counts>, Fail> {
-    let key = key(source, protocol)?;
-    Ok(totals.get(&key))
-}
-
-fn report(totals: &mut Totals, room: &mut Room<'_>) -> Result<(), Fault> {
-    totals.sort()?;
-    totals.put_report(room)
-}
-
-fn is_text(totals: &mut Totals, text: &[u8]) -> Result<bool, Fail> {
+/// Whether what is told of totals is this.
+fn is_text(totals: &mut Totals, text: &[u8]) -> bool {
     let mut octets = [0u8; 256];
     let mut room = Room::new(&mut octets);
-    report(totals, &mut room)?;
-    Ok(room.octets() == text)
+    match totals.sort() {
+        Ok(()) => ends(totals.put_report(&mut room), 0) & (room.octets() == text),
+        Err(_) => false,
+    }
 }
 
-/// Whether records by source and protocol are counted, found and told.
-fn tells_keys(totals: &mut Totals) -> Result<bool, Fail> {
-    let flows = [
-        (Some((0x0a01_0203, 6)), 1, 100),
-        (Some((0x0a01_0103, 17)), 1, u64::MAX),
-        (Some((0x0a01_02ff, 6)), 1, 1),
-        (None, 1, 1),
-    ];
-    tally(totals, &flows)?;
-    let found = counts_of(totals, 0x0a01_0200, 6)?;
-    let missing = counts_of(totals, 0x0a01_0200, 7)?;
+/// Counts records by source and protocol, and one of all packets, which is assigned to none.
+fn counts_keys(totals: &mut Totals, rt: &impl Abort) -> bool {
+    tallies(totals, key(rt, 0x0a01_0203, 6), 1, 100)
+        & tallies(totals, key(rt, 0x0a01_0103, 17), 1, u64::MAX)
+        & tallies(totals, key(rt, 0x0a01_02ff, 6), 1, 1)
+        & tallies(totals, key_of_all(), 1, 1)
+}
+
+/// Whether those records are found.
+fn finds_keys(totals: &Totals, rt: &impl Abort) -> bool {
     let counts = Counts {
         packets: 2,
         octets: 101,
     };
-    let counted = totals.len() == 2 && totals.unassigned() == 1;
-    let text =
-        b"keys 2\n10.1.1.0/24 17 packets 1 octets 18446744073709551615\n10.1.2.0/24 6 packets 2 octets 101\nunassigned 1\n";
-    Ok(counted && found == Some(counts) && missing == None && is_text(totals, text)?)
+    (totals.len() == 2)
+        & (totals.unassigned() == 1)
+        & (totals.get(&key(rt, 0x0a01_0200, 6)) == Some(counts))
+        & totals.get(&key(rt, 0x0a01_0200, 7)).is_none()
 }
 
-/// Whether records of all packets are told.
-fn tells_one(totals: &mut Totals) -> Result<bool, Fail> {
-    tally(totals, &[(Some((0x0a01_0203, 6)), 3, 9)])?;
-    is_text(totals, b"keys 1\nall packets 3 octets 9\nunassigned 0\n")
+/// What is told of them.
+const KEYS: &[u8] =
+    b"keys 2\n10.1.1.0/24 17 packets 1 octets 18446744073709551615\n10.1.2.0/24 6 packets 2 octets 101\nunassigned 1\n";
+
+#[test]
+fn tells_totals(rt: HostRuntime) {
+    let mut totals = Totals::new(rt.alloc(), seed(), layout(&rt)).expect(&rt, "memory");
+    assert!(rt;
+        counts_keys(&mut totals, &rt) & finds_keys(&totals, &rt) & is_text(&mut totals, KEYS)
+    );
+}
+
+/// Whether the totals of a layout tell this of one record of this key.
+fn tells_one(mut totals: Totals, key: Key, packets: u64, octets: u64, text: &[u8]) -> bool {
+    tallies(&mut totals, key, packets, octets) & is_text(&mut totals, text)
 }
 
 #[test]
-fn tells_totals(rt: HostRuntime) -> Result<(), Fail> {
-    let mut totals = Totals::new(rt.alloc(), seed(), layout()?)?;
-    assert!(rt; tells_keys(&mut totals)?);
-    Ok(())
-}
-
-#[test]
-fn tells_all(rt: HostRuntime) -> Result<(), Fail> {
-    let mut totals = Totals::new(rt.alloc(), seed(), Layout::new())?;
-    assert!(rt; tells_one(&mut totals)?);
-    Ok(())
+fn tells_all(rt: HostRuntime) {
+    let totals = Totals::new(rt.alloc(), seed(), Layout::new()).expect(&rt, "memory");
+    let text = b"keys 1\nall packets 3 octets 9\nunassigned 0\n";
+    assert!(rt; tells_one(totals, key(&rt, 0x0a01_0203, 6), 3, 9, text));
 }
 
 /// The version, 32 bits of the source and the destination.
-fn layout_of_ipv6() -> Result<Layout, Fail> {
-    let layout = Layout::new().with(Axis::Version, 8).ok_or("version")?;
-    let layout = layout.with(Axis::Source6, 32).ok_or("source")?;
-    Ok(layout.with(Axis::Destination6, 128).ok_or("destination")?)
+fn layout_of_ipv6(rt: &impl Abort) -> Layout {
+    let layout = Layout::new().with(Axis::Version, 8).expect(rt, "version");
+    let layout = layout.with(Axis::Source6, 32).expect(rt, "source");
+    layout
+        .with(Axis::Destination6, 128)
+        .expect(rt, "destination")
 }
 
-/// A record of three packets from 2001:db8::1 to 2001:db8::9.
-fn record_of_ipv6() -> Result<Record, Fail> {
-    let hosts = 0x2001_0db8u128 << 96;
-    let fields = Fields::new([0, 0, 17, 1000, 53, 0, 6, hosts + 1, hosts + 9]).ok_or("fields")?;
-    let counts = Counts {
-        packets: 3,
-        octets: 186,
-    };
-    let key = layout_of_ipv6()?.key_of(&fields);
-    Ok(Record { key, counts })
+/// 2001:db8::.
+const NETWORK: u128 = 0x2001_0db8 << 96;
+
+/// A packet from 2001:db8::1 to 2001:db8::9.
+fn packet_of_ipv6() -> Fields {
+    Fields::of([0, 0, 17, 1000, 53, 0, 6, NETWORK + 1, NETWORK + 9])
 }
 
 #[test]
-fn tells_addresses_of_ipv6(rt: HostRuntime) -> Result<(), Fail> {
-    let mut totals = Totals::new(rt.alloc(), seed(), layout_of_ipv6()?)?;
-    totals.tally(&record_of_ipv6()?)?;
+fn tells_addresses_of_ipv6(rt: HostRuntime) {
+    let layout = layout_of_ipv6(&rt);
+    let key = layout.key_of(&packet_of_ipv6());
+    let totals = Totals::new(rt.alloc(), seed(), layout).expect(&rt, "memory");
     let text =
         b"keys 1\n6 2001:db8:0:0:0:0:0:0/32 2001:db8:0:0:0:0:0:9 packets 3 octets 186\nunassigned 0\n";
-    assert!(rt; is_text(&mut totals, text)?);
-    Ok(())
+    assert!(rt; tells_one(totals, key, 3, 186, text));
 }
 
 #[test]
-fn tells_a_number(rt: HostRuntime) -> Result<(), Fail> {
+fn tells_a_number(rt: HostRuntime) {
     let mut octets = [0u8; 256];
     let mut room = Room::new(&mut octets);
-    put_number_line(&mut room, b"gaps ", 10)?;
-    assert!(rt; room.octets() == b"gaps 10\n".as_slice());
-    Ok(())
+    let is_put = ends(put_number_line(&mut room, b"gaps ", 10), 0);
+    assert!(rt; is_put & (room.octets() == b"gaps 10\n".as_slice()));
 }

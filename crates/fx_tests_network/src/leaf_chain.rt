@@ -1,5 +1,5 @@
 //! Two aggregations, one behind the other, of which the second has a match.
-ghost use Rattle.std.specs.Prelude.{◌≡◌, ◌≤◌, [], ◌∷◌, true, Some, IfOk};
+ghost use Rattle.std.specs.Prelude.{◌≡◌, ◌≤◌, [], ◌∷◌, true, Some};
 ghost use Rattle.fx_leaf.specs.Tables as by_table;
 ghost use Rattle.fx_elements.specs.declared.axis.Axis.TheVariants as axis;
 
@@ -9,50 +9,60 @@ use fx_boxes::Region;
 use fx_elements::Axis;
 use fx_layout::Layout;
 use fx_leaf::{Counted, Scratch, Tables, cut, fate};
-use fx_tables::{
-    AggregationEntry, Crossing, DeviceEntry, Exporter, Holder, MatchEntry, Net, Process,
-};
+use fx_tables::{AggregationEntry, Exporter, Holder, MatchEntry, Net, Process};
 use std::alloc::Global;
-use std::test::Fail;
+use std::process::Abort;
 
-fn exporters(alloc: Global) -> Result<Vec<Exporter>, Fail>
-    ensures { IfOk result (λ es. es.items ≡ record { parallel = true; destinations = Some 0 ∷ [] }
+fn exporters(rt: &impl Abort, alloc: Global) -> Vec<Exporter>
+    ensures { result.items ≡ record { parallel = true; destinations = Some 0 ∷ [] }
         ∷ record { parallel = true; destinations = Some 1 ∷ [] }
-        ∷ record { parallel = true; destinations = Some 2 ∷ [] } ∷ []) }
+        ∷ record { parallel = true; destinations = Some 2 ∷ [] } ∷ [] }
 {
-    Ok(vec![in alloc;
-        exporter(alloc, 0)?,
-        exporter(alloc, 1)?,
-        exporter(alloc, 2)?,
-    ]?)
+    vec![in alloc;
+        exporter(rt, alloc, 0),
+        exporter(rt, alloc, 1),
+        exporter(rt, alloc, 2),
+    ]
+    .expect(rt, "memory")
 }
 
-fn holders(alloc: Global, own: &Layout, middle: &Layout, last: &Layout) -> Result<Vec<Holder>, Fail>
-    ensures { IfOk result (λ hs. hs.items ≡ record { layout = own.now; exporters = 0 ∷ [] }
+fn holders(
+    rt: &impl Abort,
+    alloc: Global,
+    own: &Layout,
+    middle: &Layout,
+    last: &Layout,
+) -> Vec<Holder>
+    ensures { result.items ≡ record { layout = own.now; exporters = 0 ∷ [] }
         ∷ record { layout = middle.now; exporters = 1 ∷ [] }
-        ∷ record { layout = last.now; exporters = 2 ∷ [] } ∷ []) }
+        ∷ record { layout = last.now; exporters = 2 ∷ [] } ∷ [] }
 {
-    let cache = holder(alloc, own, 0)?;
-    let first = holder(alloc, middle, 1)?;
-    let second = holder(alloc, last, 2)?;
-    Ok(vec![in alloc; cache, first, second]?)
+    vec![in alloc;
+        holder(rt, alloc, own, 0),
+        holder(rt, alloc, middle, 1),
+        holder(rt, alloc, last, 2),
+    ]
+    .expect(rt, "memory")
 }
 
 /// Aggregates all records.
-fn first(alloc: Global) -> Result<Process, Fail>
-    ensures { IfOk result (λ p. p ≡ record {
+fn first(rt: &impl Abort, alloc: Global) -> Process
+    ensures { result ≡ record {
       exporters = [];
       aggregations =
           record { holder = 1; matches = [] } ∷ [];
-    }) }
+    } }
 {
     let aggregation = AggregationEntry::new(1, Vec::new(alloc));
-    Ok(Process::new(Vec::new(alloc), vec![in alloc; aggregation]?))
+    Process::new(
+        Vec::new(alloc),
+        vec![in alloc; aggregation].expect(rt, "memory"),
+    )
 }
 
 /// Aggregates those from 10.1.2.0/24.
-fn second(alloc: Global) -> Result<Process, Fail>
-    ensures { IfOk result (λ p. p ≡ record {
+fn second(rt: &impl Abort, alloc: Global) -> Process
+    ensures { result ≡ record {
       exporters = [];
       aggregations =
           record {
@@ -60,19 +70,22 @@ fn second(alloc: Global) -> Result<Process, Fail>
             matches = record { axis = axis.Source; bits = 24; value = 0x0a0102 }
                 ∷ [];
           } ∷ [];
-    }) }
+    } }
 {
     let entry = MatchEntry {
         axis: Axis::Source,
         bits: 24,
         value: 0x0a0102,
     };
-    let aggregation = AggregationEntry::new(2, vec![in alloc; entry]?);
-    Ok(Process::new(Vec::new(alloc), vec![in alloc; aggregation]?))
+    let aggregation = AggregationEntry::new(2, vec![in alloc; entry].expect(rt, "memory"));
+    Process::new(
+        Vec::new(alloc),
+        vec![in alloc; aggregation].expect(rt, "memory"),
+    )
 }
 
-fn processes(alloc: Global) -> Result<Vec<Process>, Fail>
-    ensures { IfOk result (λ ps. ps.items ≡ record {
+fn processes(rt: &impl Abort, alloc: Global) -> Vec<Process>
+    ensures { result.items ≡ record {
       exporters = [];
       aggregations =
           record { holder = 1; matches = [] } ∷ [];
@@ -86,26 +99,22 @@ fn processes(alloc: Global) -> Result<Vec<Process>, Fail>
                     ∷ [];
               } ∷ [];
         }
-        ∷ record { exporters = []; aggregations = [] } ∷ []) }
+        ∷ record { exporters = []; aggregations = [] } ∷ [] }
 {
-    Ok(vec![in alloc; first(alloc)?, second(alloc)?, process(alloc)]?)
+    vec![in alloc; first(rt, alloc), second(rt, alloc), process(alloc)].expect(rt, "memory")
 }
 
-/// One meter of all packets.
-fn devices(alloc: Global) -> Result<Vec<DeviceEntry>, Fail> {
-    Ok(vec![in alloc; meter(alloc, Region::whole(), 0, false)?]?)
-}
-
-fn network(alloc: Global, own: &Layout, middle: &Layout, last: &Layout) -> Result<Net, Fail>
-    ensures exporters { IfOk result (λ n. n.exporters
+/// One meter of all packets, whose cache exports to the first collecting process, that to the second, and so on.
+fn network(rt: &impl Abort, alloc: Global, own: &Layout, middle: &Layout, last: &Layout) -> Net
+    ensures exporters { result.exporters
         ≡ record { parallel = true; destinations = Some 0 ∷ [] }
         ∷ record { parallel = true; destinations = Some 1 ∷ [] }
-        ∷ record { parallel = true; destinations = Some 2 ∷ [] } ∷ []) }
-    ensures holders { IfOk result (λ n. n.holders
+        ∷ record { parallel = true; destinations = Some 2 ∷ [] } ∷ [] }
+    ensures holders { result.holders
         ≡ record { layout = own.now; exporters = 0 ∷ [] }
         ∷ record { layout = middle.now; exporters = 1 ∷ [] }
-        ∷ record { layout = last.now; exporters = 2 ∷ [] } ∷ []) }
-    ensures processes { IfOk result (λ n. n.processes
+        ∷ record { layout = last.now; exporters = 2 ∷ [] } ∷ [] }
+    ensures processes { result.processes
         ≡ record { exporters = []; aggregations = record { holder = 1; matches = [] } ∷ [] }
         ∷ record {
           exporters = [];
@@ -116,23 +125,20 @@ fn network(alloc: Global, own: &Layout, middle: &Layout, last: &Layout) -> Resul
                     ∷ [];
               } ∷ [];
         }
-        ∷ record { exporters = []; aggregations = [] } ∷ []) }
-    ensures links { IfOk result (λ n. n.links ≡ 0 ∷ 1 ∷ 2 ∷ []) }
-    ensures report { IfOk result (λ n. n.report ≡ 2) }
+        ∷ record { exporters = []; aggregations = [] } ∷ [] }
+    ensures links { result.links ≡ 0 ∷ 1 ∷ 2 ∷ [] }
+    ensures report { result.report ≡ 2 }
 {
-    Ok(Net::new(
-        devices(alloc)?,
-        exporters(alloc)?,
-        holders(alloc, own, middle, last)?,
-        processes(alloc)?,
-        vec![in alloc; 0, 1, 2]?,
+    let meter = meter(rt, alloc, Region::whole(), 0, false);
+    Net::new(
+        vec![in alloc; meter].expect(rt, "memory"),
+        exporters(rt, alloc),
+        holders(rt, alloc, own, middle, last),
+        processes(rt, alloc),
+        vec![in alloc; 0, 1, 2].expect(rt, "memory"),
         2,
         last.copy(),
-    ))
-}
-
-fn path(alloc: Global) -> Result<Vec<Crossing>, Fail> {
-    Ok(vec![in alloc; into(alloc, 1)?]?)
+    )
 }
 
 /// The leaf, or the number of the fault; and the split.
@@ -140,12 +146,13 @@ type Answers = (Result<Counted, u16>, Option<(Axis, u128)>);
 
 /// What is answered for sources from one to another: the leaf, and the split.
 fn asked(
+    rt: &impl Abort,
     alloc: Global,
     net: &Net,
     layouts: &[Layout],
     low: u128,
     high: u128,
-) -> Result<Answers, Fail>
+) -> Answers
     requires { by_table.AreTables (record {
       net = net.now;
       order = 2 ∷ 1 ∷ 0
@@ -153,25 +160,24 @@ fn asked(
       numbering = record { layouts = layouts.now; numbers = 0 ∷ 1 ∷ 2 ∷ [] };
     }) }
 {
-    let region = sources(low, high)?;
-    let path = path(alloc)?;
+    let region = sources(rt, low, high);
+    let path = [into(rt, alloc, 1)];
     let tables = Tables::new(net, &[2, 1, 0], layouts, &[0, 1, 2]);
-    let mut scratch = Scratch::new(alloc, &tables)?;
-    let leaf = bare(fate(&mut scratch, &tables, path.as_slice(), &region));
-    let split = cut(&mut scratch, &tables, path.as_slice(), &region);
-    Ok((leaf, split))
+    let mut scratch = Scratch::new(alloc, &tables).expect(rt, "memory");
+    let leaf = bare(fate(&mut scratch, &tables, &path, &region));
+    (leaf, cut(&mut scratch, &tables, &path, &region))
 }
 
 /// The same where the first aggregation keeps so many bits of the source.
-fn answers(alloc: Global, kept: u32, low: u128, high: u128) -> Result<Answers, Fail>
+fn answers(rt: &impl Abort, alloc: Global, kept: u32, low: u128, high: u128) -> Answers
     requires { kept ≤ 32 }
 {
-    let own = by_source(32)?;
-    let middle = by_source(kept)?;
-    let last = by_source(16)?;
-    let net = network(alloc, &own, &middle, &last)?;
-    let layouts = vec![in alloc; own, middle, last]?;
-    asked(alloc, &net, layouts.as_slice(), low, high)
+    let own = by_source(rt, 32);
+    let middle = by_source(rt, kept);
+    let last = by_source(rt, 16);
+    let net = network(rt, alloc, &own, &middle, &last);
+    let layouts = [own, middle, last];
+    asked(rt, alloc, &net, &layouts, low, high)
 }
 
 /// Counted at the one crossing.
@@ -181,16 +187,20 @@ const ONCE: Counted = Counted {
     process: 1,
 };
 
+/// How many bits the first aggregation keeps, the last source, and what is answered.
+const CASES: [(u32, u128, Answers); 3] = [
+    (24, 0x0a01_02ff, (Ok(ONCE), None)), // inside the match
+    (
+        24,
+        0x0a01_03ff,
+        (Err(406), Some((Axis::Source, 0x0a01_0300))),
+    ), // across its end
+    (16, 0x0a01_02ff, (Err(407), None)), // unread
+];
+
 #[test]
-fn a_match_that_is_read_counts_or_cuts_and_another_takes_nothing(
-    rt: HostRuntime,
-) -> Result<(), Fail> {
-    for (kept, high, leaf, split) in [
-        (24, 0x0a01_02ff, Ok(ONCE), None), // inside the match
-        (24, 0x0a01_03ff, Err(406), Some((Axis::Source, 0x0a01_0300))), // across its end
-        (16, 0x0a01_02ff, Err(407), None), // unread
-    ] {
-        assert!(rt; answers(rt.alloc(), kept, 0x0a01_0200, high)? == (leaf, split));
+fn a_match_that_is_read_counts_or_cuts_and_another_takes_nothing(rt: HostRuntime) {
+    for (kept, high, expected) in &CASES {
+        assert!(rt; answers(&rt, rt.alloc(), (*kept).min(32), 0x0a01_0200, *high) == *expected);
     }
-    Ok(())
 }

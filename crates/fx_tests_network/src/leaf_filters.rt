@@ -1,72 +1,69 @@
 //! Two meters on one path, each with a filter of its own.
-ghost use Rattle.std.specs.Prelude.{◌≡◌, [], ◌∷◌, IfOk};
+ghost use Rattle.std.specs.Prelude.{◌≡◌, [], ◌∷◌};
 
 use crate::meters::{bare, into, meter, sources};
 use crate::parts::{by_source, collector, exporter, holder, process};
 use fx_elements::Axis;
 use fx_layout::Layout;
 use fx_leaf::{Counted, Judgement, Scratch, Tables, cut, fate, judge, never};
-use fx_tables::{Crossing, DeviceEntry, Exporter, Holder, Net};
+use fx_tables::{DeviceEntry, Exporter, Holder, Net};
 use std::alloc::Global;
-use std::test::Fail;
+use std::process::Abort;
 
 /// A meter of the sources from one to another, into the cache at this place.
-fn half(alloc: Global, low: u128, high: u128, cache: usize) -> Result<DeviceEntry, Fail> {
-    meter(alloc, sources(low, high)?, cache, false)
+fn half(rt: &impl Abort, alloc: Global, low: u128, high: u128, cache: usize) -> DeviceEntry {
+    meter(rt, alloc, sources(rt, low, high), cache, false)
 }
 
 /// A meter of the sources below 128.0.0.0, another of those from there on, and a collector that tallies what both
 /// send.
-fn devices(alloc: Global) -> Result<Vec<DeviceEntry>, Fail> {
-    Ok(vec![in alloc;
-        half(alloc, 0, 0x7fff_ffff, 0)?,
-        collector(alloc)?,
-        half(alloc, 0x8000_0000, 0xffff_ffff, 1)?,
-    ]?)
+fn devices(rt: &impl Abort, alloc: Global) -> Vec<DeviceEntry> {
+    vec![in alloc;
+        half(rt, alloc, 0, 0x7fff_ffff, 0),
+        collector(rt, alloc),
+        half(rt, alloc, 0x8000_0000, 0xffff_ffff, 1),
+    ]
+    .expect(rt, "memory")
 }
 
-fn caches(alloc: Global) -> Result<Vec<Holder>, Fail>
-    ensures { IfOk result (λ hs. hs.items ≡ record { layout = []; exporters = 0 ∷ [] }
-        ∷ record { layout = []; exporters = 1 ∷ [] } ∷ []) }
+fn caches(rt: &impl Abort, alloc: Global) -> Vec<Holder>
+    ensures { result.items ≡ record { layout = []; exporters = 0 ∷ [] }
+        ∷ record { layout = []; exporters = 1 ∷ [] } ∷ [] }
 {
     let layout = Layout::new();
-    Ok(vec![in alloc; holder(alloc, &layout, 0)?, holder(alloc, &layout, 1)?]?)
+    vec![in alloc;
+        holder(rt, alloc, &layout, 0),
+        holder(rt, alloc, &layout, 1),
+    ]
+    .expect(rt, "memory")
 }
 
+/// Whether the second exporting process sends to all of its destinations, and these.
+type Sent = (bool, &'static [Option<usize>]);
+
 /// An exporting process that sends to the first destination, and another that sends to these.
-fn exporters(
-    alloc: Global,
-    parallel: bool,
-    links: &[Option<usize>],
-) -> Result<Vec<Exporter>, Fail> {
-    let second = Exporter::new(parallel, links.to_vec(alloc)?);
-    Ok(vec![in alloc; exporter(alloc, 0)?, second]?)
+fn exporters(rt: &impl Abort, alloc: Global, sent: Sent) -> Vec<Exporter> {
+    let second = Exporter::new(sent.0, sent.1.to_vec(alloc).expect(rt, "memory"));
+    vec![in alloc; exporter(rt, alloc, 0), second].expect(rt, "memory")
 }
 
 /// The network of those, in which the report has this layout.
-fn network(alloc: Global, exporters: Vec<Exporter>, report: Layout) -> Result<Net, Fail>
-    ensures holders { IfOk result (λ n. n.holders
+fn network(rt: &impl Abort, alloc: Global, sent: Sent, report: Layout) -> Net
+    ensures holders { result.holders
         ≡ record { layout = []; exporters = 0 ∷ [] } ∷ record { layout = []; exporters = 1 ∷ [] }
-        ∷ []) }
-    ensures processes { IfOk result (λ n. n.processes
-        ≡ record { exporters = []; aggregations = [] } ∷ []) }
-    ensures report { IfOk result (λ n. n.report ≡ 0) }
+        ∷ [] }
+    ensures processes { result.processes ≡ record { exporters = []; aggregations = [] } ∷ [] }
+    ensures report { result.report ≡ 0 }
 {
-    Ok(Net::new(
-        devices(alloc)?,
-        exporters,
-        caches(alloc)?,
-        vec![in alloc; process(alloc)]?,
-        vec![in alloc; 0, 0]?,
+    Net::new(
+        devices(rt, alloc),
+        exporters(rt, alloc, sent),
+        caches(rt, alloc),
+        vec![in alloc; process(alloc)].expect(rt, "memory"),
+        vec![in alloc; 0, 0].expect(rt, "memory"),
         0,
         report,
-    ))
-}
-
-/// Into the one meter, then into the other.
-fn path(alloc: Global) -> Result<Vec<Crossing>, Fail> {
-    let first = into(alloc, 1)?;
-    Ok(vec![in alloc; first, into(alloc, 3)?]?)
+    )
 }
 
 /// The leaf, or the number of the fault; whether no packet is counted, in the same way; the split; and the judgement.
@@ -78,118 +75,133 @@ type Answers = (
 );
 
 /// What is answered for the sources from one to another.
-fn asked(alloc: Global, net: &Net, low: u128, high: u128) -> Result<Answers, Fail>
+fn asked(rt: &impl Abort, alloc: Global, net: &Net, low: u128, high: u128) -> Answers
     requires holders { net.now.holders ≡ record { layout = []; exporters = 0 ∷ [] }
         ∷ record { layout = []; exporters = 1 ∷ [] } ∷ [] }
     requires processes { net.now.processes ≡ record { exporters = []; aggregations = [] } ∷ [] }
     requires report { net.now.report ≡ 0 }
 {
-    let region = sources(low, high)?;
-    let path = path(alloc)?;
-    let layouts = vec![in alloc; Layout::new()]?;
-    let tables = Tables::new(net, &[0], layouts.as_slice(), &[0, 0]);
-    let mut scratch = Scratch::new(alloc, &tables)?;
-    let leaf = bare(fate(&mut scratch, &tables, path.as_slice(), &region));
-    let uncounted = bare(never(&mut scratch, &tables, path.as_slice(), &region));
-    let split = cut(&mut scratch, &tables, path.as_slice(), &region);
-    let judgement = judge(&mut scratch, &tables, path.as_slice(), &region);
-    Ok((leaf, uncounted, split, judgement))
+    let region = sources(rt, low, high);
+    let path = [into(rt, alloc, 1), into(rt, alloc, 3)];
+    let layouts = [Layout::new()];
+    let tables = Tables::new(net, &[0], &layouts, &[0, 0]);
+    let mut scratch = Scratch::new(alloc, &tables).expect(rt, "memory");
+    let leaf = bare(fate(&mut scratch, &tables, &path, &region));
+    let uncounted = bare(never(&mut scratch, &tables, &path, &region));
+    let split = cut(&mut scratch, &tables, &path, &region);
+    let judgement = judge(&mut scratch, &tables, &path, &region);
+    (leaf, uncounted, split, judgement)
 }
 
-/// The same where the second exporting process sends to these destinations, and the report has this layout.
+/// The same where the second exporting process sends to these destinations, and the report tells the whole source, or
+/// nothing.
 fn answers(
+    rt: &impl Abort,
     alloc: Global,
-    sent: (bool, &[Option<usize>]),
-    report: Layout,
+    sent: Sent,
+    tells_source: bool,
     low: u128,
     high: u128,
-) -> Result<Answers, Fail> {
-    let net = network(alloc, exporters(alloc, sent.0, sent.1)?, report)?;
-    asked(alloc, &net, low, high)
-}
-
-/// Counted at the crossing of this number.
-fn counted(crossing: u64) -> Counted {
-    Counted {
-        crossing,
-        point: 1,
-        process: 1,
-    }
-}
-
-#[test]
-fn each_filter_counts_its_half_and_cuts_a_region(rt: HostRuntime) -> Result<(), Fail> {
-    let (axis, at) = (Axis::Source, 0x8000_0000);
-    let once = |crossing| Judgement::Once(counted(crossing));
-    for (low, high, leaf, uncounted, split, judgement) in [
-        (0, at - 1, Ok(counted(1)), Err(415), None, once(1)),
-        (at, 0xffff_ffff, Ok(counted(2)), Err(415), None, once(2)),
-        (
-            at - 1,
-            0xffff_ffff,
-            Err(406),
-            Err(406),
-            Some((axis, at)),
-            Judgement::Cut { axis, at },
-        ),
-    ] {
-        let sent = (true, [Some(1)].as_slice());
-        let answers = answers(rt.alloc(), sent, Layout::new(), low, high)?;
-        assert!(rt; answers == (leaf, uncounted, split, judgement));
-    }
-    Ok(())
-}
-
-/// The leaf of the second meter's half where the report tells the whole source or nothing, whether no packet of it is
-/// counted, and the judgement.
-fn leaf(
-    alloc: Global,
-    sent: (bool, &[Option<usize>]),
-    tells_source: bool,
-) -> Result<(Result<Counted, u16>, Result<(), u16>, Judgement), Fail> {
+) -> Answers {
     let report = if tells_source {
-        by_source(32)?
+        by_source(rt, 32)
     } else {
         Layout::new()
     };
-    let (leaf, uncounted, _, judgement) = answers(alloc, sent, report, 0x8000_0000, 0xffff_ffff)?;
-    Ok((leaf, uncounted, judgement))
+    let net = network(rt, alloc, sent, report);
+    asked(rt, alloc, &net, low, high)
 }
 
+/// Counted at the first crossing.
+const FIRST: Counted = Counted {
+    crossing: 1,
+    point: 1,
+    process: 1,
+};
+
+/// Counted at the second crossing.
+const SECOND: Counted = Counted {
+    crossing: 2,
+    point: 1,
+    process: 1,
+};
+
+/// The first source of the second half.
+const MIDDLE: u128 = 0x8000_0000;
+
+/// The first and the last source, and what is answered.
+const HALVES: [(u128, u128, Answers); 3] = [
+    (
+        0,
+        MIDDLE - 1,
+        (Ok(FIRST), Err(415), None, Judgement::Once(FIRST)),
+    ),
+    (
+        MIDDLE,
+        0xffff_ffff,
+        (Ok(SECOND), Err(415), None, Judgement::Once(SECOND)),
+    ),
+    (
+        MIDDLE - 1,
+        0xffff_ffff,
+        (
+            Err(406),
+            Err(406),
+            Some((Axis::Source, MIDDLE)),
+            Judgement::Cut {
+                axis: Axis::Source,
+                at: MIDDLE,
+            },
+        ),
+    ),
+];
+
 #[test]
-fn tells_why_no_leaf_is_sound(rt: HostRuntime) -> Result<(), Fail> {
-    for (parallel, links, tells_source, number, uncounted, judgement) in [
-        (
-            true,
-            [None].as_slice(),
-            false,
-            407,
-            Ok(()),
-            Judgement::Never,
-        ),
-        (
-            true,
-            &[Some(0), Some(1)],
-            false,
-            408,
-            Err(408),
-            Judgement::Many,
-        ),
-        (
-            false,
-            &[Some(0), None],
-            false,
-            409,
-            Err(409),
-            Judgement::Differing,
-        ),
-        (true, &[Some(1)], true, 413, Err(413), Judgement::Unassigned),
-    ] {
-        assert!(rt;
-            leaf(rt.alloc(), (parallel, links), tells_source)?
-                == (Err(number), uncounted, judgement),
-            "not {number}"
-        );
+fn each_filter_counts_its_half_and_cuts_a_region(rt: HostRuntime) {
+    for (low, high, expected) in &HALVES {
+        let found = answers(&rt, rt.alloc(), (true, &[Some(1)]), false, *low, *high);
+        assert!(rt; found == *expected);
     }
-    Ok(())
+}
+
+/// What the second exporting process sends to, whether the report tells the source, and why the leaf of the second
+/// meter's half isn't sound, whether none of its packets is counted, and the judgement.
+const UNSOUND: [(Sent, bool, u16, Result<(), u16>, Judgement); 4] = [
+    ((true, &[None]), false, 407, Ok(()), Judgement::Never),
+    (
+        (true, &[Some(0), Some(1)]),
+        false,
+        408,
+        Err(408),
+        Judgement::Many,
+    ),
+    (
+        (false, &[Some(0), None]),
+        false,
+        409,
+        Err(409),
+        Judgement::Differing,
+    ),
+    (
+        (true, &[Some(1)]),
+        true,
+        413,
+        Err(413),
+        Judgement::Unassigned,
+    ),
+];
+
+#[test]
+fn tells_why_no_leaf_is_sound(rt: HostRuntime) {
+    for (sent, tells_source, number, uncounted, judgement) in &UNSOUND {
+        let (leaf, never, _, found) = answers(
+            &rt,
+            rt.alloc(),
+            *sent,
+            *tells_source,
+            MIDDLE,
+            0xffff_ffff,
+        );
+        assert!(rt; leaf == Err(*number) && never == *uncounted && found == *judgement);
+    }
 }

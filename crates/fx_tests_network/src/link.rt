@@ -3,9 +3,10 @@ use fx_base::{Counts, Room};
 use fx_boxes::Fields;
 use fx_elements::Axis;
 use fx_layout::Layout;
-use fx_link::{Link, Nowhere, Sinks, links_keep_records, records_are_read};
+use fx_link::{Link, Links, Nowhere, Sinks, links_keep_records, records_are_read};
 use fx_tables::Record;
-use std::test::Fail;
+use std::alloc::Global;
+use std::process::Abort;
 
 /// The template of a source address, and 10.0.0.1 with 2 packets and 300 octets, exported at second 2; behind it, at
 /// second 3, with one packet and 300 octets.
@@ -37,112 +38,144 @@ const OF_IPV6: [u8; 72] = [
 ];
 
 /// A record by this many bits of the address on an axis.
-fn record(axis: Axis, bits: u32, address: u128, packets: u64, octets: u64) -> Result<Record, Fail> {
-    let layout = Layout::new().with(axis, bits).ok_or("layout")?;
+fn record(
+    rt: &impl Abort,
+    axis: Axis,
+    bits: u32,
+    address: u128,
+    packets: u64,
+    octets: u64,
+) -> Record {
+    let layout = Layout::new().with(axis, bits).expect(rt, "a layout");
     let mut values = [0; 9];
     values[axis.index()] = address;
-    let fields = Fields::new(values).ok_or("fields")?;
-    Ok(Record {
+    let fields = Fields::new(values).expect(rt, "fields");
+    Record {
         key: layout.key_of(&fields),
         counts: Counts { packets, octets },
-    })
+    }
 }
 
 /// Puts a record on a link that has room for it.
-fn put(link: &mut Link, time: u32, flow: Record) -> Result<(), Fail> {
-    if !link.has_room() {
-        return Err("room".into());
-    }
-    link.put(time, flow)?;
-    Ok(())
+fn put(rt: &impl Abort, link: &mut Link, time: u32, flow: Record) {
+    assert!(rt; link.has_room());
+    link.put(time, flow).expect(rt, "memory");
 }
 
+/// A record that is put on a link: the second, the axis, how many of its bits, the address, the packets and octets.
+type Put = (u32, Axis, u32, u128, u64, u64);
+
+/// Puts records on a link, and ends their message in this second.
+fn put_message<L: Links>(rt: &impl Abort, link: &mut Link, puts: &[Put], time: u32, links: &mut L) {
+    for (second, axis, bits, address, packets, octets) in puts {
+        put(
+            rt,
+            link,
+            *second,
+            record(rt, *axis, *bits, *address, *packets, *octets),
+        );
+    }
+    link.finish(time, 1, links).expect(rt, "room");
+}
+
+/// Puts messages on a new link: each one's second, and its records.
+fn put_all<L: Links>(rt: &impl Abort, alloc: Global, messages: &[(u32, &[Put])], links: &mut L) {
+    let mut link = Link::new(alloc).expect(rt, "memory");
+    for (time, puts) in messages {
+        put_message(rt, &mut link, puts, *time, links);
+    }
+}
+
+/// Whether what was written to the one sink of links is this.
+fn is_written(links: Sinks<Room<'_>>, octets: &[u8]) -> bool {
+    match links.as_slice() {
+        [room] => room.octets() == octets,
+        _ => false,
+    }
+}
+
+/// Whether messages that are put on a new link are written like this.
+fn writes(rt: &impl Abort, alloc: Global, messages: &[(u32, &[Put])], octets: &[u8]) -> bool {
+    let mut store = [0u8; 128];
+    let mut rooms = Vec::new(alloc);
+    rooms.push(Room::new(&mut store)).expect(rt, "memory");
+    let mut links = Sinks::new(rooms);
+    put_all(rt, alloc, messages, &mut links);
+    is_written(links, octets)
+}
+
+const FIRST: Put = (2, Axis::Source, 32, 0x0a00_0001, 2, 300);
+
+const SECOND: Put = (3, Axis::Source, 32, 0x0a00_0001, 1, 300);
+
 #[test]
-fn writes_messages_of_one_record(rt: HostRuntime) -> Result<(), Fail> {
+fn writes_messages_of_one_record(rt: HostRuntime) {
     records_are_read();
-    let mut store = [0u8; 100];
-    let mut rooms = Vec::new(rt.alloc());
-    rooms.push(Room::new(&mut store))?;
-    let mut links = Sinks::new(rooms);
-    let mut link = Link::new(rt.alloc())?;
-    put(&mut link, 2, record(Axis::Source, 32, 0x0a00_0001, 2, 300)?)?;
-    link.finish(2, 1, &mut links)?;
-    put(&mut link, 3, record(Axis::Source, 32, 0x0a00_0001, 1, 300)?)?;
-    link.finish(3, 1, &mut links)?;
-    let octets = links.as_slice().first().ok_or("sink")?.octets();
-    assert!(rt; octets == ONE_BY_ONE.as_slice());
-    Ok(())
+    assert!(rt;
+        writes(
+            &rt,
+            rt.alloc(),
+            &[(2, &[FIRST]), (3, &[SECOND])],
+            &ONE_BY_ONE
+        )
+    );
 }
 
-#[test]
-fn writes_a_message_of_two_records(rt: HostRuntime) -> Result<(), Fail> {
-    let mut store = [0u8; 80];
-    let mut rooms = Vec::new(rt.alloc());
-    rooms.push(Room::new(&mut store))?;
-    let mut links = Sinks::new(rooms);
-    let mut link = Link::new(rt.alloc())?;
-    put(&mut link, 2, record(Axis::Source, 32, 0x0a00_0001, 1, 100)?)?;
-    put(&mut link, 2, record(Axis::Source, 32, 0x0a00_0002, 1, 200)?)?;
-    link.finish(2, 1, &mut links)?;
-    let octets = links.as_slice().first().ok_or("sink")?.octets();
-    assert!(rt; octets == TOGETHER.as_slice());
-    Ok(())
-}
+/// Two records that leave together.
+const TWO: [Put; 2] = [
+    (2, Axis::Source, 32, 0x0a00_0001, 1, 100),
+    (2, Axis::Source, 32, 0x0a00_0002, 1, 200),
+];
 
 #[test]
-fn writes_a_message_of_ipv6(rt: HostRuntime) -> Result<(), Fail> {
-    let mut store = [0u8; 72];
-    let mut rooms = Vec::new(rt.alloc());
-    rooms.push(Room::new(&mut store))?;
-    let mut links = Sinks::new(rooms);
-    let mut link = Link::new(rt.alloc())?;
-    put(
-        &mut link,
-        1,
-        record(Axis::Source6, 128, (0x2001_0db8u128 << 96) + 1, 1, 56)?,
-    )?;
-    link.finish(1, 1, &mut links)?;
-    let octets = links.as_slice().first().ok_or("sink")?.octets();
-    assert!(rt; octets == OF_IPV6.as_slice());
-    Ok(())
+fn writes_a_message_of_two_records(rt: HostRuntime) {
+    assert!(rt; writes(&rt, rt.alloc(), &[(2, &TWO)], &TOGETHER));
 }
 
+/// A record of 2001:db8::1.
+const WIDE: Put = (1, Axis::Source6, 128, (0x2001_0db8 << 96) + 1, 1, 56);
+
 #[test]
-fn ends_a_message_at_64_records(rt: HostRuntime) -> Result<(), Fail> {
-    let mut link = Link::new(rt.alloc())?;
-    let mut links = Nowhere;
-    for _ in 0..65 {
-        put(&mut link, 0, record(Axis::Source, 32, 0x0a00_0001, 1, 1)?)?;
-    }
-    link.finish(0, 1, &mut links)?;
+fn writes_a_message_of_ipv6(rt: HostRuntime) {
+    assert!(rt; writes(&rt, rt.alloc(), &[(1, &[WIDE])], &OF_IPV6));
+}
+
+/// The records of a message and one more.
+const MANY: [Put; 65] = [(0, Axis::Source, 32, 0x0a00_0001, 1, 1); 65];
+
+#[test]
+fn ends_a_message_at_64_records(rt: HostRuntime) {
+    let mut link = Link::new(rt.alloc()).expect(&rt, "memory");
+    put_message(&rt, &mut link, &MANY, 0, &mut Nowhere);
     // A message of 64 records has 16, 20 and 4 + 64 * 20 octets, and one of a record 16 and 4 + 20.
     assert!(rt; link.queue_length() == 1320 + 40);
-    Ok(())
+}
+
+/// A record by 48 bits of the destination.
+const CARRIED: Put = (0, Axis::Destination6, 48, 0x2001_0db8_0007 << 80, 3, 5);
+
+/// Whether a record has arrived, and is that one.
+fn is_carried(arrived: Option<Record>) -> bool {
+    match arrived {
+        Some(flow) => {
+            flow.key.bits_on(Axis::Destination6, 48) == 0x2001_0db8_0007
+                && flow.counts.packets == 3
+                && flow.counts.octets == 5
+        }
+        None => false,
+    }
 }
 
 #[test]
-fn carries_records_across_a_cut(rt: HostRuntime) -> Result<(), Fail> {
+fn carries_records_across_a_cut(rt: HostRuntime) {
     links_keep_records();
-    let mut link = Link::new(rt.alloc())?;
-    let mut links = Nowhere;
-    put(
-        &mut link,
-        0,
-        record(Axis::Destination6, 48, 0x2001_0db8_0007u128 << 80, 3, 5)?,
-    )?;
-    link.finish(0, 1, &mut links)?;
+    let mut link = Link::new(rt.alloc()).expect(&rt, "memory");
+    put_message(&rt, &mut link, &[CARRIED], 0, &mut Nowhere);
     // The template has four fields, and the record 16, 1 and 16 octets.
-    if link.queue_length() != 16 + 24 + 4 + 33 {
-        return Err("octets".into());
-    }
-    link.carry(76)?;
+    assert!(rt; link.queue_length() == 16 + 24 + 4 + 33);
+    link.carry(76).expect(&rt, "memory");
     let early = link.next_record().is_some();
-    if link.queue_length() < 1 {
-        return Err("octet".into());
-    }
-    link.carry(1)?;
-    let arrived = link.next_record().ok_or("record")?;
-    assert!(rt; !early && arrived.key.bits_on(Axis::Destination6, 48) == 0x2001_0db8_0007);
-    assert!(rt; arrived.counts.packets == 3 && arrived.counts.octets == 5);
-    Ok(())
+    assert!(rt; link.queue_length() == 1);
+    link.carry(1).expect(&rt, "memory");
+    assert!(rt; !early & is_carried(link.next_record()));
 }

@@ -13,7 +13,7 @@ use fx_tables::{
     Process,
 };
 use std::alloc::Global;
-use std::test::Fail;
+use std::process::Abort;
 
 /// The meter's cache.
 const CACHE: HolderName = HolderName::Cache {
@@ -21,52 +21,55 @@ const CACHE: HolderName = HolderName::Cache {
     cache: 1,
 };
 
-/// A meter at one interface, and a collector.
-fn devices(alloc: Global) -> Result<Vec<DeviceEntry>, Fail> {
-    Ok(vec![in alloc; meter(alloc, Region::whole(), 0, true)?, collector(alloc)?]?)
-}
-
 /// The meter's cache exports to the collector, which tallies.
-fn net(alloc: Global) -> Result<Net, Fail> {
-    let layout = by_source(32)?;
-    Ok(Net::new(
-        devices(alloc)?,
-        vec![in alloc; exporter(alloc, 0)?]?,
-        vec![in alloc; holder(alloc, &layout, 0)?]?,
-        vec![in alloc; process(alloc)]?,
-        vec![in alloc; 0]?,
+fn net(rt: &impl Abort, alloc: Global) -> Net {
+    let layout = by_source(rt, 32);
+    let meter = meter(rt, alloc, Region::whole(), 0, true);
+    Net::new(
+        vec![in alloc; meter, collector(rt, alloc)].expect(rt, "memory"),
+        vec![in alloc; exporter(rt, alloc, 0)].expect(rt, "memory"),
+        vec![in alloc; holder(rt, alloc, &layout, 0)].expect(rt, "memory"),
+        vec![in alloc; process(alloc)].expect(rt, "memory"),
+        vec![in alloc; 0].expect(rt, "memory"),
         0,
         layout,
-    ))
+    )
+}
+
+/// One class, which may be exempt, of these paths.
+fn one_class(rt: &impl Abort, alloc: Global, paths: Vec<Path>, exempt: bool) -> Classes {
+    let class = Class::new(Region::whole(), paths, exempt);
+    Classes::new(vec![in alloc; class].expect(rt, "memory"))
 }
 
 /// One class, whose packets come into the meter.
-fn classes(alloc: Global) -> Result<Classes, Fail> {
-    let path = Path::new(vec![in alloc; into(alloc, 1)?]?);
-    let class = Class::new(Region::whole(), vec![in alloc; path]?, false);
-    Ok(Classes::new(vec![in alloc; class]?))
+fn classes(rt: &impl Abort, alloc: Global) -> Classes {
+    let path = Path::new(vec![in alloc; into(rt, alloc, 1)].expect(rt, "memory"));
+    one_class(rt, alloc, vec![in alloc; path].expect(rt, "memory"), false)
+}
+
+/// The fields of packets from 10.0.0.1 to 192.0.2.1.
+fn fields() -> Fields {
+    Fields::of([0x0a00_0001, 0xc000_0201, 6, 1000, 80, 0, 4, 0, 0])
 }
 
 /// A packet from 10.0.0.1 to 192.0.2.1.
-fn packet(octets: u64, class: u64) -> Result<Packet, &'static str> {
-    let fields = Fields::new([0x0a00_0001, 0xc000_0201, 6, 1000, 80, 0, 4, 0, 0]).ok_or(
-        "no fields",
-    )?;
-    Ok(Packet {
-        fields,
+fn packet(octets: u64, class: u64) -> Packet {
+    Packet {
+        fields: fields(),
         octets,
         class,
         path: 1,
-    })
+    }
 }
 
 /// A packet crosses into the meter.
-fn cross(alloc: Global, packet: u64, chosen: Option<u64>) -> Result<Step, Fail> {
-    Ok(Step::Cross {
+fn cross(rt: &impl Abort, alloc: Global, packet: u64, chosen: Option<u64>) -> Step {
+    Step::Cross {
         packet,
         crossing: 1,
-        choices: Choices::new(vec![in alloc; chosen]?),
-    })
+        choices: Choices::new(vec![in alloc; chosen].expect(rt, "memory")),
+    }
 }
 
 /// A record leaves the meter's cache.
@@ -88,20 +91,14 @@ fn arrive(alloc: Global) -> Step {
 }
 
 /// The steps of a run over two packets.
-fn steps(alloc: Global) -> Result<Vec<Step>, Fail> {
-    Ok(vec![in alloc;
-        cross(alloc, 1, None)?,
-        cross(alloc, 2, Some(1))?,
+fn steps(rt: &impl Abort, alloc: Global) -> Vec<Step> {
+    vec![in alloc;
+        cross(rt, alloc, 1, None),
+        cross(rt, alloc, 2, Some(1)),
         expire(alloc),
         arrive(alloc),
-    ]?)
-}
-
-/// The two packets of a run.
-fn packets(alloc: Global) -> Result<Vec<Packet>, Fail> {
-    let first = packet(18_446_744_073_709_551_614, 1)?;
-    let second = packet(1, 1)?;
-    Ok(vec![in alloc; first, second]?)
+    ]
+    .expect(rt, "memory")
 }
 
 /// The number of a fault, or 0.
@@ -137,26 +134,26 @@ fn is_counted(state: &State<'_>) -> bool {
         && total.key.values() == [0x0a00_0001u128].as_slice()
 }
 
-/// Whether the run of the steps over the packets counts them.
-fn is_run(net: &Net, classes: &Classes, alloc: Global) -> Result<bool, Fail> {
-    let steps = steps(alloc)?;
-    are_run(net, classes, alloc, steps.as_slice())
+/// Whether a run of two packets can be made in its steps, and counts them.
+fn is_run(net: &Net, classes: &Classes, rt: &impl Abort, alloc: Global) -> bool {
+    let packets = vec![in alloc; packet(18_446_744_073_709_551_614, 1), packet(1, 1)];
+    let packets = packets.expect(rt, "memory");
+    let mut state = State::open(alloc, net, classes, packets).expect(rt, "a run");
+    are_made(&mut state, steps(rt, alloc).as_slice()) && is_counted(&state)
 }
 
-/// Whether these steps can be made over the packets, and count them.
-fn are_run(net: &Net, classes: &Classes, alloc: Global, steps: &[Step]) -> Result<bool, Fail> {
-    let packets = packets(alloc)?;
-    let mut state = State::open(alloc, net, classes, packets)?;
-    Ok(are_made(&mut state, steps) && is_counted(&state))
-}
-
-/// The number of the fault that a run of one packet, of a class that isn't there, is refused with, or 0.
-fn opening(net: &Net, classes: &Classes, alloc: Global) -> Result<u16, Fail> {
-    let packets = vec![in alloc; packet(1, 2)?]?;
-    Ok(match State::open(alloc, net, classes, packets) {
+/// The number of the fault with which no run is opened, or 0.
+fn unopened(opened: Result<State<'_>, Fault>) -> u16 {
+    match opened {
         Ok(_) => 0,
         Err(fault) => fault.number,
-    })
+    }
+}
+
+/// Whether a run of one packet, of a class that isn't there, is refused.
+fn is_unopened(net: &Net, classes: &Classes, rt: &impl Abort, alloc: Global) -> bool {
+    let packets = vec![in alloc; packet(1, 2)].expect(rt, "memory");
+    unopened(State::open(alloc, net, classes, packets)) == 856
 }
 
 /// Whether the network has what it was made of.
@@ -189,86 +186,97 @@ fn is_watched(net: &Net, classes: &Classes) -> bool {
 }
 
 /// Whether a packet of the class makes its one crossing, and one of no class none.
-fn is_followed(classes: &Classes) -> Result<bool, &'static str> {
-    let (followed, lost) = (packet(1, 1)?, packet(1, 2)?);
-    Ok(
-        classes.path_of(&followed).len() == 1
-            && classes.path_of(&lost).is_empty()
-            && classes.contains(&followed)
-            && !classes.contains(&lost),
-    )
+fn is_followed(classes: &Classes) -> bool {
+    let (followed, lost) = (packet(1, 1), packet(1, 2));
+    (classes.path_of(&followed).len() == 1)
+        & classes.path_of(&lost).is_empty()
+        & classes.contains(&followed)
+        & !classes.contains(&lost)
 }
 
 /// Whether the packets of an exempt class are exempt, and no others.
-fn is_exempt(classes: &Classes, alloc: Global) -> Result<bool, Fail> {
-    let class = Class::new(Region::whole(), Vec::new(alloc), true);
-    let exempt = Classes::new(vec![in alloc; class]?);
-    let (of_class, of_none) = (packet(1, 1)?, packet(1, 2)?);
-    Ok(exempt.exempts(&of_class) && !exempt.exempts(&of_none) && !classes.exempts(&of_class))
-}
-
-/// Whether a run over the network counts both packets, and one of a packet of no class isn't opened.
-fn runs(net: &Net, classes: &Classes, alloc: Global) -> Result<bool, Fail> {
-    let refused = opening(net, classes, alloc)? == 856;
-    Ok(refused && is_run(net, classes, alloc)?)
+fn is_exempt(classes: &Classes, exempt: &Classes) -> bool {
+    let (of_class, of_none) = (packet(1, 1), packet(1, 2));
+    exempt.exempts(&of_class) & !exempt.exempts(&of_none) & !classes.exempts(&of_class)
 }
 
 #[test]
-fn looks_up_and_runs_and_refuses_packets_of_no_class(rt: HostRuntime) -> Result<(), Fail> {
+fn the_laws_of_runs() {
     choices_are_free();
     complete_runs_exist();
     unnamed_axes_mean_nothing();
     six_axes_suffice();
-    let classes = classes(rt.alloc())?;
-    let net = net(rt.alloc())?;
-    let found = is_looked_up(&net) && is_watched(&net, &classes) && is_followed(&classes)?;
-    assert!(rt; found && is_exempt(&classes, rt.alloc())? && runs(&net, &classes, rt.alloc())?);
-    Ok(())
+}
+
+#[test]
+fn looks_up_and_runs_and_refuses_packets_of_no_class(rt: HostRuntime) {
+    let classes = classes(&rt, rt.alloc());
+    let exempt = one_class(&rt, rt.alloc(), Vec::new(rt.alloc()), true);
+    let net = net(&rt, rt.alloc());
+    assert!(rt;
+        is_looked_up(&net)
+            & is_watched(&net, &classes)
+            & is_followed(&classes)
+            & is_exempt(&classes, &exempt)
+            & is_unopened(&net, &classes, &rt, rt.alloc())
+            & is_run(&net, &classes, &rt, rt.alloc())
+    );
 }
 
 /// Whether a packet of the class is met by the meter's cache alone, each time that it is asked, under its source.
-fn is_met(net: &Net, classes: &Classes, alloc: Global) -> Result<bool, Fail> {
-    let packet = packet(1, 1)?;
+fn is_met(net: &Net, classes: &Classes, rt: &impl Abort, alloc: Global) -> bool {
+    let packet = packet(1, 1);
     let ([class], [crossing]) = (classes.as_slice(), classes.path_of(&packet)) else {
-        return Ok(false);
+        return false;
     };
-    let mut met = net.occurrences(alloc, crossing, &packet.fields)?;
-    net.push_occurrences(&mut met, crossing, &packet.fields)?;
+    let mut met = net
+        .occurrences(alloc, crossing, &packet.fields)
+        .expect(rt, "memory");
+    net.push_occurrences(&mut met, crossing, &packet.fields)
+        .expect(rt, "memory");
+    let holdings = net
+        .holdings(alloc, met.as_slice(), &packet.fields)
+        .expect(rt, "memory");
     let [occurrence, again] = met.as_slice() else {
-        return Ok(false);
+        return false;
     };
     let holding = net.holding(occurrence, &packet.fields);
-    let holdings = net.holdings(alloc, met.as_slice(), &packet.fields)?;
-    Ok(
-        *occurrence == *again
-            && class.holds(&packet.fields)
-            && holding.holder == 0
-            && holdings.len() == 2
-            && holding.key.values() == [0x0a00_0001u128].as_slice(),
-    )
+    (*occurrence == *again)
+        & class.holds(&packet.fields)
+        & (holding.holder == 0)
+        & (holdings.len() == 2)
+        & (holding.key.values() == [0x0a00_0001u128].as_slice())
 }
 
-/// How many aggregations of a process take in a record from this source: its one takes in those of 10.0.0.0/8.
-fn takers(net: &Net, alloc: Global, source: u128) -> Result<usize, Fail> {
+/// A process with one aggregation, of the records from 10.0.0.0/8.
+fn aggregating(rt: &impl Abort, alloc: Global) -> Process {
     let entry = MatchEntry {
         axis: Axis::Source,
         bits: 8,
         value: 10,
     };
-    let aggregation = AggregationEntry::new(0, vec![in alloc; entry]?);
-    let process = Process::new(Vec::new(alloc), vec![in alloc; aggregation]?);
-    let fields = Fields::new([source, 0, 0, 0, 0, 0, 4, 0, 0]).ok_or("no fields")?;
-    let key = by_source(32)?.key_of(&fields);
-    Ok(net.takers(alloc, &process, &key)?.len())
+    let aggregation = AggregationEntry::new(0, vec![in alloc; entry].expect(rt, "memory"));
+    Process::new(
+        Vec::new(alloc),
+        vec![in alloc; aggregation].expect(rt, "memory"),
+    )
+}
+
+/// How many aggregations of a process take in a record from this source.
+fn takers(net: &Net, rt: &impl Abort, alloc: Global, source: u32) -> usize {
+    let process = aggregating(rt, alloc);
+    let fields = Fields::of([u128::from(source), 0, 0, 0, 0, 0, 4, 0, 0]);
+    let key = by_source(rt, 32).key_of(&fields);
+    net.takers(alloc, &process, &key).expect(rt, "memory").len()
 }
 
 #[test]
-fn meters_and_aggregates_what_is_theirs(rt: HostRuntime) -> Result<(), Fail> {
-    let classes = classes(rt.alloc())?;
-    let net = net(rt.alloc())?;
-    let taken = takers(&net, rt.alloc(), 0x0aff_ffff)? == 1;
+fn meters_and_aggregates_what_is_theirs(rt: HostRuntime) {
+    let classes = classes(&rt, rt.alloc());
+    let net = net(&rt, rt.alloc());
     assert!(rt;
-        is_met(&net, &classes, rt.alloc())? && taken && takers(&net, rt.alloc(), 0x0b00_0000)? == 0
+        is_met(&net, &classes, &rt, rt.alloc())
+            & (takers(&net, &rt, rt.alloc(), 0x0aff_ffff) == 1)
+            & (takers(&net, &rt, rt.alloc(), 0x0b00_0000) == 0)
     );
-    Ok(())
 }

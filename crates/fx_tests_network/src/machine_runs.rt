@@ -1,30 +1,31 @@
 //! Runs' texts read, and refused at the line.
+use crate::answers::{ends, is_refused};
 use crate::meters::sources;
-use fx_base::{Fault, LineReader, Octets, Room};
+use fx_base::{Fault, LineReader, Octets, Room, Sink};
 use fx_run_text::{
     Run, RunLine, Step, TextVersion, put_packet_line, put_step_line, read_run, read_run_line,
     run_lines_have_one_text, run_texts,
 };
 use fx_tables::{Class, Classes, HolderName, Packet, Path};
-use std::alloc::Global;
-use std::test::Fail;
+use std::alloc::{AllocError, Global};
+use std::process::Abort;
 
 /// One class of the packets from 10.0.0.0/8, with one path.
-fn web(alloc: Global) -> Result<Classes, Fail> {
-    let region = sources(0x0a00_0000, 0x0aff_ffff)?;
-    let paths = vec![in alloc; Path::new(Vec::new(alloc))]?;
-    Ok(Classes::new(vec![in alloc; Class::new(region, paths, false)]?))
+fn web(rt: &impl Abort, alloc: Global) -> Classes {
+    let region = sources(rt, 0x0a00_0000, 0x0aff_ffff);
+    let paths = vec![in alloc; Path::new(Vec::new(alloc))].expect(rt, "memory");
+    Classes::new(vec![in alloc; Class::new(region, paths, false)].expect(rt, "memory"))
 }
 
-/// The run that is read from a text, where those are the classes.
-fn web_run(alloc: Global, text: &[u8]) -> Result<Run, Fail> {
-    let classes = web(alloc)?;
-    Ok(read(alloc, &classes, text)?)
-}
-
+/// The run that is read from a text.
 fn read(alloc: Global, classes: &Classes, text: &[u8]) -> Result<Run, Fault> {
     let mut lines = LineReader::new(alloc, Octets::new(text))?;
     read_run(alloc, classes, &mut lines)
+}
+
+/// The same where those are the classes.
+fn web_run(rt: &impl Abort, alloc: Global, text: &[u8]) -> Run {
+    read(alloc, &web(rt, alloc), text).expect(rt, "a run")
 }
 
 fn choices(step: &Step) -> &[Option<u64>] {
@@ -80,9 +81,9 @@ fn are_the_steps(steps: &[Step]) -> bool {
 
 /// Whether a run has these packets and steps.
 fn is_the_run(run: Run) -> bool {
-    let same = are_the_packets(run.packets()) && are_the_steps(run.steps());
+    let same = are_the_packets(run.packets()) & are_the_steps(run.steps());
     let (packets, steps) = run.into_parts();
-    same && packets.len() == 2 && steps.len() == 4
+    same & (packets.len() == 2) & (steps.len() == 4)
 }
 
 /// A packet of IPv6 from 2001:db8::1 to 2001:db8::2, which is of the class too, since that tells no version.
@@ -111,18 +112,19 @@ fn is_the_wide_packet(packets: &[Packet]) -> bool {
             ]
 }
 
-#[test]
-fn reads_packets_of_ipv6(rt: HostRuntime) -> Result<(), Fail> {
-    let run = web_run(rt.alloc(), WIDE)?;
-    assert!(rt; is_the_wide_packet(run.packets()));
-    assert!(rt; run.steps().is_empty());
-    Ok(())
+/// Whether a run has the wide packet alone.
+fn is_the_wide_run(run: &Run) -> bool {
+    is_the_wide_packet(run.packets()) & run.steps().is_empty()
 }
 
 #[test]
-fn reads_packets_and_steps(rt: HostRuntime) -> Result<(), Fail> {
-    assert!(rt; is_the_run(web_run(rt.alloc(), TWO_PACKETS)?));
-    Ok(())
+fn reads_packets_of_ipv6(rt: HostRuntime) {
+    assert!(rt; is_the_wide_run(&web_run(&rt, rt.alloc(), WIDE)));
+}
+
+#[test]
+fn reads_packets_and_steps(rt: HostRuntime) {
+    assert!(rt; is_the_run(web_run(&rt, rt.alloc(), TWO_PACKETS)));
 }
 
 /// Whether a step is a packet's crossing of this number.
@@ -170,74 +172,61 @@ fn are_each_form(steps: &[Step]) -> bool {
 }
 
 #[test]
-fn reads_each_form_of_step(rt: HostRuntime) -> Result<(), Fail> {
+fn reads_each_form_of_step(rt: HostRuntime) {
     let text =
         b"once-run 1\ncross 0 2\nexpire cache 3 4 5 n 6\nexpire aggregation 7 8 9 10 n\narrive 11 12 13\nend\n";
-    let run = web_run(rt.alloc(), text)?;
-    assert!(rt; are_each_form(run.steps()));
-    Ok(())
+    assert!(rt; are_each_form(web_run(&rt, rt.alloc(), text).steps()));
 }
 
-/// Whether a line is the end of a run, if it can be read.
-fn is_end(alloc: Global, line: &[u8]) -> Result<Option<bool>, Fail> {
-    Ok(match read_run_line(alloc, TextVersion::Two, line)? {
-        Some(RunLine::End) => Some(true),
-        Some(_) => Some(false),
-        None => None,
-    })
+/// Whether a line that is read is the end of a run, if it is a line.
+fn is_end(line: Result<Option<RunLine>, AllocError>) -> Option<bool> {
+    match line {
+        Ok(line) => Some(matches!(line?, RunLine::End)),
+        Err(_) => Some(false),
+    }
 }
 
 #[test]
-fn reads_a_line(rt: HostRuntime) -> Result<(), Fail> {
+fn reads_a_line(rt: HostRuntime) {
     run_texts();
-    assert!(rt; is_end(rt.alloc(), b"end")? == Some(true));
-    assert!(rt; is_end(rt.alloc(), b"end ")? == None);
-    Ok(())
+    assert!(rt;
+        (is_end(read_run_line(rt.alloc(), TextVersion::Two, b"end")) == Some(true))
+            & is_end(read_run_line(rt.alloc(), TextVersion::Two, b"end ")).is_none()
+    );
 }
 
-/// The first packet and the first step of a run, written as lines behind one another.
-fn first_lines<'a>(run: &Run, room: &mut Room<'a>) -> Result<(), Fault> {
-    for packet in run.packets().iter().take(1) {
-        put_packet_line(room, packet)?;
+/// Puts the first packet and the first step of a run, if there are any, as lines behind one another.
+fn puts_first<S: Sink>(run: &Run, sink: &mut S) -> bool {
+    let is_put = match run.packets().first() {
+        Some(packet) => ends(put_packet_line(sink, packet), 0),
+        None => false,
+    };
+    match run.steps().first() {
+        Some(step) => is_put & ends(put_step_line(sink, step), 0),
+        None => is_put,
     }
-    for step in run.steps().iter().take(1) {
-        put_step_line(room, step)?;
-    }
-    Ok(())
+}
+
+/// Whether the first packet and the first step of a run are written like this.
+fn is_written(run: &Run, text: &[u8]) -> bool {
+    let mut octets = [0u8; 256];
+    let mut room = Room::new(&mut octets);
+    puts_first(run, &mut room) & (room.octets() == text)
 }
 
 #[test]
-fn writes_lines(rt: HostRuntime) -> Result<(), Fail> {
+fn writes_lines(rt: HostRuntime) {
     run_lines_have_one_text();
-    let run = web_run(rt.alloc(), TWO_PACKETS)?;
-    let mut octets = [0u8; 256];
-    let mut room = Room::new(&mut octets);
-    first_lines(&run, &mut room)?;
-    let wanted =
-        b"packet 1 1 10.0.0.1 192.0.2.1 6 1000 80 0 4 0:0:0:0:0:0:0:0 0:0:0:0:0:0:0:0 18446744073709551614\ncross 1 1 n\n".as_slice();
-    assert!(rt; room.octets() == wanted);
-    Ok(())
+    let text =
+        b"packet 1 1 10.0.0.1 192.0.2.1 6 1000 80 0 4 0:0:0:0:0:0:0:0 0:0:0:0:0:0:0:0 18446744073709551614\ncross 1 1 n\n";
+    assert!(rt; is_written(&web_run(&rt, rt.alloc(), TWO_PACKETS), text));
 }
 
 #[test]
-fn writes_packets_of_ipv6(rt: HostRuntime) -> Result<(), Fail> {
-    let run = web_run(rt.alloc(), WIDE)?;
-    let mut octets = [0u8; 256];
-    let mut room = Room::new(&mut octets);
-    first_lines(&run, &mut room)?;
-    let wanted =
-        b"packet 1 1 10.0.0.0 0.0.0.0 17 53 1000 184 6 2001:db8:0:0:0:0:0:1 2001:db8:0:0:0:0:0:2 56\n".as_slice();
-    assert!(rt; room.octets() == wanted);
-    Ok(())
-}
-
-/// Whether a text is refused with this number at this line.
-fn is_refused(alloc: Global, text: &[u8], number: u16, line: u64) -> Result<bool, Fail> {
-    let classes = web(alloc)?;
-    match read(alloc, &classes, text) {
-        Ok(_) => Ok(false),
-        Err(fault) => Ok(fault == Fault::at_line(number, line)),
-    }
+fn writes_packets_of_ipv6(rt: HostRuntime) {
+    let text =
+        b"packet 1 1 10.0.0.0 0.0.0.0 17 53 1000 184 6 2001:db8:0:0:0:0:0:1 2001:db8:0:0:0:0:0:2 56\n";
+    assert!(rt; is_written(&web_run(&rt, rt.alloc(), WIDE), text));
 }
 
 /// Texts, the number that each is refused with, and the line.
@@ -317,14 +306,15 @@ const REFUSED: [(&[u8], u16, u64); 24] = [
 ];
 
 #[test]
-fn refuses_at_the_line(rt: HostRuntime) -> Result<(), Fail> {
-    for (text, number, line) in REFUSED {
+fn refuses_at_the_line(rt: HostRuntime) {
+    let classes = web(&rt, rt.alloc());
+    for (text, number, line) in &REFUSED {
+        let answer = read(rt.alloc(), &classes, *text);
         assert!(rt;
-            is_refused(rt.alloc(), text, number, line)?,
+            is_refused(answer, &Fault::at_line(*number, *line)),
             "{number} at {line}"
         );
     }
-    Ok(())
 }
 
 #[test]

@@ -1,32 +1,34 @@
 //! The parts of networks: layouts, exporting and collecting processes, and what holds records.
-ghost use Rattle.std.specs.Prelude.{◌≡◌, [], ◌∷◌, true, Some, IfOk};
+ghost use Rattle.std.specs.Prelude.{◌≡◌, [], ◌∷◌, true, Some};
 ghost use Rattle.fx_elements.specs.declared.axis.Axis.TheVariants as axis;
 
 use fx_elements::Axis;
 use fx_layout::Layout;
 use fx_tables::{DeviceEntry, Exporter, Holder, Process};
 use std::alloc::Global;
-use std::test::Fail;
+use std::process::Abort;
 
 /// The layout of the leading bits of the source.
-pub(crate) fn by_source(bits: u32) -> Result<Layout, Fail>
-    ensures { IfOk result (λ l. l ≡ record { axis = axis.Source; bits = bits } ∷ []) }
+pub(crate) fn by_source(rt: &impl Abort, bits: u32) -> Layout
+    ensures { result ≡ record { axis = axis.Source; bits = bits } ∷ [] }
 {
-    Ok(Layout::new().with(Axis::Source, bits).ok_or("layout")?)
+    Layout::new()
+        .with(Axis::Source, bits)
+        .expect(rt, "a layout")
 }
 
 /// An exporting process that sends to all of one destination.
-pub(crate) fn exporter(alloc: Global, link: usize) -> Result<Exporter, Fail>
-    ensures { IfOk result (λ e. e ≡ record { parallel = true; destinations = Some link ∷ [] }) }
+pub(crate) fn exporter(rt: &impl Abort, alloc: Global, link: usize) -> Exporter
+    ensures { result ≡ record { parallel = true; destinations = Some link ∷ [] } }
 {
-    Ok(Exporter::new(true, vec![in alloc; Some(link)]?))
+    Exporter::new(true, vec![in alloc; Some(link)].expect(rt, "memory"))
 }
 
 /// What holds records of this layout, which the exporting process at this place sends.
-pub(crate) fn holder(alloc: Global, layout: &Layout, exporter: usize) -> Result<Holder, Fail>
-    ensures { IfOk result (λ h. h ≡ record { layout = layout.now; exporters = exporter ∷ [] }) }
+pub(crate) fn holder(rt: &impl Abort, alloc: Global, layout: &Layout, exporter: usize) -> Holder
+    ensures { result ≡ record { layout = layout.now; exporters = exporter ∷ [] } }
 {
-    Ok(Holder::new(layout.copy(), vec![in alloc; exporter]?))
+    Holder::new(layout.copy(), vec![in alloc; exporter].expect(rt, "memory"))
 }
 
 /// A collecting process that sends nothing on.
@@ -37,7 +39,7 @@ pub(crate) fn process(alloc: Global) -> Process
 }
 
 /// A device with the first collecting process alone.
-pub(crate) fn collector(alloc: Global) -> Result<DeviceEntry, Fail> {
-    let processes = vec![in alloc; 0]?;
-    Ok(DeviceEntry::new(Vec::new(alloc), Vec::new(alloc), processes))
+pub(crate) fn collector(rt: &impl Abort, alloc: Global) -> DeviceEntry {
+    let processes = vec![in alloc; 0].expect(rt, "memory");
+    DeviceEntry::new(Vec::new(alloc), Vec::new(alloc), processes)
 }

@@ -1,10 +1,11 @@
 //! Streams of messages in whatever pieces they come.
+use crate::answers;
 use fx_base::Fault;
 use fx_elements::Axis;
 use fx_session::{Session, pieces, remove_front, sets_by_cases, waiting};
 use fx_tables::Record;
 use std::alloc::Global;
-use std::test::Fail;
+use std::process::Abort;
 
 /// A template of a source address and the two counters (id 256), and a record: 10.0.0.1, 2 packets, 300 octets.
 const FIRST: [u8; 60] = [
@@ -62,8 +63,8 @@ const LONG_PREFIX: [u8; 65] = [
     0x01, 0x00, 0x00, 0x19, 10, 0, 0, 0, 33, 0, 0, 0, 0, 0, 0, 0, 100, 0, 0, 0, 0, 0, 0, 0, 1,
 ];
 
-/// Whether a record has this source address and these counts.
-fn is_flow(found: &Option<Record>, source: u128, packets: u64, octets: u64) -> bool {
+/// Whether there is a record, with this source address and these counts.
+fn is_flow(found: Option<Record>, source: u128, packets: u64, octets: u64) -> bool {
     match found {
         None => false,
         Some(entry) => {
@@ -76,165 +77,159 @@ fn is_flow(found: &Option<Record>, source: u128, packets: u64, octets: u64) -> b
 
 /// Whether one record waits, with this source address and these counts.
 fn waits_alone(session: &mut Session, source: u128, packets: u64, octets: u64) -> bool {
-    is_flow(&session.next_record(), source, packets, octets) && session.next_record().is_none()
+    is_flow(session.next_record(), source, packets, octets) & session.next_record().is_none()
 }
 
-/// Whether a stream that is fed at once is refused with this number at this octet.
-pub(crate) fn is_refused(
-    alloc: Global,
-    stream: &[u8],
-    number: u16,
-    octet: u64,
-) -> Result<bool, Fault> {
-    let mut session = Session::new(alloc)?;
-    Ok(session.feed(stream) == Err(Fault::at_octet(number, octet)))
+/// What comes of a stream that is fed at once.
+fn fed(alloc: Global, stream: &[u8]) -> Result<(), Fault> {
+    Session::new(alloc)?.feed(stream)
+}
+
+/// Whether a stream that is fed at once is refused with this number at its first octet.
+pub(crate) fn is_refused(alloc: Global, stream: &[u8], number: u16) -> bool {
+    answers::is_refused(fed(alloc, stream), &Fault::at_octet(number, 0))
 }
 
 /// The number of records, their packets and octets, and the gaps.
 type Sums = (u64, u64, u64, u64);
 
-/// The records, packets and octets that wait, and the gaps.
-fn sums_of(session: &mut Session) -> Sums {
-    let mut records = 0u64;
-    let mut packets = 0u64;
-    let mut octets = 0u64;
-    for _turn in 0..8u8 {
-        if let Some(entry) = session.next_record() {
-            records = records.wrapping_add(1);
-            packets = packets.wrapping_add(entry.counts.packets);
-            octets = octets.wrapping_add(entry.counts.octets);
-        }
+/// The counts of a record, or 0 where there is none.
+fn counts_of(found: Option<Record>) -> (u64, u64, u64) {
+    match found {
+        Some(entry) => (1, entry.counts.packets, entry.counts.octets),
+        None => (0, 0, 0),
     }
-    (records, packets, octets, session.gaps())
 }
 
-/// Feeds octets, one at a time.
-fn feed_by_octet(session: &mut Session, octets: &[u8]) -> Result<(), Fault> {
-    for octet in octets {
-        session.feed(&[*octet])?;
+/// The records, packets and octets that wait, and the gaps.
+fn sums_of(session: &mut Session) -> Sums {
+    let mut sums = (0u64, 0u64, 0u64, session.gaps());
+    for _turn in 0..8u8 {
+        let (records, packets, octets) = counts_of(session.next_record());
+        sums.0 = sums.0.wrapping_add(records);
+        sums.1 = sums.1.wrapping_add(packets);
+        sums.2 = sums.2.wrapping_add(octets);
     }
-    Ok(())
+    sums
 }
 
 /// What a stream in two pieces comes to.
-fn sums(alloc: Global, first: &[u8], second: &[u8]) -> Result<Sums, Fault> {
-    let mut session = Session::new(alloc)?;
-    session.feed(first)?;
-    session.feed(second)?;
-    Ok(sums_of(&mut session))
+fn sums(rt: &impl Abort, alloc: Global, first: &[u8], second: &[u8]) -> Sums {
+    let mut session = Session::new(alloc).expect(rt, "memory");
+    session.feed(first).expect(rt, "a stream");
+    session.feed(second).expect(rt, "a stream");
+    sums_of(&mut session)
 }
 
-/// What a stream comes to that comes one octet at a time.
-fn sums_by_octet(alloc: Global, stream: &[u8]) -> Result<Sums, Fault> {
-    let mut session = Session::new(alloc)?;
-    feed_by_octet(&mut session, stream)?;
-    Ok(sums_of(&mut session))
+/// A session that is fed a stream, one octet at a time.
+fn by_octet(rt: &impl Abort, alloc: Global, stream: &[u8]) -> Session {
+    let mut session = Session::new(alloc).expect(rt, "memory");
+    for octet in stream {
+        session.feed(&[*octet]).expect(rt, "a stream");
+    }
+    session
 }
 
-/// Whether a stream comes to this, cut at each place, and one octet at a time.
-fn comes_to(alloc: Global, stream: &[u8], expected: Sums) -> Result<bool, Fault> {
-    let mut all = sums_by_octet(alloc, stream)? == expected;
+/// Whether a stream comes to this, cut at each place.
+fn comes_to(rt: &impl Abort, alloc: Global, stream: &[u8], expected: Sums) -> bool {
+    let mut all = true;
     for cut in 0..stream.len() {
         let (first, second) = stream.split_at(cut);
-        all = all && sums(alloc, first, second)? == expected;
+        all &= sums(rt, alloc, first, second) == expected;
     }
-    Ok(all)
+    all
 }
 
-/// Whether two messages come to this.
-fn come_to(alloc: Global, first: &[u8], second: &[u8], expected: Sums) -> Result<bool, Fail> {
-    let mut stream = Vec::from_slice(alloc, first)?;
-    stream.extend_from_slice(second)?;
-    Ok(comes_to(alloc, stream.as_slice(), expected)?)
+/// Whether two messages come to this, cut at each place, and one octet at a time.
+fn come_to(rt: &impl Abort, alloc: Global, first: &[u8], second: &[u8], expected: Sums) -> bool {
+    let stream = [first, second].concat(alloc).expect(rt, "memory");
+    comes_to(rt, alloc, stream.as_slice(), expected)
+        & (sums_of(&mut by_octet(rt, alloc, stream.as_slice())) == expected)
+}
+
+/// Two messages, and what they come to.
+const STREAMS: [(&[u8], &[u8], Sums); 3] = [
+    (&OPTIONS, &WITHDRAWN, (2, 3, 300, 1)),
+    (&FIRST, &SECOND, (2, 3, 600, 0)),
+    (&FIRST, &FIRST, (2, 4, 600, 1)), // a gap
+];
+
+#[test]
+fn reads_two_messages_in_whatever_pieces(rt: HostRuntime) {
+    for (first, second, expected) in &STREAMS {
+        assert!(rt; come_to(&rt, rt.alloc(), *first, *second, *expected));
+    }
 }
 
 #[test]
-fn reads_two_messages_in_whatever_pieces(rt: HostRuntime) -> Result<(), Fail> {
-    let streams: [(&[u8], &[u8], Sums); 3] = [
-        (&OPTIONS, &WITHDRAWN, (2, 3, 300, 1)),
-        (&FIRST, &SECOND, (2, 3, 600, 0)),
-        (&FIRST, &FIRST, (2, 4, 600, 1)), // a gap
-    ];
-    for (first, second, expected) in streams {
-        assert!(rt; come_to(rt.alloc(), first, second, expected)?);
-    }
+fn the_laws_of_streams() {
     pieces();
     waiting();
     sets_by_cases();
-    Ok(())
 }
 
 /// Feeds a message and all but an octet of the next one: whether the first one's record waits, and the rest is left.
-fn reads_one_and_a_part(session: &mut Session) -> Result<bool, Fault> {
-    session.feed(&FIRST)?;
-    session.feed(&SECOND[..39])?;
-    let waits = waits_alone(session, 0x0a00_0001, 2, 300);
-    Ok(waits && session.left() == 39 && session.place() == 60)
+fn reads_one_and_a_part(rt: &impl Abort, session: &mut Session) -> bool {
+    session.feed(&FIRST).expect(rt, "a message");
+    session.feed(&SECOND[..39]).expect(rt, "a part");
+    waits_alone(session, 0x0a00_0001, 2, 300) & (session.left() == 39) & (session.place() == 60)
 }
 
 /// Feeds the last octet: whether the other record waits, and nothing is left or was missed.
-fn reads_the_rest(session: &mut Session) -> Result<bool, Fault> {
-    session.feed(&SECOND[39..])?;
-    let waits = waits_alone(session, 0x0a00_0001, 1, 300);
-    Ok(waits && session.left() == 0 && session.gaps() == 0 && session.skipped() == 0)
-}
-
-/// Whether a record waits when its message is there, and another when the rest of its own has come.
-fn reads_as_they_come(alloc: Global) -> Result<bool, Fault> {
-    let mut session = Session::new(alloc)?;
-    let first = reads_one_and_a_part(&mut session)?;
-    Ok(first && reads_the_rest(&mut session)?)
-}
-
-/// Whether the record of a message waits that came one octet at a time.
-fn reads_by_octet(alloc: Global) -> Result<bool, Fault> {
-    let mut session = Session::new(alloc)?;
-    feed_by_octet(&mut session, &OPTIONS)?;
-    Ok(waits_alone(&mut session, 0x0a00_0001, 1, 100))
+fn reads_the_rest(rt: &impl Abort, session: &mut Session) -> bool {
+    session.feed(&SECOND[39..]).expect(rt, "the rest");
+    waits_alone(session, 0x0a00_0001, 1, 300)
+        & (session.left() == 0)
+        & (session.gaps() == 0)
+        & (session.skipped() == 0)
 }
 
 #[test]
-fn reads_records(rt: HostRuntime) -> Result<(), Fail> {
-    assert!(rt; reads_as_they_come(rt.alloc())?);
-    assert!(rt; reads_by_octet(rt.alloc())?);
-    Ok(())
+fn reads_records(rt: HostRuntime) {
+    let mut session = Session::new(rt.alloc()).expect(&rt, "memory");
+    assert!(rt; reads_one_and_a_part(&rt, &mut session) & reads_the_rest(&rt, &mut session));
+}
+
+#[test]
+fn reads_records_by_octet(rt: HostRuntime) {
+    let mut session = by_octet(&rt, rt.alloc(), &OPTIONS);
+    assert!(rt; waits_alone(&mut session, 0x0a00_0001, 1, 100));
 }
 
 /// Whether the record of a message waits behind which a refused one came, and nothing is read from then on.
-fn keeps_before_a_fault(session: &mut Session) -> Result<bool, Fault> {
-    session.feed(&FIRST)?;
-    let refused = session.feed(&CHANGED) == Err(Fault::at_octet(616, 60));
-    let again = session.feed(&SECOND) == Err(Fault::at_octet(616, 60));
-    Ok(refused && again && waits_alone(session, 0x0a00_0001, 2, 300))
+fn keeps_before_a_fault(session: &mut Session, fault: &Fault) -> bool {
+    answers::ends(session.feed(&FIRST), 0)
+        & answers::is_refused(session.feed(&CHANGED), fault)
+        & answers::is_refused(session.feed(&SECOND), fault)
+        & waits_alone(session, 0x0a00_0001, 2, 300)
 }
 
 #[test]
-fn keeps_records_before_a_fault(rt: HostRuntime) -> Result<(), Fail> {
-    let mut session = Session::new(rt.alloc())?;
-    assert!(rt; keeps_before_a_fault(&mut session)?);
-    Ok(())
+fn keeps_records_before_a_fault(rt: HostRuntime) {
+    let mut session = Session::new(rt.alloc()).expect(&rt, "memory");
+    assert!(rt; keeps_before_a_fault(&mut session, &Fault::at_octet(616, 60)));
 }
 
 #[test]
-fn octets_leave_the_front(rt: HostRuntime) -> Result<(), Fail> {
-    let mut octets = vec![in rt.alloc(); 1u8, 2, 3, 4, 5]?;
+fn octets_leave_the_front(rt: HostRuntime) {
+    let mut octets = vec![in rt.alloc(); 1u8, 2, 3, 4, 5].expect(&rt, "memory");
     remove_front(&mut octets, 2);
     assert!(rt; octets.as_slice() == [3, 4, 5].as_slice());
-    Ok(())
+}
+
+/// Streams that are refused, and their numbers.
+const REFUSED: [(&[u8], u16); 3] = [(&SECOND, 617), (&LONG_PREFIX, 620), (&UNKNOWN, 617)];
+
+#[test]
+fn refuses(rt: HostRuntime) {
+    for (stream, number) in &REFUSED {
+        assert!(rt; is_refused(rt.alloc(), *stream, *number), "not {number}");
+    }
 }
 
 #[test]
-fn refuses(rt: HostRuntime) -> Result<(), Fail> {
+fn refuses_a_cut_value(rt: HostRuntime) {
     let mut cut = OPTIONS;
     cut[68] = 0x14;
-    let refused: [(&[u8], u16); 4] = [
-        (&SECOND, 617),
-        (&LONG_PREFIX, 620),
-        (&UNKNOWN, 617),
-        (&cut, 619),
-    ];
-    for (stream, number) in refused {
-        assert!(rt; is_refused(rt.alloc(), stream, number, 0)?, "not {number}");
-    }
-    Ok(())
+    assert!(rt; is_refused(rt.alloc(), &cut, 619));
 }

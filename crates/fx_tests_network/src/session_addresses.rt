@@ -4,7 +4,6 @@ use crate::session_hostile::{first_record, is_refused};
 use fx_elements::Axis;
 use fx_layout::{Key, Part};
 use fx_tables::Record;
-use std::test::Fail;
 
 /// 2001:db8::1.
 const HOST_1: u128 = 0x2001_0db8_0000_0000_0000_0000_0000_0001;
@@ -31,7 +30,7 @@ fn has_parts(key: &Key, known: &[Known]) -> bool {
 }
 
 /// Whether the record is there, and its key has these parts and no others.
-fn is_known(found: &Option<Record>, known: &[Known]) -> bool {
+fn is_known(found: Option<Record>, known: &[Known]) -> bool {
     match found {
         None => false,
         Some(entry) => has_parts(&entry.key, known),
@@ -47,15 +46,16 @@ const ADDRESSES: [u8; 97] = [
     0, 0, 0, 0, 0, 0, 0, 186, 0, 0, 0, 0, 0, 0, 0, 3, // the octets and packets
 ];
 
+/// What is known of that record.
+const HOSTS: [Known; 3] = [
+    (Axis::Version, 8, 6),
+    (Axis::Source6, 128, HOST_1),
+    (Axis::Destination6, 128, HOST_9),
+];
+
 #[test]
-fn reads_addresses(rt: HostRuntime) -> Result<(), Fail> {
-    let known = [
-        (Axis::Version, 8, 6),
-        (Axis::Source6, 128, HOST_1),
-        (Axis::Destination6, 128, HOST_9),
-    ];
-    assert!(rt; is_known(&first_record(rt.alloc(), &ADDRESSES)?, &known));
-    Ok(())
+fn reads_addresses(rt: HostRuntime) {
+    assert!(rt; is_known(first_record(&rt, rt.alloc(), &ADDRESSES), &HOSTS));
 }
 
 /// A template of 170, 29, 169, 30 and the two counters, and a record of 2001:db8::1/32 and 2001:db8::9/128.
@@ -76,36 +76,45 @@ fn prefixes(source: u8, destination: u8) -> [u8; 102] {
     stream
 }
 
-#[test]
-fn reads_prefixes(rt: HostRuntime) -> Result<(), Fail> {
-    let source = (Axis::Source6, 32, 0x2001_0db8);
-    let known: [(u8, u8, &[Known]); 4] = [
-        (32, 128, &[source, (Axis::Destination6, 128, HOST_9)]),
-        (
-            128,
-            3,
-            &[(Axis::Source6, 128, HOST_1), (Axis::Destination6, 3, 1)],
-        ),
-        (32, 0, &[source]), // a length of 0 leaves the axis out
-        (0, 0, &[]),
-    ];
-    for (bits, destination, parts) in known {
-        let found = first_record(rt.alloc(), &prefixes(bits, destination))?;
-        assert!(rt; is_known(&found, parts), "at {bits} and {destination}");
-    }
-    Ok(())
-}
+/// The length of the source and of the destination, and what is known of the record. A length of 0 leaves the axis out.
+const LENGTHS: [(u8, u8, &[Known]); 4] = [
+    (
+        32,
+        128,
+        &[
+            (Axis::Source6, 32, 0x2001_0db8),
+            (Axis::Destination6, 128, HOST_9),
+        ],
+    ),
+    (
+        128,
+        3,
+        &[(Axis::Source6, 128, HOST_1), (Axis::Destination6, 3, 1)],
+    ),
+    (32, 0, &[(Axis::Source6, 32, 0x2001_0db8)]),
+    (0, 0, &[]),
+];
 
 #[test]
-fn refuses_prefixes_above_128_bits(rt: HostRuntime) -> Result<(), Fail> {
-    for (source, destination) in [(129, 0), (0, 129), (255, 128)] {
-        let stream = prefixes(source, destination);
+fn reads_prefixes(rt: HostRuntime) {
+    for (source, destination, known) in &LENGTHS {
+        let found = first_record(&rt, rt.alloc(), &prefixes(*source, *destination));
+        assert!(rt; is_known(found, *known), "at {source} and {destination}");
+    }
+}
+
+/// Lengths above 128.
+const LONG: [(u8, u8); 3] = [(129, 0), (0, 129), (255, 128)];
+
+#[test]
+fn refuses_prefixes_above_128_bits(rt: HostRuntime) {
+    for (source, destination) in &LONG {
+        let stream = prefixes(*source, *destination);
         assert!(rt;
-            session::is_refused(rt.alloc(), &stream, 620, 0)?,
+            session::is_refused(rt.alloc(), &stream, 620),
             "at {source}"
         );
     }
-    Ok(())
 }
 
 /// A template of 170, 9, 45, 30 and the two counters, and a record: each prefix stands beside the length of another
@@ -132,33 +141,37 @@ const BOTH_VERSIONS: [u8; 125] = [
     0, 0, 0, 0, 0, 0, 0, 100, 0, 0, 0, 0, 0, 0, 0, 1, // the octets and packets
 ];
 
-#[test]
-fn reads_each_version_by_its_own_elements(rt: HostRuntime) -> Result<(), Fail> {
-    let both = [
-        (Axis::Source, 32, 0x0a00_0001),
-        (Axis::Source6, 128, HOST_9),
-    ];
-    assert!(rt; is_known(&first_record(rt.alloc(), &LENGTHS_OF_OTHERS)?, &[]));
-    assert!(rt; is_known(&first_record(rt.alloc(), &BOTH_VERSIONS)?, &both));
-    Ok(())
-}
+/// What is known of that record.
+const OF_BOTH: [Known; 2] = [
+    (Axis::Source, 32, 0x0a00_0001),
+    (Axis::Source6, 128, HOST_9),
+];
 
 #[test]
-fn refuses_fields_of_other_lengths(rt: HostRuntime) -> Result<(), Fail> {
-    let refused: [(u8, [u8; 2]); 9] = [
-        (27, [0, 4]),
-        (28, [0, 15]),
-        (170, [0, 4]),
-        (169, [0, 17]),
-        (8, [0, 16]),
-        (29, [0, 2]),
-        (30, [0xff, 0xff]),
-        (60, [0, 2]),
-        (60, [0xff, 0xff]),
-    ];
-    for (element, [high, low]) in refused {
-        let content = [0, 2, 0, 12, 1, 0, 0, 1, 0, element, high, low];
-        assert!(rt; is_refused(rt.alloc(), 28, &content, 614)?, "not {element}");
+fn reads_each_version_by_its_own_elements(rt: HostRuntime) {
+    assert!(rt;
+        is_known(first_record(&rt, rt.alloc(), &LENGTHS_OF_OTHERS), &[])
+            & is_known(first_record(&rt, rt.alloc(), &BOTH_VERSIONS), &OF_BOTH)
+    );
+}
+
+/// Elements, and lengths that their fields can't have.
+const OTHER_LENGTHS: [(u8, [u8; 2]); 9] = [
+    (27, [0, 4]),
+    (28, [0, 15]),
+    (170, [0, 4]),
+    (169, [0, 17]),
+    (8, [0, 16]),
+    (29, [0, 2]),
+    (30, [0xff, 0xff]),
+    (60, [0, 2]),
+    (60, [0xff, 0xff]),
+];
+
+#[test]
+fn refuses_fields_of_other_lengths(rt: HostRuntime) {
+    for (element, [high, low]) in &OTHER_LENGTHS {
+        let content = [0, 2, 0, 12, 1, 0, 0, 1, 0, *element, *high, *low];
+        assert!(rt; is_refused(rt.alloc(), 28, &content, 614), "not {element}");
     }
-    Ok(())
 }

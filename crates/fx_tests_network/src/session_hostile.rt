@@ -2,13 +2,12 @@
 ghost use Rattle.std.specs.Prelude.{◌<◌};
 
 use crate::session;
-use fx_base::Fault;
 use fx_elements::Axis;
 use fx_session::Session;
 use fx_tables::Record;
 use std::alloc::{AllocError, Global};
 use std::ops::Range;
-use std::test::Fail;
+use std::process::Abort;
 
 /// Puts a message with this length, sequence number, domain and content behind what is there.
 fn put_message(
@@ -34,36 +33,34 @@ fn message(alloc: Global, length: u16, content: &[u8]) -> Result<Vec<u8>, AllocE
 }
 
 /// Whether a message is refused with this number.
-pub(crate) fn is_refused(
-    alloc: Global,
-    length: u16,
-    content: &[u8],
-    number: u16,
-) -> Result<bool, Fault> {
-    let stream = message(alloc, length, content)?;
-    session::is_refused(alloc, stream.as_slice(), number, 0)
+pub(crate) fn is_refused(alloc: Global, length: u16, content: &[u8], number: u16) -> bool {
+    match message(alloc, length, content) {
+        Ok(stream) => session::is_refused(alloc, stream.as_slice(), number),
+        Err(_) => false,
+    }
 }
 
 /// A template with octets in 4 octets.
 const NARROW: &[u8] = &[0, 2, 0, 20, 1, 0, 0, 3, 0, 8, 0, 4, 0, 1, 0, 4, 0, 2, 0, 8];
 
+/// The length and content of messages that are refused, and their numbers.
+const REFUSED: [(u16, &[u8], u16); 6] = [
+    (15, &[], 612),
+    (20, &[1, 0, 0, 3], 613),
+    (20, &[0, 5, 0, 4], 615),
+    (20, &[1, 0, 0, 4], 617),
+    (24, &[0, 2, 0, 8, 1, 0, 0xff, 0xff], 614), // 65,535 fields, cut by the set
+    (36, NARROW, 618),
+];
+
 #[test]
-fn refuses_malformed_messages(rt: HostRuntime) -> Result<(), Fail> {
-    let refused: [(u16, &[u8], u16); 6] = [
-        (15, &[], 612),
-        (20, &[1, 0, 0, 3], 613),
-        (20, &[0, 5, 0, 4], 615),
-        (20, &[1, 0, 0, 4], 617),
-        (24, &[0, 2, 0, 8, 1, 0, 0xff, 0xff], 614), // 65,535 fields, cut by the set
-        (36, NARROW, 618),
-    ];
-    for (length, content, number) in refused {
+fn refuses_malformed_messages(rt: HostRuntime) {
+    for (length, content, number) in &REFUSED {
         assert!(rt;
-            is_refused(rt.alloc(), length, content, number)?,
+            is_refused(rt.alloc(), *length, *content, *number),
             "not {number}"
         );
     }
-    Ok(())
 }
 
 /// A template of a prefix and its length, and a record of 10.9.0.0/16.
@@ -73,10 +70,10 @@ const PREFIX: &[u8] = &[
 ];
 
 /// The first record of a stream.
-pub(crate) fn first_record(alloc: Global, stream: &[u8]) -> Result<Option<Record>, Fault> {
-    let mut session = Session::new(alloc)?;
-    session.feed(stream)?;
-    Ok(session.next_record())
+pub(crate) fn first_record(rt: &impl Abort, alloc: Global, stream: &[u8]) -> Option<Record> {
+    let mut session = Session::new(alloc).expect(rt, "memory");
+    session.feed(stream).expect(rt, "a stream");
+    session.next_record()
 }
 
 /// Whether the record is there, and tells 16 bits of the source and no more.
@@ -92,37 +89,30 @@ fn is_prefix(found: Option<Record>) -> bool {
 }
 
 #[test]
-fn reads_a_prefix(rt: HostRuntime) -> Result<(), Fail> {
-    let stream = message(rt.alloc(), 65, PREFIX)?;
-    assert!(rt; is_prefix(first_record(rt.alloc(), stream.as_slice())?));
-    Ok(())
+fn reads_a_prefix(rt: HostRuntime) {
+    let stream = message(rt.alloc(), 65, PREFIX).expect(&rt, "memory");
+    assert!(rt; is_prefix(first_record(&rt, rt.alloc(), stream.as_slice())));
 }
 
-/// What is left of a stream that comes in pieces of this length, its gaps, and how many records were skipped.
-fn counts(alloc: Global, stream: &[u8], length: usize) -> Result<(usize, u64, u64), Fault>
+/// Whether a stream that comes in pieces of this length is read with no octet left and no gap, and so many of its
+/// records skipped.
+fn skips(rt: &impl Abort, alloc: Global, stream: Vec<u8>, length: usize, skipped: u64) -> bool
     requires { 0 < length }
 {
-    let mut session = Session::new(alloc)?;
-    feed_in_pieces(&mut session, stream, length)?;
-    Ok((session.left(), session.gaps(), session.skipped()))
-}
-
-/// Feeds a stream in pieces of this length.
-fn feed_in_pieces(session: &mut Session, stream: &[u8], length: usize) -> Result<(), Fault>
-    requires { 0 < length }
-{
-    for piece in stream.chunks(length) {
-        session.feed(piece)?;
+    let mut session = Session::new(alloc).expect(rt, "memory");
+    for piece in stream.as_slice().chunks(length) {
+        session.feed(piece).expect(rt, "a stream");
     }
-    Ok(())
+    (session.left() == 0) & (session.gaps() == 0) & (session.skipped() == skipped)
 }
+
+/// Withdrawals of a template that isn't there, and of all.
+const WITHDRAWALS: [u8; 20] = [0, 2, 0, 12, 1, 44, 0, 0, 0, 2, 0, 0, 0, 3, 0, 8, 0, 3, 0, 0];
 
 #[test]
-fn passes_withdrawals_of_nothing(rt: HostRuntime) -> Result<(), Fail> {
-    let content = [0, 2, 0, 12, 1, 44, 0, 0, 0, 2, 0, 0, 0, 3, 0, 8, 0, 3, 0, 0];
-    let stream = message(rt.alloc(), 36, &content)?;
-    assert!(rt; counts(rt.alloc(), stream.as_slice(), 36)? == (0, 0, 0));
-    Ok(())
+fn passes_withdrawals_of_nothing(rt: HostRuntime) {
+    let stream = message(rt.alloc(), 36, &WITHDRAWALS).expect(&rt, "memory");
+    assert!(rt; skips(&rt, rt.alloc(), stream, 36, 0));
 }
 
 /// A message with the last sequence number that has two records, and the next one. Its number is 2 to the 32 less 1
@@ -139,10 +129,16 @@ fn wrapping(alloc: Global) -> Result<Vec<u8>, AllocError> {
 }
 
 #[test]
-fn wraps_sequence_numbers(rt: HostRuntime) -> Result<(), Fail> {
-    let stream = wrapping(rt.alloc())?;
-    assert!(rt; counts(rt.alloc(), stream.as_slice(), 34)? == (0, 0, 2));
-    Ok(())
+fn wraps_sequence_numbers(rt: HostRuntime) {
+    assert!(rt;
+        skips(
+            &rt,
+            rt.alloc(),
+            wrapping(rt.alloc()).expect(&rt, "memory"),
+            34,
+            2
+        )
+    );
 }
 
 /// A template and a record of it in each of 256 domains.
@@ -155,11 +151,10 @@ fn put_domains(stream: &mut Vec<u8>) -> Result<(), AllocError> {
 }
 
 #[test]
-fn keeps_templates_by_domain(rt: HostRuntime) -> Result<(), Fail> {
+fn keeps_templates_by_domain(rt: HostRuntime) {
     let mut stream = Vec::new(rt.alloc());
-    put_domains(&mut stream)?;
-    assert!(rt; counts(rt.alloc(), stream.as_slice(), 33)? == (0, 0, 256));
-    Ok(())
+    put_domains(&mut stream).expect(&rt, "memory");
+    assert!(rt; skips(&rt, rt.alloc(), stream, 33, 256));
 }
 
 /// A set of 5,000 templates with these ids.
@@ -187,9 +182,8 @@ fn put_ten_thousand(stream: &mut Vec<u8>, alloc: Global) -> Result<(), AllocErro
 }
 
 #[test]
-fn keeps_ten_thousand_templates(rt: HostRuntime) -> Result<(), Fail> {
+fn keeps_ten_thousand_templates(rt: HostRuntime) {
     let mut stream = Vec::new(rt.alloc());
-    put_ten_thousand(&mut stream, rt.alloc())?;
-    assert!(rt; counts(rt.alloc(), stream.as_slice(), 40_020)? == (0, 0, 1));
-    Ok(())
+    put_ten_thousand(&mut stream, rt.alloc()).expect(&rt, "memory");
+    assert!(rt; skips(&rt, rt.alloc(), stream, 40_020, 1));
 }

@@ -1,10 +1,10 @@
 //! Runs that show a wrong total: the records of a meter go to a first collector by two destinations, or by one of two,
 //! and from there by two links to a second one, where they are tallied.
-ghost use Rattle.std.specs.Prelude.{◌≡◌, ◌<◌, All, length, [], ◌∷◌, true, Some, IfOk, IfSome};
+ghost use Rattle.std.specs.Prelude.{◌≡◌, ◌<◌, All, length, [], ◌∷◌, true, Some, IfSome};
 ghost use Rattle.fx_leaf.specs.Tables as by_table;
 ghost use Rattle.fx_tables.specs.Runnable.{IsRunnable};
 
-use crate::meters::{bare, into, meter};
+use crate::meters::{into, meter};
 use crate::parts::{holder, process};
 use fx_boxes::{Fields, Region};
 use fx_layout::Layout;
@@ -13,37 +13,38 @@ use fx_run_text::Step;
 use fx_steps::{packets_have_runs, wrong_run};
 use fx_tables::{Class, Classes, Exporter, Net, Packet, Path, Process};
 use std::alloc::Global;
-use std::test::Fail;
+use std::process::Abort;
 
 /// An exporting process with two destinations.
 fn to_two(
+    rt: &impl Abort,
     alloc: Global,
     parallel: bool,
     one: Option<usize>,
     other: Option<usize>,
-) -> Result<Exporter, Fail>
-    ensures { IfOk result (λ e. e ≡ record {
+) -> Exporter
+    ensures { result ≡ record {
       parallel = parallel;
       destinations = one ∷ other
           ∷ [];
-    }) }
+    } }
 {
-    Ok(Exporter::new(parallel, vec![in alloc; one, other]?))
+    Exporter::new(parallel, vec![in alloc; one, other].expect(rt, "memory"))
 }
 
 /// Collecting processes, of which the first names the second exporting process.
-fn processes(alloc: Global) -> Result<Vec<Process>, Fail>
-    ensures { IfOk result (λ ps. ps.items ≡ record { exporters = 1 ∷ []; aggregations = [] }
-        ∷ record { exporters = []; aggregations = [] } ∷ []) }
+fn processes(rt: &impl Abort, alloc: Global) -> Vec<Process>
+    ensures { result.items ≡ record { exporters = 1 ∷ []; aggregations = [] }
+        ∷ record { exporters = []; aggregations = [] } ∷ [] }
 {
-    let first = Process::new(vec![in alloc; 1]?, Vec::new(alloc));
-    Ok(vec![in alloc; first, process(alloc)]?)
+    let first = Process::new(vec![in alloc; 1].expect(rt, "memory"), Vec::new(alloc));
+    vec![in alloc; first, process(alloc)].expect(rt, "memory")
 }
 
 /// The network where the meter's exporting process is this one.
-fn network(alloc: Global, first: Exporter) -> Result<Net, Fail>
-    ensures tables { IfOk result (λ n. n ≡ record {
-      devices = n.devices;
+fn network(rt: &impl Abort, alloc: Global, first: Exporter) -> Net
+    ensures tables { result ≡ record {
+      devices = result.devices;
       exporters = first ∷ record { parallel = true; destinations = Some 2 ∷ Some 3 ∷ [] } ∷ [];
       holders = record { layout = []; exporters = 0 ∷ [] } ∷ [];
       processes = record { exporters = 1 ∷ []; aggregations = [] }
@@ -51,33 +52,34 @@ fn network(alloc: Global, first: Exporter) -> Result<Net, Fail>
       links = 0 ∷ 0 ∷ 1 ∷ 1 ∷ [];
       report = 1;
       report_layout = [];
-    }) }
-    ensures devices { IfOk result (λ n. All (λ d. (d.caches ≡ 0 ∷ [])
-        × All (λ p. All (λ s. s.holder ≡ Some 0) p.selections) d.points) n.devices) }
-    ensures meter { IfOk result (λ n. length n.devices ≡ 1) }
+    } }
+    ensures devices { All (λ d. (d.caches ≡ 0 ∷ [])
+        × All (λ p. All (λ s. s.holder ≡ Some 0) p.selections) d.points) result.devices }
+    ensures meter { length result.devices ≡ 1 }
 {
     let layout = Layout::new();
-    let second = to_two(alloc, true, Some(2), Some(3))?;
-    Ok(Net::new(
-        vec![in alloc; meter(alloc, Region::whole(), 0, false)?]?,
-        vec![in alloc; first, second]?,
-        vec![in alloc; holder(alloc, &layout, 0)?]?,
-        processes(alloc)?,
-        vec![in alloc; 0, 0, 1, 1]?,
+    let meter = meter(rt, alloc, Region::whole(), 0, false);
+    let second = to_two(rt, alloc, true, Some(2), Some(3));
+    Net::new(
+        vec![in alloc; meter].expect(rt, "memory"),
+        vec![in alloc; first, second].expect(rt, "memory"),
+        vec![in alloc; holder(rt, alloc, &layout, 0)].expect(rt, "memory"),
+        processes(rt, alloc),
+        vec![in alloc; 0, 0, 1, 1].expect(rt, "memory"),
         1,
         layout,
-    ))
+    )
 }
 
 /// One class, which may be exempt, of the packets that come into the meter.
-fn classes(alloc: Global, exempt: bool) -> Result<Classes, Fail> {
-    let path = Path::new(vec![in alloc; into(alloc, 1)?]?);
-    let class = Class::new(Region::whole(), vec![in alloc; path]?, exempt);
-    Ok(Classes::new(vec![in alloc; class]?))
+fn classes(rt: &impl Abort, alloc: Global, exempt: bool) -> Classes {
+    let path = Path::new(vec![in alloc; into(rt, alloc, 1)].expect(rt, "memory"));
+    let paths = vec![in alloc; path].expect(rt, "memory");
+    Classes::new(vec![in alloc; Class::new(Region::whole(), paths, exempt)].expect(rt, "memory"))
 }
 
 /// The steps of a wrong run of a packet from 10.0.0.1, if there are any.
-fn asked(alloc: Global, net: &Net, exempt: bool) -> Result<Option<Vec<Step>>, Fail>
+fn asked(rt: &impl Abort, alloc: Global, net: &Net, exempt: bool) -> Option<Vec<Step>>
     requires tables { by_table.AreTables (record {
       net = net.now;
       order = 1 ∷ 0 ∷ [];
@@ -85,45 +87,52 @@ fn asked(alloc: Global, net: &Net, exempt: bool) -> Result<Option<Vec<Step>>, Fa
     }) }
     requires runnable { IsRunnable net.now }
 {
-    let classes = classes(alloc, exempt)?;
+    let classes = classes(rt, alloc, exempt);
     let packet = Packet {
-        fields: Fields::new([0x0a00_0001, 0, 0, 0, 0, 0, 4, 0, 0]).ok_or("fields")?,
+        fields: Fields::of([0x0a00_0001, 0, 0, 0, 0, 0, 4, 0, 0]),
         octets: 1,
         class: 1,
         path: 1,
     };
-    let layouts = vec![in alloc; Layout::new()]?;
-    let tables = Tables::new(net, &[1, 0], layouts.as_slice(), &[0]);
-    Ok(bare(wrong_run(alloc, &tables, &classes, &packet)).map_err(|_number| "memory")?)
+    let layouts = [Layout::new()];
+    let tables = Tables::new(net, &[1, 0], &layouts, &[0]);
+    wrong_run(alloc, &tables, &classes, &packet).expect(rt, "memory")
 }
 
-/// How many steps they are, where the meter's exporting process sends to all of these destinations or to one of them.
-fn number(
+/// Whether they are so many steps, where the meter's exporting process sends to all of these destinations or to one of
+/// them; none are 0.
+fn has_steps(
+    rt: &impl Abort,
     alloc: Global,
     parallel: bool,
     one: Option<usize>,
     other: Option<usize>,
     exempt: bool,
-) -> Result<Option<usize>, Fail>
+    count: usize,
+) -> bool
     requires one { IfSome one (λ link. link < 4) }
     requires other { IfSome other (λ link. link < 4) }
 {
-    let net = network(alloc, to_two(alloc, parallel, one, other)?)?;
-    let steps = asked(alloc, &net, exempt)?;
-    Ok(steps.map(|steps| steps.len()))
+    let first = to_two(rt, alloc, parallel, one, other);
+    let net = network(rt, alloc, first);
+    match asked(rt, alloc, &net, exempt) {
+        Some(steps) => steps.len() == count,
+        None => count == 0,
+    }
 }
 
 #[test]
-fn tells_the_shortest_wrong_run(rt: HostRuntime) -> Result<(), Fail> {
+fn tells_the_shortest_wrong_run(rt: HostRuntime) {
     let alloc = rt.alloc();
-    // a crossing, a record that leaves the cache, two that arrive at the first collector, and four at the second
-    assert!(rt; number(alloc, true, Some(0), Some(1), false)? == Some(8));
-    // by the destination in no link the packet is lost in two steps
-    assert!(rt; number(alloc, false, Some(0), None, false)? == Some(2));
-    // an exempt packet is lost as is wanted; by the other destination it is counted twice
-    assert!(rt; number(alloc, false, Some(0), None, true)? == Some(5));
-    assert!(rt; number(alloc, false, None, None, true)? == None);
-    Ok(())
+    assert!(rt;
+        // a crossing, a record that leaves the cache, two that arrive at the first collector, and four at the second
+        has_steps(&rt, alloc, true, Some(0), Some(1), false, 8)
+            // by the destination in no link the packet is lost in two steps
+            & has_steps(&rt, alloc, false, Some(0), None, false, 2)
+            // an exempt packet is lost as is wanted; by the other destination it is counted twice
+            & has_steps(&rt, alloc, false, Some(0), None, true, 5)
+            & has_steps(&rt, alloc, false, None, None, true, 0)
+    );
 }
 
 #[test]
