@@ -19,7 +19,8 @@ SlurmctldHost=$(hostname -s)(127.0.0.1)
 SlurmUser=$(id -un)
 SlurmdUser=$(id -un)
 AuthType=auth/munge
-AuthInfo=socket=$folder/munge.socket
+# A task that was running on a node that died waits so many seconds before it starts again (120 otherwise).
+AuthInfo=socket=$folder/munge.socket,cred_expire=10
 StateSaveLocation=$folder/state
 SlurmctldPidFile=$folder/slurmctld.pid
 SlurmctldLogFile=$folder/slurmctld.log
@@ -36,7 +37,7 @@ SwitchType=switch/none
 MpiDefault=none
 SelectType=select/cons_tres
 SelectTypeParameters=CR_CPU
-# Tasks are short: start the next one at once (3 seconds otherwise), and tell soon that a node has died.
+# Tasks are short: the next one starts within a second (3 otherwise), and a node that has died is missed soon.
 SchedulerParameters=batch_sched_delay=0
 SlurmdTimeout=10
 ReturnToService=2

@@ -1,8 +1,8 @@
 #!/usr/bin/env bash
 # try.sh [turn|parallel|slurm]: tries these scripts on small inputs, with workers one after another, two by GNU parallel
-# (which it is where that is there and nothing is said), or two by a Slurm that it starts for it. In each round a worker is
-# killed in the middle of a part. Prints a line for each thing that is as it should be, and fails at the first that isn't.
-# Traffic is left out where jq isn't there.
+# (which it is where that is there and nothing is said), or two by a Slurm that it starts for it. A worker is killed in the
+# middle of a part, and of Slurm a whole node too, which takes a minute to be missed. Prints a line for each thing that is
+# as it should be, and fails at the first that isn't. Traffic is left out where jq isn't there.
 set -eu
 # shellcheck source-path=SCRIPTDIR source=common.sh
 . "$(dirname "$0")/common.sh"
@@ -24,14 +24,17 @@ differs() {
 }
 
 # A program that the first time it is called for part 0002 of a folder writes the beginning of an answer, and kills the worker
-# (which waits for the shell that has called it).
+# (which waits for the shell that has called it), or with DYING=node also what runs the worker and the node below it.
 cat > dying << END
 #!/usr/bin/env bash
+parent() { ps -o ppid= -p "\$1" | tr -d ' '; }
 case "\$*" in
   *parts/0002.*)
     if mkdir "\$PWD/died" 2> /dev/null; then
       echo keys
-      kill -9 \$(ps -o ppid= -p "\$PPID") "\$PPID"
+      worker=\$(parent "\$PPID")
+      [ "\$DYING" = worker ] || kill -9 \$(cat "$work/slurm/\$SLURMD_NODENAME.pid") \$(parent "\$worker")
+      kill -9 "\$worker" "\$PPID"
       exit 1
     fi ;;
 esac
@@ -39,17 +42,17 @@ exec "$program" "\$@"
 END
 chmod +x dying
 
-# Has the engine answer a folder, with a worker that dies.
+# Has the engine answer a folder, while a worker or a node dies.
 spread() {
-  export ONCE=$work/dying
+  export ONCE=$work/dying DYING=$2
   case $engine in
     turn) { "$here/worker.sh" "$1" || "$here/worker.sh" "$1"; } 2> "$1/said" ;;
     parallel) "$here/by_parallel.sh" "$1" 2 2> "$1/said" ;;
     slurm) "$here/by_slurm.sh" "$1" 2 ;;
   esac
   export ONCE=$program
-  [ -d "$1/died" ] || differs "a worker of $1 is killed"
-  so "a worker of $1 was killed, and each part has an answer"
+  [ -d "$1/died" ] || differs "a $2 of $1 is killed"
+  so "a $2 of $1 was killed, and each part has an answer"
 }
 
 # What the join of a folder ends with is this status.
@@ -61,7 +64,7 @@ ends_with() {
 
 try_streams() {
   "$here/make_streams.py" streams --streams 6 --records 150 --sources 10
-  spread streams
+  spread streams worker
   ends_with streams 0
   cmp streams/joined streams/expected.txt || differs "totals are those that the streams were made of"
   cat streams/parts/* | "$program" collect streams/network.json /dev/stdin | cmp - streams/joined || differs "totals are those of one process"
@@ -73,7 +76,7 @@ try_classes() {
   "$here/cut.sh" classes 6
   "$here/worker.sh" classes
   mv classes/answers classes/alone
-  spread classes
+  spread classes "$([ "$engine" = slurm ] && echo node || echo worker)"
   diff -r classes/alone classes/answers || differs "answers are those of a loop"
   ends_with classes 0
   [ "$(tail -n 1 classes/joined)" = "classes 20 yes" ] || differs "20 classes are certified"
