@@ -6,5 +6,6 @@ set -eu
 . "$(dirname "$0")/common.sh"
 
 { [ $# -eq 2 ] && [ -d "$1/parts" ]; } || usage
-lacking "$1" | parallel --jobs "$2" --retries 3 --joblog "$1/joblog" "$here/worker.sh" "$1" || true
+find_once
+lacking "$1" | parallel --quote --jobs "$2" --retries 3 --joblog "$1/joblog" "$here/worker.sh" "$1" || true
 finished "$1"

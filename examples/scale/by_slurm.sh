@@ -18,6 +18,7 @@ submit() {
 }
 
 { [ $# -ge 2 ] && [ $# -le 3 ] && [ -d "$1/parts" ]; } || usage
+find_once
 folder=$(realpath -- "$1")
 for _ in 1 2 3; do
   [ -z "$(lacking "$folder")" ] || submit "$folder" "$2" "${3:-1}"

@@ -1,15 +1,20 @@
 # shellcheck shell=bash
 # Read by the scripts of this folder (bash): where they stand, which program they run, and what the parts of a folder are.
 
+# Names are sorted alike everywhere.
+export LC_ALL=C
+
 here=$(cd "$(dirname "${BASH_SOURCE[0]}")" && pwd)
 
-# The program: what ONCE names, else the one that `make once` has built, else the one on the PATH.
-if [ -z "${ONCE:-}" ]; then
-  ONCE=$here/../../once
-  [ -x "$ONCE" ] || ONCE=$(command -v once) || { echo "there is no program once: run make once, or set ONCE" >&2; exit 6; }
-fi
-ONCE=$(realpath -- "$ONCE")
-export ONCE
+# Sets ONCE to the program: what it names, else the one that `make once` has built, else the one on the PATH.
+find_once() {
+  if [ -z "${ONCE:-}" ]; then
+    ONCE=$here/../../once
+    [ -x "$ONCE" ] || ONCE=$(command -v once) || { echo "there is no program once: run make once, or set ONCE" >&2; exit 6; }
+  fi
+  ONCE=$(realpath -- "$ONCE")
+  export ONCE
+}
 
 # Prints the comment at the top of the script that calls it, and ends as for wrong words.
 usage() {
@@ -19,7 +24,7 @@ usage() {
 
 # The numbers of the parts of a folder, in order.
 numbers() {
-  find "$1/parts" -mindepth 1 -printf '%f\n' | sed 's/\..*//' | LC_ALL=C sort
+  find "$1/parts" -mindepth 1 -printf '%f\n' | sed 's/\..*//' | sort
 }
 
 # The numbers of the parts that have no answer yet.

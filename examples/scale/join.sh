@@ -14,33 +14,37 @@ wrong() {
 
 # Each part has an answer, there are no others, and each is of this network and this part.
 compare() {
-  local number
-  diff <(numbers .) <(find answers -mindepth 1 -maxdepth 1 -printf '%f\n' | LC_ALL=C sort) >&2 ||
+  local sums number at=1
+  diff <(printf '%s\n' "${numbers[@]}") <(find answers -mindepth 1 -maxdepth 1 -printf '%f\n' | sort) >&2 ||
     wrong "parts (<) and answers (>) differ"
-  for number in $(numbers .); do
-    sha256sum network.json parts/"$number".* | cmp -s - "answers/$number/of" ||
+  mapfile -t sums < <(b2sum network.json parts/*)
+  for number in "${numbers[@]}"; do
+    [ "$(< "answers/$number/of")" = "${sums[0]}"$'\n'"${sums[at]}" ] ||
       wrong "the answer of part $number is of another network or another part"
+    at=$((at + 1))
   done
 }
 
 # What the program said of a part of the traffic, and how it ends: as the status that the whole has for it.
 say_of_part() {
-  case $(paste -s -d ' ' "answers/$1/statuses") in
-    'audit 0 check 0') said=yes status=0 ;;
-    'audit 1 confirm 0') said=refuted status=1 ;;
+  case $(< "answers/$1/statuses") in
+    $'audit 0\ncheck 0') said=yes status=0 ;;
+    $'audit 1\nconfirm 0') said=refuted status=1 ;;
     *) said="not shown: $(head -n 1 "answers/$1/judged" 2> /dev/null || head -n 1 "answers/$1/answer")"
       status=$(sed -n '$s/.* //p' "answers/$1/statuses") ;;
   esac
 }
 
 join_audits() {
-  local number said status refuted=0 other=0 all
-  cmp -s <(jq -c '.classes[]' traffic.json) <(for number in $(numbers .); do jq -c '.classes[]' "parts/$number.json"; done) ||
+  local number sizes said status refuted=0 other=0 all at=0
+  cmp -s <(jq -c '.classes[]' traffic.json) <(jq -c '.classes[]' parts/*) ||
     wrong "the classes of the parts aren't those of traffic.json"
   all=$(jq '.classes | length' traffic.json)
-  for number in $(numbers .); do
+  mapfile -t sizes < <(jq '.classes | length' parts/*)
+  for number in "${numbers[@]}"; do
     say_of_part "$number"
-    echo "part $number classes $(jq '.classes | length' "parts/$number.json") $said"
+    echo "part $number classes ${sizes[at]} $said"
+    at=$((at + 1))
     case $said in
       yes) ;;
       refuted) refuted=1 ;;
@@ -54,18 +58,20 @@ join_audits() {
 
 join_totals() {
   local number
-  for number in $(numbers .); do
-    [ "$(cat "answers/$number/statuses")" = 'collect 0' ] || {
-      echo "part $number $(cat "answers/$number/answer")"
+  for number in "${numbers[@]}"; do
+    [ "$(< "answers/$number/statuses")" = 'collect 0' ] || {
+      echo "part $number not collected: $(< "answers/$number/answer")"
       exit "$(sed 's/.* //' "answers/$number/statuses")"
     }
   done
-  for number in $(numbers .); do cat "answers/$number/answer"; done | "$ONCE" sum network.json /dev/stdin
+  cat answers/*/answer | "$ONCE" sum network.json /dev/stdin
 }
 
 { [ $# -eq 1 ] && [ -d "$1/parts" ]; } || usage
+find_once
 cd "$1"
 mkdir -p answers
+mapfile -t numbers < <(numbers .)
 compare
 case $(find parts -mindepth 1 -printf '%f\n' | sed 's/.*\.//' | sort -u) in
   json) join_audits ;;

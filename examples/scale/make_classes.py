@@ -61,8 +61,8 @@ def main():
     parser = argparse.ArgumentParser(usage=__doc__.split("\n")[0], description=__doc__.split("\n\n")[1])
     parser.add_argument("folder")
     parser.add_argument("--classes", type=int, default=10_000)
-    parser.add_argument("--routers", type=int, default=8)
-    parser.add_argument("--filters", type=int, default=4)
+    parser.add_argument("--routers", type=int, default=32)
+    parser.add_argument("--filters", type=int, default=64)
     parser.add_argument("--twice", type=int, default=0)
     words = parser.parse_args()
     if not 1 <= words.classes <= 65_536 or not 2 <= words.routers <= 63:

@@ -8,6 +8,7 @@ set -eu
 . "$(dirname "$0")/common.sh"
 engine=${1:-$(if command -v parallel > /dev/null; then echo parallel; else echo turn; fi)}
 case $engine in turn | parallel | slurm) ;; *) usage ;; esac
+find_once
 
 work=$(mktemp -d)
 trap '[ ! -d "$work/slurm" ] || "$here/slurm_here.sh" stop "$work/slurm"; rm -rf "$work"' EXIT
@@ -72,7 +73,7 @@ try_streams() {
 }
 
 try_classes() {
-  "$here/make_classes.py" classes --classes 20 --filters 2
+  "$here/make_classes.py" classes --classes 20 --routers 4 --filters 2
   "$here/cut.sh" classes 6
   "$here/worker.sh" classes
   mv classes/answers classes/alone
@@ -94,7 +95,7 @@ try_faults() {
   ends_with classes 7
   so "an answer that lacks, one too many and one of another network aren't joined"
   rm -r classes
-  "$here/make_classes.py" classes --classes 8 --filters 2 --twice 5
+  "$here/make_classes.py" classes --classes 8 --routers 4 --filters 2 --twice 5
   "$here/cut.sh" classes 4
   "$here/worker.sh" classes
   ends_with classes 1

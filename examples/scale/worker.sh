@@ -24,7 +24,7 @@ answer() {
   part=$(echo parts/"$number".*)
   made=$(mktemp -d "unfinished/$number.XXXXXX")
   trap 'rm -rf "$made"' EXIT
-  sha256sum network.json "$part" > "$made/of"
+  b2sum network.json "$part" > "$made/of"
   case $part in
     *.json)
       ask answer audit network.json "$part"
@@ -41,6 +41,7 @@ answer() {
 }
 
 { [ $# -ge 1 ] && [ -d "$1/parts" ]; } || usage
+find_once
 cd "$1"
 shift
 if [ $# -eq 0 ]; then
