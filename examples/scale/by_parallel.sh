@@ -7,5 +7,5 @@ set -eu
 
 { [ $# -eq 2 ] && [ -d "$1/parts" ]; } || usage
 find_once
-lacking "$1" | parallel --quote --jobs "$2" --retries 3 --joblog "$1/joblog" "$here/worker.sh" "$1" || true
+lacking "$1" | parallel --quote --jobs "$2" --retries 3 --joblog "$1/joblog" bash "$here/worker.sh" "$1" || true
 finished "$1"

@@ -3,4 +3,4 @@
 # SLURM_ARRAY_TASK_ID of LIST has. SCALE is the folder of the scripts, since Slurm runs a copy of this one.
 set -eu
 read -r -a parts < <(sed -n "${SLURM_ARRAY_TASK_ID}p" "$3")
-exec "$1/worker.sh" "$2" "${parts[@]}"
+exec bash "$1/worker.sh" "$2" "${parts[@]}"

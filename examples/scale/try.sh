@@ -11,7 +11,7 @@ case $engine in turn | parallel | slurm) ;; *) usage ;; esac
 find_once
 
 work=$(mktemp -d)
-trap '[ ! -d "$work/slurm" ] || "$here/slurm_here.sh" stop "$work/slurm"; rm -rf "$work"' EXIT
+trap '[ ! -d "$work/slurm" ] || bash "$here/slurm_here.sh" stop "$work/slurm"; rm -rf "$work"' EXIT
 program=$ONCE
 cd "$work"
 
@@ -47,9 +47,9 @@ chmod +x dying
 spread() {
   export ONCE=$work/dying DYING=$2
   case $engine in
-    turn) { "$here/worker.sh" "$1" || "$here/worker.sh" "$1"; } 2> "$1/said" ;;
-    parallel) "$here/by_parallel.sh" "$1" 2 2> "$1/said" ;;
-    slurm) "$here/by_slurm.sh" "$1" 2 ;;
+    turn) { bash "$here/worker.sh" "$1" || bash "$here/worker.sh" "$1"; } 2> "$1/said" ;;
+    parallel) bash "$here/by_parallel.sh" "$1" 2 2> "$1/said" ;;
+    slurm) bash "$here/by_slurm.sh" "$1" 2 ;;
   esac
   export ONCE=$program
   [ -d "$1/died" ] || differs "a $2 of $1 is killed"
@@ -59,12 +59,12 @@ spread() {
 # What the join of a folder ends with is this status.
 ends_with() {
   local status=0
-  "$here/join.sh" "$1" > "$1/joined" 2> /dev/null || status=$?
+  bash "$here/join.sh" "$1" > "$1/joined" 2> /dev/null || status=$?
   [ "$status" -eq "$2" ] || differs "the join of $1 ends with $2: $status"
 }
 
 try_streams() {
-  "$here/make_streams.py" streams --streams 6 --records 150 --sources 10
+  python3 "$here/make_streams.py" streams --streams 6 --records 150 --sources 10
   spread streams worker
   ends_with streams 0
   cmp streams/joined streams/expected.txt || differs "totals are those that the streams were made of"
@@ -73,9 +73,9 @@ try_streams() {
 }
 
 try_classes() {
-  "$here/make_classes.py" classes --classes 20 --routers 4 --filters 2
-  "$here/cut.sh" classes 6
-  "$here/worker.sh" classes
+  python3 "$here/make_classes.py" classes --classes 20 --routers 4 --filters 2
+  bash "$here/cut.sh" classes 6
+  bash "$here/worker.sh" classes
   mv classes/answers classes/alone
   spread classes "$([ "$engine" = slurm ] && echo node || echo worker)"
   diff -r classes/alone classes/answers || differs "answers are those of a loop"
@@ -95,16 +95,16 @@ try_faults() {
   ends_with classes 7
   so "an answer that lacks, one too many and one of another network aren't joined"
   rm -r classes
-  "$here/make_classes.py" classes --classes 8 --routers 4 --filters 2 --twice 5
-  "$here/cut.sh" classes 4
-  "$here/worker.sh" classes
+  python3 "$here/make_classes.py" classes --classes 8 --routers 4 --filters 2 --twice 5
+  bash "$here/cut.sh" classes 4
+  bash "$here/worker.sh" classes
   ends_with classes 1
   [ "$(sed -n 2p classes/joined)" = "part 0002 classes 4 refuted" ] || differs "part 0002 is refuted"
   so "where packets of a class are counted twice, its part is refuted, and so are all"
 }
 
 if [ "$engine" = slurm ]; then
-  eval "$("$here/slurm_here.sh" start "$work/slurm" 2)"
+  eval "$(bash "$here/slurm_here.sh" start "$work/slurm" 2)"
 fi
 try_streams
 if command -v jq > /dev/null; then
