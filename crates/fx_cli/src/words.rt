@@ -124,6 +124,21 @@ fn with_file<'a>(
     command.arg(file(alloc, name, help))
 }
 
+/// This command, which now takes one more file, or none.
+fn with_choice<'a>(
+    alloc: Global,
+    command: Command<'a>,
+    name: &'a str,
+    help: &'a str,
+) -> Result<Command<'a>, AllocError>
+    requires { (out-Command command).has_globals ≡ false }
+    ensures app { IfOk result (λ c. app_of c
+        ≡ with_rule (app_of command.entry) (new_rule name.entry.now)) }
+    ensures local { IfOk result (λ c. (out-Command c).has_globals ≡ false) }
+{
+    command.arg(Arg::new(alloc, name).help(help))
+}
+
 /// A command that wants a network.
 fn network_command<'a>(
     alloc: Global,
@@ -294,7 +309,7 @@ fn lint_command<'a>(alloc: Global) -> Result<Command<'a>, AllocError>
         "Says whether a network document, and a traffic declaration, have a fault, and which comes first",
         help_text::LINT,
     )?;
-    command.arg(Arg::new(alloc, "TRAFFIC").help("The traffic declaration (JSON)"))
+    with_choice(alloc, command, "TRAFFIC", "The traffic declaration (JSON)")
 }
 
 /// The command `draw`.
@@ -310,9 +325,13 @@ fn draw_command<'a>(alloc: Global) -> Result<Command<'a>, AllocError>
         "Draws a network, its traffic, and what a certificate or a refutation says of them",
         help_text::DRAW,
     )?;
-    let traffic = Arg::new(alloc, "TRAFFIC").help("The traffic declaration (JSON)");
-    let answer = Arg::new(alloc, "ANSWER").help("The text of a certificate or a refutation");
-    command.arg(traffic)?.arg(answer)
+    let command = with_choice(alloc, command, "TRAFFIC", "The traffic declaration (JSON)")?;
+    with_choice(
+        alloc,
+        command,
+        "ANSWER",
+        "The text of a certificate or a refutation",
+    )
 }
 
 /// The command `sum`.
