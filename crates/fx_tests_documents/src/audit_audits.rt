@@ -4,10 +4,10 @@ use crate::check::traffic_of;
 use crate::plan::plan_of;
 use crate::refute::{EXEMPT, WITH_FALLBACK};
 use fx_audit::{Answer, audit_bytes, confirm_bytes};
-use fx_base::{Fault, Fuse, LineReader, Octets, Room};
+use fx_base::{Fuse, LineReader, Octets, Room};
 use fx_search::{Found, Unwatched, Watch, search};
 use std::alloc::Global;
-use std::test::Fail;
+use std::process::Abort;
 
 /// The certificate of a network that counts each packet at its one selection process.
 const CERTIFICATE: &[u8] = b"once-certificate 1\nclass 1 path 1\nL 1 1 1\nend\n";
@@ -36,18 +36,23 @@ fn ends(
 }
 
 /// Whether these octets are a refutation that is confirmed.
-fn is_confirmed(alloc: Global, documents: (&str, &str), refutation: &[u8]) -> Result<bool, Fault> {
+fn is_confirmed(
+    rt: &impl Abort,
+    alloc: Global,
+    documents: (&str, &str),
+    refutation: &[u8],
+) -> bool {
     let mut network = Octets::new(documents.0.as_bytes());
     let mut traffic = Octets::new(documents.1.as_bytes());
-    let mut lines = LineReader::new(alloc, Octets::new(refutation))?;
+    let mut lines = LineReader::new(alloc, Octets::new(refutation)).expect(rt, "memory");
     let mut octets = [0u8; 256];
     let mut room = Room::new(&mut octets);
     let outcome = confirm_bytes(alloc, &mut network, &mut traffic, &mut lines, &mut room);
-    Ok(ending(outcome) == Ok(Answer::Yes))
+    ending(outcome) == Ok(Answer::Yes)
 }
 
 /// Whether an audit writes a refutation that is confirmed.
-fn refutes(alloc: Global, documents: (&str, &str)) -> Result<bool, Fault> {
+fn refutes(rt: &impl Abort, alloc: Global, documents: (&str, &str)) -> bool {
     let mut network = Octets::new(documents.0.as_bytes());
     let mut traffic = Octets::new(documents.1.as_bytes());
     let mut octets = [0u8; 256];
@@ -60,34 +65,36 @@ fn refutes(alloc: Global, documents: (&str, &str)) -> Result<bool, Fault> {
         &mut Unwatched,
         &mut room,
     );
-    Ok(ending(outcome) == Ok(Answer::No) && is_confirmed(alloc, documents, room.octets())?)
+    (ending(outcome) == Ok(Answer::No)) & is_confirmed(rt, alloc, documents, room.octets())
+}
+
+/// Traffic and limits, how an audit ends, and what it writes.
+const AUDITED: [(&str, u64, Result<Answer, u16>, &[u8]); 5] = [
+    (TRAFFIC, 1_000_000, Ok(Answer::Yes), CERTIFICATE),
+    (TRAFFIC, 1, Ok(Answer::Yes), CERTIFICATE),
+    (TRAFFIC, 0, Ok(Answer::Unknown), b"unknown 601\n"),
+    (
+        r#"{"classes":[]}"#,
+        0,
+        Ok(Answer::Yes),
+        b"once-certificate 1\nend\n",
+    ),
+    ("{}", 1, Err(103), b""),
+];
+
+#[test]
+fn audits_to_a_certificate(rt: HostRuntime) {
+    for (traffic, limit, wanted, text) in &AUDITED {
+        assert!(rt; ends(rt.alloc(), (NETWORK, *traffic), *limit, *wanted, *text));
+    }
 }
 
 #[test]
-fn audits_to_a_certificate(rt: HostRuntime) -> Result<(), Fail> {
-    for (traffic, limit, wanted, text) in [
-        (TRAFFIC, 1_000_000, Ok(Answer::Yes), CERTIFICATE),
-        (TRAFFIC, 1, Ok(Answer::Yes), CERTIFICATE),
-        (TRAFFIC, 0, Ok(Answer::Unknown), b"unknown 601\n".as_slice()),
-        (
-            r#"{"classes":[]}"#,
-            0,
-            Ok(Answer::Yes),
-            b"once-certificate 1\nend\n".as_slice(),
-        ),
-        ("{}", 1, Err(103), b"".as_slice()),
-    ] {
-        assert!(rt; ends(rt.alloc(), (NETWORK, traffic), limit, wanted, text));
-    }
-    Ok(())
-}
-
-#[test]
-fn audits_to_a_refutation(rt: HostRuntime) -> Result<(), Fail> {
-    for documents in [(WITH_FALLBACK, TRAFFIC), (NETWORK, EXEMPT)] {
-        assert!(rt; refutes(rt.alloc(), documents)?);
-    }
-    Ok(())
+fn audits_to_a_refutation(rt: HostRuntime) {
+    assert!(rt;
+        refutes(&rt, rt.alloc(), (WITH_FALLBACK, TRAFFIC))
+            & refutes(&rt, rt.alloc(), (NETWORK, EXEMPT))
+    );
 }
 
 /// Keeps how many lines it was told of last.
@@ -102,17 +109,21 @@ impl Watch for LastLines {
     }
 }
 
-#[test]
-fn finds_a_certificate(rt: HostRuntime) -> Result<(), Fail> {
-    let plan = plan_of(rt.alloc(), NETWORK)?;
-    let traffic = traffic_of(rt.alloc(), TRAFFIC, &plan)?;
-    let mut told = LastLines { lines: 0 };
-    let items = match search(rt.alloc(), &plan, &traffic, 2, &mut told)? {
+/// How many items a certificate has that was found, or 0 where it was a refutation.
+fn items(found: Found) -> usize {
+    match found {
         Found::Certificate(items) => items.len(),
         Found::Refutation(_) => 0,
-    };
-    assert!(rt; items == 4 && told.lines == 1);
-    Ok(())
+    }
+}
+
+#[test]
+fn finds_a_certificate(rt: HostRuntime) {
+    let plan = plan_of(&rt, rt.alloc(), NETWORK);
+    let traffic = traffic_of(&rt, rt.alloc(), TRAFFIC, &plan);
+    let mut told = LastLines { lines: 0 };
+    let found = search(rt.alloc(), &plan, &traffic, 2, &mut told).expect(&rt, "a certificate");
+    assert!(rt; (items(found) == 4) & (told.lines == 1));
 }
 
 /// How an audit ends where its devices fail at these calls, the network, the traffic and the answer, or at none for 0.
@@ -132,16 +143,19 @@ fn failing(alloc: Global, calls: [u64; 3]) -> Result<Answer, u16> {
     ))
 }
 
+/// The calls at which devices fail, and how an audit ends.
+const FAILING: [([u64; 3], Result<Answer, u16>); 6] = [
+    ([0, 0, 0], Ok(Answer::Yes)),
+    ([1, 0, 0], Err(901)),
+    ([2, 0, 0], Err(901)),
+    ([0, 1, 0], Err(901)),
+    ([0, 0, 1], Err(902)),
+    ([0, 0, 2], Err(902)),
+];
+
 #[test]
 fn fails_with_its_devices(rt: HostRuntime) {
-    for (calls, wanted) in [
-        ([0, 0, 0], Ok(Answer::Yes)),
-        ([1, 0, 0], Err(901)),
-        ([2, 0, 0], Err(901)),
-        ([0, 1, 0], Err(901)),
-        ([0, 0, 1], Err(902)),
-        ([0, 0, 2], Err(902)),
-    ] {
-        assert!(rt; failing(rt.alloc(), calls) == wanted);
+    for (calls, wanted) in &FAILING {
+        assert!(rt; failing(rt.alloc(), *calls) == *wanted);
     }
 }

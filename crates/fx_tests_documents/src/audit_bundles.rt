@@ -2,8 +2,8 @@
 use crate::audit_texts::{CERTIFICATE, NETWORK, RUN, TOTALS, TRAFFIC, ending, seed};
 use fx_audit::{Answer, bundle_bytes};
 use fx_base::{Fuse, Octets, Room};
-use std::alloc::{AllocError, Global};
-use std::test::Fail;
+use std::alloc::Global;
+use std::process::Abort;
 
 /// Whether a bundle ends like this, with this written.
 fn ends(alloc: Global, bundle: &[u8], wanted: Result<Answer, u16>, text: &[u8]) -> bool {
@@ -16,16 +16,16 @@ fn ends(alloc: Global, bundle: &[u8], wanted: Result<Answer, u16>, text: &[u8]) 
 
 /// The same of the bundle of a command, the network and two more texts.
 fn ends_over_network(
+    rt: &impl Abort,
     alloc: Global,
-    command: &[u8],
-    traffic: &[u8],
-    last: &[u8],
+    texts: [&[u8]; 3],
     wanted: Result<Answer, u16>,
     text: &[u8],
-) -> Result<bool, AllocError> {
+) -> bool {
+    let [command, traffic, last] = texts;
     let end = b"%%\n".as_slice();
-    let bundle = [command, NETWORK.as_bytes(), end, traffic, end, last, end].concat(alloc)?;
-    Ok(ends(alloc, bundle.as_slice(), wanted, text))
+    let bundle = [command, NETWORK.as_bytes(), end, traffic, end, last, end].concat(alloc);
+    ends(alloc, bundle.expect(rt, "memory").as_slice(), wanted, text)
 }
 
 /// Texts of another shape; the last is a bundle, whose traffic holds a line `%%%`.
@@ -54,50 +54,69 @@ fn refuses_other_shapes(rt: HostRuntime) {
 }
 
 #[test]
-fn answers_bundles(rt: HostRuntime) -> Result<(), Fail> {
-    let alloc = rt.alloc();
-    let (traffic, yes) = (TRAFFIC.as_bytes(), Ok(Answer::Yes));
+fn answers_bundles(rt: HostRuntime) {
+    let (alloc, traffic, yes) = (rt.alloc(), TRAFFIC.as_bytes(), Ok(Answer::Yes));
+    let no = b"no 501 line 1\n";
     assert!(rt;
-        ends_over_network(alloc, b"replay\n", traffic, RUN, yes, TOTALS)?
-            && ends_over_network(alloc, b"check\n", traffic, CERTIFICATE, yes, b"yes\n")?
-            && ends_over_network(
+        ends_over_network(&rt, alloc, [b"replay\n", traffic, RUN], yes, TOTALS)
+            & ends_over_network(
+                &rt,
                 alloc,
-                b"confirm\n",
-                traffic,
-                b"x\n",
+                [b"check\n", traffic, CERTIFICATE],
+                yes,
+                b"yes\n"
+            )
+            & ends_over_network(
+                &rt,
+                alloc,
+                [b"confirm\n", traffic, b"x\n"],
                 Ok(Answer::No),
-                b"no 501 line 1\n"
-            )?
+                no
+            )
     );
-    Ok(())
 }
 
 /// The bundle of an audit has two texts.
 #[test]
-fn answers_a_bundle_of_an_audit(rt: HostRuntime) -> Result<(), Fail> {
-    let alloc = rt.alloc();
+fn answers_a_bundle_of_an_audit(rt: HostRuntime) {
     let (network, traffic, end) = (NETWORK.as_bytes(), TRAFFIC.as_bytes(), b"%%\n".as_slice());
-    let bundle = [b"audit\n".as_slice(), network, end, traffic, end].concat(alloc)?;
-    assert!(rt; ends(alloc, bundle.as_slice(), Ok(Answer::Yes), CERTIFICATE));
-    Ok(())
+    let bundle = [b"audit\n".as_slice(), network, end, traffic, end].concat(rt.alloc());
+    let bundle = bundle.expect(&rt, "memory");
+    assert!(rt; ends(rt.alloc(), bundle.as_slice(), Ok(Answer::Yes), CERTIFICATE));
 }
 
-/// Each bundle is refused for what stands in it: a line `%%%`, a list, no line at all in the run.
+/// The traffic of bundles, and the number with which they are refused for what stands in them: a line `%%%`, a list,
+/// no line at all in the run.
+const REFUSED: [(&str, u16); 3] = [("[]\n%%%\n", 101), ("[]\n", 104), (TRAFFIC, 855)];
+
 #[test]
-fn refuses_texts_of_bundles(rt: HostRuntime) -> Result<(), Fail> {
-    for (traffic, number) in [("[]\n%%%\n", 101), ("[]\n", 104), (TRAFFIC, 855)] {
-        let traffic = traffic.as_bytes();
-        assert!(rt; ends_over_network(rt.alloc(), b"replay\n", traffic, b"", Err(number), b"")?);
+fn refuses_texts_of_bundles(rt: HostRuntime) {
+    for (traffic, number) in &REFUSED {
+        let texts = [b"replay\n".as_slice(), traffic.as_bytes(), b""];
+        assert!(rt; ends_over_network(&rt, rt.alloc(), texts, Err(*number), b""));
     }
-    Ok(())
+}
+
+/// How a bundle ends where its read and its write of these numbers fail, or none for 0.
+fn failing(alloc: Global, bundle: &[u8], read: u64, write: u64) -> Result<Answer, u16> {
+    let mut source = Fuse::new(Octets::new(bundle), read);
+    let mut octets = [0u8; 64];
+    let mut sink = Fuse::new(Room::new(&mut octets), write);
+    ending(bundle_bytes(alloc, seed(), &mut source, &mut sink))
 }
 
 /// A bundle is read in one call, and a second one finds its end; its answer is written in one.
+const FAILING: [(u64, u64, Result<Answer, u16>); 4] = [
+    (0, 0, Ok(Answer::Yes)),
+    (1, 0, Err(901)),
+    (2, 0, Err(901)),
+    (0, 1, Err(902)),
+];
+
 #[test]
-fn fails_with_its_devices(rt: HostRuntime) -> Result<(), Fail> {
-    let alloc = rt.alloc();
+fn fails_with_its_devices(rt: HostRuntime) {
     let (network, traffic, end) = (NETWORK.as_bytes(), TRAFFIC.as_bytes(), b"%%\n".as_slice());
-    let bundle = [
+    let texts = [
         b"check\n".as_slice(),
         network,
         end,
@@ -105,18 +124,9 @@ fn fails_with_its_devices(rt: HostRuntime) -> Result<(), Fail> {
         end,
         CERTIFICATE,
         end,
-    ]
-    .concat(alloc)?;
-    for (read, write, wanted) in [
-        (0, 0, Ok(Answer::Yes)),
-        (1, 0, Err(901)),
-        (2, 0, Err(901)),
-        (0, 1, Err(902)),
-    ] {
-        let mut source = Fuse::new(Octets::new(bundle.as_slice()), read);
-        let mut octets = [0u8; 64];
-        let mut sink = Fuse::new(Room::new(&mut octets), write);
-        assert!(rt; ending(bundle_bytes(alloc, seed(), &mut source, &mut sink)) == wanted);
+    ];
+    let bundle = texts.concat(rt.alloc()).expect(&rt, "memory");
+    for (read, write, wanted) in &FAILING {
+        assert!(rt; failing(rt.alloc(), bundle.as_slice(), *read, *write) == *wanted);
     }
-    Ok(())
 }

@@ -24,15 +24,13 @@ fn lints_a_network(rt: HostRuntime) {
     assert!(rt; ends(rt.alloc(), NETWORK.as_bytes(), 0, Ok(Answer::Yes), b"ok\n"));
 }
 
-/// Last a read fails.
+/// What is no network, the read that fails, which is the last's, and the number of the fault.
+const REFUSED: [(&str, u64, u16); 3] = [("{", 0, 101), ("[]", 0, 104), (NETWORK, 1, 901)];
+
 #[test]
 fn refuses_documents_of_no_network(rt: HostRuntime) {
-    for (network, call, number) in [
-        (b"{".as_slice(), 0, 101),
-        (b"[]", 0, 104),
-        (NETWORK.as_bytes(), 1, 901),
-    ] {
-        assert!(rt; ends(rt.alloc(), network, call, Err(number), b""));
+    for (network, call, number) in &REFUSED {
+        assert!(rt; ends(rt.alloc(), network.as_bytes(), *call, Err(*number), b""));
     }
 }
 
@@ -65,13 +63,11 @@ fn ends_both(
 /// The traffic isn't read where the network is refused: last its first read would fail.
 #[test]
 fn lints_traffic_too(rt: HostRuntime) {
-    let (network, traffic) = (NETWORK.as_bytes(), TRAFFIC.as_bytes());
-    for (network, traffic, call, wanted) in [
-        (network, traffic, 0, Ok(Answer::Yes)),
-        (network, b"{\"classes\":7}".as_slice(), 0, Err(104)),
-        (network, traffic, 1, Err(901)),
-        (b"[]".as_slice(), traffic, 1, Err(104)),
-    ] {
-        assert!(rt; ends_both(rt.alloc(), network, traffic, call, wanted));
-    }
+    let (alloc, network, traffic) = (rt.alloc(), NETWORK.as_bytes(), TRAFFIC.as_bytes());
+    assert!(rt;
+        ends_both(alloc, network, traffic, 0, Ok(Answer::Yes))
+            & ends_both(alloc, network, b"{\"classes\":7}", 0, Err(104))
+            & ends_both(alloc, network, traffic, 1, Err(901))
+            & ends_both(alloc, b"[]", traffic, 1, Err(104))
+    );
 }

@@ -1,89 +1,93 @@
 //! Runs replayed over documents, and devices that fail.
 use crate::audit_texts::{NETWORK, RUN, TOTALS, TRAFFIC, ending, seed};
 use fx_audit::{Answer, replay_bytes};
-use fx_base::{Fault, Fuse, LineReader, Octets, Room};
+use fx_base::{Fuse, LineReader, Octets, Room};
 use std::alloc::Global;
-use std::test::Fail;
+use std::process::Abort;
 
 /// How replaying three texts ends in this room, where the network's reader fails at a call, or at none for 0.
 fn replayed(
+    rt: &impl Abort,
     alloc: Global,
     texts: [&[u8]; 3],
     call: u64,
     room: &mut Room<'_>,
-) -> Result<Result<Answer, u16>, Fault> {
+) -> Result<Answer, u16> {
     let [network, traffic, run] = texts;
     let mut network = Fuse::new(Octets::new(network), call);
     let mut traffic = Octets::new(traffic);
-    let mut lines = LineReader::new(alloc, Octets::new(run))?;
-    Ok(ending(replay_bytes(alloc, seed(), &mut network, &mut traffic, &mut lines, room)))
+    let mut lines = LineReader::new(alloc, Octets::new(run)).expect(rt, "memory");
+    ending(replay_bytes(alloc, seed(), &mut network, &mut traffic, &mut lines, room))
 }
 
 /// Whether replaying three texts ends like this, with this written.
 fn ends(
+    rt: &impl Abort,
     alloc: Global,
     texts: [&[u8]; 3],
     wanted: Result<Answer, u16>,
     text: &[u8],
-) -> Result<bool, Fault> {
+) -> bool {
     let mut octets = [0u8; 256];
     let mut room = Room::new(&mut octets);
-    Ok(replayed(alloc, texts, 0, &mut room)? == wanted && room.octets() == text)
+    (replayed(rt, alloc, texts, 0, &mut room) == wanted) & (room.octets() == text)
 }
 
+/// A run whose record stays in the cache.
+const OPEN: &[u8] = b"once-run 1\npacket 1 1 10.0.0.1 192.0.2.1 6 1000 80 0 1\ncross 1 1 n\nend\n";
+
 #[test]
-fn replays_runs(rt: HostRuntime) -> Result<(), Fail> {
-    let open = b"once-run 1\npacket 1 1 10.0.0.1 192.0.2.1 6 1000 80 0 1\ncross 1 1 n\nend\n";
+fn replays_runs(rt: HostRuntime) {
+    let (network, traffic, yes) = (NETWORK.as_bytes(), TRAFFIC.as_bytes(), Ok(Answer::Yes));
     let nothing = b"keys 0\nunassigned 0\ncomplete no\n";
     assert!(rt;
-        ends(
-            rt.alloc(),
-            [NETWORK.as_bytes(), TRAFFIC.as_bytes(), RUN],
-            Ok(Answer::Yes),
-            TOTALS
-        )? && ends(
-            rt.alloc(),
-            [NETWORK.as_bytes(), TRAFFIC.as_bytes(), open],
-            Ok(Answer::Yes),
-            nothing
-        )?
+        ends(&rt, rt.alloc(), [network, traffic, RUN], yes, TOTALS)
+            & ends(&rt, rt.alloc(), [network, traffic, OPEN], yes, nothing)
     );
-    Ok(())
 }
 
+/// A network, traffic and a run, of which one is wrong at least, and the number of the first fault.
+const REFUSED: [(&str, &str, &[u8], u16); 6] = [
+    ("{", "{", b"", 101),
+    ("{}", "{", b"", 103),
+    (NETWORK, "7", b"", 104),
+    (NETWORK, TRAFFIC, b"", 855),
+    (NETWORK, TRAFFIC, b"once-run 1\narrive 1 1\nend\n", 853),
+    (
+        NETWORK,
+        TRAFFIC,
+        b"once-run 1\nexpire cache 2 1 1\nend\n",
+        851,
+    ),
+];
+
 #[test]
-fn refuses_the_first_wrong_text(rt: HostRuntime) -> Result<(), Fail> {
-    for (network, traffic, run, number) in [
-        (b"{".as_slice(), b"{".as_slice(), b"".as_slice(), 101),
-        (b"{}", b"{", b"", 103),
-        (NETWORK.as_bytes(), b"\xff", b"", 101),
-        (NETWORK.as_bytes(), b"7", b"", 104),
-        (NETWORK.as_bytes(), TRAFFIC.as_bytes(), b"", 855),
-        (
-            NETWORK.as_bytes(),
-            TRAFFIC.as_bytes(),
-            b"once-run 1\narrive 1 1\nend\n",
-            853,
-        ),
-        (
-            NETWORK.as_bytes(),
-            TRAFFIC.as_bytes(),
-            b"once-run 1\nexpire cache 2 1 1\nend\n",
-            851,
-        ),
-    ] {
-        assert!(rt; ends(rt.alloc(), [network, traffic, run], Err(number), b"")?);
+fn refuses_the_first_wrong_text(rt: HostRuntime) {
+    for (network, traffic, run, number) in &REFUSED {
+        let texts = [network.as_bytes(), traffic.as_bytes(), *run];
+        assert!(rt; ends(&rt, rt.alloc(), texts, Err(*number), b""));
     }
-    Ok(())
 }
 
 #[test]
-fn fails_with_its_devices(rt: HostRuntime) -> Result<(), Fail> {
+fn refuses_traffic_that_is_no_text(rt: HostRuntime) {
+    assert!(rt;
+        ends(
+            &rt,
+            rt.alloc(),
+            [NETWORK.as_bytes(), b"\xff", b""],
+            Err(101),
+            b""
+        )
+    );
+}
+
+#[test]
+fn fails_with_its_devices(rt: HostRuntime) {
     let texts = [NETWORK.as_bytes(), TRAFFIC.as_bytes(), RUN];
     let mut octets = [0u8; 256];
-    let unread = replayed(rt.alloc(), texts, 1, &mut Room::new(&mut octets))?;
+    let unread = replayed(&rt, rt.alloc(), texts, 1, &mut Room::new(&mut octets));
     let mut octets = [0u8; 8];
-    let unwritten = replayed(rt.alloc(), texts, 0, &mut Room::new(&mut octets))?;
-    assert!(rt; unread == Err(901) && unwritten == Err(902));
-    Ok(())
+    let unwritten = replayed(&rt, rt.alloc(), texts, 0, &mut Room::new(&mut octets));
+    assert!(rt; (unread == Err(901)) & (unwritten == Err(902)));
 }

@@ -1,10 +1,10 @@
 //! Networks that run over captures, and what refuses them.
 use crate::audit_texts::{NETWORK, TRAFFIC, ending, seed};
 use fx_audit::{Answer, run_bytes};
-use fx_base::{Fault, Fuse, LineReader, Octets, Room};
-use fx_link::{Nowhere, Sinks};
+use fx_base::{Fuse, LineReader, Octets, Room, Sink, Source};
+use fx_link::{Links, Nowhere, Sinks};
 use std::alloc::Global;
-use std::test::Fail;
+use std::process::Abort;
 
 /// A capture of three packets of raw IP from 10.0.0.1, of 100, 200 and 300 octets, in the seconds 1, 2 and 3.
 pub(crate) const CAPTURE: [u8; 132] = [
@@ -35,110 +35,125 @@ pub(crate) const SCHEDULE: &[u8] = b"next\nnext\nexpire 1 1\nnext\n";
 const TOTALS: &[u8] =
     b"keys 1\n10.0.0.1 packets 3 octets 600\nunassigned 0\nskipped other 0 malformed 0\n";
 
-#[test]
-fn runs_over_a_capture(rt: HostRuntime) -> Result<(), Fail> {
+/// How a run of the network ends over this traffic, with this capture, schedule, links and sink.
+fn ran<C: Source, Q: Source, L: Links, S: Sink>(
+    rt: &impl Abort,
+    alloc: Global,
+    traffic: &[u8],
+    capture: C,
+    schedule: Q,
+    links: &mut L,
+    sink: &mut S,
+) -> Result<Answer, u16> {
     let mut network = Octets::new(NETWORK.as_bytes());
-    let mut traffic = Octets::new(TRAFFIC.as_bytes());
-    let mut schedule = LineReader::new(rt.alloc(), Octets::new(SCHEDULE))?;
-    let mut store = [0u8; 128];
-    let mut rooms = Vec::new(rt.alloc());
-    rooms.push(Room::new(&mut store))?;
-    let mut links = Sinks::new(rooms);
-    let mut octets = [0u8; 128];
-    let mut room = Room::new(&mut octets);
-    let outcome = run_bytes(
-        rt.alloc(),
+    let mut traffic = Octets::new(traffic);
+    let mut schedule = LineReader::new(alloc, schedule).expect(rt, "memory");
+    ending(run_bytes(
+        alloc,
         seed(),
         &mut network,
         &mut traffic,
-        Octets::new(&CAPTURE),
+        capture,
         &mut schedule,
+        links,
+        sink,
+    ))
+}
+
+#[test]
+fn runs_over_a_capture(rt: HostRuntime) {
+    let mut store = [0u8; 128];
+    let mut rooms = Vec::new(rt.alloc());
+    rooms.push(Room::new(&mut store)).expect(&rt, "memory");
+    let mut links = Sinks::new(rooms);
+    let mut octets = [0u8; 128];
+    let mut room = Room::new(&mut octets);
+    let ended = ran(
+        &rt,
+        rt.alloc(),
+        TRAFFIC.as_bytes(),
+        Octets::new(&CAPTURE),
+        Octets::new(SCHEDULE),
         &mut links,
         &mut room,
     );
-    assert!(rt; ending(outcome) == Ok(Answer::Yes));
-    assert!(rt; room.octets() == TOTALS);
-    let put = links.as_slice().first().ok_or("sink")?.octets();
-    assert!(rt; put == ON_THE_LINK.as_slice());
-    Ok(())
+    let is_put = match links.as_slice() {
+        [link] => link.octets() == ON_THE_LINK.as_slice(),
+        _ => false,
+    };
+    assert!(rt; is_put & (ended == Ok(Answer::Yes)) & (room.octets() == TOTALS));
 }
 
-/// How a run over these octets ends, where nothing is kept of its links.
-fn ends(
+/// Whether a run over these octets is refused with this number, and writes nothing, where nothing is kept of its links.
+fn refuses(
+    rt: &impl Abort,
     alloc: Global,
     traffic: &[u8],
     capture: &[u8],
     schedule: &[u8],
-    room: &mut Room<'_>,
-) -> Result<Result<Answer, u16>, Fault> {
-    let mut network = Octets::new(NETWORK.as_bytes());
-    let mut traffic = Octets::new(traffic);
-    let mut schedule = LineReader::new(alloc, Octets::new(schedule))?;
-    Ok(ending(run_bytes(
+    number: u16,
+) -> bool {
+    let mut octets = [0u8; 128];
+    let mut room = Room::new(&mut octets);
+    let ended = ran(
+        rt,
         alloc,
-        seed(),
-        &mut network,
-        &mut traffic,
+        traffic,
         Octets::new(capture),
-        &mut schedule,
+        Octets::new(schedule),
         &mut Nowhere,
-        room,
-    )))
+        &mut room,
+    );
+    (ended == Err(number)) & room.octets().is_empty()
 }
 
 /// The documents go before the capture's header, which goes before the schedule; a line before a later record.
 #[test]
-fn refuses_what_is_wrong_first(rt: HostRuntime) -> Result<(), Fail> {
-    let declared = TRAFFIC.as_bytes();
-    for (traffic, capture, schedule, number) in [
-        (b"7".as_slice(), &CAPTURE[..23], b"last\n".as_slice(), 104),
-        (declared, &CAPTURE[..23], b"last\n", 701),
-        (declared, &CAPTURE[..131], b"last\n", 801),
-        (declared, &CAPTURE[..131], b"expire 1 1\n", 802),
-        (declared, &CAPTURE[..131], b"next\n", 703),
-    ] {
-        let mut octets = [0u8; 128];
-        let mut room = Room::new(&mut octets);
-        let outcome = ends(rt.alloc(), traffic, capture, schedule, &mut room)?;
-        assert!(rt; outcome == Err(number) && room.octets().is_empty());
-    }
-    Ok(())
+fn refuses_what_is_wrong_first(rt: HostRuntime) {
+    let (alloc, traffic) = (rt.alloc(), TRAFFIC.as_bytes());
+    assert!(rt;
+        refuses(&rt, alloc, b"7", &CAPTURE[..23], b"last\n", 104)
+            & refuses(&rt, alloc, traffic, &CAPTURE[..23], b"last\n", 701)
+            & refuses(&rt, alloc, traffic, &CAPTURE[..131], b"last\n", 801)
+            & refuses(&rt, alloc, traffic, &CAPTURE[..131], b"expire 1 1\n", 802)
+            & refuses(&rt, alloc, traffic, &CAPTURE[..131], b"next\n", 703)
+    );
 }
 
 /// How the run ends where its devices fail at these calls, the capture, the schedule, the link and the answer, or at
 /// none for 0.
-fn failing(alloc: Global, calls: [u64; 4]) -> Result<Result<Answer, u16>, Fault> {
+fn failing(rt: &impl Abort, alloc: Global, calls: [u64; 4]) -> Result<Answer, u16> {
     let [capture, schedule, link, answer] = calls;
-    let mut network = Octets::new(NETWORK.as_bytes());
-    let mut traffic = Octets::new(TRAFFIC.as_bytes());
-    let mut schedule = LineReader::new(alloc, Fuse::new(Octets::new(SCHEDULE), schedule))?;
     let mut store = [0u8; 128];
     let mut sinks = Vec::new(alloc);
-    sinks.push(Fuse::new(Room::new(&mut store), link))?;
+    sinks
+        .push(Fuse::new(Room::new(&mut store), link))
+        .expect(rt, "memory");
     let mut octets = [0u8; 128];
-    Ok(ending(run_bytes(
+    ran(
+        rt,
         alloc,
-        seed(),
-        &mut network,
-        &mut traffic,
+        TRAFFIC.as_bytes(),
         Fuse::new(Octets::new(&CAPTURE), capture),
-        &mut schedule,
+        Fuse::new(Octets::new(SCHEDULE), schedule),
         &mut Sinks::new(sinks),
         &mut Fuse::new(Room::new(&mut octets), answer),
-    )))
+    )
 }
 
+/// The calls at which devices fail, and how the run ends.
+const FAILING: [([u64; 4], Result<Answer, u16>); 6] = [
+    ([0, 0, 0, 0], Ok(Answer::Yes)),
+    ([1, 0, 0, 0], Err(901)),
+    ([0, 1, 0, 0], Err(901)),
+    ([0, 0, 1, 0], Err(902)),
+    ([0, 0, 2, 0], Err(902)),
+    ([0, 0, 0, 1], Err(902)),
+];
+
 #[test]
-fn fails_with_its_devices(rt: HostRuntime) -> Result<(), Fail> {
-    for (calls, wanted) in [
-        ([0, 0, 0, 0], Ok(Answer::Yes)),
-        ([1, 0, 0, 0], Err(901)),
-        ([0, 1, 0, 0], Err(901)),
-        ([0, 0, 1, 0], Err(902)),
-        ([0, 0, 2, 0], Err(902)),
-        ([0, 0, 0, 1], Err(902)),
-    ] {
-        assert!(rt; failing(rt.alloc(), calls)? == wanted);
+fn fails_with_its_devices(rt: HostRuntime) {
+    for (calls, wanted) in &FAILING {
+        assert!(rt; failing(&rt, rt.alloc(), *calls) == *wanted);
     }
-    Ok(())
 }

@@ -3,29 +3,43 @@ use crate::audit_texts::{NETWORK, TOTALS, ending, seed};
 use fx_audit::{Answer, sum_bytes};
 use fx_base::{LineReader, Octets, Room};
 use std::alloc::Global;
-use std::test::Fail;
+use std::process::Abort;
 
-/// How summing these texts ends, and whether it writes this.
-fn sums(alloc: Global, texts: &[u8], wanted: &[u8]) -> Result<(Result<Answer, u16>, bool), Fail> {
+/// Whether summing these texts ends like this, with this written.
+fn ends(
+    rt: &impl Abort,
+    alloc: Global,
+    texts: &[u8],
+    wanted: Result<Answer, u16>,
+    text: &[u8],
+) -> bool {
     let mut network = Octets::new(NETWORK.as_bytes());
-    let mut lines = LineReader::new(alloc, Octets::new(texts))?;
+    let mut lines = LineReader::new(alloc, Octets::new(texts)).expect(rt, "memory");
     let mut octets = [0u8; 256];
     let mut room = Room::new(&mut octets);
     let outcome = sum_bytes(alloc, seed(), &mut network, &mut lines, &mut room);
-    Ok((ending(outcome), room.octets() == wanted))
+    (ending(outcome) == wanted) & (room.octets() == text)
 }
 
-/// Counts are added modulo 2 to the 64; what isn't that of the report is refused, and nothing is written.
+/// Totals of another stream.
+const OTHER: &[u8] =
+    b"keys 2\n10.0.0.1 packets 1 octets 3\n10.0.0.9 packets 4 octets 400\nunassigned 2\ngaps 1\nskipped 0\n";
+
+/// What both come to: counts are added modulo 2 to the 64.
+const SUM: &[u8] =
+    b"keys 2\n10.0.0.1 packets 3 octets 2\n10.0.0.9 packets 4 octets 400\nunassigned 2\ncomplete yes\ngaps 1\nskipped 0\n";
+
 #[test]
-fn sums_what_was_collected_apart(rt: HostRuntime) -> Result<(), Fail> {
-    let other =
-        b"keys 2\n10.0.0.1 packets 1 octets 3\n10.0.0.9 packets 4 octets 400\nunassigned 2\ngaps 1\nskipped 0\n";
-    let both = [TOTALS, other.as_slice()].concat(rt.alloc())?;
-    let sum =
-        b"keys 2\n10.0.0.1 packets 3 octets 2\n10.0.0.9 packets 4 octets 400\nunassigned 2\ncomplete yes\ngaps 1\nskipped 0\n";
-    assert!(rt; sums(rt.alloc(), both.as_slice(), sum)? == (Ok(Answer::Yes), true));
+fn sums_what_was_collected_apart(rt: HostRuntime) {
+    let both = [TOTALS, OTHER].concat(rt.alloc()).expect(&rt, "memory");
+    assert!(rt; ends(&rt, rt.alloc(), both.as_slice(), Ok(Answer::Yes), SUM));
+}
+
+/// What isn't of the report, or no text of totals, is refused, and nothing is written.
+#[test]
+fn refuses_other_totals(rt: HostRuntime) {
     let prefixes = b"keys 1\n10.0.0.0/8 packets 1 octets 3\nunassigned 0\n";
-    assert!(rt; sums(rt.alloc(), prefixes, b"")? == (Err(861), true));
-    assert!(rt; sums(rt.alloc(), b"", b"")? == (Err(861), true));
-    Ok(())
+    assert!(rt;
+        ends(&rt, rt.alloc(), prefixes, Err(861), b"") & ends(&rt, rt.alloc(), b"", Err(861), b"")
+    );
 }

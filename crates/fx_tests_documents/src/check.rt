@@ -1,5 +1,6 @@
 //! Certificates of small networks.
 use crate::audit_texts::{NETWORK, TRAFFIC};
+use crate::documents::is_told;
 use crate::plan::plan_of;
 use fx_base::{Fault, LineReader, Octets};
 use fx_check::{certificates_are_accepted, certificates_count_once, check, wrong_leaves_are_told};
@@ -7,7 +8,7 @@ use fx_plan::Plan;
 use fx_traffic::{Traffic, read_traffic};
 use serde_json::Value;
 use std::alloc::Global;
-use std::test::Fail;
+use std::process::Abort;
 
 /// A meter of the sources below 128.0.0.0, a collector, and a meter of the sources from there on.
 const TWO_METERS: &str = r#"{"devices":[{"name":"m1","config":{"ietf-ipfix-psamp:ipfix":{
@@ -29,56 +30,38 @@ const TWO_METERS: &str = r#"{"devices":[{"name":"m1","config":{"ietf-ipfix-psamp
 {"device":"m2","exportingProcess":"ex","destination":"d","toDevice":"c1","toProcess":"cp"}],
 "report":{"device":"c1","collectingProcess":"cp","key":[{"ieName":"sourceIPv4Address"}]}}"#;
 
-/// What checking the certificate comes to: `yes`, or the fault's number and place.
-fn outcome(
-    alloc: Global,
-    plan: &Plan,
-    traffic: &Traffic,
-    certificate: &str,
-) -> Result<String, Fail> {
+/// What comes of checking a certificate.
+fn checked(alloc: Global, plan: &Plan, traffic: &Traffic, certificate: &str) -> Result<(), Fault> {
     let mut lines = LineReader::new(alloc, Octets::new(certificate.as_bytes()))?;
-    match check(alloc, plan, traffic, &mut lines) {
-        Ok(()) => Ok(String::from_str(alloc, "yes")?),
-        Err(Fault { number, place }) => Ok(format!(in alloc; "{number} {place}")?),
-    }
-}
-
-/// The certificates whose check doesn't come to what stands beside them.
-fn wrong_among(
-    alloc: Global,
-    plan: &Plan,
-    traffic: &Traffic,
-    certificates: &[(&str, &str)],
-) -> Result<String, Fail> {
-    let mut wrong = String::new(alloc);
-    for (certificate, wanted) in certificates {
-        if outcome(alloc, plan, traffic, certificate)?.as_str() != *wanted {
-            writeln!(wrong, "{certificate}")?;
-        }
-    }
-    Ok(wrong)
+    check(alloc, plan, traffic, &mut lines)
 }
 
 /// The traffic that a declaration means.
-pub(crate) fn traffic_of(alloc: Global, text: &str, plan: &Plan) -> Result<Traffic, Fail> {
-    Ok(read_traffic(alloc, &Value::from_str(alloc, text)?, plan)?)
+pub(crate) fn traffic_of(rt: &impl Abort, alloc: Global, text: &str, plan: &Plan) -> Traffic {
+    let value = Value::from_str(alloc, text).expect(rt, "a document");
+    read_traffic(alloc, &value, plan).expect(rt, "traffic")
 }
 
-/// The same over the documents of a network and its traffic.
-fn wrong_certificates(
+/// Checks certificates over the documents of a network and its traffic: each is to be told of like what stands beside
+/// it.
+fn check_all(
+    rt: &impl Abort,
     alloc: Global,
     network: &str,
     traffic: &str,
     certificates: &[(&str, &str)],
-) -> Result<String, Fail> {
-    let plan = plan_of(alloc, network)?;
-    let traffic = traffic_of(alloc, traffic, &plan)?;
-    wrong_among(alloc, &plan, &traffic, certificates)
+) {
+    let plan = plan_of(rt, alloc, network);
+    let traffic = traffic_of(rt, alloc, traffic, &plan);
+    for (certificate, wanted) in certificates {
+        let answer = checked(alloc, &plan, &traffic, *certificate);
+        assert!(rt; is_told(rt, alloc, answer, *wanted), "{certificate}");
+    }
 }
 
 /// Over one meter of all packets, and one path through it.
 const CERTIFICATES: &[(&str, &str)] = &[
-    ("once-certificate 1\nclass 1 path 1\nL 1 1 1\nend\n", "yes"),
+    ("once-certificate 1\nclass 1 path 1\nL 1 1 1\nend\n", "ok"),
     (
         "once-certificate 1\nclass 1 path 1\nS source 167772161\n",
         "405 line 4",
@@ -136,7 +119,7 @@ const PATH_THROUGH_TWO: &str =
 const OF_PATH_THROUGH_TWO: &[(&str, &str)] = &[
     (
         "once-certificate 1\nclass 1 path 1\nS source 2147483648\nL 1 1 1\nL 2 1 1\nend\n",
-        "yes",
+        "ok",
     ),
     (
         "once-certificate 1\nclass 1 path 1\nS source 2147483647\nL 1 1 1\nL 2 1 1\nend\n",
@@ -151,7 +134,7 @@ const EXEMPT_UNSEEN: &str =
 const OF_EXEMPT_UNSEEN: &[(&str, &str)] = &[
     (
         "once-certificate 2\nclass 1 path 1\nL 1 1 1\nclass 2 path 1\nN\nend\n",
-        "yes",
+        "ok",
     ),
     (
         "once-certificate 1\nclass 1 path 1\nL 1 1 1\nclass 2 path 1\nN\nend\n",
@@ -173,20 +156,21 @@ const OF_EXEMPT_COUNTED: &[(&str, &str)] = &[(
     "415 line 3",
 )];
 
+/// Networks, traffic, and certificates.
+const CHECKED: [(&str, &str, &[(&str, &str)]); 6] = [
+    (NETWORK, TRAFFIC, CERTIFICATES),
+    (NETWORK, PATH_UNSEEN, OF_PATH_UNSEEN),
+    (NETWORK, PATH_TWICE, OF_PATH_TWICE),
+    (TWO_METERS, PATH_THROUGH_TWO, OF_PATH_THROUGH_TWO),
+    (NETWORK, EXEMPT_UNSEEN, OF_EXEMPT_UNSEEN),
+    (NETWORK, EXEMPT_COUNTED, OF_EXEMPT_COUNTED),
+];
+
 #[test]
-fn checks_certificates(rt: HostRuntime) -> Result<(), Fail> {
-    for (network, traffic, certificates) in [
-        (NETWORK, TRAFFIC, CERTIFICATES),
-        (NETWORK, PATH_UNSEEN, OF_PATH_UNSEEN),
-        (NETWORK, PATH_TWICE, OF_PATH_TWICE),
-        (TWO_METERS, PATH_THROUGH_TWO, OF_PATH_THROUGH_TWO),
-        (NETWORK, EXEMPT_UNSEEN, OF_EXEMPT_UNSEEN),
-        (NETWORK, EXEMPT_COUNTED, OF_EXEMPT_COUNTED),
-    ] {
-        let wrong = wrong_certificates(rt.alloc(), network, traffic, certificates)?;
-        assert_eq!(rt; wrong.as_str(), "");
+fn checks_certificates(rt: HostRuntime) {
+    for (network, traffic, certificates) in &CHECKED {
+        check_all(&rt, rt.alloc(), *network, *traffic, *certificates);
     }
-    Ok(())
 }
 
 #[test]

@@ -5,7 +5,7 @@ use fx_elements::Axis;
 use fx_layout::Part;
 use serde_json::Value;
 use std::alloc::Global;
-use std::test::Fail;
+use std::process::Abort;
 
 const METER: &str = r#"{"ietf-ipfix-psamp:ipfix":{
         "observationPoint":[{"name":"op","observationDomainId":0,"ifName":["eth0"],"selectionProcess":["sp"]}],
@@ -18,8 +18,9 @@ const METER: &str = r#"{"ietf-ipfix-psamp:ipfix":{
 const COLLECTOR: &str = r#"{"ietf-ipfix-psamp:ipfix":{"collectingProcess":[{"name":"cp"}]}}"#;
 
 /// The device that a document means.
-fn device_of(alloc: Global, text: &str) -> Result<Device, Fail> {
-    Ok(read_device(alloc, &Value::from_str(alloc, text)?)?)
+fn device_of(rt: &impl Abort, alloc: Global, text: &str) -> Device {
+    let value = Value::from_str(alloc, text).expect(rt, "a document");
+    read_device(alloc, &value).expect(rt, "a device")
 }
 
 /// Whether the metering device observes at its interface, for its selection process.
@@ -68,10 +69,9 @@ fn counts_and_exports(device: &Device) -> bool {
 }
 
 #[test]
-fn reads_a_metering_device(rt: HostRuntime) -> Result<(), Fail> {
-    let device = device_of(rt.alloc(), METER)?;
-    assert!(rt; observes(&device) && selects(&device) && counts_and_exports(&device));
-    Ok(())
+fn reads_a_metering_device(rt: HostRuntime) {
+    let device = device_of(&rt, rt.alloc(), METER);
+    assert!(rt; observes(&device) & selects(&device) & counts_and_exports(&device));
 }
 
 /// Whether a device collects by the process `cp`, and observes nothing.
@@ -83,35 +83,42 @@ fn collects(device: &Device) -> bool {
 }
 
 #[test]
-fn reads_a_collector(rt: HostRuntime) -> Result<(), Fail> {
-    assert!(rt; collects(&device_of(rt.alloc(), COLLECTOR)?));
-    Ok(())
+fn reads_a_collector(rt: HostRuntime) {
+    assert!(rt; collects(&device_of(&rt, rt.alloc(), COLLECTOR)));
+}
+
+/// The name that a text is.
+fn name(rt: &impl Abort, alloc: Global, text: &str) -> Name {
+    Name::read(alloc, text).expect(rt, "a name")
 }
 
 /// Whether a name is new to the names kept, which keep it from then on.
-fn adds(alloc: Global, names: &mut fx_walk::Names, name: &str) -> Result<bool, Fail> {
-    Ok(names.add(&Name::read(alloc, name)?)?)
+fn adds(rt: &impl Abort, alloc: Global, names: &mut fx_walk::Names, text: &str) -> bool {
+    names.add(&name(rt, alloc, text)).expect(rt, "memory")
 }
 
 /// Whether the names kept hold this one at this place, or nowhere for `None`.
 fn keeps(
+    rt: &impl Abort,
     alloc: Global,
     names: &fx_walk::Names,
-    name: &str,
+    text: &str,
     place: Option<usize>,
-) -> Result<bool, Fail> {
-    let name = Name::read(alloc, name)?;
-    Ok(names.place_of(&name) == place && names.contains(&name) == place.is_some())
+) -> bool {
+    let name = name(rt, alloc, text);
+    (names.place_of(&name) == place) & (names.contains(&name) == place.is_some())
 }
 
 #[test]
-fn keeps_names(rt: HostRuntime) -> Result<(), Fail> {
-    let mut names = fx_walk::Names::new(rt.alloc());
-    for (name, is_new) in [("a", true), ("b", true), ("a", false)] {
-        assert!(rt; adds(rt.alloc(), &mut names, name)? == is_new);
-    }
-    for (name, place) in [("a", Some(0)), ("b", Some(1)), ("c", None)] {
-        assert!(rt; keeps(rt.alloc(), &names, name, place)?);
-    }
-    Ok(())
+fn keeps_names(rt: HostRuntime) {
+    let alloc = rt.alloc();
+    let mut names = fx_walk::Names::new(alloc);
+    assert!(rt;
+        adds(&rt, alloc, &mut names, "a")
+            & adds(&rt, alloc, &mut names, "b")
+            & !adds(&rt, alloc, &mut names, "a")
+            & keeps(&rt, alloc, &names, "a", Some(0))
+            & keeps(&rt, alloc, &names, "b", Some(1))
+            & keeps(&rt, alloc, &names, "c", None)
+    );
 }

@@ -6,7 +6,7 @@ use fx_topology::read_network;
 use fx_traffic::{Traffic, read_traffic};
 use serde_json::Value;
 use std::alloc::Global;
-use std::test::Fail;
+use std::process::Abort;
 
 /// What a document is to describe.
 #[derive(Clone, Copy)]
@@ -33,67 +33,101 @@ const NETWORK: &str = r#"{"devices":[
 {"name":"m1","config":{"ietf-ipfix-psamp:ipfix":{}}}],
 "links":[],"report":{"device":"c1","collectingProcess":"cp","key":[]}}"#;
 
+/// The document that a text is.
+fn value_of(rt: &impl Abort, alloc: Global, text: &str) -> Value {
+    Value::from_str(alloc, text).expect(rt, "a document")
+}
+
 /// The traffic that a text declares in that network.
-pub(crate) fn traffic_of(alloc: Global, text: &str) -> Result<Result<Traffic, Fault>, Fail> {
-    let value = Value::from_str(alloc, text)?;
-    let plan = plan_of(alloc, NETWORK)?;
-    Ok(read_traffic(alloc, &value, &plan))
+pub(crate) fn traffic_of(rt: &impl Abort, alloc: Global, text: &str) -> Result<Traffic, Fault> {
+    read_traffic(
+        alloc,
+        &value_of(rt, alloc, text),
+        &plan_of(rt, alloc, NETWORK),
+    )
 }
 
-/// The fault that reading a document ends with.
-fn fault_of(alloc: Global, kind: Kind, document: &str) -> Result<Option<Fault>, Fail> {
+/// Whether something was done or read; what it is isn't told.
+fn done<T: Drop>(answer: Result<T, Fault>) -> Result<(), Fault> {
+    match answer {
+        Ok(_) => Ok(()),
+        Err(fault) => Err(fault),
+    }
+}
+
+/// What reading a document comes to.
+fn read(rt: &impl Abort, alloc: Global, kind: Kind, text: &str) -> Result<(), Fault> {
     match kind {
-        Kind::Device => Ok(read_device(alloc, &Value::from_str(alloc, document)?).err()),
-        Kind::Network => Ok(read_network(alloc, &Value::from_str(alloc, document)?).err()),
-        Kind::Traffic => Ok(traffic_of(alloc, document)?.err()),
+        Kind::Device => done(read_device(alloc, &value_of(rt, alloc, text))),
+        Kind::Network => done(read_network(alloc, &value_of(rt, alloc, text))),
+        Kind::Traffic => done(traffic_of(rt, alloc, text)),
     }
 }
 
-/// What a document comes to: `ok`, or the fault's number and pointer.
-fn outcome(alloc: Global, kind: Kind, document: &str) -> Result<String, Fail> {
-    match fault_of(alloc, kind, document)? {
-        None => Ok(String::from_str(alloc, "ok")?),
-        Some(Fault { number, place }) => Ok(format!(in alloc; "{number} {place}")?),
+/// What an answer comes to: `ok`, or the fault's number and place.
+fn told(rt: &impl Abort, alloc: Global, answer: Result<(), Fault>) -> String {
+    match answer {
+        Ok(()) => String::from_str(alloc, "ok").expect(rt, "memory"),
+        Err(Fault { number, place }) => format!(in alloc; "{number} {place}").expect(rt, "memory"),
     }
 }
 
-/// Fails unless the text in its frame comes to what is wanted, where pointers begin behind the frame's.
-fn look_at(alloc: Global, frame: &Frame<'_>, text: &str, wanted: &str) -> Result<(), Fail> {
-    let document = format!(in alloc; "{}{text}{}", frame.before, frame.behind)?;
-    let found = outcome(alloc, frame.kind, document.as_str())?;
-    let is_wanted = match found.as_str().split_once(frame.pointer) {
+/// Whether this is what an answer comes to.
+pub(crate) fn is_told(
+    rt: &impl Abort,
+    alloc: Global,
+    answer: Result<(), Fault>,
+    wanted: &str,
+) -> bool {
+    told(rt, alloc, answer).as_str() == wanted
+}
+
+/// Whether this is what an answer comes to, where pointers begin behind the frame's.
+fn is_told_in(found: &str, pointer: &str, wanted: &str) -> bool {
+    match found.split_once(pointer) {
         Some((number, place)) => wanted.strip_prefix(number) == Some(place),
-        None => found.as_str() == wanted,
-    };
-    if is_wanted {
-        Ok(())
-    } else {
-        Err(Fail::from(text))
+        None => found == wanted,
     }
 }
 
-/// The same for each text and what stands beside it.
+/// Whether the text in its frame comes to what is wanted.
+fn comes_to(rt: &impl Abort, alloc: Global, frame: &Frame<'_>, text: &str, wanted: &str) -> bool {
+    let document = [frame.before, text, frame.behind]
+        .concat(alloc)
+        .expect(rt, "memory");
+    let found = told(rt, alloc, read(rt, alloc, frame.kind, document.as_str()));
+    is_told_in(found.as_str(), frame.pointer, wanted)
+}
+
+/// Looks at each text: it is to come to what stands beside it.
 pub(crate) fn look_at_rows(
+    rt: &impl Abort,
     alloc: Global,
     frame: &Frame<'_>,
     rows: &[(&str, &str)],
-) -> Result<(), Fail> {
+) {
     for (text, wanted) in rows {
-        look_at(alloc, frame, text, wanted)?;
+        assert!(rt; comes_to(rt, alloc, frame, *text, *wanted), "{text}");
     }
-    Ok(())
 }
 
-/// The same for a list that has an item so many times.
-fn look_at_list(
+/// Whether a list that has an item so many times comes to what is wanted.
+fn list_comes_to(
+    rt: &impl Abort,
     alloc: Global,
     frame: &Frame<'_>,
     item: &str,
     count: usize,
     wanted: &str,
-) -> Result<(), Fail> {
-    let list = item.repeat(alloc, count)?;
-    look_at(alloc, frame, list.as_str().trim_end_matches(','), wanted)
+) -> bool {
+    let list = item.repeat(alloc, count).expect(rt, "memory");
+    comes_to(
+        rt,
+        alloc,
+        frame,
+        list.as_str().trim_end_matches(','),
+        wanted,
+    )
 }
 
 const DEVICES: Frame<'static> = Frame {
@@ -131,19 +165,21 @@ const CROSSINGS: Frame<'static> = Frame {
     pointer: "",
 };
 
+/// Items of lists, how many of them, and what these come to.
+const LISTS: [(Frame<'static>, &str, usize, &str); 8] = [
+    (DEVICES, "{},", 65, "115 /devices"),
+    (LINKS, "{},", 1025, "115 /links"),
+    (CLASSES, "7,", 257, "305 /classes"),
+    (CLASSES, "7,", 256, "104 /classes/0"),
+    (PATHS, "7,", 17, "305 /classes/0/paths"),
+    (PATHS, "7,", 16, "104 /classes/0/paths/0"),
+    (CROSSINGS, "7,", 33, "305 /classes/0/paths/0"),
+    (CROSSINGS, "7,", 32, "104 /classes/0/paths/0/0"),
+];
+
 #[test]
-fn refuses_long_lists(rt: HostRuntime) -> Result<(), Fail> {
-    for (frame, item, count, wanted) in [
-        (DEVICES, "{},", 65, "115 /devices"),
-        (LINKS, "{},", 1025, "115 /links"),
-        (CLASSES, "7,", 257, "305 /classes"),
-        (CLASSES, "7,", 256, "104 /classes/0"),
-        (PATHS, "7,", 17, "305 /classes/0/paths"),
-        (PATHS, "7,", 16, "104 /classes/0/paths/0"),
-        (CROSSINGS, "7,", 33, "305 /classes/0/paths/0"),
-        (CROSSINGS, "7,", 32, "104 /classes/0/paths/0/0"),
-    ] {
-        look_at_list(rt.alloc(), &frame, item, count, wanted)?;
+fn refuses_long_lists(rt: HostRuntime) {
+    for (frame, item, count, wanted) in &LISTS {
+        assert!(rt; list_comes_to(&rt, rt.alloc(), frame, *item, *count, *wanted));
     }
-    Ok(())
 }

@@ -2,6 +2,8 @@
 #![tactic(auto)]
 
 #[cfg(test)]
+mod answers;
+#[cfg(test)]
 mod audit_audits;
 #[cfg(test)]
 mod audit_bundles;

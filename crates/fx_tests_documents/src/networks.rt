@@ -7,11 +7,12 @@ use fx_tables::Net;
 use fx_topology::{NetworkDocument, read_network};
 use serde_json::Value;
 use std::alloc::Global;
-use std::test::Fail;
+use std::process::Abort;
 
 /// The network that a document means.
-fn network_of(alloc: Global, text: &str) -> Result<NetworkDocument, Fail> {
-    Ok(read_network(alloc, &Value::from_str(alloc, text)?)?)
+fn network_of(rt: &impl Abort, alloc: Global, text: &str) -> NetworkDocument {
+    let value = Value::from_str(alloc, text).expect(rt, "a document");
+    read_network(alloc, &value).expect(rt, "a network")
 }
 
 /// Whether the two devices of the network are the meter and the collector.
@@ -49,10 +50,9 @@ fn has_report(network: &NetworkDocument) -> bool {
 }
 
 #[test]
-fn reads_a_network(rt: HostRuntime) -> Result<(), Fail> {
-    let network = network_of(rt.alloc(), audit_texts::NETWORK)?;
-    assert!(rt; has_devices(&network) && has_link(&network) && has_report(&network));
-    Ok(())
+fn reads_a_network(rt: HostRuntime) {
+    let network = network_of(&rt, rt.alloc(), audit_texts::NETWORK);
+    assert!(rt; has_devices(&network) & has_link(&network) & has_report(&network));
 }
 
 /// How many devices, exporting processes, caches, collecting processes and links a network has.
@@ -67,10 +67,9 @@ fn sizes(net: &Net) -> [usize; 5] {
 }
 
 #[test]
-fn means_a_network(rt: HostRuntime) -> Result<(), Fail> {
-    let plan = plan_of(rt.alloc(), audit_texts::NETWORK)?;
+fn means_a_network(rt: HostRuntime) {
+    let plan = plan_of(&rt, rt.alloc(), audit_texts::NETWORK);
     assert!(rt; sizes(plan.net()) == [2, 1, 1, 1, 1]);
-    Ok(())
 }
 
 /// Whole documents.
@@ -164,24 +163,36 @@ const REPORTS: &[(&str, &str)] = &[
     (r#"{"device":"c1","collectingProcess":"cp","key":[]}"#, "ok"),
 ];
 
+/// Looks at networks with this before and behind what is told of in the rows.
+fn look_at(rt: &impl Abort, alloc: Global, before: &str, behind: &str, rows: &[(&str, &str)]) {
+    let frame = Frame {
+        kind: Kind::Network,
+        before,
+        behind,
+        pointer: "",
+    };
+    look_at_rows(rt, alloc, &frame, rows);
+}
+
 #[test]
-fn refuses_networks(rt: HostRuntime) -> Result<(), Fail> {
-    let no_links = format!(in rt.alloc(); "{DEVICES},\"links\":[],\"report\":")?;
-    let links = format!(in rt.alloc(); "{DEVICES},\"links\":[")?;
-    let report =
+fn refuses_networks(rt: HostRuntime) {
+    look_at(&rt, rt.alloc(), "", "", NETWORKS);
+}
+
+#[test]
+fn refuses_links(rt: HostRuntime) {
+    let before = [DEVICES, r#","links":["#]
+        .concat(rt.alloc())
+        .expect(&rt, "memory");
+    let behind =
         r#"],"report":{"device":"c1","collectingProcess":"cp","key":[{"ieName":"sourceIPv4Address"}]}}"#;
-    for (before, behind, rows) in [
-        ("", "", NETWORKS),
-        (links.as_str(), report, LINKS),
-        (no_links.as_str(), "}", REPORTS),
-    ] {
-        let frame = Frame {
-            kind: Kind::Network,
-            before,
-            behind,
-            pointer: "",
-        };
-        look_at_rows(rt.alloc(), &frame, rows)?;
-    }
-    Ok(())
+    look_at(&rt, rt.alloc(), before.as_str(), behind, LINKS);
+}
+
+#[test]
+fn refuses_reports(rt: HostRuntime) {
+    let before = [DEVICES, r#","links":[],"report":"#]
+        .concat(rt.alloc())
+        .expect(&rt, "memory");
+    look_at(&rt, rt.alloc(), before.as_str(), "}", REPORTS);
 }

@@ -4,29 +4,31 @@ use fx_plan::{Plan, documents_name_axes, plans_have_complete_runs, read_plan};
 use fx_ranks::rank_order;
 use serde_json::Value;
 use std::alloc::{AllocError, Global};
-use std::test::Fail;
+use std::process::Abort;
 
 /// What comes of reading a plan.
-fn read(alloc: Global, text: &str) -> Result<Result<Plan, Fault>, Fail> {
-    let value = Value::from_str(alloc, text)?;
-    Ok(read_plan(alloc, &value))
+fn read(rt: &impl Abort, alloc: Global, text: &str) -> Result<Plan, Fault> {
+    read_plan(
+        alloc,
+        &Value::from_str(alloc, text).expect(rt, "a document"),
+    )
 }
 
 /// The plan of the network that a document means.
-pub(crate) fn plan_of(alloc: Global, text: &str) -> Result<Plan, Fail> {
-    Ok(read(alloc, text)??)
+pub(crate) fn plan_of(rt: &impl Abort, alloc: Global, text: &str) -> Plan {
+    read(rt, alloc, text).expect(rt, "a plan")
 }
 
-/// What reading a plan comes to: the order of ranks, or the fault's number and place.
-fn outcome(alloc: Global, text: &str) -> Result<String, Fail> {
-    match read(alloc, text)? {
+/// Whether reading a plan comes to this: the order of ranks, or the fault's number and place.
+fn comes_to(rt: &impl Abort, alloc: Global, text: &str, wanted: &str) -> bool {
+    let told = match read(rt, alloc, text) {
         Ok(plan) => {
             plans_have_complete_runs(&plan);
-            documents_name_axes();
-            Ok(format!(in alloc; "{:?}", plan.upwards())?)
+            format!(in alloc; "{:?}", plan.upwards())
         }
-        Err(Fault { number, place }) => Ok(format!(in alloc; "{number} {place}")?),
-    }
+        Err(Fault { number, place }) => format!(in alloc; "{number} {place}"),
+    };
+    told.expect(rt, "memory").as_str() == wanted
 }
 
 /// Three devices, each with a collecting process `cp` that sends on what it receives.
@@ -55,39 +57,47 @@ fn linked(alloc: Global, links: &[(&str, &str)]) -> Result<String, AllocError> {
     )
 }
 
+/// Links, and the order of ranks, or the cycle.
+const LINKS: [(&[(&str, &str)], &str); 3] = [
+    (&[("c2", "c1"), ("c3", "c2")], "[2, 1, 0]"),
+    (
+        &[("c1", "c2"), ("c2", "c3"), ("c3", "c1")],
+        "204 1.1 2.1 3.1",
+    ),
+    (&[("c2", "c2")], "204 2.1"),
+];
+
 #[test]
-fn ranks_feeders_first_and_refuses_cycles(rt: HostRuntime) -> Result<(), Fail> {
-    for (links, wanted) in [
-        ([("c2", "c1"), ("c3", "c2")].as_slice(), "[2, 1, 0]"),
-        (
-            &[("c1", "c2"), ("c2", "c3"), ("c3", "c1")],
-            "204 1.1 2.1 3.1",
-        ),
-        (&[("c2", "c2")], "204 2.1"),
-    ] {
-        let text = linked(rt.alloc(), links)?;
-        assert!(rt; outcome(rt.alloc(), text.as_str())?.as_str() == wanted);
+fn ranks_feeders_first_and_refuses_cycles(rt: HostRuntime) {
+    documents_name_axes();
+    for (links, wanted) in &LINKS {
+        let text = linked(rt.alloc(), *links).expect(&rt, "memory");
+        assert!(rt; comes_to(&rt, rt.alloc(), text.as_str(), *wanted));
     }
-    Ok(())
 }
 
 /// Whether the plan's order of ranks is found anew in its tables, and its report has a layout.
-fn is_ordered(plan: &Plan, alloc: Global) -> Result<bool, AllocError> {
-    let found = rank_order(alloc, plan.net())?;
-    Ok(found.order.as_slice() == plan.upwards() && plan.network().report.layout().is_some())
+fn is_ordered(plan: &Plan, rt: &impl Abort, alloc: Global) -> bool {
+    let found = rank_order(alloc, plan.net()).expect(rt, "memory");
+    (found.order.as_slice() == plan.upwards()) & plan.network().report.layout().is_some()
+}
+
+/// The place of an exporting process.
+fn exporter_place(plan: &Plan, rt: &impl Abort, alloc: Global, device: u64) -> Option<usize> {
+    plan.exporter_place(alloc, device, 1).expect(rt, "memory")
 }
 
 #[test]
-fn orders_by_falling_rank(rt: HostRuntime) -> Result<(), Fail> {
-    let text = linked(rt.alloc(), &[("c2", "c1")])?;
-    let plan = plan_of(rt.alloc(), text.as_str())?;
-    assert!(rt; plan.rank(0) == Some(1) && plan.downwards() == [2, 0, 1].as_slice());
-    let (third, fourth) = (
-        plan.exporter_place(rt.alloc(), 3, 1)?,
-        plan.exporter_place(rt.alloc(), 4, 1)?,
+fn orders_by_falling_rank(rt: HostRuntime) {
+    let text = linked(rt.alloc(), &[("c2", "c1")]).expect(&rt, "memory");
+    let plan = plan_of(&rt, rt.alloc(), text.as_str());
+    assert!(rt;
+        (plan.rank(0) == Some(1))
+            & (plan.downwards() == [2, 0, 1].as_slice())
+            & (exporter_place(&plan, &rt, rt.alloc(), 3) == Some(2))
+            & exporter_place(&plan, &rt, rt.alloc(), 4).is_none()
+            & is_ordered(&plan, &rt, rt.alloc())
     );
-    assert!(rt; third == Some(2) && fourth.is_none() && is_ordered(&plan, rt.alloc())?);
-    Ok(())
 }
 
 /// So many aggregations, each with a layout of its own, and the report under the empty layout.
@@ -110,21 +120,23 @@ fn aggregations(alloc: Global, count: u32) -> Result<String, AllocError> {
 }
 
 #[test]
-fn refuses_too_many_layouts(rt: HostRuntime) -> Result<(), Fail> {
-    let text = aggregations(rt.alloc(), 64)?;
-    assert!(rt; outcome(rt.alloc(), text.as_str())?.as_str() == "207 ");
-    Ok(())
+fn refuses_too_many_layouts(rt: HostRuntime) {
+    let text = aggregations(rt.alloc(), 64).expect(&rt, "memory");
+    assert!(rt; comes_to(&rt, rt.alloc(), text.as_str(), "207 "));
 }
 
 /// The plan of so many aggregations.
-fn plan_of_aggregations(alloc: Global, count: u32) -> Result<Plan, Fail> {
-    plan_of(alloc, aggregations(alloc, count)?.as_str())
+fn plan_of_aggregations(rt: &impl Abort, alloc: Global, count: u32) -> Plan {
+    plan_of(
+        rt,
+        alloc,
+        aggregations(alloc, count).expect(rt, "memory").as_str(),
+    )
 }
 
 #[test]
-fn numbers_layouts(rt: HostRuntime) -> Result<(), Fail> {
-    let many = plan_of_aggregations(rt.alloc(), 63)?;
-    let two = plan_of_aggregations(rt.alloc(), 2)?;
-    assert!(rt; many.layouts().len() == 64 && two.layout_numbers() == [0, 1].as_slice());
-    Ok(())
+fn numbers_layouts(rt: HostRuntime) {
+    let many = plan_of_aggregations(&rt, rt.alloc(), 63);
+    let two = plan_of_aggregations(&rt, rt.alloc(), 2);
+    assert!(rt; (many.layouts().len() == 64) & (two.layout_numbers() == [0, 1].as_slice()));
 }

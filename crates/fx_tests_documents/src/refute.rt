@@ -1,4 +1,5 @@
 //! Refutations of small networks.
+use crate::answers::ends;
 use crate::audit_texts::{NETWORK, TRAFFIC};
 use crate::check::traffic_of;
 use crate::plan::plan_of;
@@ -11,7 +12,7 @@ use fx_refute::{
 use fx_run_text::run_lines_have_one_text;
 use fx_traffic::Traffic;
 use std::alloc::Global;
-use std::test::Fail;
+use std::process::Abort;
 
 /// The totals of a refuting run, and the plain sums.
 fn refuted(
@@ -25,34 +26,38 @@ fn refuted(
     confirm(alloc, plan, traffic, &refutation)
 }
 
-/// What a refutation comes to: how many keys and unassigned records its run has and how many keys its packet, or
-/// the fault's number and place.
-fn outcome(alloc: Global, plan: &Plan, traffic: &Traffic, text: &str) -> Result<String, Fail> {
-    match refuted(alloc, plan, traffic, text) {
+/// Whether a refutation comes to this: how many keys and unassigned records its run has and how many keys its packet,
+/// or the fault's number and place.
+fn comes_to(
+    rt: &impl Abort,
+    alloc: Global,
+    answer: Result<(Totals, Totals), Fault>,
+    wanted: &str,
+) -> bool {
+    let told = match answer {
         Ok((ran, plain)) => {
             let (keys, lost, wanted) = (ran.len(), ran.unassigned(), plain.len());
-            Ok(format!(in alloc; "{keys} {lost} for {wanted}")?)
+            format!(in alloc; "{keys} {lost} for {wanted}")
         }
-        Err(Fault { number, place }) => Ok(format!(in alloc; "{number} {place}")?),
-    }
+        Err(Fault { number, place }) => format!(in alloc; "{number} {place}"),
+    };
+    told.expect(rt, "memory").as_str() == wanted
 }
 
-/// The refutations that don't come to what stands beside them.
-fn wrong_refutations(
+/// Confirms refutations over a network and its traffic: each is to come to what stands beside it.
+fn confirm_all(
+    rt: &impl Abort,
     alloc: Global,
     network: &str,
     traffic: &str,
     refutations: &[(&str, &str)],
-) -> Result<String, Fail> {
-    let plan = plan_of(alloc, network)?;
-    let traffic = traffic_of(alloc, traffic, &plan)?;
-    let mut wrong = String::new(alloc);
+) {
+    let plan = plan_of(rt, alloc, network);
+    let traffic = traffic_of(rt, alloc, traffic, &plan);
     for (text, wanted) in refutations {
-        if outcome(alloc, &plan, &traffic, text)?.as_str() != *wanted {
-            writeln!(wrong, "{text}")?;
-        }
+        let answer = refuted(alloc, &plan, &traffic, *text);
+        assert!(rt; comes_to(rt, alloc, answer, *wanted), "{text}");
     }
-    Ok(wrong)
 }
 
 /// A meter whose exporting process sends to the collector or, where it can't, nowhere.
@@ -147,17 +152,18 @@ const OF_EXEMPT: &[(&str, &str)] = &[(
     "1 0 for 0",
 )];
 
+/// Networks, traffic, and refutations.
+const CONFIRMED: [(&str, &str, &[(&str, &str)]); 3] = [
+    (NETWORK, TRAFFIC, REFUTATIONS),
+    (WITH_FALLBACK, TRAFFIC, OF_FALLBACK),
+    (NETWORK, EXEMPT, OF_EXEMPT),
+];
+
 #[test]
-fn confirms_refutations(rt: HostRuntime) -> Result<(), Fail> {
-    for (network, traffic, refutations) in [
-        (NETWORK, TRAFFIC, REFUTATIONS),
-        (WITH_FALLBACK, TRAFFIC, OF_FALLBACK),
-        (NETWORK, EXEMPT, OF_EXEMPT),
-    ] {
-        let wrong = wrong_refutations(rt.alloc(), network, traffic, refutations)?;
-        assert_eq!(rt; wrong.as_str(), "");
+fn confirms_refutations(rt: HostRuntime) {
+    for (network, traffic, refutations) in &CONFIRMED {
+        confirm_all(&rt, rt.alloc(), *network, *traffic, *refutations);
     }
-    Ok(())
 }
 
 /// A text with steps of all forms.
@@ -173,14 +179,13 @@ end
 ";
 
 #[test]
-fn writes_what_it_reads(rt: HostRuntime) -> Result<(), Fail> {
-    let mut lines = LineReader::new(rt.alloc(), Octets::new(TEXT))?;
-    let refutation = read_refutation(rt.alloc(), &mut lines)?;
+fn writes_what_it_reads(rt: HostRuntime) {
+    let mut lines = LineReader::new(rt.alloc(), Octets::new(TEXT)).expect(&rt, "memory");
+    let refutation = read_refutation(rt.alloc(), &mut lines).expect(&rt, "a refutation");
     let mut octets = [0; 512];
     let mut room = Room::new(&mut octets);
-    put_refutation(&mut room, &refutation)?;
-    assert!(rt; room.octets() == TEXT);
-    Ok(())
+    let is_put = ends(put_refutation(&mut room, &refutation), 0);
+    assert!(rt; is_put & (room.octets() == TEXT));
 }
 
 #[test]

@@ -1,6 +1,8 @@
 //! Networks that run.
+use crate::answers::{ends, is_refused};
 use crate::audit_runs::{CAPTURE, SCHEDULE};
 use crate::audit_texts;
+use crate::check::traffic_of;
 use crate::plan::plan_of;
 use fx_base::{Fault, LineReader, Octets};
 use fx_conform::{
@@ -12,24 +14,25 @@ use fx_link::Nowhere;
 use fx_net::{Network, run};
 use fx_pcap::Capture;
 use fx_plan::Plan;
-use fx_traffic::{Traffic, read_traffic};
-use serde_json::Value;
+use fx_traffic::Traffic;
 use std::alloc::Global;
-use std::test::Fail;
+use std::process::Abort;
 
-/// The traffic that is declared in a network.
-fn declared(alloc: Global, plan: &Plan) -> Result<Traffic, Fail> {
-    let value = Value::from_str(alloc, audit_texts::TRAFFIC)?;
-    Ok(read_traffic(alloc, &value, plan)?)
+/// A network that is opened over a plan and traffic.
+fn opened<'a>(rt: &impl Abort, alloc: Global, plan: &'a Plan, traffic: &'a Traffic) -> Network<'a> {
+    Network::open(alloc, audit_texts::seed(), plan, traffic).expect(rt, "memory")
+}
+
+/// Whether a network counts nothing.
+fn counts_nothing(network: &Network<'_>) -> bool {
+    (network.totals().len() == 0) & (network.totals().unassigned() == 0)
 }
 
 #[test]
-fn opens_with_nothing_counted(rt: HostRuntime) -> Result<(), Fail> {
-    let plan = plan_of(rt.alloc(), audit_texts::NETWORK)?;
-    let traffic = declared(rt.alloc(), &plan)?;
-    let network = Network::open(rt.alloc(), audit_texts::seed(), &plan, &traffic)?;
-    assert!(rt; network.totals().len() == 0 && network.totals().unassigned() == 0);
-    Ok(())
+fn opens_with_nothing_counted(rt: HostRuntime) {
+    let plan = plan_of(&rt, rt.alloc(), audit_texts::NETWORK);
+    let traffic = traffic_of(&rt, rt.alloc(), audit_texts::TRAFFIC, &plan);
+    assert!(rt; counts_nothing(&opened(&rt, rt.alloc(), &plan, &traffic)));
 }
 
 /// Obeys the one line of a text.
@@ -44,28 +47,37 @@ fn obeyed(
     network.obey(&lines.line(), capture, &mut Nowhere)
 }
 
+/// A reader of the capture.
+fn captured(rt: &impl Abort, alloc: Global) -> Capture<Octets<'static>> {
+    Capture::new(alloc, Octets::new(&CAPTURE)).expect(rt, "a capture")
+}
+
 /// Whether a network obeys a line, refuses one, and then answers that again.
-fn obeys_and_stops(alloc: Global, plan: &Plan, traffic: &Traffic) -> Result<bool, Fault> {
-    let mut network = Network::open(alloc, audit_texts::seed(), plan, traffic)?;
-    let mut capture = Capture::new(alloc, Octets::new(&CAPTURE))?;
-    let first = obeyed(alloc, &mut network, &mut capture, b"next\n");
-    let refused = obeyed(alloc, &mut network, &mut capture, b"expire 1 2\n");
-    let again = network.close(&mut capture, &mut Nowhere);
-    Ok(first == Ok(()) && refused == Err(Fault::at_line(802, 1)) && again == refused)
+fn obeys_and_stops(rt: &impl Abort, alloc: Global, plan: &Plan, traffic: &Traffic) -> bool {
+    let mut network = opened(rt, alloc, plan, traffic);
+    let mut capture = captured(rt, alloc);
+    let fault = Fault::at_line(802, 1);
+    ends(obeyed(alloc, &mut network, &mut capture, b"next\n"), 0)
+        & is_refused(
+            obeyed(alloc, &mut network, &mut capture, b"expire 1 2\n"),
+            &fault,
+        )
+        & is_refused(network.close(&mut capture, &mut Nowhere), &fault)
 }
 
 /// How many keys are counted once a network was closed over the capture.
-fn keys_when_closed(alloc: Global, plan: &Plan, traffic: &Traffic) -> Result<usize, Fault> {
-    let mut network = Network::open(alloc, audit_texts::seed(), plan, traffic)?;
-    let mut capture = Capture::new(alloc, Octets::new(&CAPTURE))?;
-    network.close(&mut capture, &mut Nowhere)?;
-    Ok(network.totals().len())
+fn keys_when_closed(rt: &impl Abort, alloc: Global, plan: &Plan, traffic: &Traffic) -> usize {
+    let mut network = opened(rt, alloc, plan, traffic);
+    network
+        .close(&mut captured(rt, alloc), &mut Nowhere)
+        .expect(rt, "a run");
+    network.totals().len()
 }
 
 /// How many keys are counted where a network runs over the capture.
-fn keys_of_run(alloc: Global, plan: &Plan, traffic: &Traffic) -> Result<usize, Fault> {
-    let mut capture = Capture::new(alloc, Octets::new(&CAPTURE))?;
-    let mut lines = LineReader::new(alloc, Octets::new(SCHEDULE))?;
+fn keys_of_run(rt: &impl Abort, alloc: Global, plan: &Plan, traffic: &Traffic) -> usize {
+    let mut capture = captured(rt, alloc);
+    let mut lines = LineReader::new(alloc, Octets::new(SCHEDULE)).expect(rt, "memory");
     let totals = run(
         alloc,
         audit_texts::seed(),
@@ -74,20 +86,20 @@ fn keys_of_run(alloc: Global, plan: &Plan, traffic: &Traffic) -> Result<usize, F
         &mut capture,
         &mut lines,
         &mut Nowhere,
-    )?;
-    Ok(totals.len())
+    );
+    totals.expect(rt, "totals").len()
 }
 
 #[test]
-fn obeys_closes_and_runs(rt: HostRuntime) -> Result<(), Fail> {
-    let plan = plan_of(rt.alloc(), audit_texts::NETWORK)?;
-    let traffic = declared(rt.alloc(), &plan)?;
+fn obeys_closes_and_runs(rt: HostRuntime) {
+    let plan = plan_of(&rt, rt.alloc(), audit_texts::NETWORK);
+    let traffic = traffic_of(&rt, rt.alloc(), audit_texts::TRAFFIC, &plan);
     plans_are_sound(&plan);
-    let obeys = obeys_and_stops(rt.alloc(), &plan, &traffic)?;
-    let closed = keys_when_closed(rt.alloc(), &plan, &traffic)?;
-    let run_whole = keys_of_run(rt.alloc(), &plan, &traffic)?;
-    assert!(rt; obeys && closed == 1 && run_whole == 1);
-    Ok(())
+    assert!(rt;
+        obeys_and_stops(&rt, rt.alloc(), &plan, &traffic)
+            & (keys_when_closed(&rt, rt.alloc(), &plan, &traffic) == 1)
+            & (keys_of_run(&rt, rt.alloc(), &plan, &traffic) == 1)
+    );
 }
 
 #[test]

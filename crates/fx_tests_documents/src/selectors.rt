@@ -5,75 +5,80 @@ use fx_elements::Axis;
 use fx_selectors::{feeds, region_of};
 use serde_json::Value;
 use std::alloc::Global;
-use std::test::Fail;
+use std::process::Abort;
 
 /// The device whose container `ipfix` is this.
-fn device_of(alloc: Global, lists: &str) -> Result<Device, Fail> {
-    let text = format!(in alloc; "{{\"ietf-ipfix-psamp:ipfix\":{lists}}}")?;
-    let value = Value::from_str(alloc, text.as_str())?;
-    Ok(read_device(alloc, &value)?)
+fn device_of(rt: &impl Abort, alloc: Global, lists: &str) -> Device {
+    let text = [r#"{"ietf-ipfix-psamp:ipfix":"#, lists, "}"]
+        .concat(alloc)
+        .expect(rt, "memory");
+    let value = Value::from_str(alloc, text.as_str()).expect(rt, "a document");
+    read_device(alloc, &value).expect(rt, "a device")
 }
 
-/// The region of a selection process with these selectors.
-fn region(alloc: Global, selectors: &str) -> Result<Option<Region>, Fail> {
-    let lists = format!(in alloc;
-        "{{\"selectionProcess\":[{{\"name\":\"s\",\"selector\":[{selectors}]}}]}}"
-    )?;
-    let device = device_of(alloc, lists.as_str())?;
-    let [process] = device.selection_processes.as_slice() else {
-        return Err(Fail::from("one process"));
-    };
-    Ok(region_of(process))
+/// Whether a device has one selection process, and this is its region.
+fn selects(device: &Device, wanted: Option<Region>) -> bool {
+    match device.selection_processes.as_slice() {
+        [process] => region_of(process) == wanted,
+        _ => false,
+    }
 }
+
+/// Whether this is the region of a selection process with these selectors.
+fn is_region(rt: &impl Abort, alloc: Global, selectors: &str, wanted: Option<Region>) -> bool {
+    let before = r#"{"selectionProcess":[{"name":"s","selector":["#;
+    let lists = [before, selectors, "]}]}"]
+        .concat(alloc)
+        .expect(rt, "memory");
+    selects(&device_of(rt, alloc, lists.as_str()), wanted)
+}
+
+/// The sources below 128.0.0.0, and those from there on.
+const LOWER: &str =
+    r#"{"name":"a","filterMatch":{"ieName":"sourceIPv4Prefix","value":"0.0.0.0/1"}}"#;
+
+const UPPER: &str =
+    r#"{"name":"a","filterMatch":{"ieName":"sourceIPv4Prefix","value":"128.0.0.0/1"}}"#;
+
+/// Two protocols at once, which no packet has.
+const NONE: &str =
+    r#"{"name":"a","filterMatch":{"ieId":4,"value":"6"}},{"name":"b","filterMatch":{"ieId":4,"value":"17"}}"#;
+
+const ALL: &str = r#"{"name":"a","selectAll":[null]}"#;
 
 #[test]
-fn regions_of_filters(rt: HostRuntime) -> Result<(), Fail> {
-    let Some((below, above)) = Region::whole().split(Axis::Source, 0x8000_0000) else {
-        return Err(Fail::from("two halves"));
-    };
-    for (selectors, wanted) in [
-        (
-            r#"{"name":"a","filterMatch":{"ieName":"sourceIPv4Prefix","value":"0.0.0.0/1"}}"#,
-            Some(below),
-        ),
-        (
-            r#"{"name":"a","filterMatch":{"ieName":"sourceIPv4Prefix","value":"128.0.0.0/1"}}"#,
-            Some(above),
-        ),
-        (
-            r#"{"name":"a","filterMatch":{"ieId":4,"value":"6"}},{"name":"b","filterMatch":{"ieId":4,"value":"17"}}"#,
-            None,
-        ),
-        (r#"{"name":"a","selectAll":[null]}"#, Some(Region::whole())),
-    ] {
-        assert!(rt; region(rt.alloc(), selectors)? == wanted);
-    }
-    Ok(())
+fn regions_of_filters(rt: HostRuntime) {
+    let halves = Region::whole().split(Axis::Source, 0x8000_0000);
+    let (below, above) = halves.expect(&rt, "two halves");
+    assert!(rt;
+        is_region(&rt, rt.alloc(), LOWER, Some(below))
+            & is_region(&rt, rt.alloc(), UPPER, Some(above))
+            & is_region(&rt, rt.alloc(), NONE, None)
+            & is_region(&rt, rt.alloc(), ALL, Some(Region::whole()))
+    );
 }
 
 /// The pairs that packets into `eth0` come to, one after another.
-fn pairs(alloc: Global, lists: &str) -> Result<String, Fail> {
-    let device = device_of(alloc, lists)?;
+fn pairs(rt: &impl Abort, alloc: Global, lists: &str) -> String {
+    let device = device_of(rt, alloc, lists);
     let mut text = String::new(alloc);
     for (point, process) in feeds(&device, "eth0", true) {
-        write!(text, "{point}.{process} ")?;
+        write!(text, "{point}.{process} ").expect(rt, "memory");
     }
-    Ok(text)
+    text
 }
 
-#[test]
-fn pairs_in_order(rt: HostRuntime) -> Result<(), Fail> {
-    let found = pairs(
-        rt.alloc(),
-        r#"{"observationPoint":[
+/// Observation points, selection processes and a cache.
+const LISTS: &str = r#"{"observationPoint":[
             {"name":"a","observationDomainId":0,"ifName":["eth0"],"direction":"egress","selectionProcess":["fed"]},
             {"name":"b","observationDomainId":0,"ifName":["eth1","eth0"],"selectionProcess":["fed","dry","none"]},
             {"name":"c","observationDomainId":0,"ifName":["eth0"],"direction":"ingress","selectionProcess":["dry","fed"]}],
         "selectionProcess":[{"name":"fed","selector":[{"name":"a","selectAll":[null]}],"cache":"ca"},
             {"name":"dry","selector":[{"name":"a","selectAll":[null]}]},
             {"name":"none","selector":[{"name":"a","filterMatch":{"ieId":4,"value":"6"}},{"name":"b","filterMatch":{"ieId":4,"value":"17"}}],"cache":"ca"}],
-        "cache":[{"name":"ca","timeoutCache":{"cacheLayout":{"cacheField":[{"name":"o","ieId":1},{"name":"p","ieId":2}]}}}]}"#,
-    )?;
-    assert!(rt; found.as_str() == "2.1 2.3 3.2 ");
-    Ok(())
+        "cache":[{"name":"ca","timeoutCache":{"cacheLayout":{"cacheField":[{"name":"o","ieId":1},{"name":"p","ieId":2}]}}}]}"#;
+
+#[test]
+fn pairs_in_order(rt: HostRuntime) {
+    assert!(rt; pairs(&rt, rt.alloc(), LISTS).as_str() == "2.1 2.3 3.2 ");
 }

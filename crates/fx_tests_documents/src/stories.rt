@@ -1,4 +1,5 @@
 //! What fixed answers are about, told in sentences and by name.
+use crate::answers::ends;
 use crate::audit_texts::{NETWORK, TRAFFIC};
 use fx_base::{Fault, LineReader, Octets, Room};
 use fx_stories::{
@@ -6,7 +7,7 @@ use fx_stories::{
     put_schedule_words, put_stream_words,
 };
 use std::alloc::Global;
-use std::test::Fail;
+use std::process::Abort;
 
 /// A certificate that names another selection process.
 const CERTIFICATE: &[u8] = b"once-certificate 1\nclass 1 path 1\nL 1 1 2\nend\n";
@@ -77,79 +78,97 @@ const EMPTY_CAPTURE: &[u8] = &[
 
 const SCHEDULE_WORDS: &[u8] = b"line 1: next 1 2\n";
 
-fn tells_stream(alloc: Global) -> Result<bool, Fault> {
-    let mut stream = Octets::new(NO_STREAM);
-    let mut octets = [0u8; 1000];
-    let mut room = Room::new(&mut octets);
-    put_stream_words(alloc, &mut stream, &Fault::at_octet(611, 0), &mut room)?;
-    Ok(room.octets() == STREAM_WORDS)
-}
-
-fn tells_schedule(alloc: Global) -> Result<bool, Fault> {
-    let mut lines = LineReader::new(alloc, Octets::new(b"next 1 2\n"))?;
-    let capture = Octets::new(EMPTY_CAPTURE);
-    let mut octets = [0u8; 1000];
-    let mut room = Room::new(&mut octets);
-    let (network, traffic) = (NETWORK.as_bytes(), TRAFFIC.as_bytes());
-    let fault = Fault::at_line(803, 1);
-    put_schedule_words(
-        alloc, network, traffic, &mut lines, capture, &fault, &mut room,
-    )?;
-    Ok(room.octets().starts_with(SCHEDULE_WORDS))
-}
-
-fn tells_certificate(alloc: Global) -> Result<bool, Fault> {
-    let mut lines = LineReader::new(alloc, Octets::new(CERTIFICATE))?;
-    let mut octets = [0u8; 1000];
-    let mut room = Room::new(&mut octets);
-    let (network, traffic) = (NETWORK.as_bytes(), TRAFFIC.as_bytes());
-    let fault = Fault::at_line(410, 3);
-    put_certificate_words(alloc, network, traffic, &mut lines, &fault, &mut room)?;
-    Ok(room.octets() == CERTIFICATE_WORDS)
-}
-
-fn tells_refutation(alloc: Global) -> Result<bool, Fault> {
-    let mut lines = LineReader::new(alloc, Octets::new(REFUTATION))?;
-    let mut octets = [0u8; 1000];
-    let mut room = Room::new(&mut octets);
-    let (network, traffic) = (NETWORK.as_bytes(), TRAFFIC.as_bytes());
-    put_refutation_story(alloc, network, traffic, &mut lines, &mut room)?;
-    Ok(room.octets() == REFUTATION_STORY)
-}
-
-fn tells_run(alloc: Global) -> Result<bool, Fault> {
-    let mut lines = LineReader::new(alloc, Octets::new(RUN))?;
-    let mut octets = [0u8; 1000];
-    let mut room = Room::new(&mut octets);
-    let (network, traffic) = (NETWORK.as_bytes(), TRAFFIC.as_bytes());
-    let fault = Fault::bare(853);
-    put_run_words(alloc, network, traffic, &mut lines, &fault, &mut room)?;
-    Ok(room.octets() == RUN_WORDS)
-}
-
-fn tells_document(alloc: Global) -> Result<bool, Fault> {
-    let mut octets = [0u8; 1000];
-    let mut room = Room::new(&mut octets);
-    let fault = Fault::bare(103);
-    put_document_words(alloc, "net.json", b"{}", None, &fault, &mut room)?;
-    Ok(room.octets() == DOCUMENT_WORDS)
-}
-
-fn tells_lints(alloc: Global) -> Result<bool, Fault> {
-    let mut octets = [0u8; 1000];
-    let mut room = Room::new(&mut octets);
-    put_lint_words(alloc, NETWORK.as_bytes(), Some(UNSEEN_TRAFFIC), &mut room)?;
-    Ok(room.octets() == LINT_WORDS)
+/// The lines of a text.
+fn lines_of<'a>(rt: &impl Abort, alloc: Global, text: &'a [u8]) -> LineReader<Octets<'a>> {
+    LineReader::new(alloc, Octets::new(text)).expect(rt, "memory")
 }
 
 #[test]
-fn tells_stories(rt: HostRuntime) -> Result<(), Fail> {
-    assert!(rt; tells_certificate(rt.alloc())?);
-    assert!(rt; tells_refutation(rt.alloc())?);
-    assert!(rt; tells_run(rt.alloc())?);
-    assert!(rt; tells_document(rt.alloc())?);
-    assert!(rt; tells_lints(rt.alloc())?);
-    assert!(rt; tells_stream(rt.alloc())?);
-    assert!(rt; tells_schedule(rt.alloc())?);
-    Ok(())
+fn tells_streams(rt: HostRuntime) {
+    let mut stream = Octets::new(NO_STREAM);
+    let mut octets = [0u8; 1000];
+    let mut room = Room::new(&mut octets);
+    let fault = Fault::at_octet(611, 0);
+    let is_put = ends(
+        put_stream_words(rt.alloc(), &mut stream, &fault, &mut room),
+        0,
+    );
+    assert!(rt; is_put & (room.octets() == STREAM_WORDS));
+}
+
+#[test]
+fn tells_schedules(rt: HostRuntime) {
+    let mut lines = lines_of(&rt, rt.alloc(), b"next 1 2\n");
+    let mut octets = [0u8; 1000];
+    let mut room = Room::new(&mut octets);
+    let answer = put_schedule_words(
+        rt.alloc(),
+        NETWORK.as_bytes(),
+        TRAFFIC.as_bytes(),
+        &mut lines,
+        Octets::new(EMPTY_CAPTURE),
+        &Fault::at_line(803, 1),
+        &mut room,
+    );
+    assert!(rt; ends(answer, 0) & room.octets().starts_with(SCHEDULE_WORDS));
+}
+
+#[test]
+fn tells_certificates(rt: HostRuntime) {
+    let mut lines = lines_of(&rt, rt.alloc(), CERTIFICATE);
+    let mut octets = [0u8; 1000];
+    let mut room = Room::new(&mut octets);
+    let answer = put_certificate_words(
+        rt.alloc(),
+        NETWORK.as_bytes(),
+        TRAFFIC.as_bytes(),
+        &mut lines,
+        &Fault::at_line(410, 3),
+        &mut room,
+    );
+    assert!(rt; ends(answer, 0) & (room.octets() == CERTIFICATE_WORDS));
+}
+
+#[test]
+fn tells_refutations(rt: HostRuntime) {
+    let mut lines = lines_of(&rt, rt.alloc(), REFUTATION);
+    let mut octets = [0u8; 1000];
+    let mut room = Room::new(&mut octets);
+    let (network, traffic) = (NETWORK.as_bytes(), TRAFFIC.as_bytes());
+    let answer = put_refutation_story(rt.alloc(), network, traffic, &mut lines, &mut room);
+    assert!(rt; ends(answer, 0) & (room.octets() == REFUTATION_STORY));
+}
+
+#[test]
+fn tells_runs(rt: HostRuntime) {
+    let mut lines = lines_of(&rt, rt.alloc(), RUN);
+    let mut octets = [0u8; 1000];
+    let mut room = Room::new(&mut octets);
+    let answer = put_run_words(
+        rt.alloc(),
+        NETWORK.as_bytes(),
+        TRAFFIC.as_bytes(),
+        &mut lines,
+        &Fault::bare(853),
+        &mut room,
+    );
+    assert!(rt; ends(answer, 0) & (room.octets() == RUN_WORDS));
+}
+
+#[test]
+fn tells_documents(rt: HostRuntime) {
+    let mut octets = [0u8; 1000];
+    let mut room = Room::new(&mut octets);
+    let fault = Fault::bare(103);
+    let answer = put_document_words(rt.alloc(), "net.json", b"{}", None, &fault, &mut room);
+    assert!(rt; ends(answer, 0) & (room.octets() == DOCUMENT_WORDS));
+}
+
+#[test]
+fn tells_lints(rt: HostRuntime) {
+    let mut octets = [0u8; 1000];
+    let mut room = Room::new(&mut octets);
+    let network = NETWORK.as_bytes();
+    let answer = put_lint_words(rt.alloc(), network, Some(UNSEEN_TRAFFIC), &mut room);
+    assert!(rt; ends(answer, 0) & (room.octets() == LINT_WORDS));
 }
