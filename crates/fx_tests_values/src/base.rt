@@ -5,7 +5,8 @@ use fx_base::{
     Window, entry_at, entry_numbered, put_fault, put_number, put_number_wide, put_place, put_text,
     read_whole,
 };
-use std::alloc::{AllocError, Global};
+use std::alloc::Global;
+use std::process::Abort;
 
 /// A text of one character, more often than a line may have it.
 const LONG: [u8; 4097] = [b'x'; 4097];
@@ -65,10 +66,8 @@ fn is_none(lent: Result<Option<Line<'_>>, Fault>) -> bool {
 }
 
 /// Whether a source has these lines, and no others.
-fn has_lines<S: Source>(alloc: Global, source: S, lines: &[Told<'_>]) -> bool {
-    let Ok(mut reader) = LineReader::new(alloc, source) else {
-        return false;
-    };
+fn has_lines<S: Source>(rt: &impl Abort, alloc: Global, source: S, lines: &[Told<'_>]) -> bool {
+    let mut reader = LineReader::new(alloc, source).expect(rt, "memory");
     are_next(&mut reader, lines)
         & is_none(reader.next_line())
         & !reader.advance().unwrap_or(true)
@@ -78,15 +77,19 @@ fn has_lines<S: Source>(alloc: Global, source: S, lines: &[Told<'_>]) -> bool {
 #[test]
 fn lends_lines_of_up_to_4096_bytes(rt: HostRuntime) {
     for (text, lines) in &TEXTS {
-        assert!(rt; has_lines(rt.alloc(), Octets::new(text), lines));
+        assert!(rt; has_lines(&rt, rt.alloc(), Octets::new(text), lines));
     }
 }
 
 /// Whether a source has these lines, and a reader of it answers this fault from then on.
-fn fails_behind<S: Source>(alloc: Global, source: S, lines: &[Told<'_>], fault: &Fault) -> bool {
-    let Ok(mut reader) = LineReader::new(alloc, source) else {
-        return false;
-    };
+fn fails_behind<S: Source>(
+    rt: &impl Abort,
+    alloc: Global,
+    source: S,
+    lines: &[Told<'_>],
+    fault: &Fault,
+) -> bool {
+    let mut reader = LineReader::new(alloc, source).expect(rt, "memory");
     let _source: &S = reader.get_ref();
     let mut held = are_next(&mut reader, lines);
     for _ in 0..3u8 {
@@ -98,7 +101,7 @@ fn fails_behind<S: Source>(alloc: Global, source: S, lines: &[Told<'_>], fault: 
 #[test]
 fn repeats_a_fault(rt: HostRuntime) {
     let source = Fuse::new(Octets::new(b"one\ntwo\n"), 2);
-    assert!(rt; fails_behind(rt.alloc(), source, &TWO_LINES, &Fault::bare(901)));
+    assert!(rt; fails_behind(&rt, rt.alloc(), source, &TWO_LINES, &Fault::bare(901)));
 }
 
 #[test]
@@ -107,15 +110,17 @@ fn refuses_a_line_of_4097_bytes(rt: HostRuntime) {
     text[..4].copy_from_slice(b"one\n");
     text[4101] = b'\n';
     let source = Octets::new(&text);
-    assert!(rt; fails_behind(rt.alloc(), source, &ONE_LINE, &Fault::at_line(903, 2)));
+    assert!(rt; fails_behind(&rt, rt.alloc(), source, &ONE_LINE, &Fault::at_line(903, 2)));
+}
+
+/// The name that a text is.
+fn name(rt: &impl Abort, alloc: Global, text: &str) -> Name {
+    Name::read(alloc, text).expect(rt, "a name")
 }
 
 /// Whether a text is a name.
-fn is_name(alloc: Global, text: &str) -> bool {
-    match Name::read(alloc, text) {
-        Ok(name) => name.as_str() == text,
-        Err(_) => false,
-    }
+fn is_name(rt: &impl Abort, alloc: Global, text: &str) -> bool {
+    name(rt, alloc, text).as_str() == text
 }
 
 /// Whether a text is refused for a name.
@@ -124,21 +129,18 @@ fn is_no_name(alloc: Global, text: &str) -> bool {
 }
 
 /// Whether two texts are the same name.
-fn are_same(alloc: Global, text: &str, other: &str) -> bool {
-    match (Name::read(alloc, text), Name::read(alloc, other)) {
-        (Ok(name), Ok(other)) => name.same(&other),
-        _ => false,
-    }
+fn are_same(rt: &impl Abort, alloc: Global, text: &str, other: &str) -> bool {
+    name(rt, alloc, text).same(&name(rt, alloc, other))
 }
 
 #[test]
 fn reads_names(rt: HostRuntime) {
     let alloc = rt.alloc();
     assert!(rt;
-        is_name(alloc, "a b")
-            & is_name(alloc, "\u{200B}x\u{200B}")
-            & are_same(alloc, "a b", "a b")
-            & !are_same(alloc, "a b", "a c")
+        is_name(&rt, alloc, "a b")
+            & is_name(&rt, alloc, "\u{200B}x\u{200B}")
+            & are_same(&rt, alloc, "a b", "a b")
+            & !are_same(&rt, alloc, "a b", "a c")
     );
 }
 
@@ -165,42 +167,37 @@ fn refuses_names(rt: HostRuntime) {
 fn reads_names_of_up_to_255_bytes(rt: HostRuntime) {
     let longest = str::from_utf8(&LONG[..255]).unwrap_or("");
     let longer = str::from_utf8(&LONG[..256]).unwrap_or("x");
-    assert!(rt; is_name(rt.alloc(), longest) & is_no_name(rt.alloc(), longer));
-}
-
-/// Whether a text that is made is this one.
-fn is_text(made: Result<String, AllocError>, want: &str) -> bool {
-    match made {
-        Ok(text) => text.as_str() == want,
-        Err(_) => false,
-    }
+    assert!(rt; is_name(&rt, rt.alloc(), longest) & is_no_name(rt.alloc(), longer));
 }
 
 /// Whether a fault's place is put and printed as this text.
-fn is_placed(alloc: Global, fault: Fault, want: &str) -> bool {
+fn is_placed(rt: &impl Abort, alloc: Global, fault: Fault, want: &str) -> bool {
     let mut octets = [0u8; 32];
     let mut room = Room::new(&mut octets);
-    ends(put_place(&mut room, &fault.place), 0)
-        & (room.octets() == want.as_bytes())
-        & is_text(fault.place.to_string(alloc), want)
+    put_place(&mut room, &fault.place).expect(rt, "room");
+    let printed = fault.place.to_string(alloc).expect(rt, "memory");
+    (room.octets() == want.as_bytes()) & (printed.as_str() == want)
 }
 
 /// Whether a text with control characters is put and printed with question marks.
-fn is_text_placed(alloc: Global) -> bool {
-    match String::from_str(alloc, "/a\tb\u{7F}\u{1F} \u{80}\u{E9}/0") {
-        Ok(text) => is_placed(alloc, Fault::at_text(102, text), "/a?b?? \u{80}\u{E9}/0"),
-        Err(_) => false,
-    }
+fn is_text_placed(rt: &impl Abort, alloc: Global) -> bool {
+    let text = String::from_str(alloc, "/a\tb\u{7F}\u{1F} \u{80}\u{E9}/0").expect(rt, "memory");
+    is_placed(
+        rt,
+        alloc,
+        Fault::at_text(102, text),
+        "/a?b?? \u{80}\u{E9}/0",
+    )
 }
 
 #[test]
 fn prints_places(rt: HostRuntime) {
     let alloc = rt.alloc();
     assert!(rt;
-        is_placed(alloc, Fault::bare(105), "")
-            & is_placed(alloc, Fault::at_line(903, 3), "line 3")
-            & is_placed(alloc, Fault::at_octet(611, 0), "octet 0")
-            & is_text_placed(alloc)
+        is_placed(&rt, alloc, Fault::bare(105), "")
+            & is_placed(&rt, alloc, Fault::at_line(903, 3), "line 3")
+            & is_placed(&rt, alloc, Fault::at_octet(611, 0), "octet 0")
+            & is_text_placed(&rt, alloc)
     );
 }
 
@@ -265,22 +262,20 @@ fn lends_devices(rt: HostRuntime) {
     let mut octets = [0u8; 8];
     let mut room = Room::new(&mut octets);
     let fails = fails_after_three(&mut Fuse::new(&mut room, 3));
-    let is_lent = has_lines(rt.alloc(), &mut Octets::new(b"one\n"), &ONE_LINE);
+    let is_lent = has_lines(&rt, rt.alloc(), &mut Octets::new(b"one\n"), &ONE_LINE);
     assert!(rt; fails & is_lent & (room.octets() == b"123".as_slice()));
 }
 
 /// Whether what a source has left is this.
-fn is_left<S: Source>(alloc: Global, source: &mut S, want: &[u8]) -> bool {
-    match read_whole(alloc, source) {
-        Ok(left) => left.as_slice() == want,
-        Err(_) => false,
-    }
+fn is_left<S: Source>(rt: &impl Abort, alloc: Global, source: &mut S, want: &[u8]) -> bool {
+    read_whole(alloc, source).expect(rt, "octets").as_slice() == want
 }
 
 #[test]
 fn reads_a_source_whole(rt: HostRuntime) {
     let mut source = Octets::new(&LONG);
-    let is_read = is_left(rt.alloc(), &mut source, &LONG) & is_left(rt.alloc(), &mut source, b"");
+    let is_read = is_left(&rt, rt.alloc(), &mut source, &LONG)
+        & is_left(&rt, rt.alloc(), &mut source, b"");
     let mut failing = Fuse::new(Octets::new(&LONG), 2);
     let fails = ends(read_whole(rt.alloc(), &mut failing), 901);
     assert!(rt; is_read & fails);
@@ -304,10 +299,8 @@ fn lends_pieces_of_a_source(rt: HostRuntime) {
 
 /// Whether a window of four octets on `12345678` is filled, and again behind three of them, where
 /// it fails first with this number, or doesn't for 0.
-fn fills_again<S: Source>(alloc: Global, source: S, number: u16) -> bool {
-    let Ok(mut window) = Window::new(alloc, source, 4) else {
-        return false;
-    };
+fn fills_again<S: Source>(rt: &impl Abort, alloc: Global, source: S, number: u16) -> bool {
+    let mut window = Window::new(alloc, source, 4).expect(rt, "memory");
     let is_filled = ends(window.fill(3), 0) & (window.octets() == b"1234".as_slice());
     let n = window.octets().len().min(3);
     window.pass(n);
@@ -320,12 +313,12 @@ fn fills_again<S: Source>(alloc: Global, source: S, number: u16) -> bool {
 
 #[test]
 fn holds_octets_of_a_source(rt: HostRuntime) {
-    assert!(rt; fills_again(rt.alloc(), Octets::new(b"12345678"), 0));
+    assert!(rt; fills_again(&rt, rt.alloc(), Octets::new(b"12345678"), 0));
 }
 
 #[test]
 fn fills_a_window_again(rt: HostRuntime) {
-    assert!(rt; fills_again(rt.alloc(), Fuse::new(Octets::new(b"12345678"), 2), 901));
+    assert!(rt; fills_again(&rt, rt.alloc(), Fuse::new(Octets::new(b"12345678"), 2), 901));
 }
 
 /// Whether a text is written to a device outside, which has these octets then.
@@ -338,8 +331,12 @@ fn is_written(alloc: Global, text: &[u8]) -> bool {
 fn reads_and_writes_outside(rt: HostRuntime) {
     let mut octets = [0u8; 4];
     assert!(rt;
-        is_left(rt.alloc(), &mut Outside::new(b"read".as_slice()), b"read")
-            & is_written(rt.alloc(), b"written")
+        is_left(
+            &rt,
+            rt.alloc(),
+            &mut Outside::new(b"read".as_slice()),
+            b"read"
+        ) & is_written(rt.alloc(), b"written")
             & is_full(&mut Outside::new(octets.as_mut_slice()), b"12345")
     );
 }

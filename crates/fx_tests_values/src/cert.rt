@@ -1,8 +1,9 @@
 //! Lines of certificates read and written.
-use crate::answers::{ends, is_refused};
+use crate::answers::is_refused;
 use fx_base::{Fault, Line, Room};
 use fx_cert::{Item, Version, one_text, put_item, read_item};
 use fx_elements::Axis;
+use std::process::Abort;
 
 /// The item that a line says.
 fn read(text: &[u8]) -> Result<Item, Fault> {
@@ -13,19 +14,12 @@ fn read(text: &[u8]) -> Result<Item, Fault> {
     })
 }
 
-/// Whether an item that is read is this one.
-fn is_item(found: Result<Item, Fault>, item: Item) -> bool {
-    match found {
-        Ok(found) => found == item,
-        Err(_) => false,
-    }
-}
-
 /// Whether this text is read as the item, and the item is written as the text and a line feed.
-fn is_spelled(text: &str, item: Item) -> bool {
+fn is_spelled(rt: &impl Abort, text: &str, item: Item) -> bool {
     let mut octets = [0u8; 64];
     let mut room = Room::new(&mut octets);
-    let is_read = is_item(read(text.as_bytes()), item) & ends(put_item(&mut room, &item), 0);
+    put_item(&mut room, &item).expect(rt, "room");
+    let is_read = read(text.as_bytes()).expect(rt, "an item") == item;
     match room.octets() {
         [line @ .., b'\n'] => is_read & (line == text.as_bytes()),
         _ => false,
@@ -60,7 +54,7 @@ const ITEMS: [(&str, Item); 7] = [
 fn reads_and_writes(rt: HostRuntime) {
     one_text();
     for (text, item) in &ITEMS {
-        assert!(rt; is_spelled(*text, *item));
+        assert!(rt; is_spelled(&rt, *text, *item));
     }
 }
 

@@ -2,7 +2,8 @@
 use fx_base::{Octets, Source};
 use fx_elements::Axis;
 use fx_pcap::{Capture, Frame, Skipped};
-use std::alloc::{AllocError, Global};
+use std::alloc::Global;
+use std::process::Abort;
 
 /// A packet of TCP with ports 1000 and 443.
 pub(crate) const TCP: [u8; 24] = [
@@ -29,16 +30,17 @@ fn headers(big: bool, magic: u32, link: u8, n: u8) -> [u8; 40] {
 
 /// A capture of one record with these octets, in either order.
 pub(crate) fn capture_of(
+    rt: &impl Abort,
     alloc: Global,
     big: bool,
     magic: u32,
     link: u8,
     octets: &[u8],
-) -> Result<Vec<u8>, AllocError> {
+) -> Vec<u8> {
     let headers = headers(big, magic, link, octets.len().min(255) as u8);
-    let mut capture = Vec::from_slice(alloc, &headers)?;
-    capture.extend_from_slice(octets)?;
-    Ok(capture)
+    [headers.as_slice(), octets]
+        .concat(alloc)
+        .expect(rt, "memory")
 }
 
 /// What a capture of one record holds: the packet's protocol and ports, or how many frames were passed over.
@@ -62,20 +64,20 @@ fn passed(skipped: Skipped) -> Holding {
     Holding::Passed(skipped.other, skipped.malformed)
 }
 
-/// What comes first in a capture, if it isn't refused.
-fn first<S: Source>(capture: &mut Capture<S>) -> Option<Holding> {
-    if capture.advance().ok()? {
-        Some(packet(&capture.frame()))
+/// What comes first in a capture.
+fn first<S: Source>(rt: &impl Abort, capture: &mut Capture<S>) -> Holding {
+    if capture.advance().expect(rt, "a capture") {
+        packet(&capture.frame())
     } else {
-        Some(passed(capture.skipped()))
+        passed(capture.skipped())
     }
 }
 
 /// What a raw capture (101) or one of Ethernet (1) of these octets holds.
-fn held(alloc: Global, link: u8, octets: &[u8]) -> Option<Holding> {
-    let bytes = capture_of(alloc, true, 0xa1b2_c3d4, link, octets).ok()?;
-    let mut capture = Capture::new(alloc, Octets::new(bytes.as_slice())).ok()?;
-    first(&mut capture)
+fn held(rt: &impl Abort, alloc: Global, link: u8, octets: &[u8]) -> Holding {
+    let bytes = capture_of(rt, alloc, true, 0xa1b2_c3d4, link, octets);
+    let mut capture = Capture::new(alloc, Octets::new(bytes.as_slice())).expect(rt, "a capture");
+    first(rt, &mut capture)
 }
 
 /// The packet with another octet at a place.
@@ -87,77 +89,70 @@ fn changed(at: usize, octet: u8) -> [u8; 24] {
     packet
 }
 
-/// An Ethernet frame: so many tags, an EtherType, and the packet.
-fn ethernet(
-    alloc: Global,
-    tags: u8,
-    ether_type: [u8; 2],
-    octets: &[u8],
-) -> Result<Vec<u8>, AllocError> {
-    let mut frame = Vec::from_slice(alloc, &[0; 12])?;
-    for n in 0..tags {
-        let tag = if n % 2 == 0 {
-            [0x88, 0xa8, 0, n]
-        } else {
-            [0x81, 0x00, 0, n]
-        };
-        frame.extend_from_slice(&tag)?;
-    }
-    frame.extend_from_slice(&ether_type)?;
-    frame.extend_from_slice(octets)?;
-    Ok(frame)
+/// What stands in front of a place, or all of it.
+fn front(octets: &[u8], place: usize) -> &[u8] {
+    octets.split_at(place.min(octets.len())).0
 }
 
-/// What a capture holds of an Ethernet frame, of which so many octets were captured at most.
+/// The tags of Ethernet frames: one of either kind, and again.
+const TAGS: [u8; 16] = [
+    0x88, 0xa8, 0, 0, 0x81, 0x00, 0, 1, 0x88, 0xa8, 0, 2, 0x81, 0x00, 0, 3,
+];
+
+/// What a capture holds of an Ethernet frame with so many octets of tags, of which so many octets were captured at most.
 fn held_in_ethernet(
+    rt: &impl Abort,
     alloc: Global,
-    tags: u8,
+    tags: usize,
     ether_type: [u8; 2],
     octets: &[u8],
     captured: usize,
-) -> Option<Holding> {
-    let mut frame = ethernet(alloc, tags, ether_type, octets).ok()?;
-    frame.truncate(captured);
-    held(alloc, 1, frame.as_slice())
+) -> Holding {
+    let frame = [&[0; 12], front(&TAGS, tags), &ether_type, octets].concat(alloc);
+    let frame = frame.expect(rt, "memory");
+    held(rt, alloc, 1, front(frame.as_slice(), captured))
 }
+
+/// How many octets no tag has, and one, two and three.
+const LENGTHS: [usize; 4] = [0, 4, 8, 12];
 
 /// All octets of a frame.
 const WHOLE: usize = 1000;
 
 /// Whether the packet is read behind so many tags, and is malformed where the frame is cut behind its first octets.
-fn is_read_behind(alloc: Global, tags: u8) -> bool {
-    (held_in_ethernet(alloc, tags, [0x08, 0x00], &TCP, WHOLE)
-        == Some(Holding::Packet(6, 1000, 443)))
-        & (held_in_ethernet(alloc, tags, [0x08, 0x00], &TCP, 13) == Some(Holding::Passed(0, 1)))
+fn is_read_behind(rt: &impl Abort, alloc: Global, tags: usize) -> bool {
+    (held_in_ethernet(rt, alloc, tags, [0x08, 0x00], &TCP, WHOLE) == Holding::Packet(6, 1000, 443))
+        & (held_in_ethernet(rt, alloc, tags, [0x08, 0x00], &TCP, 13) == Holding::Passed(0, 1))
 }
 
 #[test]
 fn passes_over_tags(rt: HostRuntime) {
-    for tags in 0..4u8 {
-        assert!(rt; is_read_behind(rt.alloc(), tags));
+    for tags in &LENGTHS {
+        assert!(rt; is_read_behind(&rt, rt.alloc(), *tags));
     }
 }
 
 /// Whether an Ethernet frame is passed over: as another, or as a malformed one.
 fn is_passed_over(
+    rt: &impl Abort,
     alloc: Global,
-    tags: u8,
+    tags: usize,
     ether_type: [u8; 2],
     octets: &[u8],
     other: u64,
     malformed: u64,
 ) -> bool {
-    held_in_ethernet(alloc, tags, ether_type, octets, WHOLE)
-        == Some(Holding::Passed(other, malformed))
+    held_in_ethernet(rt, alloc, tags, ether_type, octets, WHOLE)
+        == Holding::Passed(other, malformed)
 }
 
 #[test]
 fn passes_over_other_frames(rt: HostRuntime) {
     let alloc = rt.alloc();
     assert!(rt;
-        is_passed_over(alloc, 1, [0x08, 0x06], &[], 1, 0)
-            & is_passed_over(alloc, 0, [0x08, 0x00], &[], 0, 1)
-            & is_passed_over(alloc, 0, [0x08, 0x00], &changed(0, 0x65), 0, 1)
+        is_passed_over(&rt, alloc, 4, [0x08, 0x06], &[], 1, 0)
+            & is_passed_over(&rt, alloc, 0, [0x08, 0x00], &[], 0, 1)
+            & is_passed_over(&rt, alloc, 0, [0x08, 0x00], &changed(0, 0x65), 0, 1)
     );
 }
 
@@ -169,15 +164,10 @@ const CUT: [(&[u8], usize, Holding); 4] = [
     (&TCP, 24, Holding::Packet(6, 1000, 443)),
 ];
 
-/// What stands in front of a place, or all of it.
-fn front(octets: &[u8], place: usize) -> &[u8] {
-    octets.split_at(place.min(octets.len())).0
-}
-
 #[test]
 fn reads_a_packet_and_passes_over_cut_ones(rt: HostRuntime) {
     for (packet, captured, holding) in &CUT {
-        assert!(rt; held(rt.alloc(), 101, front(*packet, *captured)) == Some(*holding));
+        assert!(rt; held(&rt, rt.alloc(), 101, front(*packet, *captured)) == *holding);
     }
 }
 
@@ -199,7 +189,7 @@ const CHANGED: [(usize, u8, Holding); 8] = [
 #[test]
 fn reads_ports_of_first_fragments_and_tells_malformed_packets(rt: HostRuntime) {
     for (at, octet, holding) in &CHANGED {
-        assert!(rt; held(rt.alloc(), 101, &changed(*at, *octet)) == Some(*holding));
+        assert!(rt; held(&rt, rt.alloc(), 101, &changed(*at, *octet)) == *holding);
     }
 }
 
@@ -247,22 +237,21 @@ const JUMBO: [u8; 16] = [
 ];
 
 /// A packet of version 6 with this payload length and next header, and what was captured of its payload.
-fn packet6(
-    alloc: Global,
-    length: u8,
-    next_header: u8,
-    payload: &[u8],
-) -> Result<Vec<u8>, AllocError> {
-    let mut packet = Vec::from_slice(alloc, &[0x6b, 0x80, 0, 0, 0, length, next_header, 64])?;
-    packet.extend_from_slice(&[0; 32])?;
-    packet.extend_from_slice(payload)?;
-    Ok(packet)
+fn packet6(rt: &impl Abort, alloc: Global, length: u8, next_header: u8, payload: &[u8]) -> Vec<u8> {
+    let fixed = [0x6b, 0x80, 0, 0, 0, length, next_header, 64];
+    [fixed.as_slice(), &[0; 32], payload]
+        .concat(alloc)
+        .expect(rt, "memory")
 }
 
 /// What a raw capture of one packet of version 6 holds.
-fn held6(alloc: Global, length: u8, next_header: u8, payload: &[u8]) -> Option<Holding> {
-    let packet = packet6(alloc, length, next_header, payload).ok()?;
-    held(alloc, 101, packet.as_slice())
+fn held6(rt: &impl Abort, alloc: Global, length: u8, next_header: u8, payload: &[u8]) -> Holding {
+    held(
+        rt,
+        alloc,
+        101,
+        packet6(rt, alloc, length, next_header, payload).as_slice(),
+    )
 }
 
 /// A packet of version 6: its payload length and next header, its payload, and how many octets of that were captured;
@@ -270,11 +259,11 @@ fn held6(alloc: Global, length: u8, next_header: u8, payload: &[u8]) -> Option<H
 type Case6 = (u8, u8, &'static [u8], usize, Holding);
 
 /// Whether captures hold this of these packets.
-fn hold6(alloc: Global, cases: &[Case6]) -> bool {
+fn hold6(rt: &impl Abort, alloc: Global, cases: &[Case6]) -> bool {
     let mut all = true;
     for (length, next_header, payload, captured, holding) in cases {
-        let found = held6(alloc, *length, *next_header, front(*payload, *captured));
-        all &= found == Some(*holding);
+        let found = held6(rt, alloc, *length, *next_header, front(*payload, *captured));
+        all &= found == *holding;
     }
     all
 }
@@ -290,7 +279,7 @@ const EXTENDED: [Case6; 6] = [
 
 #[test]
 fn passes_over_extension_headers(rt: HostRuntime) {
-    assert!(rt; hold6(rt.alloc(), &EXTENDED));
+    assert!(rt; hold6(&rt, rt.alloc(), &EXTENDED));
 }
 
 const WITHOUT_PORTS: [Case6; 7] = [
@@ -324,7 +313,7 @@ const WITHOUT_PORTS: [Case6; 7] = [
 
 #[test]
 fn reads_no_ports_of_other_protocols_and_later_fragments(rt: HostRuntime) {
-    assert!(rt; hold6(rt.alloc(), &WITHOUT_PORTS));
+    assert!(rt; hold6(&rt, rt.alloc(), &WITHOUT_PORTS));
 }
 
 const CUT6: [Case6; 14] = [
@@ -349,28 +338,26 @@ const CUT6: [Case6; 14] = [
 
 #[test]
 fn passes_over_cut_packets_of_version_6(rt: HostRuntime) {
-    assert!(rt; hold6(rt.alloc(), &CUT6));
+    assert!(rt; hold6(&rt, rt.alloc(), &CUT6));
 }
 
 /// Whether a raw capture of the fixed header without its last octet holds a malformed frame.
-fn is_cut6(alloc: Global) -> bool {
-    match packet6(alloc, 0, 59, &[]) {
-        Ok(packet) => held(alloc, 101, front(packet.as_slice(), 39)) == Some(Holding::Passed(0, 1)),
-        Err(_) => false,
-    }
+fn is_cut6(rt: &impl Abort, alloc: Global) -> bool {
+    let packet = packet6(rt, alloc, 0, 59, &[]);
+    held(rt, alloc, 101, front(packet.as_slice(), 39)) == Holding::Passed(0, 1)
 }
 
 /// What a capture holds of an Ethernet frame with a packet of version 6.
-fn held6_in_ethernet(alloc: Global, tags: u8, ether_type: [u8; 2]) -> Option<Holding> {
-    let packet = packet6(alloc, 16, 0, &HOP_BY_HOP).ok()?;
-    held_in_ethernet(alloc, tags, ether_type, packet.as_slice(), WHOLE)
+fn held6_in_ethernet(rt: &impl Abort, alloc: Global, tags: usize, ether_type: [u8; 2]) -> Holding {
+    let packet = packet6(rt, alloc, 16, 0, &HOP_BY_HOP);
+    held_in_ethernet(rt, alloc, tags, ether_type, packet.as_slice(), WHOLE)
 }
 
 #[test]
 fn reads_version_6_behind_tags(rt: HostRuntime) {
-    for tags in 0..4u8 {
-        let holding = held6_in_ethernet(rt.alloc(), tags, [0x86, 0xdd]);
-        assert!(rt; holding == Some(Holding::Packet(17, 53, 1000)));
+    for tags in &LENGTHS {
+        let holding = held6_in_ethernet(&rt, rt.alloc(), *tags, [0x86, 0xdd]);
+        assert!(rt; holding == Holding::Packet(17, 53, 1000));
     }
 }
 
@@ -378,9 +365,9 @@ fn reads_version_6_behind_tags(rt: HostRuntime) {
 fn reads_version_6_behind_its_ether_type(rt: HostRuntime) {
     let alloc = rt.alloc();
     assert!(rt;
-        (held6_in_ethernet(alloc, 0, [0x08, 0x00]) == Some(Holding::Passed(0, 1)))
-            & is_passed_over(alloc, 2, [0x86, 0xdd], &TCP, 0, 1)
-            & is_passed_over(alloc, 0, [0x86, 0xdd], &[], 0, 1)
-            & is_cut6(alloc)
+        (held6_in_ethernet(&rt, alloc, 0, [0x08, 0x00]) == Holding::Passed(0, 1))
+            & is_passed_over(&rt, alloc, 8, [0x86, 0xdd], &TCP, 0, 1)
+            & is_passed_over(&rt, alloc, 0, [0x86, 0xdd], &[], 0, 1)
+            & is_cut6(&rt, alloc)
     );
 }

@@ -7,6 +7,7 @@ use fx_base::{Fault, Fuse, Octets, Source};
 use fx_elements::Axis;
 use fx_pcap::{Capture, Frame, headers_one_by_one, records_by_cases};
 use std::alloc::Global;
+use std::process::Abort;
 
 /// Ethernet, little-endian, nanoseconds: a tagged packet, a later fragment, a packet without ports,
 /// and a record that is cut.
@@ -95,10 +96,14 @@ fn count<S: Source>(capture: &mut Capture<S>) -> (u32, u16) {
 }
 
 /// Whether a capture lends these frames, and is refused with this fault from then on.
-fn fails_behind<S: Source>(alloc: Global, source: S, frames: &[Said], fault: &Fault) -> bool {
-    let Ok(mut capture) = Capture::new(alloc, source) else {
-        return false;
-    };
+fn fails_behind<S: Source>(
+    rt: &impl Abort,
+    alloc: Global,
+    source: S,
+    frames: &[Said],
+    fault: &Fault,
+) -> bool {
+    let mut capture = Capture::new(alloc, source).expect(rt, "a capture");
     lends(&mut capture, frames)
         & is_refused(capture.next_packet(), fault)
         & is_refused(capture.next_packet(), fault)
@@ -114,7 +119,7 @@ const FRAMES: [Said; 3] = [
 #[test]
 fn lends_frames(rt: HostRuntime) {
     let source = Octets::new(&CAPTURE);
-    assert!(rt; fails_behind(rt.alloc(), source, &FRAMES, &Fault::at_octet(703, 182)));
+    assert!(rt; fails_behind(&rt, rt.alloc(), source, &FRAMES, &Fault::at_octet(703, 182)));
 }
 
 /// Whether the next frame has these octets, source and destination.
@@ -183,11 +188,9 @@ fn is_other(alloc: Global, octets: &[u8], fault: &Fault) -> bool {
 }
 
 /// Whether a capture of the packet with this magic and link type is refused with this fault.
-fn is_other_link(alloc: Global, magic: u32, link: u8, fault: &Fault) -> bool {
-    match capture_of(alloc, true, magic, link, &TCP) {
-        Ok(octets) => is_other(alloc, octets.as_slice(), fault),
-        Err(_) => false,
-    }
+fn is_other_link(rt: &impl Abort, alloc: Global, magic: u32, link: u8, fault: &Fault) -> bool {
+    let octets = capture_of(rt, alloc, true, magic, link, &TCP);
+    is_other(alloc, octets.as_slice(), fault)
 }
 
 /// A file header of version 3, and the magic of the next format.
@@ -208,8 +211,8 @@ fn refuses_other_captures(rt: HostRuntime) {
 #[test]
 fn refuses_other_magics_and_links(rt: HostRuntime) {
     assert!(rt;
-        is_other_link(rt.alloc(), 0x0a0d_0d0a, 1, &Fault::at_octet(701, 0))
-            & is_other_link(rt.alloc(), 0xa1b2_c3d4, 102, &Fault::bare(702))
+        is_other_link(&rt, rt.alloc(), 0x0a0d_0d0a, 1, &Fault::at_octet(701, 0))
+            & is_other_link(&rt, rt.alloc(), 0xa1b2_c3d4, 102, &Fault::bare(702))
     );
 }
 
@@ -222,7 +225,7 @@ const TOO_LONG: [u8; 40] = [
 #[test]
 fn refuses_too_long_records_first(rt: HostRuntime) {
     let source = Octets::new(&TOO_LONG);
-    assert!(rt; fails_behind(rt.alloc(), source, &[], &Fault::at_octet(704, 24)));
+    assert!(rt; fails_behind(&rt, rt.alloc(), source, &[], &Fault::at_octet(704, 24)));
 }
 
 /// What two counts of the capture give where the read of this number fails.
@@ -297,21 +300,24 @@ fn says_whole(frame: &Frame<'_>, whole: &Whole) -> bool {
 }
 
 /// Whether a capture has one frame, which says this.
-fn has_one<S: Source>(alloc: Global, source: S, whole: &Whole) -> bool {
-    let Ok(mut capture) = Capture::new(alloc, source) else {
-        return false;
-    };
+fn has_one<S: Source>(rt: &impl Abort, alloc: Global, source: S, whole: &Whole) -> bool {
+    let mut capture = Capture::new(alloc, source).expect(rt, "a capture");
     capture.advance().unwrap_or(false)
         & says_whole(&capture.frame(), whole)
         & !capture.advance().unwrap_or(true)
 }
 
 /// Whether a raw capture of the packet, in either order and with this magic, has one frame, which says this.
-fn is_read(alloc: Global, big: bool, magic: u32, packet: &[u8], whole: &Whole) -> bool {
-    match capture_of(alloc, big, magic, 101, packet) {
-        Ok(octets) => has_one(alloc, Octets::new(octets.as_slice()), whole),
-        Err(_) => false,
-    }
+fn is_read(
+    rt: &impl Abort,
+    alloc: Global,
+    big: bool,
+    magic: u32,
+    packet: &[u8],
+    whole: &Whole,
+) -> bool {
+    let octets = capture_of(rt, alloc, big, magic, 101, packet);
+    has_one(rt, alloc, Octets::new(octets.as_slice()), whole)
 }
 
 /// What the packet of TCP says.
@@ -332,7 +338,7 @@ const MAGICS: [(bool, u32); 4] = [
 #[test]
 fn reads_either_order_and_magic(rt: HostRuntime) {
     for (big, magic) in &MAGICS {
-        assert!(rt; is_read(rt.alloc(), *big, *magic, &TCP, &TCP_SAYS));
+        assert!(rt; is_read(&rt, rt.alloc(), *big, *magic, &TCP, &TCP_SAYS));
     }
 }
 
@@ -357,6 +363,6 @@ const PACKETS: [(&[u8], Whole); 4] = [
 #[test]
 fn reads_either_version(rt: HostRuntime) {
     for (packet, whole) in &PACKETS {
-        assert!(rt; is_read(rt.alloc(), true, 0xa1b2_c3d4, *packet, whole));
+        assert!(rt; is_read(&rt, rt.alloc(), true, 0xa1b2_c3d4, *packet, whole));
     }
 }

@@ -4,6 +4,7 @@ use fx_boxes::Fields;
 use fx_elements::Axis;
 use fx_layout::{Key, Layout, Seed};
 use fx_store::{BoundedStore, FlowStore, ListStore};
+use std::process::Abort;
 
 /// The counts of one packet.
 const COUNTS: Counts = Counts {
@@ -17,9 +18,11 @@ fn seed() -> Seed {
 }
 
 /// The key of packets from this address by so many of its bits.
-fn from(source: u32, bits: u32) -> Option<Key> {
-    let layout = Layout::new().with(Axis::Source, bits)?;
-    Some(layout.key_of(&Fields::of([u128::from(source), 0, 0, 0, 0, 0, 4, 0, 0])))
+fn from(rt: &impl Abort, source: u32, bits: u32) -> Key {
+    let layout = Layout::new()
+        .with(Axis::Source, bits)
+        .expect(rt, "a layout");
+    layout.key_of(&Fields::of([u128::from(source), 0, 0, 0, 0, 0, 4, 0, 0]))
 }
 
 /// The address that left a store, or 0 where none did.
@@ -39,11 +42,8 @@ fn is_left(answer: Result<Option<(Key, Counts)>, Fault>, left: u128) -> bool {
 }
 
 /// Adds one packet of ten octets from an address: whether this address left then, or none for 0.
-fn adds<S: FlowStore>(store: &mut S, source: u32, left: u128) -> bool {
-    match from(source, 32) {
-        Some(key) => is_left(store.add(key, COUNTS), left),
-        None => false,
-    }
+fn adds<S: FlowStore>(rt: &impl Abort, store: &mut S, source: u32, left: u128) -> bool {
+    is_left(store.add(from(rt, source, 32), COUNTS), left)
 }
 
 /// Takes the least key out: its address and counts.
@@ -53,10 +53,10 @@ fn least<S: FlowStore>(store: &mut S) -> Option<(u128, u64, u64)> {
 }
 
 /// Adds at three keys, one of them twice, and empties the store in order: whether it held them.
-fn is_filled_and_emptied<S: FlowStore>(mut store: S) -> bool {
-    adds(&mut store, 0x0a00_0002, 0)
-        & adds(&mut store, 0x0a00_0001, 0)
-        & adds(&mut store, 0x0a00_0002, 0)
+fn is_filled_and_emptied<S: FlowStore>(rt: &impl Abort, mut store: S) -> bool {
+    adds(rt, &mut store, 0x0a00_0002, 0)
+        & adds(rt, &mut store, 0x0a00_0001, 0)
+        & adds(rt, &mut store, 0x0a00_0002, 0)
         & (store.len() == 2)
         & (least(&mut store) == Some((0x0a00_0001, 1, 10)))
         & (least(&mut store) == Some((0x0a00_0002, 2, 20)))
@@ -65,21 +65,21 @@ fn is_filled_and_emptied<S: FlowStore>(mut store: S) -> bool {
 
 #[test]
 fn fills_and_empties_a_list(rt: HostRuntime) {
-    assert!(rt; is_filled_and_emptied(ListStore::new(rt.alloc(), seed())));
+    assert!(rt; is_filled_and_emptied(&rt, ListStore::new(rt.alloc(), seed())));
 }
 
 #[test]
 fn fills_and_empties_a_bounded_store(rt: HostRuntime) {
     let store = BoundedStore::new(rt.alloc(), seed(), 2).expect(&rt, "memory");
-    assert!(rt; is_filled_and_emptied(store));
+    assert!(rt; is_filled_and_emptied(&rt, store));
 }
 
 /// Whether a store for two keys lets the one leave that was added to longest ago, and keeps the others.
-fn lets_leave<S: FlowStore>(mut store: S) -> bool {
-    adds(&mut store, 1, 0)
-        & adds(&mut store, 2, 0)
-        & adds(&mut store, 1, 0)
-        & adds(&mut store, 3, 2)
+fn lets_leave<S: FlowStore>(rt: &impl Abort, mut store: S) -> bool {
+    adds(rt, &mut store, 1, 0)
+        & adds(rt, &mut store, 2, 0)
+        & adds(rt, &mut store, 1, 0)
+        & adds(rt, &mut store, 3, 2)
         & (store.len() == 2)
         & (least(&mut store) == Some((1, 2, 20)))
         & (least(&mut store) == Some((3, 1, 10)))
@@ -87,31 +87,41 @@ fn lets_leave<S: FlowStore>(mut store: S) -> bool {
 
 #[test]
 fn lets_the_least_recently_added_to_leave(rt: HostRuntime) {
-    assert!(rt; lets_leave(BoundedStore::new(rt.alloc(), seed(), 2).expect(&rt, "memory")));
+    assert!(rt;
+        lets_leave(
+            &rt,
+            BoundedStore::new(rt.alloc(), seed(), 2).expect(&rt, "memory")
+        )
+    );
 }
 
 /// Takes out what is held of an address.
-fn take<S: FlowStore>(store: &mut S, source: u32) -> Option<Counts> {
-    store.take(&from(source, 32)?)
+fn take<S: FlowStore>(rt: &impl Abort, store: &mut S, source: u32) -> Option<Counts> {
+    store.take(&from(rt, source, 32))
 }
 
 /// Adds at a key, looks for another, takes the first one out and adds again: whether it was there alone.
-fn is_taken<S: FlowStore>(mut store: S) -> bool {
-    adds(&mut store, 7, 0)
-        & take(&mut store, 8).is_none()
-        & (take(&mut store, 7) == Some(COUNTS))
+fn is_taken<S: FlowStore>(rt: &impl Abort, mut store: S) -> bool {
+    adds(rt, &mut store, 7, 0)
+        & take(rt, &mut store, 8).is_none()
+        & (take(rt, &mut store, 7) == Some(COUNTS))
         & (store.len() == 0)
-        & adds(&mut store, 8, 0)
+        & adds(rt, &mut store, 8, 0)
 }
 
 #[test]
 fn takes_a_key_out_of_a_list(rt: HostRuntime) {
-    assert!(rt; is_taken(ListStore::new(rt.alloc(), seed())));
+    assert!(rt; is_taken(&rt, ListStore::new(rt.alloc(), seed())));
 }
 
 #[test]
 fn takes_a_key_out_of_a_bounded_store(rt: HostRuntime) {
-    assert!(rt; is_taken(BoundedStore::new(rt.alloc(), seed(), 1).expect(&rt, "memory")));
+    assert!(rt;
+        is_taken(
+            &rt,
+            BoundedStore::new(rt.alloc(), seed(), 1).expect(&rt, "memory")
+        )
+    );
 }
 
 /// Whether the least key of a store has one part, of eight bits.
@@ -124,8 +134,8 @@ fn is_wide(least: Option<(Key, Counts)>) -> bool {
 }
 
 /// Adds at keys of two layouts that have the same value, 10: whether both are held, that of eight bits first.
-fn are_apart<S: FlowStore>(mut store: S, wide: Key) -> bool {
-    adds(&mut store, 10, 0)
+fn are_apart<S: FlowStore>(rt: &impl Abort, mut store: S, wide: Key) -> bool {
+    adds(rt, &mut store, 10, 0)
         & is_left(store.add(wide, COUNTS), 0)
         & (store.len() == 2)
         & is_wide(store.take_least())
@@ -133,8 +143,8 @@ fn are_apart<S: FlowStore>(mut store: S, wide: Key) -> bool {
 
 #[test]
 fn tells_layouts_apart(rt: HostRuntime) {
-    let wide = from(0x0a00_0000, 8).expect(&rt, "a key");
-    assert!(rt; are_apart(ListStore::new(rt.alloc(), seed()), wide));
+    let wide = from(&rt, 0x0a00_0000, 8);
+    assert!(rt; are_apart(&rt, ListStore::new(rt.alloc(), seed()), wide));
 }
 
 /// Whether a store is made, and holds nothing.

@@ -5,19 +5,18 @@ use fx_elements::Axis;
 use fx_layout::{Layout, Seed};
 use fx_sums::{Sum, sums_of_parts, totals_texts};
 use std::alloc::Global;
+use std::process::Abort;
 
 /// By 24 bits of the source and by protocol.
-fn layout() -> Option<Layout> {
-    Layout::new()
-        .with(Axis::Source, 24)?
-        .with(Axis::Protocol, 8)
+fn layout(rt: &impl Abort) -> Layout {
+    let layout = Layout::new().with(Axis::Source, 24).expect(rt, "source");
+    layout.with(Axis::Protocol, 8).expect(rt, "protocol")
 }
 
 /// By version and by 32 bits of the source of IPv6.
-fn layout_of_ipv6() -> Option<Layout> {
-    Layout::new()
-        .with(Axis::Version, 8)?
-        .with(Axis::Source6, 32)
+fn layout_of_ipv6(rt: &impl Abort) -> Layout {
+    let layout = Layout::new().with(Axis::Version, 8).expect(rt, "version");
+    layout.with(Axis::Source6, 32).expect(rt, "source")
 }
 
 /// Adds texts to a sum.
@@ -37,21 +36,25 @@ fn is_text(sum: &mut Sum, text: &[u8]) -> bool {
 }
 
 /// Whether these texts come to that one.
-fn comes(alloc: Global, seed: Seed, layout: &Layout, texts: &[&[u8]], text: &[u8]) -> bool {
-    let Ok(mut sum) = Sum::new(alloc, seed, layout.copy()) else {
-        return false;
-    };
-    let mut all = true;
+fn comes(
+    rt: &impl Abort,
+    alloc: Global,
+    seed: Seed,
+    layout: &Layout,
+    texts: &[&[u8]],
+    text: &[u8],
+) -> bool {
+    let mut sum = Sum::new(alloc, seed, layout.copy()).expect(rt, "memory");
     for part in texts {
-        all &= ends(add(alloc, &mut sum, Octets::new(*part)), 0);
+        add(alloc, &mut sum, Octets::new(*part)).expect(rt, "a text");
     }
-    all & is_text(&mut sum, text)
+    is_text(&mut sum, text)
 }
 
 /// Whether these texts come to that one, and that one alone comes to itself.
-fn come_to(alloc: Global, layout: &Layout, texts: &[&[u8]], text: &[u8]) -> bool {
-    comes(alloc, Seed::new(1, 2), layout, texts, text)
-        & comes(alloc, Seed::new(3, 4), layout, &[text], text)
+fn come_to(rt: &impl Abort, alloc: Global, layout: &Layout, texts: &[&[u8]], text: &[u8]) -> bool {
+    comes(rt, alloc, Seed::new(1, 2), layout, texts, text)
+        & comes(rt, alloc, Seed::new(3, 4), layout, &[text], text)
 }
 
 /// Of two streams.
@@ -75,10 +78,10 @@ fn adds_streams_up(rt: HostRuntime) {
     totals_texts();
     let text =
         b"keys 3\n10.1.0.0/24 6 packets 7 octets 70\n10.1.1.0/24 6 packets 5 octets 311\n10.1.2.0/24 17 packets 1 octets 40\nunassigned 3\ngaps 3\nskipped 5\n";
-    let layout = layout().expect(&rt, "a layout");
+    let layout = layout(&rt);
     assert!(rt;
-        come_to(rt.alloc(), &layout, &[FIRST, SECOND], text)
-            & come_to(rt.alloc(), &layout, &[SECOND, FIRST], text)
+        come_to(&rt, rt.alloc(), &layout, &[FIRST, SECOND], text)
+            & come_to(&rt, rt.alloc(), &layout, &[SECOND, FIRST], text)
     );
 }
 
@@ -89,10 +92,10 @@ fn adds_texts_of_one_source(rt: HostRuntime) {
     let text =
         b"keys 3\n10.1.0.0/24 6 packets 8 octets 71\n10.1.1.0/24 6 packets 3 octets 300\n10.1.2.0/24 17 packets 1 octets 40\nunassigned 7\ncomplete no\ngaps 3\nskipped 5\n";
     let twice = b"keys 0\nunassigned 0\ncomplete yes\nkeys 0\nunassigned 0\ncomplete yes\n";
-    let layout = layout().expect(&rt, "a layout");
+    let layout = layout(&rt);
     assert!(rt;
-        come_to(rt.alloc(), &layout, &[texts], text)
-            & come_to(rt.alloc(), &layout, &[twice, WHOLE], WHOLE)
+        come_to(&rt, rt.alloc(), &layout, &[texts], text)
+            & come_to(&rt, rt.alloc(), &layout, &[twice, WHOLE], WHOLE)
     );
 }
 
@@ -100,11 +103,16 @@ fn adds_texts_of_one_source(rt: HostRuntime) {
 fn tells_notes_of_all_kinds(rt: HostRuntime) {
     let text =
         b"keys 3\n10.1.1.0/24 6 packets 5 octets 302\n10.1.1.0/24 7 packets 1 octets 1\n10.1.2.0/24 17 packets 1 octets 40\nunassigned 2\ncomplete no\nskipped other 8 malformed 12\ngaps 1\nskipped 5\n";
-    let layout = layout().expect(&rt, "a layout");
+    let layout = layout(&rt);
     assert!(rt;
-        come_to(rt.alloc(), &layout, &[RUN, WHOLE, FIRST, PART, RUN], text)
-            & come_to(rt.alloc(), &layout, &[WHOLE, WHOLE], WHOLE)
-            & come_to(rt.alloc(), &layout, &[], b"keys 0\nunassigned 0\n")
+        come_to(
+            &rt,
+            rt.alloc(),
+            &layout,
+            &[RUN, WHOLE, FIRST, PART, RUN],
+            text
+        ) & come_to(&rt, rt.alloc(), &layout, &[WHOLE, WHOLE], WHOLE)
+            & come_to(&rt, rt.alloc(), &layout, &[], b"keys 0\nunassigned 0\n")
     );
 }
 
@@ -114,15 +122,15 @@ fn adds_modulo_2_to_the_64(rt: HostRuntime) {
         b"keys 1\nall packets 18446744073709551615 octets 18446744073709551615\nunassigned 18446744073709551615\n";
     let two = b"keys 1\nall packets 2 octets 3\nunassigned 4\n";
     let text = b"keys 1\nall packets 1 octets 2\nunassigned 3\n";
-    assert!(rt; come_to(rt.alloc(), &Layout::new(), &[most, two], text));
+    assert!(rt; come_to(&rt, rt.alloc(), &Layout::new(), &[most, two], text));
 }
 
 #[test]
 fn adds_totals_of_ipv6(rt: HostRuntime) {
     let one = b"keys 1\n6 2001:db8:0:0:0:0:0:0/32 packets 3 octets 9\nunassigned 0\n";
     let text = b"keys 1\n6 2001:db8:0:0:0:0:0:0/32 packets 6 octets 18\nunassigned 0\n";
-    let layout = layout_of_ipv6().expect(&rt, "a layout");
-    assert!(rt; come_to(rt.alloc(), &layout, &[one, one], text));
+    let layout = layout_of_ipv6(&rt);
+    assert!(rt; come_to(&rt, rt.alloc(), &layout, &[one, one], text));
 }
 
 /// What isn't a text of totals, and the line at which it is refused.
@@ -223,7 +231,7 @@ fn add_first<S: Source>(alloc: Global, layout: &Layout, texts: S) -> Result<(), 
 
 #[test]
 fn refuses_other_texts(rt: HostRuntime) {
-    let layout = layout().expect(&rt, "a layout");
+    let layout = layout(&rt);
     for (text, line) in &REFUSED {
         let answer = add_first(rt.alloc(), &layout, Octets::new(*text));
         assert!(rt; is_refused(answer, &Fault::at_line(861, *line)));
@@ -232,7 +240,7 @@ fn refuses_other_texts(rt: HostRuntime) {
 
 #[test]
 fn fails_where_a_read_fails(rt: HostRuntime) {
-    let layout = layout().expect(&rt, "a layout");
+    let layout = layout(&rt);
     let texts = Fuse::new(Octets::new(FIRST), 1);
     assert!(rt; ends(add_first(rt.alloc(), &layout, texts), 901));
 }
