@@ -1,11 +1,13 @@
 #!/usr/bin/env bash
-# by_parallel.sh FOLDER WORKERS: has GNU parallel answer the parts that lack an answer, so many at a time. A worker that
-# dies is tried again, up to three times in all. Ends with 0 where each part has an answer; call it again where not.
+# by_parallel.sh FOLDER WORKERS [PARTS]: has GNU parallel answer the parts that lack an answer, by so many workers at a time,
+# each called for so many parts (1). A worker that dies is tried again, up to three times in all. Ends with 0 where each part
+# has an answer; call it again where not.
 set -eu
 # shellcheck source-path=SCRIPTDIR source=common.sh
 . "$(dirname "$0")/common.sh"
 
-{ [ $# -eq 2 ] && [ -d "$1/parts" ]; } || usage
+{ [ $# -ge 2 ] && [ $# -le 3 ] && [ -d "$1/parts" ]; } || usage
 find_once
-lacking "$1" | parallel --quote --jobs "$2" --retries 3 --joblog "$1/joblog" bash "$here/worker.sh" "$1" || true
+lacking "$1" | parallel --quote --jobs "$2" --max-args "${3:-1}" --retries 3 --joblog "$1/joblog" \
+  bash "$here/worker.sh" "$1" || true
 finished "$1"

@@ -1,8 +1,8 @@
 #!/usr/bin/env bash
 # measure.sh NAME FOLDER turn|parallel|slurm ROUNDS [PARTS]: has all parts of FOLDER answered by 1, 2 and 4 workers in turn (by
-# one where they come one after another), in so many rounds, and by Slurm in tasks of so many parts (1). Prints a line for
-# each run: NAME, the engine, the workers, the seconds that it took by the clock, those of processor time that the parts
-# took together, and the machine's load before it.
+# one where they come one after another), each called for so many parts (1), in so many rounds. Prints a line for each run:
+# NAME, the engine, the workers, the seconds that it took by the clock, those of processor time that the parts took
+# together, and the machine's load before it.
 set -eu
 # shellcheck source-path=SCRIPTDIR source=common.sh
 . "$(dirname "$0")/common.sh"
@@ -14,7 +14,7 @@ name=$1 folder=$2 engine=$3 rounds=$4 parts=${5:-1} counts=(1 2 4)
 answer_all() {
   case $engine in
     turn) bash "$here/worker.sh" "$folder" ;;
-    parallel) bash "$here/by_parallel.sh" "$folder" "$1" ;;
+    parallel) bash "$here/by_parallel.sh" "$folder" "$1" "$parts" ;;
     slurm) bash "$here/by_slurm.sh" "$folder" "$1" "$parts" ;;
     *) usage ;;
   esac

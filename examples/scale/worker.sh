@@ -22,6 +22,7 @@ ask() {
 answer() {
   local number=$1 part
   part=$(echo parts/"$number".*)
+  [ -f "$part" ] || { echo "there is no part $number" >&2; exit 6; }
   made=$(mktemp -d "unfinished/$number.XXXXXX")
   trap 'rm -rf "$made"' EXIT
   b2sum network.json "$part" > "$made/of"
