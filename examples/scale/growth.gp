@@ -1,9 +1,9 @@
 # Draws growth.svg from growth.dat, the lines that measure.sh prints: gnuplot growth.gp
 set terminal svg size 960,420 font 'sans-serif,14' background '#ffffff'
 set output 'growth.svg'
-# The least time of each number of workers, and of the loop, which has one.
-least(name, engine) = "< awk '$1 == \"".name."\" && $2 == \"".engine."\" && (!($3 in t) || $4 < t[$3]) { t[$3] = $4 } END { for (w in t) print w, t[w] }' growth.dat | sort -n"
-loop(name) = system("awk '$1 == \"".name."\" && $2 == \"turn\" && (!t || $4 < t) { t = $4 } END { print t }' growth.dat") + 0
+# The least time by the clock of each number of workers, and of the loop, which has one.
+least(name, engine) = "< awk '$1 == \"".name."\" && $2 == \"".engine."\" && (!($3 in t) || $5 < t[$3]) { t[$3] = $5 } END { for (w in t) print w, t[w] }' growth.dat | sort -n"
+loop(name) = system("awk '$1 == \"".name."\" && $2 == \"turn\" && (!t || $5 < t) { t = $5 } END { print t }' growth.dat") + 0
 set logscale xy 2
 set xrange [0.9:4.5]
 set yrange [1:32]

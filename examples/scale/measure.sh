@@ -1,8 +1,8 @@
 #!/usr/bin/env bash
 # measure.sh NAME FOLDER turn|parallel|slurm ROUNDS [PARTS]: has all parts of FOLDER answered by 1, 2 and 4 workers in turn (by
 # one where they come one after another), each called for so many parts (1), in so many rounds. Prints a line for each run:
-# NAME, the engine, the workers, the seconds that it took by the clock, those of processor time that the parts took
-# together, and the machine's load before it.
+# NAME, the engine, the workers, the parts of a call, the seconds that it took by the clock, those of processor time that
+# the parts took together, and the machine's load before it.
 set -eu
 # shellcheck source-path=SCRIPTDIR source=common.sh
 . "$(dirname "$0")/common.sh"
@@ -32,6 +32,6 @@ for _ in $(seq "$rounds"); do
     began=$EPOCHREALTIME
     answer_all "$workers" >&2
     ended=$EPOCHREALTIME
-    echo "$name $engine $workers $(awk "BEGIN { printf \"%.2f\", $ended - $began }") $(processor) $load"
+    echo "$name $engine $workers $parts $(awk "BEGIN { printf \"%.2f\", $ended - $began }") $(processor) $load"
   done
 done
