@@ -124,6 +124,8 @@ run-examples:
 	  ./once run $$example/network.json $$example/traffic.json $$capture $$example/schedule.txt | diff - $$example/metered.txt || exit 1; \
 	done
 	python3 tests/generated_networks.py ./once --examples
+	@command -v jq >/dev/null || echo 'examples/scale was not tried: there is no jq'
+	! command -v jq >/dev/null || ONCE=./once bash examples/scale/try.sh turn
 
 # Draws the pictures of the examples anew, with Graphviz's dot: each network with its traffic and its certificate or
 # refutation.
