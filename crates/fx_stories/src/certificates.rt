@@ -110,8 +110,8 @@ fn tell_tree(
 {
     tell_region_line(story, region);
     if is_of_packets(number) {
-        tell_watching(story, &documents.plan, region, target.crossings)?;
-        tell_following(alloc, story, &documents.plan, region, target.crossings)?;
+        tell_watching(story, &documents.plan, region, target.crossings);
+        tell_following(story, &documents.plan, region, target.crossings);
     }
     if number == refusals::CUT_REGION {
         tell_cut(alloc, story, &documents.plan, target.crossings, region)?;

@@ -10,49 +10,56 @@ use fx_config::{Aggregation, CollectingProcess};
 use fx_plan::Plan;
 use fx_tables::Crossing;
 use fx_topology::{NamedLink, NetworkDevice};
-use std::alloc::{AllocError, Global};
 
 /// How many collecting processes are told.
 const TOLD: usize = 64;
 
-/// Whether one of these links, by their places, leads to the collecting process of a link.
-fn is_led_to(links: &[NamedLink], found: &[usize], link: &NamedLink) -> bool {
-    found.iter().any(|place| match entry_at(links, *place) {
-        Some(other) => { other.to_device == link.to_device && other.to_process == link.to_process }
-        None => false,
-    })
+/// Links that lead to different collecting processes, by their places, as many as are told.
+#[derive(Drop)]
+struct Found<'a> {
+    links: &'a [NamedLink],
+    places: [usize; TOLD],
+    count: usize,
 }
 
-/// Adds the places of the links by which exporting processes of a device send, but for those that lead to a collecting
-/// process to which one that was found leads.
-fn add_links(
-    found: &mut Vec<usize>,
-    plan: &Plan,
-    device: &NetworkDevice,
-    exporters: &[Name],
-) -> Result<(), AllocError> {
-    let links = plan.network().links.as_slice();
-    for place in 0..links.len() {
-        let link = &links[place];
-        if link.device == device.name
-            && exporters.iter().any(|name| *name == link.exporting_process)
-            && !is_led_to(links, found.as_slice(), link)
-        {
-            found.push(place)?;
+impl Found<'_> {
+    /// Whether one of the links leads to the collecting process of this link.
+    fn leads_to(&self, link: &NamedLink) -> bool {
+        self.places.iter().take(self.count).any(|place| match entry_at(self.links, *place) {
+            Some(other) => other.to_device == link.to_device && other.to_process == link.to_process,
+            None => false,
+        })
+    }
+
+    /// Adds the link at a place, unless one leads to its collecting process.
+    fn add(&mut self, place: usize, link: &NamedLink) {
+        if self.count < TOLD && !self.leads_to(link) {
+            self.places[self.count] = place;
+            self.count += 1;
         }
     }
-    Ok(())
+}
+
+/// Adds the links by which exporting processes of a device send.
+fn add_links(found: &mut Found<'_>, device: &NetworkDevice, exporters: &[Name]) {
+    for place in 0..found.links.len() {
+        let link = &found.links[place];
+        if link.device == device.name
+            && exporters.iter().any(|name| *name == link.exporting_process)
+        {
+            found.add(place, link);
+        }
+    }
 }
 
 /// Adds the links by which the caches of a crossing's device send.
-fn add_first(found: &mut Vec<usize>, plan: &Plan, crossing: &Crossing) -> Result<(), AllocError> {
+fn add_first(found: &mut Found<'_>, plan: &Plan, crossing: &Crossing) {
     let devices = plan.network().devices.as_slice();
     if let Some(device) = entry_numbered(devices, crossing.device) {
         for cache in device.config.caches.as_slice() {
-            add_links(found, plan, device, cache.exporting_processes.as_slice())?;
+            add_links(found, device, cache.exporting_processes.as_slice());
         }
     }
-    Ok(())
 }
 
 /// Tells where an aggregation's records go.
@@ -61,7 +68,7 @@ fn tell_aggregation(
     plan: &Plan,
     device: &NetworkDevice,
     aggregation: &Aggregation,
-) -> Result<(), AllocError> {
+) {
     let exporters = aggregation.exporting_processes.as_slice();
     story.tell(&[
         Piece::Text("; aggregation "),
@@ -72,44 +79,37 @@ fn tell_aggregation(
             ": "
         }),
     ]);
-    let _made = tell_sending(story, plan, device, exporters, &[])?;
-    Ok(())
+    let _choices = tell_sending(story, plan, device, exporters, &[]);
 }
 
 /// Tells what a collecting process does with records, and adds the links by which it sends them on.
 fn tell_process(
     story: &mut Story,
-    found: &mut Vec<usize>,
+    found: &mut Found<'_>,
     plan: &Plan,
     device: &NetworkDevice,
     process: &CollectingProcess,
-) -> Result<(), AllocError> {
+) {
     let exporters = process.exporting_processes.as_slice();
     if !exporters.is_empty() {
         story.tell(&[Piece::Text("; it forwards: ")]);
-        let _made = tell_sending(story, plan, device, exporters, &[])?;
-        add_links(found, plan, device, exporters)?;
+        let _choices = tell_sending(story, plan, device, exporters, &[]);
+        add_links(found, device, exporters);
     }
     for aggregation in process.aggregations.as_slice() {
-        tell_aggregation(story, plan, device, aggregation)?;
-        add_links(
-            found,
-            plan,
-            device,
-            aggregation.exporting_processes.as_slice(),
-        )?;
+        tell_aggregation(story, plan, device, aggregation);
+        add_links(found, device, aggregation.exporting_processes.as_slice());
     }
-    Ok(())
 }
 
 /// Tells what the collecting process does with the records of a region's packets to which a link leads.
 fn tell_link(
     story: &mut Story,
-    found: &mut Vec<usize>,
+    found: &mut Found<'_>,
     plan: &Plan,
     region: &Region,
     link: &NamedLink,
-) -> Result<(), AllocError> {
+) {
     tell_end(story, link);
     if leads_to_report(&plan.network().report, link) {
         story.tell(&[Piece::Text(" is the report's")]);
@@ -117,36 +117,36 @@ fn tell_link(
     if let Some(device) = entry_named(plan.network().devices.as_slice(), &link.to_device) {
         let processes = device.config.collecting_processes.as_slice();
         if let Some(process) = entry_named(processes, &link.to_process) {
-            tell_process(story, found, plan, device, process)?;
+            tell_process(story, found, plan, device, process);
             story.end_line();
             tell_matches(story, region, device, process);
-            return Ok(());
+            return;
         }
     }
     story.end_line();
-    Ok(())
 }
 
 /// Tells the collecting processes to which the records of a region's packets may come that take a path, each once and 64
 /// at most, where each sends them, and which matches of their aggregations don't hold for all of these packets.
 pub(crate) fn tell_following(
-    alloc: Global,
     story: &mut Story,
     plan: &Plan,
     region: &Region,
     crossings: &[Crossing],
-) -> Result<(), AllocError> {
-    let mut found: Vec<usize> = Vec::new(alloc);
+) {
+    let mut found = Found {
+        links: plan.network().links.as_slice(),
+        places: [0; TOLD],
+        count: 0,
+    };
     for crossing in crossings {
-        add_first(&mut found, plan, crossing)?;
+        add_first(&mut found, plan, crossing);
     }
     for next in 0..TOLD {
-        let Some(place) = found.as_slice().get(next).copied() else {
-            return Ok(());
-        };
-        if let Some(link) = entry_at(plan.network().links.as_slice(), place) {
-            tell_link(story, &mut found, plan, region, link)?;
+        if next < found.count {
+            if let Some(link) = entry_at(found.links, found.places[next]) {
+                tell_link(story, &mut found, plan, region, link);
+            }
         }
     }
-    Ok(())
 }

@@ -7,7 +7,6 @@ use fx_config::{Aggregation, CollectingProcess};
 use fx_plan::Plan;
 use fx_tables::HolderName;
 use fx_topology::{NamedLink, NetworkDevice, Report};
-use std::alloc::AllocError;
 
 /// Tells where a record goes that leaves a cache or an aggregation of a device.
 fn tell_leaving(
@@ -16,18 +15,17 @@ fn tell_leaving(
     device: &NetworkDevice,
     exporters: &[Name],
     choices: &[Option<u64>],
-) -> Result<(), AllocError> {
+) {
     story.tell(&[
         Piece::Text(" of "),
         Piece::Text(device.name.as_str()),
         Piece::Text(": "),
     ]);
-    tell_sending(story, plan, device, exporters, choices)?;
+    tell_sending(story, plan, device, exporters, choices);
     if exporters.is_empty() {
         story.tell(&[Piece::Text("it has no exporting process, so the record is lost")]);
     }
     story.end_line();
-    Ok(())
 }
 
 /// Tells that a record leaves the cache of this number.
@@ -37,10 +35,10 @@ fn tell_cache(
     device: &NetworkDevice,
     number: u64,
     choices: &[Option<u64>],
-) -> Result<(), AllocError> {
+) {
     let Some(cache) = entry_numbered(device.config.caches.as_slice(), number) else {
         story.sentence(&[Piece::Text("there is no cache "), Piece::Number(number)]);
-        return Ok(());
+        return;
     };
     story.tell(&[
         Piece::Text("a record leaves cache "),
@@ -52,7 +50,7 @@ fn tell_cache(
         device,
         cache.exporting_processes.as_slice(),
         choices,
-    )
+    );
 }
 
 /// Tells that a record leaves the aggregation of this number of a collecting process.
@@ -63,21 +61,21 @@ fn tell_aggregation(
     process: u64,
     number: u64,
     choices: &[Option<u64>],
-) -> Result<(), AllocError> {
+) {
     let processes = device.config.collecting_processes.as_slice();
     let Some(process) = entry_numbered(processes, process) else {
         story.sentence(&[
             Piece::Text("there is no collecting process "),
             Piece::Number(process),
         ]);
-        return Ok(());
+        return;
     };
     let Some(aggregation) = entry_numbered(process.aggregations.as_slice(), number) else {
         story.sentence(&[
             Piece::Text("there is no aggregation "),
             Piece::Number(number),
         ]);
-        return Ok(());
+        return;
     };
     story.tell(&[
         Piece::Text("a record leaves aggregation "),
@@ -89,7 +87,7 @@ fn tell_aggregation(
         device,
         aggregation.exporting_processes.as_slice(),
         choices,
-    )
+    );
 }
 
 /// Tells that a record leaves what holds it, and where it goes by the choices of the step.
@@ -98,14 +96,14 @@ pub(crate) fn tell_expiry(
     plan: &Plan,
     holder: HolderName,
     choices: &[Option<u64>],
-) -> Result<(), AllocError> {
+) {
     let number = match holder {
         HolderName::Cache { device, .. } => device,
         HolderName::Aggregation { device, .. } => device,
     };
     let Some(device) = entry_numbered(plan.network().devices.as_slice(), number) else {
         story.sentence(&[Piece::Text("there is no device "), Piece::Number(number)]);
-        return Ok(());
+        return;
     };
     match holder {
         HolderName::Cache { cache, .. } => tell_cache(story, plan, device, cache, choices),
@@ -148,15 +146,14 @@ fn tell_handling(
     device: &NetworkDevice,
     process: &CollectingProcess,
     choices: &[Option<u64>],
-) -> Result<(), AllocError> {
+) {
     let exporters = process.exporting_processes.as_slice();
     if !exporters.is_empty() {
         story.tell(&[Piece::Text("; ")]);
     }
-    let made = tell_sending(story, plan, device, exporters, choices)?;
+    let made = tell_sending(story, plan, device, exporters, choices);
     let taken = choices.len().saturating_sub(made);
     tell_taking(story, process.aggregations.as_slice(), taken);
-    Ok(())
 }
 
 /// Tells that a record reaches the collecting process at the end of a link.
@@ -165,7 +162,7 @@ fn tell_reaching(
     plan: &Plan,
     link: &NamedLink,
     choices: &[Option<u64>],
-) -> Result<(), AllocError> {
+) {
     story.tell(&[
         Piece::Text("a record on the link from destination "),
         Piece::Quoted(link.destination.as_str()),
@@ -185,11 +182,10 @@ fn tell_reaching(
     if let Some(device) = entry_named(devices, &link.to_device) {
         let processes = device.config.collecting_processes.as_slice();
         if let Some(process) = entry_named(processes, &link.to_process) {
-            tell_handling(story, plan, device, process, choices)?;
+            tell_handling(story, plan, device, process, choices);
         }
     }
     story.end_line();
-    Ok(())
 }
 
 /// Tells that a record on the link of this number reaches its end.
@@ -198,12 +194,11 @@ pub(crate) fn tell_arrival(
     plan: &Plan,
     number: u64,
     choices: &[Option<u64>],
-) -> Result<(), AllocError> {
+) {
     match entry_numbered(plan.network().links.as_slice(), number) {
         Some(link) => tell_reaching(story, plan, link, choices),
         None => {
             story.sentence(&[Piece::Text("there is no link "), Piece::Number(number)]);
-            Ok(())
         }
     }
 }

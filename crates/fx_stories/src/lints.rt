@@ -15,7 +15,6 @@ use crate::unread::tell_unread_members;
 use crate::unseen::tell_unseen;
 use crate::unused::tell_unused;
 use fx_base::{Fault, Sink, put_text};
-use fx_plan::Plan;
 use std::alloc::{AllocError, Global};
 
 /// Tells what is read in silence in a network's document.
@@ -26,16 +25,10 @@ fn tell_network(alloc: Global, story: &mut Story, network: &[u8]) -> Result<(), 
     tell_twice(alloc, story, "network", network)?;
     tell_unread_members(story, &value);
     tell_prefixes(story, &value);
-    match plan_again(alloc, network)? {
-        Some(plan) => tell_plan(story, &plan),
-        None => Ok(()),
+    if let Some(plan) = plan_again(alloc, network)? {
+        tell_unused(story, &plan);
+        tell_excluding(story, &plan);
     }
-}
-
-/// Tells what of a network leads nowhere, and what selects nothing.
-fn tell_plan(story: &mut Story, plan: &Plan) -> Result<(), AllocError> {
-    tell_unused(story, plan)?;
-    tell_excluding(story, plan);
     Ok(())
 }
 

@@ -2,6 +2,7 @@
 use fx_base::{Name, entry_numbered};
 use fx_config::{Device, ObservationPoint, SelectionProcess};
 use fx_plan::Plan;
+use fx_topology::NamedLink;
 use fx_walk::{Named, place_of};
 
 /// The entry of this name.
@@ -14,6 +15,20 @@ pub(crate) fn entry_named<'a, T: Named>(entries: &'a [T], name: &Name) -> Option
 pub(crate) fn device_name(plan: &Plan, number: u64) -> Option<&str> {
     let device = entry_numbered(plan.network().devices.as_slice(), number)?;
     Some(device.name.as_str())
+}
+
+/// The link that leads from this destination of an exporting process of a device.
+pub(crate) fn link_from<'a>(
+    links: &'a [NamedLink],
+    device: &Name,
+    process: &Name,
+    destination: &Name,
+) -> Option<&'a NamedLink> {
+    links.iter().find(|link| {
+        link.device == *device
+            && link.exporting_process == *process
+            && link.destination == *destination
+    })
 }
 
 /// The selection process of this number at an observation point, from 1.

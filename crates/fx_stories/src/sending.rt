@@ -1,11 +1,10 @@
 //! Where the records of a cache, an aggregation or a collecting process go.
-use crate::names::entry_named;
+use crate::names::{entry_named, link_from};
 use crate::story::{Piece, Story, between};
-use fx_base::{Name, entry_at, entry_numbered};
+use fx_base::{Name, entry_numbered};
 use fx_config::{Destination, ExportMode, ExportingProcess};
 use fx_plan::Plan;
 use fx_topology::{NamedLink, NetworkDevice};
-use std::alloc::AllocError;
 
 /// Tells the collecting process to which a link leads.
 pub(crate) fn tell_end(story: &mut Story, link: &NamedLink) {
@@ -24,25 +23,20 @@ fn tell_destination<'x>(
     device: &NetworkDevice,
     process: &'x ExportingProcess,
     destination: &'x Destination,
-) -> Result<(), AllocError> {
+) {
     story.tell(&[
         Piece::Text("exporting process "),
         Piece::Quoted(process.name.as_str()),
         Piece::Text(" sends to destination "),
         Piece::Quoted(destination.name.as_str()),
     ]);
-    let links = &plan.network().links;
-    let place = links.place_of(&device.name, &process.name, &destination.name)?;
-    match entry_at(links.as_slice(), place.unwrap_or(usize::MAX)) {
+    let links = plan.network().links.as_slice();
+    match link_from(links, &device.name, &process.name, &destination.name) {
         Some(link) => {
             story.tell(&[Piece::Text(", which is linked to ")]);
             tell_end(story, link);
-            Ok(())
         }
-        None => {
-            story.tell(&[Piece::Text(", which has no link: what it is sent is lost")]);
-            Ok(())
-        }
+        None => story.tell(&[Piece::Text(", which has no link: what it is sent is lost")]),
     }
 }
 
@@ -52,14 +46,13 @@ fn tell_destinations(
     plan: &Plan,
     device: &NetworkDevice,
     process: &ExportingProcess,
-) -> Result<(), AllocError> {
+) {
     let mut separator = "";
     for destination in process.destinations.as_slice() {
         story.tell(&[Piece::Text(separator)]);
-        tell_destination(story, plan, device, process, destination)?;
+        tell_destination(story, plan, device, process, destination);
         separator = "; ";
     }
-    Ok(())
 }
 
 /// Tells where an exporting process sends a record: to all its destinations, or to the one of this number, from 1.
@@ -69,13 +62,13 @@ fn tell_process(
     device: &NetworkDevice,
     process: &ExportingProcess,
     chosen: Option<u64>,
-) -> Result<(), AllocError> {
+) {
     let Some(number) = chosen else {
-        return tell_destinations(story, plan, device, process);
+        tell_destinations(story, plan, device, process);
+        return;
     };
-    match entry_numbered(process.destinations.as_slice(), number) {
-        Some(destination) => tell_destination(story, plan, device, process, destination),
-        None => Ok(()),
+    if let Some(destination) = entry_numbered(process.destinations.as_slice(), number) {
+        tell_destination(story, plan, device, process, destination);
     }
 }
 
@@ -92,7 +85,7 @@ pub(crate) fn tell_sending(
     device: &NetworkDevice,
     names: &[Name],
     choices: &[Option<u64>],
-) -> Result<usize, AllocError> {
+) -> usize {
     let mut made: usize = 0;
     let mut told = false;
     for name in names {
@@ -103,9 +96,9 @@ pub(crate) fn tell_sending(
                 made = made.saturating_add(1);
             }
             story.tell(&[Piece::Text(between(told, "; "))]);
-            tell_process(story, plan, device, process, chosen)?;
+            tell_process(story, plan, device, process, chosen);
             told = true;
         }
     }
-    Ok(made)
+    made
 }

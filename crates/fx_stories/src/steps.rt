@@ -128,11 +128,17 @@ pub(crate) fn tell_step(
             holder,
             position: _,
             choices,
-        } => tell_expiry(story, &documents.plan, *holder, choices.as_slice()),
+        } => {
+            tell_expiry(story, &documents.plan, *holder, choices.as_slice());
+            Ok(())
+        }
         Step::Arrive {
             link,
             position: _,
             choices,
-        } => tell_arrival(story, &documents.plan, *link, choices.as_slice()),
+        } => {
+            tell_arrival(story, &documents.plan, *link, choices.as_slice());
+            Ok(())
+        }
     }
 }

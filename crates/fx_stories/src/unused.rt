@@ -1,21 +1,20 @@
 //! What leads nowhere, and what nothing feeds.
+use crate::names::link_from;
 use crate::story::{Piece, Story};
 use fx_base::Name;
 use fx_config::{Cache, CollectingProcess, ExportingProcess, SelectionProcess};
 use fx_plan::Plan;
-use fx_topology::{LinkTable, NamedLink, NetworkDevice};
-use std::alloc::AllocError;
+use fx_topology::{NamedLink, NetworkDevice};
 
 /// Tells the destinations of an exporting process that have no link.
 fn tell_destinations(
     story: &mut Story,
-    links: &LinkTable,
+    links: &[NamedLink],
     device: &Name,
     process: &ExportingProcess,
-) -> Result<(), AllocError> {
+) {
     for destination in process.destinations.as_slice() {
-        let link = links.place_of(device, &process.name, &destination.name)?;
-        if link.is_none() {
+        if link_from(links, device, &process.name, &destination.name).is_none() {
             tell_lost(
                 story,
                 device.as_str(),
@@ -24,7 +23,6 @@ fn tell_destinations(
             );
         }
     }
-    Ok(())
 }
 
 /// Tells that a destination has no link.
@@ -159,27 +157,21 @@ fn tell_collecting(story: &mut Story, links: &[NamedLink], device: &NetworkDevic
 }
 
 /// Tells what of a device leads nowhere, and what nothing feeds.
-fn tell_device(
-    story: &mut Story,
-    links: &LinkTable,
-    device: &NetworkDevice,
-) -> Result<(), AllocError> {
+fn tell_device(story: &mut Story, links: &[NamedLink], device: &NetworkDevice) {
     tell_unmetered(story, device);
     tell_caches(story, device);
     tell_unexported(story, device);
     for process in device.config.exporting_processes.as_slice() {
-        tell_destinations(story, links, &device.name, process)?;
+        tell_destinations(story, links, &device.name, process);
     }
-    tell_collecting(story, links.as_slice(), device);
-    Ok(())
+    tell_collecting(story, links, device);
 }
 
 /// Tells the observation points, selection processes, caches, destinations and aggregations of a network that lead
 /// nowhere, and the caches and collecting processes that nothing feeds.
-pub(crate) fn tell_unused(story: &mut Story, plan: &Plan) -> Result<(), AllocError> {
+pub(crate) fn tell_unused(story: &mut Story, plan: &Plan) {
     let network = plan.network();
     for device in network.devices.as_slice() {
-        tell_device(story, &network.links, device)?;
+        tell_device(story, network.links.as_slice(), device);
     }
-    Ok(())
 }

@@ -10,7 +10,6 @@ use fx_leaf::{Overlap, selection_overlap};
 use fx_plan::Plan;
 use fx_tables::{Crossing, Point, Selection};
 use fx_topology::NetworkDevice;
-use std::alloc::AllocError;
 
 /// How much of a region a selection process selects, in words.
 fn overlap_words(region: &Region, selection: &Selection) -> &'static str {
@@ -27,10 +26,10 @@ fn tell_cache(
     plan: &Plan,
     device: &NetworkDevice,
     process: &SelectionProcess,
-) -> Result<(), AllocError> {
+) {
     let Some(name) = &process.cache else {
         story.sentence(&[Piece::Text(" and has no cache")]);
-        return Ok(());
+        return;
     };
     story.tell(&[Piece::Text(", cache "), Piece::Quoted(name.as_str())]);
     if let Some(cache) = entry_named(device.config.caches.as_slice(), name) {
@@ -41,13 +40,12 @@ fn tell_cache(
             device,
             cache.exporting_processes.as_slice(),
             &[],
-        )?;
+        );
         if cache.exporting_processes.as_slice().is_empty() {
             story.tell(&[Piece::Text("it has no exporting process, so its records are lost")]);
         }
     }
     story.end_line();
-    Ok(())
 }
 
 /// A crossing of a path, and the region of packets that make it.
@@ -68,7 +66,7 @@ fn tell_selection<'x>(
     point: &'x ObservationPoint,
     process: &'x SelectionProcess,
     selection: &Selection,
-) -> Result<(), AllocError> {
+) {
     tell_numbered(story, crossed.plan, crossed.number, crossed.crossing);
     story.tell(&[
         Piece::Text(": observation point "),
@@ -87,13 +85,12 @@ fn tell_selections(
     device: &NetworkDevice,
     point: &ObservationPoint,
     selections: &[Selection],
-) -> Result<(), AllocError> {
+) {
     for place in 0..selections.len() {
         if let Some(process) = selection_process(&device.config, point, place as u64 + 1) {
-            tell_selection(story, crossed, device, point, process, &selections[place])?;
+            tell_selection(story, crossed, device, point, process, &selections[place]);
         }
     }
-    Ok(())
 }
 
 /// Tells what the points of a device do with the packets, and answers whether one sees them and selects.
@@ -102,33 +99,32 @@ fn tell_points(
     crossed: &Crossed<'_>,
     device: &NetworkDevice,
     points: &[Point],
-) -> Result<bool, AllocError> {
+) -> bool {
     let mut seen = false;
     for place in 0..points.len() {
         let point = &points[place];
         if point.watches(crossed.crossing) {
             if let Some(named) = entry_at(device.config.observation_points.as_slice(), place) {
-                tell_selections(story, crossed, device, named, point.selections())?;
+                tell_selections(story, crossed, device, named, point.selections());
                 seen = seen || !point.selections().is_empty();
             }
         }
     }
-    Ok(seen)
+    seen
 }
 
 /// Tells what sees the packets at a crossing.
-fn tell_at(story: &mut Story, crossed: &Crossed<'_>) -> Result<(), AllocError> {
+fn tell_at(story: &mut Story, crossed: &Crossed<'_>) {
     let number = crossed.crossing.device;
     let Some(device) = entry_numbered(crossed.plan.network().devices.as_slice(), number) else {
-        return Ok(());
+        return;
     };
     let points = crossed.plan.net().points_of(number);
-    if tell_points(story, crossed, device, points)? {
-        return Ok(());
+    if tell_points(story, crossed, device, points) {
+        return;
     }
     tell_numbered(story, crossed.plan, crossed.number, crossed.crossing);
     story.sentence(&[Piece::Text(": no observation point with a selection process sees it")]);
-    Ok(())
 }
 
 /// Tells, for each crossing of a path, what sees the packets of a region there and where their records go.
@@ -137,7 +133,7 @@ pub(crate) fn tell_watching(
     plan: &Plan,
     region: &Region,
     crossings: &[Crossing],
-) -> Result<(), AllocError> {
+) {
     for place in 0..crossings.len() {
         let crossed = Crossed {
             plan,
@@ -145,7 +141,6 @@ pub(crate) fn tell_watching(
             crossing: &crossings[place],
             number: place as u64 + 1,
         };
-        tell_at(story, &crossed)?;
+        tell_at(story, &crossed);
     }
-    Ok(())
 }
