@@ -25,10 +25,14 @@ struct Found<'a> {
 impl Found<'_> {
     /// Whether one of the links leads to the collecting process of this link.
     fn leads_to(&self, link: &NamedLink) -> bool {
-        self.places.iter().take(self.count).any(|place| match entry_at(self.links, *place) {
-            Some(other) => other.to_device == link.to_device && other.to_process == link.to_process,
-            None => false,
-        })
+        self.places
+            .iter()
+            .take(self.count)
+            .any(|place| match entry_at(self.links, *place) {
+                Some(other) => other.to_device == link.to_device
+                    && other.to_process == link.to_process,
+                None => false,
+            })
     }
 
     /// Adds the link at a place, unless one leads to its collecting process.

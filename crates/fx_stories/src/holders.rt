@@ -1,5 +1,6 @@
 //! Records that leave a cache or an aggregation, and records that reach a collecting process.
 use crate::names::entry_named;
+use crate::packets::tell_missing;
 use crate::sending::{tell_end, tell_sending};
 use crate::story::{Piece, Story};
 use fx_base::{Name, entry_numbered};
@@ -36,8 +37,9 @@ fn tell_cache(
     number: u64,
     choices: &[Option<u64>],
 ) {
-    let Some(cache) = entry_numbered(device.config.caches.as_slice(), number) else {
-        story.sentence(&[Piece::Text("there is no cache "), Piece::Number(number)]);
+    let caches = device.config.caches.as_slice();
+    let Some(cache) = entry_numbered(caches, number) else {
+        tell_missing(story, "its device has no cache ", number, caches.len());
         return;
     };
     story.tell(&[
@@ -63,18 +65,15 @@ fn tell_aggregation(
     choices: &[Option<u64>],
 ) {
     let processes = device.config.collecting_processes.as_slice();
-    let Some(process) = entry_numbered(processes, process) else {
-        story.sentence(&[
-            Piece::Text("there is no collecting process "),
-            Piece::Number(process),
-        ]);
+    let Some(found) = entry_numbered(processes, process) else {
+        let words = "its device has no collecting process ";
+        tell_missing(story, words, process, processes.len());
         return;
     };
-    let Some(aggregation) = entry_numbered(process.aggregations.as_slice(), number) else {
-        story.sentence(&[
-            Piece::Text("there is no aggregation "),
-            Piece::Number(number),
-        ]);
+    let aggregations = found.aggregations.as_slice();
+    let Some(aggregation) = entry_numbered(aggregations, number) else {
+        let words = "its collecting process has no aggregation ";
+        tell_missing(story, words, number, aggregations.len());
         return;
     };
     story.tell(&[
@@ -101,8 +100,9 @@ pub(crate) fn tell_expiry(
         HolderName::Cache { device, .. } => device,
         HolderName::Aggregation { device, .. } => device,
     };
-    let Some(device) = entry_numbered(plan.network().devices.as_slice(), number) else {
-        story.sentence(&[Piece::Text("there is no device "), Piece::Number(number)]);
+    let devices = plan.network().devices.as_slice();
+    let Some(device) = entry_numbered(devices, number) else {
+        tell_missing(story, "there is no device ", number, devices.len());
         return;
     };
     match holder {
@@ -157,12 +157,7 @@ fn tell_handling(
 }
 
 /// Tells that a record reaches the collecting process at the end of a link.
-fn tell_reaching(
-    story: &mut Story,
-    plan: &Plan,
-    link: &NamedLink,
-    choices: &[Option<u64>],
-) {
+fn tell_reaching(story: &mut Story, plan: &Plan, link: &NamedLink, choices: &[Option<u64>]) {
     story.tell(&[
         Piece::Text("a record on the link from destination "),
         Piece::Quoted(link.destination.as_str()),
@@ -189,16 +184,10 @@ fn tell_reaching(
 }
 
 /// Tells that a record on the link of this number reaches its end.
-pub(crate) fn tell_arrival(
-    story: &mut Story,
-    plan: &Plan,
-    number: u64,
-    choices: &[Option<u64>],
-) {
-    match entry_numbered(plan.network().links.as_slice(), number) {
+pub(crate) fn tell_arrival(story: &mut Story, plan: &Plan, number: u64, choices: &[Option<u64>]) {
+    let links = plan.network().links.as_slice();
+    match entry_numbered(links, number) {
         Some(link) => tell_reaching(story, plan, link, choices),
-        None => {
-            story.sentence(&[Piece::Text("there is no link "), Piece::Number(number)]);
-        }
+        None => tell_missing(story, "there is no link ", number, links.len()),
     }
 }

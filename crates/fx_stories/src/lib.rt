@@ -4,6 +4,7 @@
 mod again;
 mod allowed;
 mod certificates;
+mod choosing;
 mod circles;
 mod crossings;
 mod data_sets;
@@ -45,6 +46,8 @@ mod streams;
 mod template_sets;
 mod templates;
 mod totals;
+mod trying;
+mod unmade;
 mod unread;
 mod unseen;
 mod unused;

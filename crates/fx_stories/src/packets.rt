@@ -108,11 +108,15 @@ pub(crate) fn tell_no_class(story: &mut Story, documents: &Documents, fields: &F
 }
 
 /// Tells that a number counts too far: how many there are of what is counted.
-fn tell_missing(story: &mut Story, words: &'static str, number: u64, there: usize) {
+pub(crate) fn tell_missing(story: &mut Story, words: &'static str, number: u64, there: usize) {
     story.sentence(&[
         Piece::Text(words),
         Piece::Number(number),
-        Piece::Text("; there are "),
+        Piece::Text(if there == 1 {
+            "; there is "
+        } else {
+            "; there are "
+        }),
         Piece::Number(there as u64),
         Piece::Text(", counted from 1"),
     ]);

@@ -10,22 +10,22 @@ use crate::packets::{tell_fields, tell_named_class};
 use crate::refutations::tell_unconfirmed;
 use crate::steps::tell_step;
 use crate::story::{Piece, Story};
-use fx_base::{
-    Fault, Line, LineReader, Place, Room, Sink, Source, entry_numbered, put_text, refusals,
-};
+use crate::unmade::Unmade;
+use fx_base::{Fault, Line, LineReader, Place, Room, Sink, Source, put_text, refusals};
 use fx_machine::State;
 use fx_refute::read_refutation;
-use fx_run_text::{Run, RunLine, Step, TextVersion, put_step_line, read_run, read_run_line};
+use fx_run_text::{RunLine, Step, TextVersion, put_step_line, read_run, read_run_line};
+use fx_tables::Packet;
 use std::alloc::{AllocError, Global};
 
-/// The place of the first step that is refused, or none where all can be made.
-fn refused_step(state: &mut State<'_>, steps: &[Step]) -> Result<Option<usize>, AllocError> {
+/// The place of the first step that is refused and the number that it is refused with, or none where all can be made.
+fn refused_step(state: &mut State<'_>, steps: &[Step]) -> Result<Option<(usize, u16)>, AllocError> {
     for place in 0..steps.len() {
         if let Err(fault) = state.step(&steps[place]) {
             if fault.number == refusals::WANT_OF_MEMORY {
                 return Err(AllocError);
             }
-            return Ok(Some(place));
+            return Ok(Some((place, fault.number)));
         }
     }
     Ok(None)
@@ -47,50 +47,66 @@ fn tell_step_line(story: &mut Story, number: u64, step: &Step) {
     tell_line(story, &line);
 }
 
-/// Tells the first step of a run that is refused.
-fn tell_run(alloc: Global, story: &mut Story, documents: &Documents, run: &Run) -> Result<(), Fault>
+/// Tells a step that can't be made: its line, what it is to do, and why it can't.
+fn tell_unmade(
+    story: &mut Story,
+    state: &mut State<'_>,
+    unmade: &Unmade<'_>,
+) -> Result<(), AllocError> {
+    let Some(step) = unmade.steps.get(unmade.place) else {
+        return Ok(());
+    };
+    tell_step_line(story, unmade.line_of(unmade.place), step);
+    story.tell(&[Piece::Text("this step can't be made: ")]);
+    tell_step(unmade.alloc, story, unmade.documents, unmade.packets, step)?;
+    unmade.tell(story, state)
+}
+
+/// Tells the first step that is refused of a run over these packets.
+fn tell_run(
+    alloc: Global,
+    story: &mut Story,
+    documents: &Documents,
+    packets: &[Packet],
+    steps: &[Step],
+) -> Result<(), Fault>
     ensures { IfErr result IsUntold }
 {
-    let packets = Vec::from_slice(alloc, run.packets())?;
-    let first = (packets.len() as u64).saturating_add(2);
+    let copied = Vec::from_slice(alloc, packets)?;
     let classes = documents.traffic.classes();
-    let opened = State::open(alloc, documents.plan.net(), classes, packets);
+    let opened = State::open(alloc, documents.plan.net(), classes, copied);
     let Some(mut state) = unless_wrong(opened)? else {
         return Ok(());
     };
-    if let Some(place) = refused_step(&mut state, run.steps())? {
-        if let Some(step) = run.steps().get(place) {
-            tell_step_line(story, first.saturating_add(place as u64), step);
-            story.tell(&[Piece::Text("this step can't be made: ")]);
-            tell_step(alloc, story, documents, run.packets(), step)?;
-        }
+    if let Some((place, fault)) = refused_step(&mut state, steps)? {
+        let unmade = Unmade {
+            alloc,
+            documents,
+            packets,
+            steps,
+            place,
+            fault,
+        };
+        tell_unmade(story, &mut state, &unmade)?;
     }
     Ok(())
 }
 
-/// Tells the step of a refutation at the line of this number, which can't be made.
+/// Tells the first step that is refused of the refutation that lines say.
 fn tell_refutation_step<C: Source>(
     alloc: Global,
     story: &mut Story,
     network: &[u8],
     traffic: &[u8],
     lines: &mut LineReader<C>,
-    number: u64,
 ) -> Result<(), Fault>
     ensures { IfErr result IsUntold }
 {
-    let Some(documents) = documents_again(alloc, network, traffic)? else {
-        return Ok(());
-    };
-    let Some(refutation) = unless_wrong(read_refutation(alloc, lines))? else {
-        return Ok(());
-    };
-    // The first line is the form's, the second the packet's.
-    if let Some(step) = entry_numbered(refutation.steps(), number.saturating_sub(2)) {
-        let packets = [*refutation.packet()];
-        tell_step_line(story, number, step);
-        story.tell(&[Piece::Text("this step can't be made: ")]);
-        tell_step(alloc, story, &documents, &packets, step)?;
+    if let Some(documents) = documents_again(alloc, network, traffic)? {
+        if let Some(refutation) = unless_wrong(read_refutation(alloc, lines))? {
+            let packets = [*refutation.packet()];
+            tell_run(alloc, story, &documents, &packets, refutation.steps())?;
+        }
     }
     Ok(())
 }
@@ -107,7 +123,7 @@ fn tell_refused_step<C: Source>(
 {
     if let Some(documents) = documents_again(alloc, network, traffic)? {
         if let Some(run) = unless_wrong(read_run(alloc, documents.traffic.classes(), lines))? {
-            tell_run(alloc, story, &documents, &run)?;
+            tell_run(alloc, story, &documents, run.packets(), run.steps())?;
         }
     }
     Ok(())
@@ -199,9 +215,7 @@ fn tell_at_line<C: Source>(
     ensures { IfErr result IsUntold }
 {
     match fault {
-        refusals::REFUTATION_STEP => {
-            tell_refutation_step(alloc, story, network, traffic, lines, number)
-        }
+        refusals::REFUTATION_STEP => { tell_refutation_step(alloc, story, network, traffic, lines) }
         refusals::REFUTATION_PACKET | refusals::RUN_PACKET => {
             tell_packet_outside(alloc, story, network, traffic, lines, number)
         }

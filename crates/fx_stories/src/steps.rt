@@ -3,7 +3,7 @@ use crate::again::Documents;
 use crate::crossings::tell_crossing;
 use crate::holders::{tell_arrival, tell_expiry};
 use crate::names::selection_process;
-use crate::packets::tell_fields;
+use crate::packets::{tell_fields, tell_missing};
 use crate::passing::tell_unmetered;
 use crate::paths::tell_class;
 use crate::story::{Piece, Story};
@@ -94,17 +94,15 @@ fn tell_crossing_made(
     crossing: u64,
 ) -> Result<(), AllocError> {
     let Some(packet) = entry_numbered(packets, number) else {
-        story.sentence(&[Piece::Text("there is no packet "), Piece::Number(number)]);
+        tell_missing(story, "there is no packet ", number, packets.len());
         return Ok(());
     };
     let crossings = documents.traffic.classes().path_of(packet);
     match entry_numbered(crossings, crossing) {
         Some(made) => tell_metering(alloc, story, &documents.plan, number, packet, made),
         None => {
-            story.sentence(&[
-                Piece::Text("the packet's path has no crossing "),
-                Piece::Number(crossing),
-            ]);
+            let words = "the packet's path has no crossing ";
+            tell_missing(story, words, crossing, crossings.len());
             Ok(())
         }
     }

@@ -21,12 +21,7 @@ fn overlap_words(region: &Region, selection: &Selection) -> &'static str {
 }
 
 /// Tells where the records of a selection process's cache go.
-fn tell_cache(
-    story: &mut Story,
-    plan: &Plan,
-    device: &NetworkDevice,
-    process: &SelectionProcess,
-) {
+fn tell_cache(story: &mut Story, plan: &Plan, device: &NetworkDevice, process: &SelectionProcess) {
     let Some(name) = &process.cache else {
         story.sentence(&[Piece::Text(" and has no cache")]);
         return;

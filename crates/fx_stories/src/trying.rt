@@ -1,0 +1,178 @@
+//! Steps that are tried in the state of a run, to learn what that holds. A step that is refused leaves it as it was.
+use fx_base::refusals;
+use fx_machine::State;
+use fx_run_text::{Choices, Step};
+use fx_tables::HolderName;
+use std::alloc::{AllocError, Global};
+
+/// More choices than these aren't tried.
+const FEW: usize = 4096;
+
+/// What records wait in.
+#[derive(Clone, Copy, PartialEq, Eq)]
+pub(crate) enum Waiting {
+    /// A cache or an aggregation.
+    Holder(HolderName),
+    /// The link of this number.
+    Link(u64),
+}
+
+impl Waiting {
+    /// What a step takes a record from, and its position there.
+    pub(crate) fn of(step: &Step) -> Option<(Waiting, u64)> {
+        match step {
+            Step::Cross { .. } => None,
+            Step::Expire {
+                holder,
+                position,
+                ..
+            } => Some((Waiting::Holder(*holder), *position)),
+            Step::Arrive { link, position, .. } => Some((Waiting::Link(*link), *position)),
+        }
+    }
+
+    /// The step that takes the record at a position.
+    fn taking(self, position: u64, choices: Choices) -> Step {
+        match self {
+            Waiting::Holder(holder) => Step::Expire {
+                holder,
+                position,
+                choices,
+            },
+            Waiting::Link(link) => Step::Arrive {
+                link,
+                position,
+                choices,
+            },
+        }
+    }
+
+    /// Whether a record waits at a position. It is taken with the choice of what is numbered 0, which nothing is, so that
+    /// the step is refused in any case.
+    fn has(self, alloc: Global, state: &mut State<'_>, position: u64) -> Result<bool, AllocError> {
+        let mut none = Vec::new(alloc);
+        none.push(Some(0))?;
+        match state.step(&self.taking(position, Choices::new(none))) {
+            Ok(()) => Ok(false),
+            Err(fault) if fault.number == refusals::WANT_OF_MEMORY => Err(AllocError),
+            Err(fault) => Ok(fault.number == refusals::WRONG_CHOICES),
+        }
+    }
+
+    /// How many records wait.
+    pub(crate) fn count(self, alloc: Global, state: &mut State<'_>) -> Result<u64, AllocError> {
+        for count in 0..u64::MAX {
+            if !self.has(alloc, state, count + 1)? {
+                return Ok(count);
+            }
+        }
+        Ok(u64::MAX)
+    }
+}
+
+/// The choices of a step.
+pub(crate) fn choices_of(step: &Step) -> &[Option<u64>] {
+    match step {
+        Step::Cross { choices, .. } | Step::Expire { choices, .. } | Step::Arrive { choices, .. } =>
+            { choices.as_slice() }
+    }
+}
+
+/// A step with other choices.
+fn with_choices(step: &Step, choices: Choices) -> Step {
+    match step {
+        Step::Cross {
+            packet,
+            crossing,
+            ..
+        } => Step::Cross {
+            packet: *packet,
+            crossing: *crossing,
+            choices,
+        },
+        Step::Expire {
+            holder,
+            position,
+            ..
+        } => Waiting::Holder(*holder).taking(*position, choices),
+        Step::Arrive { link, position, .. } => Waiting::Link(*link).taking(*position, choices),
+    }
+}
+
+/// A step whose choices are tried, of which the first so many are numbers of destinations.
+#[derive(Drop)]
+pub(crate) struct Trial<'a> {
+    /// The step.
+    pub(crate) step: &'a Step,
+    /// How many exporting processes choose.
+    pub(crate) exporters: usize,
+}
+
+impl Trial<'_> {
+    /// So many choices, of which the first are those that are written and the others such as are always allowed: the first
+    /// destination of an exporting process, and a new record.
+    fn choices(
+        &self,
+        alloc: Global,
+        written: &[Option<u64>],
+        count: usize,
+    ) -> Result<Choices, AllocError> {
+        let mut items = Vec::new(alloc);
+        for place in 0..count {
+            let allowed = if place < self.exporters {
+                Some(1)
+            } else {
+                None
+            };
+            items.push(written.get(place).copied().unwrap_or(allowed))?;
+        }
+        Ok(Choices::new(items))
+    }
+
+    /// Whether the step can be made with so many choices, of which the first are these. Where it can, it is made.
+    fn succeeds(
+        &self,
+        alloc: Global,
+        state: &mut State<'_>,
+        written: &[Option<u64>],
+        count: usize,
+    ) -> Result<bool, AllocError> {
+        let choices = self.choices(alloc, written, count)?;
+        match state.step(&with_choices(self.step, choices)) {
+            Ok(()) => Ok(true),
+            Err(fault) if fault.number == refusals::WANT_OF_MEMORY => Err(AllocError),
+            Err(_) => Ok(false),
+        }
+    }
+
+    /// The place of the first choice that is wrong, where they are as many as they should be. Where it is found, the step
+    /// is made with another one.
+    pub(crate) fn wrong_place(
+        &self,
+        alloc: Global,
+        state: &mut State<'_>,
+    ) -> Result<Option<usize>, AllocError> {
+        let written = choices_of(self.step);
+        for behind in 0..written.len() {
+            let place = written.len() - 1 - behind;
+            if self.succeeds(alloc, state, &written[..place], written.len())? {
+                return Ok(Some(place));
+            }
+        }
+        Ok(None)
+    }
+
+    /// How many choices the step should have, where they are few. Where that is found, the step is made.
+    pub(crate) fn count_wanted(
+        &self,
+        alloc: Global,
+        state: &mut State<'_>,
+    ) -> Result<Option<usize>, AllocError> {
+        for count in 0..FEW {
+            if self.succeeds(alloc, state, &[], count)? {
+                return Ok(Some(count));
+            }
+        }
+        Ok(None)
+    }
+}

@@ -1,0 +1,224 @@
+//! Why a step of a run can't be made.
+use crate::again::Documents;
+use crate::choosing::{Choosers, choosers_of};
+use crate::story::{Piece, Story};
+use crate::trying::{Trial, Waiting, choices_of};
+use fx_base::refusals;
+use fx_machine::State;
+use fx_run_text::Step;
+use fx_tables::Packet;
+use std::alloc::{AllocError, Global};
+
+/// The steps of a run of which one can't be made.
+#[derive(Drop)]
+pub(crate) struct Unmade<'a> {
+    pub(crate) alloc: Global,
+    pub(crate) documents: &'a Documents,
+    pub(crate) packets: &'a [Packet],
+    pub(crate) steps: &'a [Step],
+    /// The place of the one that can't be made.
+    pub(crate) place: usize,
+    /// The number for which it is refused.
+    pub(crate) fault: u16,
+}
+
+/// Whether a step makes this crossing of this packet.
+fn makes(step: &Step, packet: u64, crossing: u64) -> bool {
+    match step {
+        Step::Cross {
+            packet: made,
+            crossing: there,
+            ..
+        } => *made == packet && *there == crossing,
+        _ => false,
+    }
+}
+
+/// Whether a step takes a record from there.
+fn takes(step: &Step, waiting: Waiting) -> bool {
+    match Waiting::of(step) {
+        Some((taken, _)) => taken == waiting,
+        None => false,
+    }
+}
+
+/// Which choices a step has, in words.
+fn rule_words(step: &Step) -> &'static str {
+    match step {
+        Step::Cross { .. } => {
+            "; one for each selection process with a cache that meters the packet there"
+        }
+        Step::Expire { .. } => "; one for each exporting process that isn't parallel",
+        Step::Arrive { .. } => {
+            "; one for each exporting process of the collecting process that isn't parallel, then one for each of its \
+aggregations that takes the record in"
+        }
+    }
+}
+
+impl Unmade<'_> {
+    /// The number of the line of the step at a place: the first line is the form's, then come the packets.
+    pub(crate) fn line_of(&self, place: usize) -> u64 {
+        (self.packets.len() as u64)
+            .saturating_add(2)
+            .saturating_add(place as u64)
+    }
+
+    /// Tells the line of the step that makes this crossing before, if there is one.
+    fn tell_made(&self, story: &mut Story, packet: u64, crossing: u64) {
+        for place in 0..self.place.min(self.steps.len()) {
+            if makes(&self.steps[place], packet, crossing) {
+                story.sentence(&[
+                    Piece::Text("line "),
+                    Piece::Number(self.line_of(place)),
+                    Piece::Text(" makes this crossing of it already; each crossing is made once"),
+                ]);
+                return;
+            }
+        }
+    }
+
+    /// Tells the line of the last step before that takes a record from there, if there is one.
+    fn tell_taken(&self, story: &mut Story, waiting: Waiting) {
+        for behind in 0..self.place.min(self.steps.len()) {
+            let place = self.place.min(self.steps.len()) - 1 - behind;
+            if takes(&self.steps[place], waiting) {
+                story.tell(&[
+                    Piece::Text("; line "),
+                    Piece::Number(self.line_of(place)),
+                    Piece::Text(" took the last one that was there"),
+                ]);
+                return;
+            }
+        }
+    }
+
+    /// Tells at which positions records are.
+    fn tell_positions(
+        &self,
+        story: &mut Story,
+        state: &mut State<'_>,
+        waiting: Waiting,
+        position: u64,
+    ) -> Result<(), AllocError> {
+        let count = waiting.count(self.alloc, state)?;
+        if count == 0 {
+            story.tell(&[Piece::Text("before this step no record is there")]);
+            self.tell_taken(story, waiting);
+        } else {
+            story.tell(&[
+                Piece::Text("before this step records are there at positions from 1 to "),
+                Piece::Number(count),
+                Piece::Text(", and none at "),
+                Piece::Number(position),
+            ]);
+        }
+        story.end_line();
+        Ok(())
+    }
+
+    /// Tells how many choices a step has, and how many it should have.
+    fn tell_count(
+        &self,
+        story: &mut Story,
+        state: &mut State<'_>,
+        trial: &Trial<'_>,
+    ) -> Result<(), AllocError> {
+        let wanted = trial.count_wanted(self.alloc, state)?;
+        story.tell(&[
+            Piece::Text("choices of the step: "),
+            Piece::Number(choices_of(trial.step).len() as u64),
+        ]);
+        if let Some(wanted) = wanted {
+            story.tell(&[Piece::Text("; it takes "), Piece::Number(wanted as u64)]);
+        }
+        story.sentence(&[Piece::Text(rule_words(trial.step))]);
+        Ok(())
+    }
+
+    /// Tells which choice of a step is wrong, or how many it should have.
+    fn tell_choices(
+        &self,
+        story: &mut Story,
+        state: &mut State<'_>,
+        step: &Step,
+    ) -> Result<(), AllocError> {
+        let choosers = choosers_of(self.alloc, self.documents, self.packets, step)?;
+        let trial = Trial {
+            step,
+            exporters: choosers.exporters.len(),
+        };
+        match trial.wrong_place(self.alloc, state)? {
+            Some(place) => {
+                let chosen = choices_of(step).get(place).copied().flatten();
+                tell_wrong_choice(story, &choosers, place, chosen);
+                Ok(())
+            }
+            None => self.tell_count(story, state, &trial),
+        }
+    }
+
+    /// Tells why the step can't be made in the state before it.
+    pub(crate) fn tell(&self, story: &mut Story, state: &mut State<'_>) -> Result<(), AllocError> {
+        let Some(step) = self.steps.get(self.place) else {
+            return Ok(());
+        };
+        match (step, self.fault) {
+            (
+                Step::Cross {
+                    packet,
+                    crossing,
+                    ..
+                },
+                refusals::STEP_NOT_ENABLED,
+            ) => {
+                self.tell_made(story, *packet, *crossing);
+                Ok(())
+            }
+            (_, refusals::WRONG_CHOICES) => self.tell_choices(story, state, step),
+            (_, refusals::NO_RECORD_THERE) => match Waiting::of(step) {
+                Some((waiting, position)) => {
+                    self.tell_positions(story, state, waiting, position)
+                }
+                None => Ok(()),
+            },
+            _ => Ok(()),
+        }
+    }
+}
+
+/// Tells what a choice says.
+fn tell_chosen(story: &mut Story, chosen: Option<u64>) {
+    match chosen {
+        Some(number) => story.tell(&[Piece::Text(" is "), Piece::Number(number)]),
+        None => story.tell(&[Piece::Text(" is n")]),
+    }
+}
+
+/// Tells what is wrong with the choice at a place.
+fn tell_wrong_choice(
+    story: &mut Story,
+    choosers: &Choosers<'_>,
+    place: usize,
+    chosen: Option<u64>,
+) {
+    story.tell(&[
+        Piece::Text("choice "),
+        Piece::Number((place as u64).saturating_add(1)),
+    ]);
+    tell_chosen(story, chosen);
+    if let Some(process) = choosers.exporters.get(place) {
+        story.sentence(&[
+            Piece::Text("; a destination of exporting process "),
+            Piece::Quoted(process.name.as_str()),
+            Piece::Text(" is due there, from 1 to "),
+            Piece::Number(process.destinations.as_slice().len() as u64),
+        ]);
+        return;
+    }
+    story.tell(&[Piece::Text(
+        "; n for a new record is due there, or the position of a record with the same key in ",
+    )]);
+    choosers.tell_holder(story, place);
+    story.end_line();
+}
