@@ -7,13 +7,15 @@ ghost use Rattle.fx_stories.specs.Stories.{IsUntold, WritesStory};
 use crate::again::{Documents, documents_again};
 use crate::following::tell_following;
 use crate::leaves::tell_leaf;
+use crate::line_forms::Kind;
 use crate::lines::{next_line, tell_line};
 use crate::paths::tell_path;
 use crate::regions::{axis_word, tell_region};
 use crate::story::{Piece, Story};
 use crate::walk::Walk;
 use crate::watching::tell_watching;
-use fx_base::{Fault, LineReader, Place, Room, Sink, Source, put_text, refusals};
+use crate::wrong_lines::{tell_wrong_header, tell_wrong_line};
+use fx_base::{Fault, Line, LineReader, Place, Room, Sink, Source, put_text, refusals};
 use fx_boxes::Region;
 use fx_cert::{Item, put_item, read_item};
 use fx_check::tables_of;
@@ -188,16 +190,37 @@ fn go_before<C: Source>(
     Ok(())
 }
 
-/// Tells the next line, and answers what it says.
-fn tell_next<C: Source>(story: &mut Story, lines: &mut LineReader<C>) -> Result<Option<Item>, Fault>
+/// Tells the next line, which is of this number, and what is wrong with its form where it is refused for that, and
+/// answers what it says.
+fn tell_next<C: Source>(
+    story: &mut Story,
+    lines: &mut LineReader<C>,
+    number: u64,
+    fault: u16,
+) -> Result<Option<Item>, Fault>
     ensures err { IfErr result IsUntold }
 {
     if !next_line(lines)? {
+        story.sentence(&[Piece::Text("the text ends before its line end")]);
         return Ok(None);
     }
     let line = lines.line();
     tell_line(story, &line);
+    tell_form(story, &line, number, fault);
     Ok(read_item(&line).ok())
+}
+
+/// Tells what is wrong with the form of a line, where it is refused with this number.
+fn tell_form(story: &mut Story, line: &Line<'_>, number: u64, fault: u16) {
+    if number == 1 {
+        let wanted =
+            "the first line is once-certificate 1, or once-certificate 2 where a class is exempt";
+        tell_wrong_header(story, wanted, line);
+    } else if fault == refusals::CERTIFICATE_LINE {
+        tell_wrong_line(story, Kind::Certificate, line);
+    } else if !line.ended {
+        story.sentence(&[Piece::Text("no line feed ends the line")]);
+    }
 }
 
 /// Tells what a certificate's line of this number is about, over the documents.
@@ -214,11 +237,8 @@ fn tell_certificate<C: Source>(
     let targets = documents.traffic.targets(alloc)?;
     let mut walk = Walk::new(alloc);
     go_before(&mut walk, targets.as_slice(), certificate, number)?;
-    let item = tell_next(story, certificate)?;
+    let item = tell_next(story, certificate, number, fault.number)?;
     if number == 1 {
-        story.sentence(&[Piece::Text(
-            "the first line is once-certificate 1, or once-certificate 2 where a class is exempt",
-        )]);
         return Ok(());
     }
     tell_stand(

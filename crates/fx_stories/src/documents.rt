@@ -12,10 +12,11 @@ use crate::ends::{
     tell_cycle, tell_link_ends, tell_report_end, tell_unknown_device, tell_unknown_name,
 };
 use crate::json::tell_json;
+use crate::kinds::tell_kinds;
 use crate::members::tell_lacking;
 use crate::pointers::last_member;
 use crate::story::{Piece, Story};
-use crate::values::tell_wrong;
+use crate::values::{tell_allowed, tell_wrong};
 use fx_base::{Fault, Place, Sink, put_text, refusals};
 use serde_json::Value;
 use std::alloc::{AllocError, Global};
@@ -76,8 +77,13 @@ fn tell_at(
             )]);
             Ok(())
         }
-        refusals::WRONG_KIND
-        | refusals::BAD_VALUE
+        refusals::WRONG_KIND => {
+            tell_value(alloc, story, value)?;
+            tell_kinds(story, pointer, value, is_network);
+            tell_allowed(story, last_member(pointer), is_network);
+            Ok(())
+        }
+        refusals::BAD_VALUE
         | refusals::NAME_TWICE
         | refusals::CACHE_COUNTER_LENGTH
         | refusals::KEY_WITHOUT_AXIS

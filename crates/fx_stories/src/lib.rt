@@ -18,7 +18,9 @@ mod following;
 mod formats;
 mod holders;
 mod json;
+mod kinds;
 mod leaves;
+mod line_forms;
 mod lines;
 mod lints;
 mod matches;
@@ -54,6 +56,7 @@ mod unused;
 mod values;
 mod walk;
 mod watching;
+mod wrong_lines;
 
 pub use certificates::put_certificate_words;
 pub use documents::put_document_words;

@@ -10,6 +10,38 @@ fn is_place(segment: &str) -> bool {
             .all(|octet| octet.is_ascii_digit())
 }
 
+/// Where a pointer leads.
+#[derive(Clone, Copy, Drop)]
+pub(crate) struct Location<'a> {
+    /// The last member that it names, or an empty text.
+    pub(crate) member: &'a str,
+    /// The member before that, or an empty text.
+    pub(crate) above: &'a str,
+    /// How many lists below the last member it leads.
+    pub(crate) depth: usize,
+}
+
+/// Where a pointer leads.
+pub(crate) fn location_of(pointer: &str) -> Location<'_> {
+    let mut location = Location {
+        member: "",
+        above: "",
+        depth: 0,
+    };
+    for segment in pointer.split('/').skip(1) {
+        if is_place(segment) {
+            location.depth = location.depth.saturating_add(1);
+        } else {
+            location = Location {
+                member: segment,
+                above: location.member,
+                depth: 0,
+            };
+        }
+    }
+    location
+}
+
 /// The last member that a pointer names, or an empty text.
 pub(crate) fn last_member(pointer: &str) -> &str {
     match pointer

@@ -5,12 +5,14 @@ ghost use Rattle.fx_base.specs.Fault.{IsMemory};
 ghost use Rattle.fx_stories.specs.Stories.{IsUntold, WritesStory};
 
 use crate::again::{Documents, documents_again};
+use crate::line_forms::Kind;
 use crate::lines::{next_line, tell_line, tell_line_numbered, unless_wrong};
 use crate::packets::{tell_fields, tell_named_class};
 use crate::refutations::tell_unconfirmed;
 use crate::steps::tell_step;
 use crate::story::{Piece, Story};
 use crate::unmade::Unmade;
+use crate::wrong_lines::{tell_wrong_header, tell_wrong_line};
 use fx_base::{Fault, Line, LineReader, Place, Room, Sink, Source, put_text, refusals};
 use fx_machine::State;
 use fx_refute::read_refutation;
@@ -202,6 +204,54 @@ fn tell_packet_outside<C: Source>(
     }
 }
 
+/// What the first line of a text should be whose refusal has this number, in words.
+fn header_words(fault: u16) -> &'static str {
+    match fault {
+        refusals::RUN_HEADER => "the first line is once-run 2, or once-run 1",
+        _ => "the first line is once-refutation 2, or once-refutation 1",
+    }
+}
+
+/// Tells what is wrong with the form of a line.
+fn tell_form(story: &mut Story, kind: Kind, line: &Line<'_>, fault: u16) {
+    tell_line(story, line);
+    match (kind, line.number) {
+        (Kind::Run(_), 1) => tell_wrong_header(story, header_words(fault), line),
+        _ => tell_wrong_line(story, kind, line),
+    }
+}
+
+/// Tells what is wrong with the form of the line of this number.
+fn tell_form_numbered<C: Source>(
+    story: &mut Story,
+    lines: &mut LineReader<C>,
+    fault: u16,
+    number: u64,
+) -> Result<(), Fault>
+    ensures { IfErr result IsUntold }
+{
+    let mut kind = match fault {
+        refusals::SCHEDULE_OR_BUNDLE => Kind::Schedule,
+        _ => Kind::Run(TextVersion::Two),
+    };
+    'lines: while next_line(lines)? {
+        let line = lines.line();
+        if line.number == number {
+            tell_form(story, kind, &line, fault);
+            return Ok(());
+        }
+        if line.number == 1 && fault != refusals::SCHEDULE_OR_BUNDLE {
+            kind = Kind::Run(version_of(line.bytes));
+        }
+    }
+    story.sentence(&[Piece::Text(if number == 1 {
+        "the text is empty"
+    } else {
+        "the text ends before its line end"
+    })]);
+    Ok(())
+}
+
 /// What is to be told of the refusal of a run at a line.
 fn tell_at_line<C: Source>(
     alloc: Global,
@@ -219,6 +269,10 @@ fn tell_at_line<C: Source>(
         refusals::REFUTATION_PACKET | refusals::RUN_PACKET => {
             tell_packet_outside(alloc, story, network, traffic, lines, number)
         }
+        refusals::RUN_HEADER
+        | refusals::RUN_FORM
+        | refusals::REFUTATION_FORM
+        | refusals::SCHEDULE_OR_BUNDLE => tell_form_numbered(story, lines, fault, number),
         _ => tell_line_numbered(story, lines, number),
     }
 }

@@ -31,7 +31,7 @@ fn words_allowed(member: &str, is_network: bool) -> &'static str {
 }
 
 /// Tells which values a member may have.
-fn tell_allowed(story: &mut Story, member: &str, is_network: bool) {
+pub(crate) fn tell_allowed(story: &mut Story, member: &str, is_network: bool) {
     let words = words_allowed(member, is_network);
     if words.is_empty() {
         return;

@@ -1,0 +1,157 @@
+//! Which word of a line is wrong, and which form the line should have.
+use crate::line_forms::{Fit, Kind, axis_of, fit_of, forms_of, is_literal, is_of_other_version};
+use crate::story::{Piece, Story};
+use fx_base::Line;
+use fx_elements::Axis;
+
+/// What may stand for a word of a form, in words.
+fn due_words(form: &str, due: &str) -> &'static str {
+    match axis_of(form, due) {
+        Some(Axis::Source | Axis::Destination) => ", an address of IPv4, as 192.0.2.1",
+        Some(Axis::Source6 | Axis::Destination6) => {
+            ", an address of IPv6 in eight groups in lower case, as 2001:db8:0:0:0:0:0:1"
+        }
+        Some(Axis::SourcePort | Axis::DestinationPort) => ", a number from 0 to 65535",
+        Some(_) => ", a number from 0 to 255",
+        None => number_words(form, due),
+    }
+}
+
+/// The same for a word that stands for no value of an axis.
+fn number_words(form: &str, due: &str) -> &'static str {
+    match due {
+        "CHOICES" => ", each of which is n or a number",
+        "AXIS" => {
+            ", one of source, destination, protocol, sport, dport, tos, version, source6 and destination6"
+        }
+        "AT" => ", a number in decimal digits within its axis, also for an address",
+        "OCTETS" if form.starts_with("carry ") => ", a number from 1 to 65535",
+        _ if is_literal(due) => "",
+        _ => ", a number in decimal digits",
+    }
+}
+
+/// What is strange about a word, wherever it stands.
+fn strange_word(word: &[u8]) -> Option<&'static str> {
+    if word.is_empty() {
+        return Some("two blanks stand together there, or one at an end of the line");
+    }
+    if word.contains(&b'\t') {
+        return Some("a tab stands in it; words are separated by one blank");
+    }
+    if word.ends_with(b"\r") {
+        return Some("the line ends in CR and LF; lines end in LF alone");
+    }
+    if word.starts_with(b"\xef\xbb\xbf") {
+        return Some("it begins with a byte order mark: take that out");
+    }
+    if word.starts_with(b"0") && word.iter().all(|octet| octet.is_ascii_digit()) {
+        return Some("a number has no zeros in front");
+    }
+    None
+}
+
+/// How far a line is as the nearest of these forms wants it.
+fn nearest<'a>(forms: &[&'static str], line: &'a [u8]) -> Fit<'a> {
+    let mut best = fit_of("", line);
+    for form in forms {
+        let fit = fit_of(form, line);
+        if fit.is_whole() || (fit.words > best.words && !best.is_whole()) {
+            best = fit;
+        }
+    }
+    best
+}
+
+/// Tells the first word of a line that is wrong.
+fn tell_word(story: &mut Story, fit: &Fit<'_>) {
+    let number = Piece::Number(fit.words.saturating_add(1));
+    match fit.word {
+        Some(word) => story.tell(&[
+            Piece::Text("word "),
+            number,
+            Piece::Text(" is \""),
+            Piece::Octets(word),
+            Piece::Text("\""),
+        ]),
+        None => story.tell(&[Piece::Text("the line ends before word "), number]),
+    }
+    if let Some(words) = fit.word.and_then(strange_word) {
+        story.tell(&[Piece::Text(": "), Piece::Text(words)]);
+    }
+    story.end_line();
+}
+
+/// Tells what may stand behind so many words of a line that are as a form wants them.
+fn tell_due(story: &mut Story, form: &'static str, fit: &Fit<'_>) {
+    story.tell(&[Piece::Text("due there: ")]);
+    match fit.due {
+        Some(due) => story.tell(&[Piece::Text(due), Piece::Text(due_words(form, due))]),
+        None => story.tell(&[Piece::Text("the end of the line")]),
+    }
+    story.sentence(&[Piece::Text("; the form of the line: "), Piece::Text(form)]);
+}
+
+/// Tells the forms that a line may have that is as they want it up to so many words.
+fn tell_forms(story: &mut Story, forms: &[&'static str], line: &[u8], words: u64) {
+    for form in forms {
+        let fit = fit_of(form, line);
+        if !form.is_empty() && fit.words == words {
+            tell_due(story, form, &fit);
+        }
+    }
+}
+
+/// What is wrong with a line that has a right form, in words.
+fn misplaced_words(kind: Kind, line: &Line<'_>) -> &'static str {
+    match kind {
+        _ if !line.ended => "no line feed ends the line",
+        Kind::Run(_) => {
+            "the line has a right form, and isn't in its place: behind the first line come packets, of which a \
+refutation has one, then steps, then end, and nothing behind that"
+        }
+        _ => "the line has a right form, and isn't in its place",
+    }
+}
+
+/// Tells the first word of a line that is wrong, and which form the line should have.
+pub(crate) fn tell_wrong_line(story: &mut Story, kind: Kind, line: &Line<'_>) {
+    let forms = forms_of(kind);
+    let fit = nearest(&forms, line.bytes);
+    if fit.is_whole() {
+        story.sentence(&[Piece::Text(misplaced_words(kind, line))]);
+        return;
+    }
+    tell_word(story, &fit);
+    tell_forms(story, &forms, line.bytes, fit.words);
+    if is_of_other_version(kind, line.bytes) {
+        story.sentence(&[Piece::Text(
+            "it is a packet's line of the other version than the one that the first line says",
+        )]);
+    }
+}
+
+/// What a text is that begins with this line, in words.
+fn text_words(line: &[u8]) -> Option<&'static str> {
+    if line.starts_with(b"once-certificate ") {
+        return Some("it begins a certificate, which once check takes");
+    }
+    if line.starts_with(b"once-refutation ") {
+        return Some("it begins a refutation, which once confirm takes");
+    }
+    if line.starts_with(b"once-run ") {
+        return Some("it begins a run, which once replay takes");
+    }
+    if line.starts_with(b"{") {
+        return Some("it begins a document in JSON; the documents stand before the text");
+    }
+    strange_word(line)
+}
+
+/// Tells what the first line of a text should be, and what it begins.
+pub(crate) fn tell_wrong_header(story: &mut Story, wanted: &'static str, line: &Line<'_>) {
+    story.sentence(&[Piece::Text(wanted)]);
+    if let Some(words) = text_words(line.bytes) {
+        story.sentence(&[Piece::Text(words)]);
+    }
+}
