@@ -34,21 +34,20 @@ fn number_words(form: &str, due: &str) -> &'static str {
 /// What is strange about a word, wherever it stands.
 fn strange_word(word: &[u8]) -> Option<&'static str> {
     if word.is_empty() {
-        return Some("two blanks stand together there, or one at an end of the line");
+        Some(
+            "a blank stands there behind another one, or at an end of the line, or the line is empty",
+        )
+    } else if word.contains(&b'\t') {
+        Some("a tab stands in it; words are separated by one blank")
+    } else if word.ends_with(b"\r") {
+        Some("the line ends in CR and LF; lines end in LF alone")
+    } else if word.starts_with(b"\xef\xbb\xbf") {
+        Some("it begins with a byte order mark: take that out")
+    } else if word.starts_with(b"0") && word.iter().all(|octet| octet.is_ascii_digit()) {
+        Some("a number has no zeros in front")
+    } else {
+        None
     }
-    if word.contains(&b'\t') {
-        return Some("a tab stands in it; words are separated by one blank");
-    }
-    if word.ends_with(b"\r") {
-        return Some("the line ends in CR and LF; lines end in LF alone");
-    }
-    if word.starts_with(b"\xef\xbb\xbf") {
-        return Some("it begins with a byte order mark: take that out");
-    }
-    if word.starts_with(b"0") && word.iter().all(|octet| octet.is_ascii_digit()) {
-        return Some("a number has no zeros in front");
-    }
-    None
 }
 
 /// How far a line is as the nearest of these forms wants it.
@@ -65,16 +64,19 @@ fn nearest<'a>(forms: &[&'static str], line: &'a [u8]) -> Fit<'a> {
 
 /// Tells the first word of a line that is wrong.
 fn tell_word(story: &mut Story, fit: &Fit<'_>) {
-    let number = Piece::Number(fit.words.saturating_add(1));
+    let number = fit.words.saturating_add(1);
     match fit.word {
         Some(word) => story.tell(&[
             Piece::Text("word "),
-            number,
+            Piece::Number(number),
             Piece::Text(" is \""),
             Piece::Octets(word),
             Piece::Text("\""),
         ]),
-        None => story.tell(&[Piece::Text("the line ends before word "), number]),
+        None => story.tell(&[
+            Piece::Text("the line ends before word "),
+            Piece::Number(number),
+        ]),
     }
     if let Some(words) = fit.word.and_then(strange_word) {
         story.tell(&[Piece::Text(": "), Piece::Text(words)]);
@@ -102,6 +104,18 @@ fn tell_forms(story: &mut Story, forms: &[&'static str], line: &[u8], words: u64
     }
 }
 
+/// Tells all forms of lines.
+fn tell_all_forms(story: &mut Story, forms: &[&'static str]) {
+    let mut separator = "no line begins so; the forms of lines: ";
+    for form in forms {
+        if !form.is_empty() {
+            story.tell(&[Piece::Text(separator), Piece::Text(form)]);
+            separator = "; ";
+        }
+    }
+    story.end_line();
+}
+
 /// What is wrong with a line that has a right form, in words.
 fn misplaced_words(kind: Kind, line: &Line<'_>) -> &'static str {
     match kind {
@@ -123,6 +137,10 @@ pub(crate) fn tell_wrong_line(story: &mut Story, kind: Kind, line: &Line<'_>) {
         return;
     }
     tell_word(story, &fit);
+    if fit.words == 0 {
+        tell_all_forms(story, &forms);
+        return;
+    }
     tell_forms(story, &forms, line.bytes, fit.words);
     if is_of_other_version(kind, line.bytes) {
         story.sentence(&[Piece::Text(
@@ -134,24 +152,22 @@ pub(crate) fn tell_wrong_line(story: &mut Story, kind: Kind, line: &Line<'_>) {
 /// What a text is that begins with this line, in words.
 fn text_words(line: &[u8]) -> Option<&'static str> {
     if line.starts_with(b"once-certificate ") {
-        return Some("it begins a certificate, which once check takes");
+        Some("it begins a certificate, which once check takes")
+    } else if line.starts_with(b"once-refutation ") {
+        Some("it begins a refutation, which once confirm takes")
+    } else if line.starts_with(b"once-run ") {
+        Some("it begins a run, which once replay takes")
+    } else if line.starts_with(b"{") {
+        Some("it begins a document in JSON; the documents stand before the text")
+    } else {
+        None
     }
-    if line.starts_with(b"once-refutation ") {
-        return Some("it begins a refutation, which once confirm takes");
-    }
-    if line.starts_with(b"once-run ") {
-        return Some("it begins a run, which once replay takes");
-    }
-    if line.starts_with(b"{") {
-        return Some("it begins a document in JSON; the documents stand before the text");
-    }
-    strange_word(line)
 }
 
 /// Tells what the first line of a text should be, and what it begins.
 pub(crate) fn tell_wrong_header(story: &mut Story, wanted: &'static str, line: &Line<'_>) {
     story.sentence(&[Piece::Text(wanted)]);
-    if let Some(words) = text_words(line.bytes) {
+    if let Some(words) = strange_word(line.bytes).or(text_words(line.bytes)) {
         story.sentence(&[Piece::Text(words)]);
     }
 }
