@@ -25,7 +25,7 @@ fn capture_format(octets: &[u8]) -> Option<&'static str> {
 }
 
 /// What octets are that begin a message of another protocol of flows.
-fn flow_format(octets: &[u8]) -> Option<&'static str> {
+pub(crate) fn flow_format(octets: &[u8]) -> Option<&'static str> {
     match octets {
         [0, 5, ..] => Some(
             "This is version 5: a datagram of NetFlow 5 in place of IPFIX. Have the exporter send IPFIX (version 10).",
@@ -41,7 +41,7 @@ fn flow_format(octets: &[u8]) -> Option<&'static str> {
 }
 
 /// What octets are that begin a compressed file.
-fn packed_format(octets: &[u8]) -> Option<&'static str> {
+pub(crate) fn packed_format(octets: &[u8]) -> Option<&'static str> {
     match octets {
         [0x1f, 0x8b, ..] => Some("These octets begin a file of gzip. Unpack it first."),
         [0xfd, 0x37, 0x7a, 0x58, 0x5a, 0, ..] => {
@@ -55,15 +55,18 @@ fn packed_format(octets: &[u8]) -> Option<&'static str> {
     }
 }
 
+/// Whether octets begin a text.
+pub(crate) fn is_text(octets: &[u8]) -> bool {
+    match octets.get(..4) {
+        Some(first) => first.iter().all(|octet| octet.is_ascii_graphic()
+            || octet.is_ascii_whitespace()),
+        None => false,
+    }
+}
+
 /// What octets are that begin a text.
 fn text_format(octets: &[u8]) -> Option<&'static str> {
-    let told = octets.get(..4)?;
-    for octet in told {
-        if !octet.is_ascii_graphic() && !octet.is_ascii_whitespace() {
-            return None;
-        }
-    }
-    Some(
+    is_text(octets).then_some(
         "These octets are text. Messages are octets; is the file another one than the stream, as a network document?",
     )
 }

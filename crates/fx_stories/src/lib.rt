@@ -3,6 +3,7 @@
 
 mod again;
 mod allowed;
+mod captures;
 mod certificates;
 mod choosing;
 mod circles;
@@ -58,6 +59,7 @@ mod walk;
 mod watching;
 mod wrong_lines;
 
+pub use captures::put_capture_words;
 pub use certificates::put_certificate_words;
 pub use documents::put_document_words;
 pub use lints::put_lint_words;

@@ -100,7 +100,10 @@ fn axis_named(word: &[u8]) -> Option<Axis> {
 /// The greatest number that may stand for a word of a form, behind another word of a line.
 fn greatest(form: &str, due: &str, before: &[u8]) -> u128 {
     match due {
-        "AT" => axis_named(before).map_or(0, top),
+        "AT" => match axis_named(before) {
+            Some(axis) => top(axis),
+            None => 0,
+        },
         "OCTETS" if form.starts_with("carry ") => 65_535,
         _ => u128::from(u64::MAX),
     }

@@ -1,4 +1,21 @@
-//! Numbers at places of octets.
+//! Octets, and numbers at places of them.
+use crate::story::{Piece, Story};
+
+/// The hexadecimal digits.
+const DIGITS: [&str; 16] = [
+    "0", "1", "2", "3", "4", "5", "6", "7", "8", "9", "a", "b", "c", "d", "e", "f",
+];
+
+/// Tells octets in hexadecimal, each behind a blank.
+pub(crate) fn tell_digits(story: &mut Story, octets: &[u8]) {
+    for octet in octets {
+        story.tell(&[
+            Piece::Text(" "),
+            Piece::Text(DIGITS[usize::from(*octet / 16)]),
+            Piece::Text(DIGITS[usize::from(*octet % 16)]),
+        ]);
+    }
+}
 
 /// The octet at a place; 0 where there is none.
 fn octet_at(octets: &[u8], place: usize) -> u8 {

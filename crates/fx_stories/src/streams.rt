@@ -7,7 +7,7 @@ ghost use Rattle.fx_stories.specs.Stories.{IsUntold, WritesStory};
 use crate::data_sets::tell_data_set;
 use crate::formats::format_of;
 use crate::messages::{HEADER, MessageThere, SetThere};
-use crate::places::{number16, part};
+use crate::places::{number16, part, tell_digits};
 use crate::story::{Piece, Story};
 use crate::template_sets::take_templates;
 use crate::templates::Templates;
@@ -17,11 +17,6 @@ use std::alloc::{AllocError, Global};
 
 /// The most octets that a message can have.
 const LONGEST: usize = 65_535;
-
-/// The hexadecimal digits.
-const DIGITS: [&str; 16] = [
-    "0", "1", "2", "3", "4", "5", "6", "7", "8", "9", "a", "b", "c", "d", "e", "f",
-];
 
 /// How far a stream was read once more.
 #[derive(Drop)]
@@ -139,13 +134,7 @@ impl Reading {
             Piece::Number(self.place),
             Piece::Text(" on: its first octets are"),
         ]);
-        for octet in start {
-            story.tell(&[
-                Piece::Text(" "),
-                Piece::Text(DIGITS[usize::from(*octet / 16)]),
-                Piece::Text(DIGITS[usize::from(*octet % 16)]),
-            ]);
-        }
+        tell_digits(story, start);
         story.end_line();
     }
 

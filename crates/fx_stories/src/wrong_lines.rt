@@ -43,7 +43,10 @@ fn strange_word(word: &[u8]) -> Option<&'static str> {
         Some("the line ends in CR and LF; lines end in LF alone")
     } else if word.starts_with(b"\xef\xbb\xbf") {
         Some("it begins with a byte order mark: take that out")
-    } else if word.starts_with(b"0") && word.iter().all(|octet| octet.is_ascii_digit()) {
+    } else if word.len() > 1
+        && word.starts_with(b"0")
+        && word.iter().all(|octet| octet.is_ascii_digit())
+    {
         Some("a number has no zeros in front")
     } else {
         None

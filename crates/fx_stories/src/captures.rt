@@ -1,0 +1,219 @@
+//! Why a capture can't be read, in words.
+ghost use Rattle.std.specs.Prelude.{◌≡◌, ◌⊎◌, IfErr, OnOk};
+ghost use Rattle.fx_base.specs.Device.{IsWriteFault, KeepsGoing};
+ghost use Rattle.fx_stories.specs.Stories.{IsUntold, WritesStory};
+
+use crate::formats::{flow_format, is_text, packed_format};
+use crate::places::{number16, number32, tell_digits};
+use crate::story::{Piece, Story};
+use fx_base::{Fault, PieceReader, Place, Sink, Source, put_text, refusals};
+use std::alloc::Global;
+
+/// How many octets a capture's file header has.
+const HEADER: usize = 24;
+
+/// The first octets of a file, as many as a capture's header has.
+#[derive(Drop)]
+struct Head {
+    octets: [u8; HEADER],
+    count: usize,
+}
+
+impl Head {
+    /// Takes octets behind those that are there, and answers whether no more are wanted.
+    fn take(&mut self, piece: &[u8]) -> bool {
+        for octet in piece {
+            if self.count < HEADER {
+                self.octets[self.count] = *octet;
+                self.count += 1;
+            }
+        }
+        self.count >= HEADER
+    }
+
+    /// The octets that are there.
+    fn octets(&self) -> &[u8] {
+        &self.octets[..self.count.min(HEADER)]
+    }
+}
+
+/// The first octets of a file.
+fn head_of<F: Source>(file: &mut F) -> Result<Head, Fault>
+    ensures { IfErr result IsUntold }
+{
+    let mut head = Head {
+        octets: [0; HEADER],
+        count: 0,
+    };
+    let mut pieces = PieceReader::new();
+    for _ in 0..u64::MAX {
+        if !pieces.advance(file)? || head.take(pieces.piece()) {
+            break;
+        }
+    }
+    Ok(head)
+}
+
+/// Whether octets begin a capture whose numbers have the lower octet first, or the higher one, or none.
+fn is_reversed(octets: &[u8]) -> Option<bool> {
+    match number32(octets, 0) {
+        0xd4c3_b2a1 | 0x4d3c_b2a1 => Some(true),
+        0xa1b2_c3d4 | 0xa1b2_3c4d => Some(false),
+        _ => None,
+    }
+}
+
+/// What octets are that begin no capture of the form that is read, with what to do about it.
+fn other_format(octets: &[u8]) -> &'static str {
+    if octets.is_empty() {
+        return "The file is empty.";
+    }
+    match octets {
+        [0x0a, 0x0d, 0x0d, 0x0a, ..] => {
+            "These octets begin a capture in pcapng. Convert it: tshark -r OLD -F pcap -w NEW."
+        }
+        [0xa1, 0xb2, 0xcd, 0x34, ..] | [0x34, 0xcd, 0xb2, 0xa1, ..] => {
+            "These octets begin a capture in an older form of pcap. Convert it: tshark -r OLD -F pcap -w NEW."
+        }
+        [b's', b'n', b'o', b'o', b'p', 0, 0, 0, ..] => {
+            "These octets begin a capture of snoop. Convert it: tshark -r OLD -F pcap -w NEW."
+        }
+        [0, 10, ..] => {
+            "These octets begin a message of IPFIX (version 10). once collect takes a stream of these; once run takes a capture of the packets that are metered."
+        }
+        _ => match packed_format(octets).or(flow_format(octets)) {
+            Some(words) => words,
+            None if is_text(octets) => {
+                "These octets are text. The files stand in this order: network, traffic, capture, schedule."
+            }
+            None =>
+                "A capture begins with the octets a1 b2 c3 d4 or a1 b2 3c 4d, or with these in reverse order.",
+        },
+    }
+}
+
+/// A number of two octets of a capture's header, by their order.
+fn number_at(octets: &[u8], place: usize, reversed: bool) -> u16 {
+    let number = number16(octets, place);
+    if reversed {
+        number.swap_bytes()
+    } else {
+        number
+    }
+}
+
+/// Tells what is wrong with the header of a capture.
+fn tell_header(story: &mut Story, octets: &[u8], reversed: bool) {
+    if octets.len() < HEADER {
+        story.sentence(&[
+            Piece::Text(
+                "The file ends inside of a capture's header, which has 24 octets; octets there are: ",
+            ),
+            Piece::Number(octets.len() as u64),
+        ]);
+        return;
+    }
+    story.sentence(&[
+        Piece::Text("It is a capture in pcap of version "),
+        Piece::Number(u64::from(number_at(octets, 4, reversed))),
+        Piece::Text("."),
+        Piece::Number(u64::from(number_at(octets, 6, reversed))),
+        Piece::Text("; version 2.4 is read. Convert it: tshark -r OLD -F pcap -w NEW."),
+    ]);
+}
+
+/// Tells what the octets are that begin a file in the place of a capture.
+fn tell_format(story: &mut Story, octets: &[u8]) {
+    story.tell(&[Piece::Text("the first octets of the capture:")]);
+    tell_digits(story, octets);
+    story.end_line();
+    match is_reversed(octets) {
+        Some(reversed) => tell_header(story, octets, reversed),
+        None => story.sentence(&[Piece::Text(other_format(octets))]),
+    }
+}
+
+/// What a link type is called, in the registry of tcpdump, with what its frames are.
+fn link_words(number: u32) -> &'static str {
+    match number {
+        0 => " (NULL: the loopback of BSD)",
+        9 | 50 => " (PPP)",
+        12 | 14 => " (RAW: IP under a number that some systems write; 101 is read)",
+        105 => " (IEEE802_11: wireless frames)",
+        108 => " (LOOP: the loopback of OpenBSD)",
+        113 => " (LINUX_SLL: all interfaces of Linux at once)",
+        127 => " (IEEE802_11_RADIOTAP: wireless frames)",
+        189 | 220 => " (USB_LINUX)",
+        192 => " (PPI)",
+        228 => " (IPV4)",
+        229 => " (IPV6)",
+        249 => " (USBPCAP)",
+        276 => " (LINUX_SLL2: all interfaces of Linux at once)",
+        _ => "",
+    }
+}
+
+/// Tells the link type of a capture.
+fn tell_link(story: &mut Story, octets: &[u8]) {
+    let Some(reversed) = is_reversed(octets) else {
+        return;
+    };
+    let number = number32(octets, 20);
+    let number = if reversed {
+        number.swap_bytes()
+    } else {
+        number
+    };
+    story.sentence(&[
+        Piece::Text("the link type of the capture: "),
+        Piece::Number(u64::from(number)),
+        Piece::Text(link_words(number)),
+        Piece::Text("; 1 (ETHERNET) and 101 (RAW) are read"),
+    ]);
+}
+
+/// What is to be told of a capture.
+fn story_of<F: Source>(alloc: Global, capture: &mut F, fault: &Fault) -> Result<Story, Fault>
+    ensures { IfErr result IsUntold }
+{
+    let mut story = Story::new(alloc);
+    let head = head_of(capture)?;
+    match fault.number {
+        refusals::CAPTURE_FORMAT => tell_format(&mut story, head.octets()),
+        refusals::LINK_TYPE => tell_link(&mut story, head.octets()),
+        _ => tell_record(&mut story, fault),
+    }
+    Ok(story)
+}
+
+/// Tells where the record begins at which a capture can't be read on.
+fn tell_record(story: &mut Story, fault: &Fault) {
+    if let Place::Octet(place) = &fault.place {
+        story.sentence(&[
+            Piece::Text("the record of the capture that begins at octet "),
+            Piece::Number(*place),
+            Piece::Text(" can't be read; octets count from 0"),
+        ]);
+    }
+}
+
+/// Writes in sentences what a refusal of a capture, 701 to 704, is about: of one whose form isn't read its first 24 octets
+/// and what they begin; of one with another link type that type, by its number and its name; of others where the record
+/// begins. The capture is the one that was refused, opened anew. The text has no control characters but line feeds.
+///
+/// Fails with 900 for want of memory; with 901 where a read fails, or the reader hasn't ended after 4,294,967,296 calls;
+/// with 902 where a write fails. Nothing is written for a fault other than 902.
+pub fn put_capture_words<F: Source, S: Sink>(
+    alloc: Global,
+    capture: &mut F,
+    fault: &Fault,
+    sink: &mut S,
+) -> Result<(), Fault>
+    ensures ok { OnOk result (WritesStory (S.taken sink.old) (S.taken sink.new)) }
+    ensures going { OnOk result (KeepsGoing (S.failed sink.old) (S.failed sink.new)) }
+    ensures err { IfErr result (λ e. (IsUntold e × (sink.new ≡ sink.old))
+        ⊎ IsWriteFault (S.failed sink.new) e) }
+{
+    let story = story_of(alloc, capture, fault)?;
+    put_text(sink, story.octets()?)
+}
