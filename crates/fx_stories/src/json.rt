@@ -1,4 +1,5 @@
 //! Why octets are no JSON text.
+use crate::json_faults::tell_fault;
 use crate::story::{Piece, Story};
 use serde_json::{Error, Value};
 use std::alloc::{AllocError, Global};
@@ -38,13 +39,20 @@ fn tell_before(story: &mut Story, octets: &[u8], line: usize, column: usize) {
     let start = start_of_line(octets, line);
     let end = start.saturating_add(column).min(octets.len());
     let first = start.max(end.saturating_sub(TOLD));
-    match octets.get(first..end) {
-        Some(before) => story.sentence(&[
+    if let Some(before) = octets.get(first..end) {
+        story.sentence(&[
             Piece::Text("what stands there, up to that place: "),
             Piece::Octets(before),
-        ]),
-        None => {},
+        ]);
     }
+}
+
+/// The place of the octet at which a text can't be read on, by its line and its column, and by the reason.
+fn place_of(octets: &[u8], line: usize, column: usize, reason: &str) -> usize {
+    if reason.starts_with("EOF") {
+        return octets.len();
+    }
+    start_of_line(octets, line).saturating_add(column.saturating_sub(1))
 }
 
 /// How JSON that is too deep, or a number that is too large, is told.
@@ -78,15 +86,24 @@ fn tell_reason(story: &mut Story, line: usize, column: usize, reason: &str) {
     ]);
 }
 
-/// Tells where an error stands, and its reason.
-fn tell_error(alloc: Global, story: &mut Story, error: &Error) -> Result<(), AllocError> {
+/// Tells where an error stands, its reason, and what stands there.
+fn tell_error(
+    alloc: Global,
+    story: &mut Story,
+    octets: &[u8],
+    error: &Error,
+) -> Result<(), AllocError> {
     let text = format!(in alloc; "{error}")?;
-    tell_reason(
-        story,
-        error.line(),
-        error.column(),
-        reason_in(text.as_str()),
-    );
+    let reason = reason_in(text.as_str());
+    tell_reason(story, error.line(), error.column(), reason);
+    match beginning_words(octets) {
+        Some(words) => story.sentence(&[Piece::Text(words)]),
+        None => {
+            tell_before(story, octets, error.line(), error.column());
+            let place = place_of(octets, error.line(), error.column(), reason);
+            tell_fault(story, octets, place);
+        }
+    }
     Ok(())
 }
 
@@ -94,21 +111,7 @@ fn tell_error(alloc: Global, story: &mut Story, error: &Error) -> Result<(), All
 pub(crate) fn tell_json(alloc: Global, story: &mut Story, octets: &[u8]) -> Result<(), AllocError> {
     match Value::from_slice(alloc, octets) {
         Ok(_) => Ok(()),
-        Err(error) => {
-            if error.is_memory() {
-                return Err(AllocError);
-            }
-            tell_error(alloc, story, &error)?;
-            match beginning_words(octets) {
-                Some(words) => {
-                    story.sentence(&[Piece::Text(words)]);
-                    Ok(())
-                }
-                None => {
-                    tell_before(story, octets, error.line(), error.column());
-                    Ok(())
-                }
-            }
-        }
+        Err(error) if error.is_memory() => Err(AllocError),
+        Err(error) => tell_error(alloc, story, octets, &error),
     }
 }

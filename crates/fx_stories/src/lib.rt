@@ -19,6 +19,7 @@ mod following;
 mod formats;
 mod holders;
 mod json;
+mod json_faults;
 mod kinds;
 mod leaves;
 mod line_forms;

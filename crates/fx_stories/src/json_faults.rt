@@ -1,0 +1,225 @@
+//! What is wrong with a JSON text at a place at which it can't be read on.
+use crate::story::{Piece, Story};
+use std::str;
+
+/// How many octets of a text are told before a place in it.
+const TOLD: usize = 40;
+
+/// How many values may stand in one another.
+const DEEPEST: u64 = 127;
+
+/// What comes before a place of a JSON text.
+#[derive(Clone, Copy, Drop)]
+struct Before {
+    /// How many objects and lists are open.
+    depth: u64,
+    /// Whether a string is open.
+    in_string: bool,
+    /// Whether the octet before is a backslash that begins an escape.
+    escaped: bool,
+    /// The last octet that is no white space, or 0 where there is none.
+    last: u8,
+}
+
+impl Before {
+    /// Goes past an octet of a string.
+    fn take_in_string(&mut self, octet: u8) {
+        if octet == b'"' && !self.escaped {
+            self.in_string = false;
+        }
+        self.escaped = !self.escaped && octet == b'\\';
+    }
+
+    /// Goes past an octet.
+    fn take(&mut self, octet: u8) {
+        if !octet.is_ascii_whitespace() {
+            self.last = octet;
+        }
+        if self.in_string {
+            self.take_in_string(octet);
+            return;
+        }
+        match octet {
+            b'"' => self.in_string = true,
+            b'{' | b'[' => self.depth = self.depth.saturating_add(1),
+            b'}' | b']' => self.depth = self.depth.saturating_sub(1),
+            _ => {}
+        }
+    }
+}
+
+/// What comes before the octets behind these.
+fn before_end(octets: &[u8]) -> Before {
+    let mut before = Before {
+        depth: 0,
+        in_string: false,
+        escaped: false,
+        last: 0,
+    };
+    for octet in octets {
+        before.take(*octet);
+    }
+    before
+}
+
+/// Whether an octet may stand behind the backslash of an escape.
+fn is_escape(octet: u8) -> bool {
+    matches!(
+        octet,
+        b'"' | b'\\' | b'/' | b'b' | b'f' | b'n' | b'r' | b't' | b'u'
+    )
+}
+
+/// What is wrong with a control character in a string, in words.
+fn control_words(octet: u8) -> &'static str {
+    match octet {
+        b'\t' => "a tab stands in the string that begins there; write \\t",
+        b'\n' | b'\r' => {
+            "a line ends inside of the string that begins there; its quotation mark is missing, or write \\n"
+        }
+        _ =>
+            "a control character stands in the string that begins there; write \\u and four hexadecimal digits",
+    }
+}
+
+/// What is wrong with an octet of a string, behind a backslash or not, in words.
+fn octet_words(octet: u8, escaped: bool) -> Option<&'static str> {
+    if escaped && !is_escape(octet) {
+        Some(
+            "a backslash begins no escape in the string that begins there; for a backslash write \\\\",
+        )
+    } else if octet < 32 {
+        Some(control_words(octet))
+    } else {
+        None
+    }
+}
+
+/// Where a string ends or goes wrong that begins these octets, behind its quotation mark.
+#[derive(Clone, Copy, Drop)]
+struct StringEnd {
+    place: usize,
+    /// What is wrong there, if something is.
+    words: Option<&'static str>,
+}
+
+/// Where the string ends or goes wrong whose octets these are, behind its quotation mark.
+fn string_end(octets: &[u8]) -> StringEnd {
+    let mut escaped = false;
+    for place in 0..octets.len() {
+        let octet = octets[place];
+        let words = octet_words(octet, escaped);
+        if words.is_some() || (octet == b'"' && !escaped) {
+            return StringEnd { place, words };
+        }
+        escaped = !escaped && octet == b'\\';
+    }
+    StringEnd {
+        place: octets.len(),
+        words: Some("the string that begins there has no quotation mark at its end"),
+    }
+}
+
+/// What is wrong with a string that is well-formed but for its escapes, behind this octet, in words.
+fn whole_string_words(string: &[u8], last: u8) -> Option<&'static str> {
+    if matches!(last, b'}' | b']' | b'"' | b'0'..=b'9' | b'a'..=b'z') {
+        return Some("no comma stands before it, or no colon behind a member's name");
+    }
+    if str::from_utf8(string).is_err() {
+        return Some("the string that begins there is no UTF-8: the text is in another encoding");
+    }
+    Some(
+        "in the string that begins there \\u stands without four hexadecimal digits, or for a half of a pair (d800 to dfff)",
+    )
+}
+
+/// Tells what is wrong with a string that begins these octets, behind what stands before it.
+fn tell_string(story: &mut Story, octets: &[u8], before: &Before) {
+    let string = octets.get(1..).unwrap_or(&[]);
+    let end = string_end(string);
+    let whole = string.get(..end.place).unwrap_or(&[]);
+    let Some(words) = end.words else {
+        if let Some(words) = whole_string_words(whole, before.last) {
+            story.sentence(&[Piece::Text(words)]);
+        }
+        return;
+    };
+    let first = end.place.saturating_sub(TOLD);
+    story.sentence(&[
+        Piece::Text(words),
+        Piece::Text("; what stands before that: "),
+        Piece::Octets(whole.get(first..).unwrap_or(&[])),
+    ]);
+}
+
+/// What is wrong with a text at an octet that begins no string, behind what stands before it, in words.
+fn place_words(octet: u8, before: &Before) -> Option<&'static str> {
+    if before.depth == 0 && before.last != 0 {
+        return Some("the document has ended before it: a text has one object");
+    }
+    if before.depth >= DEEPEST && matches!(octet, b'{' | b'[') {
+        return Some("values may stand in at most 127 others");
+    }
+    match octet {
+        b'}' | b']' if before.last == b',' => Some(
+            "a comma stands before it, and nothing follows that comma",
+        ),
+        b'\'' => Some("names and texts stand in double quotation marks"),
+        b'/' | b'#' => Some("JSON has no comments"),
+        b'A'..=b'Z' | b'a'..=b'z' | b'_' => {
+            Some(
+                "no value begins so: words are true, false and null in lower case; names and texts stand in quotation marks",
+            )
+        }
+        b'0'..=b'9' | b'+' | b'-' | b'.' => Some(
+            "no number is written so: it has no plus, no zeros in front, and digits around a point",
+        ),
+        0x80..=0xff => Some(
+            "this octet is no UTF-8 there: the text is in another encoding; write it in UTF-8",
+        ),
+        b'{' | b'[' if before.last != b',' && before.last != b':' && before.last != b'[' => {
+            Some("no comma stands before it, or no colon behind a member's name")
+        }
+        _ => None,
+    }
+}
+
+/// Whether each second octet of the first four is 0, as in a text of UTF-16 without a byte order mark.
+fn is_wide(octets: &[u8]) -> bool {
+    matches!(octets, [0, 1..=127, 0, ..] | [1..=127, 0, 1..=127, 0, ..])
+}
+
+/// Tells that a text ends too early.
+fn tell_open(story: &mut Story, octets: &[u8]) {
+    let before = before_end(octets);
+    story.sentence(&[
+        Piece::Text("the text ends too early: objects and lists that are open at its end: "),
+        Piece::Number(before.depth),
+        Piece::Text(if before.in_string {
+            ", and a string"
+        } else {
+            ""
+        }),
+    ]);
+}
+
+/// Tells what is wrong with a JSON text at a place, as far as that is known.
+pub(crate) fn tell_fault(story: &mut Story, octets: &[u8], place: usize) {
+    if is_wide(octets) {
+        story.sentence(&[Piece::Text("the text is in UTF-16: write it in UTF-8")]);
+        return;
+    }
+    let (Some(before), Some(behind)) = (octets.get(..place), octets.get(place..)) else {
+        return;
+    };
+    let Some(octet) = behind.first().copied() else {
+        tell_open(story, octets);
+        return;
+    };
+    let before = before_end(before);
+    if octet == b'"' {
+        tell_string(story, behind, &before);
+    } else if let Some(words) = place_words(octet, &before) {
+        story.sentence(&[Piece::Text(words)]);
+    }
+}
