@@ -6,7 +6,7 @@ ghost use Rattle.fx_stories.specs.Stories.{IsUntold, WritesStory};
 use crate::formats::{flow_format, is_text, packed_format};
 use crate::places::{number16, number32, tell_digits};
 use crate::story::{Piece, Story};
-use fx_base::{Fault, PieceReader, Place, Sink, Source, put_text, refusals};
+use fx_base::{Fault, PieceReader, Sink, Source, put_text, refusals};
 use std::alloc::Global;
 
 /// How many octets a capture's file header has.
@@ -181,25 +181,14 @@ fn story_of<F: Source>(alloc: Global, capture: &mut F, fault: &Fault) -> Result<
     match fault.number {
         refusals::CAPTURE_FORMAT => tell_format(&mut story, head.octets()),
         refusals::LINK_TYPE => tell_link(&mut story, head.octets()),
-        _ => tell_record(&mut story, fault),
+        _ => {}
     }
     Ok(story)
 }
 
-/// Tells where the record begins at which a capture can't be read on.
-fn tell_record(story: &mut Story, fault: &Fault) {
-    if let Place::Octet(place) = &fault.place {
-        story.sentence(&[
-            Piece::Text("the record of the capture that begins at octet "),
-            Piece::Number(*place),
-            Piece::Text(" can't be read; octets count from 0"),
-        ]);
-    }
-}
-
-/// Writes in sentences what a refusal of a capture, 701 to 704, is about: of one whose form isn't read its first 24 octets
-/// and what they begin; of one with another link type that type, by its number and its name; of others where the record
-/// begins. The capture is the one that was refused, opened anew. The text has no control characters but line feeds.
+/// Writes in sentences what a refusal of a capture is about: of one whose form isn't read (701) its first 24 octets and
+/// what they begin; of one with another link type (702) that type, by its number and its name. The capture is the one that
+/// was refused, opened anew. What can't be told is left out. The text has no control characters but line feeds.
 ///
 /// Fails with 900 for want of memory; with 901 where a read fails, or the reader hasn't ended after 4,294,967,296 calls;
 /// with 902 where a write fails. Nothing is written for a fault other than 902.

@@ -7,9 +7,11 @@ ghost use Rattle.fx_stories.specs.Stories.{WritesStory};
 use crate::again::{plan_again, value_again};
 use crate::allowed::tell_unknown_member;
 use crate::circles::tell_circle;
+use crate::counters::{tell_counters, tell_flow_key};
 use crate::elements::tell_value;
 use crate::ends::{
-    tell_cycle, tell_link_ends, tell_report_end, tell_unknown_device, tell_unknown_name,
+    tell_cycle, tell_link_ends, tell_linked, tell_report_end, tell_unknown_device,
+    tell_unknown_name,
 };
 use crate::json::tell_json;
 use crate::kinds::tell_kinds;
@@ -33,6 +35,7 @@ fn tell_names(story: &mut Story, network: &Value, value: &Value, pointer: &str, 
             None => {},
         },
         refusals::UNKNOWN_LINK_END => tell_link_ends(story, network, value),
+        refusals::LINKED_TWICE => tell_linked(story, network, value),
         refusals::UNKNOWN_REPORT_PROCESS => tell_report_end(story, network, value),
         _ => {},
     }
@@ -77,6 +80,11 @@ fn tell_at(
             )]);
             Ok(())
         }
+        refusals::KEY_WITHOUT_AXIS => {
+            tell_value(alloc, story, value)?;
+            tell_flow_key(alloc, story, value)
+        }
+        refusals::MISSING_COUNTER => tell_counters(alloc, story, value),
         refusals::WRONG_KIND => {
             tell_value(alloc, story, value)?;
             tell_kinds(story, pointer, value, is_network);
@@ -86,7 +94,6 @@ fn tell_at(
         refusals::BAD_VALUE
         | refusals::NAME_TWICE
         | refusals::CACHE_COUNTER_LENGTH
-        | refusals::KEY_WITHOUT_AXIS
         | refusals::REPORT_KEY
         | refusals::CLASS_TWICE
         | refusals::TRAFFIC_VALUE => {

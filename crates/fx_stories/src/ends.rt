@@ -56,6 +56,37 @@ fn tell_process(story: &mut Story, network: &Value, device: &str, process: &str)
     }
 }
 
+/// Whether two links lead from one destination.
+fn have_one_start(one: &Value, other: &Value) -> bool {
+    ["device", "exportingProcess", "destination"].iter().all(|member| text_member(one, member)
+        == text_member(other, member))
+}
+
+/// Tells the earlier link that leads from the same destination as the one at a pointer.
+pub(crate) fn tell_linked(story: &mut Story, network: &Value, link: &Value) {
+    let links = items_member(network, "links");
+    for place in 0..links.len() {
+        let other = &links[place];
+        if have_one_start(other, link) {
+            story.sentence(&[
+                Piece::Text("/links/"),
+                Piece::Number(place as u64),
+                Piece::Text(" leads from destination "),
+                Piece::Quoted(text_or_none(other, "destination")),
+                Piece::Text(" of exporting process "),
+                Piece::Quoted(text_or_none(other, "exportingProcess")),
+                Piece::Text(" of "),
+                Piece::Text(text_or_none(other, "device")),
+                Piece::Text(" too, to collecting process "),
+                Piece::Quoted(text_or_none(other, "toProcess")),
+                Piece::Text(" of "),
+                Piece::Text(text_or_none(other, "toDevice")),
+            ]);
+            return;
+        }
+    }
+}
+
 /// Tells that a device isn't there, or has no exporting process of this name, or that no destination.
 fn tell_start(story: &mut Story, network: &Value, device: &str, process: &str, destination: &str) {
     let Some(device) = entry_or_told(story, network, "devices", "device", device) else {

@@ -7,6 +7,7 @@ mod captures;
 mod certificates;
 mod choosing;
 mod circles;
+mod counters;
 mod crossings;
 mod data_sets;
 mod directions;

@@ -1,5 +1,7 @@
 //! Which members an object lacks, and which it has.
+use crate::elements::element_of;
 use crate::story::{Piece, Story};
+use fx_elements::Element;
 use serde_json::Value;
 
 /// The members that an object has to have: all of the first, and one of the second.
@@ -92,6 +94,7 @@ fn tell_members(story: &mut Story, object: &Value) {
 /// Tells what an object lacks, at a pointer whose last member is this one, and what it has.
 pub(crate) fn tell_lacking(story: &mut Story, object: &Value, member: &str, is_network: bool) {
     if !object.is_object() {
+        story.sentence(&[Piece::Text("the list is empty; it has to have an entry at least")]);
         return;
     }
     let required = members_required(member, is_network);
@@ -99,6 +102,9 @@ pub(crate) fn tell_lacking(story: &mut Story, object: &Value, member: &str, is_n
     let none = required.one.iter().all(|name| object.get(*name).is_none());
     if none && !required.one.is_empty() {
         tell_choice(story, required.one);
+    }
+    if matches!(element_of(object), Element::Prefix(_)) && member == "key" {
+        tell_missing(story, object, &["prefixLength"]);
     }
     tell_members(story, object);
 }

@@ -178,10 +178,34 @@ pub(crate) fn tell_spelling(story: &mut Story, element: Element, text: &str) {
         Element::OnAxis(axis) if axis.is_address() && text.contains('/') => story.sentence(&[
             Piece::Text("the element has one address; for a prefix name the element of the prefix"),
         ]),
+        Element::OnAxis(axis) | Element::Prefix(axis) if is_range(axis, text) => story.sentence(&[
+            Piece::Text(
+                "one value is allowed there, or a prefix; LOW-HIGH stands in the regions of traffic alone",
+            ),
+        ]),
         Element::OnAxis(axis) => tell_single(story, axis, text),
         Element::Prefix(axis) => tell_prefix(story, axis, text),
         _ => {},
     }
+}
+
+/// Whether a text is two values of an axis with a hyphen between them.
+fn is_range(axis: Axis, text: &str) -> bool {
+    match text.split_once('-') {
+        Some((low, high)) => {
+            read_on(axis, low.as_bytes()).is_some() && read_on(axis, high.as_bytes()).is_some()
+        }
+        None => false,
+    }
+}
+
+/// Tells how the values of a region are written on an axis.
+fn tell_forms(story: &mut Story, axis: Axis) {
+    story.sentence(&[Piece::Text(if axis.is_address() {
+        "a region has on an axis one value, or LOW-HIGH without blanks, or ADDRESS/n; of several values each has a class of its own"
+    } else {
+        "a region has on an axis one value, or LOW-HIGH without blanks; of several values each has a class of its own"
+    })]);
 }
 
 /// Tells what is wrong with a text that should spell values of a region on an axis.
@@ -191,11 +215,10 @@ pub(crate) fn tell_values(story: &mut Story, axis: Axis, text: &str) {
     }
     if let Some((low, high)) = text.split_once('-') {
         tell_ends(story, axis, low, high);
-        return;
-    }
-    if axis.is_address() && text.contains('/') {
+    } else if axis.is_address() && text.contains('/') {
         tell_prefix(story, axis, text);
-        return;
+    } else {
+        tell_single(story, axis, text);
     }
-    tell_single(story, axis, text);
+    tell_forms(story, axis);
 }

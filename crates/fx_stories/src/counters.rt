@@ -1,0 +1,88 @@
+//! Counters that a cache's layout lacks, and flow keys that a cache can't have.
+use crate::elements::{element_of, tell_element};
+use crate::near::near_of;
+use crate::pointers::{items_member, text_member, text_or_none};
+use crate::story::{Piece, Story};
+use fx_elements::{Axis, Element, by_name};
+use serde_json::Value;
+use std::alloc::{AllocError, Global};
+
+/// The counters that have to be among the fields of a cache.
+const COUNTERS: [&str; 2] = ["octetDeltaCount", "packetDeltaCount"];
+
+/// Whether one of these fields names this element.
+fn is_among(fields: &[Value], element: Element) -> bool {
+    fields.iter().any(|field| element_of(field) == element)
+}
+
+/// Tells the fields of a layout whose element is misspelled, where it is nearest to this counter.
+fn tell_misspelled(
+    alloc: Global,
+    story: &mut Story,
+    fields: &[Value],
+    counter: &'static str,
+) -> Result<(), AllocError> {
+    for field in fields {
+        if let Some(name) = text_member(field, "ieName") {
+            let is_near = near_of(alloc, name, &COUNTERS)? == Some(counter);
+            if is_near && by_name(name) == Element::Other {
+                story.sentence(&[
+                    Piece::Text("field "),
+                    Piece::Quoted(text_or_none(field, "name")),
+                    Piece::Text(" names no element that is read: "),
+                    Piece::Quoted(name),
+                ]);
+            }
+        }
+    }
+    Ok(())
+}
+
+/// Tells which counters the layout of a cache lacks.
+pub(crate) fn tell_counters(
+    alloc: Global,
+    story: &mut Story,
+    layout: &Value,
+) -> Result<(), AllocError> {
+    let fields = items_member(layout, "cacheField");
+    for counter in COUNTERS {
+        if !is_among(fields, by_name(counter)) {
+            story.sentence(&[
+                Piece::Text("missing among the fields: "),
+                Piece::Text(counter),
+            ]);
+            tell_misspelled(alloc, story, fields, counter)?;
+        }
+    }
+    Ok(())
+}
+
+/// The element of the whole addresses whose prefixes stand on an axis.
+fn address_name(axis: Axis) -> &'static str {
+    match axis {
+        Axis::Source => "sourceIPv4Address",
+        Axis::Destination => "destinationIPv4Address",
+        Axis::Source6 => "sourceIPv6Address",
+        _ => "destinationIPv6Address",
+    }
+}
+
+/// Tells why a field of a cache can't be a flow key.
+pub(crate) fn tell_flow_key(
+    alloc: Global,
+    story: &mut Story,
+    field: &Value,
+) -> Result<(), AllocError> {
+    if let Element::Prefix(axis) = element_of(field) {
+        story.sentence(&[
+            Piece::Text("its element is a prefix, and the flow keys of caches are whole: write "),
+            Piece::Text(address_name(axis)),
+            Piece::Text(
+                ", and the prefix with its prefixLength in the key of an aggregation or of the report",
+            ),
+        ]);
+        return Ok(());
+    }
+    let _of_axis = tell_element(alloc, story, field, false)?;
+    Ok(())
+}
