@@ -23,6 +23,7 @@ mod json;
 mod json_faults;
 mod kinds;
 mod leaves;
+mod left;
 mod line_forms;
 mod lines;
 mod lints;

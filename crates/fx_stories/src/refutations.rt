@@ -8,11 +8,13 @@ ghost use Rattle.fx_stories.specs.Stories.{IsUntold, WritesStory};
 use crate::again::{Documents, documents_again};
 use crate::crossings::tell_numbered;
 use crate::holders::leads_to_report;
+use crate::left::tell_left;
 use crate::lines::unless_wrong;
 use crate::steps::{tell_packet, tell_step};
 use crate::story::{Piece, Story};
 use fx_base::{Fault, LineReader, Room, Sink, Source, entry_numbered, put_text, refusals};
 use fx_collect::Totals;
+use fx_machine::State;
 use fx_refute::{Refutation, confirm, read_refutation};
 use fx_run_text::Step;
 use fx_tables::Packet;
@@ -126,24 +128,49 @@ fn is_made(steps: &[Step], number: u64) -> bool {
     })
 }
 
-/// Tells what a refutation's run leaves undone.
-fn tell_undone(story: &mut Story, documents: &Documents, refutation: &Refutation) {
+/// Tells which crossings of its packet's path a refutation's run doesn't make.
+fn tell_to_come(story: &mut Story, documents: &Documents, refutation: &Refutation) {
     let crossings = documents.traffic.classes().path_of(refutation.packet());
-    let mut told = false;
     for place in 0..crossings.len() {
         let number = place as u64 + 1;
         if !is_made(refutation.steps(), number) {
             tell_numbered(story, &documents.plan, number, &crossings[place]);
             story.sentence(&[Piece::Text(" is still to come")]);
-            told = true;
         }
     }
-    if told {
-        return;
+}
+
+/// Makes these steps, as far as they can be made.
+fn make_steps(state: &mut State<'_>, steps: &[Step]) -> Result<(), AllocError> {
+    for step in steps {
+        if let Err(fault) = state.step(step) {
+            if fault.number == refusals::WANT_OF_MEMORY {
+                return Err(AllocError);
+            }
+            return Ok(());
+        }
     }
-    story.sentence(&[Piece::Text(
-        "each crossing is made, so a record is still in a cache or an aggregation, or on a link",
-    )]);
+    Ok(())
+}
+
+/// Tells what a refutation's run leaves undone.
+fn tell_undone(
+    alloc: Global,
+    story: &mut Story,
+    documents: &Documents,
+    refutation: &Refutation,
+) -> Result<(), Fault>
+    ensures { IfErr result IsUntold }
+{
+    tell_to_come(story, documents, refutation);
+    let packets = Vec::from_slice(alloc, &[*refutation.packet()])?;
+    let classes = documents.traffic.classes();
+    let opened = State::open(alloc, documents.plan.net(), classes, packets);
+    if let Some(mut state) = unless_wrong(opened)? {
+        make_steps(&mut state, refutation.steps())?;
+        tell_left(alloc, story, &documents.plan, &mut state)?;
+    }
+    Ok(())
 }
 
 /// Tells the run of a refutation that isn't confirmed, though each of its steps can be made: one that isn't complete
@@ -168,7 +195,7 @@ pub(crate) fn tell_unconfirmed<C: Source>(
     };
     tell_run(alloc, story, &documents, &refutation)?;
     if fault == refusals::RUN_NOT_COMPLETE {
-        tell_undone(story, &documents, &refutation);
+        tell_undone(alloc, story, &documents, &refutation)?;
     }
     Ok(())
 }

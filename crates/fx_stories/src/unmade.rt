@@ -107,9 +107,9 @@ impl Unmade<'_> {
             self.tell_taken(story, waiting);
         } else {
             story.tell(&[
-                Piece::Text("before this step records are there at positions from 1 to "),
+                Piece::Text("before this step the number of records there is "),
                 Piece::Number(count),
-                Piece::Text(", and none at "),
+                Piece::Text("; positions count from 1, and none is at "),
                 Piece::Number(position),
             ]);
         }
