@@ -192,6 +192,10 @@ fn is_wide(octets: &[u8]) -> bool {
 /// Tells that a text ends too early.
 fn tell_open(story: &mut Story, octets: &[u8]) {
     let before = before_end(octets);
+    if before.last == 0 {
+        story.sentence(&[Piece::Text("the file has nothing but white space")]);
+        return;
+    }
     story.sentence(&[
         Piece::Text("the text ends too early: objects and lists that are open at its end: "),
         Piece::Number(before.depth),

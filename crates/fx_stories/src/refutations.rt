@@ -8,8 +8,10 @@ ghost use Rattle.fx_stories.specs.Stories.{IsUntold, WritesStory};
 use crate::again::{Documents, documents_again};
 use crate::crossings::tell_numbered;
 use crate::holders::leads_to_report;
+use crate::lacking::Arriving;
 use crate::left::tell_left;
 use crate::lines::unless_wrong;
+use crate::origins::Origins;
 use crate::steps::{tell_packet, tell_step};
 use crate::story::{Piece, Story};
 use fx_base::{Fault, LineReader, Room, Sink, Source, entry_numbered, put_text, refusals};
@@ -20,17 +22,41 @@ use fx_run_text::Step;
 use fx_tables::Packet;
 use std::alloc::{AllocError, Global};
 
-/// Tells steps, each in a sentence with its number.
+/// Tells why the record that arrives at a step isn't tallied or taken in, where it isn't.
+fn tell_lacking(
+    story: &mut Story,
+    documents: &Documents,
+    packet: &Packet,
+    origins: &Origins<'_>,
+    step: &Step,
+) {
+    if let Step::Arrive { link, position, .. } = step {
+        if let Some(origin) = origins.origin(*link, *position) {
+            let arriving = Arriving {
+                plan: &documents.plan,
+                origin,
+                fields: &packet.fields,
+            };
+            arriving.tell(story, *link);
+        }
+    }
+}
+
+/// Tells the steps of a packet's run, each in a sentence with its number.
 fn tell_steps(
     alloc: Global,
     story: &mut Story,
     documents: &Documents,
-    packets: &[Packet],
+    packet: &Packet,
     steps: &[Step],
 ) -> Result<(), AllocError> {
+    let mut origins = Origins::new(alloc, documents.plan.net())?;
     for place in 0..steps.len() {
+        let step = &steps[place];
         story.tell(&[Piece::Number(place as u64 + 1), Piece::Text(". ")]);
-        tell_step(alloc, story, documents, packets, &steps[place])?;
+        tell_step(alloc, story, documents, &[*packet], step)?;
+        tell_lacking(story, documents, packet, &origins, step);
+        origins.take(step)?;
     }
     Ok(())
 }
@@ -113,9 +139,9 @@ fn tell_run(
     documents: &Documents,
     refutation: &Refutation,
 ) -> Result<(), AllocError> {
-    let packets = [*refutation.packet()];
-    tell_packet(story, documents, refutation.packet());
-    tell_steps(alloc, story, documents, &packets, refutation.steps())?;
+    let packet = refutation.packet();
+    tell_packet(story, documents, packet);
+    tell_steps(alloc, story, documents, packet, refutation.steps())?;
     tell_reported(story, documents, refutation.steps());
     Ok(())
 }
