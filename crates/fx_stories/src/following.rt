@@ -46,8 +46,9 @@ impl Found<'_> {
 
 /// Adds the links by which exporting processes of a device send.
 fn add_links(found: &mut Found<'_>, device: &NetworkDevice, exporters: &[Name]) {
-    for place in 0..found.links.len() {
-        let link = &found.links[place];
+    let links = found.links;
+    for place in 0..links.len() {
+        let link = &links[place];
         if link.device == device.name
             && exporters.iter().any(|name| *name == link.exporting_process)
         {
