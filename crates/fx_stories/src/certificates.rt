@@ -272,7 +272,7 @@ fn story_of<C: Source>(
 }
 
 /// Writes in sentences what a refusal of a certificate, 401 to 415 at a line, is about: the line, at most 200 octets of
-/// it; the class and the path by name; the region of the line, with what the line names; and for a leaf what sees the
+/// it; of one whose form is wrong the first word that is, and the form that it should have; the class and the path by name; the region of the line, with what the line names; and for a leaf what sees the
 /// region's packets along the path and where its records go, up to the report, with the matches of aggregations that
 /// don't hold for all of them, and where to split it, if something cuts it. The documents are those over which the
 /// certificate was refused, the lines those of its text, opened anew. What can't be told is left out. The text has no

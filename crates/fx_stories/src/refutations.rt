@@ -258,8 +258,9 @@ fn story_of<C: Source>(
 }
 
 /// Writes in sentences what a refutation says: its packet, with its class by name and its fields that aren't 0; each
-/// step with the names of what it is about; at which steps a record reaches the report; and, where it is confirmed, the totals of its run and those that it should
-/// have. The documents are those over which the refutation was confirmed, the lines those of its text, opened anew.
+/// step with the names of what it is about, and what the key of a record lacks that stays unassigned or that an aggregation
+/// doesn't take in; at which steps a record reaches the report; and, where it is confirmed, the totals of its run and those
+/// that it should have. The documents are those over which the refutation was confirmed, the lines those of its text, opened anew.
 /// What can't be told is left out. The text has no control characters but line feeds.
 ///
 /// Fails with 900 for want of memory; with 901 where a read fails, or the reader hasn't ended after 4,294,967,296 calls;

@@ -326,12 +326,14 @@ fn story_of<C: Source>(
     Ok(story)
 }
 
-/// Writes in sentences what a refusal of a run or of a refutation is about. A refusal at a line: that line, at most 200
-/// octets of it; of a refutation's step that can't be made what it names, and of a packet that isn't in its class its
-/// number in the run, its fields and which of them lie outside of the class's region. One of 851 to 853: the line of the
-/// first step of the run that is refused, with its number, and what it names. One of 504 and 505: the refutation's run,
-/// and of one that isn't complete what it leaves undone. The documents are those over which the run was refused, the lines those of its text, opened anew. What can't
-/// be told is left out. The text has no control characters but line feeds.
+/// Writes in sentences what a refusal of a run, of a refutation or of a schedule is about. A refusal at a line: that line,
+/// at most 200 octets of it; of one whose form is wrong (501, 801, 854 and 855) the first word that is wrong and the form
+/// that the line should have; of a packet that isn't in its class its number in the run, its fields and which of them lie
+/// outside of the class's region. One of 503 and 851 to 853: the line of the first step that is refused, with its number,
+/// what it names, and why it can't be made in the state before it. One of 504 and 505: the refutation's run, and of one
+/// that isn't complete the crossings that are to come and the records that are left. The documents are those over which
+/// the run was refused, the lines those of its text, opened anew. What can't be told is left out. The text has no control
+/// characters but line feeds.
 ///
 /// Fails with 900 for want of memory; with 901 where a read fails, or the reader hasn't ended after 4,294,967,296 calls;
 /// with 903 at a line of more than 4,096 octets; with 902 where a write fails. Nothing is written for a fault other than
