@@ -5,47 +5,61 @@ use crate::story::{Piece, Story, between};
 use serde_json::Value;
 use std::alloc::{AllocError, Global};
 
-/// The members of an object of a network's document.
-fn members_of_network(member: &str) -> &'static [&'static str] {
-    match member {
-        "" => &["devices", "links", "report"],
-        "devices" => &["name", "config"],
-        "config" => &["ietf-ipfix-psamp:ipfix"],
-        "links" => &[
+/// The members that objects of a network may have, by the member under which such an object stands, but for those that are
+/// refused with a number of their own.
+const OF_NETWORK: [(&str, &[&str]); 23] = [
+    ("", &["devices", "links", "report"]),
+    ("devices", &["name", "config"]),
+    ("config", &["ietf-ipfix-psamp:ipfix"]),
+    (
+        "links",
+        &[
             "device",
             "exportingProcess",
             "destination",
             "toDevice",
             "toProcess",
         ],
-        "report" => &["device", "collectingProcess", "key"],
-        _ => members_of_device(member),
-    }
-}
-
-/// The members of an object of a device's configuration, but for those that are refused with a number of their own.
-fn members_of_device(member: &str) -> &'static [&'static str] {
-    match member {
-        "ietf-ipfix-psamp:ipfix" => &[
+    ),
+    ("report", &["device", "collectingProcess", "key"]),
+    (
+        "ietf-ipfix-psamp:ipfix",
+        &[
             "observationPoint",
             "selectionProcess",
             "cache",
             "exportingProcess",
             "collectingProcess",
         ],
-        "observationPoint" => &[
+    ),
+    (
+        "observationPoint",
+        &[
             "name",
             "observationDomainId",
             "ifName",
             "direction",
             "selectionProcess",
         ],
-        "selectionProcess" => &["name", "selector", "cache"],
-        "selector" => &["name", "selectAll", "filterMatch"],
-        "filterMatch" | "match" => &["ieName", "ieId", "ieEnterpriseNumber", "value"],
-        "exportingProcess" => &["name", "exportMode", "destination", "options"],
-        "destination" => &["name", "tcpExporter", "sctpExporter", "udpExporter"],
-        "collectingProcess" => &[
+    ),
+    ("selectionProcess", &["name", "selector", "cache"]),
+    ("selector", &["name", "selectAll", "filterMatch"]),
+    (
+        "filterMatch",
+        &["ieName", "ieId", "ieEnterpriseNumber", "value"],
+    ),
+    ("match", &["ieName", "ieId", "ieEnterpriseNumber", "value"]),
+    (
+        "exportingProcess",
+        &["name", "exportMode", "destination", "options"],
+    ),
+    (
+        "destination",
+        &["name", "tcpExporter", "sctpExporter", "udpExporter"],
+    ),
+    (
+        "collectingProcess",
+        &[
             "name",
             "tcpCollector",
             "sctpCollector",
@@ -53,16 +67,15 @@ fn members_of_device(member: &str) -> &'static [&'static str] {
             "exportingProcess",
             "once-audit:aggregation",
         ],
-        "once-audit:aggregation" => &["name", "key", "match", "exportingProcess"],
-        "key" => &["ieName", "ieId", "prefixLength"],
-        _ => members_of_cache(member),
-    }
-}
-
-/// The members of a cache, and of what stands in one.
-fn members_of_cache(member: &str) -> &'static [&'static str] {
-    match member {
-        "cache" => &[
+    ),
+    (
+        "once-audit:aggregation",
+        &["name", "key", "match", "exportingProcess"],
+    ),
+    ("key", &["ieName", "ieId", "prefixLength"]),
+    (
+        "cache",
+        &[
             "name",
             "immediateCache",
             "timeoutCache",
@@ -70,15 +83,51 @@ fn members_of_cache(member: &str) -> &'static [&'static str] {
             "permanentCache",
             "exportingProcess",
         ],
-        "immediateCache" | "timeoutCache" | "naturalCache" | "permanentCache" => &[
+    ),
+    (
+        "immediateCache",
+        &[
             "maxFlows",
             "activeTimeout",
             "idleTimeout",
             "exportInterval",
             "cacheLayout",
         ],
-        "cacheLayout" => &["cacheField"],
-        "cacheField" => &[
+    ),
+    (
+        "timeoutCache",
+        &[
+            "maxFlows",
+            "activeTimeout",
+            "idleTimeout",
+            "exportInterval",
+            "cacheLayout",
+        ],
+    ),
+    (
+        "naturalCache",
+        &[
+            "maxFlows",
+            "activeTimeout",
+            "idleTimeout",
+            "exportInterval",
+            "cacheLayout",
+        ],
+    ),
+    (
+        "permanentCache",
+        &[
+            "maxFlows",
+            "activeTimeout",
+            "idleTimeout",
+            "exportInterval",
+            "cacheLayout",
+        ],
+    ),
+    ("cacheLayout", &["cacheField"]),
+    (
+        "cacheField",
+        &[
             "name",
             "ieName",
             "ieId",
@@ -86,16 +135,16 @@ fn members_of_cache(member: &str) -> &'static [&'static str] {
             "ieEnterpriseNumber",
             "isFlowKey",
         ],
-        _ => &[],
-    }
-}
+    ),
+];
 
-/// The members of an object of a traffic declaration.
-fn members_of_traffic(member: &str) -> &'static [&'static str] {
-    match member {
-        "" => &["classes"],
-        "classes" => &["name", "region", "paths", "exempt"],
-        "region" => &[
+/// The members that objects of a traffic declaration may have, in the same way.
+const OF_TRAFFIC: [(&str, &[&str]); 4] = [
+    ("", &["classes"]),
+    ("classes", &["name", "region", "paths", "exempt"]),
+    (
+        "region",
+        &[
             "sourceIPv4Address",
             "destinationIPv4Address",
             "protocolIdentifier",
@@ -106,18 +155,30 @@ fn members_of_traffic(member: &str) -> &'static [&'static str] {
             "sourceIPv6Address",
             "destinationIPv6Address",
         ],
-        "paths" => &["device", "interface", "direction"],
-        _ => &[],
+    ),
+    ("paths", &["device", "interface", "direction"]),
+];
+
+/// The members that a table has for the objects under a member.
+fn members_in(
+    table: &[(&'static str, &'static [&'static str])],
+    member: &str,
+) -> &'static [&'static str] {
+    for (known, names) in table {
+        if *known == member {
+            return names;
+        }
     }
+    &[]
 }
 
 /// The members that may stand in the object at a pointer whose last member is this one, of a network's document or of a
 /// traffic declaration.
 fn members_allowed(member: &str, is_network: bool) -> &'static [&'static str] {
     if is_network {
-        members_of_network(member)
+        members_in(&OF_NETWORK, member)
     } else {
-        members_of_traffic(member)
+        members_in(&OF_TRAFFIC, member)
     }
 }
 

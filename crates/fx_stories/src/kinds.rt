@@ -34,79 +34,121 @@ fn kind_words(value: &Value) -> &'static str {
     }
 }
 
-/// What stands under a member of a network that has another meaning in another object.
-fn due_of_names(location: &Location<'_>) -> Option<Due> {
-    match (location.member, location.above) {
-        ("exportingProcess" | "destination", "links") => Some(Due::Text),
-        ("collectingProcess", "report") => Some(Due::Text),
-        ("cache", "selectionProcess") => Some(Due::Text),
-        ("selectionProcess", "observationPoint") => Some(Due::Names),
-        ("exportingProcess", above) if above != MODULE => Some(Due::Names),
-        (
-            "observationPoint"
-            | "selectionProcess"
-            | "cache"
-            | "exportingProcess"
-            | "collectingProcess"
-            | "destination",
-            _,
-        ) => Some(Due::Objects),
-        _ => None,
+/// Members of a network that are objects; the first is the document itself.
+const OBJECTS: [&str; 10] = [
+    "",
+    "config",
+    "ietf-ipfix-psamp:ipfix",
+    "report",
+    "filterMatch",
+    "cacheLayout",
+    "immediateCache",
+    "timeoutCache",
+    "naturalCache",
+    "permanentCache",
+];
+
+/// Members of a network that are lists of objects wherever they stand.
+const LISTS: [&str; 7] = [
+    "devices",
+    "links",
+    "key",
+    "selector",
+    "cacheField",
+    "match",
+    "once-audit:aggregation",
+];
+
+/// Members of a network that are lists of objects where they stand in a device's module or, `destination`, in an exporting
+/// process of it.
+const DEVICE_LISTS: [&str; 6] = [
+    "observationPoint",
+    "selectionProcess",
+    "cache",
+    "exportingProcess",
+    "collectingProcess",
+    "destination",
+];
+
+/// Members of a network that are texts wherever they stand.
+const TEXTS: [&str; 8] = [
+    "name",
+    "device",
+    "toDevice",
+    "toProcess",
+    "ieName",
+    "value",
+    "direction",
+    "exportMode",
+];
+
+/// Members of a network that are numbers.
+const NUMBERS: [&str; 9] = [
+    "observationDomainId",
+    "maxFlows",
+    "activeTimeout",
+    "idleTimeout",
+    "exportInterval",
+    "ieId",
+    "ieLength",
+    "ieEnterpriseNumber",
+    "prefixLength",
+];
+
+/// Members of a traffic declaration that are texts wherever they stand.
+const TRAFFIC_TEXTS: [&str; 4] = ["name", "device", "interface", "direction"];
+
+/// Whether a name is one of these.
+fn is_one_of(names: &[&str], name: &str) -> bool {
+    names.iter().any(|known| *known == name)
+}
+
+/// What stands under a member of a network that names something in one object and is a list of such in another.
+fn due_of_names(location: &Location<'_>) -> Due {
+    let is_list = location.above == MODULE || location.member == "destination";
+    match location.above {
+        "links" | "report" | "selectionProcess" => Due::Text,
+        _ if is_list => Due::Objects,
+        _ => Due::Names,
     }
 }
 
 /// What stands under a member of a network.
-fn due_in_network(member: &str) -> Option<Due> {
+fn due_in_network(location: &Location<'_>) -> Option<Due> {
+    let member = location.member;
+    if is_one_of(&DEVICE_LISTS, member) {
+        Some(due_of_names(location))
+    } else if is_one_of(&OBJECTS, member) {
+        Some(Due::Object)
+    } else if is_one_of(&LISTS, member) {
+        Some(Due::Objects)
+    } else if is_one_of(&TEXTS, member) {
+        Some(Due::Text)
+    } else if is_one_of(&NUMBERS, member) {
+        Some(Due::Number)
+    } else {
+        other_due(member)
+    }
+}
+
+/// What stands under one of the other members of a network.
+fn other_due(member: &str) -> Option<Due> {
     match member {
-        "devices"
-        | "links"
-        | "key"
-        | "selector"
-        | "cacheField"
-        | "match"
-        | "once-audit:aggregation" => { Some(Due::Objects) }
         "ifName" => Some(Due::Names),
-        ""
-        | "config"
-        | "ietf-ipfix-psamp:ipfix"
-        | "report"
-        | "filterMatch"
-        | "cacheLayout"
-        | "immediateCache"
-        | "timeoutCache"
-        | "naturalCache"
-        | "permanentCache" => Some(Due::Object),
-        "name"
-        | "device"
-        | "toDevice"
-        | "toProcess"
-        | "ieName"
-        | "value"
-        | "direction"
-        | "exportMode" => { Some(Due::Text) }
         "selectAll" | "isFlowKey" => Some(Due::Empty),
-        "observationDomainId"
-        | "maxFlows"
-        | "activeTimeout"
-        | "idleTimeout"
-        | "exportInterval"
-        | "ieId"
-        | "ieLength"
-        | "ieEnterpriseNumber"
-        | "prefixLength" => Some(Due::Number),
         _ => None,
     }
 }
 
 /// What stands under a member of a traffic declaration.
 fn due_in_traffic(location: &Location<'_>) -> Option<Due> {
-    match (location.above, location.member) {
-        ("", "") => Some(Due::Object),
-        ("region", _) => Some(Due::Text),
-        (_, "classes") => Some(Due::Objects),
-        (_, "paths") => Some(Due::Paths),
-        (_, "region") => Some(Due::Object),
-        (_, "name" | "device" | "interface" | "direction") => Some(Due::Text),
+    if location.above == "region" || is_one_of(&TRAFFIC_TEXTS, location.member) {
+        return Some(Due::Text);
+    }
+    match location.member {
+        "" | "region" => Some(Due::Object),
+        "classes" => Some(Due::Objects),
+        "paths" => Some(Due::Paths),
         _ => None,
     }
 }
@@ -129,7 +171,7 @@ fn due_below(due: Due, depth: usize) -> &'static str {
 /// What has to stand at a place of a network, or of a traffic declaration, in words, or none where that isn't known.
 fn due_words(location: &Location<'_>, is_network: bool) -> &'static str {
     let due = if is_network {
-        due_of_names(location).or(due_in_network(location.member))
+        due_in_network(location)
     } else {
         due_in_traffic(location)
     };

@@ -1,6 +1,6 @@
 //! What the key of a record lacks: for the report, where it stays unassigned, and for aggregations that don't take it in.
 use crate::names::entry_named;
-use crate::regions::axis_word;
+use crate::regions::{axis_word, tell_values};
 use crate::story::{Piece, Story};
 use fx_base::{entry_at, entry_numbered};
 use fx_boxes::Fields;
@@ -84,10 +84,19 @@ impl Arriving<'_> {
 
     /// Tells why a match doesn't hold for the record.
     fn tell_match(&self, story: &mut Story, property: &PropertyMatch) {
-        story.tell(&[Piece::Text("its match is on ")]);
-        tell_part(story, property.axis, property.range.bits);
+        story.tell(&[
+            Piece::Text("its match is on "),
+            Piece::Text(axis_word(property.axis)),
+            Piece::Text(" "),
+        ]);
+        tell_values(
+            story,
+            property.axis,
+            property.range.low,
+            property.range.high,
+        );
         if !self.reads(property.axis, property.range.bits) {
-            story.sentence(&[Piece::Text(", which the record's key lacks")]);
+            story.sentence(&[Piece::Text(", which can't be read from the record's key")]);
             return;
         }
         story.tell(&[Piece::Text(", and the packet has there ")]);

@@ -61,23 +61,26 @@ pub(crate) fn is_of_other_version(kind: Kind, line: &[u8]) -> bool {
     }
 }
 
+/// The words of forms for values on the axes, in their order.
+const AXIS_WORDS: [&str; 9] = [
+    "SOURCE",
+    "DESTINATION",
+    "PROTOCOL",
+    "SPORT",
+    "DPORT",
+    "TOS",
+    "VERSION",
+    "SOURCE6",
+    "DESTINATION6",
+];
+
 /// The axis whose values stand in a packet's line for a word of its form.
 pub(crate) fn axis_of(form: &str, word: &str) -> Option<Axis> {
     if !form.starts_with("packet ") {
         return None;
     }
-    match word {
-        "SOURCE" => Some(Axis::Source),
-        "DESTINATION" => Some(Axis::Destination),
-        "PROTOCOL" => Some(Axis::Protocol),
-        "SPORT" => Some(Axis::SourcePort),
-        "DPORT" => Some(Axis::DestinationPort),
-        "TOS" => Some(Axis::ClassOfService),
-        "VERSION" => Some(Axis::Version),
-        "SOURCE6" => Some(Axis::Source6),
-        "DESTINATION6" => Some(Axis::Destination6),
-        _ => None,
-    }
+    let place = AXIS_WORDS.iter().position(|known| *known == word)?;
+    EVERY_AXIS.get(place).copied()
 }
 
 /// Whether a word of a form stands for itself.
@@ -119,10 +122,16 @@ fn is_fitting(form: &str, due: &str, word: &[u8], before: &[u8]) -> bool {
     }
     match axis_of(form, due) {
         Some(axis) => read_written(axis, word).is_some(),
-        None => match read_number(word, greatest(form, due, before)) {
-            Some(number) => number > 0 || !form.starts_with("carry ") || due != "OCTETS",
-            None => false,
-        },
+        None => is_number(form, due, word, before),
+    }
+}
+
+/// Whether a word of a line is a number as its form wants it, behind another one.
+fn is_number(form: &str, due: &str, word: &[u8], before: &[u8]) -> bool {
+    let is_counted = form.starts_with("carry ") && due == "OCTETS";
+    match read_number(word, greatest(form, due, before)) {
+        Some(number) => number > 0 || !is_counted,
+        None => false,
     }
 }
 

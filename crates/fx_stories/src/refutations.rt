@@ -14,6 +14,7 @@ use crate::lines::unless_wrong;
 use crate::origins::Origins;
 use crate::steps::{tell_packet, tell_step};
 use crate::story::{Piece, Story};
+use crate::trying::refusal_of;
 use fx_base::{Fault, LineReader, Room, Sink, Source, entry_numbered, put_text, refusals};
 use fx_collect::Totals;
 use fx_machine::State;
@@ -169,10 +170,7 @@ fn tell_to_come(story: &mut Story, documents: &Documents, refutation: &Refutatio
 /// Makes these steps, as far as they can be made.
 fn make_steps(state: &mut State<'_>, steps: &[Step]) -> Result<(), AllocError> {
     for step in steps {
-        if let Err(fault) = state.step(step) {
-            if fault.number == refusals::WANT_OF_MEMORY {
-                return Err(AllocError);
-            }
+        if refusal_of(state, step)?.is_some() {
             return Ok(());
         }
     }

@@ -11,6 +11,7 @@ use crate::packets::{tell_fields, tell_named_class};
 use crate::refutations::tell_unconfirmed;
 use crate::steps::tell_step;
 use crate::story::{Piece, Story};
+use crate::trying::refusal_of;
 use crate::unmade::Unmade;
 use crate::wrong_lines::{tell_wrong_header, tell_wrong_line};
 use fx_base::{Fault, Line, LineReader, Place, Room, Sink, Source, put_text, refusals};
@@ -23,11 +24,8 @@ use std::alloc::{AllocError, Global};
 /// The place of the first step that is refused and the number that it is refused with, or none where all can be made.
 fn refused_step(state: &mut State<'_>, steps: &[Step]) -> Result<Option<(usize, u16)>, AllocError> {
     for place in 0..steps.len() {
-        if let Err(fault) = state.step(&steps[place]) {
-            if fault.number == refusals::WANT_OF_MEMORY {
-                return Err(AllocError);
-            }
-            return Ok(Some((place, fault.number)));
+        if let Some(number) = refusal_of(state, &steps[place])? {
+            return Ok(Some((place, number)));
         }
     }
     Ok(None)

@@ -8,6 +8,25 @@ use std::alloc::{AllocError, Global};
 /// More choices than these aren't tried.
 const FEW: usize = 4096;
 
+/// Makes a step, and answers the number that it is refused with, if it is.
+pub(crate) fn refusal_of(state: &mut State<'_>, step: &Step) -> Result<Option<u16>, AllocError> {
+    let number = match state.step(step) {
+        Ok(()) => return Ok(None),
+        Err(fault) => fault.number,
+    };
+    if number == refusals::WANT_OF_MEMORY {
+        return Err(AllocError);
+    }
+    Ok(Some(number))
+}
+
+/// The choice of what is numbered 0.
+fn choice_of_nothing(alloc: Global) -> Result<Choices, AllocError> {
+    let mut items = Vec::new(alloc);
+    items.push(Some(0))?;
+    Ok(Choices::new(items))
+}
+
 /// What records wait in.
 #[derive(Clone, Copy, PartialEq, Eq)]
 pub(crate) enum Waiting {
@@ -50,13 +69,8 @@ impl Waiting {
     /// Whether a record waits at a position. It is taken with the choice of what is numbered 0, which nothing is, so that
     /// the step is refused in any case.
     fn has(self, alloc: Global, state: &mut State<'_>, position: u64) -> Result<bool, AllocError> {
-        let mut none = Vec::new(alloc);
-        none.push(Some(0))?;
-        match state.step(&self.taking(position, Choices::new(none))) {
-            Ok(()) => Ok(false),
-            Err(fault) if fault.number == refusals::WANT_OF_MEMORY => Err(AllocError),
-            Err(fault) => Ok(fault.number == refusals::WRONG_CHOICES),
-        }
+        let step = self.taking(position, choice_of_nothing(alloc)?);
+        Ok(refusal_of(state, &step)? == Some(refusals::WRONG_CHOICES))
     }
 
     /// How many records wait.
@@ -137,12 +151,8 @@ impl Trial<'_> {
         written: &[Option<u64>],
         count: usize,
     ) -> Result<bool, AllocError> {
-        let choices = self.choices(alloc, written, count)?;
-        match state.step(&with_choices(self.step, choices)) {
-            Ok(()) => Ok(true),
-            Err(fault) if fault.number == refusals::WANT_OF_MEMORY => Err(AllocError),
-            Err(_) => Ok(false),
-        }
+        let step = with_choices(self.step, self.choices(alloc, written, count)?);
+        Ok(refusal_of(state, &step)?.is_none())
     }
 
     /// The place of the first choice that is wrong, where they are as many as they should be. Where it is found, the step

@@ -8,19 +8,26 @@ use fx_elements::{Element, by_name, width};
 use serde_json::Value;
 use std::alloc::{AllocError, Global};
 
+/// Members that are whole numbers of 32 bits.
+const WHOLE: [&str; 6] = [
+    "observationDomainId",
+    "maxFlows",
+    "activeTimeout",
+    "idleTimeout",
+    "exportInterval",
+    "ieEnterpriseNumber",
+];
+
 /// Which values a member may have, of a network's document or of a traffic declaration, where that can be said in a few
 /// words.
 fn words_allowed(member: &str, is_network: bool) -> &'static str {
+    if WHOLE.iter().any(|name| *name == member) {
+        return "a whole number from 0 to 4294967295";
+    }
     match member {
         "direction" if is_network => "ingress, egress or both",
         "direction" => "ingress or egress",
         "exportMode" => "parallel, loadBalancing or fallback",
-        "observationDomainId"
-        | "maxFlows"
-        | "activeTimeout"
-        | "idleTimeout"
-        | "exportInterval"
-        | "ieEnterpriseNumber" => "a whole number from 0 to 4294967295",
         "ieId" => "a whole number from 1 to 32767",
         "ieLength" => "a whole number of octets from 1 to 65535",
         "prefixLength" => "a whole number of bits from 1 to 32, of IPv6 to 128",
