@@ -247,11 +247,8 @@ pub(crate) fn tell_unknown_member(
         Some(known) => tell_near(story, object, name, known),
         None => tell_free(story, object, name, names),
     }
-    match other_document(pointer, is_network) {
-        Some(words) => {
-            story.sentence(&[Piece::Text(words)]);
-            Ok(())
-        }
-        None => Ok(()),
+    if let Some(words) = other_document(pointer, is_network) {
+        story.sentence(&[Piece::Text(words)]);
     }
+    Ok(())
 }

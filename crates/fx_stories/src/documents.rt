@@ -26,14 +26,16 @@ use std::alloc::{AllocError, Global};
 /// Tells what a refusal at a pointer into a network is about: which names name nothing there.
 fn tell_names(story: &mut Story, network: &Value, value: &Value, pointer: &str, number: u16) {
     match number {
-        refusals::UNKNOWN_NAME => match value.as_str() {
-            Some(name) => tell_unknown_name(story, network, pointer, name),
-            None => {},
-        },
-        refusals::UNKNOWN_DEVICE => match value.as_str() {
-            Some(name) => tell_unknown_device(story, network, name),
-            None => {},
-        },
+        refusals::UNKNOWN_NAME => {
+            if let Some(name) = value.as_str() {
+                tell_unknown_name(story, network, pointer, name);
+            }
+        }
+        refusals::UNKNOWN_DEVICE => {
+            if let Some(name) = value.as_str() {
+                tell_unknown_device(story, network, name);
+            }
+        }
         refusals::UNKNOWN_LINK_END => tell_link_ends(story, network, value),
         refusals::LINKED_TWICE => tell_linked(story, network, value),
         refusals::UNKNOWN_REPORT_PROCESS => tell_report_end(story, network, value),
@@ -47,6 +49,60 @@ struct Refused {
     network: Value,
     /// The traffic's document, where that is refused.
     traffic: Option<Value>,
+}
+
+/// Whether a refusal of this number is about a value that is told.
+fn is_of_value(number: u16) -> bool {
+    matches!(
+        number,
+        refusals::WRONG_KIND
+            | refusals::BAD_VALUE
+            | refusals::NAME_TWICE
+            | refusals::CACHE_COUNTER_LENGTH
+            | refusals::TOTAL_COUNTER
+            | refusals::KEY_WITHOUT_AXIS
+            | refusals::REPORT_KEY
+            | refusals::CLASS_TWICE
+            | refusals::TRAFFIC_VALUE
+    )
+}
+
+/// A value that is refused: its document, its pointer there, and whether that is a network's document.
+#[derive(Clone, Copy, Drop)]
+struct ValueAt<'a> {
+    document: &'a Value,
+    pointer: &'a str,
+    value: &'a Value,
+    is_network: bool,
+}
+
+/// Tells a value that is refused with this number, and what is wrong with it.
+fn tell_value_at(
+    alloc: Global,
+    story: &mut Story,
+    at: &ValueAt<'_>,
+    number: u16,
+) -> Result<(), AllocError> {
+    tell_value(alloc, story, at.value)?;
+    match number {
+        refusals::TOTAL_COUNTER => story.sentence(&[Piece::Text(
+            "it counts since the beginning; in its place stands octetDeltaCount or packetDeltaCount",
+        )]),
+        refusals::KEY_WITHOUT_AXIS => tell_flow_key(alloc, story, at.value)?,
+        refusals::WRONG_KIND => {
+            tell_kinds(story, at.pointer, at.value, at.is_network);
+            tell_allowed(story, last_member(at.pointer), at.is_network);
+        }
+        _ => tell_wrong(
+            alloc,
+            story,
+            at.document,
+            at.pointer,
+            at.value,
+            at.is_network,
+        )?,
+    }
+    Ok(())
 }
 
 /// Tells what a refusal at a pointer is about.
@@ -64,47 +120,24 @@ fn tell_at(
     let Some(value) = document.pointer(pointer) else {
         return Ok(());
     };
-    let is_network = refused.traffic.is_none();
+    let at = ValueAt {
+        document,
+        pointer,
+        value,
+        is_network: refused.traffic.is_none(),
+    };
     match number {
         refusals::UNKNOWN_MEMBER => {
-            tell_unknown_member(alloc, story, document, pointer, is_network)
+            tell_unknown_member(alloc, story, document, pointer, at.is_network)?;
         }
         refusals::MISSING_MEMBER => {
-            tell_lacking(story, value, last_member(pointer), is_network);
-            Ok(())
+            tell_lacking(story, value, last_member(pointer), at.is_network);
         }
-        refusals::TOTAL_COUNTER => {
-            tell_value(alloc, story, value)?;
-            story.sentence(&[Piece::Text(
-                "it counts since the beginning; in its place stands octetDeltaCount or packetDeltaCount",
-            )]);
-            Ok(())
-        }
-        refusals::KEY_WITHOUT_AXIS => {
-            tell_value(alloc, story, value)?;
-            tell_flow_key(alloc, story, value)
-        }
-        refusals::MISSING_COUNTER => tell_counters(alloc, story, value),
-        refusals::WRONG_KIND => {
-            tell_value(alloc, story, value)?;
-            tell_kinds(story, pointer, value, is_network);
-            tell_allowed(story, last_member(pointer), is_network);
-            Ok(())
-        }
-        refusals::BAD_VALUE
-        | refusals::NAME_TWICE
-        | refusals::CACHE_COUNTER_LENGTH
-        | refusals::REPORT_KEY
-        | refusals::CLASS_TWICE
-        | refusals::TRAFFIC_VALUE => {
-            tell_value(alloc, story, value)?;
-            tell_wrong(alloc, story, document, pointer, value, is_network)
-        }
-        _ => {
-            tell_names(story, &refused.network, value, pointer, number);
-            Ok(())
-        }
+        refusals::MISSING_COUNTER => tell_counters(alloc, story, value)?,
+        _ if is_of_value(number) => tell_value_at(alloc, story, &at, number)?,
+        _ => tell_names(story, &refused.network, value, pointer, number),
     }
+    Ok(())
 }
 
 /// Tells what a refusal of a document is about.

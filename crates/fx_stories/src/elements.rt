@@ -115,9 +115,8 @@ fn tell_no_axis(story: &mut Story, object: &Value) {
         tell_named(story, name);
         return;
     }
-    match number_of(object) {
-        Some(number) => tell_numbered(story, number),
-        None => {},
+    if let Some(number) = number_of(object) {
+        tell_numbered(story, number);
     }
 }
 

@@ -131,9 +131,8 @@ fn kind_of(list: &str) -> &'static str {
 /// Tells the name at a pointer into a network, which names nothing of its device, and the names that there are.
 pub(crate) fn tell_unknown_name(story: &mut Story, network: &Value, pointer: &str, name: &str) {
     let list = last_member(pointer);
-    match value_behind(network, pointer, CONFIGURATION) {
-        Some(container) => tell_unknown(story, kind_of(list), name, items_member(container, list)),
-        None => {},
+    if let Some(container) = value_behind(network, pointer, CONFIGURATION) {
+        tell_unknown(story, kind_of(list), name, items_member(container, list));
     }
 }
 

@@ -109,15 +109,12 @@ fn tell_points(story: &mut Story, passing: &Passing<'_>, points: &[Point]) {
 pub(crate) fn tell_unmetered(story: &mut Story, plan: &Plan, crossing: &Crossing, fields: &Fields) {
     let number = crossing.device;
     story.tell(&[Piece::Text(": it isn't metered there: ")]);
-    match entry_numbered(plan.network().devices.as_slice(), number) {
-        Some(device) => {
-            let passing = Passing {
-                device,
-                crossing,
-                fields,
-            };
-            tell_points(story, &passing, plan.net().points_of(number));
-        }
-        None => {},
+    if let Some(device) = entry_numbered(plan.network().devices.as_slice(), number) {
+        let passing = Passing {
+            device,
+            crossing,
+            fields,
+        };
+        tell_points(story, &passing, plan.net().points_of(number));
     }
 }

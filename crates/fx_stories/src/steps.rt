@@ -33,8 +33,8 @@ fn tell_occurrence(story: &mut Story, device: &Device, occurrence: &Occurrence) 
     let Some(process) = selection_process(device, point, occurrence.process as u64) else {
         return;
     };
-    match &process.cache {
-        Some(cache) => story.tell(&[
+    if let Some(cache) = &process.cache {
+        story.tell(&[
             Piece::Text("observation point "),
             Piece::Quoted(point.name.as_str()),
             Piece::Text(", selection process "),
@@ -42,8 +42,7 @@ fn tell_occurrence(story: &mut Story, device: &Device, occurrence: &Occurrence) 
             Piece::Text(": cache "),
             Piece::Quoted(cache.as_str()),
             Piece::Text(" holds a record of it"),
-        ]),
-        None => {},
+        ]);
     }
 }
 
@@ -99,13 +98,15 @@ fn tell_crossing_made(
     };
     let crossings = documents.traffic.classes().path_of(packet);
     match entry_numbered(crossings, crossing) {
-        Some(made) => tell_metering(alloc, story, &documents.plan, number, packet, made),
-        None => {
-            let words = "the packet's path has no crossing ";
-            tell_missing(story, words, crossing, crossings.len());
-            Ok(())
-        }
+        Some(made) => tell_metering(alloc, story, &documents.plan, number, packet, made)?,
+        None => tell_missing(
+            story,
+            "the packet's path has no crossing ",
+            crossing,
+            crossings.len(),
+        ),
     }
+    Ok(())
 }
 
 /// Tells a step of a run over these packets.
@@ -121,22 +122,17 @@ pub(crate) fn tell_step(
             packet,
             crossing,
             choices: _,
-        } => tell_crossing_made(alloc, story, documents, packets, *packet, *crossing),
+        } => tell_crossing_made(alloc, story, documents, packets, *packet, *crossing)?,
         Step::Expire {
             holder,
             position: _,
             choices,
-        } => {
-            tell_expiry(story, &documents.plan, *holder, choices.as_slice());
-            Ok(())
-        }
+        } => tell_expiry(story, &documents.plan, *holder, choices.as_slice()),
         Step::Arrive {
             link,
             position: _,
             choices,
-        } => {
-            tell_arrival(story, &documents.plan, *link, choices.as_slice());
-            Ok(())
-        }
+        } => tell_arrival(story, &documents.plan, *link, choices.as_slice()),
     }
+    Ok(())
 }

@@ -201,14 +201,8 @@ impl Reading {
         let sets = message.sets(self.alloc)?;
         let fault = self.fault;
         match fault {
-            refusals::SET_LENGTH => {
-                message.tell_set_length(story, sets.as_slice());
-                Ok(())
-            }
-            refusals::RESERVED_SET => {
-                message.tell_reserved(story, sets.as_slice());
-                Ok(())
-            }
+            refusals::SET_LENGTH => message.tell_set_length(story, sets.as_slice()),
+            refusals::RESERVED_SET => message.tell_reserved(story, sets.as_slice()),
             _ => take_sets(
                 self.alloc,
                 story,
@@ -216,8 +210,9 @@ impl Reading {
                 &message,
                 sets.as_slice(),
                 Some(fault),
-            ),
+            )?,
         }
+        Ok(())
     }
 
     /// Tells the refused message, where the stream is as it was.
@@ -229,16 +224,11 @@ impl Reading {
             return Ok(());
         }
         match self.fault {
-            refusals::MESSAGE_VERSION => {
-                self.tell_version(story);
-                Ok(())
-            }
-            refusals::MESSAGE_LENGTH => {
-                self.tell_length(story);
-                Ok(())
-            }
-            _ => self.tell_sets(story),
+            refusals::MESSAGE_VERSION => self.tell_version(story),
+            refusals::MESSAGE_LENGTH => self.tell_length(story),
+            _ => self.tell_sets(story)?,
         }
+        Ok(())
     }
 }
 

@@ -58,9 +58,8 @@ fn tell_place(story: &mut Story, number: u64, text: u64, begun: u64) {
 fn tell_refused(story: &mut Story, line: &Line<'_>, text: u64, begun: u64) {
     tell_line(story, line);
     tell_place(story, line.number, text, begun);
-    match strange_line(line.bytes) {
-        Some(words) => story.sentence(&[Piece::Text(words)]),
-        None => {},
+    if let Some(words) = strange_line(line.bytes) {
+        story.sentence(&[Piece::Text(words)]);
     }
 }
 

@@ -152,10 +152,10 @@ impl Unmade<'_> {
             Some(place) => {
                 let chosen = choices_of(step).get(place).copied().flatten();
                 tell_wrong_choice(story, &choosers, place, chosen);
-                Ok(())
             }
-            None => self.tell_count(story, state, &trial),
+            None => self.tell_count(story, state, &trial)?,
         }
+        Ok(())
     }
 
     /// Tells why the step can't be made in the state before it.
@@ -171,19 +171,16 @@ impl Unmade<'_> {
                     ..
                 },
                 refusals::STEP_NOT_ENABLED,
-            ) => {
-                self.tell_made(story, *packet, *crossing);
-                Ok(())
-            }
-            (_, refusals::WRONG_CHOICES) => self.tell_choices(story, state, step),
-            (_, refusals::NO_RECORD_THERE) => match Waiting::of(step) {
-                Some((waiting, position)) => {
-                    self.tell_positions(story, state, waiting, position)
+            ) => self.tell_made(story, *packet, *crossing),
+            (_, refusals::WRONG_CHOICES) => self.tell_choices(story, state, step)?,
+            (_, refusals::NO_RECORD_THERE) => {
+                if let Some((waiting, position)) = Waiting::of(step) {
+                    self.tell_positions(story, state, waiting, position)?;
                 }
-                None => Ok(()),
-            },
-            _ => Ok(()),
+            }
+            _ => {}
         }
+        Ok(())
     }
 }
 

@@ -61,9 +61,8 @@ fn name_words(text: &str) -> Option<&'static str> {
 
 /// Tells why a text is no name, if it is none.
 fn tell_name(story: &mut Story, text: &str) {
-    match name_words(text) {
-        Some(words) => story.sentence(&[Piece::Text(words)]),
-        None => {},
+    if let Some(words) = name_words(text) {
+        story.sentence(&[Piece::Text(words)]);
     }
 }
 
@@ -122,13 +121,10 @@ fn tell_match(alloc: Global, story: &mut Story, object: &Value) -> Result<(), Al
     if !tell_element(alloc, story, object, true)? {
         return Ok(());
     }
-    match text_member(object, "value") {
-        Some(text) => {
-            tell_spelling(story, element_of(object), text);
-            Ok(())
-        }
-        None => Ok(()),
+    if let Some(text) = text_member(object, "value") {
+        tell_spelling(story, element_of(object), text);
     }
+    Ok(())
 }
 
 /// Whether two fields of a key are of one axis.
@@ -223,14 +219,12 @@ pub(crate) fn tell_wrong(
 ) -> Result<(), AllocError> {
     let member = last_member(pointer);
     if words_allowed(member, is_network).is_empty() {
-        return match value {
-            Value::Object(_) => tell_object(alloc, story, document, pointer, value),
-            Value::String(text) => {
-                tell_text(story, member, text.as_str(), is_network);
-                Ok(())
-            }
-            _ => Ok(()),
-        };
+        match value {
+            Value::Object(_) => tell_object(alloc, story, document, pointer, value)?,
+            Value::String(text) => tell_text(story, member, text.as_str(), is_network),
+            _ => {}
+        }
+        return Ok(());
     }
     match value_above(document, pointer) {
         Some(field) if member == "ieLength" && is_length(value) => tell_octets(story, field),

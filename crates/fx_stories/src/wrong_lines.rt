@@ -125,7 +125,7 @@ fn misplaced_words(kind: Kind, line: &Line<'_>) -> &'static str {
         _ if !line.ended => "no line feed ends the line",
         Kind::Run(_) => {
             "the line has a right form, and isn't in its place: behind the first line come packets, of which a \
-refutation has one, then steps, then end, and nothing behind that"
+refutation has one, then steps, of which that has at most 1,000,000, then end, and nothing behind it"
         }
         _ => "the line has a right form, and isn't in its place",
     }
