@@ -122,15 +122,26 @@ fn string_end(octets: &[u8]) -> StringEnd {
 
 /// What is wrong with a string that is well-formed but for its escapes, behind this octet, in words.
 fn whole_string_words(string: &[u8], last: u8) -> Option<&'static str> {
-    if matches!(last, b'}' | b']' | b'"' | b'0'..=b'9' | b'a'..=b'z') {
+    if ends_value(last) {
         return Some("no comma stands before it, or no colon behind a member's name");
     }
-    if str::from_utf8(string).is_err() {
-        return Some("the string that begins there is no UTF-8: the text is in another encoding");
+    match str::from_utf8(string) {
+        Err(_) => Some("the string that begins there is no UTF-8: the text is in another encoding"),
+        Ok(text) if text.contains("\\u") => Some(
+            "in the string that begins there \\u stands without four hexadecimal digits, or for a half of a pair (d800 to dfff)",
+        ),
+        Ok(_) if last == b':' => {
+            Some(
+                "a member with its name and a colon stands in an object, { }, and not in a list, [ ]",
+            )
+        }
+        Ok(_) => None,
     }
-    Some(
-        "in the string that begins there \\u stands without four hexadecimal digits, or for a half of a pair (d800 to dfff)",
-    )
+}
+
+/// Whether an octet ends a value.
+fn ends_value(octet: u8) -> bool {
+    octet.is_ascii_alphanumeric() || matches!(octet, b'}' | b']' | b'"')
 }
 
 /// Tells what is wrong with a string that begins these octets, behind what stands before it.
@@ -152,35 +163,57 @@ fn tell_string(story: &mut Story, octets: &[u8], before: &Before) {
     ]);
 }
 
-/// What is wrong with a text at an octet that begins no string, behind what stands before it, in words.
-fn place_words(octet: u8, before: &Before) -> Option<&'static str> {
-    if before.depth == 0 && before.last != 0 {
-        return Some("the document has ended before it: a text has one object");
+/// What is wrong with a text at a bracket, behind this octet, in words.
+fn bracket_words(octet: u8, last: u8) -> &'static str {
+    match (octet, last) {
+        (b'{' | b'[', b',' | b'{') => "a member's name is due there, which is a string",
+        (b'{' | b'[', _) => "no comma stands before it, or no colon behind a member's name",
+        (_, b',') => "a comma stands before it, and nothing follows that comma",
+        (_, b':') => "no value stands behind the colon",
+        _ => "this bracket isn't the one that closes what is open there",
     }
-    if before.depth >= DEEPEST && matches!(octet, b'{' | b'[') {
-        return Some("values may stand in at most 127 others");
-    }
+}
+
+/// What is wrong with a text at an octet that begins no string and is no bracket, behind this one, in words.
+fn octet_there_words(octet: u8, last: u8) -> Option<&'static str> {
     match octet {
-        b'}' | b']' if before.last == b',' => Some(
-            "a comma stands before it, and nothing follows that comma",
+        b',' => Some("a comma stands there where a value or a member's name is due"),
+        b':' => Some(
+            "a colon stands there; it stands once behind a member's name, which is a string",
         ),
         b'\'' => Some("names and texts stand in double quotation marks"),
         b'/' | b'#' => Some("JSON has no comments"),
-        b'A'..=b'Z' | b'a'..=b'z' | b'_' => {
+        b'0'..=b'9' | b'+' | b'-' | b'.' => {
             Some(
-                "no value begins so: words are true, false and null in lower case; names and texts stand in quotation marks",
+                "no number is written so: it has no plus, no zeros in front, and digits around a point",
             )
         }
-        b'0'..=b'9' | b'+' | b'-' | b'.' => Some(
-            "no number is written so: it has no plus, no zeros in front, and digits around a point",
-        ),
-        0x80..=0xff => Some(
-            "this octet is no UTF-8 there: the text is in another encoding; write it in UTF-8",
-        ),
-        b'{' | b'[' if before.last != b',' && before.last != b':' && before.last != b'[' => {
-            Some("no comma stands before it, or no colon behind a member's name")
+        0x80..=0xff => {
+            Some("this octet is no UTF-8 there: the text is in another encoding; write it in UTF-8")
         }
+        _ if last == b'"' => {
+            Some(
+                "the string before it has ended: its quotation mark stands too early, or a comma is missing",
+            )
+        }
+        b'A'..=b'Z' | b'a'..=b'z' | b'_' => Some(
+            "no value begins so: words are true, false and null in lower case; names and texts stand in quotation marks",
+        ),
         _ => None,
+    }
+}
+
+/// What is wrong with a text at an octet that begins no string, behind what stands before it, in words.
+fn place_words(octet: u8, before: &Before) -> Option<&'static str> {
+    let is_opening = matches!(octet, b'{' | b'[');
+    if before.depth == 0 && before.last != 0 {
+        Some("the document has ended before it: a text has one object")
+    } else if before.depth >= DEEPEST && is_opening {
+        Some("values may stand in at most 127 others")
+    } else if is_opening || matches!(octet, b'}' | b']') {
+        Some(bracket_words(octet, before.last))
+    } else {
+        octet_there_words(octet, before.last)
     }
 }
 
