@@ -66,29 +66,30 @@ fn is_reversed(octets: &[u8]) -> Option<bool> {
 /// What octets are that begin no capture of the form that is read, with what to do about it.
 fn other_format(octets: &[u8]) -> &'static str {
     if octets.is_empty() {
-        return "The file is empty.";
+        "The file is empty."
+    } else if octets.starts_with(b"\x0a\x0d\x0d\x0a") {
+        "These octets begin a capture in pcapng. Convert it: tshark -r OLD -F pcap -w NEW."
+    } else if octets.starts_with(b"\xa1\xb2\xcd\x34") || octets.starts_with(b"\x34\xcd\xb2\xa1") {
+        "These octets begin a capture in an older form of pcap. Convert it: tshark -r OLD -F pcap -w NEW."
+    } else if octets.starts_with(b"snoop\0\0\0") {
+        "These octets begin a capture of snoop. Convert it: tshark -r OLD -F pcap -w NEW."
+    } else if octets.starts_with(b"\x00\x0a") {
+        "These octets begin a message of IPFIX (version 10). once collect takes a stream of these; once run takes a capture of the packets that are metered."
+    } else {
+        foreign_format(octets)
     }
-    match octets {
-        [0x0a, 0x0d, 0x0d, 0x0a, ..] => {
-            "These octets begin a capture in pcapng. Convert it: tshark -r OLD -F pcap -w NEW."
+}
+
+/// What octets are that begin no capture at all, with what to do about it.
+fn foreign_format(octets: &[u8]) -> &'static str {
+    match packed_format(octets).or(flow_format(octets)) {
+        Some(words) => words,
+        None if is_text(octets) => {
+            "These octets are text. The files stand in this order: network, traffic, capture, schedule."
         }
-        [0xa1, 0xb2, 0xcd, 0x34, ..] | [0x34, 0xcd, 0xb2, 0xa1, ..] => {
-            "These octets begin a capture in an older form of pcap. Convert it: tshark -r OLD -F pcap -w NEW."
+        None => {
+            "A capture begins with the octets a1 b2 c3 d4 or a1 b2 3c 4d, or with these in reverse order."
         }
-        [b's', b'n', b'o', b'o', b'p', 0, 0, 0, ..] => {
-            "These octets begin a capture of snoop. Convert it: tshark -r OLD -F pcap -w NEW."
-        }
-        [0, 10, ..] => {
-            "These octets begin a message of IPFIX (version 10). once collect takes a stream of these; once run takes a capture of the packets that are metered."
-        }
-        _ => match packed_format(octets).or(flow_format(octets)) {
-            Some(words) => words,
-            None if is_text(octets) => {
-                "These octets are text. The files stand in this order: network, traffic, capture, schedule."
-            }
-            None =>
-                "A capture begins with the octets a1 b2 c3 d4 or a1 b2 3c 4d, or with these in reverse order.",
-        },
     }
 }
 
