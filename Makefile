@@ -124,8 +124,7 @@ run-examples:
 	  ./once run $$example/network.json $$example/traffic.json $$capture $$example/schedule.txt | diff - $$example/metered.txt || exit 1; \
 	done
 	python3 tests/generated_networks.py ./once --examples
-	@command -v jq >/dev/null || echo 'examples/scale was not tried: there is no jq'
-	! command -v jq >/dev/null || ONCE=./once bash examples/scale/try.sh turn
+	ONCE=./once bash examples/scale/try.sh turn
 
 # Draws the pictures of the examples anew, with Graphviz's dot: each network with its traffic and its certificate or
 # refutation.
@@ -155,7 +154,7 @@ PROGRAM = ./once
 BIN = $(DESTDIR)$(PREFIX)/bin
 SHARE = $(DESTDIR)$(PREFIX)/share
 ZSH = $(SHARE)/zsh/site-functions
-DOCUMENTS = $(wildcard $(addprefix docs/,GUIDE.md FORMATS.md REFUSALS.md PROVED.md DECISIONS.md GLOSSARY.md))
+DOCUMENTS = $(wildcard $(addprefix docs/,GUIDE.md FORMATS.md REFUSALS.md PROVED.md DECISIONS.md GLOSSARY.md SCALE.md))
 
 # Installs ./once, which is proved and built first where it isn't there; PROGRAM= names another.
 install:
