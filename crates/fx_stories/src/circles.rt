@@ -204,26 +204,32 @@ fn tell_way(story: &mut Story, links: &[NamedLink], way: &[usize], first: usize)
     }
 }
 
+/// Tells the links of a circle that is there.
+fn tell_circle_of(
+    alloc: Global,
+    story: &mut Story,
+    network: &NetworkDocument,
+) -> Result<(), AllocError> {
+    let mut search = Search::new(alloc, network)?;
+    if let Some(first) = search.run()? {
+        tell_way(
+            story,
+            network.links.as_slice(),
+            search.way.as_slice(),
+            first,
+        );
+    }
+    Ok(())
+}
+
 /// Tells the links of a circle of a network, one behind another, by their places in the list of links.
 pub(crate) fn tell_circle(
     alloc: Global,
     story: &mut Story,
     network: &Value,
 ) -> Result<(), AllocError> {
-    let Some(network) = unless_refused(read_network(alloc, network))? else {
-        return Ok(());
-    };
-    let mut search = Search::new(alloc, &network)?;
-    match search.run()? {
-        Some(first) => {
-            tell_way(
-                story,
-                network.links.as_slice(),
-                search.way.as_slice(),
-                first,
-            );
-            Ok(())
-        }
+    match unless_refused(read_network(alloc, network))? {
+        Some(network) => tell_circle_of(alloc, story, &network),
         None => Ok(()),
     }
 }

@@ -54,6 +54,19 @@ fn tell_classes(story: &mut Story, documents: &Documents) {
     }
 }
 
+/// Tells what the classes of a traffic declaration say in silence.
+fn tell_declared(alloc: Global, story: &mut Story, documents: &Documents) -> Result<(), Fault>
+    ensures { IfErr result IsMemory }
+{
+    let targets = documents.traffic.targets(alloc)?;
+    tell_classes(story, documents);
+    tell_prefixes_of_classes(story, &documents.classes);
+    tell_overlapping(story, documents);
+    tell_unseen(story, documents, targets.as_slice());
+    tell_directions(alloc, story, documents, targets.as_slice())?;
+    Ok(())
+}
+
 /// Tells what is read in silence in a traffic declaration.
 fn tell_traffic(
     alloc: Global,
@@ -63,16 +76,10 @@ fn tell_traffic(
 ) -> Result<(), Fault>
     ensures { IfErr result IsMemory }
 {
-    let Some(documents) = documents_again(alloc, network, traffic)? else {
-        return Ok(());
-    };
-    tell_twice(alloc, story, "traffic", traffic)?;
-    let targets = documents.traffic.targets(alloc)?;
-    tell_classes(story, &documents);
-    tell_prefixes_of_classes(story, &documents.classes);
-    tell_overlapping(story, &documents);
-    tell_unseen(story, &documents, targets.as_slice());
-    tell_directions(alloc, story, &documents, targets.as_slice())?;
+    if let Some(documents) = documents_again(alloc, network, traffic)? {
+        tell_twice(alloc, story, "traffic", traffic)?;
+        tell_declared(alloc, story, &documents)?;
+    }
     Ok(())
 }
 
