@@ -9,8 +9,8 @@ use fx_audit::{Answer, audit_bytes, check_bytes, confirm_bytes};
 use fx_base::{Fault, LineReader, Octets, Outside, Place, Source, put_text, refusals};
 use fx_search::Unwatched;
 use fx_stories::{
-    put_certificate_words, put_document_words, put_lint_words, put_refutation_story, put_run_words,
-    put_schedule_words, put_stream_words, put_totals_words,
+    put_capture_words, put_certificate_words, put_document_words, put_lint_words,
+    put_refutation_story, put_run_words, put_schedule_words, put_stream_words, put_totals_words,
 };
 use fx_words::put_reason;
 use std::alloc::Global;
@@ -462,7 +462,23 @@ fn put_metering_words<R: AllocGlobal + Files>(
         refusals::NOT_IN_NAMED_CLASS | refusals::IN_NO_CLASS => {
             put_packet_words(rt, capture, lines, question, fault, sink)
         }
+        refusals::CAPTURE_FORMAT..=refusals::LONG_CAPTURE_RECORD => {
+            put_captured_words(rt, capture, fault, sink)
+        }
         _ => put_step_words(rt, lines, question, fault, sink),
+    }
+}
+
+/// Writes what stands in the place of a capture that is refused.
+fn put_captured_words<R: AllocGlobal + Files>(
+    rt: &R,
+    capture: &str,
+    fault: &Fault,
+    sink: &mut Words,
+) -> Result<(), Fault> {
+    match open_again(rt, capture) {
+        Some(mut file) => put_capture_words(rt.alloc(), &mut file, fault, sink),
+        None => put_not_again(capture, sink),
     }
 }
 
