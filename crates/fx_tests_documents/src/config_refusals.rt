@@ -2,7 +2,7 @@
 use crate::documents::{Frame, Kind, look_at_rows};
 
 /// A whole document.
-const DOCUMENT: Frame<'static> = Frame {
+const DOCUMENT: &Frame<'static> = &Frame {
     kind: Kind::Device,
     before: "",
     behind: "",
@@ -23,7 +23,7 @@ const DOCUMENTS: &[(&str, &str)] = &[
 ];
 
 /// The container `ipfix`.
-pub(crate) const LISTS: Frame<'static> = Frame {
+pub(crate) const LISTS: &Frame<'static> = &Frame {
     kind: Kind::Device,
     before: r#"{"ietf-ipfix-psamp:ipfix":"#,
     behind: "}",
@@ -162,7 +162,7 @@ const PROCESSES: &[(&str, &str)] = &[
 ];
 
 /// A selector, from behind its name on.
-const METHOD: Frame<'static> = Frame {
+const METHOD: &Frame<'static> = &Frame {
     kind: Kind::Device,
     before: r#"{"ietf-ipfix-psamp:ipfix":{"selectionProcess":[{"name":"s","selector":[{"name":"a""#,
     behind: "}]}]}}",
@@ -188,7 +188,7 @@ const METHODS: &[(&str, &str)] = &[
 ];
 
 /// A filter's members.
-const FILTER: Frame<'static> = Frame {
+const FILTER: &Frame<'static> = &Frame {
     kind: Kind::Device,
     before: r#"{"ietf-ipfix-psamp:ipfix":{"selectionProcess":[{"name":"s","selector":[{"name":"a","filterMatch":{"#,
     behind: "}}]}]}}",
@@ -224,7 +224,7 @@ const FILTERS: &[(&str, &str)] = &[
 ];
 
 /// An aggregation, from behind its name on.
-const AGGREGATION: Frame<'static> = Frame {
+const AGGREGATION: &Frame<'static> = &Frame {
     kind: Kind::Device,
     before: r#"{"ietf-ipfix-psamp:ipfix":{"collectingProcess":[{"name":"c","once-audit:aggregation":[{"name":"g""#,
     behind: "}]}]}}",
@@ -265,19 +265,32 @@ const AGGREGATIONS: &[(&str, &str)] = &[
     (r#","exportingProcess":["e"]"#, "107 /exportingProcess/0"),
 ];
 
-/// What is looked at.
-const TABLES: [(Frame<'static>, &[(&str, &str)]); 6] = [
-    (DOCUMENT, DOCUMENTS),
-    (LISTS, POINTS),
-    (LISTS, PROCESSES),
-    (METHOD, METHODS),
-    (FILTER, FILTERS),
-    (AGGREGATION, AGGREGATIONS),
-];
+#[test]
+fn refuses_documents(rt: HostRuntime) {
+    look_at_rows(&rt, rt.alloc(), DOCUMENT, DOCUMENTS);
+}
 
 #[test]
-fn refuses_configurations(rt: HostRuntime) {
-    for (frame, rows) in &TABLES {
-        look_at_rows(&rt, rt.alloc(), frame, *rows);
-    }
+fn refuses_observation_points(rt: HostRuntime) {
+    look_at_rows(&rt, rt.alloc(), LISTS, POINTS);
+}
+
+#[test]
+fn refuses_processes(rt: HostRuntime) {
+    look_at_rows(&rt, rt.alloc(), LISTS, PROCESSES);
+}
+
+#[test]
+fn refuses_methods(rt: HostRuntime) {
+    look_at_rows(&rt, rt.alloc(), METHOD, METHODS);
+}
+
+#[test]
+fn refuses_filters(rt: HostRuntime) {
+    look_at_rows(&rt, rt.alloc(), FILTER, FILTERS);
+}
+
+#[test]
+fn refuses_aggregations(rt: HostRuntime) {
+    look_at_rows(&rt, rt.alloc(), AGGREGATION, AGGREGATIONS);
 }

@@ -64,11 +64,17 @@ fn read(rt: &impl Abort, alloc: Global, kind: Kind, text: &str) -> Result<(), Fa
     }
 }
 
+/// A fault's number, and its place behind a space.
+pub(crate) fn fault_told(rt: &impl Abort, alloc: Global, fault: Fault) -> String {
+    let Fault { number, place } = fault;
+    format!(in alloc; "{number} {place}").expect(rt, "memory")
+}
+
 /// What an answer comes to: `ok`, or the fault's number and place.
 fn told(rt: &impl Abort, alloc: Global, answer: Result<(), Fault>) -> String {
     match answer {
         Ok(()) => String::from_str(alloc, "ok").expect(rt, "memory"),
-        Err(Fault { number, place }) => format!(in alloc; "{number} {place}").expect(rt, "memory"),
+        Err(fault) => fault_told(rt, alloc, fault),
     }
 }
 
@@ -130,35 +136,35 @@ fn list_comes_to(
     )
 }
 
-const DEVICES: Frame<'static> = Frame {
+const DEVICES: &Frame<'static> = &Frame {
     kind: Kind::Network,
     before: r#"{"devices":["#,
     behind: "]}",
     pointer: "",
 };
 
-const LINKS: Frame<'static> = Frame {
+const LINKS: &Frame<'static> = &Frame {
     kind: Kind::Network,
     before: r#"{"devices":[],"links":["#,
     behind: "]}",
     pointer: "",
 };
 
-const CLASSES: Frame<'static> = Frame {
+const CLASSES: &Frame<'static> = &Frame {
     kind: Kind::Traffic,
     before: r#"{"classes":["#,
     behind: "]}",
     pointer: "",
 };
 
-const PATHS: Frame<'static> = Frame {
+const PATHS: &Frame<'static> = &Frame {
     kind: Kind::Traffic,
     before: r#"{"classes":[{"name":"a","paths":["#,
     behind: "]}]}",
     pointer: "",
 };
 
-const CROSSINGS: Frame<'static> = Frame {
+const CROSSINGS: &Frame<'static> = &Frame {
     kind: Kind::Traffic,
     before: r#"{"classes":[{"name":"a","paths":[["#,
     behind: "]]}]}",
@@ -166,7 +172,7 @@ const CROSSINGS: Frame<'static> = Frame {
 };
 
 /// Items of lists, how many of them, and what these come to.
-const LISTS: [(Frame<'static>, &str, usize, &str); 8] = [
+const LISTS: &[(&Frame<'static>, &str, usize, &str)] = &[
     (DEVICES, "{},", 65, "115 /devices"),
     (LINKS, "{},", 1025, "115 /links"),
     (CLASSES, "7,", 257, "305 /classes"),
@@ -179,7 +185,7 @@ const LISTS: [(Frame<'static>, &str, usize, &str); 8] = [
 
 #[test]
 fn refuses_long_lists(rt: HostRuntime) {
-    for (frame, item, count, wanted) in &LISTS {
-        assert!(rt; list_comes_to(&rt, rt.alloc(), frame, *item, *count, *wanted));
+    for (frame, item, count, wanted) in LISTS {
+        assert!(rt; list_comes_to(&rt, rt.alloc(), *frame, *item, *count, *wanted));
     }
 }

@@ -1,4 +1,5 @@
 //! Ranks of collecting processes, their order, and the numbers of layouts.
+use crate::documents::fault_told;
 use fx_base::Fault;
 use fx_plan::{Plan, documents_name_axes, plans_have_complete_runs, read_plan};
 use fx_ranks::rank_order;
@@ -19,16 +20,18 @@ pub(crate) fn plan_of(rt: &impl Abort, alloc: Global, text: &str) -> Plan {
     read(rt, alloc, text).expect(rt, "a plan")
 }
 
-/// Whether reading a plan comes to this: the order of ranks, or the fault's number and place.
-fn comes_to(rt: &impl Abort, alloc: Global, text: &str, wanted: &str) -> bool {
-    let told = match read(rt, alloc, text) {
-        Ok(plan) => {
-            plans_have_complete_runs(&plan);
-            format!(in alloc; "{:?}", plan.upwards())
-        }
-        Err(Fault { number, place }) => format!(in alloc; "{number} {place}"),
-    };
-    told.expect(rt, "memory").as_str() == wanted
+/// The order of a plan's ranks.
+fn ranks_told(rt: &impl Abort, alloc: Global, plan: Plan) -> String {
+    plans_have_complete_runs(&plan);
+    format!(in alloc; "{:?}", plan.upwards()).expect(rt, "memory")
+}
+
+/// What reading a plan comes to: the order of ranks, or the fault's number and place.
+fn told(rt: &impl Abort, alloc: Global, text: &str) -> String {
+    match read(rt, alloc, text) {
+        Ok(plan) => ranks_told(rt, alloc, plan),
+        Err(fault) => fault_told(rt, alloc, fault),
+    }
 }
 
 /// Three devices, each with a collecting process `cp` that sends on what it receives.
@@ -72,7 +75,7 @@ fn ranks_feeders_first_and_refuses_cycles(rt: HostRuntime) {
     documents_name_axes();
     for (links, wanted) in &LINKS {
         let text = linked(rt.alloc(), *links).expect(&rt, "memory");
-        assert!(rt; comes_to(&rt, rt.alloc(), text.as_str(), *wanted));
+        assert!(rt; told(&rt, rt.alloc(), text.as_str()).as_str() == *wanted);
     }
 }
 
@@ -122,7 +125,7 @@ fn aggregations(alloc: Global, count: u32) -> Result<String, AllocError> {
 #[test]
 fn refuses_too_many_layouts(rt: HostRuntime) {
     let text = aggregations(rt.alloc(), 64).expect(&rt, "memory");
-    assert!(rt; comes_to(&rt, rt.alloc(), text.as_str(), "207 "));
+    assert!(rt; told(&rt, rt.alloc(), text.as_str()).as_str() == "207 ");
 }
 
 /// The plan of so many aggregations.

@@ -2,6 +2,7 @@
 use crate::answers::ends;
 use crate::audit_texts::{NETWORK, TRAFFIC};
 use crate::check::traffic_of;
+use crate::documents::fault_told;
 use crate::plan::plan_of;
 use fx_base::{Fault, LineReader, Octets, Room};
 use fx_collect::Totals;
@@ -26,22 +27,18 @@ fn refuted(
     confirm(alloc, plan, traffic, &refutation)
 }
 
-/// Whether a refutation comes to this: how many keys and unassigned records its run has and how many keys its packet,
-/// or the fault's number and place.
-fn comes_to(
-    rt: &impl Abort,
-    alloc: Global,
-    answer: Result<(Totals, Totals), Fault>,
-    wanted: &str,
-) -> bool {
-    let told = match answer {
-        Ok((ran, plain)) => {
-            let (keys, lost, wanted) = (ran.len(), ran.unassigned(), plain.len());
-            format!(in alloc; "{keys} {lost} for {wanted}")
-        }
-        Err(Fault { number, place }) => format!(in alloc; "{number} {place}"),
-    };
-    told.expect(rt, "memory").as_str() == wanted
+/// How many keys and unassigned records a run has, and how many keys its packet.
+fn totals_told(rt: &impl Abort, alloc: Global, ran: Totals, plain: Totals) -> String {
+    let (keys, lost, wanted) = (ran.len(), ran.unassigned(), plain.len());
+    format!(in alloc; "{keys} {lost} for {wanted}").expect(rt, "memory")
+}
+
+/// What a refutation comes to: its totals, or the fault's number and place.
+fn told(rt: &impl Abort, alloc: Global, answer: Result<(Totals, Totals), Fault>) -> String {
+    match answer {
+        Ok((ran, plain)) => totals_told(rt, alloc, ran, plain),
+        Err(fault) => fault_told(rt, alloc, fault),
+    }
 }
 
 /// Confirms refutations over a network and its traffic: each is to come to what stands beside it.
@@ -56,7 +53,7 @@ fn confirm_all(
     let traffic = traffic_of(rt, alloc, traffic, &plan);
     for (text, wanted) in refutations {
         let answer = refuted(alloc, &plan, &traffic, *text);
-        assert!(rt; comes_to(rt, alloc, answer, *wanted), "{text}");
+        assert!(rt; told(rt, alloc, answer).as_str() == *wanted, "{text}");
     }
 }
 

@@ -24,7 +24,7 @@ fn opened<'a>(rt: &impl Abort, alloc: Global, plan: &'a Plan, traffic: &'a Traff
 }
 
 /// Whether a network counts nothing.
-fn counts_nothing(network: &Network<'_>) -> bool {
+fn counts_nothing(network: Network<'_>) -> bool {
     (network.totals().len() == 0) & (network.totals().unassigned() == 0)
 }
 
@@ -32,7 +32,7 @@ fn counts_nothing(network: &Network<'_>) -> bool {
 fn opens_with_nothing_counted(rt: HostRuntime) {
     let plan = plan_of(&rt, rt.alloc(), audit_texts::NETWORK);
     let traffic = traffic_of(&rt, rt.alloc(), audit_texts::TRAFFIC, &plan);
-    assert!(rt; counts_nothing(&opened(&rt, rt.alloc(), &plan, &traffic)));
+    assert!(rt; counts_nothing(opened(&rt, rt.alloc(), &plan, &traffic)));
 }
 
 /// Obeys the one line of a text.

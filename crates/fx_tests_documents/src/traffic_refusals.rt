@@ -2,7 +2,7 @@
 use crate::documents::{Frame, Kind, look_at_rows};
 
 /// A whole document.
-const DOCUMENT: Frame<'static> = Frame {
+const DOCUMENT: &Frame<'static> = &Frame {
     kind: Kind::Traffic,
     before: "",
     behind: "",
@@ -52,7 +52,7 @@ const DOCUMENTS: &[(&str, &str)] = &[
 ];
 
 /// A class's region.
-const REGION: Frame<'static> = Frame {
+const REGION: &Frame<'static> = &Frame {
     kind: Kind::Traffic,
     before: r#"{"classes":[{"name":"a","region":"#,
     behind: r#","paths":[[]]}]}"#,
@@ -110,7 +110,7 @@ const REGIONS: &[(&str, &str)] = &[
 ];
 
 /// A class's one crossing.
-const CROSSING: Frame<'static> = Frame {
+const CROSSING: &Frame<'static> = &Frame {
     kind: Kind::Traffic,
     before: r#"{"classes":[{"name":"a","paths":[["#,
     behind: "]]}]}",
@@ -144,7 +144,7 @@ const CROSSINGS: &[(&str, &str)] = &[
 ];
 
 /// What says that a class is exempt.
-const EXEMPT: Frame<'static> = Frame {
+const EXEMPT: &Frame<'static> = &Frame {
     kind: Kind::Traffic,
     before: r#"{"classes":[{"name":"a","paths":[[]],"exempt":"#,
     behind: "}]}",
@@ -161,17 +161,22 @@ const EXEMPTS: &[(&str, &str)] = &[
     (r#""true""#, "302 "),
 ];
 
-/// What is looked at.
-const TABLES: [(Frame<'static>, &[(&str, &str)]); 4] = [
-    (DOCUMENT, DOCUMENTS),
-    (REGION, REGIONS),
-    (CROSSING, CROSSINGS),
-    (EXEMPT, EXEMPTS),
-];
-
 #[test]
 fn refuses_declarations(rt: HostRuntime) {
-    for (frame, rows) in &TABLES {
-        look_at_rows(&rt, rt.alloc(), frame, *rows);
-    }
+    look_at_rows(&rt, rt.alloc(), DOCUMENT, DOCUMENTS);
+}
+
+#[test]
+fn refuses_regions(rt: HostRuntime) {
+    look_at_rows(&rt, rt.alloc(), REGION, REGIONS);
+}
+
+#[test]
+fn refuses_crossings(rt: HostRuntime) {
+    look_at_rows(&rt, rt.alloc(), CROSSING, CROSSINGS);
+}
+
+#[test]
+fn refuses_other_exemptions(rt: HostRuntime) {
+    look_at_rows(&rt, rt.alloc(), EXEMPT, EXEMPTS);
 }
