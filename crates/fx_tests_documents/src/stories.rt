@@ -3,8 +3,8 @@ use crate::answers::ends;
 use crate::audit_texts::{NETWORK, TRAFFIC};
 use fx_base::{Fault, LineReader, Octets, Room};
 use fx_stories::{
-    put_certificate_words, put_document_words, put_lint_words, put_refutation_story, put_run_words,
-    put_schedule_words, put_stream_words,
+    put_capture_words, put_certificate_words, put_document_words, put_lint_words,
+    put_refutation_story, put_run_words, put_schedule_words, put_stream_words,
 };
 use std::alloc::Global;
 use std::process::Abort;
@@ -43,6 +43,7 @@ end
 
 const RUN_WORDS: &[u8] = b"line 4: expire cache 1 1 2
 this step can't be made: a record leaves cache \"ca\" of m1: exporting process \"ex\" sends to destination \"d\", which is linked to collecting process \"cp\" of c1
+before this step the number of records there is 1; positions count from 1, and none is at 2
 ";
 
 const DOCUMENT_WORDS: &[u8] = b"file: net.json
@@ -71,6 +72,13 @@ const STREAM_WORDS: &[u8] =
 These octets begin a capture (pcap). The messages stand inside of its packets: docs/GUIDE.md tells how to take them out.
 ";
 
+/// The first octets of a capture of another format.
+const NO_CAPTURE: &[u8] = &[0x0a, 0x0d, 0x0d, 0x0a, 0x1c, 0, 0, 0];
+
+const CAPTURE_WORDS: &[u8] = b"the first octets of the capture: 0a 0d 0d 0a 1c 00 00 00
+These octets begin a capture in pcapng. Convert it: tshark -r OLD -F pcap -w NEW.
+";
+
 /// A capture without a packet, so that what the schedule asks for can't be told.
 const EMPTY_CAPTURE: &[u8] = &[
     0xd4, 0xc3, 0xb2, 0xa1, 2, 0, 4, 0, 0, 0, 0, 0, 0, 0, 0, 0, 0, 0, 4, 0, 101, 0, 0, 0,
@@ -94,6 +102,19 @@ fn tells_streams(rt: HostRuntime) {
         0,
     );
     assert!(rt; is_put & (room.octets() == STREAM_WORDS));
+}
+
+#[test]
+fn tells_captures(rt: HostRuntime) {
+    let mut capture = Octets::new(NO_CAPTURE);
+    let mut octets = [0u8; 1000];
+    let mut room = Room::new(&mut octets);
+    let fault = Fault::at_octet(701, 0);
+    let is_put = ends(
+        put_capture_words(rt.alloc(), &mut capture, &fault, &mut room),
+        0,
+    );
+    assert!(rt; is_put & (room.octets() == CAPTURE_WORDS));
 }
 
 #[test]
