@@ -1,4 +1,6 @@
 //! Lines, names, places, numbers and texts written out, and devices that fail.
+ghost use Rattle.std.specs.Prelude.{◌≤◌};
+
 use crate::answers::{ends, is_refused};
 use fx_base::{
     Counts, Fault, Fuse, Line, LineReader, Name, Octets, Outside, PieceReader, Room, Sink, Source,
@@ -27,7 +29,7 @@ const TEXTS: [(&[u8], &[Told<'static>]); 3] = [
     (&LONGEST, &[(&LONGEST, 1, false)]),
 ];
 
-/// The lines up to a read that fails.
+/// Two lines.
 const TWO_LINES: [Told<'static>; 2] = [(b"one", 1, true), (b"two", 2, true)];
 
 /// The line in front of one that is too long.
@@ -262,7 +264,7 @@ fn lends_devices(rt: HostRuntime) {
     let mut octets = [0u8; 8];
     let mut room = Room::new(&mut octets);
     let fails = fails_after_three(&mut Fuse::new(&mut room, 3));
-    let is_lent = has_lines(&rt, rt.alloc(), &mut Octets::new(b"one\n"), &ONE_LINE);
+    let is_lent = has_lines(&rt, rt.alloc(), &mut Octets::new(b"one\ntwo\n"), &TWO_LINES);
     assert!(rt; fails & is_lent & (room.octets() == b"123".as_slice()));
 }
 
@@ -297,11 +299,19 @@ fn lends_pieces_of_a_source(rt: HostRuntime) {
     );
 }
 
-/// Whether a window of four octets on `12345678` is filled, and again behind three of them, where
-/// it fails first with this number, or doesn't for 0.
-fn fills_again<S: Source>(rt: &impl Abort, alloc: Global, source: S, number: u16) -> bool {
+/// Whether a window of four octets on `12345678` is filled where so many are wanted, and again
+/// behind three of them, where it fails first with this number, or doesn't for 0.
+fn fills_again<S: Source>(
+    rt: &impl Abort,
+    alloc: Global,
+    source: S,
+    wanted: usize,
+    number: u16,
+) -> bool
+    requires { wanted ≤ 4 }
+{
     let mut window = Window::new(alloc, source, 4).expect(rt, "memory");
-    let is_filled = ends(window.fill(3), 0) & (window.octets() == b"1234".as_slice());
+    let is_filled = ends(window.fill(wanted), 0) & (window.octets() == b"1234".as_slice());
     let n = window.octets().len().min(3);
     window.pass(n);
     is_filled
@@ -313,12 +323,20 @@ fn fills_again<S: Source>(rt: &impl Abort, alloc: Global, source: S, number: u16
 
 #[test]
 fn holds_octets_of_a_source(rt: HostRuntime) {
-    assert!(rt; fills_again(&rt, rt.alloc(), Octets::new(b"12345678"), 0));
+    assert!(rt; fills_again(&rt, rt.alloc(), Octets::new(b"12345678"), 3, 0));
 }
 
 #[test]
 fn fills_a_window_again(rt: HostRuntime) {
-    assert!(rt; fills_again(&rt, rt.alloc(), Fuse::new(Octets::new(b"12345678"), 2), 901));
+    assert!(rt;
+        fills_again(
+            &rt,
+            rt.alloc(),
+            Fuse::new(Octets::new(b"12345678"), 2),
+            2,
+            901
+        )
+    );
 }
 
 /// Whether a text is written to a device outside, which has these octets then.

@@ -99,7 +99,7 @@ const TAGS: [u8; 16] = [
     0x88, 0xa8, 0, 0, 0x81, 0x00, 0, 1, 0x88, 0xa8, 0, 2, 0x81, 0x00, 0, 3,
 ];
 
-/// What a capture holds of an Ethernet frame with so many octets of tags, of which so many octets were captured at most.
+/// What a capture holds of an Ethernet frame with so many octets of tags, of which at most so many were captured.
 fn held_in_ethernet(
     rt: &impl Abort,
     alloc: Global,
@@ -113,13 +113,13 @@ fn held_in_ethernet(
     held(rt, alloc, 1, front(frame.as_slice(), captured))
 }
 
-/// How many octets no tag has, and one, two and three.
+/// How many octets no tag, one, two and three tags have.
 const LENGTHS: [usize; 4] = [0, 4, 8, 12];
 
 /// All octets of a frame.
 const WHOLE: usize = 1000;
 
-/// Whether the packet is read behind so many tags, and is malformed where the frame is cut behind its first octets.
+/// Whether the packet is read behind so many octets of tags, and is malformed where the frame is cut in its first ones.
 fn is_read_behind(rt: &impl Abort, alloc: Global, tags: usize) -> bool {
     (held_in_ethernet(rt, alloc, tags, [0x08, 0x00], &TCP, WHOLE) == Holding::Packet(6, 1000, 443))
         & (held_in_ethernet(rt, alloc, tags, [0x08, 0x00], &TCP, 13) == Holding::Passed(0, 1))
