@@ -167,7 +167,7 @@ fn audit<R: AllocGlobal + Clock + Eprint + Files, S: Sink>(
 }
 
 /// Runs a network over a capture, as a schedule says, with the octets of each link in a file of its own, whose name begins
-/// with a prefix and isn't one of the input's files.
+/// with a prefix, and by which no file of the input was named.
 fn run_onto_files<R: AllocGlobal + Files, N: Source, T: Source, C: Source, Q: Source, S: Sink>(
     rt: &R,
     seed: Seed,

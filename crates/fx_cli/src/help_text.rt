@@ -117,7 +117,7 @@ Files:
   STREAM   octets: the IPFIX messages (RFC 7011) of one exporter's connection, one after another, with nothing between
 
 Prints the totals (status 0): `keys N`, a line for each key, `unassigned N`, `gaps N` (messages whose sequence number
-isn't the next one), `skipped N` (records without both counters). A stream that is refused: `refused NUMBER octet N`
+isn't the next one), `skipped N` (records that lack a counter). A stream that is refused: `refused NUMBER octet N`
 (status 2), 611 to 620, at the first octet of the message. Counters must have 8 octets (618).
 
 --words tells of a refused message which it is and what stands there: its set, template, field or record. For that the
@@ -140,7 +140,7 @@ Files:
 
 Prints the totals (status 0): `keys N`, a line for each key, `unassigned N`, `skipped other N malformed N` (frames that
 are no packets). With --links the IPFIX octets of link 1 go to the file PREFIX1, and so on; files of these names are
-written over, but for the files above, where it ends with `device 902`. A text that is refused:
+written over, but where a file above is given by that very name it ends with `device 902`. A text that is refused:
 `refused NUMBER PLACE` (status 2), 701 to 704 of the capture, 801 to 804 of the schedule.
 
 --words tells of a refused line what it is about: of 803 and 804 which packet, and which of its fields lie outside of

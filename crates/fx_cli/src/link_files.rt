@@ -24,7 +24,7 @@ fn link_path(alloc: Global, prefix: &str, link: u64) -> Result<String, AllocErro
 }
 
 /// Links with a file each. A link's file is made, or emptied, when the first octets are put on the link, and is kept
-/// open. Its name is a prefix and the link's number, from 1, in decimal; a file of the run's own input isn't written over.
+/// open. Its name is a prefix and the link's number, from 1, in decimal; it isn't made where the run reads a file by that very name.
 /// Links tell none of their octets.
 #[derive(Drop)]
 pub struct LinkFiles<'a, R: Files> {
@@ -83,14 +83,9 @@ impl<'a, R: Files> LinkFiles<'a, R> {
         }
     }
 
-    /// Whether the run reads a file of this name.
+    /// Whether the run reads a file by this very name.
     fn is_input(&self, path: &str) -> bool {
-        for input in self.inputs {
-            if path == *input {
-                return true;
-            }
-        }
-        false
+        self.inputs.contains(&path)
     }
 
     /// Writes the first octets of a link, into a file that is made for it.

@@ -47,7 +47,7 @@ last ones.\n";
 const COLLECTED: &[u8] =
     b"keys: how many keys of the report have totals, a line each. unassigned: records without the \
 report's key. gaps: messages whose sequence number isn't the next one: some were lost, came out of order or came twice. skipped: \
-records without both counters, which add nothing.\n";
+records that lack a counter, which add nothing.\n";
 
 /// What stands in the text of a sum.
 const SUMMED: &[u8] =
