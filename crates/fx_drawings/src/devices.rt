@@ -1,5 +1,5 @@
 //! Devices and what they are made of.
-use crate::dot::{Dot, Piece};
+use crate::dot::Dot;
 use crate::labels::{
     add_key, add_match, add_method, add_names, direction_name, kind_name, mode_name,
 };
@@ -14,30 +14,24 @@ use fx_topology::{NetworkDevice, Report};
 
 /// Begins a node with its name as the first line of its label.
 fn begin<'x>(dot: &mut Dot, node: nodes::Node, look: &'static str, name: &'x Name) {
-    dot.add(&[
-        Piece::Code("    "),
-        Piece::Node(node),
-        Piece::Code(" ["),
-        Piece::Code(look),
-        Piece::Code(", label=\""),
-        Piece::Text(name.as_str()),
-    ])
+    dot.code_node("    ", node);
+    dot.code(" [");
+    dot.code(look);
+    dot.code_quoted(", label=\"", name.as_str())
 }
 
 /// Ends a node.
 fn end(dot: &mut Dot) {
-    dot.line(&[Piece::Code("\"];")])
+    dot.line("\"];")
 }
 
 /// Draws an observation point: its interfaces, and the directions in which it sees packets.
 fn draw_point(dot: &mut Dot, node: nodes::Node, point: &ObservationPoint) {
     begin(dot, node, "shape=cds", &point.name);
-    dot.add(&[Piece::Code("\\n")]);
+    dot.code("\\n");
     add_names(dot, point.interfaces.as_slice());
-    dot.add(&[
-        Piece::Code(" "),
-        Piece::Code(direction_name(point.direction)),
-    ]);
+    dot.code(" ");
+    dot.code(direction_name(point.direction));
     end(dot)
 }
 
@@ -53,7 +47,8 @@ fn draw_selection(dot: &mut Dot, node: nodes::Node, process: &SelectionProcess) 
 /// Draws a cache: its kind and its flow keys.
 fn draw_cache(dot: &mut Dot, node: nodes::Node, cache: &Cache) {
     begin(dot, node, "shape=cylinder", &cache.name);
-    dot.add(&[Piece::Code("\\n"), Piece::Code(kind_name(cache.kind))]);
+    dot.code("\\n");
+    dot.code(kind_name(cache.kind));
     add_key(dot, cache.layout.parts());
     end(dot)
 }
@@ -61,14 +56,15 @@ fn draw_cache(dot: &mut Dot, node: nodes::Node, cache: &Cache) {
 /// Draws an exporting process: its mode.
 fn draw_exporter(dot: &mut Dot, node: nodes::Node, process: &ExportingProcess) {
     begin(dot, node, "shape=cds", &process.name);
-    dot.add(&[Piece::Code("\\n"), Piece::Code(mode_name(process.mode))]);
+    dot.code("\\n");
+    dot.code(mode_name(process.mode));
     end(dot)
 }
 
 /// Draws an aggregation: which records it takes in, and their key.
 fn draw_aggregation(dot: &mut Dot, node: nodes::Node, aggregation: &Aggregation) {
     begin(dot, node, "shape=cylinder", &aggregation.name);
-    dot.add(&[Piece::Code("\\naggregation")]);
+    dot.code("\\naggregation");
     for filter in aggregation.matches.as_slice() {
         add_match(dot, filter);
     }
@@ -99,7 +95,7 @@ fn draw_collector(
         "shape=box, peripheries=2, style=bold",
         &process.name,
     );
-    dot.add(&[Piece::Code("\\nreport")]);
+    dot.code("\\nreport");
     add_key(dot, key);
     end(dot)
 }
@@ -165,20 +161,14 @@ fn draw_exporters(dot: &mut Dot, number: u64, device: &NetworkDevice) {
 
 /// Draws the device of this number, from 1, as a box around what it is made of.
 pub(crate) fn draw_device(dot: &mut Dot, plan: &Plan, number: u64, device: &NetworkDevice) {
-    dot.line(&[
-        Piece::Code("  subgraph cluster_"),
-        Piece::Number(number),
-        Piece::Code(" {"),
-    ]);
-    dot.line(&[
-        Piece::Code("    label=\""),
-        Piece::Text(device.name.as_str()),
-        Piece::Code("\"; style=rounded; color=gray40;"),
-    ]);
+    dot.code_number("  subgraph cluster_", number);
+    dot.line(" {");
+    dot.code_quoted("    label=\"", device.name.as_str());
+    dot.line("\"; style=rounded; color=gray40;");
     draw_points(dot, number, device);
     draw_selections(dot, number, device);
     draw_caches(dot, number, device);
     draw_collectors(dot, plan, number, device);
     draw_exporters(dot, number, device);
-    dot.line(&[Piece::Code("  }")])
+    dot.line("  }")
 }

@@ -10,23 +10,6 @@ use itoa::Buffer;
 use std::alloc::{AllocError, Global};
 use std::marker::Model;
 
-/// A piece of a statement.
-#[derive(Clone, Copy)]
-pub(crate) enum Piece<'a> {
-    /// A part of a statement as it is.
-    Code(&'a str),
-    /// A node's name.
-    Node(Node),
-    /// Text within quotation marks: those that it has, and backslashes, are escaped.
-    Text(&'a str),
-    /// Octets within quotation marks, likewise; a line feed begins a new line of a label.
-    Lines(&'a [u8]),
-    /// A number in decimal.
-    Number(u64),
-    /// A value of an axis, an address as an address.
-    Value(Axis, u128),
-}
-
 /// Statements of a graph, without control characters but line feeds: those of a document stand as `?`. Where there is no
 /// memory for more, nothing is added from then on, and that is told at the end alone.
 #[derive(Drop)]
@@ -86,47 +69,51 @@ impl Dot {
     }
 
     /// Adds octets as they are.
-    fn code(&mut self, octets: &[u8]) {
+    fn octets_of(&mut self, octets: &[u8]) {
         for octet in octets {
             self.octet(shown_octet(*octet));
         }
     }
 
-    /// Ends the line.
-    fn end_line(&mut self) {
-        self.octet(b'\n');
+    /// Adds a part of a statement as it is.
+    pub(crate) fn code(&mut self, text: &str) {
+        self.octets_of(text.as_bytes());
     }
 
-    /// Adds octets within quotation marks.
-    fn quoted(&mut self, octets: &[u8]) {
+    /// Adds octets within quotation marks: those that they have, and backslashes, are escaped; a line feed begins a new line
+    /// of a label.
+    pub(crate) fn lines(&mut self, octets: &[u8]) {
         for octet in octets {
             match octet {
-                b'"' => self.code(b"\\\""),
-                b'\\' => self.code(b"\\\\"),
-                b'\n' => self.code(b"\\n"),
+                b'"' => self.code("\\\""),
+                b'\\' => self.code("\\\\"),
+                b'\n' => self.code("\\n"),
                 _ => self.octet(shown_octet(*octet)),
             }
         }
     }
 
-    /// Adds a number.
-    fn number(&mut self, number: u64) {
+    /// Adds a text within quotation marks, likewise.
+    pub(crate) fn quoted(&mut self, text: &str) {
+        self.lines(text.as_bytes());
+    }
+
+    /// Adds a number in decimal.
+    pub(crate) fn number(&mut self, number: u64) {
         let mut buffer = Buffer::new();
-        self.code(buffer.format(number).as_bytes());
+        self.octets_of(buffer.format(number).as_bytes());
     }
 
     /// Adds a node's name: its kind and its numbers.
-    fn node(&mut self, node: &Node) {
-        self.code(node.kind.as_bytes());
+    pub(crate) fn node(&mut self, node: Node) {
+        self.code(node.kind);
         self.number(node.first);
-        self.code(b"_");
-        self.number(node.second);
-        self.code(b"_");
-        self.number(node.third);
+        self.code_number("_", node.second);
+        self.code_number("_", node.third);
     }
 
-    /// Adds a value of an axis, which is one of its values.
-    fn value(&mut self, axis: Axis, value: u128) {
+    /// Adds a value of an axis, an address as an address.
+    pub(crate) fn value(&mut self, axis: Axis, value: u128) {
         if value > top(axis) {
             return;
         }
@@ -134,31 +121,30 @@ impl Dot {
         let mut room = Room::new(&mut octets);
         // No value is longer than the room.
         let _written = put_value(&mut room, axis, width(axis), value);
-        self.code(room.octets());
+        self.octets_of(room.octets());
     }
 
-    /// Adds a piece of a statement.
-    fn piece(&mut self, piece: &Piece<'_>) {
-        match piece {
-            Piece::Code(text) => self.code(text.as_bytes()),
-            Piece::Node(node) => self.node(node),
-            Piece::Text(text) => self.quoted(text.as_bytes()),
-            Piece::Lines(octets) => self.quoted(octets),
-            Piece::Number(number) => self.number(*number),
-            Piece::Value(axis, value) => self.value(*axis, *value),
-        }
+    /// Adds a part of a statement, and behind it a number in decimal.
+    pub(crate) fn code_number(&mut self, text: &str, number: u64) {
+        self.code(text);
+        self.number(number);
     }
 
-    /// Adds the pieces, one after another.
-    pub(crate) fn add(&mut self, pieces: &[Piece<'_>]) {
-        for piece in pieces {
-            self.piece(piece);
-        }
+    /// Adds a part of a statement, and behind it a node's name.
+    pub(crate) fn code_node(&mut self, text: &str, node: Node) {
+        self.code(text);
+        self.node(node);
     }
 
-    /// Adds the pieces, and ends the line.
-    pub(crate) fn line(&mut self, pieces: &[Piece<'_>]) {
-        self.add(pieces);
-        self.end_line();
+    /// Adds a part of a statement, and behind it a text within quotation marks.
+    pub(crate) fn code_quoted(&mut self, text: &str, quoted: &str) {
+        self.code(text);
+        self.quoted(quoted);
+    }
+
+    /// Adds a part of a statement, and ends the line.
+    pub(crate) fn line(&mut self, text: &str) {
+        self.code(text);
+        self.octet(b'\n');
     }
 }

@@ -6,7 +6,7 @@ ghost use Rattle.fx_drawings.specs.Drawings.{WritesDrawing};
 use crate::certificates::draw_certificate;
 use crate::devices::draw_device;
 use crate::documents::{Documents, read_json, with_traffic};
-use crate::dot::{Dot, Piece};
+use crate::dot::Dot;
 use crate::edges::draw_edges;
 use crate::refutations::{draw_outcome, draw_refutation};
 use crate::traffic::draw_traffic;
@@ -21,10 +21,10 @@ const CERTIFICATE: &[u8] = b"once-certificate";
 
 /// Draws the devices of a network, and the edges within and between them.
 fn draw_network(dot: &mut Dot, plan: &Plan) -> Result<(), AllocError> {
-    dot.line(&[Piece::Code("digraph network {")]);
-    dot.line(&[Piece::Code(
+    dot.line("digraph network {");
+    dot.line(
         "  rankdir=LR; node [fontname=\"Helvetica\", fontsize=10]; edge [fontname=\"Helvetica\", fontsize=9];",
-    )]);
+    );
     let devices = plan.network().devices.as_slice();
     for place in 0..devices.len() {
         draw_device(dot, plan, place as u64 + 1, &devices[place]);
@@ -109,7 +109,7 @@ fn drawing_of(
         let documents = with_traffic(alloc, plan, traffic)?;
         draw_over(alloc, &mut dot, &documents, said)?;
     }
-    dot.line(&[Piece::Code("}")]);
+    dot.line("}");
     Ok(dot)
 }
 

@@ -1,5 +1,5 @@
 //! How packets go within a device, and how records go within it and between devices.
-use crate::dot::{Dot, Piece};
+use crate::dot::Dot;
 use crate::nodes::{self, Node};
 use fx_base::{Name, entry_at};
 use fx_config::{CollectingProcess, Destination, Device, ExportingProcess, ObservationPoint};
@@ -16,13 +16,9 @@ pub(crate) fn number_of<T: Named>(entries: &[T], name: &Name) -> Option<u64> {
 
 /// Draws an edge.
 fn draw_edge(dot: &mut Dot, from: Node, to: Node) {
-    dot.line(&[
-        Piece::Code("  "),
-        Piece::Node(from),
-        Piece::Code(" -> "),
-        Piece::Node(to),
-        Piece::Code(";"),
-    ])
+    dot.code_node("  ", from);
+    dot.code_node(" -> ", to);
+    dot.line(";")
 }
 
 /// Draws an edge to each exporting process of these names.
@@ -157,11 +153,8 @@ pub(crate) fn target_of(
 
 /// Draws a node where records are lost.
 fn draw_lost(dot: &mut Dot, node: Node) {
-    dot.line(&[
-        Piece::Code("  "),
-        Piece::Node(node),
-        Piece::Code(" [shape=plaintext, fontcolor=red, label=\"lost: no link\"];"),
-    ])
+    dot.code_node("  ", node);
+    dot.line(" [shape=plaintext, fontcolor=red, label=\"lost: no link\"];")
 }
 
 /// Draws the edge from an exporting process over one of its destinations.
@@ -172,16 +165,11 @@ fn draw_destination(dot: &mut Dot, from: Node, to: Node, destination: &Destinati
     } else {
         ", penwidth=2];"
     };
-    dot.line(&[
-        Piece::Code("  "),
-        Piece::Node(from),
-        Piece::Code(" -> "),
-        Piece::Node(to),
-        Piece::Code(" [label=\""),
-        Piece::Text(destination.name.as_str()),
-        Piece::Code("\""),
-        Piece::Code(look),
-    ])
+    dot.code_node("  ", from);
+    dot.code_node(" -> ", to);
+    dot.code_quoted(" [label=\"", destination.name.as_str());
+    dot.code("\"");
+    dot.line(look)
 }
 
 /// Draws the edges from an exporting process over its destinations.

@@ -1,5 +1,5 @@
 //! What stands in labels: keys, filters and names in a row.
-use crate::dot::{Dot, Piece};
+use crate::dot::Dot;
 use fx_base::Name;
 use fx_config::{CacheKind, Direction, ExportMode, Method, PropertyMatch};
 use fx_elements::{Axis, width};
@@ -52,7 +52,8 @@ pub(crate) fn mode_name(mode: ExportMode) -> &'static str {
 pub(crate) fn add_names(dot: &mut Dot, names: &[Name]) {
     let mut separator = "";
     for name in names {
-        dot.add(&[Piece::Text(separator), Piece::Text(name.as_str())]);
+        dot.quoted(separator);
+        dot.quoted(name.as_str());
         separator = ", ";
     }
 }
@@ -60,38 +61,34 @@ pub(crate) fn add_names(dot: &mut Dot, names: &[Name]) {
 /// Adds a line of a label for each part of a key: its element, and how many leading bits where those aren't all.
 pub(crate) fn add_key(dot: &mut Dot, parts: &[Part]) {
     if parts.is_empty() {
-        dot.add(&[Piece::Code("\\nall packets together")]);
+        dot.code("\\nall packets together");
         return;
     }
     for part in parts {
-        dot.add(&[Piece::Code("\\nby "), Piece::Code(axis_name(part.axis))]);
+        dot.code("\\nby ");
+        dot.code(axis_name(part.axis));
         if part.bits < width(part.axis) {
-            dot.add(&[Piece::Code("/"), Piece::Number(u64::from(part.bits))]);
+            dot.code_number("/", u64::from(part.bits));
         }
     }
 }
 
 /// Adds a line of a label with what a filter passes: an element with one value, or with the addresses of a prefix.
 pub(crate) fn add_match(dot: &mut Dot, filter: &PropertyMatch) {
-    dot.add(&[
-        Piece::Code("\\n"),
-        Piece::Code(axis_name(filter.axis)),
-        Piece::Code(" "),
-        Piece::Value(filter.axis, filter.range.low),
-    ]);
+    dot.code("\\n");
+    dot.code(axis_name(filter.axis));
+    dot.code(" ");
+    dot.value(filter.axis, filter.range.low);
     if filter.range.low == filter.range.high {
         return;
     }
-    dot.add(&[
-        Piece::Code("/"),
-        Piece::Number(u64::from(filter.range.bits)),
-    ])
+    dot.code_number("/", u64::from(filter.range.bits))
 }
 
 /// Adds a line of a label with what a selector passes.
 pub(crate) fn add_method(dot: &mut Dot, method: &Method) {
     match method {
-        Method::SelectAll => dot.add(&[Piece::Code("\\nall packets")]),
+        Method::SelectAll => dot.code("\\nall packets"),
         Method::FilterMatch(filter) => add_match(dot, filter),
     }
 }

@@ -1,5 +1,5 @@
 //! Edges that a certificate or a refutation marks.
-use crate::dot::{Dot, Piece};
+use crate::dot::Dot;
 use crate::edges::cache_of;
 use crate::nodes::{self, Node};
 use fx_base::entry_numbered;
@@ -19,20 +19,15 @@ pub(crate) struct Mark {
 
 /// Draws a marked edge, with the mark's word and number.
 pub(crate) fn draw_mark(dot: &mut Dot, mark: Mark, from: Node, to: Node) {
-    dot.line(&[
-        Piece::Code("  "),
-        Piece::Node(from),
-        Piece::Code(" -> "),
-        Piece::Node(to),
-        Piece::Code(" [color="),
-        Piece::Code(mark.colour),
-        Piece::Code(", fontcolor="),
-        Piece::Code(mark.colour),
-        Piece::Code(", penwidth=3, label=\""),
-        Piece::Code(mark.word),
-        Piece::Number(mark.number),
-        Piece::Code("\"];"),
-    ])
+    dot.code_node("  ", from);
+    dot.code_node(" -> ", to);
+    dot.code(" [color=");
+    dot.code(mark.colour);
+    dot.code(", fontcolor=");
+    dot.code(mark.colour);
+    dot.code(", penwidth=3, label=\"");
+    dot.code_number(mark.word, mark.number);
+    dot.line("\"];")
 }
 
 /// Draws marked edges from packets through an observation point and a selection process into its cache.

@@ -4,7 +4,7 @@ ghost use Rattle.fx_base.specs.Fault.{IsMemory};
 ghost use Rattle.fx_collect.specs.Report.{KeysAscend};
 
 use crate::documents::Documents;
-use crate::dot::{Dot, Piece};
+use crate::dot::Dot;
 use crate::edges::{end_of, number_of, report_of, target_of};
 use crate::marks::{Mark, draw_mark, draw_metering};
 use crate::nodes::{self, Node};
@@ -199,15 +199,13 @@ fn draw_arrival(
     let Some(process) = entry_numbered(processes, end.second) else {
         return Ok(());
     };
-    dot.line(&[
-        Piece::Code("  "),
-        Piece::Node(end),
-        Piece::Code(" -> "),
-        Piece::Node(end),
-        Piece::Code(" [color=darkorange, fontcolor=darkorange, penwidth=3, label=\"step "),
-        Piece::Number(mark.number),
-        Piece::Code(": arrives\"];"),
-    ]);
+    dot.code_node("  ", end);
+    dot.code_node(" -> ", end);
+    dot.code_number(
+        " [color=darkorange, fontcolor=darkorange, penwidth=3, label=\"step ",
+        mark.number,
+    );
+    dot.line(": arrives\"];");
     let names = process.exporting_processes.as_slice();
     draw_exports(dot, plan, end.first, device, end, names, choices, mark)
 }
@@ -245,7 +243,7 @@ fn add_totals(dot: &mut Dot, totals: &Totals)
     let mut room = Room::new(&mut octets);
     // What has no room there is left out.
     let _written = totals.put_report(&mut room);
-    dot.add(&[Piece::Lines(room.octets())]);
+    dot.lines(room.octets());
 }
 
 /// Draws what the run comes to, and what it should come to, beside the report.
@@ -259,25 +257,16 @@ pub(crate) fn draw_outcome(
 {
     ran.sort()?;
     plain.sort()?;
-    dot.add(&[
-        Piece::Code("  "),
-        Piece::Node(nodes::outcome()),
-        Piece::Code(
-            " [shape=note, color=red, fontcolor=red, label=\"in the end the collector holds\\n",
-        ),
-    ]);
+    dot.code_node("  ", nodes::outcome());
+    dot.code(" [shape=note, color=red, fontcolor=red, label=\"in the end the collector holds\\n");
     add_totals(dot, &ran);
-    dot.add(&[Piece::Code("and it should hold\\n")]);
+    dot.code("and it should hold\\n");
     add_totals(dot, &plain);
-    dot.line(&[Piece::Code("\"];")]);
+    dot.line("\"];");
     if let Some(report) = report_of(plan) {
-        dot.line(&[
-            Piece::Code("  "),
-            Piece::Node(report),
-            Piece::Code(" -> "),
-            Piece::Node(nodes::outcome()),
-            Piece::Code(" [color=red, dir=none, style=dotted];"),
-        ]);
+        dot.code_node("  ", report);
+        dot.code_node(" -> ", nodes::outcome());
+        dot.line(" [color=red, dir=none, style=dotted];");
     }
     Ok(())
 }

@@ -1,6 +1,6 @@
 //! The packets of each class, and what sees them on their paths.
 use crate::documents::{Documents, class_name};
-use crate::dot::{Dot, Piece};
+use crate::dot::Dot;
 use crate::nodes::{self, Node};
 use fx_plan::Plan;
 use fx_tables::Crossing;
@@ -13,29 +13,25 @@ fn draw_packets(dot: &mut Dot, documents: &Documents, target: &Target<'_>) {
     } else {
         ""
     };
-    dot.line(&[
-        Piece::Code("  "),
-        Piece::Node(nodes::packets(target.class, target.path)),
-        Piece::Code(" [shape=ellipse, color=blue, label=\""),
-        Piece::Text(class_name(documents, target.class)),
-        Piece::Code("\\npath "),
-        Piece::Number(target.path),
-        Piece::Code(exempt),
-        Piece::Code("\"];"),
-    ])
+    dot.code_node("  ", nodes::packets(target.class, target.path));
+    dot.code_quoted(
+        " [shape=ellipse, color=blue, label=\"",
+        class_name(documents, target.class),
+    );
+    dot.code_number("\\npath ", target.path);
+    dot.code(exempt);
+    dot.line("\"];")
 }
 
 /// Draws an edge from packets to what sees them at a crossing.
 fn draw_sight(dot: &mut Dot, from: Node, to: Node, crossing: u64) {
-    dot.line(&[
-        Piece::Code("  "),
-        Piece::Node(from),
-        Piece::Code(" -> "),
-        Piece::Node(to),
-        Piece::Code(" [color=blue, fontcolor=blue, style=dashed, label=\"crossing "),
-        Piece::Number(crossing),
-        Piece::Code("\"];"),
-    ])
+    dot.code_node("  ", from);
+    dot.code_node(" -> ", to);
+    dot.code_number(
+        " [color=blue, fontcolor=blue, style=dashed, label=\"crossing ",
+        crossing,
+    );
+    dot.line("\"];")
 }
 
 /// Draws a crossing that no observation point sees.
@@ -54,16 +50,11 @@ fn draw_unseen<'x>(dot: &mut Dot, plan: &'x Plan, node: Node, crossing: &'x Cros
         Some(device) => device.name.as_str(),
         None => "",
     };
-    dot.line(&[
-        Piece::Code("  "),
-        Piece::Node(node),
-        Piece::Code(" [shape=plaintext, fontcolor=gray40, label=\""),
-        Piece::Text(name),
-        Piece::Code(" "),
-        Piece::Text(crossing.interface.as_str()),
-        Piece::Code(direction),
-        Piece::Code("\\nno observation point\"];"),
-    ])
+    dot.code_node("  ", node);
+    dot.code_quoted(" [shape=plaintext, fontcolor=gray40, label=\"", name);
+    dot.code_quoted(" ", crossing.interface.as_str());
+    dot.code(direction);
+    dot.line("\\nno observation point\"];")
 }
 
 /// The place, from 0, of what has this number, from 1.

@@ -1,7 +1,7 @@
 //! Members that an object may have, and those that one has which it may not.
 use crate::near::near_of;
 use crate::pointers::last_member;
-use crate::story::{Piece, Story, between};
+use crate::story::{Story, between};
 use serde_json::Value;
 use std::alloc::{AllocError, Global};
 
@@ -184,20 +184,18 @@ fn members_allowed(member: &str, is_network: bool) -> &'static [&'static str] {
 
 /// Tells which of these names an object doesn't have yet, which may not have a member of another name.
 fn tell_free(story: &mut Story, object: &Value, name: &str, names: &'static [&'static str]) {
-    story.tell(&[
-        Piece::Text("no member "),
-        Piece::Quoted(name),
-        Piece::Text(" may be there; those that may, and aren't there yet: "),
-    ]);
+    story.text_quoted("no member ", name);
+    story.text(" may be there; those that may, and aren't there yet: ");
     let mut told = false;
     for free in names {
         if object.get(*free).is_none() {
-            story.tell(&[Piece::Text(between(told, ", ")), Piece::Text(free)]);
+            story.text(between(told, ", "));
+            story.text(free);
             told = true;
         }
     }
     if !told {
-        story.tell(&[Piece::Text("none")]);
+        story.text("none");
     }
     story.end_line();
 }
@@ -205,13 +203,10 @@ fn tell_free(story: &mut Story, object: &Value, name: &str, names: &'static [&'s
 /// Tells the name that a misspelled member stands for.
 fn tell_near<'x>(story: &mut Story, object: &Value, name: &'x str, known: &'x str) {
     let there = object.get(known).is_some();
-    story.sentence(&[
-        Piece::Text("no member "),
-        Piece::Quoted(name),
-        Piece::Text(" may be there; the nearest name is "),
-        Piece::Text(known),
-        Piece::Text(if there { ", which is there too" } else { "" }),
-    ]);
+    story.text_quoted("no member ", name);
+    story.text(" may be there; the nearest name is ");
+    story.text(known);
+    story.sentence(if there { ", which is there too" } else { "" });
 }
 
 /// What a document seems to be that has a member of the other kind of document.
@@ -248,7 +243,7 @@ pub(crate) fn tell_unknown_member(
         None => tell_free(story, object, name, names),
     }
     if let Some(words) = other_document(pointer, is_network) {
-        story.sentence(&[Piece::Text(words)]);
+        story.sentence(words);
     }
     Ok(())
 }

@@ -5,7 +5,7 @@ ghost use Rattle.fx_stories.specs.Stories.{IsUntold, WritesStory};
 
 use crate::formats::{flow_format, is_text, packed_format};
 use crate::places::{number16, number32, tell_digits};
-use crate::story::{Piece, Story};
+use crate::story::Story;
 use fx_base::{Fault, PieceReader, Sink, Source, put_text, refusals};
 use std::alloc::Global;
 
@@ -106,31 +106,29 @@ fn number_at(octets: &[u8], place: usize, reversed: bool) -> u16 {
 /// Tells what is wrong with the header of a capture.
 fn tell_header(story: &mut Story, octets: &[u8], reversed: bool) {
     if octets.len() < HEADER {
-        story.sentence(&[
-            Piece::Text(
-                "The file ends inside of a capture's header, which has 24 octets; octets there are: ",
-            ),
-            Piece::Number(octets.len() as u64),
-        ]);
+        story.text_number(
+            "The file ends inside of a capture's header, which has 24 octets; octets there are: ",
+            octets.len() as u64,
+        );
+        story.end_line();
         return;
     }
-    story.sentence(&[
-        Piece::Text("It is a capture in pcap of version "),
-        Piece::Number(u64::from(number_at(octets, 4, reversed))),
-        Piece::Text("."),
-        Piece::Number(u64::from(number_at(octets, 6, reversed))),
-        Piece::Text("; version 2.4 is read. Convert it: tshark -r OLD -F pcap -w NEW."),
-    ]);
+    story.text_number(
+        "It is a capture in pcap of version ",
+        u64::from(number_at(octets, 4, reversed)),
+    );
+    story.text_number(".", u64::from(number_at(octets, 6, reversed)));
+    story.sentence("; version 2.4 is read. Convert it: tshark -r OLD -F pcap -w NEW.");
 }
 
 /// Tells what the octets are that begin a file in the place of a capture.
 fn tell_format(story: &mut Story, octets: &[u8]) {
-    story.tell(&[Piece::Text("the first octets of the capture:")]);
+    story.text("the first octets of the capture:");
     tell_digits(story, octets);
     story.end_line();
     match is_reversed(octets) {
         Some(reversed) => tell_header(story, octets, reversed),
-        None => story.sentence(&[Piece::Text(other_format(octets))]),
+        None => story.sentence(other_format(octets)),
     }
 }
 
@@ -165,12 +163,9 @@ fn tell_link(story: &mut Story, octets: &[u8]) {
     } else {
         number
     };
-    story.sentence(&[
-        Piece::Text("the link type of the capture: "),
-        Piece::Number(u64::from(number)),
-        Piece::Text(link_words(number)),
-        Piece::Text("; 1 (ETHERNET) and 101 (RAW) are read"),
-    ]);
+    story.text_number("the link type of the capture: ", u64::from(number));
+    story.text(link_words(number));
+    story.sentence("; 1 (ETHERNET) and 101 (RAW) are read");
 }
 
 /// What is to be told of a capture.

@@ -11,7 +11,7 @@ use crate::line_forms::Kind;
 use crate::lines::{next_line, tell_line};
 use crate::paths::tell_path;
 use crate::regions::{axis_word, tell_region};
-use crate::story::{Piece, Story};
+use crate::story::Story;
 use crate::walk::Walk;
 use crate::watching::tell_watching;
 use crate::wrong_lines::{tell_wrong_header, tell_wrong_line};
@@ -32,7 +32,7 @@ fn tell_split_line(story: &mut Story, axis: Axis, at: u128) {
     let mut room = Room::new(&mut octets);
     // What has no room there is left out.
     let _written = put_item(&mut room, &Item::Split { axis, at });
-    story.tell(&[Piece::Text("its line is: ")]);
+    story.text("its line is: ");
     story.lines_of(room.octets());
 }
 
@@ -49,12 +49,11 @@ fn tell_cut(
     let tables = tables_of(plan);
     let mut scratch = Scratch::new(alloc, &tables)?;
     if let Some((axis, at)) = cut(&mut scratch, &tables, crossings, region) {
-        story.sentence(&[
-            Piece::Text("split the region by "),
-            Piece::Text(axis_word(axis)),
-            Piece::Text(" at "),
-            Piece::Value(axis, at),
-        ]);
+        story.text("split the region by ");
+        story.text(axis_word(axis));
+        story.text(" at ");
+        story.value(axis, at);
+        story.end_line();
         tell_split_line(story, axis, at);
     }
     Ok(())
@@ -62,7 +61,7 @@ fn tell_cut(
 
 /// Tells a region in a line.
 fn tell_region_line(story: &mut Story, region: &Region) {
-    story.tell(&[Piece::Text("region: ")]);
+    story.text("region: ");
     tell_region(story, region);
     story.end_line();
 }
@@ -82,12 +81,13 @@ fn tell_item(story: &mut Story, plan: &Plan, target: &Target<'_>, item: &Item) {
             };
             tell_leaf(story, plan, target.crossings, &leaf);
         }
-        Item::Split { axis, at } => story.sentence(&[
-            Piece::Text("the split is by "),
-            Piece::Text(axis_word(*axis)),
-            Piece::Text(" at "),
-            Piece::Value(*axis, *at),
-        ]),
+        Item::Split { axis, at } => {
+            story.text("the split is by ");
+            story.text(axis_word(*axis));
+            story.text(" at ");
+            story.value(*axis, *at);
+            story.end_line();
+        },
         _ => {}
     }
 }
@@ -125,7 +125,7 @@ fn tell_tree(
 fn tell_between(story: &mut Story, documents: &Documents, targets: &[Target<'_>], begun: usize) {
     match targets.get(begun) {
         Some(target) => {
-            story.tell(&[Piece::Text("what comes next is ")]);
+            story.text("what comes next is ");
             tell_path(
                 story,
                 documents,
@@ -134,7 +134,7 @@ fn tell_between(story: &mut Story, documents: &Documents, targets: &[Target<'_>]
                 target.crossings,
             );
         }
-        None => story.sentence(&[Piece::Text("all paths have their trees")]),
+        None => story.sentence("all paths have their trees"),
     }
 }
 
@@ -201,7 +201,7 @@ fn tell_next<C: Source>(
     ensures err { IfErr result IsUntold }
 {
     if !next_line(lines)? {
-        story.sentence(&[Piece::Text("the text ends before its line end")]);
+        story.sentence("the text ends before its line end");
         return Ok(None);
     }
     let line = lines.line();
@@ -219,7 +219,7 @@ fn tell_form(story: &mut Story, line: &Line<'_>, number: u64, fault: u16) {
     } else if fault == refusals::CERTIFICATE_LINE {
         tell_wrong_line(story, Kind::Certificate, line);
     } else if !line.ended {
-        story.sentence(&[Piece::Text("no line feed ends the line")]);
+        story.sentence("no line feed ends the line");
     }
 }
 

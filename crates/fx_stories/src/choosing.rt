@@ -2,7 +2,7 @@
 use crate::again::Documents;
 use crate::names::{entry_named, selection_process};
 use crate::sending::chooses;
-use crate::story::{Piece, Story};
+use crate::story::Story;
 use fx_base::{Name, entry_numbered};
 use fx_config::{Aggregation, CollectingProcess, ExportingProcess};
 use fx_plan::Plan;
@@ -63,16 +63,13 @@ impl<'a> Choosers<'a> {
         let occurrence = self.occurrences.get(place);
         if let (Some(device), Some(occurrence)) = (self.device, occurrence) {
             if let Some(cache) = cache_at(device, occurrence) {
-                story.tell(&[Piece::Text("cache "), Piece::Quoted(cache.as_str())]);
+                story.text_quoted("cache ", cache.as_str());
             }
             return;
         }
         match self.aggregations {
-            [only] => story.tell(&[
-                Piece::Text("aggregation "),
-                Piece::Quoted(only.name.as_str()),
-            ]),
-            _ => story.tell(&[Piece::Text("an aggregation that takes the record in")]),
+            [only] => story.text_quoted("aggregation ", only.name.as_str()),
+            _ => story.text("an aggregation that takes the record in"),
         }
     }
 }

@@ -2,7 +2,7 @@
 use crate::again::unless_refused;
 use crate::names::entry_named;
 use crate::sending::tell_end;
-use crate::story::{Piece, Story};
+use crate::story::Story;
 use fx_base::{Name, entry_at};
 use fx_config::{Aggregation, CollectingProcess};
 use fx_topology::{NamedLink, NetworkDevice, NetworkDocument, read_network};
@@ -177,17 +177,12 @@ impl<'a> Search<'a> {
 
 /// Tells a link by its place in the document and its ends.
 fn tell_link(story: &mut Story, place: usize, link: &NamedLink) {
-    story.tell(&[
-        Piece::Text("on the circle: /links/"),
-        Piece::Number(place as u64),
-        Piece::Text(", from destination "),
-        Piece::Quoted(link.destination.as_str()),
-        Piece::Text(" of exporting process "),
-        Piece::Quoted(link.exporting_process.as_str()),
-        Piece::Text(" of "),
-        Piece::Text(link.device.as_str()),
-        Piece::Text(" to "),
-    ]);
+    story.text_number("on the circle: /links/", place as u64);
+    story.text_quoted(", from destination ", link.destination.as_str());
+    story.text_quoted(" of exporting process ", link.exporting_process.as_str());
+    story.text(" of ");
+    story.text(link.device.as_str());
+    story.text(" to ");
     tell_end(story, link);
     story.end_line();
 }

@@ -2,7 +2,7 @@
 use crate::elements::{element_of, tell_element};
 use crate::near::near_of;
 use crate::pointers::{items_member, text_member, text_or_none};
-use crate::story::{Piece, Story};
+use crate::story::Story;
 use fx_elements::{Axis, Element, by_name};
 use serde_json::Value;
 use std::alloc::{AllocError, Global};
@@ -26,12 +26,9 @@ fn tell_misspelled(
         if let Some(name) = text_member(field, "ieName") {
             let is_near = near_of(alloc, name, &COUNTERS)? == Some(counter);
             if is_near && by_name(name) == Element::Other {
-                story.sentence(&[
-                    Piece::Text("field "),
-                    Piece::Quoted(text_or_none(field, "name")),
-                    Piece::Text(" names no element that is read: "),
-                    Piece::Quoted(name),
-                ]);
+                story.text_quoted("field ", text_or_none(field, "name"));
+                story.text_quoted(" names no element that is read: ", name);
+                story.end_line();
             }
         }
     }
@@ -47,10 +44,8 @@ pub(crate) fn tell_counters(
     let fields = items_member(layout, "cacheField");
     for counter in COUNTERS {
         if !is_among(fields, by_name(counter)) {
-            story.sentence(&[
-                Piece::Text("missing among the fields: "),
-                Piece::Text(counter),
-            ]);
+            story.text("missing among the fields: ");
+            story.sentence(counter);
             tell_misspelled(alloc, story, fields, counter)?;
         }
     }
@@ -74,13 +69,11 @@ pub(crate) fn tell_flow_key(
     field: &Value,
 ) -> Result<(), AllocError> {
     if let Element::Prefix(axis) = element_of(field) {
-        story.sentence(&[
-            Piece::Text("its element is a prefix, and the flow keys of caches are whole: write "),
-            Piece::Text(address_name(axis)),
-            Piece::Text(
-                ", and the prefix with its prefixLength in the key of an aggregation or of the report",
-            ),
-        ]);
+        story.text("its element is a prefix, and the flow keys of caches are whole: write ");
+        story.text(address_name(axis));
+        story.sentence(
+            ", and the prefix with its prefixLength in the key of an aggregation or of the report",
+        );
         return Ok(());
     }
     let _of_axis = tell_element(alloc, story, field, false)?;

@@ -1,6 +1,6 @@
 //! Crossings by name.
 use crate::names::device_name;
-use crate::story::{Piece, Story};
+use crate::story::Story;
 use fx_plan::Plan;
 use fx_tables::Crossing;
 
@@ -14,34 +14,29 @@ pub(crate) fn tell_crossing<'x>(story: &mut Story, plan: &'x Plan, crossing: &'x
     } else {
         " egress"
     };
-    story.tell(&[
-        Piece::Text(device),
-        Piece::Text(" "),
-        Piece::Text(crossing.interface.as_str()),
-        Piece::Text(direction),
-    ]);
+    story.text(device);
+    story.text(" ");
+    story.text(crossing.interface.as_str());
+    story.text(direction);
 }
 
 /// Tells the crossings of a path in order.
 pub(crate) fn tell_crossings(story: &mut Story, plan: &Plan, crossings: &[Crossing]) {
     let mut separator = "";
     for crossing in crossings {
-        story.tell(&[Piece::Text(separator)]);
+        story.text(separator);
         tell_crossing(story, plan, crossing);
         separator = ", then ";
     }
     if separator.is_empty() {
-        story.tell(&[Piece::Text("no crossing")]);
+        story.text("no crossing");
     }
 }
 
 /// Tells the number of a crossing, and the crossing.
 pub(crate) fn tell_numbered(story: &mut Story, plan: &Plan, number: u64, crossing: &Crossing) {
-    story.tell(&[
-        Piece::Text("crossing "),
-        Piece::Number(number),
-        Piece::Text(" ("),
-    ]);
+    story.text_number("crossing ", number);
+    story.text(" (");
     tell_crossing(story, plan, crossing);
-    story.tell(&[Piece::Text(")")]);
+    story.text(")");
 }

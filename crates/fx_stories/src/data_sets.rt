@@ -2,7 +2,7 @@
 use crate::fields::{tell_element, tell_field};
 use crate::messages::{MessageThere, SetThere};
 use crate::places::{number_in, number16, part};
-use crate::story::{Piece, Story};
+use crate::story::Story;
 use crate::templates::{Declared, Templates};
 use fx_base::refusals;
 use fx_elements::{Axis, Element, by_id, width};
@@ -29,12 +29,12 @@ fn tell_live(story: &mut Story, templates: &Templates, domain: u32) {
             } else {
                 ", "
             };
-            story.tell(&[Piece::Text(before), Piece::Number(u64::from(declared.id))]);
+            story.text_number(before, u64::from(declared.id));
             told += 1;
         }
     }
     if told == 0 {
-        story.sentence(&[Piece::Text("its domain has no template at all there")]);
+        story.sentence("its domain has no template at all there");
         return;
     }
     story.end_line();
@@ -53,23 +53,16 @@ fn tell_elsewhere(story: &mut Story, templates: &Templates, domain: u32, id: u16
 
 /// Tells where a template was declared, and why it doesn't stand for the records of a domain.
 fn tell_declared(story: &mut Story, declared: &Declared, domain: u32) {
-    story.tell(&[
-        Piece::Text("message "),
-        Piece::Number(declared.message),
-        Piece::Text(" declares template "),
-        Piece::Number(u64::from(declared.id)),
-    ]);
+    story.text_number("message ", declared.message);
+    story.text_number(" declares template ", u64::from(declared.id));
     if declared.domain != domain {
-        story.tell(&[
-            Piece::Text(" in another observation domain: "),
-            Piece::Number(u64::from(declared.domain)),
-        ]);
+        story.text_number(
+            " in another observation domain: ",
+            u64::from(declared.domain),
+        );
     }
     if let Some(number) = declared.withdrawn {
-        story.tell(&[
-            Piece::Text("; it is withdrawn by message "),
-            Piece::Number(number),
-        ]);
+        story.text_number("; it is withdrawn by message ", number);
     }
     story.end_line();
 }
@@ -82,13 +75,9 @@ fn tell_no_template(
     set: &SetThere,
 ) {
     message.tell_set(story, set);
-    story.sentence(&[
-        Piece::Text(" needs template "),
-        Piece::Number(u64::from(set.id)),
-        Piece::Text(", and observation domain "),
-        Piece::Number(u64::from(message.domain())),
-        Piece::Text(" has none of this id there"),
-    ]);
+    story.text_number(" needs template ", u64::from(set.id));
+    story.text_number(", and observation domain ", u64::from(message.domain()));
+    story.sentence(" has none of this id there");
     tell_elsewhere(story, templates, message.domain(), set.id);
     tell_live(story, templates, message.domain());
 }
@@ -122,18 +111,11 @@ fn wanted(field: &FieldSpecifier, octets: &[u8]) -> u64 {
 impl DataThere<'_> {
     /// Tells the field of this place of the record.
     fn tell(&self, story: &mut Story, declared: &Declared, place: usize) {
-        story.tell(&[
-            Piece::Text("record "),
-            Piece::Number(self.number),
-            Piece::Text(" of template "),
-            Piece::Number(u64::from(declared.id)),
-            Piece::Text(", at octet "),
-            Piece::Number(self.message.place_in_stream(self.place)),
-            Piece::Text(": field "),
-            Piece::Number((place as u64).saturating_add(1)),
-            Piece::Text(" of "),
-            Piece::Number(declared.fields.len() as u64),
-        ]);
+        story.text_number("record ", self.number);
+        story.text_number(" of template ", u64::from(declared.id));
+        story.text_number(", at octet ", self.message.place_in_stream(self.place));
+        story.text_number(": field ", (place as u64).saturating_add(1));
+        story.text_number(" of ", declared.fields.len() as u64);
     }
 
     /// Tells the field at which the record passes its set's end, where it begins with these octets.
@@ -145,14 +127,11 @@ impl DataThere<'_> {
                 Some((_value, behind)) => rest = behind,
                 None => {
                     self.tell(story, declared, place);
-                    story.tell(&[Piece::Text(", ")]);
+                    story.text(", ");
                     tell_field(story, field);
-                    story.sentence(&[
-                        Piece::Text(", wants octets: "),
-                        Piece::Number(wanted(field, rest)),
-                        Piece::Text("; the set has left: "),
-                        Piece::Number(rest.len() as u64),
-                    ]);
+                    story.text_number(", wants octets: ", wanted(field, rest));
+                    story.text_number("; the set has left: ", rest.len() as u64);
+                    story.end_line();
                     return;
                 }
             }
@@ -171,14 +150,11 @@ impl DataThere<'_> {
             rest = behind;
             if let Some(axis) = long_prefix(field, value) {
                 self.tell(story, declared, place);
-                story.tell(&[Piece::Text(", ")]);
+                story.text(", ");
                 tell_element(story, field);
-                story.sentence(&[
-                    Piece::Text(", is "),
-                    Piece::Number(number_in(value)),
-                    Piece::Text("; the address has bits: "),
-                    Piece::Number(u64::from(width(axis))),
-                ]);
+                story.text_number(", is ", number_in(value));
+                story.text_number("; the address has bits: ", u64::from(width(axis)));
+                story.end_line();
                 return true;
             }
         }

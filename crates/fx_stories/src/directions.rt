@@ -1,6 +1,6 @@
 //! Observation points that observe only the other direction than the packets that cross their interfaces.
 use crate::again::Documents;
-use crate::story::{Piece, Story};
+use crate::story::Story;
 use crate::unseen::is_at;
 use fx_config::{Direction, ObservationPoint};
 use fx_plan::Plan;
@@ -95,17 +95,14 @@ fn direction_words(point: &ObservationPoint) -> (&'static str, &'static str) {
 /// Tells that an observation point sees nothing of what crosses its interfaces.
 fn tell_point<'x>(story: &mut Story, device: &'x NetworkDevice, point: &'x ObservationPoint) {
     let (observed, other) = direction_words(point);
-    story.sentence(&[
-        Piece::Text("observation point "),
-        Piece::Quoted(point.name.as_str()),
-        Piece::Text(" of "),
-        Piece::Text(device.name.as_str()),
-        Piece::Text(" observes "),
-        Piece::Text(observed),
-        Piece::Text(" alone, and paths cross its interfaces "),
-        Piece::Text(other),
-        Piece::Text(" alone: it sees none of them"),
-    ]);
+    story.text_quoted("observation point ", point.name.as_str());
+    story.text(" of ");
+    story.text(device.name.as_str());
+    story.text(" observes ");
+    story.text(observed);
+    story.text(" alone, and paths cross its interfaces ");
+    story.text(other);
+    story.sentence(" alone: it sees none of them");
 }
 
 /// Tells the observation points of a device that see nothing of what crosses their interfaces.

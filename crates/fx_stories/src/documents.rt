@@ -17,7 +17,7 @@ use crate::json::tell_json;
 use crate::kinds::tell_kinds;
 use crate::members::tell_lacking;
 use crate::pointers::last_member;
-use crate::story::{Piece, Story};
+use crate::story::Story;
 use crate::values::{tell_allowed, tell_wrong};
 use fx_base::{Fault, Place, Sink, put_text, refusals};
 use serde_json::Value;
@@ -85,9 +85,9 @@ fn tell_value_at(
 ) -> Result<(), AllocError> {
     tell_value(alloc, story, at.value)?;
     match number {
-        refusals::TOTAL_COUNTER => story.sentence(&[Piece::Text(
+        refusals::TOTAL_COUNTER => story.sentence(
             "it counts since the beginning; in its place stands octetDeltaCount or packetDeltaCount",
-        )]),
+        ),
         refusals::KEY_WITHOUT_AXIS => tell_flow_key(alloc, story, at.value)?,
         refusals::WRONG_KIND => {
             tell_kinds(story, at.pointer, at.value, at.is_network);
@@ -210,10 +210,12 @@ fn story_of(
 ) -> Result<Story, AllocError> {
     let mut story = Story::new(alloc);
     if plan_again(alloc, network)?.is_none() {
-        story.sentence(&[Piece::Text("file: "), Piece::Text(name)]);
+        story.text("file: ");
+        story.sentence(name);
         tell_network(alloc, &mut story, network, fault)?;
     } else if let Some((name, traffic)) = traffic {
-        story.sentence(&[Piece::Text("file: "), Piece::Text(name)]);
+        story.text("file: ");
+        story.sentence(name);
         tell_traffic(alloc, &mut story, network, traffic, fault)?;
     }
     Ok(story)

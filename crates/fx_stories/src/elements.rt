@@ -1,7 +1,7 @@
 //! Values that aren't allowed, and the elements that they name.
 use crate::near::near_of;
 use crate::pointers::{text_member, text_or_none};
-use crate::story::{Piece, Story, between};
+use crate::story::{Story, between};
 use fx_elements::{Element, by_id, by_name};
 use serde_json::Value;
 use std::alloc::{AllocError, Global};
@@ -74,41 +74,35 @@ fn is_of_axis(element: Element) -> bool {
 
 /// Tells the name of the element that a misspelled one stands for.
 fn tell_near<'x>(story: &mut Story, name: &'x str, known: &'x str) {
-    story.sentence(&[
-        Piece::Text("no element is named "),
-        Piece::Quoted(name),
-        Piece::Text("; the nearest name is "),
-        Piece::Text(known),
-    ]);
+    story.text_quoted("no element is named ", name);
+    story.text("; the nearest name is ");
+    story.sentence(known);
 }
 
 /// Tells that packets aren't told apart by the element of this name.
 fn tell_named(story: &mut Story, name: &str) {
     match by_name(name) {
-        Element::Other => story.sentence(&[
-            Piece::Text("no element that is read is named "),
-            Piece::Quoted(name),
-        ]),
-        _ => story.sentence(&[
-            Piece::Text(name),
-            Piece::Text(" is no field by which packets are told apart"),
-        ]),
+        Element::Other => {
+            story.text_quoted("no element that is read is named ", name);
+            story.end_line();
+        },
+        _ => {
+            story.text(name);
+            story.sentence(" is no field by which packets are told apart");
+        },
     }
 }
 
 /// Tells that packets aren't told apart by the element of this number.
 fn tell_numbered(story: &mut Story, number: u64) {
-    story.sentence(&[
-        Piece::Text("element "),
-        Piece::Number(number),
-        Piece::Text(" is no field by which packets are told apart"),
-    ]);
+    story.text_number("element ", number);
+    story.sentence(" is no field by which packets are told apart");
 }
 
 /// Tells that packets aren't told apart by the element that an object names.
 fn tell_no_axis(story: &mut Story, object: &Value) {
     if is_of_enterprise(object) {
-        story.sentence(&[Piece::Text("packets are told apart by no element of an enterprise")]);
+        story.sentence("packets are told apart by no element of an enterprise");
         return;
     }
     if let Some(name) = text_member(object, "ieName") {
@@ -123,12 +117,10 @@ fn tell_no_axis(story: &mut Story, object: &Value) {
 /// Tells the elements that may be named where packets are told apart, those that are axes or their prefixes too.
 fn tell_choice(story: &mut Story, prefixes: bool) {
     let count = if prefixes { OF_AXES } else { ON_AXES };
-    story.tell(&[Piece::Text("elements that are allowed there: ")]);
+    story.text("elements that are allowed there: ");
     for place in 0..count {
-        story.tell(&[
-            Piece::Text(between(place > 0, ", ")),
-            Piece::Text(NAMES[place]),
-        ]);
+        story.text(between(place > 0, ", "));
+        story.text(NAMES[place]);
     }
     story.end_line();
 }
@@ -172,9 +164,8 @@ pub(crate) fn tell_value(
     let text = value.to_string(alloc)?;
     let octets = text.as_bytes();
     let end = octets.len().min(TOLD);
-    story.sentence(&[
-        Piece::Text("the value there: "),
-        Piece::Octets(&octets[..end]),
-    ]);
+    story.text("the value there: ");
+    story.octets_of(&octets[..end]);
+    story.end_line();
     Ok(())
 }

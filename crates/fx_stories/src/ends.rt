@@ -2,7 +2,7 @@
 use crate::pointers::{
     configuration, entry_of, items_member, last_member, text_member, text_or_none, value_behind,
 };
-use crate::story::{Piece, Story, between};
+use crate::story::{Story, between};
 use serde_json::Value;
 
 /// How many segments of a pointer lead to the configuration of a device.
@@ -10,22 +10,19 @@ const CONFIGURATION: usize = 4;
 
 /// Tells that nothing of a kind has this name, and the names that there are.
 fn tell_unknown<'x>(story: &mut Story, kind: &'x str, name: &'x str, entries: &[Value]) {
-    story.tell(&[
-        Piece::Text("no "),
-        Piece::Text(kind),
-        Piece::Text(" is named "),
-        Piece::Quoted(name),
-        Piece::Text("; there are: "),
-    ]);
+    story.text("no ");
+    story.text(kind);
+    story.text_quoted(" is named ", name);
+    story.text("; there are: ");
     let mut told = false;
     for entry in entries {
         if let Some(known) = text_member(entry, "name") {
-            story.tell(&[Piece::Text(between(told, ", ")), Piece::Quoted(known)]);
+            story.text_quoted(between(told, ", "), known);
             told = true;
         }
     }
     if !told {
-        story.tell(&[Piece::Text("none")]);
+        story.text("none");
     }
     story.end_line();
 }
@@ -68,20 +65,23 @@ pub(crate) fn tell_linked(story: &mut Story, network: &Value, link: &Value) {
     for place in 0..links.len() {
         let other = &links[place];
         if have_one_start(other, link) {
-            story.sentence(&[
-                Piece::Text("/links/"),
-                Piece::Number(place as u64),
-                Piece::Text(" leads from destination "),
-                Piece::Quoted(text_or_none(other, "destination")),
-                Piece::Text(" of exporting process "),
-                Piece::Quoted(text_or_none(other, "exportingProcess")),
-                Piece::Text(" of "),
-                Piece::Text(text_or_none(other, "device")),
-                Piece::Text(" too, to collecting process "),
-                Piece::Quoted(text_or_none(other, "toProcess")),
-                Piece::Text(" of "),
-                Piece::Text(text_or_none(other, "toDevice")),
-            ]);
+            story.text_number("/links/", place as u64);
+            story.text_quoted(
+                " leads from destination ",
+                text_or_none(other, "destination"),
+            );
+            story.text_quoted(
+                " of exporting process ",
+                text_or_none(other, "exportingProcess"),
+            );
+            story.text(" of ");
+            story.text(text_or_none(other, "device"));
+            story.text_quoted(
+                " too, to collecting process ",
+                text_or_none(other, "toProcess"),
+            );
+            story.text(" of ");
+            story.sentence(text_or_none(other, "toDevice"));
             return;
         }
     }
@@ -159,13 +159,10 @@ fn tell_numbers<'x>(story: &mut Story, network: &'x Value, numbers: &'x str) {
     let Some(process) = processes.get(second.saturating_sub(1)) else {
         return;
     };
-    story.sentence(&[
-        Piece::Text(numbers),
-        Piece::Text(" is collecting process "),
-        Piece::Quoted(text_or_none(process, "name")),
-        Piece::Text(" of "),
-        Piece::Text(text_or_none(device, "name")),
-    ]);
+    story.text(numbers);
+    story.text_quoted(" is collecting process ", text_or_none(process, "name"));
+    story.text(" of ");
+    story.sentence(text_or_none(device, "name"));
 }
 
 /// Tells the collecting processes that stand on a circle of links, or behind one, by their numbers.

@@ -1,6 +1,6 @@
 //! Selection processes that select nothing, since two of their filters exclude one another.
 use crate::regions::{axis_word, tell_values};
-use crate::story::{Piece, Story};
+use crate::story::Story;
 use fx_config::{Method, PropertyMatch, SelectionProcess, Selector};
 use fx_plan::Plan;
 use fx_topology::NetworkDevice;
@@ -21,18 +21,16 @@ fn excluding<'a>(selectors: &'a [Selector], other: &Selector) -> Option<&'a Sele
 
 /// Tells the values that pass a filter.
 fn tell_passing(story: &mut Story, filter: PropertyMatch) {
-    story.tell(&[
-        Piece::Text(" ("),
-        Piece::Text(axis_word(filter.axis)),
-        Piece::Text(" "),
-    ]);
+    story.text(" (");
+    story.text(axis_word(filter.axis));
+    story.text(" ");
     tell_values(story, filter.axis, filter.range.low, filter.range.high);
-    story.tell(&[Piece::Text(")")]);
+    story.text(")");
 }
 
 /// Tells a selector, and the values that pass it.
 fn tell_selector(story: &mut Story, selector: &Selector) {
-    story.tell(&[Piece::Quoted(selector.name.as_str())]);
+    story.quoted(selector.name.as_str());
     match selector.method {
         Method::FilterMatch(filter) => tell_passing(story, filter),
         Method::SelectAll => {},
@@ -47,15 +45,12 @@ fn tell_both<'x>(
     one: &Selector,
     other: &Selector,
 ) {
-    story.tell(&[
-        Piece::Text("selection process "),
-        Piece::Quoted(process.name.as_str()),
-        Piece::Text(" of "),
-        Piece::Text(device.name.as_str()),
-        Piece::Text(" selects nothing: no packet passes both filters "),
-    ]);
+    story.text_quoted("selection process ", process.name.as_str());
+    story.text(" of ");
+    story.text(device.name.as_str());
+    story.text(" selects nothing: no packet passes both filters ");
     tell_selector(story, one);
-    story.tell(&[Piece::Text(" and ")]);
+    story.text(" and ");
     tell_selector(story, other);
     story.end_line();
 }

@@ -1,5 +1,5 @@
 //! Fields of templates in words.
-use crate::story::{Piece, Story, between};
+use crate::story::{Story, between};
 use fx_elements::{Element, by_id, width};
 use fx_wire::{FieldSpecifier, VARIABLE};
 
@@ -89,24 +89,19 @@ fn last_element_name(number: u16) -> &'static str {
 
 /// Tells a field's element: its name, where it is known, and its number and enterprise.
 pub(crate) fn tell_element(story: &mut Story, field: &FieldSpecifier) {
-    let number = Piece::Number(u64::from(field.element));
+    let number = u64::from(field.element);
     if let Some(enterprise) = field.enterprise {
-        story.tell(&[
-            Piece::Text("element "),
-            number,
-            Piece::Text(" of enterprise "),
-            Piece::Number(u64::from(enterprise)),
-        ]);
+        story.text_number("element ", number);
+        story.text_number(" of enterprise ", u64::from(enterprise));
         return;
     }
     match element_name(field.element) {
-        "" => story.tell(&[Piece::Text("element "), number]),
-        name => story.tell(&[
-            Piece::Text(name),
-            Piece::Text(" (element "),
-            number,
-            Piece::Text(")"),
-        ]),
+        "" => story.text_number("element ", number),
+        name => {
+            story.text(name);
+            story.text_number(" (element ", number);
+            story.text(")");
+        }
     }
 }
 
@@ -114,24 +109,21 @@ pub(crate) fn tell_element(story: &mut Story, field: &FieldSpecifier) {
 pub(crate) fn tell_field(story: &mut Story, field: &FieldSpecifier) {
     tell_element(story, field);
     if field.field_length == VARIABLE {
-        story.tell(&[Piece::Text(" of variable length")]);
+        story.text(" of variable length");
         return;
     }
-    story.tell(&[
-        Piece::Text(" of length "),
-        Piece::Number(u64::from(field.field_length)),
-    ]);
+    story.text_number(" of length ", u64::from(field.field_length));
 }
 
 /// Tells the fields of a template.
 pub(crate) fn tell_fields_of(story: &mut Story, fields: &[FieldSpecifier]) {
     let told = fields.len().min(FIELDS);
     for place in 0..told {
-        story.tell(&[Piece::Text(between(place > 0, ", "))]);
+        story.text(between(place > 0, ", "));
         tell_field(story, &fields[place]);
     }
     if told < fields.len() {
-        story.tell(&[Piece::Text(", ..")]);
+        story.text(", ..");
     }
 }
 
@@ -141,17 +133,16 @@ pub(crate) fn tell_allowed_length(story: &mut Story, field: &FieldSpecifier) {
         Element::OnAxis(axis) | Element::Prefix(axis) => width(axis) / 8,
         Element::PrefixLength(_) => 1,
         _ => {
-            story.tell(&[Piece::Text("; it must have 1 octet at least")]);
+            story.text("; it must have 1 octet at least");
             return;
         },
     };
     match wide {
-        1 => story.tell(&[Piece::Text("; it must have 1 octet")]),
-        2 => story.tell(&[Piece::Text("; it must have 1 or 2 octets")]),
-        _ => story.tell(&[
-            Piece::Text("; it must have "),
-            Piece::Number(u64::from(wide)),
-            Piece::Text(" octets"),
-        ]),
+        1 => story.text("; it must have 1 octet"),
+        2 => story.text("; it must have 1 or 2 octets"),
+        _ => {
+            story.text_number("; it must have ", u64::from(wide));
+            story.text(" octets");
+        },
     }
 }

@@ -3,7 +3,7 @@ use crate::holders::leads_to_report;
 use crate::matches::tell_matches;
 use crate::names::entry_named;
 use crate::sending::{tell_end, tell_sending};
-use crate::story::{Piece, Story};
+use crate::story::Story;
 use fx_base::{Name, entry_at, entry_numbered};
 use fx_boxes::Region;
 use fx_config::{Aggregation, CollectingProcess};
@@ -75,15 +75,12 @@ fn tell_aggregation(
     aggregation: &Aggregation,
 ) {
     let exporters = aggregation.exporting_processes.as_slice();
-    story.tell(&[
-        Piece::Text("; aggregation "),
-        Piece::Quoted(aggregation.name.as_str()),
-        Piece::Text(if exporters.is_empty() {
-            ": it has no exporting process, so its records are lost"
-        } else {
-            ": "
-        }),
-    ]);
+    story.text_quoted("; aggregation ", aggregation.name.as_str());
+    story.text(if exporters.is_empty() {
+        ": it has no exporting process, so its records are lost"
+    } else {
+        ": "
+    });
     let _choices = tell_sending(story, plan, device, exporters, &[]);
 }
 
@@ -97,7 +94,7 @@ fn tell_process(
 ) {
     let exporters = process.exporting_processes.as_slice();
     if !exporters.is_empty() {
-        story.tell(&[Piece::Text("; it forwards: ")]);
+        story.text("; it forwards: ");
         let _choices = tell_sending(story, plan, device, exporters, &[]);
         add_links(found, device, exporters);
     }
@@ -117,7 +114,7 @@ fn tell_link(
 ) {
     tell_end(story, link);
     if leads_to_report(&plan.network().report, link) {
-        story.tell(&[Piece::Text(" is the report's")]);
+        story.text(" is the report's");
     }
     if let Some(device) = entry_named(plan.network().devices.as_slice(), &link.to_device) {
         let processes = device.config.collecting_processes.as_slice();

@@ -2,7 +2,7 @@
 use crate::names::entry_named;
 use crate::packets::tell_missing;
 use crate::sending::{tell_end, tell_sending};
-use crate::story::{Piece, Story};
+use crate::story::Story;
 use fx_base::{Name, entry_numbered};
 use fx_config::{Aggregation, CollectingProcess};
 use fx_plan::Plan;
@@ -17,14 +17,12 @@ fn tell_leaving(
     exporters: &[Name],
     choices: &[Option<u64>],
 ) {
-    story.tell(&[
-        Piece::Text(" of "),
-        Piece::Text(device.name.as_str()),
-        Piece::Text(": "),
-    ]);
+    story.text(" of ");
+    story.text(device.name.as_str());
+    story.text(": ");
     tell_sending(story, plan, device, exporters, choices);
     if exporters.is_empty() {
-        story.tell(&[Piece::Text("it has no exporting process, so the record is lost")]);
+        story.text("it has no exporting process, so the record is lost");
     }
     story.end_line();
 }
@@ -42,10 +40,7 @@ fn tell_cache(
         tell_missing(story, "its device has no cache ", number, caches.len());
         return;
     };
-    story.tell(&[
-        Piece::Text("a record leaves cache "),
-        Piece::Quoted(cache.name.as_str()),
-    ]);
+    story.text_quoted("a record leaves cache ", cache.name.as_str());
     tell_leaving(
         story,
         plan,
@@ -76,10 +71,7 @@ fn tell_aggregation(
         tell_missing(story, words, number, aggregations.len());
         return;
     };
-    story.tell(&[
-        Piece::Text("a record leaves aggregation "),
-        Piece::Quoted(aggregation.name.as_str()),
-    ]);
+    story.text_quoted("a record leaves aggregation ", aggregation.name.as_str());
     tell_leaving(
         story,
         plan,
@@ -131,11 +123,8 @@ fn tell_taking(story: &mut Story, aggregations: &[Aggregation], taken: usize) {
         return;
     }
     for aggregation in aggregations {
-        story.tell(&[
-            Piece::Text("; aggregation "),
-            Piece::Quoted(aggregation.name.as_str()),
-            Piece::Text(words),
-        ]);
+        story.text_quoted("; aggregation ", aggregation.name.as_str());
+        story.text(words);
     }
 }
 
@@ -149,7 +138,7 @@ fn tell_handling(
 ) {
     let exporters = process.exporting_processes.as_slice();
     if !exporters.is_empty() {
-        story.tell(&[Piece::Text("; ")]);
+        story.text("; ");
     }
     let made = tell_sending(story, plan, device, exporters, choices);
     let taken = choices.len().saturating_sub(made);
@@ -158,20 +147,17 @@ fn tell_handling(
 
 /// Tells that a record reaches the collecting process at the end of a link.
 fn tell_reaching(story: &mut Story, plan: &Plan, link: &NamedLink, choices: &[Option<u64>]) {
-    story.tell(&[
-        Piece::Text("a record on the link from destination "),
-        Piece::Quoted(link.destination.as_str()),
-        Piece::Text(" of exporting process "),
-        Piece::Quoted(link.exporting_process.as_str()),
-        Piece::Text(" of "),
-        Piece::Text(link.device.as_str()),
-        Piece::Text(" reaches "),
-    ]);
+    story.text_quoted(
+        "a record on the link from destination ",
+        link.destination.as_str(),
+    );
+    story.text_quoted(" of exporting process ", link.exporting_process.as_str());
+    story.text(" of ");
+    story.text(link.device.as_str());
+    story.text(" reaches ");
     tell_end(story, link);
     if leads_to_report(&plan.network().report, link) {
-        story.tell(&[Piece::Text(
-            "; it is counted, or unassigned where it lacks the report's key",
-        )]);
+        story.text("; it is counted, or unassigned where it lacks the report's key");
     }
     let devices = plan.network().devices.as_slice();
     if let Some(device) = entry_named(devices, &link.to_device) {

@@ -1,6 +1,6 @@
 //! Why octets are no JSON text.
 use crate::json_faults::tell_fault;
-use crate::story::{Piece, Story};
+use crate::story::Story;
 use serde_json::{Error, Value};
 use std::alloc::{AllocError, Global};
 
@@ -40,10 +40,9 @@ fn tell_before(story: &mut Story, octets: &[u8], line: usize, column: usize) {
     let end = start.saturating_add(column).min(octets.len());
     let first = start.max(end.saturating_sub(TOLD));
     if let Some(before) = octets.get(first..end) {
-        story.sentence(&[
-            Piece::Text("what stands there, up to that place: "),
-            Piece::Octets(before),
-        ]);
+        story.text("what stands there, up to that place: ");
+        story.octets_of(before);
+        story.end_line();
     }
 }
 
@@ -75,15 +74,11 @@ fn reason_in(text: &str) -> &str {
 
 /// Tells a reason, and the line and the column where it stands.
 fn tell_reason(story: &mut Story, line: usize, column: usize, reason: &str) {
-    story.sentence(&[
-        Piece::Text("line "),
-        Piece::Number(line as u64),
-        Piece::Text(", column "),
-        Piece::Number(column as u64),
-        Piece::Text(": "),
-        Piece::Text(reason),
-        Piece::Text(limit_words(reason)),
-    ]);
+    story.text_number("line ", line as u64);
+    story.text_number(", column ", column as u64);
+    story.text(": ");
+    story.text(reason);
+    story.sentence(limit_words(reason));
 }
 
 /// Tells where an error stands, its reason, and what stands there.
@@ -97,7 +92,7 @@ fn tell_error(
     let reason = reason_in(text.as_str());
     tell_reason(story, error.line(), error.column(), reason);
     match beginning_words(octets) {
-        Some(words) => story.sentence(&[Piece::Text(words)]),
+        Some(words) => story.sentence(words),
         None => {
             tell_before(story, octets, error.line(), error.column());
             let place = place_of(octets, error.line(), error.column(), reason);

@@ -1,5 +1,5 @@
 //! What is wrong with a JSON text at a place at which it can't be read on.
-use crate::story::{Piece, Story};
+use crate::story::Story;
 use std::str;
 
 /// How many octets of a text are told before a place in it.
@@ -151,16 +151,15 @@ fn tell_string(story: &mut Story, octets: &[u8], before: &Before) {
     let whole = string.get(..end.place).unwrap_or(&[]);
     let Some(words) = end.words else {
         if let Some(words) = whole_string_words(whole, before.last) {
-            story.sentence(&[Piece::Text(words)]);
+            story.sentence(words);
         }
         return;
     };
     let first = end.place.saturating_sub(TOLD);
-    story.sentence(&[
-        Piece::Text(words),
-        Piece::Text("; what stands before that: "),
-        Piece::Octets(whole.get(first..).unwrap_or(&[])),
-    ]);
+    story.text(words);
+    story.text("; what stands before that: ");
+    story.octets_of(whole.get(first..).unwrap_or(&[]));
+    story.end_line();
 }
 
 /// What is wrong with a text at a bracket, behind this octet, in words.
@@ -226,24 +225,24 @@ fn is_wide(octets: &[u8]) -> bool {
 fn tell_open(story: &mut Story, octets: &[u8]) {
     let before = before_end(octets);
     if before.last == 0 {
-        story.sentence(&[Piece::Text("the file has nothing but white space")]);
+        story.sentence("the file has nothing but white space");
         return;
     }
-    story.sentence(&[
-        Piece::Text("the text ends too early: objects and lists that are open at its end: "),
-        Piece::Number(before.depth),
-        Piece::Text(if before.in_string {
-            ", and a string"
-        } else {
-            ""
-        }),
-    ]);
+    story.text_number(
+        "the text ends too early: objects and lists that are open at its end: ",
+        before.depth,
+    );
+    story.sentence(if before.in_string {
+        ", and a string"
+    } else {
+        ""
+    });
 }
 
 /// Tells what is wrong with a JSON text at a place, as far as that is known.
 pub(crate) fn tell_fault(story: &mut Story, octets: &[u8], place: usize) {
     if is_wide(octets) {
-        story.sentence(&[Piece::Text("the text is in UTF-16: write it in UTF-8")]);
+        story.sentence("the text is in UTF-16: write it in UTF-8");
         return;
     }
     let (Some(before), Some(behind)) = (octets.get(..place), octets.get(place..)) else {
@@ -257,6 +256,6 @@ pub(crate) fn tell_fault(story: &mut Story, octets: &[u8], place: usize) {
     if octet == b'"' {
         tell_string(story, behind, &before);
     } else if let Some(words) = place_words(octet, &before) {
-        story.sentence(&[Piece::Text(words)]);
+        story.sentence(words);
     }
 }

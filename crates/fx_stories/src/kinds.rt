@@ -1,6 +1,6 @@
 //! Which kind of JSON value is due at a place, and which is there.
 use crate::pointers::{Location, location_of};
-use crate::story::{Piece, Story};
+use crate::story::Story;
 use serde_json::Value;
 
 /// The member in which the lists of a device stand.
@@ -184,9 +184,11 @@ fn due_words(location: &Location<'_>, is_network: bool) -> &'static str {
 /// Tells which kind of value stands at a pointer, and which is due there.
 pub(crate) fn tell_kinds(story: &mut Story, pointer: &str, value: &Value, is_network: bool) {
     let due = due_words(&location_of(pointer), is_network);
-    story.tell(&[Piece::Text("it is "), Piece::Text(kind_words(value))]);
+    story.text("it is ");
+    story.text(kind_words(value));
     if !due.is_empty() {
-        story.tell(&[Piece::Text("; due there: "), Piece::Text(due)]);
+        story.text("; due there: ");
+        story.text(due);
     }
     story.end_line();
 }

@@ -1,7 +1,7 @@
 //! What the key of a record lacks: for the report, where it stays unassigned, and for aggregations that don't take it in.
 use crate::names::entry_named;
 use crate::regions::{axis_word, tell_values};
-use crate::story::{Piece, Story};
+use crate::story::Story;
 use fx_base::{entry_at, entry_numbered};
 use fx_boxes::Fields;
 use fx_config::{Aggregation, CollectingProcess, PropertyMatch};
@@ -20,9 +20,9 @@ pub(crate) struct Arriving<'a> {
 
 /// Tells an axis, with the number of its leading bits where not all of them are meant.
 fn tell_part(story: &mut Story, axis: Axis, bits: u32) {
-    story.tell(&[Piece::Text(axis_word(axis))]);
+    story.text(axis_word(axis));
     if bits < width(axis) {
-        story.tell(&[Piece::Text("/"), Piece::Number(u64::from(bits))]);
+        story.text_number("/", u64::from(bits));
     }
 }
 
@@ -36,9 +36,9 @@ impl Arriving<'_> {
     fn tell_unassigned(&self, story: &mut Story) {
         for part in self.plan.net().report_layout().parts() {
             if !self.reads(part.axis, part.bits) {
-                story.tell(&[Piece::Text("the record stays unassigned: its key lacks ")]);
+                story.text("the record stays unassigned: its key lacks ");
                 tell_part(story, part.axis, part.bits);
-                story.sentence(&[Piece::Text(", which the report's key has")]);
+                story.sentence(", which the report's key has");
                 return;
             }
         }
@@ -73,9 +73,9 @@ impl Arriving<'_> {
     ) {
         if let Some((axis, bits)) = self.missing_part(entry) {
             tell_aggregation(story, aggregation);
-            story.tell(&[Piece::Text("the record's key lacks ")]);
+            story.text("the record's key lacks ");
             tell_part(story, axis, bits);
-            story.sentence(&[Piece::Text(", which its key has")]);
+            story.sentence(", which its key has");
         } else if let Some(property) = self.failing_match(aggregation) {
             tell_aggregation(story, aggregation);
             self.tell_match(story, property);
@@ -84,11 +84,9 @@ impl Arriving<'_> {
 
     /// Tells why a match doesn't hold for the record.
     fn tell_match(&self, story: &mut Story, property: &PropertyMatch) {
-        story.tell(&[
-            Piece::Text("its match is on "),
-            Piece::Text(axis_word(property.axis)),
-            Piece::Text(" "),
-        ]);
+        story.text("its match is on ");
+        story.text(axis_word(property.axis));
+        story.text(" ");
         tell_values(
             story,
             property.axis,
@@ -96,11 +94,12 @@ impl Arriving<'_> {
             property.range.high,
         );
         if !self.reads(property.axis, property.range.bits) {
-            story.sentence(&[Piece::Text(", which can't be read from the record's key")]);
+            story.sentence(", which can't be read from the record's key");
             return;
         }
-        story.tell(&[Piece::Text(", and the packet has there ")]);
-        story.sentence(&[Piece::Value(property.axis, self.fields.get(property.axis))]);
+        story.text(", and the packet has there ");
+        story.value(property.axis, self.fields.get(property.axis));
+        story.end_line();
     }
 
     /// Tells which aggregations of a collecting process don't take the record in, and why.
@@ -144,9 +143,6 @@ fn process_behind(plan: &Plan, link: u64) -> Option<&CollectingProcess> {
 
 /// Tells that an aggregation doesn't take a record in.
 fn tell_aggregation(story: &mut Story, aggregation: &Aggregation) {
-    story.tell(&[
-        Piece::Text("aggregation "),
-        Piece::Quoted(aggregation.name.as_str()),
-        Piece::Text(" doesn't take it in: "),
-    ]);
+    story.text_quoted("aggregation ", aggregation.name.as_str());
+    story.text(" doesn't take it in: ");
 }

@@ -1,7 +1,7 @@
 //! What a leaf of a certificate names.
 use crate::crossings::tell_numbered;
 use crate::names::selection_process;
-use crate::story::{Piece, Story};
+use crate::story::Story;
 use fx_base::entry_numbered;
 use fx_config::{Device, ObservationPoint};
 use fx_leaf::Counted;
@@ -11,19 +11,17 @@ use fx_tables::Crossing;
 /// Tells the selection process of a leaf, and its cache.
 fn tell_process(story: &mut Story, device: &Device, point: &ObservationPoint, number: u64) {
     let Some(process) = selection_process(device, point, number) else {
-        story.sentence(&[
-            Piece::Text("; there is no selection process "),
-            Piece::Number(number),
-        ]);
+        story.text_number("; there is no selection process ", number);
+        story.end_line();
         return;
     };
-    story.tell(&[
-        Piece::Text(", selection process "),
-        Piece::Quoted(process.name.as_str()),
-    ]);
+    story.text_quoted(", selection process ", process.name.as_str());
     match &process.cache {
-        Some(cache) => story.sentence(&[Piece::Text(", cache "), Piece::Quoted(cache.as_str())]),
-        None => story.sentence(&[Piece::Text(", which has no cache")]),
+        Some(cache) => {
+            story.text_quoted(", cache ", cache.as_str());
+            story.end_line();
+        },
+        None => story.sentence(", which has no cache"),
     }
 }
 
@@ -31,27 +29,20 @@ fn tell_process(story: &mut Story, device: &Device, point: &ObservationPoint, nu
 fn tell_point(story: &mut Story, device: &Device, leaf: &Counted) {
     let points = device.observation_points.as_slice();
     let Some(point) = entry_numbered(points, leaf.point) else {
-        story.sentence(&[
-            Piece::Text("; there is no observation point "),
-            Piece::Number(leaf.point),
-        ]);
+        story.text_number("; there is no observation point ", leaf.point);
+        story.end_line();
         return;
     };
-    story.tell(&[
-        Piece::Text(", observation point "),
-        Piece::Quoted(point.name.as_str()),
-    ]);
+    story.text_quoted(", observation point ", point.name.as_str());
     tell_process(story, device, point, leaf.process);
 }
 
 /// Tells the crossing, the observation point, the selection process and the cache that a leaf names.
 pub(crate) fn tell_leaf(story: &mut Story, plan: &Plan, crossings: &[Crossing], leaf: &Counted) {
-    story.tell(&[Piece::Text("the leaf names ")]);
+    story.text("the leaf names ");
     let Some(crossing) = entry_numbered(crossings, leaf.crossing) else {
-        story.sentence(&[
-            Piece::Text("a crossing that isn't there: "),
-            Piece::Number(leaf.crossing),
-        ]);
+        story.text_number("a crossing that isn't there: ", leaf.crossing);
+        story.end_line();
         return;
     };
     tell_numbered(story, plan, leaf.crossing, crossing);

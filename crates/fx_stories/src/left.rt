@@ -1,5 +1,5 @@
 //! What is left at the end of a run that isn't complete.
-use crate::story::{Piece, Story};
+use crate::story::Story;
 use crate::trying::Waiting;
 use fx_config::CollectingProcess;
 use fx_machine::State;
@@ -36,19 +36,13 @@ impl End<'_, '_> {
                 cache,
             }))?;
             if count > 0 {
-                story.sentence(&[
-                    Piece::Text("cache "),
-                    Piece::Quoted(caches[place].name.as_str()),
-                    Piece::Text(" of "),
-                    Piece::Text(device.name.as_str()),
-                    Piece::Text(" still holds records: "),
-                    Piece::Number(count),
-                    Piece::Text("; the first leaves by a line expire cache "),
-                    Piece::Number(number),
-                    Piece::Text(" "),
-                    Piece::Number(cache),
-                    Piece::Text(" 1 CHOICES"),
-                ]);
+                story.text_quoted("cache ", caches[place].name.as_str());
+                story.text(" of ");
+                story.text(device.name.as_str());
+                story.text_number(" still holds records: ", count);
+                story.text_number("; the first leaves by a line expire cache ", number);
+                story.text_number(" ", cache);
+                story.sentence(" 1 CHOICES");
             }
         }
         Ok(())
@@ -71,21 +65,13 @@ impl End<'_, '_> {
                 aggregation,
             }))?;
             if count > 0 {
-                story.sentence(&[
-                    Piece::Text("aggregation "),
-                    Piece::Quoted(aggregations[place].name.as_str()),
-                    Piece::Text(" of collecting process "),
-                    Piece::Quoted(process.name.as_str()),
-                    Piece::Text(" still holds records: "),
-                    Piece::Number(count),
-                    Piece::Text("; the first leaves by a line expire aggregation "),
-                    Piece::Number(device),
-                    Piece::Text(" "),
-                    Piece::Number(number),
-                    Piece::Text(" "),
-                    Piece::Number(aggregation),
-                    Piece::Text(" 1 CHOICES"),
-                ]);
+                story.text_quoted("aggregation ", aggregations[place].name.as_str());
+                story.text_quoted(" of collecting process ", process.name.as_str());
+                story.text_number(" still holds records: ", count);
+                story.text_number("; the first leaves by a line expire aggregation ", device);
+                story.text_number(" ", number);
+                story.text_number(" ", aggregation);
+                story.sentence(" 1 CHOICES");
             }
         }
         Ok(())
@@ -111,17 +97,15 @@ impl End<'_, '_> {
             let number = place as u64 + 1;
             let count = self.count(Waiting::Link(number))?;
             if count > 0 {
-                story.sentence(&[
-                    Piece::Text("on the link to collecting process "),
-                    Piece::Quoted(links[place].to_process.as_str()),
-                    Piece::Text(" of "),
-                    Piece::Text(links[place].to_device.as_str()),
-                    Piece::Text(" are still records: "),
-                    Piece::Number(count),
-                    Piece::Text("; the first arrives by a line arrive "),
-                    Piece::Number(number),
-                    Piece::Text(" 1 CHOICES"),
-                ]);
+                story.text_quoted(
+                    "on the link to collecting process ",
+                    links[place].to_process.as_str(),
+                );
+                story.text(" of ");
+                story.text(links[place].to_device.as_str());
+                story.text_number(" are still records: ", count);
+                story.text_number("; the first arrives by a line arrive ", number);
+                story.sentence(" 1 CHOICES");
             }
         }
         Ok(())

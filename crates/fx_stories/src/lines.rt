@@ -3,7 +3,7 @@ ghost use Rattle.std.specs.Prelude.{◌≡◌, ◌<◌, true, Ok, IfErr};
 ghost use Rattle.fx_base.specs.Lines.{line_budget};
 ghost use Rattle.fx_stories.specs.Stories.{IsLineFault, IsUntold};
 
-use crate::story::{Piece, Story};
+use crate::story::Story;
 use fx_base::{Fault, Line, LineReader, Place, Source, refusals};
 
 /// How many octets of a line are told.
@@ -33,12 +33,10 @@ pub(crate) fn next_line<C: Source>(lines: &mut LineReader<C>) -> Result<bool, Fa
 /// Tells a line: its number and its first octets.
 pub(crate) fn tell_line(story: &mut Story, line: &Line<'_>) {
     let end = line.bytes.len().min(TOLD);
-    story.sentence(&[
-        Piece::Text("line "),
-        Piece::Number(line.number),
-        Piece::Text(": "),
-        Piece::Octets(&line.bytes[..end]),
-    ]);
+    story.text_number("line ", line.number);
+    story.text(": ");
+    story.octets_of(&line.bytes[..end]);
+    story.end_line();
 }
 
 /// What was read of lines, or none where it is refused for what they say.

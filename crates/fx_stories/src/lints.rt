@@ -10,7 +10,7 @@ use crate::excluding::tell_excluding;
 use crate::overlapping::tell_overlapping;
 use crate::prefixes::{tell_prefixes, tell_prefixes_of_classes};
 use crate::scanning::tell_twice;
-use crate::story::{Piece, Story};
+use crate::story::Story;
 use crate::unread::tell_unread_members;
 use crate::unseen::tell_unseen;
 use crate::unused::tell_unused;
@@ -36,20 +36,14 @@ fn tell_network(alloc: Global, story: &mut Story, network: &[u8]) -> Result<(), 
 fn tell_classes(story: &mut Story, documents: &Documents) {
     let classes = documents.traffic.classes().as_slice();
     if classes.is_empty() {
-        story.sentence(&[Piece::Text(
-            "traffic: it declares no class, so an answer is about no packet",
-        )]);
+        story.sentence("traffic: it declares no class, so an answer is about no packet");
     }
     for place in 0..classes.len() {
         if classes[place].exempt() {
             let number = place as u64 + 1;
-            story.sentence(&[
-                Piece::Text("traffic: class "),
-                Piece::Number(number),
-                Piece::Text(" "),
-                Piece::Quoted(class_name(documents, number)),
-                Piece::Text(" is exempt: none of its packets may be counted"),
-            ]);
+            story.text_number("traffic: class ", number);
+            story.text_quoted(" ", class_name(documents, number));
+            story.sentence(" is exempt: none of its packets may be counted");
         }
     }
 }

@@ -1,6 +1,6 @@
 //! Matches of aggregations that don't hold for all packets of a region.
 use crate::regions::{axis_word, tell_values};
-use crate::story::{Piece, Story};
+use crate::story::Story;
 use fx_boxes::Region;
 use fx_config::{Aggregation, CollectingProcess, PropertyMatch};
 use fx_topology::NetworkDevice;
@@ -27,24 +27,20 @@ fn tell_match<'x>(
     property: &PropertyMatch,
     words: &'static str,
 ) {
-    story.tell(&[
-        Piece::Text("aggregation "),
-        Piece::Quoted(aggregation.name.as_str()),
-        Piece::Text(" of collecting process "),
-        Piece::Quoted(process.name.as_str()),
-        Piece::Text(" of "),
-        Piece::Text(device.name.as_str()),
-        Piece::Text(": its match on "),
-        Piece::Text(axis_word(property.axis)),
-        Piece::Text(" "),
-    ]);
+    story.text_quoted("aggregation ", aggregation.name.as_str());
+    story.text_quoted(" of collecting process ", process.name.as_str());
+    story.text(" of ");
+    story.text(device.name.as_str());
+    story.text(": its match on ");
+    story.text(axis_word(property.axis));
+    story.text(" ");
     tell_values(
         story,
         property.axis,
         property.range.low,
         property.range.high,
     );
-    story.sentence(&[Piece::Text(words)]);
+    story.sentence(words);
 }
 
 /// Tells which matches of an aggregation don't hold for all packets of a region.

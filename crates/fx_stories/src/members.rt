@@ -1,6 +1,6 @@
 //! Which members an object lacks, and which it has.
 use crate::elements::element_of;
-use crate::story::{Piece, Story};
+use crate::story::Story;
 use fx_elements::Element;
 use serde_json::Value;
 
@@ -63,7 +63,8 @@ fn members_required(member: &str, is_network: bool) -> Required {
 fn tell_missing(story: &mut Story, object: &Value, names: &'static [&'static str]) {
     for name in names {
         if object.get(*name).is_none() {
-            story.sentence(&[Piece::Text("missing: "), Piece::Text(name)]);
+            story.text("missing: ");
+            story.sentence(name);
         }
     }
 }
@@ -72,7 +73,8 @@ fn tell_missing(story: &mut Story, object: &Value, names: &'static [&'static str
 fn tell_choice(story: &mut Story, names: &'static [&'static str]) {
     let mut separator = "missing: one of ";
     for name in names {
-        story.tell(&[Piece::Text(separator), Piece::Text(name)]);
+        story.text(separator);
+        story.text(name);
         separator = ", ";
     }
     story.end_line();
@@ -84,17 +86,18 @@ fn tell_members(story: &mut Story, object: &Value) {
         return;
     };
     for (name, _) in members.iter() {
-        story.sentence(&[Piece::Text("there: "), Piece::Text(name.as_str())]);
+        story.text("there: ");
+        story.sentence(name.as_str());
     }
     if members.is_empty() {
-        story.sentence(&[Piece::Text("it has no members")]);
+        story.sentence("it has no members");
     }
 }
 
 /// Tells what an object lacks, at a pointer whose last member is this one, and what it has.
 pub(crate) fn tell_lacking(story: &mut Story, object: &Value, member: &str, is_network: bool) {
     if !object.is_object() {
-        story.sentence(&[Piece::Text("the list is empty; it has to have an entry at least")]);
+        story.sentence("the list is empty; it has to have an entry at least");
         return;
     }
     let required = members_required(member, is_network);

@@ -1,6 +1,6 @@
 //! A message of a stream that is read once more, and its sets.
 use crate::places::{number16, number32};
-use crate::story::{Piece, Story};
+use crate::story::Story;
 use std::alloc::{AllocError, Global};
 
 /// How many octets a message's header has.
@@ -85,29 +85,19 @@ impl MessageThere<'_> {
 
     /// Tells which message it is.
     pub(crate) fn tell(&self, story: &mut Story) {
-        story.sentence(&[
-            Piece::Text("message "),
-            Piece::Number(self.number),
-            Piece::Text(" of the stream, from octet "),
-            Piece::Number(self.place),
-            Piece::Text(" on: length "),
-            Piece::Number(self.octets.len() as u64),
-            Piece::Text(", observation domain "),
-            Piece::Number(u64::from(self.domain())),
-        ]);
+        story.text_number("message ", self.number);
+        story.text_number(" of the stream, from octet ", self.place);
+        story.text_number(" on: length ", self.octets.len() as u64);
+        story.text_number(", observation domain ", u64::from(self.domain()));
+        story.end_line();
     }
 
     /// Tells a set: its id and where it begins in the stream.
     pub(crate) fn tell_set(&self, story: &mut Story, set: &SetThere) {
-        story.tell(&[
-            Piece::Text("the set at octet "),
-            Piece::Number(self.place_in_stream(set.place)),
-            Piece::Text(" (id "),
-            Piece::Number(u64::from(set.id)),
-            Piece::Text(", length "),
-            Piece::Number(set.length as u64),
-            Piece::Text(")"),
-        ]);
+        story.text_number("the set at octet ", self.place_in_stream(set.place));
+        story.text_number(" (id ", u64::from(set.id));
+        story.text_number(", length ", set.length as u64);
+        story.text(")");
     }
 
     /// Tells the first set that is refused for its length.
@@ -117,27 +107,24 @@ impl MessageThere<'_> {
         };
         let left = self.octets.len().saturating_sub(set.place);
         if left < 4 {
-            story.sentence(&[
-                Piece::Text("at octet "),
-                Piece::Number(self.place_in_stream(set.place)),
-                Piece::Text(
-                    " the message has octets left, but fewer than the 4 of a set's header: ",
-                ),
-                Piece::Number(left as u64),
-            ]);
+            story.text_number("at octet ", self.place_in_stream(set.place));
+            story.text_number(
+                " the message has octets left, but fewer than the 4 of a set's header: ",
+                left as u64,
+            );
+            story.end_line();
             return;
         }
         self.tell_set(story, set);
         if set.length < 4 {
-            story.sentence(&[Piece::Text(
-                ": its length counts its header too, so it must be 4 at least",
-            )]);
+            story.sentence(": its length counts its header too, so it must be 4 at least");
             return;
         }
-        story.sentence(&[
-            Piece::Text(": it passes its message's end; octets left in the message: "),
-            Piece::Number(left as u64),
-        ]);
+        story.text_number(
+            ": it passes its message's end; octets left in the message: ",
+            left as u64,
+        );
+        story.end_line();
     }
 
     /// Tells the first set whose id is reserved.
@@ -145,11 +132,11 @@ impl MessageThere<'_> {
         for set in sets {
             if set.id < 256 && set.id != 2 && set.id != 3 {
                 self.tell_set(story, set);
-                story.sentence(&[Piece::Text(if set.id < 2 {
+                story.sentence(if set.id < 2 {
                     ": under this id stand the templates of NetFlow 9; those of IPFIX stand under 2 and 3"
                 } else {
                     ": this id is reserved"
-                })]);
+                });
                 return;
             }
         }

@@ -3,7 +3,7 @@ ghost use Rattle.std.specs.Prelude.{◌<◌, length};
 
 use crate::again::{Documents, class_name};
 use crate::regions::tell_region;
-use crate::story::{Piece, Story};
+use crate::story::Story;
 use fx_boxes::Region;
 use fx_tables::Class;
 
@@ -12,21 +12,13 @@ const TOLD: u64 = 16;
 
 /// Tells which packets two classes hold, by their numbers.
 fn tell_both(story: &mut Story, documents: &Documents, first: u64, second: u64, both: &Region) {
-    story.tell(&[
-        Piece::Text("traffic: class "),
-        Piece::Number(first),
-        Piece::Text(" "),
-        Piece::Quoted(class_name(documents, first)),
-        Piece::Text(" and class "),
-        Piece::Number(second),
-        Piece::Text(" "),
-        Piece::Quoted(class_name(documents, second)),
-        Piece::Text(" overlap: both hold "),
-    ]);
+    story.text_number("traffic: class ", first);
+    story.text_quoted(" ", class_name(documents, first));
+    story.text_number(" and class ", second);
+    story.text_quoted(" ", class_name(documents, second));
+    story.text(" overlap: both hold ");
     tell_region(story, both);
-    story.sentence(&[Piece::Text(
-        "; once run takes a packet to be of the first class that holds it",
-    )]);
+    story.sentence("; once run takes a packet to be of the first class that holds it");
 }
 
 /// Tells with which classes behind it the class at a place overlaps, as long as few were told, and answers how many
@@ -61,9 +53,10 @@ pub(crate) fn tell_overlapping(story: &mut Story, documents: &Documents) {
         count = tell_behind(story, documents, classes, place, count);
     }
     if count > TOLD {
-        story.sentence(&[
-            Piece::Text("traffic: pairs of classes that overlap, besides these: "),
-            Piece::Number(count - TOLD),
-        ]);
+        story.text_number(
+            "traffic: pairs of classes that overlap, besides these: ",
+            count - TOLD,
+        );
+        story.end_line();
     }
 }

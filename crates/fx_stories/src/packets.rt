@@ -1,7 +1,7 @@
 //! Packets by their fields, and why a packet isn't in a class.
 use crate::again::{Documents, class_name};
 use crate::regions::{axis_word, tell_values};
-use crate::story::{Piece, Story, between};
+use crate::story::{Story, between};
 use fx_base::entry_numbered;
 use fx_boxes::{Fields, Region};
 use fx_elements::{Axis, EVERY_AXIS};
@@ -21,20 +21,16 @@ pub(crate) fn tell_fields(
     for axis in EVERY_AXIS {
         let value = fields.get(axis);
         if value != 0 {
-            story.tell(&[
-                Piece::Text(before),
-                Piece::Text(axis_word(axis)),
-                Piece::Text(" "),
-                Piece::Value(axis, value),
-            ]);
+            story.text(before);
+            story.text(axis_word(axis));
+            story.text(" ");
+            story.value(axis, value);
             before = ", ";
         }
     }
-    story.sentence(&[
-        Piece::Text(before),
-        Piece::Text("0 in all other fields, octets "),
-        Piece::Number(octets),
-    ]);
+    story.text(before);
+    story.text_number("0 in all other fields, octets ", octets);
+    story.end_line();
 }
 
 /// What is to be said of the value of a field that packets of the other version have.
@@ -55,18 +51,16 @@ pub(crate) fn tell_outside(story: &mut Story, region: &Region, fields: &Fields) 
         let value = fields.get(axis);
         let (low, high) = (least.get(axis), greatest.get(axis));
         if value < low || high < value {
-            story.tell(&[
-                Piece::Text(between(told, "; ")),
-                Piece::Text(axis_word(axis)),
-                Piece::Text(" "),
-                Piece::Value(axis, value),
-                Piece::Text(absence(axis, fields)),
-                Piece::Text(if low == high {
-                    " isn't "
-                } else {
-                    " lies outside "
-                }),
-            ]);
+            story.text(between(told, "; "));
+            story.text(axis_word(axis));
+            story.text(" ");
+            story.value(axis, value);
+            story.text(absence(axis, fields));
+            story.text(if low == high {
+                " isn't "
+            } else {
+                " lies outside "
+            });
             tell_values(story, axis, low, high);
             told = true;
         }
@@ -81,13 +75,9 @@ fn tell_class_outside(
     class: &Class,
     fields: &Fields,
 ) {
-    story.tell(&[
-        Piece::Text("class "),
-        Piece::Number(number),
-        Piece::Text(" "),
-        Piece::Quoted(class_name(documents, number)),
-        Piece::Text(": "),
-    ]);
+    story.text_number("class ", number);
+    story.text_quoted(" ", class_name(documents, number));
+    story.text(": ");
     tell_outside(story, &class.region(), fields);
     story.end_line();
 }
@@ -100,26 +90,26 @@ pub(crate) fn tell_no_class(story: &mut Story, documents: &Documents, fields: &F
         tell_class_outside(story, documents, place as u64 + 1, &classes[place], fields);
     }
     if told < classes.len() {
-        story.sentence(&[
-            Piece::Text("and it is in none of the other classes, of which there are "),
-            Piece::Number((classes.len() - told) as u64),
-        ]);
+        story.text_number(
+            "and it is in none of the other classes, of which there are ",
+            (classes.len() - told) as u64,
+        );
+        story.end_line();
     }
 }
 
 /// Tells that a number counts too far: how many there are of what is counted.
 pub(crate) fn tell_missing(story: &mut Story, words: &'static str, number: u64, there: usize) {
-    story.sentence(&[
-        Piece::Text(words),
-        Piece::Number(number),
-        Piece::Text(if there == 1 {
+    story.text_number(words, number);
+    story.text_number(
+        if there == 1 {
             "; there is "
         } else {
             "; there are "
-        }),
-        Piece::Number(there as u64),
-        Piece::Text(", counted from 1"),
-    ]);
+        },
+        there as u64,
+    );
+    story.sentence(", counted from 1");
 }
 
 /// Tells why a packet isn't in the class of this number with the path of that one.
@@ -142,11 +132,7 @@ pub(crate) fn tell_named_class(
     if entry_numbered(named.paths(), path).is_some() {
         return;
     }
-    story.tell(&[
-        Piece::Text("class "),
-        Piece::Number(class),
-        Piece::Text(" "),
-        Piece::Quoted(class_name(documents, class)),
-    ]);
+    story.text_number("class ", class);
+    story.text_quoted(" ", class_name(documents, class));
     tell_missing(story, " has no path ", path, named.paths().len());
 }

@@ -1,7 +1,7 @@
 //! Why a packet isn't metered at a crossing: what each observation point there does with it.
 use crate::names::selection_process;
 use crate::packets::tell_outside;
-use crate::story::{Piece, Story, between};
+use crate::story::{Story, between};
 use fx_base::{Name, entry_at, entry_numbered};
 use fx_boxes::Fields;
 use fx_config::{ObservationPoint, SelectionProcess};
@@ -29,17 +29,14 @@ fn tell_selection(
     process: &SelectionProcess,
     selection: &Selection,
 ) {
-    story.tell(&[
-        Piece::Text("selection process "),
-        Piece::Quoted(process.name.as_str()),
-    ]);
+    story.text_quoted("selection process ", process.name.as_str());
     match &selection.region {
-        None => story.tell(&[Piece::Text(" selects no packet")]),
+        None => story.text(" selects no packet"),
         Some(region) if region.holds(passing.fields) => {
-            story.tell(&[Piece::Text(" selects it and has no cache")]);
+            story.text(" selects it and has no cache");
         }
         Some(region) => {
-            story.tell(&[Piece::Text(" doesn't select it: ")]);
+            story.text(" doesn't select it: ");
             tell_outside(story, region, passing.fields);
         }
     }
@@ -52,13 +49,13 @@ fn tell_selections(
     named: &ObservationPoint,
     selections: &[Selection],
 ) {
-    story.tell(&[Piece::Text(" sees it; ")]);
+    story.text(" sees it; ");
     if selections.is_empty() {
-        story.tell(&[Piece::Text("it has no selection process")]);
+        story.text("it has no selection process");
         return;
     }
     for place in 0..selections.len() {
-        story.tell(&[Piece::Text(between(place > 0, "; "))]);
+        story.text(between(place > 0, "; "));
         if let Some(process) = selection_process(&passing.device.config, named, place as u64 + 1) {
             tell_selection(story, passing, process, &selections[place]);
         }
@@ -67,19 +64,16 @@ fn tell_selections(
 
 /// Tells why a point at the crossing's interface doesn't meter a packet.
 fn tell_point(story: &mut Story, passing: &Passing<'_>, named: &ObservationPoint, point: &Point) {
-    story.tell(&[
-        Piece::Text("observation point "),
-        Piece::Quoted(named.name.as_str()),
-    ]);
+    story.text_quoted("observation point ", named.name.as_str());
     if point.watches(passing.crossing) {
         tell_selections(story, passing, named, point.selections());
         return;
     }
-    story.tell(&[Piece::Text(if passing.crossing.inwards {
+    story.text(if passing.crossing.inwards {
         " sees packets that go out there, and none that come in"
     } else {
         " sees packets that come in there, and none that go out"
-    })]);
+    });
 }
 
 /// Tells why the points of a device don't meter a packet.
@@ -89,7 +83,7 @@ fn tell_points(story: &mut Story, passing: &Passing<'_>, points: &[Point]) {
     for place in 0..points.len() {
         if let Some(one) = entry_at(named, place) {
             if is_among(one.interfaces.as_slice(), &passing.crossing.interface) {
-                story.tell(&[Piece::Text(between(told, "; "))]);
+                story.text(between(told, "; "));
                 tell_point(story, passing, one, &points[place]);
                 told = true;
             }
@@ -98,17 +92,15 @@ fn tell_points(story: &mut Story, passing: &Passing<'_>, points: &[Point]) {
     if told {
         return;
     }
-    story.tell(&[
-        Piece::Text("no observation point of "),
-        Piece::Text(passing.device.name.as_str()),
-        Piece::Text(" is at that interface"),
-    ]);
+    story.text("no observation point of ");
+    story.text(passing.device.name.as_str());
+    story.text(" is at that interface");
 }
 
 /// Tells why a packet with these fields isn't metered at a crossing.
 pub(crate) fn tell_unmetered(story: &mut Story, plan: &Plan, crossing: &Crossing, fields: &Fields) {
     let number = crossing.device;
-    story.tell(&[Piece::Text(": it isn't metered there: ")]);
+    story.text(": it isn't metered there: ");
     if let Some(device) = entry_numbered(plan.network().devices.as_slice(), number) {
         let passing = Passing {
             device,

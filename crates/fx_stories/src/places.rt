@@ -1,5 +1,5 @@
 //! Octets, and numbers at places of them.
-use crate::story::{Piece, Story};
+use crate::story::Story;
 
 /// The hexadecimal digits.
 const DIGITS: [&str; 16] = [
@@ -9,11 +9,9 @@ const DIGITS: [&str; 16] = [
 /// Tells octets in hexadecimal, each behind a blank.
 pub(crate) fn tell_digits(story: &mut Story, octets: &[u8]) {
     for octet in octets {
-        story.tell(&[
-            Piece::Text(" "),
-            Piece::Text(DIGITS[usize::from(*octet / 16)]),
-            Piece::Text(DIGITS[usize::from(*octet % 16)]),
-        ]);
+        story.text(" ");
+        story.text(DIGITS[usize::from(*octet / 16)]);
+        story.text(DIGITS[usize::from(*octet % 16)]);
     }
 }
 

@@ -1,7 +1,7 @@
 //! Prefixes whose addresses have bits behind their length.
 use crate::elements::element_of;
 use crate::pointers::{configuration, items_member, text_member, text_or_none};
-use crate::story::{Piece, Story};
+use crate::story::Story;
 use fx_elements::{Axis, Element, Range, by_name, read_on, read_value};
 use serde_json::Value;
 
@@ -18,13 +18,12 @@ fn addresses_meant(axis: Axis, text: &str) -> Option<Range> {
 
 /// Tells which addresses a prefix means.
 fn tell_meant(story: &mut Story, text: &str, axis: Axis, range: Range) {
-    story.sentence(&[
-        Piece::Text(text),
-        Piece::Text(" has bits behind its length; it means "),
-        Piece::Value(axis, range.low),
-        Piece::Text(" to "),
-        Piece::Value(axis, range.high),
-    ]);
+    story.text(text);
+    story.text(" has bits behind its length; it means ");
+    story.value(axis, range.low);
+    story.text(" to ");
+    story.value(axis, range.high);
+    story.end_line();
 }
 
 /// What an entry of a device is called: its own kind and name, and those of the entry in which it stands.
@@ -51,15 +50,11 @@ fn tell_match<'x>(
     let Some(range) = addresses_meant(axis, text) else {
         return;
     };
-    story.tell(&[
-        Piece::Text(kind),
-        Piece::Quoted(name),
-        Piece::Text(title.above),
-        Piece::Quoted(title.name),
-        Piece::Text(" of "),
-        Piece::Text(title.device),
-        Piece::Text(": "),
-    ]);
+    story.text_quoted(kind, name);
+    story.text_quoted(title.above, title.name);
+    story.text(" of ");
+    story.text(title.device);
+    story.text(": ");
     tell_meant(story, text, axis, range);
 }
 
@@ -138,13 +133,10 @@ fn tell_member<'x>(story: &mut Story, class: &'x str, name: &'x str, region: &'x
     let Some(range) = addresses_meant(axis, text) else {
         return;
     };
-    story.tell(&[
-        Piece::Text("traffic: class "),
-        Piece::Quoted(class),
-        Piece::Text(", "),
-        Piece::Text(name),
-        Piece::Text(": "),
-    ]);
+    story.text_quoted("traffic: class ", class);
+    story.text(", ");
+    story.text(name);
+    story.text(": ");
     tell_meant(story, text, axis, range);
 }
 

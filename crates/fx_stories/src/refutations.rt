@@ -13,7 +13,7 @@ use crate::left::tell_left;
 use crate::lines::unless_wrong;
 use crate::origins::Origins;
 use crate::steps::{tell_packet, tell_step};
-use crate::story::{Piece, Story};
+use crate::story::Story;
 use crate::trying::refusal_of;
 use fx_base::{Fault, LineReader, Room, Sink, Source, entry_numbered, put_text, refusals};
 use fx_collect::Totals;
@@ -54,7 +54,8 @@ fn tell_steps(
     let mut origins = Origins::new(alloc, documents.plan.net())?;
     for place in 0..steps.len() {
         let step = &steps[place];
-        story.tell(&[Piece::Number(place as u64 + 1), Piece::Text(". ")]);
+        story.number(place as u64 + 1);
+        story.text(". ");
         tell_step(alloc, story, documents, &[*packet], step)?;
         tell_lacking(story, documents, packet, &origins, step);
         origins.take(step)?;
@@ -84,12 +85,12 @@ fn tell_reported(story: &mut Story, documents: &Documents, steps: &[Step]) {
             } else {
                 "a record reaches the report at step "
             };
-            story.tell(&[Piece::Text(before), Piece::Number(place as u64 + 1)]);
+            story.text_number(before, place as u64 + 1);
             told = true;
         }
     }
     if !told {
-        story.tell(&[Piece::Text("no record reaches the report")]);
+        story.text("no record reaches the report");
     }
     story.end_line();
 }
@@ -118,9 +119,9 @@ fn tell_sums(
         Ok((mut ran, mut plain)) => {
             ran.sort()?;
             plain.sort()?;
-            story.sentence(&[Piece::Text("in the end the collector holds")]);
+            story.sentence("in the end the collector holds");
             tell_totals(story, &ran);
-            story.sentence(&[Piece::Text("and it should hold")]);
+            story.sentence("and it should hold");
             tell_totals(story, &plain);
             Ok(())
         }
@@ -162,7 +163,7 @@ fn tell_to_come(story: &mut Story, documents: &Documents, refutation: &Refutatio
         let number = place as u64 + 1;
         if !is_made(refutation.steps(), number) {
             tell_numbered(story, &documents.plan, number, &crossings[place]);
-            story.sentence(&[Piece::Text(" is still to come")]);
+            story.sentence(" is still to come");
         }
     }
 }

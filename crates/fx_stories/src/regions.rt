@@ -1,5 +1,5 @@
 //! Regions in words.
-use crate::story::{Piece, Story};
+use crate::story::Story;
 use fx_boxes::Region;
 use fx_elements::{Axis, EVERY_AXIS, top};
 
@@ -20,11 +20,12 @@ pub(crate) fn axis_word(axis: Axis) -> &'static str {
 
 /// Tells the values from a least to a greatest on an axis.
 pub(crate) fn tell_values(story: &mut Story, axis: Axis, low: u128, high: u128) {
-    story.tell(&[Piece::Value(axis, low)]);
+    story.value(axis, low);
     if low == high {
         return;
     }
-    story.tell(&[Piece::Text(" to "), Piece::Value(axis, high)]);
+    story.text(" to ");
+    story.value(axis, high);
 }
 
 /// Tells a region: its values on each axis on which it doesn't have all.
@@ -36,16 +37,14 @@ pub(crate) fn tell_region(story: &mut Story, region: &Region) {
         let low = least.get(axis);
         let high = greatest.get(axis);
         if low != 0 || high != top(axis) {
-            story.tell(&[
-                Piece::Text(separator),
-                Piece::Text(axis_word(axis)),
-                Piece::Text(" "),
-            ]);
+            story.text(separator);
+            story.text(axis_word(axis));
+            story.text(" ");
             tell_values(story, axis, low, high);
             separator = ", ";
         }
     }
     if separator.is_empty() {
-        story.tell(&[Piece::Text("all packets")]);
+        story.text("all packets");
     }
 }

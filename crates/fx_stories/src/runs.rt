@@ -10,7 +10,7 @@ use crate::lines::{next_line, tell_line, tell_line_numbered, unless_wrong};
 use crate::packets::{tell_fields, tell_named_class};
 use crate::refutations::tell_unconfirmed;
 use crate::steps::tell_step;
-use crate::story::{Piece, Story};
+use crate::story::Story;
 use crate::trying::refusal_of;
 use crate::unmade::Unmade;
 use crate::wrong_lines::{tell_wrong_header, tell_wrong_line};
@@ -57,7 +57,7 @@ fn tell_unmade(
         return Ok(());
     };
     tell_step_line(story, unmade.line_of(unmade.place), step);
-    story.tell(&[Piece::Text("this step can't be made: ")]);
+    story.text("this step can't be made: ");
     tell_step(unmade.alloc, story, unmade.documents, unmade.packets, step)?;
     unmade.tell(story, state)
 }
@@ -151,10 +151,7 @@ fn tell_line_packet(
         return Ok(());
     };
     // The first line is the form's.
-    story.tell(&[
-        Piece::Text("packet "),
-        Piece::Number(line.number.saturating_sub(1)),
-    ]);
+    story.text_number("packet ", line.number.saturating_sub(1));
     tell_fields(story, ": ", &packet.fields, packet.octets);
     tell_named_class(story, documents, packet.class, packet.path, &packet.fields);
     Ok(())
@@ -242,11 +239,11 @@ fn tell_form_numbered<C: Source>(
             kind = Kind::Run(version_of(line.bytes));
         }
     }
-    story.sentence(&[Piece::Text(if number == 1 {
+    story.sentence(if number == 1 {
         "the text is empty"
     } else {
         "the text ends before its line end"
-    })]);
+    });
     Ok(())
 }
 

@@ -1,5 +1,5 @@
 //! Members that stand twice in one object of a JSON text.
-use crate::story::{Piece, Story};
+use crate::story::Story;
 use std::alloc::{AllocError, Global};
 
 /// How many members of an object are looked at.
@@ -102,14 +102,11 @@ impl Scan {
         if !open.name_next || !open.add(text, start, end)? {
             return Ok(());
         }
-        story.sentence(&[
-            Piece::Text(self.document),
-            Piece::Text(", line "),
-            Piece::Number(self.line),
-            Piece::Text(": member \""),
-            Piece::Octets(part(text, start, end)),
-            Piece::Text("\" stands twice in one object; the last one counts"),
-        ]);
+        story.text(self.document);
+        story.text_number(", line ", self.line);
+        story.text(": member \"");
+        story.octets_of(part(text, start, end));
+        story.sentence("\" stands twice in one object; the last one counts");
         Ok(())
     }
 

@@ -7,7 +7,7 @@ ghost use Rattle.fx_stories.specs.Stories.{IsUntold, WritesStory};
 use crate::again::{Documents, documents_again};
 use crate::lines::{next_line, tell_line};
 use crate::packets::{tell_fields, tell_named_class, tell_no_class};
-use crate::story::{Piece, Story};
+use crate::story::Story;
 use fx_base::{Fault, Line, LineReader, Place, Sink, Source, put_text, refusals};
 use fx_elements::{Words, is_word};
 use fx_pcap::Capture;
@@ -114,12 +114,8 @@ fn tell_packet<F: Source>(
         .saturating_add(skipped.other)
         .saturating_add(skipped.malformed);
     let seen = capture.frame();
-    story.tell(&[
-        Piece::Text("packet "),
-        Piece::Number(number),
-        Piece::Text(" of the capture (frame "),
-        Piece::Number(frame),
-    ]);
+    story.text_number("packet ", number);
+    story.text_number(" of the capture (frame ", frame);
     tell_fields(story, "): ", &seen.fields, u64::from(seen.octets));
     match named {
         Some((class, path)) => tell_named_class(story, documents, class, path, &seen.fields),
@@ -146,9 +142,7 @@ fn tell_refused_packet<F: Source>(
     match number {
         Some(number) => tell_packet(story, documents, capture, number, taking.named),
         None => {
-            story.sentence(&[Piece::Text(
-                "The packet isn't told: the capture has no longer what was read of it.",
-            )]);
+            story.sentence("The packet isn't told: the capture has no longer what was read of it.");
         }
     }
 }

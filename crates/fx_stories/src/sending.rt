@@ -1,6 +1,6 @@
 //! Where the records of a cache, an aggregation or a collecting process go.
 use crate::names::{entry_named, link_from};
-use crate::story::{Piece, Story, between};
+use crate::story::{Story, between};
 use fx_base::{Name, entry_numbered};
 use fx_config::{Destination, ExportMode, ExportingProcess};
 use fx_plan::Plan;
@@ -8,12 +8,9 @@ use fx_topology::{NamedLink, NetworkDevice};
 
 /// Tells the collecting process to which a link leads.
 pub(crate) fn tell_end(story: &mut Story, link: &NamedLink) {
-    story.tell(&[
-        Piece::Text("collecting process "),
-        Piece::Quoted(link.to_process.as_str()),
-        Piece::Text(" of "),
-        Piece::Text(link.to_device.as_str()),
-    ]);
+    story.text_quoted("collecting process ", link.to_process.as_str());
+    story.text(" of ");
+    story.text(link.to_device.as_str());
 }
 
 /// Tells where a destination's records come to.
@@ -24,19 +21,15 @@ fn tell_destination<'x>(
     process: &'x ExportingProcess,
     destination: &'x Destination,
 ) {
-    story.tell(&[
-        Piece::Text("exporting process "),
-        Piece::Quoted(process.name.as_str()),
-        Piece::Text(" sends to destination "),
-        Piece::Quoted(destination.name.as_str()),
-    ]);
+    story.text_quoted("exporting process ", process.name.as_str());
+    story.text_quoted(" sends to destination ", destination.name.as_str());
     let links = plan.network().links.as_slice();
     match link_from(links, &device.name, &process.name, &destination.name) {
         Some(link) => {
-            story.tell(&[Piece::Text(", which is linked to ")]);
+            story.text(", which is linked to ");
             tell_end(story, link);
         }
-        None => story.tell(&[Piece::Text(", which has no link: what it is sent is lost")]),
+        None => story.text(", which has no link: what it is sent is lost"),
     }
 }
 
@@ -49,7 +42,7 @@ fn tell_destinations(
 ) {
     let mut separator = "";
     for destination in process.destinations.as_slice() {
-        story.tell(&[Piece::Text(separator)]);
+        story.text(separator);
         tell_destination(story, plan, device, process, destination);
         separator = "; ";
     }
@@ -95,7 +88,7 @@ pub(crate) fn tell_sending(
                 chosen = choices.get(made).copied().flatten();
                 made = made.saturating_add(1);
             }
-            story.tell(&[Piece::Text(between(told, "; "))]);
+            story.text(between(told, "; "));
             tell_process(story, plan, device, process, chosen);
             told = true;
         }

@@ -1,5 +1,5 @@
 //! What is wrong with a text that should spell a value of an axis.
-use crate::story::{Piece, Story};
+use crate::story::Story;
 use fx_elements::{Axis, Element, read_number, read_on, top, width};
 
 /// How many octets a text has at most that is looked at.
@@ -28,23 +28,15 @@ fn tell_quad(story: &mut Story, text: &str) {
     for part in text.split('.') {
         count = count.saturating_add(1);
         if let Some(words) = number_words(part) {
-            story.sentence(&[
-                Piece::Text("in the address "),
-                Piece::Quoted(text),
-                Piece::Text(" "),
-                Piece::Quoted(part),
-                Piece::Text(words),
-            ]);
+            story.text_quoted("in the address ", text);
+            story.text_quoted(" ", part);
+            story.sentence(words);
             return;
         }
     }
-    story.sentence(&[
-        Piece::Text("the address "),
-        Piece::Quoted(text),
-        Piece::Text(" has this many numbers between dots: "),
-        Piece::Number(count),
-        Piece::Text("; one of IPv4 has four"),
-    ]);
+    story.text_quoted("the address ", text);
+    story.text_number(" has this many numbers between dots: ", count);
+    story.sentence("; one of IPv4 has four");
 }
 
 /// Whether a character may stand in an address of IPv6.
@@ -77,22 +69,17 @@ fn wide_words(text: &str) -> &'static str {
 
 /// Tells what is wrong with an address of IPv6.
 fn tell_wide(story: &mut Story, text: &str) {
-    story.sentence(&[
-        Piece::Text("the address "),
-        Piece::Quoted(text),
-        Piece::Text(wide_words(text)),
-    ]);
+    story.text_quoted("the address ", text);
+    story.sentence(wide_words(text));
 }
 
 /// Tells which numbers an axis has.
 fn tell_number(story: &mut Story, axis: Axis) {
-    story.tell(&[
-        Piece::Text("allowed there: a number from 0 to "),
-        Piece::Value(axis, top(axis)),
-        Piece::Text(", in decimal digits without a zero in front"),
-    ]);
+    story.text("allowed there: a number from 0 to ");
+    story.value(axis, top(axis));
+    story.text(", in decimal digits without a zero in front");
     if axis == Axis::Protocol {
-        story.tell(&[Piece::Text(" (ICMP is 1, TCP 6, UDP 17, ICMPv6 58)")]);
+        story.text(" (ICMP is 1, TCP 6, UDP 17, ICMPv6 58)");
     }
     story.end_line();
 }
@@ -107,11 +94,8 @@ fn tell_single(story: &mut Story, axis: Axis, text: &str) {
     } else if !axis.is_address() {
         tell_number(story, axis);
     } else if text.contains(':') {
-        story.sentence(&[
-            Piece::Text("the address "),
-            Piece::Quoted(text),
-            Piece::Text(" is none of IPv4; for one of IPv6 name an element of IPv6"),
-        ]);
+        story.text_quoted("the address ", text);
+        story.sentence(" is none of IPv4; for one of IPv6 name an element of IPv6");
     } else {
         tell_quad(story, text);
     }
@@ -120,28 +104,25 @@ fn tell_single(story: &mut Story, axis: Axis, text: &str) {
 /// Tells what is wrong with the number of bits behind an address, if something is.
 fn tell_bits(story: &mut Story, axis: Axis, text: &str) {
     let Some(bits) = read_number(text.as_bytes(), u128::from(width(axis))) else {
-        story.sentence(&[
-            Piece::Text("the length of the prefix is "),
-            Piece::Quoted(text),
-            Piece::Text("; allowed there: a number from 1 to "),
-            Piece::Number(u64::from(width(axis))),
-            Piece::Text(" without a zero in front"),
-        ]);
+        story.text_quoted("the length of the prefix is ", text);
+        story.text_number(
+            "; allowed there: a number from 1 to ",
+            u64::from(width(axis)),
+        );
+        story.sentence(" without a zero in front");
         return;
     };
     if bits > 0 {
         return;
     }
-    story.sentence(&[Piece::Text("a prefix has 1 bit at least; for all addresses leave it out")]);
+    story.sentence("a prefix has 1 bit at least; for all addresses leave it out");
 }
 
 /// Tells what is wrong with a text that should spell a prefix, if something is.
 fn tell_prefix(story: &mut Story, axis: Axis, text: &str) {
     let Some((address, bits)) = text.split_once('/') else {
-        story.sentence(&[
-            Piece::Quoted(text),
-            Piece::Text(" has no /n: a prefix is an address, / and the number of its leading bits"),
-        ]);
+        story.quoted(text);
+        story.sentence(" has no /n: a prefix is an address, / and the number of its leading bits");
         return;
     };
     tell_single(story, axis, address);
@@ -161,12 +142,10 @@ fn tell_ends<'x>(story: &mut Story, axis: Axis, low: &'x str, high: &'x str) {
     if least <= greatest {
         return;
     }
-    story.sentence(&[
-        Piece::Text(low),
-        Piece::Text(" is above "),
-        Piece::Text(high),
-        Piece::Text("; the least value stands in front"),
-    ]);
+    story.text(low);
+    story.text(" is above ");
+    story.text(high);
+    story.sentence("; the least value stands in front");
 }
 
 /// Tells what is wrong with a text that should spell a value of an element, or a prefix.
@@ -175,14 +154,12 @@ pub(crate) fn tell_spelling(story: &mut Story, element: Element, text: &str) {
         return;
     }
     match element {
-        Element::OnAxis(axis) if axis.is_address() && text.contains('/') => story.sentence(&[
-            Piece::Text("the element has one address; for a prefix name the element of the prefix"),
-        ]),
-        Element::OnAxis(axis) | Element::Prefix(axis) if is_range(axis, text) => story.sentence(&[
-            Piece::Text(
-                "one value is allowed there, or a prefix; LOW-HIGH stands in the regions of traffic alone",
-            ),
-        ]),
+        Element::OnAxis(axis) if axis.is_address() && text.contains('/') => story.sentence(
+            "the element has one address; for a prefix name the element of the prefix",
+        ),
+        Element::OnAxis(axis) | Element::Prefix(axis) if is_range(axis, text) => story.sentence(
+            "one value is allowed there, or a prefix; LOW-HIGH stands in the regions of traffic alone",
+        ),
         Element::OnAxis(axis) => tell_single(story, axis, text),
         Element::Prefix(axis) => tell_prefix(story, axis, text),
         _ => {},
@@ -201,11 +178,11 @@ fn is_range(axis: Axis, text: &str) -> bool {
 
 /// Tells how the values of a region are written on an axis.
 fn tell_forms(story: &mut Story, axis: Axis) {
-    story.sentence(&[Piece::Text(if axis.is_address() {
+    story.sentence(if axis.is_address() {
         "a region has on an axis one value, or LOW-HIGH without blanks, or ADDRESS/n; of several values each has a class of its own"
     } else {
         "a region has on an axis one value, or LOW-HIGH without blanks; of several values each has a class of its own"
-    })]);
+    });
 }
 
 /// Tells what is wrong with a text that should spell values of a region on an axis.

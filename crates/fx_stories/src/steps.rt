@@ -6,7 +6,7 @@ use crate::names::selection_process;
 use crate::packets::{tell_fields, tell_missing};
 use crate::passing::tell_unmetered;
 use crate::paths::tell_class;
-use crate::story::{Piece, Story};
+use crate::story::Story;
 use fx_base::entry_numbered;
 use fx_config::Device;
 use fx_plan::Plan;
@@ -16,10 +16,10 @@ use std::alloc::{AllocError, Global};
 
 /// Tells a packet: its class and its path, its fields that aren't 0, and its octets.
 pub(crate) fn tell_packet(story: &mut Story, documents: &Documents, packet: &Packet) {
-    story.tell(&[Piece::Text("the packet: ")]);
+    story.text("the packet: ");
     tell_class(story, documents, packet.class, packet.path);
     if documents.traffic.classes().exempts(packet) {
-        story.tell(&[Piece::Text(" (exempt: it may not be counted)")]);
+        story.text(" (exempt: it may not be counted)");
     }
     tell_fields(story, ", ", &packet.fields, packet.octets);
 }
@@ -34,15 +34,10 @@ fn tell_occurrence(story: &mut Story, device: &Device, occurrence: &Occurrence) 
         return;
     };
     if let Some(cache) = &process.cache {
-        story.tell(&[
-            Piece::Text("observation point "),
-            Piece::Quoted(point.name.as_str()),
-            Piece::Text(", selection process "),
-            Piece::Quoted(process.name.as_str()),
-            Piece::Text(": cache "),
-            Piece::Quoted(cache.as_str()),
-            Piece::Text(" holds a record of it"),
-        ]);
+        story.text_quoted("observation point ", point.name.as_str());
+        story.text_quoted(", selection process ", process.name.as_str());
+        story.text_quoted(": cache ", cache.as_str());
+        story.text(" holds a record of it");
     }
 }
 
@@ -53,7 +48,7 @@ fn tell_occurrences(story: &mut Story, plan: &Plan, device: u64, occurrences: &[
     };
     let mut separator = ": ";
     for occurrence in occurrences {
-        story.tell(&[Piece::Text(separator)]);
+        story.text(separator);
         tell_occurrence(story, device, occurrence);
         separator = "; ";
     }
@@ -68,11 +63,8 @@ fn tell_metering(
     packet: &Packet,
     crossing: &Crossing,
 ) -> Result<(), AllocError> {
-    story.tell(&[
-        Piece::Text("packet "),
-        Piece::Number(number),
-        Piece::Text(" crosses "),
-    ]);
+    story.text_number("packet ", number);
+    story.text(" crosses ");
     tell_crossing(story, plan, crossing);
     let occurrences = plan.net().occurrences(alloc, crossing, &packet.fields)?;
     tell_occurrences(story, plan, crossing.device, occurrences.as_slice());

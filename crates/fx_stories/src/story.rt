@@ -9,21 +9,6 @@ use itoa::Buffer;
 use std::alloc::{AllocError, Global};
 use std::marker::Model;
 
-/// A piece of a sentence.
-#[derive(Clone, Copy)]
-pub(crate) enum Piece<'a> {
-    /// A text as it is.
-    Text(&'a str),
-    /// Octets of a document or of a text, as they are.
-    Octets(&'a [u8]),
-    /// A name, in quotation marks.
-    Quoted(&'a str),
-    /// A number in decimal.
-    Number(u64),
-    /// A value of an axis, an address as an address.
-    Value(Axis, u128),
-}
-
 /// Lines of text without control characters: those of a document are told as `?`. Where there is no memory for more, nothing
 /// is told from then on, and that is said at the end alone.
 #[derive(Drop)]
@@ -110,14 +95,26 @@ impl Story {
         self.octet(b'\n');
     }
 
-    /// Tells a number.
-    fn number(&mut self, number: u64) {
+    /// Tells a text.
+    pub(crate) fn text(&mut self, text: &str) {
+        self.octets_of(text.as_bytes());
+    }
+
+    /// Tells a name, in quotation marks.
+    pub(crate) fn quoted(&mut self, name: &str) {
+        self.text("\"");
+        self.text(name);
+        self.text("\"");
+    }
+
+    /// Tells a number in decimal.
+    pub(crate) fn number(&mut self, number: u64) {
         let mut buffer = Buffer::new();
         self.octets_of(buffer.format(number).as_bytes());
     }
 
-    /// Tells a value of an axis, which is one of its values.
-    fn value(&mut self, axis: Axis, value: u128) {
+    /// Tells a value of an axis, an address as an address.
+    pub(crate) fn value(&mut self, axis: Axis, value: u128) {
         if value > top(axis) {
             return;
         }
@@ -128,31 +125,21 @@ impl Story {
         self.octets_of(room.octets());
     }
 
-    /// Tells a piece of a sentence.
-    fn piece(&mut self, piece: &Piece<'_>) {
-        match piece {
-            Piece::Text(text) => self.octets_of(text.as_bytes()),
-            Piece::Octets(octets) => self.octets_of(octets),
-            Piece::Quoted(name) => {
-                self.octets_of(b"\"");
-                self.octets_of(name.as_bytes());
-                self.octets_of(b"\"");
-            }
-            Piece::Number(number) => self.number(*number),
-            Piece::Value(axis, value) => self.value(*axis, *value),
-        }
+    /// Tells a text, and behind it a name in quotation marks.
+    pub(crate) fn text_quoted(&mut self, text: &str, name: &str) {
+        self.text(text);
+        self.quoted(name);
     }
 
-    /// Tells the pieces, one after another.
-    pub(crate) fn tell(&mut self, pieces: &[Piece<'_>]) {
-        for piece in pieces {
-            self.piece(piece);
-        }
+    /// Tells a text, and behind it a number in decimal.
+    pub(crate) fn text_number(&mut self, text: &str, number: u64) {
+        self.text(text);
+        self.number(number);
     }
 
-    /// Tells the pieces, and ends the line.
-    pub(crate) fn sentence(&mut self, pieces: &[Piece<'_>]) {
-        self.tell(pieces);
+    /// Tells a text, and ends the line.
+    pub(crate) fn sentence(&mut self, text: &str) {
+        self.text(text);
         self.end_line();
     }
 }

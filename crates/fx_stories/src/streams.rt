@@ -8,7 +8,7 @@ use crate::data_sets::tell_data_set;
 use crate::formats::format_of;
 use crate::messages::{HEADER, MessageThere, SetThere};
 use crate::places::{number16, part, tell_digits};
-use crate::story::{Piece, Story};
+use crate::story::Story;
 use crate::template_sets::take_templates;
 use crate::templates::Templates;
 use fx_base::{Fault, PieceReader, Place, Sink, Source, put_text, refusals};
@@ -127,13 +127,9 @@ impl Reading {
     /// Tells the first octets of the refused message, and what they begin where they are no message.
     fn tell_start(&self, story: &mut Story) {
         let start = part(self.octets.as_slice(), 0, self.octets.len().min(HEADER));
-        story.tell(&[
-            Piece::Text("message "),
-            Piece::Number(self.number),
-            Piece::Text(" of the stream, from octet "),
-            Piece::Number(self.place),
-            Piece::Text(" on: its first octets are"),
-        ]);
+        story.text_number("message ", self.number);
+        story.text_number(" of the stream, from octet ", self.place);
+        story.text(" on: its first octets are");
         tell_digits(story, start);
         story.end_line();
     }
@@ -142,23 +138,22 @@ impl Reading {
     fn tell_version(&self, story: &mut Story) {
         self.tell_start(story);
         match format_of(self.octets.as_slice()) {
-            Some(words) => story.sentence(&[Piece::Text(words)]),
-            None => story.sentence(&[
-                Piece::Text("they say version "),
-                Piece::Number(u64::from(number16(self.octets.as_slice(), 0))),
-                Piece::Text(" in place of 10"),
-            ]),
+            Some(words) => story.sentence(words),
+            None => {
+                story.text_number(
+                    "they say version ",
+                    u64::from(number16(self.octets.as_slice(), 0)),
+                );
+                story.sentence(" in place of 10");
+            },
         }
         if self.number == 1 {
             return;
         }
-        story.sentence(&[
-            Piece::Text("messages before it: "),
-            Piece::Number(self.number.saturating_sub(1)),
-            Piece::Text(
-                "; either the last of them says a wrong length, or other octets stand between",
-            ),
-        ]);
+        story.text_number("messages before it: ", self.number.saturating_sub(1));
+        story.sentence(
+            "; either the last of them says a wrong length, or other octets stand between",
+        );
     }
 
     /// Tells why the refused message has a wrong length.
@@ -166,27 +161,24 @@ impl Reading {
         self.tell_start(story);
         let there = self.octets.len();
         if there < HEADER {
-            story.sentence(&[
-                Piece::Text(
-                    "the stream ends before the 16 octets of its header do; octets there are ",
-                ),
-                Piece::Number(there as u64),
-            ]);
+            story.text_number(
+                "the stream ends before the 16 octets of its header do; octets there are ",
+                there as u64,
+            );
+            story.end_line();
             return;
         }
         let length = number16(self.octets.as_slice(), 2);
-        story.tell(&[
-            Piece::Text("its header says length "),
-            Piece::Number(u64::from(length)),
-        ]);
+        story.text_number("its header says length ", u64::from(length));
         if usize::from(length) < HEADER {
-            story.sentence(&[Piece::Text(", which is below the 16 of the header itself")]);
+            story.sentence(", which is below the 16 of the header itself");
             return;
         }
-        story.sentence(&[
-            Piece::Text(", and the stream ends before; octets there are "),
-            Piece::Number(there as u64),
-        ]);
+        story.text_number(
+            ", and the stream ends before; octets there are ",
+            there as u64,
+        );
+        story.end_line();
     }
 
     /// Tells what is wrong with the sets of the refused message.
@@ -218,9 +210,7 @@ impl Reading {
     /// Tells the refused message, where the stream is as it was.
     fn tell(&mut self, story: &mut Story) -> Result<(), AllocError> {
         if self.place != self.refused || self.octets.is_empty() {
-            story.sentence(&[Piece::Text(
-                "The message isn't told: the stream has no longer what was read of it.",
-            )]);
+            story.sentence("The message isn't told: the stream has no longer what was read of it.");
             return Ok(());
         }
         match self.fault {

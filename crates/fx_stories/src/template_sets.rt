@@ -2,7 +2,7 @@
 use crate::fields::{tell_allowed_length, tell_field};
 use crate::messages::{MessageThere, SetThere};
 use crate::places::{number16, number32, part};
-use crate::story::{Piece, Story};
+use crate::story::Story;
 use crate::templates::{Declared, Templates, Withdrawn};
 use fx_elements::{Element, by_id};
 use fx_wire::{
@@ -21,26 +21,21 @@ struct RecordThere<'a> {
 impl RecordThere<'_> {
     /// Tells the template of this id, and where its record begins in the stream.
     fn tell(&self, story: &mut Story, id: u16) {
-        story.tell(&[
-            Piece::Text(match self.kind {
+        story.text_number(
+            match self.kind {
                 TemplateKind::Plain => "template ",
                 TemplateKind::Options => "options template ",
-            }),
-            Piece::Number(u64::from(id)),
-            Piece::Text(" at octet "),
-            Piece::Number(self.message.place_in_stream(self.place)),
-        ]);
+            },
+            u64::from(id),
+        );
+        story.text_number(" at octet ", self.message.place_in_stream(self.place));
     }
 
     /// Tells the field of this place of a template, which has so many.
     fn tell_place(&self, story: &mut Story, new: &NewTemplate, place: usize) {
         self.tell(story, new.id);
-        story.tell(&[
-            Piece::Text(": field "),
-            Piece::Number((place as u64).saturating_add(1)),
-            Piece::Text(" of "),
-            Piece::Number(u64::from(new.count)),
-        ]);
+        story.text_number(": field ", (place as u64).saturating_add(1));
+        story.text_number(" of ", u64::from(new.count));
     }
 
     /// Tells why the head of a record is refused.
@@ -49,26 +44,22 @@ impl RecordThere<'_> {
         let count = number16(octets, 2);
         self.tell(story, id);
         if count == 0 {
-            story.sentence(&[Piece::Text(
+            story.sentence(
                 ": without fields it is a withdrawal, and the ids of templates begin at 256 (2 withdraws all templates, 3 all options templates, each in its own sets)",
-            )]);
+            );
             return;
         }
         if id < 256 {
-            story.sentence(&[Piece::Text(": the ids of templates begin at 256")]);
+            story.sentence(": the ids of templates begin at 256");
             return;
         }
         if octets.len() < 6 {
-            story.sentence(&[Piece::Text(": its set ends inside of its head")]);
+            story.sentence(": its set ends inside of its head");
             return;
         }
-        story.sentence(&[
-            Piece::Text(": scope fields "),
-            Piece::Number(u64::from(number16(octets, 4))),
-            Piece::Text(" of "),
-            Piece::Number(u64::from(count)),
-            Piece::Text("; at least one of an options template's fields must be"),
-        ]);
+        story.text_number(": scope fields ", u64::from(number16(octets, 4)));
+        story.text_number(" of ", u64::from(count));
+        story.sentence("; at least one of an options template's fields must be");
     }
 
     /// Tells why a field is refused that begins with these octets.
@@ -76,7 +67,7 @@ impl RecordThere<'_> {
         self.tell_place(story, new, place);
         let has_enterprise = number16(octets, 0) >= 0x8000;
         if octets.len() < 4 || (has_enterprise && octets.len() < 8) {
-            story.sentence(&[Piece::Text(" passes its set's end")]);
+            story.sentence(" passes its set's end");
             return;
         }
         let field = FieldSpecifier {
@@ -84,7 +75,7 @@ impl RecordThere<'_> {
             field_length: number16(octets, 2),
             enterprise: has_enterprise.then_some(number32(octets, 4)),
         };
-        story.tell(&[Piece::Text(" is ")]);
+        story.text(" is ");
         tell_field(story, &field);
         tell_allowed_length(story, &field);
         story.end_line();
@@ -96,9 +87,9 @@ impl RecordThere<'_> {
             let field = &fields[place];
             if is_narrow(field) {
                 self.tell_place(story, new, place);
-                story.tell(&[Piece::Text(" is ")]);
+                story.text(" is ");
                 tell_field(story, field);
-                story.sentence(&[Piece::Text("; it must have 8 octets")]);
+                story.sentence("; it must have 8 octets");
                 return true;
             }
         }
@@ -112,13 +103,9 @@ impl RecordThere<'_> {
             return false;
         }
         self.tell(story, new.id);
-        story.sentence(&[
-            Piece::Text(" isn't the one of this id that message "),
-            Piece::Number(old.message),
-            Piece::Text(" declared at octet "),
-            Piece::Number(old.place),
-            Piece::Text(", which hasn't been withdrawn"),
-        ]);
+        story.text_number(" isn't the one of this id that message ", old.message);
+        story.text_number(" declared at octet ", old.place);
+        story.sentence(", which hasn't been withdrawn");
         tell_kinds(story, old, new);
         tell_difference(story, old, new, place);
         true
@@ -152,22 +139,18 @@ fn first_difference(old: &[FieldSpecifier], new: &[FieldSpecifier]) -> Option<us
 /// Tells whether a template and an options template differ in that, or two options templates in their scope.
 fn tell_kinds(story: &mut Story, old: &Declared, new: &Declared) {
     if old.kind != new.kind {
-        story.sentence(&[Piece::Text(match old.kind {
+        story.sentence(match old.kind {
             TemplateKind::Plain => "it was a template, and is an options template now",
             TemplateKind::Options => "it was an options template, and is a template now",
-        })]);
+        });
         return;
     }
     if old.scope == new.scope {
         return;
     }
-    story.sentence(&[
-        Piece::Text("scope fields: it had "),
-        Piece::Number(u64::from(old.scope)),
-        Piece::Text(", and has "),
-        Piece::Number(u64::from(new.scope)),
-        Piece::Text(" now"),
-    ]);
+    story.text_number("scope fields: it had ", u64::from(old.scope));
+    story.text_number(", and has ", u64::from(new.scope));
+    story.sentence(" now");
 }
 
 /// Tells the first fields in which two templates differ, or how many each has.
@@ -177,23 +160,18 @@ fn tell_difference(story: &mut Story, old: &Declared, new: &Declared, place: Opt
     };
     match (old.fields.get(place), new.fields.get(place)) {
         (Some(was), Some(is)) => {
-            story.tell(&[
-                Piece::Text("field "),
-                Piece::Number((place as u64).saturating_add(1)),
-                Piece::Text(" was "),
-            ]);
+            story.text_number("field ", (place as u64).saturating_add(1));
+            story.text(" was ");
             tell_field(story, was);
-            story.tell(&[Piece::Text(", and is ")]);
+            story.text(", and is ");
             tell_field(story, is);
-            story.sentence(&[Piece::Text(" now")]);
+            story.sentence(" now");
         }
-        _ => story.sentence(&[
-            Piece::Text("fields: it had "),
-            Piece::Number(old.fields.len() as u64),
-            Piece::Text(", and has "),
-            Piece::Number(new.fields.len() as u64),
-            Piece::Text(" now; as many as both have are the same"),
-        ]),
+        _ => {
+            story.text_number("fields: it had ", old.fields.len() as u64);
+            story.text_number(", and has ", new.fields.len() as u64);
+            story.sentence(" now; as many as both have are the same");
+        },
     }
 }
 

@@ -4,7 +4,7 @@ ghost use Rattle.fx_base.specs.Device.{IsWriteFault, KeepsGoing};
 ghost use Rattle.fx_stories.specs.Stories.{IsUntold, WritesStory};
 
 use crate::lines::{next_line, tell_line};
-use crate::story::{Piece, Story};
+use crate::story::Story;
 use fx_base::{Fault, Line, LineReader, Place, Sink, Source, put_text};
 use std::alloc::Global;
 
@@ -39,19 +39,16 @@ fn strange_line(octets: &[u8]) -> Option<&'static str> {
 /// Tells which text of several a line is in, and which line of it.
 fn tell_place(story: &mut Story, number: u64, text: u64, begun: u64) {
     if text == 0 {
-        story.sentence(&[Piece::Text(
-            "no text of totals comes before it: the first line is keys and a number",
-        )]);
+        story.sentence("no text of totals comes before it: the first line is keys and a number");
         return;
     }
-    story.sentence(&[
-        Piece::Text("it is line "),
-        Piece::Number(number.saturating_sub(begun).saturating_add(1)),
-        Piece::Text(" of text "),
-        Piece::Number(text),
-        Piece::Text(", which begins at line "),
-        Piece::Number(begun),
-    ]);
+    story.text_number(
+        "it is line ",
+        number.saturating_sub(begun).saturating_add(1),
+    );
+    story.text_number(" of text ", text);
+    story.text_number(", which begins at line ", begun);
+    story.end_line();
 }
 
 /// Tells the refused line, and what it is.
@@ -59,16 +56,16 @@ fn tell_refused(story: &mut Story, line: &Line<'_>, text: u64, begun: u64) {
     tell_line(story, line);
     tell_place(story, line.number, text, begun);
     if let Some(words) = strange_line(line.bytes) {
-        story.sentence(&[Piece::Text(words)]);
+        story.sentence(words);
     }
 }
 
 /// Tells the forms of lines, in their order.
 fn tell_forms(story: &mut Story) {
-    story.sentence(&[Piece::Text(
+    story.sentence(
         "a text is: keys N; N lines KEY packets P octets O, with the fields of the report's key, each key above the one \
 before it; unassigned U; then, where they were told, complete yes or no, skipped other A malformed B, gaps G and skipped S",
-    )]);
+    );
 }
 
 /// What is to be told of a line of totals that is refused.
@@ -94,9 +91,7 @@ fn story_of<C: Source>(
             begun = line.number;
         }
     }
-    story.sentence(&[Piece::Text(
-        "the texts end before that line: one is cut off, or there is none",
-    )]);
+    story.sentence("the texts end before that line: one is cut off, or there is none");
     tell_forms(&mut story);
     Ok(story)
 }

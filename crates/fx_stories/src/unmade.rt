@@ -1,7 +1,7 @@
 //! Why a step of a run can't be made.
 use crate::again::Documents;
 use crate::choosing::{Choosers, choosers_of};
-use crate::story::{Piece, Story};
+use crate::story::Story;
 use crate::trying::{Trial, Waiting, choices_of};
 use fx_base::refusals;
 use fx_machine::State;
@@ -68,11 +68,8 @@ impl Unmade<'_> {
     fn tell_made(&self, story: &mut Story, packet: u64, crossing: u64) {
         for place in 0..self.place.min(self.steps.len()) {
             if makes(&self.steps[place], packet, crossing) {
-                story.sentence(&[
-                    Piece::Text("line "),
-                    Piece::Number(self.line_of(place)),
-                    Piece::Text(" makes this crossing of it already; each crossing is made once"),
-                ]);
+                story.text_number("line ", self.line_of(place));
+                story.sentence(" makes this crossing of it already; each crossing is made once");
                 return;
             }
         }
@@ -83,11 +80,8 @@ impl Unmade<'_> {
         for behind in 0..self.place.min(self.steps.len()) {
             let place = self.place.min(self.steps.len()) - 1 - behind;
             if takes(&self.steps[place], waiting) {
-                story.tell(&[
-                    Piece::Text("; line "),
-                    Piece::Number(self.line_of(place)),
-                    Piece::Text(" took the last one that was there"),
-                ]);
+                story.text_number("; line ", self.line_of(place));
+                story.text(" took the last one that was there");
                 return;
             }
         }
@@ -103,15 +97,11 @@ impl Unmade<'_> {
     ) -> Result<(), AllocError> {
         let count = waiting.count(self.alloc, state)?;
         if count == 0 {
-            story.tell(&[Piece::Text("before this step no record is there")]);
+            story.text("before this step no record is there");
             self.tell_taken(story, waiting);
         } else {
-            story.tell(&[
-                Piece::Text("before this step the number of records there is "),
-                Piece::Number(count),
-                Piece::Text("; positions count from 1, and none is at "),
-                Piece::Number(position),
-            ]);
+            story.text_number("before this step the number of records there is ", count);
+            story.text_number("; positions count from 1, and none is at ", position);
         }
         story.end_line();
         Ok(())
@@ -125,14 +115,11 @@ impl Unmade<'_> {
         trial: &Trial<'_>,
     ) -> Result<(), AllocError> {
         let wanted = trial.count_wanted(self.alloc, state)?;
-        story.tell(&[
-            Piece::Text("choices of the step: "),
-            Piece::Number(choices_of(trial.step).len() as u64),
-        ]);
+        story.text_number("choices of the step: ", choices_of(trial.step).len() as u64);
         if let Some(wanted) = wanted {
-            story.tell(&[Piece::Text("; it takes "), Piece::Number(wanted as u64)]);
+            story.text_number("; it takes ", wanted as u64);
         }
-        story.sentence(&[Piece::Text(rule_words(trial.step))]);
+        story.sentence(rule_words(trial.step));
         Ok(())
     }
 
@@ -187,8 +174,8 @@ impl Unmade<'_> {
 /// Tells what a choice says.
 fn tell_chosen(story: &mut Story, chosen: Option<u64>) {
     match chosen {
-        Some(number) => story.tell(&[Piece::Text(" is "), Piece::Number(number)]),
-        None => story.tell(&[Piece::Text(" is n")]),
+        Some(number) => story.text_number(" is ", number),
+        None => story.text(" is n"),
     }
 }
 
@@ -199,23 +186,23 @@ fn tell_wrong_choice(
     place: usize,
     chosen: Option<u64>,
 ) {
-    story.tell(&[
-        Piece::Text("choice "),
-        Piece::Number((place as u64).saturating_add(1)),
-    ]);
+    story.text_number("choice ", (place as u64).saturating_add(1));
     tell_chosen(story, chosen);
     if let Some(process) = choosers.exporters.get(place) {
-        story.sentence(&[
-            Piece::Text("; a destination of exporting process "),
-            Piece::Quoted(process.name.as_str()),
-            Piece::Text(" is due there, from 1 to "),
-            Piece::Number(process.destinations.as_slice().len() as u64),
-        ]);
+        story.text_quoted(
+            "; a destination of exporting process ",
+            process.name.as_str(),
+        );
+        story.text_number(
+            " is due there, from 1 to ",
+            process.destinations.as_slice().len() as u64,
+        );
+        story.end_line();
         return;
     }
-    story.tell(&[Piece::Text(
+    story.text(
         "; n for a new record is due there, or the position of a record with the same key in ",
-    )]);
+    );
     choosers.tell_holder(story, place);
     story.end_line();
 }

@@ -1,6 +1,6 @@
 //! Members of a network's document that nothing reads.
 use crate::pointers::{configuration, items_member, text_or_none};
-use crate::story::{Piece, Story};
+use crate::story::Story;
 use serde_json::Value;
 
 /// The transports of destinations and of collecting processes.
@@ -29,15 +29,12 @@ fn tell_unread<'x>(
     name: &'x str,
     member: &'x str,
 ) {
-    story.sentence(&[
-        Piece::Text(kind),
-        Piece::Quoted(name),
-        Piece::Text(" of "),
-        Piece::Text(device),
-        Piece::Text(": what stands in "),
-        Piece::Text(member),
-        Piece::Text(" isn't read"),
-    ]);
+    story.text_quoted(kind, name);
+    story.text(" of ");
+    story.text(device);
+    story.text(": what stands in ");
+    story.text(member);
+    story.sentence(" isn't read");
 }
 
 /// Tells the transports of an entry of a device in which something stands.
@@ -81,13 +78,11 @@ fn tell_modules<'x>(story: &mut Story, device: &'x str, config: &'x Value) {
     };
     for (name, _) in members.iter() {
         if name.as_str() != "ietf-ipfix-psamp:ipfix" {
-            story.sentence(&[
-                Piece::Text("device "),
-                Piece::Text(device),
-                Piece::Text(": member "),
-                Piece::Text(name.as_str()),
-                Piece::Text(" of its configuration isn't read"),
-            ]);
+            story.text("device ");
+            story.text(device);
+            story.text(": member ");
+            story.text(name.as_str());
+            story.sentence(" of its configuration isn't read");
         }
     }
 }

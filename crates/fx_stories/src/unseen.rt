@@ -2,7 +2,7 @@
 use crate::again::Documents;
 use crate::crossings::tell_crossing;
 use crate::paths::tell_class;
-use crate::story::{Piece, Story};
+use crate::story::Story;
 use fx_base::Name;
 use fx_config::ObservationPoint;
 use fx_plan::Plan;
@@ -67,9 +67,9 @@ fn tell_interfaces(story: &mut Story, documents: &Documents, target: &Target<'_>
     for crossing in target.crossings {
         if !is_at_point(&documents.plan, crossing) {
             tell_class(story, documents, target.class, target.path);
-            story.tell(&[Piece::Text(": at ")]);
+            story.text(": at ");
             tell_crossing(story, &documents.plan, crossing);
-            story.sentence(&[Piece::Text(" the interface is at no observation point")]);
+            story.sentence(" the interface is at no observation point");
         }
     }
 }
@@ -79,7 +79,7 @@ fn tell_target(story: &mut Story, documents: &Documents, target: &Target<'_>) {
     tell_interfaces(story, documents, target);
     if !is_any_seen(&documents.plan, target.crossings) {
         tell_class(story, documents, target.class, target.path);
-        story.sentence(&[Piece::Text(": no observation point sees any of its crossings")]);
+        story.sentence(": no observation point sees any of its crossings");
     }
 }
 

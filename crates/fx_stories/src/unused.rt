@@ -1,6 +1,6 @@
 //! What leads nowhere, and what nothing feeds.
 use crate::names::link_from;
-use crate::story::{Piece, Story};
+use crate::story::Story;
 use fx_base::Name;
 use fx_config::{Cache, CollectingProcess, ExportingProcess, SelectionProcess};
 use fx_plan::Plan;
@@ -27,15 +27,11 @@ fn tell_destinations(
 
 /// Tells that a destination has no link.
 fn tell_lost<'x>(story: &mut Story, device: &'x str, process: &'x str, destination: &'x str) {
-    story.sentence(&[
-        Piece::Text("destination "),
-        Piece::Quoted(destination),
-        Piece::Text(" of exporting process "),
-        Piece::Quoted(process),
-        Piece::Text(" of "),
-        Piece::Text(device),
-        Piece::Text(" has no link: what it is sent is lost"),
-    ]);
+    story.text_quoted("destination ", destination);
+    story.text_quoted(" of exporting process ", process);
+    story.text(" of ");
+    story.text(device);
+    story.sentence(" has no link: what it is sent is lost");
 }
 
 /// Whether a selection process hands packets to the cache of this name.
@@ -58,12 +54,9 @@ fn is_fed(processes: &[SelectionProcess], name: &Name) -> bool {
 
 /// Tells that a cache is fed by nothing.
 fn tell_empty<'x>(story: &mut Story, device: &'x Name, cache: &'x Cache) {
-    story.sentence(&[
-        Piece::Text("no selection process feeds cache "),
-        Piece::Quoted(cache.name.as_str()),
-        Piece::Text(" of "),
-        Piece::Text(device.as_str()),
-    ]);
+    story.text_quoted("no selection process feeds cache ", cache.name.as_str());
+    story.text(" of ");
+    story.sentence(device.as_str());
 }
 
 /// Tells the caches of a device that no selection process feeds.
@@ -84,14 +77,11 @@ fn tell_end<'x>(
     device: &'x Name,
     words: &'static str,
 ) {
-    story.sentence(&[
-        Piece::Text(kind),
-        Piece::Text(" "),
-        Piece::Quoted(name.as_str()),
-        Piece::Text(" of "),
-        Piece::Text(device.as_str()),
-        Piece::Text(words),
-    ]);
+    story.text(kind);
+    story.text_quoted(" ", name.as_str());
+    story.text(" of ");
+    story.text(device.as_str());
+    story.sentence(words);
 }
 
 /// Tells the points and selection processes of a device by which no packet is metered.

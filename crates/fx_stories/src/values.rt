@@ -3,7 +3,7 @@ use crate::elements::{element_of, tell_element};
 use crate::members::one_required;
 use crate::pointers::{last_member, text_member};
 use crate::spelling::{tell_spelling, tell_values};
-use crate::story::{Piece, Story};
+use crate::story::Story;
 use fx_elements::{Element, by_name, width};
 use serde_json::Value;
 use std::alloc::{AllocError, Global};
@@ -43,7 +43,8 @@ pub(crate) fn tell_allowed(story: &mut Story, member: &str, is_network: bool) {
     if words.is_empty() {
         return;
     }
-    story.sentence(&[Piece::Text("allowed there: "), Piece::Text(words)]);
+    story.text("allowed there: ");
+    story.sentence(words);
 }
 
 /// Why a text is no name, if it is none.
@@ -62,7 +63,7 @@ fn name_words(text: &str) -> Option<&'static str> {
 /// Tells why a text is no name, if it is none.
 fn tell_name(story: &mut Story, text: &str) {
     if let Some(words) = name_words(text) {
-        story.sentence(&[Piece::Text(words)]);
+        story.sentence(words);
     }
 }
 
@@ -89,10 +90,8 @@ fn tell_octets(story: &mut Story, field: &Value) {
         Element::OctetDeltaCount | Element::PacketDeltaCount => 8,
         _ => return,
     };
-    story.sentence(&[
-        Piece::Text("octets that this element has to have there: "),
-        Piece::Number(octets),
-    ]);
+    story.text_number("octets that this element has to have there: ", octets);
+    story.end_line();
 }
 
 /// Tells those of several members, of which one may be there, that are.
@@ -100,7 +99,8 @@ fn tell_several(story: &mut Story, object: &Value, names: &'static [&'static str
     let mut separator = "only one of these may be there: ";
     for name in names {
         if object.get(*name).is_some() {
-            story.tell(&[Piece::Text(separator), Piece::Text(name)]);
+            story.text(separator);
+            story.text(name);
             separator = ", ";
         }
     }
@@ -150,14 +150,14 @@ fn tell_field(
     }
     let is_axis = matches!(element_of(field), Element::OnAxis(_));
     if is_axis && field.get("prefixLength").is_some() {
-        story.sentence(&[Piece::Text(
+        story.sentence(
             "prefixLength stands beside the element of a prefix alone, as sourceIPv4Prefix",
-        )]);
+        );
     }
     if earlier.iter().any(|other| is_same_axis(other, field)) {
-        story.sentence(&[Piece::Text(
+        story.sentence(
             "an earlier field of the key has this axis; an address and its prefix are one axis",
-        )]);
+        );
     }
     Ok(())
 }

@@ -2,7 +2,7 @@
 use crate::crossings::tell_numbered;
 use crate::names::{entry_named, selection_process};
 use crate::sending::tell_sending;
-use crate::story::{Piece, Story};
+use crate::story::Story;
 use fx_base::{entry_at, entry_numbered};
 use fx_boxes::Region;
 use fx_config::{ObservationPoint, SelectionProcess};
@@ -23,12 +23,12 @@ fn overlap_words(region: &Region, selection: &Selection) -> &'static str {
 /// Tells where the records of a selection process's cache go.
 fn tell_cache(story: &mut Story, plan: &Plan, device: &NetworkDevice, process: &SelectionProcess) {
     let Some(name) = &process.cache else {
-        story.sentence(&[Piece::Text(" and has no cache")]);
+        story.sentence(" and has no cache");
         return;
     };
-    story.tell(&[Piece::Text(", cache "), Piece::Quoted(name.as_str())]);
+    story.text_quoted(", cache ", name.as_str());
     if let Some(cache) = entry_named(device.config.caches.as_slice(), name) {
-        story.tell(&[Piece::Text(": ")]);
+        story.text(": ");
         tell_sending(
             story,
             plan,
@@ -37,7 +37,7 @@ fn tell_cache(story: &mut Story, plan: &Plan, device: &NetworkDevice, process: &
             &[],
         );
         if cache.exporting_processes.as_slice().is_empty() {
-            story.tell(&[Piece::Text("it has no exporting process, so its records are lost")]);
+            story.text("it has no exporting process, so its records are lost");
         }
     }
     story.end_line();
@@ -63,13 +63,9 @@ fn tell_selection<'x>(
     selection: &Selection,
 ) {
     tell_numbered(story, crossed.plan, crossed.number, crossed.crossing);
-    story.tell(&[
-        Piece::Text(": observation point "),
-        Piece::Quoted(point.name.as_str()),
-        Piece::Text(", selection process "),
-        Piece::Quoted(process.name.as_str()),
-        Piece::Text(overlap_words(crossed.region, selection)),
-    ]);
+    story.text_quoted(": observation point ", point.name.as_str());
+    story.text_quoted(", selection process ", process.name.as_str());
+    story.text(overlap_words(crossed.region, selection));
     tell_cache(story, crossed.plan, device, process)
 }
 
@@ -119,7 +115,7 @@ fn tell_at(story: &mut Story, crossed: &Crossed<'_>) {
         return;
     }
     tell_numbered(story, crossed.plan, crossed.number, crossed.crossing);
-    story.sentence(&[Piece::Text(": no observation point with a selection process sees it")]);
+    story.sentence(": no observation point with a selection process sees it");
 }
 
 /// Tells, for each crossing of a path, what sees the packets of a region there and where their records go.

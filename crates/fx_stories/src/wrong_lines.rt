@@ -1,6 +1,6 @@
 //! Which word of a line is wrong, and which form the line should have.
 use crate::line_forms::{Fit, Kind, axis_of, fit_of, forms_of, is_literal, is_of_other_version};
-use crate::story::{Piece, Story};
+use crate::story::Story;
 use fx_base::Line;
 use fx_elements::Axis;
 
@@ -69,32 +69,33 @@ fn nearest<'a>(forms: &[&'static str], line: &'a [u8]) -> Fit<'a> {
 fn tell_word(story: &mut Story, fit: &Fit<'_>) {
     let number = fit.words.saturating_add(1);
     match fit.word {
-        Some(word) => story.tell(&[
-            Piece::Text("word "),
-            Piece::Number(number),
-            Piece::Text(" is \""),
-            Piece::Octets(word),
-            Piece::Text("\""),
-        ]),
-        None => story.tell(&[
-            Piece::Text("the line ends before word "),
-            Piece::Number(number),
-        ]),
+        Some(word) => {
+            story.text_number("word ", number);
+            story.text(" is \"");
+            story.octets_of(word);
+            story.text("\"");
+        },
+        None => story.text_number("the line ends before word ", number),
     }
     if let Some(words) = fit.word.and_then(strange_word) {
-        story.tell(&[Piece::Text(": "), Piece::Text(words)]);
+        story.text(": ");
+        story.text(words);
     }
     story.end_line();
 }
 
 /// Tells what may stand behind so many words of a line that are as a form wants them.
 fn tell_due(story: &mut Story, form: &'static str, fit: &Fit<'_>) {
-    story.tell(&[Piece::Text("due there: ")]);
+    story.text("due there: ");
     match fit.due {
-        Some(due) => story.tell(&[Piece::Text(due), Piece::Text(due_words(form, due))]),
-        None => story.tell(&[Piece::Text("the end of the line")]),
+        Some(due) => {
+            story.text(due);
+            story.text(due_words(form, due));
+        },
+        None => story.text("the end of the line"),
     }
-    story.sentence(&[Piece::Text("; the form of the line: "), Piece::Text(form)]);
+    story.text("; the form of the line: ");
+    story.sentence(form);
 }
 
 /// Tells the forms that a line may have that is as they want it up to so many words.
@@ -112,7 +113,8 @@ fn tell_all_forms(story: &mut Story, forms: &[&'static str]) {
     let mut separator = "no line begins so; the forms of lines: ";
     for form in forms {
         if !form.is_empty() {
-            story.tell(&[Piece::Text(separator), Piece::Text(form)]);
+            story.text(separator);
+            story.text(form);
             separator = "; ";
         }
     }
@@ -136,7 +138,7 @@ pub(crate) fn tell_wrong_line(story: &mut Story, kind: Kind, line: &Line<'_>) {
     let forms = forms_of(kind);
     let fit = nearest(&forms, line.bytes);
     if fit.is_whole() {
-        story.sentence(&[Piece::Text(misplaced_words(kind, line))]);
+        story.sentence(misplaced_words(kind, line));
         return;
     }
     tell_word(story, &fit);
@@ -146,9 +148,9 @@ pub(crate) fn tell_wrong_line(story: &mut Story, kind: Kind, line: &Line<'_>) {
     }
     tell_forms(story, &forms, line.bytes, fit.words);
     if is_of_other_version(kind, line.bytes) {
-        story.sentence(&[Piece::Text(
+        story.sentence(
             "it is a packet's line of the other version than the one that the first line says",
-        )]);
+        );
     }
 }
 
@@ -169,8 +171,8 @@ fn text_words(line: &[u8]) -> Option<&'static str> {
 
 /// Tells what the first line of a text should be, and what it begins.
 pub(crate) fn tell_wrong_header(story: &mut Story, wanted: &'static str, line: &Line<'_>) {
-    story.sentence(&[Piece::Text(wanted)]);
+    story.sentence(wanted);
     if let Some(words) = strange_word(line.bytes).or(text_words(line.bytes)) {
-        story.sentence(&[Piece::Text(words)]);
+        story.sentence(words);
     }
 }
