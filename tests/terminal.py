@@ -20,8 +20,8 @@ import threading
 import rows
 from verdict import told
 
-WORDS = "Write --words once; it goes with each command, in front of it or behind its files."
-PROGRESS = "Write --progress once; it goes with audit, collect and run."
+WORDS = "Write --words once and without a value; it goes with each command, in front of it or behind its files."
+PROGRESS = "Write --progress once and without a value; it goes with audit, collect and run."
 LIMIT = "--limit goes with audit alone, behind that word: `once audit NETWORK TRAFFIC --limit N`."
 LINKS = "--links goes with run alone, behind that word: `once run NETWORK TRAFFIC CAPTURE SCHEDULE --links PREFIX`."
 NUMBER = "Write --limit once, with a whole number from 1 to 1000000 behind it, as in --limit 20000."
@@ -43,6 +43,8 @@ ADVICE = {
     "check n t c --wrods": WORDS,
     "check n t c --Word": WORDS,
     "words check n t c": WORDS,
+    "lint --words=yes n": WORDS,
+    "audit n t --progress=1": PROGRESS,
     "audit n t --progress --progress": PROGRESS,
     "collect n s --progres": PROGRESS,
     "audit n t --limit many": NUMBER,

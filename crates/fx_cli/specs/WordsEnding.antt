@@ -29,7 +29,8 @@ unread_status _ = 5
 
 abbrev pub unread_text : Failure → List ℕ
 unread_text failure.OutOfMemory = memory_line
-unread_text failure.InvalidData = codes "error: a word is no UTF-8 text" ++ 10 ∷ []
+unread_text failure.InvalidData = codes "error: a word is no UTF-8 text" ++ (10 ∷ 10 ∷
+    (codes "what to do: Name each file in UTF-8: rename it, or name a link to it." ++ 10 ∷ []))
 unread_text _ = refusal_line (fault_at failed_read places.None)
 
 -- a status with which words end that name no call: want of memory, a write that failed, or what their fault says

@@ -7,11 +7,11 @@ use std::alloc::{AllocError, Global};
 const OPTIONS: [(&str, &str); 6] = [
     (
         "--words",
-        "Write --words once; it goes with each command, in front of it or behind its files.",
+        "Write --words once and without a value; it goes with each command, in front of it or behind its files.",
     ),
     (
         "--progress",
-        "Write --progress once; it goes with audit, collect and run.",
+        "Write --progress once and without a value; it goes with audit, collect and run.",
     ),
     (
         "--limit",

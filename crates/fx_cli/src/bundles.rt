@@ -104,6 +104,12 @@ pub(crate) fn put_bundle_words(octets: &[u8], sink: &mut Words) -> Result<(), Fa
         );
     }
     let (command, rest) = first_line(octets);
+    if command.ends_with(b"\r") {
+        return put_text(
+            sink,
+            b"the first line ends in CR and LF: a bundle's lines end in LF alone, as `tr -d '\\r'` makes them\n",
+        );
+    }
     let wanted = texts_of(command);
     if wanted == 0 {
         return put_text(

@@ -73,7 +73,12 @@ pub struct Notes {
 
 /// A file's name, and why it couldn't be opened or made.
 fn sentence(alloc: Global, path: &str, error: io::Error) -> Result<String, AllocError> {
-    format!(in alloc; "{path}: {error}")
+    let name = if path.is_empty() {
+        "(a word without letters)"
+    } else {
+        path
+    };
+    format!(in alloc; "{name}: {error}")
 }
 
 impl Notes {

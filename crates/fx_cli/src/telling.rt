@@ -235,6 +235,14 @@ fn put_unread_denial(lines: LinesAt<'_>, sink: &mut Words) -> Result<(), Fault> 
     put_text(sink, TO_LOOK_UP)
 }
 
+/// Writes the name of the file that a text is in.
+fn put_text_name<R: Files>(rt: &R, text: LinesAt<'_>, sink: &mut Words) -> Result<(), Fault> {
+    match text {
+        LinesAt::File(file) => put_file_name(rt, file, sink),
+        LinesAt::Octets(_) => Ok(()),
+    }
+}
+
 /// Writes what is wrong with a certificate that was denied.
 fn put_denied_certificate<R: AllocGlobal + Files>(
     rt: &R,
@@ -248,6 +256,7 @@ fn put_denied_certificate<R: AllocGlobal + Files>(
     let Some(fault) = check_again(rt.alloc(), question, lines)? else {
         return Ok(());
     };
+    put_text_name(rt, certificate, sink)?;
     put_line_words(rt, certificate, question, &fault, sink)?;
     put_reason(sink, fault.number)
 }
@@ -265,6 +274,7 @@ fn put_denied_refutation<R: AllocGlobal + Files>(
     let Some(fault) = confirm_again(rt.alloc(), question, lines)? else {
         return Ok(());
     };
+    put_text_name(rt, refutation, sink)?;
     put_step_words(rt, refutation, question, &fault, sink)?;
     put_reason(sink, fault.number)
 }
@@ -354,8 +364,25 @@ fn is_directory<R: Files>(rt: &R, path: &str) -> bool {
     }
 }
 
-/// Writes which file couldn't be opened, read, made or written, or has too long a line, and why it couldn't be opened,
-/// made or read.
+/// Whether a refusal has its place in what a call reads behind its documents.
+fn is_behind_documents(fault: &Fault) -> bool {
+    fault.number >= refusals::CERTIFICATE_FIRST
+        && fault.number < refusals::WANT_OF_MEMORY
+        && !matches!(fault.place, Place::None)
+}
+
+/// Writes a file's name in a line of its own.
+fn put_file_name<R: Files>(rt: &R, file: &str, sink: &mut Words) -> Result<(), Fault> {
+    put_text(sink, b"file: ")?;
+    put_text(sink, file.as_bytes())?;
+    if is_directory(rt, file) {
+        put_text(sink, b": it is a directory")?;
+    }
+    put_text(sink, b"\n")
+}
+
+/// Writes which file couldn't be opened, read, made or written, or has what is refused, and why it couldn't be opened,
+/// made or read. Which document is refused is told with what stands there.
 fn put_file_words<R: Files>(
     rt: &R,
     call: Option<&Call>,
@@ -366,19 +393,26 @@ fn put_file_words<R: Files>(
     let file = match (fault.number, notes.failed_file.told()) {
         (refusals::FAILED_READ | refusals::FAILED_WRITE, Some(file)) => Some(file),
         (refusals::FAILED_READ, None) => call.and_then(|call| unread_file(call, notes)),
-        (refusals::LONG_LINE | refusals::TOTALS_FORM, _) => call.and_then(file_of_lines),
+        (refusals::LONG_LINE, _) => call.and_then(file_of_lines),
+        _ if is_behind_documents(fault) => {
+            call.and_then(|call| file_behind_documents(call, fault.number))
+        }
         _ => None,
     };
     match file {
-        Some(file) => {
-            put_text(sink, b"file: ")?;
-            put_text(sink, file.as_bytes())?;
-            if is_directory(rt, file) {
-                put_text(sink, b": it is a directory")?;
-            }
-            put_text(sink, b"\n")
-        }
+        Some(file) => put_file_name(rt, file, sink),
         None => Ok(()),
+    }
+}
+
+/// The file behind a call's documents that a refusal of this number is about.
+fn file_behind_documents(call: &Call, number: u16) -> Option<&str> {
+    match call {
+        Call::Collect { stream, .. } => Some(stream.as_str()),
+        Call::Run { capture, .. } if number <= refusals::LONG_CAPTURE_RECORD => {
+            Some(capture.as_str())
+        }
+        _ => file_of_lines(call),
     }
 }
 

@@ -82,7 +82,7 @@ pub fn finish_unread<S: Sink>(kind: io::ErrorKind, sink: &mut S) -> u8
     match kind {
         io::ErrorKind::OutOfMemory => finish(&Err(Fault::bare(refusals::WANT_OF_MEMORY)), sink),
         io::ErrorKind::InvalidData => put_and_end(
-            b"error: a word is no UTF-8 text\n",
+            b"error: a word is no UTF-8 text\n\nwhat to do: Name each file in UTF-8: rename it, or name a link to it.\n",
             NO_CALL,
             sink,
         ),

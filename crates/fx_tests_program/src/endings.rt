@@ -79,7 +79,7 @@ fn ends_unread_words(rt: HostRuntime) {
         (
             io::ErrorKind::InvalidData,
             6,
-            b"error: a word is no UTF-8 text\n",
+            b"error: a word is no UTF-8 text\n\nwhat to do: Name each file in UTF-8: rename it, or name a link to it.\n",
         ),
     ] {
         assert!(rt; ends_unread(kind, status, text));
