@@ -19,6 +19,7 @@ mod fields;
 mod following;
 mod formats;
 mod holders;
+mod interfaces;
 mod json;
 mod json_faults;
 mod kinds;

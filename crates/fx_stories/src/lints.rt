@@ -56,7 +56,7 @@ fn tell_declared(alloc: Global, story: &mut Story, documents: &Documents) -> Res
     tell_classes(story, documents);
     tell_prefixes_of_classes(story, &documents.classes);
     tell_overlapping(story, documents);
-    tell_unseen(story, documents, targets.as_slice());
+    tell_unseen(alloc, story, documents, targets.as_slice())?;
     tell_directions(alloc, story, documents, targets.as_slice())?;
     Ok(())
 }

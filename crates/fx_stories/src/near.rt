@@ -46,11 +46,11 @@ fn reach(name: &str) -> usize {
 }
 
 /// The nearest of these names, if one is near: of several that are as near the first.
-pub(crate) fn near_of(
+pub(crate) fn near_of<'a>(
     alloc: Global,
     name: &str,
-    names: &[&'static str],
-) -> Result<Option<&'static str>, AllocError> {
+    names: &[&'a str],
+) -> Result<Option<&'a str>, AllocError> {
     let mut nearest = None;
     let mut least = usize::MAX;
     if name.len() > COMPARED {

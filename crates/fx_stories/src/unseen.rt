@@ -1,6 +1,7 @@
 //! Crossings that no observation point can see.
 use crate::again::Documents;
 use crate::crossings::tell_crossing;
+use crate::interfaces::tell_watched_interfaces;
 use crate::paths::tell_class;
 use crate::story::Story;
 use fx_base::Name;
@@ -8,6 +9,7 @@ use fx_config::ObservationPoint;
 use fx_plan::Plan;
 use fx_tables::Crossing;
 use fx_traffic::Target;
+use std::alloc::{AllocError, Global};
 
 /// Whether a name is among these.
 fn is_among(names: &[Name], name: &Name) -> bool {
@@ -34,11 +36,11 @@ fn is_watched(points: &[ObservationPoint], interface: &Name) -> bool {
     false
 }
 
-/// Whether an observation point of the crossing's device is at its interface.
-fn is_at_point(plan: &Plan, crossing: &Crossing) -> bool {
+/// The observation points of a crossing's device.
+fn points_at<'a>(plan: &'a Plan, crossing: &Crossing) -> &'a [ObservationPoint] {
     match plan.device(crossing.device) {
-        Some(device) => is_watched(device.observation_points.as_slice(), &crossing.interface),
-        None => false,
+        Some(device) => device.observation_points.as_slice(),
+        None => &[],
     }
 }
 
@@ -62,30 +64,48 @@ fn is_any_seen(plan: &Plan, crossings: &[Crossing]) -> bool {
     false
 }
 
-/// Tells the crossings of a path whose interfaces are at no observation point.
-fn tell_interfaces(story: &mut Story, documents: &Documents, target: &Target<'_>) {
+/// Tells the crossings of a path whose interfaces are at no observation point, and those that are.
+fn tell_interfaces(
+    alloc: Global,
+    story: &mut Story,
+    documents: &Documents,
+    target: &Target<'_>,
+) -> Result<(), AllocError> {
     for crossing in target.crossings {
-        if !is_at_point(&documents.plan, crossing) {
+        let points = points_at(&documents.plan, crossing);
+        if !is_watched(points, &crossing.interface) {
             tell_class(story, documents, target.class, target.path);
             story.text(": at ");
             tell_crossing(story, &documents.plan, crossing);
-            story.sentence(" the interface is at no observation point");
+            story.text(" the interface is at no observation point");
+            tell_watched_interfaces(alloc, story, points, crossing.interface.as_str())?;
         }
     }
+    Ok(())
 }
 
-/// Tells of a path what no observation point sees.
-fn tell_target(story: &mut Story, documents: &Documents, target: &Target<'_>) {
-    tell_interfaces(story, documents, target);
-    if !is_any_seen(&documents.plan, target.crossings) {
-        tell_class(story, documents, target.class, target.path);
-        story.sentence(": no observation point sees any of its crossings");
-    }
+/// Tells that no observation point sees a crossing of a path, or that it has none.
+fn tell_path(story: &mut Story, documents: &Documents, target: &Target<'_>) {
+    tell_class(story, documents, target.class, target.path);
+    story.sentence(if target.crossings.is_empty() {
+        ": it has no crossing, so its packets pass no observation point"
+    } else {
+        ": no observation point sees any of its crossings"
+    });
 }
 
 /// Tells of each path of each class what no observation point sees.
-pub(crate) fn tell_unseen(story: &mut Story, documents: &Documents, targets: &[Target<'_>]) {
+pub(crate) fn tell_unseen(
+    alloc: Global,
+    story: &mut Story,
+    documents: &Documents,
+    targets: &[Target<'_>],
+) -> Result<(), AllocError> {
     for target in targets {
-        tell_target(story, documents, target);
+        tell_interfaces(alloc, story, documents, target)?;
+        if !is_any_seen(&documents.plan, target.crossings) {
+            tell_path(story, documents, target);
+        }
     }
+    Ok(())
 }

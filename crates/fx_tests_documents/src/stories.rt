@@ -58,7 +58,7 @@ const UNSEEN_TRAFFIC: &[u8] =
     br#"{"classes":[{"name":"web","paths":[[{"device":"m1","interface":"eth9","direction":"ingress"}]]}]}"#;
 
 const LINT_WORDS: &[u8] =
-    b"class 1 \"web\", path 1: at m1 eth9 ingress the interface is at no observation point
+    b"class 1 \"web\", path 1: at m1 eth9 ingress the interface is at no observation point; those of the device are at \"eth0\"
 class 1 \"web\", path 1: no observation point sees any of its crossings
 ";
 
