@@ -173,7 +173,7 @@ fn tell_network(
             };
             tell_refused(alloc, story, &refused, fault)
         }
-        None => tell_json(alloc, story, network),
+        None => tell_json(alloc, story, network, true),
     }
 }
 
@@ -186,7 +186,7 @@ fn tell_traffic(
     fault: &Fault,
 ) -> Result<(), AllocError> {
     let Some(declared) = value_again(alloc, traffic)? else {
-        return tell_json(alloc, story, traffic);
+        return tell_json(alloc, story, traffic, false);
     };
     match value_again(alloc, network)? {
         Some(network) => {

@@ -1,5 +1,6 @@
 //! Why octets are no JSON text.
 use crate::json_faults::tell_fault;
+use crate::other_files::tell_other_file;
 use crate::story::Story;
 use serde_json::{Error, Value};
 use std::alloc::{AllocError, Global};
@@ -15,10 +16,27 @@ fn beginning_words(octets: &[u8]) -> Option<&'static str> {
     if octets.starts_with(b"\xef\xbb\xbf") {
         return Some("the text begins with a byte order mark (octets EF BB BF): take it out");
     }
-    if octets.starts_with(b"\xff\xfe") || octets.starts_with(b"\xfe\xff") {
-        return Some("the text is in UTF-16: write it in UTF-8");
+    wide_words(octets)
+}
+
+/// In which encoding a text is whose characters take several octets each, in words, with what to do about it.
+fn wide_words(octets: &[u8]) -> Option<&'static str> {
+    match octets {
+        [0xff, 0xfe, 0, 0, ..] | [b'{' | b'[', 0, 0, 0, ..] | [0, 0, 0, b'{' | b'[', ..] => Some(
+            "the text is in UTF-32: write it in UTF-8 (iconv -f UTF-32 -t UTF-8 OLD > NEW)",
+        ),
+        [0xff, 0xfe, ..] | [0xfe, 0xff, ..] => {
+            Some("the text is in UTF-16: write it in UTF-8 (iconv -f UTF-16 -t UTF-8 OLD > NEW)")
+        }
+        [1..=127, 0, 1..=127, 0, ..] => {
+            Some("the text is in UTF-16: write it in UTF-8 (iconv -f UTF-16LE -t UTF-8 OLD > NEW)")
+        }
+        // A stream of IPFIX begins with 0 and 10, as a line feed does.
+        [0, b'\t'..=b'~', 0, b'\t'..=b'~', 0, 1..=127, ..] | [0, b'\t'..=b'~', 0, b'\t'..=b'~'] => {
+            Some("the text is in UTF-16: write it in UTF-8 (iconv -f UTF-16BE -t UTF-8 OLD > NEW)")
+        }
+        _ => None,
     }
-    None
 }
 
 /// Where a line of a text begins, by its number, from 1.
@@ -39,7 +57,8 @@ fn tell_before(story: &mut Story, octets: &[u8], line: usize, column: usize) {
     let start = start_of_line(octets, line);
     let end = start.saturating_add(column).min(octets.len());
     let first = start.max(end.saturating_sub(TOLD));
-    if let Some(before) = octets.get(first..end) {
+    let before = octets.get(first..end).unwrap_or(&[]);
+    if !before.is_empty() {
         story.text("what stands there, up to that place: ");
         story.octets_of(before);
         story.end_line();
@@ -59,7 +78,7 @@ fn limit_words(reason: &str) -> &'static str {
     match reason {
         "recursion limit exceeded" => " (values may stand in at most 127 others)",
         "number out of range" =>
-            " (numbers of 309 digits and more are refused; it stands before this place)",
+            " (numbers beyond 1.79e308 are refused; it stands before this place)",
         _ => "",
     }
 }
@@ -81,32 +100,47 @@ fn tell_reason(story: &mut Story, line: usize, column: usize, reason: &str) {
     story.sentence(limit_words(reason));
 }
 
+/// Tells what is wrong with a text from its first octets on, where a network or a traffic declaration is due. Answers
+/// whether that is told.
+fn tell_beginning(story: &mut Story, octets: &[u8], is_network: bool) -> bool {
+    match beginning_words(octets) {
+        Some(words) => {
+            story.sentence(words);
+            true
+        }
+        None => tell_other_file(story, octets, is_network),
+    }
+}
+
 /// Tells where an error stands, its reason, and what stands there.
 fn tell_error(
     alloc: Global,
     story: &mut Story,
     octets: &[u8],
     error: &Error,
+    is_network: bool,
 ) -> Result<(), AllocError> {
     let text = format!(in alloc; "{error}")?;
     let reason = reason_in(text.as_str());
     tell_reason(story, error.line(), error.column(), reason);
-    match beginning_words(octets) {
-        Some(words) => story.sentence(words),
-        None => {
-            tell_before(story, octets, error.line(), error.column());
-            let place = place_of(octets, error.line(), error.column(), reason);
-            tell_fault(story, octets, place);
-        }
+    if !tell_beginning(story, octets, is_network) {
+        tell_before(story, octets, error.line(), error.column());
+        let place = place_of(octets, error.line(), error.column(), reason);
+        tell_fault(story, octets, place);
     }
     Ok(())
 }
 
-/// Tells why octets are no JSON text, if they aren't.
-pub(crate) fn tell_json(alloc: Global, story: &mut Story, octets: &[u8]) -> Result<(), AllocError> {
+/// Tells why octets are no JSON text, if they aren't, where a network or a traffic declaration is due.
+pub(crate) fn tell_json(
+    alloc: Global,
+    story: &mut Story,
+    octets: &[u8],
+    is_network: bool,
+) -> Result<(), AllocError> {
     match Value::from_slice(alloc, octets) {
         Ok(_) => Ok(()),
         Err(error) if error.is_memory() => Err(AllocError),
-        Err(error) => tell_error(alloc, story, octets, &error),
+        Err(error) => tell_error(alloc, story, octets, &error, is_network),
     }
 }

@@ -8,6 +8,10 @@ const TOLD: usize = 40;
 /// How many values may stand in one another.
 const DEEPEST: u64 = 127;
 
+/// What is told of an octet that is no UTF-8.
+const OTHER_ENCODING: &str =
+    "this octet is no UTF-8 there: the text is in another encoding; write it in UTF-8 (of Windows or Latin-1: iconv -f WINDOWS-1252 -t UTF-8 OLD > NEW)";
+
 /// What comes before a place of a JSON text.
 #[derive(Clone, Copy, Drop)]
 struct Before {
@@ -187,9 +191,7 @@ fn octet_there_words(octet: u8, last: u8) -> Option<&'static str> {
                 "no number is written so: it has no plus, no zeros in front, and digits around a point",
             )
         }
-        0x80..=0xff => {
-            Some("this octet is no UTF-8 there: the text is in another encoding; write it in UTF-8")
-        }
+        0x80..=0xff => Some(OTHER_ENCODING),
         _ if last == b'"' => {
             Some(
                 "the string before it has ended: its quotation mark stands too early, or a comma is missing",
@@ -202,23 +204,41 @@ fn octet_there_words(octet: u8, last: u8) -> Option<&'static str> {
     }
 }
 
-/// What is wrong with a text at an octet that begins no string, behind what stands before it, in words.
-fn place_words(octet: u8, before: &Before) -> Option<&'static str> {
+/// What octets are that stand outside of strings and are often put there, in words.
+fn foreign_words(octets: &[u8]) -> Option<&'static str> {
+    match octets {
+        [b'N', b'a', b'N', ..] | [b'I', b'n', b'f', ..] | [b'-', b'I', b'n', b'f', ..] => {
+            Some("JSON has no NaN and no Infinity: write a number, or leave the member out")
+        }
+        [0xe2, 0x80, 0x98..=0x9f, ..] | [0x91..=0x94, ..] => Some(
+            "a curly quotation mark stands there; names and texts stand in straight ones",
+        ),
+        [0xc2, 0xa0, ..] | [0xa0, ..] => {
+            Some(
+                "a no-break space stands there; blanks, tabs and line ends alone may stand between values",
+            )
+        }
+        [0xc2..=0xdf, 0x80..=0xbf, ..] | [0xe0..=0xf4, 0x80..=0xbf, 0x80..=0xbf, ..] => Some(
+            "a character beyond ASCII stands there; such characters stand in strings alone, in quotation marks",
+        ),
+        _ => None,
+    }
+}
+
+/// What is wrong with a text at an octet that begins no string, with those behind it and what stands before it, in words.
+fn place_words(octet: u8, behind: &[u8], before: &Before) -> Option<&'static str> {
     let is_opening = matches!(octet, b'{' | b'[');
-    if before.depth == 0 && before.last != 0 {
+    if before.in_string {
+        octet_there_words(octet, before.last)
+    } else if before.depth == 0 && before.last != 0 {
         Some("the document has ended before it: a text has one object")
     } else if before.depth >= DEEPEST && is_opening {
         Some("values may stand in at most 127 others")
     } else if is_opening || matches!(octet, b'}' | b']') {
         Some(bracket_words(octet, before.last))
     } else {
-        octet_there_words(octet, before.last)
+        foreign_words(behind).or(octet_there_words(octet, before.last))
     }
-}
-
-/// Whether each second octet of the first four is 0, as in a text of UTF-16 without a byte order mark.
-fn is_wide(octets: &[u8]) -> bool {
-    matches!(octets, [0, 1..=127, 0, ..] | [1..=127, 0, 1..=127, 0, ..])
 }
 
 /// Tells that a text ends too early.
@@ -241,10 +261,6 @@ fn tell_open(story: &mut Story, octets: &[u8]) {
 
 /// Tells what is wrong with a JSON text at a place, as far as that is known.
 pub(crate) fn tell_fault(story: &mut Story, octets: &[u8], place: usize) {
-    if is_wide(octets) {
-        story.sentence("the text is in UTF-16: write it in UTF-8");
-        return;
-    }
     let (Some(before), Some(behind)) = (octets.get(..place), octets.get(place..)) else {
         return;
     };
@@ -255,7 +271,7 @@ pub(crate) fn tell_fault(story: &mut Story, octets: &[u8], place: usize) {
     let before = before_end(before);
     if octet == b'"' {
         tell_string(story, behind, &before);
-    } else if let Some(words) = place_words(octet, &before) {
+    } else if let Some(words) = place_words(octet, behind, &before) {
         story.sentence(words);
     }
 }

@@ -35,6 +35,7 @@ mod messages;
 mod names;
 mod near;
 mod origins;
+mod other_files;
 mod overlapping;
 mod packets;
 mod passing;
