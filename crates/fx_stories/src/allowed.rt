@@ -1,5 +1,6 @@
 //! Members that an object may have, and those that one has which it may not.
 use crate::near::near_of;
+use crate::parts::tell_whole;
 use crate::pointers::last_member;
 use crate::story::{Story, between};
 use serde_json::Value;
@@ -209,17 +210,50 @@ fn tell_near<'x>(story: &mut Story, object: &Value, name: &'x str, known: &'x st
     story.sentence(if there { ", which is there too" } else { "" });
 }
 
-/// What a document seems to be that has a member of the other kind of document.
-fn other_document(pointer: &str, is_network: bool) -> Option<&'static str> {
-    match pointer {
-        "/classes" if is_network => Some(
-            "this looks like a traffic declaration, and is read as a network",
-        ),
-        "/devices" | "/links" | "/report" if !is_network => {
-            Some("this looks like a network, and is read as a traffic declaration")
+/// How a member of a region is written that has another name there, by an example.
+fn region_example(name: &str) -> Option<&'static str> {
+    match name {
+        "sourceIPv4Prefix" | "sourceIPv4PrefixLength" | "source" | "sourceAddress" => {
+            Some("\"sourceIPv4Address\": \"192.0.2.0/24\"")
         }
+        "destinationIPv4Prefix"
+        | "destinationIPv4PrefixLength"
+        | "destination"
+        | "destinationAddress" => Some("\"destinationIPv4Address\": \"192.0.2.0/24\""),
+        "sourceIPv6Prefix" | "sourceIPv6PrefixLength" | "source6" => {
+            Some("\"sourceIPv6Address\": \"2001:db8::/32\"")
+        }
+        "destinationIPv6Prefix" | "destinationIPv6PrefixLength" | "destination6" => {
+            Some("\"destinationIPv6Address\": \"2001:db8::/32\"")
+        }
+        "tcpSourcePort" | "udpSourcePort" | "sourcePort" | "sport" => {
+            Some("\"sourceTransportPort\": \"1024-65535\"")
+        }
+        "tcpDestinationPort" | "udpDestinationPort" | "destinationPort" | "dport" => {
+            Some("\"destinationTransportPort\": \"443\"")
+        }
+        "protocol" | "proto" => Some("\"protocolIdentifier\": \"17\""),
+        "tos" | "ipDiffServCodePoint" | "dscp" => {
+            Some("\"ipClassOfService\": \"184\", where the DSCP 46 is the first six of eight bits")
+        }
+        "version" => Some("\"ipVersion\": \"6\""),
         _ => None,
     }
+}
+
+/// Tells how a member of a region is written that has another name there.
+fn tell_example<'x>(story: &mut Story, name: &'x str, example: &'x str) {
+    story.text_quoted("no member ", name);
+    story.text(" may be there; what a region holds is written so: ");
+    story.sentence(example);
+}
+
+/// The example for a member of another name, where it stands in a region.
+fn example_at(place: &str, name: &str, is_network: bool) -> Option<&'static str> {
+    if is_network || last_member(place) != "region" {
+        return None;
+    }
+    region_example(name)
 }
 
 /// Tells a member that an object may not have: the nearest name that is allowed, or the names that are. The pointer
@@ -237,13 +271,17 @@ pub(crate) fn tell_unknown_member(
     let Some(object) = document.pointer(place) else {
         return Ok(());
     };
+    if let Some(example) = example_at(place, name, is_network) {
+        tell_example(story, name, example);
+        return Ok(());
+    }
     let names = members_allowed(last_member(place), is_network);
     match near_of(alloc, name, names)? {
         Some(known) => tell_near(story, object, name, known),
         None => tell_free(story, object, name, names),
     }
-    if let Some(words) = other_document(pointer, is_network) {
-        story.sentence(words);
+    if let (Some(member), true) = (object.get(name), place.is_empty()) {
+        tell_whole(story, object, member, is_network);
     }
     Ok(())
 }

@@ -13,9 +13,11 @@ use crate::ends::{
     tell_cycle, tell_link_ends, tell_linked, tell_report_end, tell_unknown_device,
     tell_unknown_name,
 };
+use crate::entries::tell_entries;
 use crate::json::tell_json;
 use crate::kinds::tell_kinds;
 use crate::members::tell_lacking;
+use crate::parts::tell_list;
 use crate::pointers::last_member;
 use crate::story::Story;
 use crate::values::{tell_allowed, tell_wrong};
@@ -76,6 +78,15 @@ struct ValueAt<'a> {
     is_network: bool,
 }
 
+/// Tells of which kind a value is, and which is due there, or as a part of which document it stands in one's place.
+fn tell_wrong_kind(story: &mut Story, at: &ValueAt<'_>) {
+    tell_kinds(story, at.pointer, at.value, at.is_network);
+    tell_allowed(story, last_member(at.pointer), at.is_network);
+    if let (Value::Array(items), "") = (at.value, at.pointer) {
+        tell_list(story, items.as_slice(), at.is_network);
+    }
+}
+
 /// Tells a value that is refused with this number, and what is wrong with it.
 fn tell_value_at(
     alloc: Global,
@@ -89,10 +100,7 @@ fn tell_value_at(
             "it counts since the beginning; in its place stands octetDeltaCount or packetDeltaCount",
         ),
         refusals::KEY_WITHOUT_AXIS => tell_flow_key(alloc, story, at.value)?,
-        refusals::WRONG_KIND => {
-            tell_kinds(story, at.pointer, at.value, at.is_network);
-            tell_allowed(story, last_member(at.pointer), at.is_network);
-        }
+        refusals::WRONG_KIND => tell_wrong_kind(story, at),
         _ => tell_wrong(
             alloc,
             story,
@@ -134,6 +142,9 @@ fn tell_at(
             tell_lacking(story, value, last_member(pointer), at.is_network);
         }
         refusals::MISSING_COUNTER => tell_counters(alloc, story, value)?,
+        refusals::TOO_MANY_ENTRIES | refusals::TOO_MUCH_TRAFFIC => {
+            tell_entries(story, pointer, value, at.is_network);
+        }
         _ if is_of_value(number) => tell_value_at(alloc, story, &at, number)?,
         _ => tell_names(story, &refused.network, value, pointer, number),
     }

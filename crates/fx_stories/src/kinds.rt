@@ -12,7 +12,7 @@ enum Due {
     Object,
     Text,
     Number,
-    /// An empty type.
+    /// An empty type, whose values are told as those that are allowed.
     Empty,
     /// A list of objects.
     Objects,
@@ -159,7 +159,6 @@ fn due_below(due: Due, depth: usize) -> &'static str {
         (Due::Object, 0) | (Due::Objects, 1) | (Due::Paths, 2) => "an object, in { }",
         (Due::Text, 0) | (Due::Names, 1) => "a text, in quotation marks",
         (Due::Number, 0) => "a number, without quotation marks",
-        (Due::Empty, 0) => "[null] or true",
         (Due::Objects, 0) => "a list of objects, in [ ]",
         (Due::Names, 0) => "a list of texts, in [ ]",
         (Due::Paths, 0) => "a list of paths, in [ ], each of which is a list of crossings",

@@ -177,7 +177,7 @@ fn is_range(axis: Axis, text: &str) -> bool {
 }
 
 /// Tells how the values of a region are written on an axis.
-fn tell_forms(story: &mut Story, axis: Axis) {
+pub(crate) fn tell_forms(story: &mut Story, axis: Axis) {
     story.sentence(if axis.is_address() {
         "a region has on an axis one value, or LOW-HIGH without blanks, or ADDRESS/n; of several values each has a class of its own"
     } else {
@@ -190,7 +190,9 @@ pub(crate) fn tell_values(story: &mut Story, axis: Axis, text: &str) {
     if text.len() > LONGEST {
         return;
     }
-    if let Some((low, high)) = text.split_once('-') {
+    if matches!(text, "any" | "all" | "*" | "") {
+        story.sentence("an axis on which a class has all values is left out of its region");
+    } else if let Some((low, high)) = text.split_once('-') {
         tell_ends(story, axis, low, high);
     } else if axis.is_address() && text.contains('/') {
         tell_prefix(story, axis, text);

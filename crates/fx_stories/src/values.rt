@@ -2,7 +2,7 @@
 use crate::elements::{element_of, tell_element};
 use crate::members::one_required;
 use crate::pointers::{last_member, text_member};
-use crate::spelling::{tell_spelling, tell_values};
+use crate::spelling::{tell_forms, tell_spelling, tell_values};
 use crate::story::Story;
 use fx_elements::{Element, by_name, width};
 use serde_json::Value;
@@ -31,7 +31,8 @@ fn words_allowed(member: &str, is_network: bool) -> &'static str {
         "ieId" => "a whole number from 1 to 32767",
         "ieLength" => "a whole number of octets from 1 to 65535",
         "prefixLength" => "a whole number of bits from 1 to 32, of IPv6 to 128",
-        "isFlowKey" | "exempt" => "[null] or true",
+        "isFlowKey" => "[null] or true; a field that is no flow key hasn't the member",
+        "exempt" => "[null] or true; a class that isn't exempt hasn't the member",
         "selectAll" => "[null], true or {}",
         _ => "",
     }
@@ -40,11 +41,19 @@ fn words_allowed(member: &str, is_network: bool) -> &'static str {
 /// Tells which values a member may have.
 pub(crate) fn tell_allowed(story: &mut Story, member: &str, is_network: bool) {
     let words = words_allowed(member, is_network);
-    if words.is_empty() {
-        return;
+    if !words.is_empty() {
+        story.text("allowed there: ");
+        story.sentence(words);
+    } else if !is_network {
+        tell_region_forms(story, member);
     }
-    story.text("allowed there: ");
-    story.sentence(words);
+}
+
+/// Tells how the values of a member of a region are written.
+fn tell_region_forms(story: &mut Story, member: &str) {
+    if let Element::OnAxis(axis) = by_name(member) {
+        tell_forms(story, axis);
+    }
 }
 
 /// Why a text is no name, if it is none.
