@@ -14,8 +14,10 @@ pub const DEVICES: &[Row] = &[
         "a comma too many or too few, a comment, single quotes, a byte order mark, another \
          encoding, an empty file, or another file in the document's place. A value more than 127 \
          levels deep and a number of some 309 digits or more are refused so too.",
-        "Mend the text at that line and column, or at the end of the line before; --words tells \
-         them and the file, as `python3 -m json.tool FILE` does.",
+        "Mend the text at that line and column, or at the end of the line before: --words tells \
+         them, and what the file is where it is another one. `python3 -m json.tool FILE` tells \
+         them too, but takes NaN and Infinity, values that are too deep, numbers that are too \
+         large, and halves of surrogate pairs.",
         "RFC 8259, sections 2 and 8.1",
     ),
     (
@@ -42,10 +44,10 @@ pub const DEVICES: &[Row] = &[
         refusals::WRONG_KIND,
         "A value is of another JSON kind than its member wants.",
         "a number of a configuration in quotes, a bare number in a region (its values are texts, \
-         as \"80\"), a single value or an object where a list is due, or null where an empty type is \
-         written [null].",
+         as \"80\") or a list there, a single value or an object where a list is due, null or false \
+         where an empty type is written [null], or a part of a document in a document's place.",
         "Write numbers of a configuration bare, names, addresses and the values of regions as \
-         texts, lists in brackets, and empty types as [null].",
+         texts, lists in brackets, and empty types as [null]; for no, leave the member out.",
         "RFC 7951, section 6; FORMATS",
     ),
     (

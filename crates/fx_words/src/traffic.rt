@@ -23,7 +23,7 @@ pub const TRAFFIC: &[Row] = &[
          that is neither ingress nor egress, a name with white space at an end, or exempt with \
          another value than [null] or true.",
         "Write the value as docs/FORMATS.md has it. An axis on which a class has all values is \
-         left out of its region.",
+         left out of its region, and exempt of a class that isn't.",
         "FORMATS, traffic; RFC 4291, section 2.2",
     ),
     (
@@ -31,7 +31,8 @@ pub const TRAFFIC: &[Row] = &[
         "A crossing names a device that isn't in the network.",
         "a misspelled name, or a traffic declaration that belongs to another network.",
         "Name a device of the network document, letter by letter. An interface isn't checked so: \
-         a crossing at one that no observation point has is never metered.",
+         a crossing at one that no observation point has is never metered, and \
+         `once lint --words` tells it, with the interfaces that there are.",
         "FORMATS, traffic",
     ),
     (
@@ -47,7 +48,8 @@ pub const TRAFFIC: &[Row] = &[
         "A list of a traffic declaration has too many entries.",
         "a list longer than these: a declaration has at most 256 classes, a class 16 paths, and \
          a path 32 crossings.",
-        "Cut the traffic into several declarations, and audit each.",
+        "Cut the traffic into several declarations, and audit each. Of a path only those \
+         crossings are needed that an observation point sees.",
         "FORMATS, traffic",
     ),
 ];
