@@ -196,7 +196,7 @@ fn tell_free(story: &mut Story, object: &Value, name: &str, names: &'static [&'s
         }
     }
     if !told {
-        story.text("none");
+        story.text("none, so take it out");
     }
     story.end_line();
 }
@@ -234,7 +234,7 @@ fn region_example(name: &str) -> Option<&'static str> {
         }
         "protocol" | "proto" => Some("\"protocolIdentifier\": \"17\""),
         "tos" | "ipDiffServCodePoint" | "dscp" => {
-            Some("\"ipClassOfService\": \"184\", where the DSCP 46 is the first six of eight bits")
+            Some("\"ipClassOfService\": \"184\" (the whole octet, as 184 for the DSCP 46)")
         }
         "version" => Some("\"ipVersion\": \"6\""),
         _ => None,

@@ -225,6 +225,14 @@ fn foreign_words(octets: &[u8]) -> Option<&'static str> {
     }
 }
 
+/// What is wrong with a text that begins with this octet, in words.
+fn first_words(octet: u8) -> Option<&'static str> {
+    Some(match octet {
+        b'/' | b'#' => "JSON has no comments",
+        _ => "a document begins with {, and this file doesn't: is it another one?",
+    })
+}
+
 /// What is wrong with a text at an octet that begins no string, with those behind it and what stands before it, in words.
 fn place_words(octet: u8, behind: &[u8], before: &Before) -> Option<&'static str> {
     let is_opening = matches!(octet, b'{' | b'[');
@@ -236,6 +244,8 @@ fn place_words(octet: u8, behind: &[u8], before: &Before) -> Option<&'static str
         Some("values may stand in at most 127 others")
     } else if is_opening || matches!(octet, b'}' | b']') {
         Some(bracket_words(octet, before.last))
+    } else if before.last == 0 {
+        foreign_words(behind).or(first_words(octet))
     } else {
         foreign_words(behind).or(octet_there_words(octet, before.last))
     }

@@ -79,7 +79,7 @@ fn place_of(mark: &str, is_list: bool) -> &'static str {
             "they stand in a traffic declaration: {\"classes\": [{\"name\": .., \"paths\": [[..], ..]}, ..]}"
         }
         _ => {
-            "it stands in a network: {\"devices\": [{\"name\": .., \"config\": {\"ietf-ipfix-psamp:ipfix\": HERE}}, ..], \"links\": [..], \"report\": {..}}"
+            "what a device is configured to do stands in a network so: {\"devices\": [{\"name\": .., \"config\": {\"ietf-ipfix-psamp:ipfix\": {\"observationPoint\": [..], ..}}}, ..], \"links\": [..], \"report\": {..}}"
         }
     }
 }
