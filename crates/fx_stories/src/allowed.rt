@@ -196,7 +196,8 @@ fn tell_free(story: &mut Story, object: &Value, name: &str, names: &'static [&'s
         }
     }
     if !told {
-        story.text("none, so take it out");
+        story.sentence("none");
+        story.text("take the member out");
     }
     story.end_line();
 }

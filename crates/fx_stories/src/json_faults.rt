@@ -239,7 +239,7 @@ fn place_words(octet: u8, behind: &[u8], before: &Before) -> Option<&'static str
     if before.in_string {
         octet_there_words(octet, before.last)
     } else if before.depth == 0 && before.last != 0 {
-        Some("the document has ended before it: a text has one object")
+        Some("the document has ended before it: a file has one document, which is one object")
     } else if before.depth >= DEEPEST && is_opening {
         Some("values may stand in at most 127 others")
     } else if is_opening || matches!(octet, b'}' | b']') {
