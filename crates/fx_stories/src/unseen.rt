@@ -11,6 +11,9 @@ use fx_tables::Crossing;
 use fx_traffic::Target;
 use std::alloc::{AllocError, Global};
 
+/// Of how many misspelled interfaces those are told that there are: comparing names takes long.
+const TOLD: usize = 64;
+
 /// Whether a name is among these.
 fn is_among(names: &[Name], name: &Name) -> bool {
     for one in names {
@@ -64,12 +67,40 @@ fn is_any_seen(plan: &Plan, crossings: &[Crossing]) -> bool {
     false
 }
 
+/// Whether one of these crossings is at the device and the interface of another.
+fn is_told(told: &[&Crossing], crossing: &Crossing) -> bool {
+    for one in told {
+        if one.device == crossing.device && one.interface == crossing.interface {
+            return true;
+        }
+    }
+    false
+}
+
+/// Ends the line of a crossing that is at no observation point: with the interfaces of those that its device has, where
+/// they weren't told of that interface yet.
+fn tell_others<'a>(
+    alloc: Global,
+    story: &mut Story,
+    points: &[ObservationPoint],
+    crossing: &'a Crossing,
+    told: &mut Vec<&'a Crossing>,
+) -> Result<(), AllocError> {
+    if told.len() >= TOLD || is_told(told.as_slice(), crossing) {
+        story.end_line();
+        return Ok(());
+    }
+    told.push(crossing)?;
+    tell_watched_interfaces(alloc, story, points, crossing.interface.as_str())
+}
+
 /// Tells the crossings of a path whose interfaces are at no observation point, and those that are.
-fn tell_interfaces(
+fn tell_interfaces<'a>(
     alloc: Global,
     story: &mut Story,
     documents: &Documents,
-    target: &Target<'_>,
+    target: &Target<'a>,
+    told: &mut Vec<&'a Crossing>,
 ) -> Result<(), AllocError> {
     for crossing in target.crossings {
         let points = points_at(&documents.plan, crossing);
@@ -78,7 +109,7 @@ fn tell_interfaces(
             story.text(": at ");
             tell_crossing(story, &documents.plan, crossing);
             story.text(" the interface is at no observation point");
-            tell_watched_interfaces(alloc, story, points, crossing.interface.as_str())?;
+            tell_others(alloc, story, points, crossing, told)?;
         }
     }
     Ok(())
@@ -101,8 +132,9 @@ pub(crate) fn tell_unseen(
     documents: &Documents,
     targets: &[Target<'_>],
 ) -> Result<(), AllocError> {
+    let mut told = Vec::new(alloc);
     for target in targets {
-        tell_interfaces(alloc, story, documents, target)?;
+        tell_interfaces(alloc, story, documents, target, &mut told)?;
         if !is_any_seen(&documents.plan, target.crossings) {
             tell_path(story, documents, target);
         }
