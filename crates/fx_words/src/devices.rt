@@ -14,10 +14,10 @@ pub const DEVICES: &[Row] = &[
         "a comma too many or too few, a comment, single quotes, a byte order mark, another \
          encoding, an empty file, or another file in the document's place. A value more than 127 \
          levels deep and a number of some 309 digits or more are refused so too.",
-        "Mend the text at that line and column, or at the end of the line before: --words tells \
-         them, and what the file is where it is another one. `python3 -m json.tool FILE` tells \
-         them too, but takes NaN and Infinity, values that are too deep, numbers that are too \
-         large, and halves of surrogate pairs.",
+        "Mend the text at that line and column, or at the end of the line before, or name the \
+         right file: --words tells them, and what the file is where it is another one. `python3 \
+         -m json.tool FILE` tells the place too, but takes NaN and Infinity, values that are too \
+         deep, numbers that are too large, and halves of surrogate pairs.",
         "RFC 8259, sections 2 and 8.1",
     ),
     (
