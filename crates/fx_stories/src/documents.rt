@@ -233,14 +233,15 @@ fn story_of(
 }
 
 /// Writes in sentences what a refusal of a document, 101 to 115, 201 to 207 or 301 to 305, is about: the name of the
-/// file, which is the network's where the network is refused, else the traffic's; where a text is no JSON, the line, the
-/// column and what is wrong there, or which other file it is; of a part of a document in its place where it stands; how
-/// many entries a list has, and how many it may have; which members are missing and which are there; the name for which a misspelled member
-/// stands, or the members that are allowed; a value that isn't allowed, at most 200 octets of its JSON text, with its kind
-/// and the kind that is due, what is wrong in it or with the elements that it names, and the values that are allowed; which
-/// counters a cache lacks; which name names nothing, and the names that there are; which link leads from the same
-/// destination; which collecting processes stand on a circle of links, and the links of one. The octets are those that were
-/// refused. What can't be told is left out. The text has no control characters but line feeds.
+/// file, which is the network's where the network is refused, else the traffic's; where a text is no JSON, the line,
+/// the column and what is wrong there, or which other file it is; of a part of a document in its place where it stands;
+/// how many entries a list has, and how many it may have; which members are missing and which are there; the name for
+/// which a misspelled member stands, or the members that are allowed; a value that isn't allowed, at most 200 octets of
+/// its JSON text, with its kind and the kind that is due, what is wrong in it or with the elements that it names, and
+/// the values that are allowed; which counters a cache lacks; which name names nothing, and the names that there are;
+/// which link leads from the same destination; which collecting processes stand on a circle of links, and the links of
+/// one. The octets are those that were refused. What can't be told is left out. The text has no control characters but
+/// line feeds.
 ///
 /// Fails with 900 for want of memory, and then nothing is written; with 902 where a write fails.
 pub fn put_document_words<S: Sink>(

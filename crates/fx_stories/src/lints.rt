@@ -94,9 +94,9 @@ fn story_of(alloc: Global, network: &[u8], traffic: Option<&[u8]>) -> Result<Sto
 /// address has bits behind its length; observation points, selection processes, caches, destinations and aggregations
 /// that lead nowhere; caches and collecting processes that nothing feeds; selection processes whose filters exclude one
 /// another; classes that are exempt, or that there are none, and classes that overlap; crossings whose interface is at
-/// no observation point, with the interfaces that are at one, paths of which no observation point sees a crossing, and observation points that observe the
-/// other direction alone. Where there is nothing of the kind, nothing is written. The text has no control characters but
-/// line feeds.
+/// no observation point, with the interfaces that are at one, paths of which no observation point sees a crossing, and
+/// observation points that observe the other direction alone. Where there is nothing of the kind, nothing is written.
+/// The text has no control characters but line feeds.
 ///
 /// Fails with 900 for want of memory, and then nothing is written; with 902 where a write fails.
 pub fn put_lint_words<S: Sink>(
