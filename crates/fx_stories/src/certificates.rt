@@ -5,6 +5,7 @@ ghost use Rattle.fx_base.specs.Fault.{IsMemory};
 ghost use Rattle.fx_stories.specs.Stories.{IsUntold, WritesStory};
 
 use crate::again::{Documents, documents_again};
+use crate::due_items::{tell_behind_end, tell_between, tell_due};
 use crate::following::tell_following;
 use crate::leaves::tell_leaf;
 use crate::line_forms::Kind;
@@ -121,23 +122,6 @@ fn tell_tree(
     Ok(())
 }
 
-/// Tells which line should stand between the trees.
-fn tell_between(story: &mut Story, documents: &Documents, targets: &[Target<'_>], begun: usize) {
-    match targets.get(begun) {
-        Some(target) => {
-            story.text("what comes next is ");
-            tell_path(
-                story,
-                documents,
-                target.class,
-                target.path,
-                target.crossings,
-            );
-        }
-        None => story.sentence("all paths have their trees"),
-    }
-}
-
 /// Tells where the walk stands, and what is wrong there.
 fn tell_stand(
     alloc: Global,
@@ -151,7 +135,7 @@ fn tell_stand(
     ensures err { IfErr result IsMemory }
 {
     let Some(region) = &walk.region else {
-        tell_between(story, documents, targets, walk.begun);
+        tell_between(story, documents, targets, walk, &item);
         return Ok(());
     };
     let Some(target) = targets.get(walk.begun.saturating_sub(1)) else {
@@ -167,6 +151,7 @@ fn tell_stand(
     if let Some(item) = &item {
         tell_item(story, &documents.plan, target, item);
     }
+    tell_due(story, target, region, walk.version, &item, number);
     tell_tree(alloc, story, documents, target, region, number)
 }
 
@@ -213,11 +198,9 @@ fn tell_next<C: Source>(
 /// Tells what is wrong with the form of a line, where it is refused with this number.
 fn tell_form(story: &mut Story, line: &Line<'_>, number: u64, fault: u16) {
     if number == 1 {
-        let wanted =
-            "the first line is once-certificate 1, or once-certificate 2 where a class is exempt";
-        tell_wrong_header(story, wanted, line);
+        tell_wrong_header(story, "once-certificate", " where no class is exempt", line);
     } else if fault == refusals::CERTIFICATE_LINE {
-        tell_wrong_line(story, Kind::Certificate, line);
+        let _otherwise = tell_wrong_line(story, Kind::Certificate, line);
     } else if !line.ended {
         story.sentence("no line feed ends the line");
     }
@@ -239,6 +222,10 @@ fn tell_certificate<C: Source>(
     go_before(&mut walk, targets.as_slice(), certificate, number)?;
     let item = tell_next(story, certificate, number, fault.number)?;
     if number == 1 {
+        return Ok(());
+    }
+    if fault.number == refusals::LINE_BEHIND_END {
+        tell_behind_end(story, certificate);
         return Ok(());
     }
     tell_stand(
@@ -272,9 +259,10 @@ fn story_of<C: Source>(
 }
 
 /// Writes in sentences what a refusal of a certificate, 401 to 415 at a line, is about: the line, at most 200 octets of
-/// it; of one whose form is wrong the first word that is, and the form that it should have; the class and the path by name; the region of the line, with what the line names; and for a leaf what sees the
-/// region's packets along the path and where its records go, up to the report, with the matches of aggregations that
-/// don't hold for all of them, and where to split it, if something cuts it. The documents are those over which the
+/// it; of one whose form is wrong the first word that is, and the form that it should have; the class and the path by
+/// name; the region of the line, with what the line names and what is due there; what stands behind the end; and for a leaf
+/// what sees the region's packets along the path and where its records go, up to the report, with the matches of
+/// aggregations that don't hold for all of them, and where to split it, if something cuts it. The documents are those over which the
 /// certificate was refused, the lines those of its text, opened anew. What can't be told is left out. The text has no
 /// control characters but line feeds.
 ///

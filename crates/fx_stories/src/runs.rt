@@ -5,15 +5,15 @@ ghost use Rattle.fx_base.specs.Fault.{IsMemory};
 ghost use Rattle.fx_stories.specs.Stories.{IsUntold, WritesStory};
 
 use crate::again::{Documents, documents_again};
-use crate::line_forms::Kind;
 use crate::lines::{next_line, tell_line, tell_line_numbered, unless_wrong};
+use crate::nothing_there::tell_unanswered;
 use crate::packets::{tell_fields, tell_named_class};
 use crate::refutations::tell_unconfirmed;
+use crate::run_forms::{tell_form_numbered, version_of};
 use crate::steps::tell_step;
 use crate::story::Story;
 use crate::trying::refusal_of;
 use crate::unmade::Unmade;
-use crate::wrong_lines::{tell_wrong_header, tell_wrong_line};
 use fx_base::{Fault, Line, LineReader, Place, Room, Sink, Source, put_text, refusals};
 use fx_machine::State;
 use fx_refute::read_refutation;
@@ -129,15 +129,6 @@ fn tell_refused_step<C: Source>(
     Ok(())
 }
 
-/// The version of a text by its first line.
-fn version_of(line: &[u8]) -> TextVersion {
-    if line.ends_with(b" 1") {
-        TextVersion::One
-    } else {
-        TextVersion::Two
-    }
-}
-
 /// Tells the packet that a line has, and why it isn't in its class.
 fn tell_line_packet(
     alloc: Global,
@@ -199,54 +190,6 @@ fn tell_packet_outside<C: Source>(
     }
 }
 
-/// What the first line of a text should be whose refusal has this number, in words.
-fn header_words(fault: u16) -> &'static str {
-    match fault {
-        refusals::RUN_HEADER => "the first line is once-run 2, or once-run 1",
-        _ => "the first line is once-refutation 2, or once-refutation 1",
-    }
-}
-
-/// Tells what is wrong with the form of a line.
-fn tell_form(story: &mut Story, kind: Kind, line: &Line<'_>, fault: u16) {
-    tell_line(story, line);
-    match (kind, line.number) {
-        (Kind::Run(_), 1) => tell_wrong_header(story, header_words(fault), line),
-        _ => tell_wrong_line(story, kind, line),
-    }
-}
-
-/// Tells what is wrong with the form of the line of this number.
-fn tell_form_numbered<C: Source>(
-    story: &mut Story,
-    lines: &mut LineReader<C>,
-    fault: u16,
-    number: u64,
-) -> Result<(), Fault>
-    ensures { IfErr result IsUntold }
-{
-    let mut kind = match fault {
-        refusals::SCHEDULE_OR_BUNDLE => Kind::Schedule,
-        _ => Kind::Run(TextVersion::Two),
-    };
-    'lines: while next_line(lines)? {
-        let line = lines.line();
-        if line.number == number {
-            tell_form(story, kind, &line, fault);
-            return Ok(());
-        }
-        if line.number == 1 && fault != refusals::SCHEDULE_OR_BUNDLE {
-            kind = Kind::Run(version_of(line.bytes));
-        }
-    }
-    story.sentence(if number == 1 {
-        "the text is empty"
-    } else {
-        "the text ends before its line end"
-    });
-    Ok(())
-}
-
 /// What is to be told of the refusal of a run at a line.
 fn tell_at_line<C: Source>(
     alloc: Global,
@@ -268,6 +211,7 @@ fn tell_at_line<C: Source>(
         | refusals::RUN_FORM
         | refusals::REFUTATION_FORM
         | refusals::SCHEDULE_OR_BUNDLE => tell_form_numbered(story, lines, fault, number),
+        refusals::NOTHING_THERE => tell_unanswered(alloc, story, network, lines, number),
         _ => tell_line_numbered(story, lines, number),
     }
 }
@@ -323,8 +267,9 @@ fn story_of<C: Source>(
 
 /// Writes in sentences what a refusal of a run, of a refutation or of a schedule is about. A refusal at a line: that line,
 /// at most 200 octets of it; of one whose form is wrong (501, 801, 854 and 855) the first word that is wrong and the form
-/// that the line should have; of a packet that isn't in its class its number in the run, its fields and which of them lie
-/// outside of the class's region. One of 503 and 851 to 853: the line of the first step that is refused, with its number,
+/// that the line should have; of a schedule's line for which nothing is there (802) which number names nothing, or what is
+/// lacking; of a packet that isn't in its class its number in the run, its fields and which of them lie outside of the
+/// class's region. One of 503 and 851 to 853: the line of the first step that is refused, with its number,
 /// what it names, and why it can't be made in the state before it. One of 504 and 505: the refutation's run, and of one
 /// that isn't complete the crossings that are to come and the records that are left. The documents are those over which
 /// the run was refused, the lines those of its text, opened anew. What can't be told is left out. The text has no control

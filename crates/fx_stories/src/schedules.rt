@@ -4,11 +4,12 @@ ghost use Rattle.fx_base.specs.Device.{IsWriteFault, KeepsGoing};
 ghost use Rattle.fx_base.specs.Fault.{IsMemory};
 ghost use Rattle.fx_stories.specs.Stories.{IsUntold, WritesStory};
 
-use crate::again::{Documents, documents_again};
+use crate::again::{Documents, class_name, documents_again};
 use crate::lines::{next_line, tell_line};
 use crate::packets::{tell_fields, tell_named_class, tell_no_class};
 use crate::story::Story;
 use fx_base::{Fault, Line, LineReader, Place, Sink, Source, put_text, refusals};
+use fx_boxes::Fields;
 use fx_elements::{Words, is_word};
 use fx_pcap::Capture;
 use fx_tables::Classes;
@@ -16,9 +17,9 @@ use std::alloc::Global;
 
 /// What the lines of a schedule take of a capture.
 #[derive(Clone, Copy, Drop)]
-struct Taking {
+pub(crate) struct Taking {
     /// How many packets.
-    packets: u64,
+    pub(crate) packets: u64,
     /// The class and the path that the last line names.
     named: Option<(u64, u64)>,
 }
@@ -44,7 +45,7 @@ impl Taking {
 }
 
 /// What the lines take up to the one of this number, which is told, or up to the last where there is none.
-fn taking_of<C: Source>(
+pub(crate) fn taking_of<C: Source>(
     story: &mut Story,
     lines: &mut LineReader<C>,
     last: Option<u64>,
@@ -101,6 +102,20 @@ fn go_to_stranger<F: Source>(
     None
 }
 
+/// Tells which class a line `next` alone would take for a packet.
+fn tell_first_class(story: &mut Story, documents: &Documents, fields: &Fields) {
+    let classes = documents.traffic.classes().as_slice();
+    match classes.iter().position(|class| class.holds(fields)) {
+        Some(place) => {
+            let number = (place as u64).saturating_add(1);
+            story.text_number("the first class that holds the packet is ", number);
+            story.text_quoted(" ", class_name(documents, number));
+            story.end_line();
+        }
+        None => story.sentence("no class of the traffic holds the packet"),
+    }
+}
+
 /// Tells the packet at which a capture is, which is of this number, and why it is in no class, or not in the one named.
 fn tell_packet<F: Source>(
     story: &mut Story,
@@ -118,7 +133,10 @@ fn tell_packet<F: Source>(
     story.text_number(" of the capture (frame ", frame);
     tell_fields(story, "): ", &seen.fields, u64::from(seen.octets));
     match named {
-        Some((class, path)) => tell_named_class(story, documents, class, path, &seen.fields),
+        Some((class, path)) => {
+            tell_named_class(story, documents, class, path, &seen.fields);
+            tell_first_class(story, documents, &seen.fields);
+        }
         None => tell_no_class(story, documents, &seen.fields),
     }
 }
@@ -136,6 +154,9 @@ fn tell_refused_packet<F: Source>(
         number = if at_line {
             Some(taking.packets)
         } else {
+            story.sentence(
+                "behind the last line the closing phase reads the packets that are left",
+            );
             go_to_stranger(capture, documents.traffic.classes(), taking.packets)
         };
     }

@@ -1,6 +1,6 @@
 //! Where a certificate stands before a line, as far as its lines were in order.
 use fx_boxes::Region;
-use fx_cert::Item;
+use fx_cert::{Item, Version};
 use fx_elements::Axis;
 use fx_traffic::Target;
 use std::alloc::{AllocError, Global};
@@ -8,6 +8,10 @@ use std::alloc::{AllocError, Global};
 /// Where a certificate stands.
 #[derive(Drop)]
 pub(crate) struct Walk {
+    /// The version that the first line says.
+    pub(crate) version: Version,
+    /// Whether the line `end` came.
+    pub(crate) is_ended: bool,
     /// How many paths of classes had their line.
     pub(crate) begun: usize,
     /// The region that comes next, where its tree isn't done.
@@ -27,6 +31,8 @@ impl Walk {
     /// Before the first line.
     pub(crate) fn new(alloc: Global) -> Walk {
         Walk {
+            version: Version::One,
+            is_ended: false,
             begun: 0,
             region: None,
             waiting: Vec::new(alloc),
@@ -62,7 +68,8 @@ impl Walk {
             Item::Class { class, path } => self.begin(targets, *class, *path),
             Item::Split { axis, at } => self.split(*axis, *at)?,
             Item::Leaf { .. } | Item::Never => self.region = self.waiting.pop(),
-            Item::Header(_) | Item::End => {}
+            Item::Header(version) => self.version = *version,
+            Item::End => self.is_ended = true,
         }
         Ok(())
     }

@@ -2,17 +2,24 @@
 use crate::line_forms::{Fit, Kind, axis_of, fit_of, forms_of, is_literal, is_of_other_version};
 use crate::story::Story;
 use fx_base::Line;
-use fx_elements::Axis;
+use fx_elements::{Axis, is_word, read_u64};
+
+/// What may stand for a value of an axis, in words.
+pub(crate) fn value_words(axis: Axis) -> &'static str {
+    match axis {
+        Axis::Source | Axis::Destination => ", an address of IPv4, as 192.0.2.1",
+        Axis::Source6 | Axis::Destination6 => {
+            ", an address of IPv6 in eight groups in lower case, as 2001:db8:0:0:0:0:0:1"
+        }
+        Axis::SourcePort | Axis::DestinationPort => ", a number from 0 to 65535",
+        _ => ", a number from 0 to 255",
+    }
+}
 
 /// What may stand for a word of a form, in words.
 fn due_words(form: &str, due: &str) -> &'static str {
     match axis_of(form, due) {
-        Some(Axis::Source | Axis::Destination) => ", an address of IPv4, as 192.0.2.1",
-        Some(Axis::Source6 | Axis::Destination6) => {
-            ", an address of IPv6 in eight groups in lower case, as 2001:db8:0:0:0:0:0:1"
-        }
-        Some(Axis::SourcePort | Axis::DestinationPort) => ", a number from 0 to 65535",
-        Some(_) => ", a number from 0 to 255",
+        Some(axis) => value_words(axis),
         None => number_words(form, due),
     }
 }
@@ -24,11 +31,20 @@ fn number_words(form: &str, due: &str) -> &'static str {
         "AXIS" => {
             ", one of source, destination, protocol, sport, dport, tos, version, source6 and destination6"
         }
-        "AT" => ", a number in decimal digits within its axis, also for an address",
+        "AT" => {
+            ", a number in decimal digits, also for an address: up to 255 for protocol, tos and version, 65535 for ports, \
+4294967295 for addresses of IPv4"
+        }
         "OCTETS" if form.starts_with("carry ") => ", a number from 1 to 65535",
+        "OCTETS" | "PACKETS" => ", a number from 0 to 18446744073709551615",
         _ if is_literal(due) => "",
         _ => ", a number in decimal digits",
     }
+}
+
+/// Whether a word is digits alone.
+fn is_digits(word: &[u8]) -> bool {
+    word.iter().all(|octet| octet.is_ascii_digit())
 }
 
 /// What is strange about a word, wherever it stands.
@@ -43,22 +59,28 @@ fn strange_word(word: &[u8]) -> Option<&'static str> {
         Some("the line ends in CR and LF; lines end in LF alone")
     } else if word.starts_with(b"\xef\xbb\xbf") {
         Some("it begins with a byte order mark: take that out")
-    } else if word.len() > 1
-        && word.starts_with(b"0")
-        && word.iter().all(|octet| octet.is_ascii_digit())
-    {
+    } else if word.len() > 1 && word.starts_with(b"0") && is_digits(word) {
         Some("a number has no zeros in front")
+    } else if is_digits(word) && read_u64(word).is_none() {
+        Some(
+            "it is too great: numbers are at most 18446744073709551615, which is 2 to the 64 less 1",
+        )
+    } else if word.starts_with(b"-") || word.starts_with(b"+") {
+        Some("a sign stands in it; numbers are decimal digits alone")
+    } else if word.starts_with(b"#") {
+        Some("texts of lines have no comments: take it out")
     } else {
         None
     }
 }
 
 /// How far a line is as the nearest of these forms wants it.
-fn nearest<'a>(forms: &[&'static str], line: &'a [u8]) -> Fit<'a> {
-    let mut best = fit_of("", line);
+pub(crate) fn nearest<'a>(forms: &[&'static str], line: &'a [u8]) -> Fit<'a> {
+    // No line has a line feed in it.
+    let mut best = fit_of("\n", line);
     for form in forms {
         let fit = fit_of(form, line);
-        if fit.is_whole() || (fit.words > best.words && !best.is_whole()) {
+        if !form.is_empty() && (fit.is_whole() || (fit.words > best.words && !best.is_whole())) {
             best = fit;
         }
     }
@@ -66,7 +88,7 @@ fn nearest<'a>(forms: &[&'static str], line: &'a [u8]) -> Fit<'a> {
 }
 
 /// Tells the first word of a line that is wrong.
-fn tell_word(story: &mut Story, fit: &Fit<'_>) {
+pub(crate) fn tell_word(story: &mut Story, fit: &Fit<'_>) {
     let number = fit.words.saturating_add(1);
     match fit.word {
         Some(word) => {
@@ -85,7 +107,7 @@ fn tell_word(story: &mut Story, fit: &Fit<'_>) {
 }
 
 /// Tells what may stand behind so many words of a line that are as a form wants them.
-fn tell_due(story: &mut Story, form: &'static str, fit: &Fit<'_>) {
+pub(crate) fn tell_due(story: &mut Story, form: &'static str, fit: &Fit<'_>) {
     story.text("due there: ");
     match fit.due {
         Some(due) => {
@@ -99,7 +121,7 @@ fn tell_due(story: &mut Story, form: &'static str, fit: &Fit<'_>) {
 }
 
 /// Tells the forms that a line may have that is as they want it up to so many words.
-fn tell_forms(story: &mut Story, forms: &[&'static str], line: &[u8], words: u64) {
+pub(crate) fn tell_forms(story: &mut Story, forms: &[&'static str], line: &[u8], words: u64) {
     for form in forms {
         let fit = fit_of(form, line);
         if !form.is_empty() && fit.words == words {
@@ -133,18 +155,20 @@ refutation has one, then steps, of which that has at most 1,000,000, then end, a
     }
 }
 
-/// Tells the first word of a line that is wrong, and which form the line should have.
-pub(crate) fn tell_wrong_line(story: &mut Story, kind: Kind, line: &Line<'_>) {
+/// Tells the first word of a line that is wrong, and which form the line should have. Answers whether it may be another
+/// kind of line that is due: where no word behind the first is wrong.
+pub(crate) fn tell_wrong_line(story: &mut Story, kind: Kind, line: &Line<'_>) -> bool {
     let forms = forms_of(kind);
     let fit = nearest(&forms, line.bytes);
     if fit.is_whole() {
         story.sentence(misplaced_words(kind, line));
-        return;
+        return line.ended;
     }
     tell_word(story, &fit);
     if fit.words == 0 {
         tell_all_forms(story, &forms);
-        return;
+        tell_text(story, line.bytes);
+        return true;
     }
     tell_forms(story, &forms, line.bytes, fit.words);
     if is_of_other_version(kind, line.bytes) {
@@ -152,6 +176,7 @@ pub(crate) fn tell_wrong_line(story: &mut Story, kind: Kind, line: &Line<'_>) {
             "it is a packet's line of the other version than the one that the first line says",
         );
     }
+    false
 }
 
 /// What a text is that begins with this line, in words.
@@ -159,20 +184,69 @@ fn text_words(line: &[u8]) -> Option<&'static str> {
     if line.starts_with(b"once-certificate ") {
         Some("it begins a certificate, which once check takes")
     } else if line.starts_with(b"once-refutation ") {
-        Some("it begins a refutation, which once confirm takes")
+        Some(
+            "it begins a refutation, which once confirm takes; with once-run in place of once-refutation once replay takes it",
+        )
     } else if line.starts_with(b"once-run ") {
         Some("it begins a run, which once replay takes")
+    } else if line.starts_with(b"keys ") {
+        Some("it begins totals, which once sum takes")
     } else if line.starts_with(b"{") {
         Some("it begins a document in JSON; the documents stand before the text")
+    } else {
+        answer_words(line)
+    }
+}
+
+/// What an answer of the program is that begins with this line, in words.
+pub(crate) fn answer_words(line: &[u8]) -> Option<&'static str> {
+    if line.starts_with(b"unknown ") {
+        Some(
+            "it is the answer of a once audit that found neither a certificate nor a refutation: there is nothing to be checked",
+        )
+    } else if line.starts_with(b"refused ")
+        || line.starts_with(b"device ")
+        || line.starts_with(b"memory ")
+    {
+        Some(
+            "it is the refusal of an earlier call: mend what was refused there and call that again, or leave it out",
+        )
+    } else if line.starts_with(b"no ") {
+        Some("it is the answer of once check or once confirm, which no command takes")
+    } else if is_word(line, b"refuted") {
+        Some("it is the answer of once confirm, which no command takes")
     } else {
         None
     }
 }
 
-/// Tells what the first line of a text should be, and what it begins.
-pub(crate) fn tell_wrong_header(story: &mut Story, wanted: &'static str, line: &Line<'_>) {
-    story.sentence(wanted);
-    if let Some(words) = strange_word(line.bytes).or(text_words(line.bytes)) {
+/// Tells what a text is that begins with this line, where that can be told.
+fn tell_text(story: &mut Story, line: &[u8]) {
+    if let Some(words) = text_words(line) {
         story.sentence(words);
+    }
+}
+
+/// Tells what the first line of a text should be, which begins with this name, and what it begins.
+pub(crate) fn tell_wrong_header(
+    story: &mut Story,
+    name: &'static str,
+    condition: &'static str,
+    line: &Line<'_>,
+) {
+    story.text("the first line has to be ");
+    story.text(name);
+    story.text(" 2, or ");
+    story.text(name);
+    story.text(" 1");
+    story.sentence(condition);
+    if let Some(words) = strange_word(line.bytes) {
+        story.sentence(words);
+    } else if line.bytes.starts_with(name.as_bytes()) {
+        story.sentence(
+            "behind the name stand one blank and the version, 2 or 1, and nothing more; other versions aren't known here",
+        );
+    } else {
+        tell_text(story, line.bytes);
     }
 }
