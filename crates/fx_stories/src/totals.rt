@@ -3,102 +3,94 @@ ghost use Rattle.std.specs.Prelude.{◌≡◌, ◌⊎◌, IfErr, OnOk};
 ghost use Rattle.fx_base.specs.Device.{IsWriteFault, KeepsGoing};
 ghost use Rattle.fx_stories.specs.Stories.{IsUntold, WritesStory};
 
+use crate::again::plan_again;
+use crate::due_totals::{Due, Stand, misplaced_words};
 use crate::lines::{next_line, tell_line};
 use crate::story::Story;
+use crate::total_lines::tell_key_line;
+use crate::wrong_lines::{nearest, tell_forms, tell_word};
 use fx_base::{Fault, Line, LineReader, Place, Sink, Source, put_text};
+use fx_plan::Plan;
 use std::alloc::Global;
 
-/// What a line is that no text of totals has, where it can be told.
-fn strange_line(octets: &[u8]) -> Option<&'static str> {
-    if octets.ends_with(b"\r") {
-        return Some("it ends in CR and LF; lines of totals end in LF alone");
-    }
-    if octets.starts_with(b"\xef\xbb\xbf") {
-        return Some("it begins with a byte order mark");
-    }
-    if octets.is_empty() {
-        return Some("it is empty");
-    }
-    if octets.starts_with(b"refused ")
-        || octets.starts_with(b"device ")
-        || octets.starts_with(b"memory ")
-    {
-        return Some(
-            "it is a refusal in the place of totals: see what was collected there, and leave its text out",
-        );
-    }
-    if octets.starts_with(b"keys: ") {
-        return Some("it is a sentence of --words: write totals without that");
-    }
-    if octets.starts_with(b"once-") || octets.starts_with(b"{") {
-        return Some("it begins another text than totals");
-    }
-    None
-}
-
-/// Tells which text of several a line is in, and which line of it.
-fn tell_place(story: &mut Story, number: u64, text: u64, begun: u64) {
-    if text == 0 {
-        story.sentence("no text of totals comes before it: the first line is keys and a number");
-        return;
-    }
-    story.text_number(
-        "it is line ",
-        number.saturating_sub(begun).saturating_add(1),
-    );
-    story.text_number(" of text ", text);
-    story.text_number(", which begins at line ", begun);
-    story.end_line();
-}
-
-/// Tells the refused line, and what it is.
-fn tell_refused(story: &mut Story, line: &Line<'_>, text: u64, begun: u64) {
-    tell_line(story, line);
-    tell_place(story, line.number, text, begun);
-    if let Some(words) = strange_line(line.bytes) {
+/// Tells what is wrong with a line.
+fn tell_refused(story: &mut Story, plan: Option<&Plan>, stand: &Stand, line: &Line<'_>) {
+    let due = stand.due();
+    let forms = due.forms();
+    let fit = nearest(&forms, line.bytes);
+    if let Some(words) = misplaced_words(due, line.bytes) {
         story.sentence(words);
+    } else if !line.ended {
+        story.sentence(
+            "no line feed ends the line: the text is cut off there, or was edited; where the line is whole, put a line feed behind it",
+        );
+    } else if due != Due::Key {
+        tell_word(story, &fit);
+        if fit.words > 0 {
+            tell_forms(story, &forms, line.bytes, fit.words);
+        }
+    } else if let Some(plan) = plan {
+        tell_key_line(story, plan, line.bytes, stand.last.as_slice());
     }
 }
 
-/// Tells the forms of lines, in their order.
-fn tell_forms(story: &mut Story) {
-    story.sentence(
-        "a text is: keys N; N lines KEY packets P octets O, with the fields of the report's key, each key above the one \
-before it; unassigned U; then, where they were told, complete yes or no, skipped other A malformed B, gaps G and skipped S",
-    );
-}
-
-/// What is to be told of a line of totals that is refused.
+/// What is to be told of a line of totals that is refused, over this network.
 fn story_of<C: Source>(
     alloc: Global,
+    network: &[u8],
     lines: &mut LineReader<C>,
     number: u64,
 ) -> Result<Story, Fault>
     ensures { IfErr result IsUntold }
 {
+    let plan = plan_again(alloc, network)?;
     let mut story = Story::new(alloc);
-    let mut text: u64 = 0;
-    let mut begun: u64 = 0;
+    let mut stand = Stand::new(alloc);
     'lines: while next_line(lines)? {
         let line = lines.line();
         if line.number == number {
-            tell_refused(&mut story, &line, text, begun);
-            tell_forms(&mut story);
+            tell_line(&mut story, &line);
+            stand.tell_due(&mut story);
+            tell_refused(&mut story, plan.as_ref(), &stand, &line);
             return Ok(story);
         }
-        if line.bytes.starts_with(b"keys ") {
-            text = text.saturating_add(1);
-            begun = line.number;
-        }
+        stand.take(alloc, &line)?;
     }
-    story.sentence("the texts end before that line: one is cut off, or there is none");
-    tell_forms(&mut story);
+    story.sentence("the octets end before that line: the text is cut off, or there is none");
+    stand.tell_due(&mut story);
     Ok(story)
 }
 
 /// Writes in sentences what a refusal of totals that are to be summed, 861 at a line, is about: the line, at most 200
-/// octets of it; which text of several it is in; what it is, where that can be told; and the forms of lines. The lines are
-/// those that were refused, opened anew. The text has no control characters but line feeds.
+/// octets of it; which text of several it is in; what is due at it; and the first word of it that is wrong, or what it
+/// is, where that can be told; of a key's line also the fields of the report's key of the network whose document is given,
+/// and whether its key stands twice or is out of order. The lines are those that were refused, opened anew. The text has
+/// no control characters but line feeds.
+///
+/// Fails with 900 for want of memory; with 901 where a read fails, or the reader hasn't ended after 4,294,967,296 calls;
+/// with 903 at a line of more than 4,096 octets; with 902 where a write fails. Nothing is written for a fault other than
+/// 902.
+pub fn put_totals_words_over<C: Source, S: Sink>(
+    alloc: Global,
+    network: &[u8],
+    lines: &mut LineReader<C>,
+    fault: &Fault,
+    sink: &mut S,
+) -> Result<(), Fault>
+    ensures ok { OnOk result (WritesStory (S.taken sink.old) (S.taken sink.new)) }
+    ensures going { OnOk result (KeepsGoing (S.failed sink.old) (S.failed sink.new)) }
+    ensures err { IfErr result (λ e. (IsUntold e × (sink.new ≡ sink.old))
+        ⊎ IsWriteFault (S.failed sink.new) e) }
+{
+    let number = match fault.place {
+        Place::Line(number) => number,
+        _ => 0,
+    };
+    let story = story_of(alloc, network, lines, number)?;
+    put_text(sink, story.octets()?)
+}
+
+/// Writes what [`put_totals_words_over`] writes, where the network isn't known: nothing of the fields of keys.
 ///
 /// Fails with 900 for want of memory; with 901 where a read fails, or the reader hasn't ended after 4,294,967,296 calls;
 /// with 903 at a line of more than 4,096 octets; with 902 where a write fails. Nothing is written for a fault other than
@@ -114,10 +106,5 @@ pub fn put_totals_words<C: Source, S: Sink>(
     ensures err { IfErr result (λ e. (IsUntold e × (sink.new ≡ sink.old))
         ⊎ IsWriteFault (S.failed sink.new) e) }
 {
-    let number = match fault.place {
-        Place::Line(number) => number,
-        _ => 0,
-    };
-    let story = story_of(alloc, lines, number)?;
-    put_text(sink, story.octets()?)
+    put_totals_words_over(alloc, b"", lines, fault, sink)
 }

@@ -1,0 +1,197 @@
+//! What is due at a line of texts of totals.
+use crate::story::Story;
+use crate::wrong_lines::answer_words;
+use fx_base::Line;
+use fx_elements::Words;
+use std::alloc::{AllocError, Global};
+
+/// How many octets of a line are kept.
+const KEPT: usize = 200;
+
+/// What is due at a line of texts of totals.
+#[derive(Clone, Copy, PartialEq, Eq)]
+pub(crate) enum Due {
+    /// The first line of the first text.
+    First,
+    Key,
+    Unassigned,
+    /// A note, or another text, behind the last line of totals.
+    BehindTotals,
+    BehindComplete,
+    BehindFrames,
+    BehindGaps,
+    BehindSkipped,
+}
+
+impl Due {
+    /// What may stand behind a line that is neither a key's nor the first of a text.
+    fn behind(line: &[u8]) -> Due {
+        if line.starts_with(b"complete ") {
+            Due::BehindComplete
+        } else if line.starts_with(b"skipped other ") {
+            Due::BehindFrames
+        } else if line.starts_with(b"gaps ") {
+            Due::BehindGaps
+        } else if line.starts_with(b"skipped ") {
+            Due::BehindSkipped
+        } else {
+            Due::BehindTotals
+        }
+    }
+
+    /// The forms of lines that may stand there, but that of a key's.
+    pub(crate) fn forms(self) -> [&'static str; 5] {
+        match self {
+            Due::First => ["keys COUNT", "", "", "", ""],
+            Due::Key => ["", "", "", "", ""],
+            Due::Unassigned => ["unassigned COUNT", "", "", "", ""],
+            Due::BehindTotals => [
+                "complete yes",
+                "complete no",
+                "skipped other OTHER malformed MALFORMED",
+                "gaps GAPS",
+                "keys COUNT",
+            ],
+            Due::BehindComplete => [
+                "skipped other OTHER malformed MALFORMED",
+                "gaps GAPS",
+                "keys COUNT",
+                "",
+                "",
+            ],
+            Due::BehindFrames => ["gaps GAPS", "keys COUNT", "", "", ""],
+            Due::BehindGaps => ["skipped SKIPPED", "", "", "", ""],
+            Due::BehindSkipped => ["keys COUNT", "", "", "", ""],
+        }
+    }
+
+    /// What may stand there, in words.
+    fn words(self) -> &'static str {
+        match self {
+            Due::First => "keys and a number, as keys 2: the first line of a text",
+            Due::Key => "a key's line: KEY packets P octets O",
+            Due::Unassigned => "unassigned and a number, behind the last key line",
+            Due::BehindTotals => {
+                "complete yes or complete no, skipped other A malformed B, gaps G, the line keys N of another text, or the \
+end of the octets"
+            }
+            Due::BehindComplete => {
+                "skipped other A malformed B, gaps G, the line keys N of another text, or the end of the octets; notes stand \
+once each, and in the order complete, skipped other, gaps, skipped"
+            }
+            Due::BehindFrames => {
+                "gaps G, the line keys N of another text, or the end of the octets; notes stand once each, and in the order \
+complete, skipped other, gaps, skipped"
+            }
+            Due::BehindGaps => "skipped and a number, which stand behind gaps",
+            Due::BehindSkipped => {
+                "the line keys N of another text, or the end of the octets; notes stand once each, and in the order complete, \
+skipped other, gaps, skipped"
+            }
+        }
+    }
+}
+
+/// Where texts of totals stand before a line, as far as they are in order.
+#[derive(Drop)]
+pub(crate) struct Stand {
+    /// How many texts began.
+    texts: u64,
+    /// The line at which the last one began.
+    begun: u64,
+    /// How many keys that says.
+    keys: u64,
+    /// How many lines stand behind its first.
+    passed: u64,
+    /// What may stand behind its last line, where all its keys have theirs.
+    behind: Due,
+    /// The first octets of the last line.
+    pub(crate) last: Vec<u8>,
+}
+
+impl Stand {
+    /// Before the first line.
+    pub(crate) fn new(alloc: Global) -> Stand {
+        Stand {
+            texts: 0,
+            begun: 0,
+            keys: 0,
+            passed: 0,
+            behind: Due::First,
+            last: Vec::new(alloc),
+        }
+    }
+
+    /// What is due at the next line.
+    pub(crate) fn due(&self) -> Due {
+        if self.texts == 0 {
+            Due::First
+        } else if self.passed < self.keys {
+            Due::Key
+        } else if self.passed == self.keys {
+            Due::Unassigned
+        } else {
+            self.behind
+        }
+    }
+
+    /// Goes past a line.
+    pub(crate) fn take(&mut self, alloc: Global, line: &Line<'_>) -> Result<(), AllocError> {
+        if line.bytes.starts_with(b"keys ") {
+            self.texts = self.texts.saturating_add(1);
+            self.begun = line.number;
+            self.keys = 0;
+            if let Some((_first, words)) = Words::new(line.bytes).word() {
+                if let Some((keys, _rest)) = words.number() {
+                    self.keys = keys;
+                }
+            }
+            self.passed = 0;
+        } else {
+            self.passed = self.passed.saturating_add(1);
+        }
+        self.behind = Due::behind(line.bytes);
+        let end = line.bytes.len().min(KEPT);
+        self.last = Vec::from_slice(alloc, &line.bytes[..end])?;
+        Ok(())
+    }
+
+    /// Tells what is due at the next line, and why.
+    pub(crate) fn tell_due(&self, story: &mut Story) {
+        let due = self.due();
+        if self.texts > 1 {
+            story.text_number("text ", self.texts);
+            story.text_number(" begins at line ", self.begun);
+            story.end_line();
+        }
+        story.text("due at this line: ");
+        story.text(due.words());
+        if due == Due::Key {
+            story.text_number("; it is key line ", self.passed.saturating_add(1));
+            story.text_number(" of ", self.keys);
+        }
+        if due == Due::Key || due == Due::Unassigned {
+            story.text_number(", as line ", self.begun);
+            story.text_number(" says keys ", self.keys);
+        }
+        story.end_line();
+    }
+}
+
+/// What a line is that may not stand there, where it can be told.
+pub(crate) fn misplaced_words(due: Due, octets: &[u8]) -> Option<&'static str> {
+    let is_inside = due == Due::Key || due == Due::Unassigned;
+    if octets.is_empty() {
+        Some("the line is empty: take it out")
+    } else if octets.starts_with(b"keys: ") {
+        Some("it is a sentence of --words: write totals without that")
+    } else if octets.starts_with(b"once-") || octets.starts_with(b"{") {
+        Some("it begins another text than totals")
+    } else if is_inside && octets.starts_with(b"keys ") {
+        Some("the next text begins there: the one before it is cut off")
+    } else if due == Due::Key && octets.starts_with(b"unassigned ") {
+        Some("key lines are missing before it, or the number behind keys is too great")
+    } else {
+        answer_words(octets)
+    }
+}
