@@ -17,6 +17,8 @@ use std::alloc::{AllocError, Global};
 pub(crate) struct Choosers<'a> {
     /// The exporting processes that aren't parallel.
     pub(crate) exporters: Vec<&'a ExportingProcess>,
+    /// The parallel ones beside these, which take no choice.
+    pub(crate) parallel: Vec<&'a ExportingProcess>,
     /// Where a packet is metered.
     occurrences: Vec<Occurrence>,
     /// The device at which all this is.
@@ -38,39 +40,63 @@ impl<'a> Choosers<'a> {
     fn new(alloc: Global, device: Option<&'a NetworkDevice>) -> Choosers<'a> {
         Choosers {
             exporters: Vec::new(alloc),
+            parallel: Vec::new(alloc),
             occurrences: Vec::new(alloc),
             device,
             aggregations: &[],
         }
     }
 
-    /// Adds those exporting processes of these names that aren't parallel.
+    /// Adds the exporting processes of these names, those that are parallel apart.
     fn add(&mut self, names: &[Name]) -> Result<(), AllocError> {
         let Some(device) = self.device else {
             return Ok(());
         };
         for name in names {
             let found = entry_named(device.config.exporting_processes.as_slice(), name);
-            if let Some(process) = found.filter(|process| chooses(process)) {
-                self.exporters.push(process)?;
+            match found {
+                Some(process) if chooses(process) => self.exporters.push(process)?,
+                Some(process) => self.parallel.push(process)?,
+                None => {}
             }
         }
         Ok(())
     }
 
-    /// Tells the cache, or the aggregations, of the choice at a place.
-    pub(crate) fn tell_holder(&self, story: &mut Story, place: usize) {
+    /// Tells the exporting processes that take no choice, as they send to all their destinations.
+    pub(crate) fn tell_parallel(&self, story: &mut Story) {
+        for process in self.parallel.as_slice() {
+            story.text_quoted("exporting process ", process.name.as_str());
+            story.sentence(" is parallel: it sends to all its destinations and takes no choice");
+        }
+    }
+
+    /// Tells what is due as the choice at a place: a destination, or a record of a cache or of one of the aggregations.
+    pub(crate) fn tell_due(&self, story: &mut Story, place: usize) {
+        if let Some(process) = self.exporters.get(place) {
+            story.text_quoted("a destination of exporting process ", process.name.as_str());
+            story.text_number(
+                " is due there, from 1 to ",
+                process.destinations.as_slice().len() as u64,
+            );
+            story.end_line();
+            return;
+        }
+        story.text(
+            "n for a new record is due there, or the position of a record with the same key in ",
+        );
         let occurrence = self.occurrences.get(place);
         if let (Some(device), Some(occurrence)) = (self.device, occurrence) {
             if let Some(cache) = cache_at(device, occurrence) {
                 story.text_quoted("cache ", cache.as_str());
             }
-            return;
+        } else {
+            match self.aggregations {
+                [only] => story.text_quoted("aggregation ", only.name.as_str()),
+                _ => story.text("an aggregation that takes the record in"),
+            }
         }
-        match self.aggregations {
-            [only] => story.text_quoted("aggregation ", only.name.as_str()),
-            _ => story.text("an aggregation that takes the record in"),
-        }
+        story.end_line();
     }
 }
 

@@ -9,6 +9,9 @@ use fx_run_text::Step;
 use fx_tables::Packet;
 use std::alloc::{AllocError, Global};
 
+/// How many choices are told.
+const FEW: usize = 20;
+
 /// The steps of a run of which one can't be made.
 #[derive(Drop)]
 pub(crate) struct Unmade<'a> {
@@ -113,13 +116,18 @@ impl Unmade<'_> {
         story: &mut Story,
         state: &mut State<'_>,
         trial: &Trial<'_>,
+        choosers: &Choosers<'_>,
     ) -> Result<(), AllocError> {
-        let wanted = trial.count_wanted(self.alloc, state)?;
-        story.text_number("choices of the step: ", choices_of(trial.step).len() as u64);
-        if let Some(wanted) = wanted {
-            story.text_number("; it takes ", wanted as u64);
+        let written = choices_of(trial.step).len();
+        story.text_number("choices of the step: ", written as u64);
+        match trial.count_wanted(self.alloc, state)? {
+            Some(wanted) => {
+                story.text_number("; it takes ", wanted as u64);
+                story.sentence(rule_words(trial.step));
+                tell_choices_due(story, choosers, written, wanted);
+            }
+            None => story.sentence(rule_words(trial.step)),
         }
-        story.sentence(rule_words(trial.step));
         Ok(())
     }
 
@@ -140,7 +148,7 @@ impl Unmade<'_> {
                 let chosen = choices_of(step).get(place).copied().flatten();
                 tell_wrong_choice(story, &choosers, place, chosen);
             }
-            None => self.tell_count(story, state, &trial)?,
+            None => self.tell_count(story, state, &trial, &choosers)?,
         }
         Ok(())
     }
@@ -188,21 +196,20 @@ fn tell_wrong_choice(
 ) {
     story.text_number("choice ", (place as u64).saturating_add(1));
     tell_chosen(story, chosen);
-    if let Some(process) = choosers.exporters.get(place) {
-        story.text_quoted(
-            "; a destination of exporting process ",
-            process.name.as_str(),
-        );
-        story.text_number(
-            " is due there, from 1 to ",
-            process.destinations.as_slice().len() as u64,
-        );
-        story.end_line();
-        return;
+    story.text("; ");
+    choosers.tell_due(story, place);
+}
+
+/// Tells what is due as each of so many choices, and which exporting processes take none.
+fn tell_choices_due(story: &mut Story, choosers: &Choosers<'_>, written: usize, wanted: usize) {
+    for place in 0..wanted.min(FEW) {
+        story.text_number("choice ", place as u64 + 1);
+        story.text(": ");
+        choosers.tell_due(story, place);
     }
-    story.text(
-        "; n for a new record is due there, or the position of a record with the same key in ",
-    );
-    choosers.tell_holder(story, place);
-    story.end_line();
+    if written > wanted {
+        choosers.tell_parallel(story);
+        story.text_number("choices to take out: ", (written - wanted) as u64);
+        story.end_line();
+    }
 }
