@@ -10,7 +10,8 @@ use fx_base::refusals;
 pub const CERTIFICATES: &[Row] = &[
     (
         refusals::CERTIFICATE_HEADER,
-        "The first line isn't that of a certificate: once-certificate 2, or once-certificate 1.",
+        "The first line isn't that of a certificate: it has to be once-certificate 2, or \
+         once-certificate 1.",
         "a refutation in the certificate's place, which `once audit` writes too and `once confirm` \
          takes; a run, the files in another order, lines that end in CR and LF, or a byte order \
          mark in front.",
@@ -34,7 +35,8 @@ pub const CERTIFICATES: &[Row] = &[
          or a leaf too many or too few behind the splits. Or a leaf N of a class that isn't \
          exempt or under once-certificate 1, or a leaf L of one that is exempt.",
         "Each class and each of its paths comes in document order, and behind a split come two \
-         trees, that of the lower part first. `once audit` writes such a text.",
+         trees, that of the lower part first. The leaves of a class that is exempt are N, those of \
+         another one L. `once audit` writes such a text.",
         "FORMATS, a certificate",
     ),
     (
@@ -93,7 +95,9 @@ pub const CERTIFICATES: &[Row] = &[
          exporting process chooses.",
         "an exporting process whose mode is fallback or loadBalancing, with a link from one of \
          its destinations and none from another.",
-        "Link each of its destinations to the report's side, or none of them.",
+        "Link each destination that it can choose to a collecting process whose records come to \
+         the report; or give it one destination alone, which is linked so; or set its exportMode \
+         to parallel, if just one of its destinations leads to the report.",
         "RFC 6728, section 4.4; FORMATS, a certificate",
     ),
     (

@@ -63,8 +63,9 @@ pub const RUNS: &[Row] = &[
         "a choice too many or too few, `n` where a destination's number is due, or the position \
          of a record with another key.",
         "At `cross` write one for each selection process with a cache that the packet meets; at \
-         `expire` one for each exporting process that isn't parallel; at `arrive` these first, \
-         then one for each aggregation that takes the record in.",
+         `expire` one for each exporting process that isn't parallel (a parallel one sends to all \
+         its destinations); at `arrive` these first, then one for each aggregation that takes the \
+         record in.",
         "FORMATS, a run",
     ),
     (
@@ -77,7 +78,7 @@ pub const RUNS: &[Row] = &[
     ),
     (
         refusals::RUN_HEADER,
-        "The first line isn't that of a run: once-run 2, or once-run 1.",
+        "The first line isn't that of a run: it has to be once-run 2, or once-run 1.",
         "a certificate or a refutation in the run's place, the files in another order, lines \
          that end in CR and LF, or a byte order mark in front.",
         "Give a text that begins with the line once-run 2; lines end in LF alone.",
@@ -87,10 +88,11 @@ pub const RUNS: &[Row] = &[
         refusals::RUN_FORM,
         "A line has no form of a run's lines, or one is missing.",
         "an empty file, a packet's line of another version than the first line, an address of \
-         IPv6 that isn't written out in lower case, a packet behind a step, a blank too many, or \
-         a text that ends before its line `end` or goes on behind it.",
-        "Write the line as docs/FORMATS.md has it; an address of IPv6 has eight groups without \
-         leading zeros, as 2001:db8:0:0:0:0:0:1.",
+         IPv6 that isn't written out (as 2001:db8:0:0:0:0:0:1), a number of 2 to the 64 or more, a \
+         packet behind a step, a blank too many, or a text that ends before its line `end` or goes \
+         on behind it.",
+        "Write the line as docs/FORMATS.md has it, with one blank between words: the packets, then \
+         the steps, then `end`, each with a line feed behind it.",
         "FORMATS, a run",
     ),
     (
