@@ -174,6 +174,9 @@ impl Stand {
             story.text_number(", as line ", self.begun);
             story.text_number(" says keys ", self.keys);
         }
+        if due == Due::Unassigned {
+            story.text("; where one more key is right, mend that number");
+        }
         story.end_line();
     }
 }

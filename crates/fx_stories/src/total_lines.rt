@@ -157,7 +157,7 @@ pub(crate) fn tell_key_line(story: &mut Story, plan: &Plan, line: &[u8], before:
             Some(word)
         },
     };
-    tell_word(story, &told);
+    tell_word(story, &told, line);
     if is_key {
         tell_due(story, KEY_LINE, &told);
     } else {

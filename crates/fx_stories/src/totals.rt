@@ -25,7 +25,7 @@ fn tell_refused(story: &mut Story, plan: Option<&Plan>, stand: &Stand, line: &Li
             "no line feed ends the line: the text is cut off there, or was edited; where the line is whole, put a line feed behind it",
         );
     } else if due != Due::Key {
-        tell_word(story, &fit);
+        tell_word(story, &fit, line.bytes);
         if fit.words > 0 {
             tell_forms(story, &forms, line.bytes, fit.words);
         }

@@ -50,9 +50,7 @@ fn is_digits(word: &[u8]) -> bool {
 /// What is strange about a word, wherever it stands.
 fn strange_word(word: &[u8]) -> Option<&'static str> {
     if word.is_empty() {
-        Some(
-            "a blank stands there behind another one, or at an end of the line, or the line is empty",
-        )
+        Some("the line is empty")
     } else if word.contains(&b'\t') {
         Some("a tab stands in it; words are separated by one blank")
     } else if word.ends_with(b"\r") {
@@ -87,8 +85,21 @@ pub(crate) fn nearest<'a>(forms: &[&'static str], line: &'a [u8]) -> Fit<'a> {
     best
 }
 
+/// What is strange about a line that has an empty word, in words.
+fn blank_words(line: &[u8]) -> &'static str {
+    if line.is_empty() {
+        "the line is empty"
+    } else if line.ends_with(b" ") {
+        "a blank stands at the end of the line: take it out"
+    } else if line.starts_with(b" ") {
+        "a blank stands at the beginning of the line: take it out"
+    } else {
+        "two blanks stand there: words are separated by one"
+    }
+}
+
 /// Tells the first word of a line that is wrong.
-pub(crate) fn tell_word(story: &mut Story, fit: &Fit<'_>) {
+pub(crate) fn tell_word(story: &mut Story, fit: &Fit<'_>, line: &[u8]) {
     let number = fit.words.saturating_add(1);
     match fit.word {
         Some(word) => {
@@ -99,7 +110,12 @@ pub(crate) fn tell_word(story: &mut Story, fit: &Fit<'_>) {
         },
         None => story.text_number("the line ends before word ", number),
     }
-    if let Some(words) = fit.word.and_then(strange_word) {
+    let strange = match fit.word {
+        Some(word) if word.is_empty() => Some(blank_words(line)),
+        Some(word) => strange_word(word),
+        None => None,
+    };
+    if let Some(words) = strange {
         story.text(": ");
         story.text(words);
     }
@@ -164,7 +180,7 @@ pub(crate) fn tell_wrong_line(story: &mut Story, kind: Kind, line: &Line<'_>) ->
         story.sentence(misplaced_words(kind, line));
         return line.ended;
     }
-    tell_word(story, &fit);
+    tell_word(story, &fit, line.bytes);
     if fit.words == 0 {
         tell_all_forms(story, &forms);
         tell_text(story, line.bytes);
