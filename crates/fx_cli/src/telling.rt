@@ -300,7 +300,7 @@ fn put_refused_words<R: AllocGlobal + Files>(
         }
         Asked::Collect(stream) => put_message_words(rt, stream, fault, sink),
         Asked::Draw(Some(answer)) => put_undrawn_words(rt, answer, question, fault, sink),
-        Asked::Sum(totals) => put_unsummed_words(rt, totals, fault, sink),
+        Asked::Sum(totals) => put_unsummed_words(rt, totals, question, fault, sink),
         _ => Ok(()),
     }
 }
@@ -327,11 +327,18 @@ fn put_undrawn_words<R: AllocGlobal + Files>(
 fn put_unsummed_words<R: AllocGlobal + Files>(
     rt: &R,
     totals: LinesAt<'_>,
+    question: &Question<'_>,
     fault: &Fault,
     sink: &mut Words,
 ) -> Result<(), Fault> {
+    let Some(network) = question.network else {
+        return Ok(());
+    };
     match lines_again(rt, totals)? {
-        Some(mut lines) => put_totals_words(rt.alloc(), &mut lines, fault, sink),
+        Some(mut lines) => {
+            let octets = network.octets.unwrap_or(b"");
+            put_totals_words(rt.alloc(), octets, &mut lines, fault, sink)
+        }
         None => put_lines_not_again(totals, sink),
     }
 }

@@ -81,4 +81,4 @@ pub use refutations::put_refutation_story;
 pub use runs::put_run_words;
 pub use schedules::put_schedule_words;
 pub use streams::put_stream_words;
-pub use totals::{put_totals_words, put_totals_words_over};
+pub use totals::put_totals_words;

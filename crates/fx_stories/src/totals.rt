@@ -70,7 +70,7 @@ fn story_of<C: Source>(
 /// Fails with 900 for want of memory; with 901 where a read fails, or the reader hasn't ended after 4,294,967,296 calls;
 /// with 903 at a line of more than 4,096 octets; with 902 where a write fails. Nothing is written for a fault other than
 /// 902.
-pub fn put_totals_words_over<C: Source, S: Sink>(
+pub fn put_totals_words<C: Source, S: Sink>(
     alloc: Global,
     network: &[u8],
     lines: &mut LineReader<C>,
@@ -88,23 +88,4 @@ pub fn put_totals_words_over<C: Source, S: Sink>(
     };
     let story = story_of(alloc, network, lines, number)?;
     put_text(sink, story.octets()?)
-}
-
-/// Writes what [`put_totals_words_over`] writes, where the network isn't known: nothing of the fields of keys.
-///
-/// Fails with 900 for want of memory; with 901 where a read fails, or the reader hasn't ended after 4,294,967,296 calls;
-/// with 903 at a line of more than 4,096 octets; with 902 where a write fails. Nothing is written for a fault other than
-/// 902.
-pub fn put_totals_words<C: Source, S: Sink>(
-    alloc: Global,
-    lines: &mut LineReader<C>,
-    fault: &Fault,
-    sink: &mut S,
-) -> Result<(), Fault>
-    ensures ok { OnOk result (WritesStory (S.taken sink.old) (S.taken sink.new)) }
-    ensures going { OnOk result (KeepsGoing (S.failed sink.old) (S.failed sink.new)) }
-    ensures err { IfErr result (λ e. (IsUntold e × (sink.new ≡ sink.old))
-        ⊎ IsWriteFault (S.failed sink.new) e) }
-{
-    put_totals_words_over(alloc, b"", lines, fault, sink)
 }
