@@ -10,7 +10,8 @@ use fx_base::{Fault, LineReader, Octets, Outside, Place, Source, put_text, refus
 use fx_search::Unwatched;
 use fx_stories::{
     put_capture_words, put_certificate_words, put_document_words, put_lint_words,
-    put_refutation_story, put_run_words, put_schedule_words, put_stream_words, put_totals_words,
+    put_refutation_story, put_replay_words, put_run_words, put_schedule_words, put_stream_words,
+    put_totals_words,
 };
 use fx_words::put_reason;
 use std::alloc::Global;
@@ -21,13 +22,6 @@ use std::rt::Files;
 const COUNTED_ONCE: &[u8] =
     b"In every complete run each packet of the declared classes is counted exactly once, and \
 none of those of exempt classes.\n";
-
-/// What to do about a refutation.
-const TO_MEND: &[u8] =
-    b"what to do: Change what a step names, as a point, a filter, a cache's keys, a link or an \
-export mode, so that one record of each packet comes to the report with its key, or none where the class is exempt. Where \
-no step meters the packet, add a crossing or an observation point, write exempt in its class if it isn't to be counted, or \
-name ipVersion in the class's region if there are no such packets. Then audit again.\n";
 
 /// What a text is that is drawn as an answer and is none.
 const NO_ANSWER: &[u8] =
@@ -137,7 +131,7 @@ fn put_yes_words<R: AllocGlobal + Files>(
         }
         Asked::Confirm(lines) => put_story(rt, lines, question, sink),
         Asked::Lint => put_silent_words(rt.alloc(), question, sink),
-        Asked::Replay(_) => put_text(sink, REPLAYED),
+        Asked::Replay(run) => put_replayed_words(rt, run, question, sink),
         Asked::Collect(_) => put_text(sink, COLLECTED),
         Asked::Run { .. } => put_text(sink, METERED),
         Asked::Sum(_) => put_text(sink, SUMMED),
@@ -197,12 +191,14 @@ fn put_found_story(
         &mut Unwatched,
         &mut text,
     )?;
-    if let Some((network, traffic)) = question.both() {
-        let found = text.into_inner();
-        let mut lines = LineReader::new(alloc, Octets::new(found.as_slice()))?;
-        put_refutation_story(alloc, network, traffic, &mut lines, sink)?;
+    match question.both() {
+        Some((network, traffic)) => {
+            let found = text.into_inner();
+            let mut lines = LineReader::new(alloc, Octets::new(found.as_slice()))?;
+            put_refutation_story(alloc, network, traffic, &mut lines, sink)
+        }
+        None => Ok(()),
     }
-    put_text(sink, TO_MEND)
 }
 
 /// Why a certificate was denied: it is checked once more. None where it isn't any more.
@@ -564,6 +560,23 @@ fn put_message_words<R: AllocGlobal + Files>(
     match open_again(rt, stream) {
         Some(mut file) => put_stream_words(rt.alloc(), &mut file, fault, sink),
         None => put_not_again(stream, sink),
+    }
+}
+
+/// Writes what stands in the text of a replay, and what its run leaves undone where that can be read once more.
+fn put_replayed_words<R: AllocGlobal + Files>(
+    rt: &R,
+    run: LinesAt<'_>,
+    question: &Question<'_>,
+    sink: &mut Words,
+) -> Result<(), Fault> {
+    put_text(sink, REPLAYED)?;
+    let Some((network, traffic)) = question.both() else {
+        return Ok(());
+    };
+    match lines_again(rt, run)? {
+        Some(mut lines) => put_replay_words(rt.alloc(), network, traffic, &mut lines, sink),
+        None => Ok(()),
     }
 }
 

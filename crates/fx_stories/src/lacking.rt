@@ -32,16 +32,23 @@ impl Arriving<'_> {
         self.plan.net().layout_at(self.origin).reads(axis, bits)
     }
 
-    /// Tells the first field of the report's key that the record's key lacks, if it lacks one.
-    fn tell_unassigned(&self, story: &mut Story) {
+    /// Tells the first field of the report's key that the record's key lacks, between two texts. Answers whether it lacks
+    /// one.
+    pub(crate) fn tell_unassigned(
+        &self,
+        story: &mut Story,
+        before: &'static str,
+        behind: &'static str,
+    ) -> bool {
         for part in self.plan.net().report_layout().parts() {
             if !self.reads(part.axis, part.bits) {
-                story.text("the record stays unassigned: its key lacks ");
+                story.text(before);
                 tell_part(story, part.axis, part.bits);
-                story.sentence(", which the report's key has");
-                return;
+                story.text(behind);
+                return true;
             }
         }
+        false
     }
 
     /// The first part of an aggregation's key that the record's key lacks, if it lacks one.
@@ -118,8 +125,10 @@ impl Arriving<'_> {
         let Some(place) = entry_numbered(net.links(), link).copied() else {
             return;
         };
-        if place == net.report() {
-            self.tell_unassigned(story);
+        let before = "the record stays unassigned: its key lacks ";
+        let behind = ", which the report's key has";
+        if place == net.report() && self.tell_unassigned(story, before, behind) {
+            story.end_line();
         }
         if let (Some(named), Some(process)) = (
             process_behind(self.plan, link),

@@ -1,21 +1,110 @@
 //! What is left at the end of a run that isn't complete.
+ghost use Rattle.std.specs.Prelude.{IfErr};
+ghost use Rattle.fx_stories.specs.Stories.{IsUntold};
+
+use crate::again::Documents;
+use crate::crossings::tell_numbered;
+use crate::lines::unless_wrong;
 use crate::story::Story;
-use crate::trying::Waiting;
+use crate::trying::{Waiting, refusal_of};
+use fx_base::{Fault, refusals};
 use fx_config::CollectingProcess;
 use fx_machine::State;
 use fx_plan::Plan;
-use fx_tables::HolderName;
+use fx_run_text::{Choices, Step};
+use fx_tables::{Crossing, HolderName, Packet};
 use fx_topology::{NamedLink, NetworkDevice};
 use std::alloc::{AllocError, Global};
+
+/// How many crossings are told.
+const TOLD: u64 = 20;
 
 /// The end of a run.
 #[derive(Drop)]
 struct End<'a, 'b> {
     alloc: Global,
     state: &'a mut State<'b>,
+    /// How many crossings are to come.
+    to_come: u64,
 }
 
 impl End<'_, '_> {
+    /// Whether a crossing of a packet is to come. It is tried with a choice of what is numbered 0, which nothing is, so that
+    /// the step is refused in any case.
+    fn is_to_come(&mut self, packet: u64, crossing: u64) -> Result<bool, AllocError> {
+        let choices = Choices::new(vec![in self.alloc; Some(0)]?);
+        let step = Step::Cross {
+            packet,
+            crossing,
+            choices,
+        };
+        Ok(refusal_of(self.state, &step)? == Some(refusals::WRONG_CHOICES))
+    }
+
+    /// Tells which crossings of the packet of this number are to come, unless many were told, with a text before each.
+    fn tell_to_come(
+        &mut self,
+        story: &mut Story,
+        plan: &Plan,
+        packet: u64,
+        crossings: &[Crossing],
+        is_numbered: bool,
+    ) -> Result<(), AllocError> {
+        for place in 0..crossings.len() {
+            let number = place as u64 + 1;
+            if self.is_to_come(packet, number)? {
+                self.to_come = self.to_come.saturating_add(1);
+                if self.to_come <= TOLD {
+                    if is_numbered {
+                        story.text_number("packet ", packet);
+                        story.text(": ");
+                    }
+                    tell_numbered(story, plan, number, &crossings[place]);
+                    story.sentence(" is still to come");
+                }
+            }
+        }
+        Ok(())
+    }
+
+    /// Tells which crossings of packets are to come.
+    fn tell_all_to_come(
+        &mut self,
+        story: &mut Story,
+        documents: &Documents,
+        packets: &[Packet],
+    ) -> Result<(), AllocError> {
+        let is_numbered = packets.len() > 1;
+        for place in 0..packets.len() {
+            let crossings = documents.traffic.classes().path_of(&packets[place]);
+            self.tell_to_come(
+                story,
+                &documents.plan,
+                place as u64 + 1,
+                crossings,
+                is_numbered,
+            )?;
+        }
+        if self.to_come > TOLD {
+            story.text_number(
+                "other crossings that are still to come: ",
+                self.to_come.saturating_sub(TOLD),
+            );
+            story.end_line();
+        }
+        Ok(())
+    }
+
+    /// Makes these steps, as far as they can be made.
+    fn make(&mut self, steps: &[Step]) -> Result<(), AllocError> {
+        for step in steps {
+            if refusal_of(self.state, step)?.is_some() {
+                return Ok(());
+            }
+        }
+        Ok(())
+    }
+
     /// How many records are left there.
     fn count(&mut self, waiting: Waiting) -> Result<u64, AllocError> {
         waiting.count(self.alloc, self.state)
@@ -113,13 +202,7 @@ impl End<'_, '_> {
 }
 
 /// Tells the records that are left in caches, in aggregations and on links.
-pub(crate) fn tell_left(
-    alloc: Global,
-    story: &mut Story,
-    plan: &Plan,
-    state: &mut State<'_>,
-) -> Result<(), AllocError> {
-    let mut end = End { alloc, state };
+fn tell_left(story: &mut Story, plan: &Plan, end: &mut End<'_, '_>) -> Result<(), AllocError> {
     let network = plan.network();
     let devices = network.devices.as_slice();
     for place in 0..devices.len() {
@@ -128,4 +211,31 @@ pub(crate) fn tell_left(
         end.tell_processes(story, &devices[place], number)?;
     }
     end.tell_links(story, network.links.as_slice())
+}
+
+/// Tells what a run of these packets leaves undone: which crossings are to come, the first 20 of them, and which records
+/// are held or on links.
+pub(crate) fn tell_undone(
+    alloc: Global,
+    story: &mut Story,
+    documents: &Documents,
+    packets: &[Packet],
+    steps: &[Step],
+) -> Result<(), Fault>
+    ensures { IfErr result IsUntold }
+{
+    let copied = Vec::from_slice(alloc, packets)?;
+    let classes = documents.traffic.classes();
+    let opened = State::open(alloc, documents.plan.net(), classes, copied);
+    if let Some(mut state) = unless_wrong(opened)? {
+        let mut end = End {
+            alloc,
+            state: &mut state,
+            to_come: 0,
+        };
+        end.make(steps)?;
+        end.tell_all_to_come(story, documents, packets)?;
+        tell_left(story, &documents.plan, &mut end)?;
+    }
+    Ok(())
 }

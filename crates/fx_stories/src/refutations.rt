@@ -6,22 +6,44 @@ ghost use Rattle.fx_collect.specs.Report.{KeysAscend};
 ghost use Rattle.fx_stories.specs.Stories.{IsUntold, WritesStory};
 
 use crate::again::{Documents, documents_again};
-use crate::crossings::tell_numbered;
 use crate::holders::leads_to_report;
 use crate::lacking::Arriving;
-use crate::left::tell_left;
+use crate::left::tell_undone;
 use crate::lines::unless_wrong;
+use crate::mending::tell_mending;
 use crate::origins::Origins;
 use crate::steps::{tell_packet, tell_step};
 use crate::story::Story;
-use crate::trying::refusal_of;
 use fx_base::{Fault, LineReader, Room, Sink, Source, entry_numbered, put_text, refusals};
 use fx_collect::Totals;
-use fx_machine::State;
 use fx_refute::{Refutation, confirm, read_refutation};
 use fx_run_text::Step;
-use fx_tables::Packet;
+use fx_tables::{HolderName, Packet};
 use std::alloc::{AllocError, Global};
+
+/// A record of a packet that comes from this cache or aggregation, where it arrives.
+pub(crate) fn arriving<'a>(
+    documents: &'a Documents,
+    packet: &'a Packet,
+    holder: HolderName,
+) -> Arriving<'a> {
+    let plan = &documents.plan;
+    Arriving {
+        plan,
+        origin: plan.net().holder_place(holder).unwrap_or(usize::MAX),
+        fields: &packet.fields,
+    }
+}
+
+/// Before the first step of a run of a packet alone.
+pub(crate) fn origins_of<'a>(
+    alloc: Global,
+    documents: &'a Documents,
+    packet: &'a Packet,
+) -> Result<Origins<'a>, AllocError> {
+    let path = documents.traffic.classes().path_of(packet);
+    Origins::new(alloc, documents.plan.net(), packet, path)
+}
 
 /// Tells why the record that arrives at a step isn't tallied or taken in, where it isn't.
 fn tell_lacking(
@@ -32,13 +54,8 @@ fn tell_lacking(
     step: &Step,
 ) {
     if let Step::Arrive { link, position, .. } = step {
-        if let Some(origin) = origins.origin(*link, *position) {
-            let arriving = Arriving {
-                plan: &documents.plan,
-                origin,
-                fields: &packet.fields,
-            };
-            arriving.tell(story, *link);
+        if let Some(sent) = origins.origin(*link, *position) {
+            arriving(documents, packet, sent.holder).tell(story, *link);
         }
     }
 }
@@ -51,7 +68,7 @@ fn tell_steps(
     packet: &Packet,
     steps: &[Step],
 ) -> Result<(), AllocError> {
-    let mut origins = Origins::new(alloc, documents.plan.net())?;
+    let mut origins = origins_of(alloc, documents, packet)?;
     for place in 0..steps.len() {
         let step = &steps[place];
         story.number(place as u64 + 1);
@@ -106,7 +123,7 @@ fn tell_totals(story: &mut Story, totals: &Totals)
     story.lines_of(room.octets());
 }
 
-/// Tells what a refutation's run comes to, and what it should come to.
+/// Tells what a refutation's run comes to, what it should come to, and what to do about it.
 fn tell_sums(
     alloc: Global,
     story: &mut Story,
@@ -123,6 +140,7 @@ fn tell_sums(
             tell_totals(story, &ran);
             story.sentence("and it should hold");
             tell_totals(story, &plain);
+            tell_mending(alloc, story, documents, refutation, &ran)?;
             Ok(())
         }
         Err(fault) => {
@@ -148,56 +166,6 @@ fn tell_run(
     Ok(())
 }
 
-/// Whether one of the steps makes the crossing of this number.
-fn is_made(steps: &[Step], number: u64) -> bool {
-    steps.iter().any(|step| match step {
-        Step::Cross { crossing, .. } => *crossing == number,
-        _ => false,
-    })
-}
-
-/// Tells which crossings of its packet's path a refutation's run doesn't make.
-fn tell_to_come(story: &mut Story, documents: &Documents, refutation: &Refutation) {
-    let crossings = documents.traffic.classes().path_of(refutation.packet());
-    for place in 0..crossings.len() {
-        let number = place as u64 + 1;
-        if !is_made(refutation.steps(), number) {
-            tell_numbered(story, &documents.plan, number, &crossings[place]);
-            story.sentence(" is still to come");
-        }
-    }
-}
-
-/// Makes these steps, as far as they can be made.
-fn make_steps(state: &mut State<'_>, steps: &[Step]) -> Result<(), AllocError> {
-    for step in steps {
-        if refusal_of(state, step)?.is_some() {
-            return Ok(());
-        }
-    }
-    Ok(())
-}
-
-/// Tells what a refutation's run leaves undone.
-fn tell_undone(
-    alloc: Global,
-    story: &mut Story,
-    documents: &Documents,
-    refutation: &Refutation,
-) -> Result<(), Fault>
-    ensures { IfErr result IsUntold }
-{
-    tell_to_come(story, documents, refutation);
-    let packets = Vec::from_slice(alloc, &[*refutation.packet()])?;
-    let classes = documents.traffic.classes();
-    let opened = State::open(alloc, documents.plan.net(), classes, packets);
-    if let Some(mut state) = unless_wrong(opened)? {
-        make_steps(&mut state, refutation.steps())?;
-        tell_left(alloc, story, &documents.plan, &mut state)?;
-    }
-    Ok(())
-}
-
 /// Tells the run of a refutation that isn't confirmed, though each of its steps can be made: one that isn't complete
 /// (504), or whose totals are the plain sums (505).
 ///
@@ -220,7 +188,8 @@ pub(crate) fn tell_unconfirmed<C: Source>(
     };
     tell_run(alloc, story, &documents, &refutation)?;
     if fault == refusals::RUN_NOT_COMPLETE {
-        tell_undone(alloc, story, &documents, &refutation)?;
+        let packets = [*refutation.packet()];
+        tell_undone(alloc, story, &documents, &packets, refutation.steps())?;
     }
     Ok(())
 }
@@ -259,7 +228,7 @@ fn story_of<C: Source>(
 /// Writes in sentences what a refutation says: its packet, with its class by name and its fields that aren't 0; each
 /// step with the names of what it is about, and what the key of a record lacks that stays unassigned or that an aggregation
 /// doesn't take in; at which steps a record reaches the report; and, where it is confirmed, the totals of its run and those
-/// that it should have. The documents are those over which the refutation was confirmed, the lines those of its text, opened anew.
+/// that it should have, and what to do about their difference. The documents are those over which the refutation was confirmed, the lines those of its text, opened anew.
 /// What can't be told is left out. The text has no control characters but line feeds.
 ///
 /// Fails with 900 for want of memory; with 901 where a read fails, or the reader hasn't ended after 4,294,967,296 calls;

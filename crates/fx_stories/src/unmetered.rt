@@ -1,0 +1,103 @@
+//! What to do about a packet that nothing meters on its path.
+use crate::again::Documents;
+use crate::crossings::tell_numbered;
+use crate::paths::tell_class;
+use crate::story::{Story, between};
+use fx_base::entry_at;
+use fx_elements::Axis;
+use fx_tables::{Crossing, Packet};
+
+/// How many crossings are told.
+const TOLD: usize = 8;
+
+/// Tells the observation points that see a crossing.
+fn tell_watchers(story: &mut Story, documents: &Documents, crossing: &Crossing) {
+    let mut told = false;
+    let points = documents.plan.net().points_of(crossing.device);
+    let Some(device) = documents.plan.device(crossing.device) else {
+        return;
+    };
+    for place in 0..points.len() {
+        if points[place].watches(crossing) {
+            if let Some(named) = entry_at(device.observation_points.as_slice(), place) {
+                story.text_quoted(between(told, " and "), named.name.as_str());
+                told = true;
+            }
+        }
+    }
+    story.text(if told {
+        " sees it, and none of its selection processes with a cache selects it"
+    } else {
+        "no observation point sees it"
+    });
+}
+
+/// Tells what sees the first crossings of a path.
+fn tell_crossings_of(story: &mut Story, documents: &Documents, crossings: &[Crossing]) {
+    let told = crossings.len().min(TOLD);
+    for place in 0..told {
+        story.text(between(place > 0, "; "));
+        tell_numbered(story, &documents.plan, place as u64 + 1, &crossings[place]);
+        story.text(": ");
+        tell_watchers(story, documents, &crossings[place]);
+    }
+    if told < crossings.len() {
+        story.text_number("; and further crossings: ", (crossings.len() - told) as u64);
+    }
+}
+
+/// Whether a selection process of a point that sees a crossing selects packets of other versions than this one alone.
+fn passes_over(documents: &Documents, crossing: &Crossing, version: u128) -> bool {
+    for point in documents.plan.net().points_of(crossing.device) {
+        let selects = point
+            .selections()
+            .iter()
+            .any(|selection| match &selection.region {
+                Some(region) => {
+                    version < region.corner().get(Axis::Version)
+                        || region.far_corner().get(Axis::Version) < version
+                }
+                None => false,
+            });
+        if selects && point.watches(crossing) {
+            return true;
+        }
+    }
+    false
+}
+
+/// Tells that a packet is neither of IPv4 nor of IPv6, where that is why a point at one of these crossings passes it over.
+fn tell_version(story: &mut Story, documents: &Documents, packet: &Packet, crossings: &[Crossing]) {
+    let version = packet.fields.get(Axis::Version);
+    if version == 4 || version == 6 {
+        return;
+    }
+    for crossing in crossings {
+        if passes_over(documents, crossing, version) {
+            story.text(
+                "; the packet is neither of IPv4 nor of IPv6: where there are no such packets, name ipVersion in its class's region",
+            );
+            return;
+        }
+    }
+}
+
+/// Tells what to do about a packet that nothing meters.
+pub(crate) fn tell_unmetered_path(story: &mut Story, documents: &Documents, packet: &Packet) {
+    let crossings = documents.traffic.classes().path_of(packet);
+    if crossings.is_empty() {
+        story.text(
+            "Name the crossings that its packets make, or write exempt in the class if they aren't to be counted, and audit again: ",
+        );
+        tell_class(story, documents, packet.class, packet.path);
+        story.sentence(" has no crossing");
+        return;
+    }
+    story.text(
+        "Have a selection process with a cache select the packet at a crossing, by a wider filter or another observation point, or \
+write exempt in its class if it isn't to be counted, and audit again: ",
+    );
+    tell_crossings_of(story, documents, crossings);
+    tell_version(story, documents, packet, crossings);
+    story.end_line();
+}
