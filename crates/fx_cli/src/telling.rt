@@ -9,9 +9,9 @@ use fx_audit::{Answer, audit_bytes, check_bytes, confirm_bytes};
 use fx_base::{Fault, LineReader, Octets, Outside, Place, Source, put_text, refusals};
 use fx_search::Unwatched;
 use fx_stories::{
-    put_capture_words, put_certificate_words, put_document_words, put_lint_words,
-    put_refutation_story, put_replay_words, put_run_words, put_schedule_words, put_stream_words,
-    put_totals_words,
+    put_capture_words, put_certificate_words, put_collection_words, put_document_words,
+    put_lint_words, put_refutation_story, put_replay_words, put_run_words, put_schedule_words,
+    put_stream_words, put_totals_words,
 };
 use fx_words::put_reason;
 use std::alloc::Global;
@@ -132,7 +132,7 @@ fn put_yes_words<R: AllocGlobal + Files>(
         Asked::Confirm(lines) => put_story(rt, lines, question, sink),
         Asked::Lint => put_silent_words(rt.alloc(), question, sink),
         Asked::Replay(run) => put_replayed_words(rt, run, question, sink),
-        Asked::Collect(_) => put_text(sink, COLLECTED),
+        Asked::Collect(stream) => put_collected_words(rt, stream, question, sink),
         Asked::Run { .. } => put_text(sink, METERED),
         Asked::Sum(_) => put_text(sink, SUMMED),
         // Behind a graph words would be no part of it.
@@ -577,6 +577,23 @@ fn put_replayed_words<R: AllocGlobal + Files>(
     match lines_again(rt, run)? {
         Some(mut lines) => put_replay_words(rt.alloc(), network, traffic, &mut lines, sink),
         None => Ok(()),
+    }
+}
+
+/// Writes what stands in the text of a collection, and what its totals leave out where the stream can be read once more.
+fn put_collected_words<R: AllocGlobal + Files>(
+    rt: &R,
+    stream: &str,
+    question: &Question<'_>,
+    sink: &mut Words,
+) -> Result<(), Fault> {
+    put_text(sink, COLLECTED)?;
+    let network = question.network.and_then(|network| network.octets);
+    match (network, open_again(rt, stream)) {
+        (Some(network), Some(mut file)) => {
+            put_collection_words(rt.alloc(), network, &mut file, sink)
+        }
+        _ => Ok(()),
     }
 }
 

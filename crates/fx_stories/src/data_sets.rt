@@ -83,7 +83,7 @@ fn tell_no_template(
 }
 
 /// How few octets a record of these fields has.
-fn shortest(fields: &[FieldSpecifier]) -> usize {
+pub(crate) fn shortest(fields: &[FieldSpecifier]) -> usize {
     let mut sum: usize = 0;
     for field in fields {
         let least = if field.field_length == VARIABLE {

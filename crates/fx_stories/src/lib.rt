@@ -7,7 +7,9 @@ mod captures;
 mod certificates;
 mod choosing;
 mod circles;
+mod collections;
 mod counters;
+mod counting;
 mod crossings;
 mod data_sets;
 mod directions;
@@ -81,6 +83,7 @@ mod wrong_lines;
 
 pub use captures::put_capture_words;
 pub use certificates::put_certificate_words;
+pub use collections::put_collection_words;
 pub use documents::put_document_words;
 pub use lints::put_lint_words;
 pub use refutations::put_refutation_story;

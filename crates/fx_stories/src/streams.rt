@@ -4,6 +4,7 @@ ghost use Rattle.fx_base.specs.Device.{IsWriteFault, KeepsGoing};
 ghost use Rattle.fx_base.specs.Fault.{IsMemory};
 ghost use Rattle.fx_stories.specs.Stories.{IsUntold, WritesStory};
 
+use crate::counting::Counting;
 use crate::data_sets::tell_data_set;
 use crate::formats::format_of;
 use crate::messages::{HEADER, MessageThere, SetThere};
@@ -20,12 +21,12 @@ const LONGEST: usize = 65_535;
 
 /// How far a stream was read once more.
 #[derive(Drop)]
-struct Reading {
+pub(crate) struct Reading {
     alloc: Global,
     /// The templates of the messages before.
-    templates: Templates,
+    pub(crate) templates: Templates,
     /// The number of the message that comes next, from 1.
-    number: u64,
+    pub(crate) number: u64,
     /// The place of its first octet.
     place: u64,
     /// The octets from there on, as far as they were read.
@@ -37,7 +38,7 @@ struct Reading {
 }
 
 /// Does what the set of a message says of templates, or tells what is wrong with it. Answers whether something is. The
-/// records of data sets are looked at where the message is refused.
+/// records of data sets are looked at where the message is refused, and else counted where they are.
 fn take_set(
     alloc: Global,
     story: &mut Story,
@@ -50,7 +51,10 @@ fn take_set(
         (2, _) => take_templates(alloc, story, templates, message, set, TemplateKind::Plain),
         (3, _) => take_templates(alloc, story, templates, message, set, TemplateKind::Options),
         (_, Some(fault)) => Ok(tell_data_set(story, templates, message, set, fault)),
-        (_, None) => Ok(false),
+        (_, None) => {
+            templates.count(message, set);
+            Ok(false)
+        }
     }
 }
 
@@ -85,6 +89,13 @@ impl Reading {
         }
     }
 
+    /// Before the first octet of a stream that isn't refused, and whose data records are counted.
+    pub(crate) fn counting(alloc: Global, counting: Counting) -> Reading {
+        let mut reading = Reading::new(alloc, 0, u64::MAX);
+        reading.templates.counting = Some(counting);
+        reading
+    }
+
     /// Goes past the whole messages before the refused one.
     fn pass_messages(&mut self, story: &mut Story) -> Result<(), AllocError> {
         let count = self.octets.len();
@@ -109,6 +120,9 @@ impl Reading {
                 sets.as_slice(),
                 None,
             )?;
+            if let Some(counting) = &mut self.templates.counting {
+                counting.take_message(&message)?;
+            }
             at = at.saturating_add(length);
             self.place = self.place.saturating_add(length as u64);
             self.number = self.number.saturating_add(1);
@@ -222,22 +236,33 @@ impl Reading {
     }
 }
 
+/// Reads a stream up to the refused message, or to its end.
+pub(crate) fn read_on<R: Source>(
+    reading: &mut Reading,
+    story: &mut Story,
+    stream: &mut R,
+) -> Result<(), Fault>
+    ensures { IfErr result IsUntold }
+{
+    let mut pieces = PieceReader::new();
+    for _ in 0..u64::MAX {
+        if !pieces.advance(stream)? || reading.take(story, pieces.piece())? {
+            return Ok(());
+        }
+    }
+    Ok(())
+}
+
 /// What is to be told of a stream.
 fn story_of<R: Source>(alloc: Global, stream: &mut R, fault: &Fault) -> Result<Story, Fault>
     ensures { IfErr result IsUntold }
 {
     let mut story = Story::new(alloc);
-    let Place::Octet(refused) = &fault.place else {
-        return Ok(story);
-    };
-    let mut reading = Reading::new(alloc, fault.number, *refused);
-    let mut pieces = PieceReader::new();
-    for _ in 0..u64::MAX {
-        if !pieces.advance(stream)? || reading.take(&mut story, pieces.piece())? {
-            break;
-        }
+    if let Place::Octet(refused) = &fault.place {
+        let mut reading = Reading::new(alloc, fault.number, *refused);
+        read_on(&mut reading, &mut story, stream)?;
+        reading.tell(&mut story)?;
     }
-    reading.tell(&mut story)?;
     Ok(story)
 }
 

@@ -206,6 +206,8 @@ fn declare<'o>(
         message: record.message.number,
         place: record.message.place_in_stream(record.place),
         withdrawn: None,
+        records: 0,
+        unassigned: 0,
     };
     if let Some(old) = templates.live(declared.domain, declared.id) {
         if record.tell_other(story, old, &declared) {

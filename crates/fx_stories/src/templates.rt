@@ -1,4 +1,7 @@
 //! The templates of a stream that is read once more.
+use crate::counting::Counting;
+use crate::messages::{MessageThere, SetThere};
+use crate::places::part;
 use fx_wire::{FieldSpecifier, TemplateKind};
 use std::alloc::{AllocError, Global};
 
@@ -27,6 +30,10 @@ pub(crate) struct Declared {
     pub(crate) place: u64,
     /// The number of the message that withdraws it, if one has.
     pub(crate) withdrawn: Option<u64>,
+    /// How many data records it had, where they are counted.
+    pub(crate) records: u64,
+    /// How many of them lack something of the report's key.
+    pub(crate) unassigned: u64,
 }
 
 impl Declared {
@@ -53,6 +60,8 @@ pub(crate) struct Templates {
     fields: usize,
     /// Whether some had no room.
     full: bool,
+    /// What is counted of their data records, where they are counted.
+    pub(crate) counting: Option<Counting>,
 }
 
 impl Templates {
@@ -62,6 +71,26 @@ impl Templates {
             items: Vec::new(alloc),
             fields: 0,
             full: false,
+            counting: None,
+        }
+    }
+
+    /// Counts the records of a data set of a message, where they are counted.
+    pub(crate) fn count(&mut self, message: &MessageThere<'_>, set: &SetThere) {
+        let Some(counting) = &mut self.counting else {
+            return;
+        };
+        let domain = message.domain();
+        let place = self
+            .items
+            .iter()
+            .position(|declared| declared.is_live(domain, set.id));
+        match self.items.get_mut(place.unwrap_or(usize::MAX)) {
+            Some(declared) => {
+                let content = part(message.octets, set.start(), set.end());
+                counting.take_records(declared, content);
+            }
+            None => counting.is_lost = true,
         }
     }
 
