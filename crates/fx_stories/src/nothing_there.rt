@@ -88,8 +88,13 @@ fn tell_few_octets(story: &mut Story, plan: &Plan, number: u64, octets: u64) {
     story.sentence(
         ": a record that is exported there puts its octets on it, and each line carry takes off what it carries",
     );
+    story.text(if octets > 1 {
+        "carry fewer, put"
+    } else {
+        "put"
+    });
     story.text_number(
-        "carry fewer, put the line behind those that export there, or take it out; --links PREFIX keeps in the file PREFIX",
+        " the line behind those that export there, or take it out; --links PREFIX keeps in the file PREFIX",
         number,
     );
     story.sentence(" all octets that were put on it");

@@ -60,8 +60,12 @@ fn tell_process(
         tell_destinations(story, plan, device, process);
         return;
     };
-    if let Some(destination) = entry_numbered(process.destinations.as_slice(), number) {
-        tell_destination(story, plan, device, process, destination);
+    match entry_numbered(process.destinations.as_slice(), number) {
+        Some(destination) => tell_destination(story, plan, device, process, destination),
+        None => {
+            story.text_quoted("exporting process ", process.name.as_str());
+            story.text_number(" has no destination ", number);
+        }
     }
 }
 
