@@ -46,7 +46,7 @@ once. Or a refutation (status 1): a run of one packet that `once confirm` takes,
 `unknown 601` (status 3): neither was found within the limits; raise --limit, or cut the traffic into several
 declarations. A document that is refused: `refused NUMBER PLACE` (status 2), PLACE a JSON Pointer (RFC 6901).
 
---words tells the answer in sentences: of a refutation what each of its steps does, by name.
+--words tells the answer in sentences: of a refutation what each of its steps does, by name, and what to do about it.
 --progress tells on standard error, at most once a second, how many lines of a certificate were found.";
 
 /// Behind the help of `check`.
@@ -84,7 +84,7 @@ Prints `refuted` (status 0), then behind the line `run` what the collector count
 (status 2).
 
 --words tells the run step by step, by name: where the packet is metered, or which observation points pass it over and
-why.";
+why; and what to do about it.";
 
 /// Behind the help of `replay`.
 pub const REPLAY: &str = "\
@@ -104,7 +104,7 @@ Prints the collector's totals at the run's end (status 0): `keys N`, a line for 
 `complete yes` or `complete no`. A text that is refused: `refused NUMBER PLACE` (status 2); 851 to 853 are steps that
 can't be made, 854 to 856 lines.
 
---words tells which step it was, by name.";
+--words tells which step it was, by name, and of a run that isn't complete what it leaves undone.";
 
 /// Behind the help of `collect`.
 pub const COLLECT: &str = "\
@@ -120,8 +120,9 @@ Prints the totals (status 0): `keys N`, a line for each key, `unassigned N`, `ga
 isn't the next one), `skipped N` (records that lack a counter). A stream that is refused: `refused NUMBER octet N`
 (status 2), 611 to 620, at the first octet of the message. Counters must have 8 octets (618).
 
---words tells of a refused message which it is and what stands there: its set, template, field or record. For that the
-stream is read once more, which a pipe can't be.
+--words tells of a refused message which it is and what stands there: its set, template, field or record; of totals which
+messages leave a gap, and which templates lack a field of the key or a counter. For that the stream is read once more,
+which a pipe can't be.
 --progress tells on standard error, at most once a second, how many octets of the stream were read.";
 
 /// Behind the help of `run`.
@@ -143,8 +144,8 @@ are no packets). With --links the IPFIX octets of link 1 go to the file PREFIX1,
 written over, but where a file above is given by that very name it ends with `device 902`. A text that is refused:
 `refused NUMBER PLACE` (status 2), 701 to 704 of the capture, 801 to 804 of the schedule.
 
---words tells of a refused line what it is about: of 803 and 804 which packet, and which of its fields lie outside of
-which class.
+--words tells of a refused line what it is about: of 802 what isn't there, of 803 and 804 which packet, and which of its
+fields lie outside of which class.
 --progress tells on standard error, at most once a second, how many octets of the capture were read.";
 
 /// Behind the help of `lint`.
@@ -226,7 +227,7 @@ texts has them, `complete`, `skipped other N malformed N`, `gaps N` and `skipped
 collected apart and summed is what would have been collected together, in any order; and sums can be summed. A text that is refused:
 `refused 861 line N` (status 2).
 
---words tells what is refused in sentences.";
+--words tells what is refused in sentences, and what is due at that line.";
 
 /// Behind the help of `explain`.
 pub const EXPLAIN: &str = "\

@@ -3,8 +3,9 @@ use crate::answers::ends;
 use crate::audit_texts::{NETWORK, TRAFFIC};
 use fx_base::{Fault, LineReader, Octets, Room};
 use fx_stories::{
-    put_capture_words, put_certificate_words, put_document_words, put_lint_words,
-    put_refutation_story, put_run_words, put_schedule_words, put_stream_words,
+    put_capture_words, put_certificate_words, put_collection_words, put_document_words,
+    put_lint_words, put_refutation_story, put_replay_words, put_run_words, put_schedule_words,
+    put_stream_words, put_totals_words,
 };
 use std::alloc::Global;
 use std::process::Abort;
@@ -44,6 +45,33 @@ end
 const RUN_WORDS: &[u8] = b"line 4: expire cache 1 1 2
 this step can't be made: a record leaves cache \"ca\" of m1: exporting process \"ex\" sends to destination \"d\", which is linked to collecting process \"cp\" of c1
 before this step the number of records there is 1; positions count from 1, and none is at 2
+";
+
+/// A run whose record stays in the cache.
+const RUN_NOT_COMPLETE: &[u8] = b"once-run 1
+packet 1 1 10.0.0.1 192.0.2.1 6 1000 80 0 100
+cross 1 1 n
+end
+";
+
+const REPLAY_WORDS: &[u8] =
+    b"cache \"ca\" of m1 still holds records: 1; the first leaves by a line expire cache 1 1 1 CHOICES
+";
+
+/// Totals with a number that has a zero in front.
+const TOTALS: &[u8] = b"keys 1
+10.0.0.1 packets 2 octets 02
+unassigned 0
+";
+
+const TOTALS_WORDS: &[u8] = b"line 2: 10.0.0.1 packets 2 octets 02
+due at this line: a key's line: KEY packets P octets O; it is key line 1 of 1, as line 1 says keys 1
+word 5 is \"02\": a number has no zeros in front
+due there: OCTETS, a number from 0 to 18446744073709551615; the form of the line: KEY packets PACKETS octets OCTETS
+";
+
+const COLLECTION_WORDS: &[u8] =
+    b"The stream is empty: it has no message. Look whether it is the right file, and whether the exporter sends to this address and port; some send their first message, with the templates, only after minutes.
 ";
 
 const DOCUMENT_WORDS: &[u8] = b"file: net.json
@@ -174,6 +202,40 @@ fn tells_runs(rt: HostRuntime) {
         &mut room,
     );
     assert!(rt; ends(answer, 0) & (room.octets() == RUN_WORDS));
+}
+
+#[test]
+fn tells_replays(rt: HostRuntime) {
+    let mut lines = lines_of(&rt, rt.alloc(), RUN_NOT_COMPLETE);
+    let mut octets = [0u8; 1000];
+    let mut room = Room::new(&mut octets);
+    let (network, traffic) = (NETWORK.as_bytes(), TRAFFIC.as_bytes());
+    let answer = put_replay_words(rt.alloc(), network, traffic, &mut lines, &mut room);
+    assert!(rt; ends(answer, 0) & (room.octets() == REPLAY_WORDS));
+}
+
+#[test]
+fn tells_totals(rt: HostRuntime) {
+    let mut lines = lines_of(&rt, rt.alloc(), TOTALS);
+    let mut octets = [0u8; 1000];
+    let mut room = Room::new(&mut octets);
+    let answer = put_totals_words(
+        rt.alloc(),
+        NETWORK.as_bytes(),
+        &mut lines,
+        &Fault::at_line(861, 2),
+        &mut room,
+    );
+    assert!(rt; ends(answer, 0) & (room.octets() == TOTALS_WORDS));
+}
+
+#[test]
+fn tells_collections(rt: HostRuntime) {
+    let mut stream = Octets::new(b"");
+    let mut octets = [0u8; 1000];
+    let mut room = Room::new(&mut octets);
+    let answer = put_collection_words(rt.alloc(), NETWORK.as_bytes(), &mut stream, &mut room);
+    assert!(rt; ends(answer, 0) & (room.octets() == COLLECTION_WORDS));
 }
 
 #[test]
