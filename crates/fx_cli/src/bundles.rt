@@ -95,6 +95,40 @@ fn texts_of(command: &[u8]) -> u64 {
     }
 }
 
+/// How many octets of a line are shown.
+const SHOWN: usize = 40;
+
+/// A byte order mark in UTF-8.
+const ORDER_MARK: &[u8] = b"\xef\xbb\xbf";
+
+/// Writes that a line names no command, and shows it.
+fn put_first_line(line: &[u8], sink: &mut Words) -> Result<(), Fault> {
+    put_text(
+        sink,
+        b"the first line of standard input is none of audit, check, confirm and replay: \"",
+    )?;
+    for octet in line.get(..SHOWN).unwrap_or(line) {
+        put_text(
+            sink,
+            &[if octet.is_ascii_graphic() {
+                *octet
+            } else {
+                b' '
+            }],
+        )?;
+    }
+    put_text(
+        sink,
+        if line.starts_with(ORDER_MARK) {
+            b"\"; a byte order mark stands in front of it\n".as_slice()
+        } else if line.ends_with(b" ") {
+            b"\"; a blank stands at its end\n"
+        } else {
+            b"\"\n"
+        },
+    )
+}
+
 /// Writes why octets are no bundle.
 pub(crate) fn put_bundle_words(octets: &[u8], sink: &mut Words) -> Result<(), Fault> {
     if octets.is_empty() {
@@ -112,10 +146,7 @@ pub(crate) fn put_bundle_words(octets: &[u8], sink: &mut Words) -> Result<(), Fa
     }
     let wanted = texts_of(command);
     if wanted == 0 {
-        return put_text(
-            sink,
-            b"the first line of standard input is none of audit, check, confirm and replay\n",
-        );
+        return put_first_line(command, sink);
     }
     let (count, has_more) = texts_in(rest);
     if count != wanted {

@@ -8,6 +8,7 @@ mod commands;
 mod drawing;
 mod ending;
 mod explaining;
+mod file_words;
 mod files;
 mod help_text;
 mod kept;

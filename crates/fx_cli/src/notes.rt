@@ -78,7 +78,12 @@ fn sentence(alloc: Global, path: &str, error: io::Error) -> Result<String, Alloc
     } else {
         path
     };
-    format!(in alloc; "{name}: {error}")
+    let hint = if path == "-" {
+        "; standard input is /dev/stdin"
+    } else {
+        ""
+    };
+    format!(in alloc; "{name}: {error}{hint}")
 }
 
 impl Notes {

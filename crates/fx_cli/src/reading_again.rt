@@ -12,7 +12,7 @@ const NOTHING: &str = "/dev/null";
 
 /// A file that was read, opened once more from its beginning. None where it can't be read once more: a pipe or a terminal
 /// gives no octet twice.
-pub(crate) fn open_again<R: Files>(rt: &R, path: &str) -> Option<Outside<R::File>> {
+fn open_again<R: Files>(rt: &R, path: &str) -> Option<Outside<R::File>> {
     let metadata = fs::metadata(rt, path).ok()?;
     if !metadata.is_file() {
         return None;
@@ -23,8 +23,8 @@ pub(crate) fn open_again<R: Files>(rt: &R, path: &str) -> Option<Outside<R::File
     }
 }
 
-/// The text in a file that was read, once more.
-fn file_again<'a, R: Files>(rt: &R, path: &str) -> Option<TextAgain<'a, R::File>> {
+/// A file that was read, once more from its beginning: `/dev/null` too, which is empty whenever it is read.
+pub(crate) fn file_again<'a, R: Files>(rt: &R, path: &str) -> Option<TextAgain<'a, R::File>> {
     if path == NOTHING {
         return Some(TextAgain::of_octets(b""));
     }

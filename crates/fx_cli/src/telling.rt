@@ -1,9 +1,10 @@
 //! The words behind an answer: what it is about, by name, and for a refusal what is wrong and what to do.
 
-use crate::asked::{Asked, LinesAt, Question, documents_of, question_of};
+use crate::asked::{Asked, LinesAt, Question, question_of};
 use crate::bundles::put_bundle_words;
+use crate::file_words::{put_file_words, put_text_name};
 use crate::notes::Notes;
-use crate::reading_again::{lines_again, open_again, put_lines_not_again, put_not_again};
+use crate::reading_again::{file_again, lines_again, put_lines_not_again, put_not_again};
 use crate::words::Call;
 use fx_audit::{Answer, audit_bytes, check_bytes, confirm_bytes};
 use fx_base::{Fault, LineReader, Octets, Outside, Place, Source, put_text, refusals};
@@ -15,7 +16,6 @@ use fx_stories::{
 };
 use fx_words::put_reason;
 use std::alloc::Global;
-use std::fs;
 use std::rt::Files;
 
 /// What a certificate shows.
@@ -191,6 +191,7 @@ fn put_found_story(
         &mut Unwatched,
         &mut text,
     )?;
+    put_silent_words(alloc, question, sink)?;
     match question.both() {
         Some((network, traffic)) => {
             let found = text.into_inner();
@@ -231,14 +232,6 @@ fn put_unread_denial(lines: LinesAt<'_>, sink: &mut Words) -> Result<(), Fault> 
     put_text(sink, TO_LOOK_UP)
 }
 
-/// Writes the name of the file that a text is in.
-fn put_text_name<R: Files>(rt: &R, text: LinesAt<'_>, sink: &mut Words) -> Result<(), Fault> {
-    match text {
-        LinesAt::File(file) => put_file_name(rt, file, sink),
-        LinesAt::Octets(_) => Ok(()),
-    }
-}
-
 /// Writes what is wrong with a certificate that was denied.
 fn put_denied_certificate<R: AllocGlobal + Files>(
     rt: &R,
@@ -254,6 +247,7 @@ fn put_denied_certificate<R: AllocGlobal + Files>(
     };
     put_text_name(rt, certificate, sink)?;
     put_line_words(rt, certificate, question, &fault, sink)?;
+    put_silent_words(rt.alloc(), question, sink)?;
     put_reason(sink, fault.number)
 }
 
@@ -359,96 +353,6 @@ fn put_document_place(
     put_document_words(alloc, network.name, octets, traffic, fault, sink)
 }
 
-/// Whether a directory has this name.
-fn is_directory<R: Files>(rt: &R, path: &str) -> bool {
-    match fs::metadata(rt, path) {
-        Ok(metadata) => metadata.is_dir(),
-        Err(_) => false,
-    }
-}
-
-/// Whether a refusal has its place in what a call reads behind its documents.
-fn is_behind_documents(fault: &Fault) -> bool {
-    fault.number >= refusals::CERTIFICATE_FIRST
-        && fault.number < refusals::WANT_OF_MEMORY
-        && !matches!(fault.place, Place::None)
-}
-
-/// Writes a file's name in a line of its own.
-fn put_file_name<R: Files>(rt: &R, file: &str, sink: &mut Words) -> Result<(), Fault> {
-    put_text(sink, b"file: ")?;
-    put_text(sink, file.as_bytes())?;
-    if is_directory(rt, file) {
-        put_text(sink, b": it is a directory")?;
-    }
-    put_text(sink, b"\n")
-}
-
-/// Writes which file couldn't be opened, read, made or written, or has what is refused, and why it couldn't be opened,
-/// made or read. Which document is refused is told with what stands there.
-fn put_file_words<R: Files>(
-    rt: &R,
-    call: Option<&Call>,
-    notes: &Notes,
-    fault: &Fault,
-    sink: &mut Words,
-) -> Result<(), Fault> {
-    let file = match (fault.number, notes.failed_file.told()) {
-        (refusals::FAILED_READ | refusals::FAILED_WRITE, Some(file)) => Some(file),
-        (refusals::FAILED_READ, None) => call.and_then(|call| unread_file(call, notes)),
-        (refusals::LONG_LINE, _) => call.and_then(file_of_lines),
-        _ if is_behind_documents(fault) => {
-            call.and_then(|call| file_behind_documents(call, fault.number))
-        }
-        _ => None,
-    };
-    match file {
-        Some(file) => put_file_name(rt, file, sink),
-        None => Ok(()),
-    }
-}
-
-/// The file behind a call's documents that a refusal of this number is about.
-fn file_behind_documents(call: &Call, number: u16) -> Option<&str> {
-    match call {
-        Call::Collect { stream, .. } => Some(stream.as_str()),
-        Call::Run { capture, .. } if number <= refusals::LONG_CAPTURE_RECORD => {
-            Some(capture.as_str())
-        }
-        _ => file_of_lines(call),
-    }
-}
-
-/// The file of a call whose last read failed: a document, or the one that is read behind them.
-fn unread_file<'a>(call: &'a Call, notes: &Notes) -> Option<&'a str> {
-    let (network, traffic) = documents_of(call)?;
-    let _read = notes.network.octets()?;
-    if notes.network.failed() {
-        return Some(network);
-    }
-    if notes.traffic.failed() {
-        return traffic;
-    }
-    match call {
-        Call::Collect { stream, .. } => Some(stream.as_str()),
-        Call::Run { capture, .. } => Some(capture.as_str()),
-        _ => file_of_lines(call),
-    }
-}
-
-/// The file of a call that is read line by line.
-fn file_of_lines(call: &Call) -> Option<&str> {
-    match call {
-        Call::Replay { run, .. } => Some(run.as_str()),
-        Call::Check { certificate, .. } => Some(certificate.as_str()),
-        Call::Confirm { refutation, .. } => Some(refutation.as_str()),
-        Call::Run { schedule, .. } => Some(schedule.as_str()),
-        Call::Sum { totals, .. } => Some(totals.as_str()),
-        Call::Draw { answer, .. } => answer.as_deref(),
-        _ => None,
-    }
-}
-
 /// Writes what the line of a certificate is about.
 fn put_line_words<R: AllocGlobal + Files>(
     rt: &R,
@@ -513,7 +417,7 @@ fn put_captured_words<R: AllocGlobal + Files>(
     fault: &Fault,
     sink: &mut Words,
 ) -> Result<(), Fault> {
-    match open_again(rt, capture) {
+    match file_again(rt, capture) {
         Some(mut file) => put_capture_words(rt.alloc(), &mut file, fault, sink),
         None => put_not_again(capture, sink),
     }
@@ -531,7 +435,7 @@ fn put_packet_words<R: AllocGlobal + Files>(
     let Some((network, traffic)) = question.both() else {
         return Ok(());
     };
-    let Some(frames) = open_again(rt, capture) else {
+    let Some(frames) = file_again(rt, capture) else {
         return put_not_again(capture, sink);
     };
     match lines_again(rt, schedule)? {
@@ -557,7 +461,7 @@ fn put_message_words<R: AllocGlobal + Files>(
     fault: &Fault,
     sink: &mut Words,
 ) -> Result<(), Fault> {
-    match open_again(rt, stream) {
+    match file_again(rt, stream) {
         Some(mut file) => put_stream_words(rt.alloc(), &mut file, fault, sink),
         None => put_not_again(stream, sink),
     }
@@ -589,7 +493,7 @@ fn put_collected_words<R: AllocGlobal + Files>(
 ) -> Result<(), Fault> {
     put_text(sink, COLLECTED)?;
     let network = question.network.and_then(|network| network.octets);
-    match (network, open_again(rt, stream)) {
+    match (network, file_again(rt, stream)) {
         (Some(network), Some(mut file)) => {
             put_collection_words(rt.alloc(), network, &mut file, sink)
         }

@@ -1,0 +1,111 @@
+//! Which file an answer is about, in words.
+
+use crate::asked::{LinesAt, documents_of};
+use crate::notes::Notes;
+use crate::telling::Words;
+use crate::words::Call;
+use fx_base::{Fault, Place, put_text, refusals};
+use std::fs;
+use std::rt::Files;
+
+/// Whether a directory has this name.
+fn is_directory<R: Files>(rt: &R, path: &str) -> bool {
+    match fs::metadata(rt, path) {
+        Ok(metadata) => metadata.is_dir(),
+        Err(_) => false,
+    }
+}
+
+/// Whether a refusal has its place in what a call reads behind its documents.
+fn is_behind_documents(fault: &Fault) -> bool {
+    fault.number >= refusals::CERTIFICATE_FIRST
+        && fault.number < refusals::WANT_OF_MEMORY
+        && !matches!(fault.place, Place::None)
+}
+
+/// Writes a file's name in a line of its own.
+fn put_file_name<R: Files>(rt: &R, file: &str, sink: &mut Words) -> Result<(), Fault> {
+    put_text(sink, b"file: ")?;
+    put_text(sink, file.as_bytes())?;
+    if is_directory(rt, file) {
+        put_text(sink, b": it is a directory")?;
+    }
+    put_text(sink, b"\n")
+}
+
+/// Writes which file couldn't be opened, read, made or written, or has what is refused, and why it couldn't be opened,
+/// made or read. Which document is refused is told with what stands there.
+pub(crate) fn put_file_words<R: Files>(
+    rt: &R,
+    call: Option<&Call>,
+    notes: &Notes,
+    fault: &Fault,
+    sink: &mut Words,
+) -> Result<(), Fault> {
+    let file = match (fault.number, notes.failed_file.told()) {
+        (refusals::FAILED_READ | refusals::FAILED_WRITE, Some(file)) => Some(file),
+        (refusals::FAILED_READ, None) => call.and_then(|call| unread_file(call, notes)),
+        (refusals::LONG_LINE, _) => call.and_then(file_of_lines),
+        _ if is_behind_documents(fault) => {
+            call.and_then(|call| file_behind_documents(call, fault.number))
+        }
+        _ => None,
+    };
+    match file {
+        Some(file) => put_file_name(rt, file, sink),
+        None => Ok(()),
+    }
+}
+
+/// The file behind a call's documents that a refusal of this number is about.
+fn file_behind_documents(call: &Call, number: u16) -> Option<&str> {
+    match call {
+        Call::Collect { stream, .. } => Some(stream.as_str()),
+        Call::Run { capture, .. } if number <= refusals::LONG_CAPTURE_RECORD => {
+            Some(capture.as_str())
+        }
+        _ => file_of_lines(call),
+    }
+}
+
+/// The file of a call whose last read failed: a document, or the one that is read behind them.
+fn unread_file<'a>(call: &'a Call, notes: &Notes) -> Option<&'a str> {
+    let (network, traffic) = documents_of(call)?;
+    let _read = notes.network.octets()?;
+    if notes.network.failed() {
+        return Some(network);
+    }
+    if notes.traffic.failed() {
+        return traffic;
+    }
+    match call {
+        Call::Collect { stream, .. } => Some(stream.as_str()),
+        Call::Run { capture, .. } => Some(capture.as_str()),
+        _ => file_of_lines(call),
+    }
+}
+
+/// The file of a call that is read line by line.
+fn file_of_lines(call: &Call) -> Option<&str> {
+    match call {
+        Call::Replay { run, .. } => Some(run.as_str()),
+        Call::Check { certificate, .. } => Some(certificate.as_str()),
+        Call::Confirm { refutation, .. } => Some(refutation.as_str()),
+        Call::Run { schedule, .. } => Some(schedule.as_str()),
+        Call::Sum { totals, .. } => Some(totals.as_str()),
+        Call::Draw { answer, .. } => answer.as_deref(),
+        _ => None,
+    }
+}
+
+/// Writes the name of the file that a text is in.
+pub(crate) fn put_text_name<R: Files>(
+    rt: &R,
+    text: LinesAt<'_>,
+    sink: &mut Words,
+) -> Result<(), Fault> {
+    match text {
+        LinesAt::File(file) => put_file_name(rt, file, sink),
+        LinesAt::Octets(_) => Ok(()),
+    }
+}
