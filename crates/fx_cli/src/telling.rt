@@ -46,8 +46,8 @@ records that lack a counter, which add nothing.\n";
 /// What stands in the text of a sum.
 const SUMMED: &[u8] =
     b"keys: how many keys of the report have totals, a line each, with the sums over all texts. unassigned: records \
-without the report's key. Then what the texts noted, added up: complete, where all that say so are; skipped frames; gaps \
-and skipped records.\n";
+without the report's key. Then what the texts noted, added up: complete yes, where no text says complete no; skipped frames; \
+gaps and skipped records.\n";
 
 /// What stands in the text of a run.
 const METERED: &[u8] =

@@ -55,7 +55,7 @@ pub(crate) fn tell_due(
         }
         (refusals::CERTIFICATE_ORDER, Some(Item::Class { .. } | Item::End)) => {
             story.sentence(
-                "the tree of that path isn't done: a leaf is missing, that of the region below",
+                "the tree of that path isn't done: a leaf is missing, that of the region in the next lines",
             );
             story.sentence(leaf_words(version, target.exempt));
         }
@@ -79,7 +79,9 @@ pub(crate) fn tell_between(
         return;
     }
     if let Some(Item::Leaf { .. } | Item::Never | Item::Split { .. }) = item {
-        story.sentence("the tree before it is whole: this leaf or split is one too many");
+        story.sentence(
+            "the tree before it is whole and this leaf or split is one too many, or the line class C path P is missing before it",
+        );
     }
     let Some(target) = targets.get(walk.begun) else {
         story.sentence("all paths have their trees; due at this line: end");

@@ -18,11 +18,31 @@ pub(crate) struct Arriving<'a> {
     pub(crate) fields: &'a Fields,
 }
 
-/// Tells an axis, with the number of its leading bits where not all of them are meant.
+/// The information element of an axis, or of its leading bits where not all of them are meant.
+fn element_of(axis: Axis, is_whole: bool) -> &'static str {
+    match axis {
+        Axis::Source if is_whole => "sourceIPv4Address",
+        Axis::Source => "sourceIPv4Prefix",
+        Axis::Destination if is_whole => "destinationIPv4Address",
+        Axis::Destination => "destinationIPv4Prefix",
+        Axis::Protocol => "protocolIdentifier",
+        Axis::SourcePort => "sourceTransportPort",
+        Axis::DestinationPort => "destinationTransportPort",
+        Axis::ClassOfService => "ipClassOfService",
+        Axis::Version => "ipVersion",
+        Axis::Source6 if is_whole => "sourceIPv6Address",
+        Axis::Source6 => "sourceIPv6Prefix",
+        Axis::Destination6 if is_whole => "destinationIPv6Address",
+        Axis::Destination6 => "destinationIPv6Prefix",
+    }
+}
+
+/// Tells a field of a key by its information element, with the number of its leading bits where not all of them are meant.
 fn tell_part(story: &mut Story, axis: Axis, bits: u32) {
-    story.text(axis_word(axis));
-    if bits < width(axis) {
-        story.text_number("/", u64::from(bits));
+    let is_whole = bits >= width(axis);
+    story.text(element_of(axis, is_whole));
+    if !is_whole {
+        story.text_number(" of prefixLength ", u64::from(bits));
     }
 }
 

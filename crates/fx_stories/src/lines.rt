@@ -3,6 +3,7 @@ ghost use Rattle.std.specs.Prelude.{◌≡◌, ◌<◌, true, Ok, IfErr};
 ghost use Rattle.fx_base.specs.Lines.{line_budget};
 ghost use Rattle.fx_stories.specs.Stories.{IsLineFault, IsUntold};
 
+use crate::other_files::foreign_words;
 use crate::story::Story;
 use fx_base::{Fault, Line, LineReader, Place, Source, refusals};
 
@@ -30,12 +31,15 @@ pub(crate) fn next_line<C: Source>(lines: &mut LineReader<C>) -> Result<bool, Fa
     }
 }
 
-/// Tells a line: its number and its first octets.
+/// Tells a line: its number and its first octets, or which file of another kind they begin.
 pub(crate) fn tell_line(story: &mut Story, line: &Line<'_>) {
     let end = line.bytes.len().min(TOLD);
     story.text_number("line ", line.number);
     story.text(": ");
-    story.octets_of(&line.bytes[..end]);
+    match foreign_words(line.bytes) {
+        Some(words) => story.text(words),
+        None => story.octets_of(&line.bytes[..end]),
+    }
     story.end_line();
 }
 

@@ -11,12 +11,12 @@ use fx_tables::{HolderName, Net, Packet};
 /// What to do about a destination without a link.
 const UNLINKED: &str =
     "Link the destination to a collecting process whose records come to the report, or take it out of its exporting \
-process, and audit again: ";
+process where that has others, and audit again: ";
 
 /// What to do about what has no exporting process.
 const UNSENT: &str =
-    "The record goes no further: add an exporting process that is linked to a collecting process whose records come to the \
-report, and audit again: ";
+    "The record goes no further: link where it comes from to a collecting process whose records come to the report, or add \
+an exporting process there that is linked to one, and audit again: ";
 
 /// What to do about an aggregation that lets a record go.
 const LET_GO: &str =

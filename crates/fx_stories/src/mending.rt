@@ -95,20 +95,35 @@ aggregations), and audit again: ",
         }
     }
 
+    /// Whether the packet was metered at both places by the same observation point.
+    fn is_of_one_point(&self, first: &Sighting, second: &Sighting) -> bool {
+        let crossings = self.documents.traffic.classes().path_of(self.packet);
+        match (
+            entry_numbered(crossings, first.crossing),
+            entry_numbered(crossings, second.crossing),
+        ) {
+            (Some(one), Some(other)) => {
+                one.device == other.device && first.occurrence.point == second.occurrence.point
+            }
+            _ => false,
+        }
+    }
+
     /// Tells what to do about a packet that is counted more than once.
     fn tell_repeated(&self, story: &mut Story, sightings: &[Sighting]) {
         let [first, second, ..] = sightings else {
             self.tell_parted(story);
             return;
         };
-        let is_of_one_point = first.crossing == second.crossing
-            && first.occurrence.point == second.occurrence.point;
-        story.text(if is_of_one_point {
+        story.text(if !self.is_of_one_point(first, second) {
+            "Take all but one of these observation points off the path, make their selections disjoint by filters, or let the \
+records of one alone come to the report, as by a match of an aggregation before it, and audit again: "
+        } else if first.crossing == second.crossing {
             "Take out all but one of these selection processes, make their filters disjoint, or let the records of one alone \
 come to the report, and audit again: "
         } else {
-            "Take all but one of these observation points off the path, make their selections disjoint by filters, or let the \
-records of one alone come to the report, as by a match of an aggregation before it, and audit again: "
+            "It is one observation point, which sees the packet at more than one crossing: give it a direction, or take an \
+interface off it, and audit again: "
         });
         self.tell_sightings(story, sightings);
     }
@@ -118,8 +133,8 @@ records of one alone come to the report, as by a match of an aggregation before 
         for holder in self.origins.reported.as_slice() {
             let arrived = arriving(self.documents, self.packet, *holder);
             let behind =
-                ", which the report's key has, in the key of each cache and aggregation on the way, or take it out of \
-the report's key, and audit again: ";
+                ", which the report's key has, among the flow keys (isFlowKey) of each cache and in the key of each \
+aggregation on the way, or take it out of the report's key, and audit again: ";
             if arrived.tell_unassigned(story, "Keep ", behind) {
                 tell_expiry(story, &self.documents.plan, *holder, &[]);
                 return;

@@ -109,6 +109,26 @@ fn file_of(octets: &[u8]) -> Option<OtherFile> {
     }
 }
 
+/// What a line is that begins a file of another kind, in words; none of a line that may be one of a text.
+pub(crate) fn foreign_words(line: &[u8]) -> Option<&'static str> {
+    let words = match line {
+        [0xff, 0xfe, ..] | [0xfe, 0xff, ..] => Some(
+            "these octets are a text in UTF-16: write it in UTF-8 (iconv -f UTF-16 -t UTF-8 OLD > NEW)",
+        ),
+        [0xa1, 0xb2, 0xc3 | 0x3c, ..] | [0xd4 | 0x4d, 0xc3 | 0x3c, 0xb2, 0xa1, ..] => Some(
+            "these octets begin a capture, which once run takes in front of the schedule",
+        ),
+        [0, 10, ..] => Some("these octets begin a stream of IPFIX, which once collect takes"),
+        [b'P', b'K', 3, 4, ..] => Some("these octets begin a zip archive: unpack it first"),
+        _ => packed_format(line),
+    };
+    words.or(if line.contains(&0) {
+        Some("octets of zero stand in it: it is no text in UTF-8")
+    } else {
+        None
+    })
+}
+
 /// What stands behind the kind of a file in the place of a network or of a traffic declaration.
 fn due_words(is_network: bool) -> &'static str {
     if is_network {

@@ -98,7 +98,7 @@ fn tell_reported(story: &mut Story, documents: &Documents, steps: &[Step]) {
     for place in 0..steps.len() {
         if is_reported(documents, &steps[place]) {
             let before = if told {
-                ", "
+                ", and at step "
             } else {
                 "a record reaches the report at step "
             };

@@ -94,8 +94,8 @@ pub(crate) fn tell_unmetered_path(story: &mut Story, documents: &Documents, pack
         return;
     }
     story.text(
-        "Have a selection process with a cache select the packet at a crossing, by a wider filter or another observation point, or \
-write exempt in its class if it isn't to be counted, and audit again: ",
+        "Have a selection process with a cache select the packet at a crossing, by the right name of the interface, a wider \
+filter, a cache or another observation point, or write exempt in its class if it isn't to be counted, and audit again: ",
     );
     tell_crossings_of(story, documents, crossings);
     tell_version(story, documents, packet, crossings);

@@ -1,5 +1,6 @@
 //! Which word of a line is wrong, and which form the line should have.
 use crate::line_forms::{Fit, Kind, axis_of, fit_of, forms_of, is_literal, is_of_other_version};
+use crate::other_files::foreign_words;
 use crate::story::Story;
 use fx_base::Line;
 use fx_elements::{Axis, is_word, read_u64};
@@ -98,8 +99,11 @@ fn blank_words(line: &[u8]) -> &'static str {
     }
 }
 
-/// Tells the first word of a line that is wrong.
+/// Tells the first word of a line that is wrong, but for a line that begins a file of another kind.
 pub(crate) fn tell_word(story: &mut Story, fit: &Fit<'_>, line: &[u8]) {
+    if foreign_words(line).is_some() {
+        return;
+    }
     let number = fit.words.saturating_add(1);
     match fit.word {
         Some(word) => {
@@ -256,6 +260,9 @@ pub(crate) fn tell_wrong_header(
     story.text(name);
     story.text(" 1");
     story.sentence(condition);
+    if foreign_words(line.bytes).is_some() {
+        return;
+    }
     if let Some(words) = strange_word(line.bytes) {
         story.sentence(words);
     } else if line.bytes.starts_with(name.as_bytes()) {
