@@ -66,7 +66,7 @@ fn ends_for_want_of_memory(rt: HostRuntime) {
 
 /// Whether words that can't be read for this cause end with this status and this text.
 fn ends_unread(kind: io::ErrorKind, status: u8, text: &[u8]) -> bool {
-    let mut octets = [0u8; 64];
+    let mut octets = [0u8; 128];
     let mut room = Room::new(&mut octets);
     finish_unread(kind, &mut room) == status && room.octets() == text
 }
