@@ -1,17 +1,18 @@
 #!/usr/bin/env python3
 """What the commands cost, counted in instructions, so that neither the machine's load nor its clock matters.
 
-usage: instructions.py PROGRAM [BEFORE] [--most RATIO]
+usage: instructions.py PROGRAM [BEFORE] [--noted PAGE] [--most RATIO]
 
 For each kind of work the instructions by the unit of PROGRAM, and beside them those of BEFORE, a program of another
-commit, over the same files, with the ratio of both. Fails where a ratio is above the most (1.15 where none is given).
-A unit's instructions are those that the larger of two inputs takes more, shared among the units that it has more, so
-that the start and the reading of documents don't count.
+commit, over the same files, or those that PAGE notes (docs/SPEED.md), with the ratio of both. Fails where a ratio is above
+the most (1.10 where none is given). A unit's instructions are those that the larger of two inputs takes more, shared among
+the units that it has more, so that the start and the reading of documents don't count.
 
   check     a line of a certificate: 20,000 and 40,000 splits of the sources, for one meter and one collector
   collect   a record of a stream by source, 69 to a message: 20,000 and 40,000 records
   replay    a packet that is counted, goes along ten collectors that aggregate and is tallied: 2,000 and 4,000 packets
   audit     a line of a certificate that is found, 125 filters that are split apart: 20 and 40 paths
+  run       a packet of a capture that a meter with a timeout cache counts: 20,000 and 40,000 packets of 1,000 flows
 
 It needs valgrind (Debian's package) on the PATH.
 """
@@ -28,6 +29,7 @@ sys.path[:0] = [os.path.join(TOP, "tests"), os.path.dirname(os.path.abspath(__fi
 import audit
 import collect
 import replay
+import run as metering
 from check import document
 from long_certificates import ROW, write_certificate
 
@@ -36,10 +38,10 @@ NETWORK, TRAFFIC = os.path.join(ROW, "network.json"), os.path.join(ROW, "traffic
 
 def instructions(words):
     """The instructions of a run that ends well."""
-    run = subprocess.run(["valgrind", "--tool=callgrind", "--callgrind-out-file=/dev/null", *words], capture_output=True)
-    counted = re.search(rb"Collected : (\d+)", run.stderr)
-    if run.returncode != 0 or counted is None:
-        sys.exit("%s: status %d, %r" % (" ".join(words), run.returncode, run.stderr[-300:]))
+    ran = subprocess.run(["valgrind", "--tool=callgrind", "--callgrind-out-file=/dev/null", *words], capture_output=True)
+    counted = re.search(rb"Collected : (\d+)", ran.stderr)
+    if ran.returncode != 0 or counted is None:
+        sys.exit("%s: status %d, %r" % (" ".join(words), ran.returncode, ran.stderr[-300:]))
     return int(counted.group(1))
 
 
@@ -71,7 +73,22 @@ def audited(work, size):
     return ["audit", network, traffic], size * (4 * audit.FILTERS + 1)
 
 
-KINDS = {"check": (checked, 20_000), "collect": (collected, 20_000), "replay": (replayed, 2_000), "audit": (audited, 20)}
+def metered(work, size):
+    folder = os.path.join(work, "capture-%d" % size)
+    words = metering.write_inputs(folder, size, 1_000)
+    return [words[0], *(os.path.join(folder, name) for name in words[1:])], size
+
+
+KINDS = {
+    "check": (checked, 20_000),
+    "collect": (collected, 20_000),
+    "replay": (replayed, 2_000),
+    "audit": (audited, 20),
+    "run": (metered, 20_000),
+}
+
+# A row of a page's table: the kind of work, and a unit's instructions.
+ROW_OF_PAGE = re.compile(r"^\| `(\w+)` \|[^|]*\| ([\d,]+) \|", re.MULTILINE)
 
 
 def by_unit(program, small, large):
@@ -80,22 +97,39 @@ def by_unit(program, small, large):
     return more / (large[1] - small[1])
 
 
+def noted_in(page):
+    """The instructions by the unit that a page notes, by the kind of work."""
+    with open(page) as file:
+        return {kind: int(number.replace(",", "")) for kind, number in ROW_OF_PAGE.findall(file.read())}
+
+
+def befores(words, inputs):
+    """What the other program takes, or the page notes, by the kind of work; nothing where neither is given."""
+    if words.before:
+        return {name: by_unit(words.before, *found) for name, found in inputs.items()}
+    return noted_in(words.noted) if words.noted else {}
+
+
 def main(words):
     parser = argparse.ArgumentParser(usage=__doc__.split("usage: ")[1].split("\n")[0])
     parser.add_argument("program")
     parser.add_argument("before", nargs="?")
-    parser.add_argument("--most", type=float, default=1.15)
+    parser.add_argument("--noted")
+    parser.add_argument("--most", type=float, default=1.10)
     words, dear = parser.parse_args(words), []
     with tempfile.TemporaryDirectory() as work:
-        for name, (make, size) in KINDS.items():
-            inputs = make(work, size), make(work, 2 * size)
-            now = by_unit(words.program, *inputs)
-            if words.before is None:
+        inputs = {name: (make(work, size), make(work, 2 * size)) for name, (make, size) in KINDS.items()}
+        before = befores(words, inputs)
+        for name, found in inputs.items():
+            now = by_unit(words.program, *found)
+            if name not in before:
                 print("%-8s %7.0f instructions" % (name, now))
+                dear += [name] if words.noted else []
                 continue
-            before = by_unit(words.before, *inputs)
-            print("%-8s %7.0f instructions, %7.0f before, %.2f times" % (name, now, before, now / before))
-            dear += [name] if now > words.most * before else []
+            print("%-8s %7.0f instructions, %7.0f before, %.2f times" % (name, now, before[name], now / before[name]))
+            dear += [name] if now > words.most * before[name] else []
+    if dear:
+        print("more than %.2f times what it was, or not noted: %s" % (words.most, " ".join(dear)))
     return 1 if dear else 0
 
 
