@@ -13,7 +13,9 @@ pub const CAPTURES: &[Row] = &[
         "A capture's file header isn't that of classic pcap, version 2.4.",
         "a file of pcapng, which Wireshark and tshark write where nothing else is asked for, a \
          compressed file, an empty one, or the files in another order.",
-        "Convert it: `tshark -r OLD -F pcap -w NEW`.",
+        "Give a capture in classic pcap that has its whole file header: one in pcapng is \
+         converted by `tshark -r OLD -F pcap -w NEW`. The files stand in the order NETWORK \
+         TRAFFIC CAPTURE SCHEDULE.",
         "FORMATS, captures",
     ),
     (

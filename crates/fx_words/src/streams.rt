@@ -30,9 +30,11 @@ pub const STREAMS: &[Row] = &[
     (
         refusals::MESSAGE_LENGTH,
         "A message's length is below 16 octets, or the stream ends inside the message.",
-        "a stream that was cut off, or octets that were lost before that place.",
+        "a stream that was cut off, octets that were lost before that place, or a header that was \
+         made wrong.",
         "Take the stream up to the end of a message; where it was taken from datagrams, look for \
-         one that was captured in part.",
+         one that was captured in part. Where the header's length is below 16, look at how the \
+         messages were made or taken out.",
         "RFC 7011, section 3.1",
     ),
     (
@@ -49,8 +51,9 @@ pub const STREAMS: &[Row] = &[
          a prefix length other than 1, a port or a protocol more octets than its own or a \
          variable length. Or the record is cut, its id is below 256, or an options template has \
          no scope fields.",
-        "Look at the template with another reader, as tshark, and have the exporter send these \
-         elements in their own lengths.",
+        "Look at the template with another reader, as tshark. Where elements have lengths that \
+         they can't have, have the exporter send them in their own; else its octets are wrong \
+         where they were made or taken out.",
         "RFC 7011, sections 3.2 and 3.4",
     ),
     (
@@ -74,10 +77,12 @@ pub const STREAMS: &[Row] = &[
     (
         refusals::NO_TEMPLATE,
         "A set of data has no template.",
-        "a stream that begins behind its templates, as captures of UDP do, or messages that are \
-         missing or out of order.",
+        "a stream that begins behind its templates, as captures of UDP do, messages that are \
+         missing or out of order, a template that was withdrawn before, or one of another \
+         observation domain.",
         "Take the stream from its beginning, or from a message on in which the exporter sends \
-         its templates again.",
+         its templates again; where it withdrew the template or has it in another observation \
+         domain, the exporter is to declare it there.",
         "RFC 7011, sections 8 and 9",
     ),
     (
