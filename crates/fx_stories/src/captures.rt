@@ -3,7 +3,7 @@ ghost use Rattle.std.specs.Prelude.{◌≡◌, ◌⊎◌, IfErr, OnOk};
 ghost use Rattle.fx_base.specs.Device.{IsWriteFault, KeepsGoing};
 ghost use Rattle.fx_stories.specs.Stories.{IsUntold, WritesStory};
 
-use crate::formats::{flow_format, is_text, packed_format};
+use crate::formats::{flow_format, is_pcapng, is_text, packed_format};
 use crate::places::{number16, number32, tell_digits};
 use crate::story::Story;
 use fx_base::{Fault, PieceReader, Sink, Source, put_text, refusals};
@@ -67,7 +67,7 @@ fn is_reversed(octets: &[u8]) -> Option<bool> {
 fn other_format(octets: &[u8]) -> &'static str {
     if octets.is_empty() {
         "The file is empty."
-    } else if octets.starts_with(b"\x0a\x0d\x0d\x0a") {
+    } else if is_pcapng(octets) {
         "These octets begin a capture in pcapng. Convert it: tshark -r OLD -F pcap -w NEW."
     } else if octets.starts_with(b"\xa1\xb2\xcd\x34") || octets.starts_with(b"\x34\xcd\xb2\xa1") {
         "These octets begin a capture in an older form of pcap. Convert it: tshark -r OLD -F pcap -w NEW."

@@ -4,13 +4,14 @@ ghost use Rattle.fx_base.specs.Device.{IsWriteFault, KeepsGoing};
 ghost use Rattle.fx_stories.specs.Stories.{IsUntold, WritesStory};
 
 use crate::again::plan_again;
-use crate::counting::{Counting, Gap, Wanted};
+use crate::counting::{Counting, Gap};
 use crate::fields::tell_element;
 use crate::story::Story;
 use crate::streams::{Reading, read_on};
 use crate::templates::{Declared, Templates};
 use fx_base::{Fault, Sink, Source, put_text};
 use fx_elements::{Axis, Element, width};
+use fx_layout::Part;
 use fx_wire::{FieldSpecifier, TemplateKind};
 use std::alloc::Global;
 
@@ -74,7 +75,7 @@ fn says(fields: &[FieldSpecifier], axis: Axis) -> bool {
 }
 
 /// Tells the field of a part of the report's key.
-fn tell_wanted(story: &mut Story, wanted: &Wanted) {
+fn tell_wanted(story: &mut Story, wanted: &Part) {
     let field = FieldSpecifier {
         element: wanted.axis.element_number(),
         field_length: 0,
@@ -107,7 +108,7 @@ fn is_of_other_version(fields: &[FieldSpecifier], axis: Axis) -> bool {
 }
 
 /// Tells what the records of a template lack of the report's key.
-fn tell_unassigned(story: &mut Story, key: &[Wanted], declared: &Declared) {
+fn tell_unassigned(story: &mut Story, key: &[Part], declared: &Declared) {
     let fields = declared.fields.as_slice();
     story.text_number("unassigned: ", declared.unassigned);
     story.text(" of ");
@@ -126,7 +127,7 @@ fn tell_unassigned(story: &mut Story, key: &[Wanted], declared: &Declared) {
 }
 
 /// Tells what the records of a template lack, and answers whether they lack something.
-fn tell_lacking(story: &mut Story, key: &[Wanted], declared: &Declared) -> bool {
+fn tell_lacking(story: &mut Story, key: &[Part], declared: &Declared) -> bool {
     if declared.kind == TemplateKind::Options || declared.records == 0 {
         return false;
     }

@@ -4,6 +4,7 @@ use crate::messages::MessageThere;
 use crate::places::{number_in, number32};
 use crate::templates::Declared;
 use fx_elements::{Axis, Element, width};
+use fx_layout::Part;
 use fx_plan::Plan;
 use fx_wire::{FieldSpecifier, TemplateKind, cut_record, cut_value};
 use std::alloc::{AllocError, Global};
@@ -11,13 +12,6 @@ use std::collections::BTreeMap;
 
 /// How many gaps are kept.
 const GAPS: usize = 3;
-
-/// A part of the report's key: an axis, and how many of its leading bits.
-#[derive(Clone, Copy, Drop)]
-pub(crate) struct Wanted {
-    pub(crate) axis: Axis,
-    pub(crate) bits: u32,
-}
 
 /// A message whose sequence number isn't the one that was due in its observation domain.
 #[derive(Clone, Copy, Drop)]
@@ -37,7 +31,7 @@ pub(crate) struct Gap {
 /// What is counted of a stream for a report's key.
 #[derive(Drop)]
 pub(crate) struct Counting {
-    pub(crate) key: Vec<Wanted>,
+    pub(crate) key: Vec<Part>,
     /// The sequence number that comes next in each observation domain.
     next: BTreeMap<u32, u32>,
     /// How many data records the message has so far, modulo 2 to the 32.
@@ -57,10 +51,7 @@ impl Counting {
     pub(crate) fn new(alloc: Global, plan: &Plan) -> Result<Counting, AllocError> {
         let mut key = Vec::new(alloc);
         for part in plan.net().report_layout().parts() {
-            key.push(Wanted {
-                axis: part.axis,
-                bits: part.bits,
-            })?;
+            key.push(*part)?;
         }
         Ok(Counting {
             key,

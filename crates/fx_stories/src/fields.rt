@@ -7,7 +7,7 @@ use fx_wire::{FieldSpecifier, VARIABLE};
 const FIELDS: usize = 20;
 
 /// The name of an element of the IANA registry (RFC 7012) that exporters send, or an empty text.
-fn element_name(number: u16) -> &'static str {
+pub(crate) fn element_name(number: u16) -> &'static str {
     match number {
         1 => "octetDeltaCount",
         2 => "packetDeltaCount",

@@ -8,19 +8,34 @@ pub(crate) fn format_of(octets: &[u8]) -> Option<&'static str> {
         .or(text_format(octets))
 }
 
+/// Whether octets begin a capture in pcap.
+pub(crate) fn is_pcap(octets: &[u8]) -> bool {
+    matches!(
+        octets,
+        [0xa1, 0xb2, 0xc3, 0xd4, ..]
+            | [0xd4, 0xc3, 0xb2, 0xa1, ..]
+            | [0xa1, 0xb2, 0x3c, 0x4d, ..]
+            | [0x4d, 0x3c, 0xb2, 0xa1, ..]
+    )
+}
+
+/// Whether octets begin a capture in pcapng.
+pub(crate) fn is_pcapng(octets: &[u8]) -> bool {
+    octets.starts_with(b"\x0a\x0d\x0d\x0a")
+}
+
 /// What octets are that begin a capture.
 fn capture_format(octets: &[u8]) -> Option<&'static str> {
-    match octets {
-        [0xa1, 0xb2, 0xc3, 0xd4, ..]
-        | [0xd4, 0xc3, 0xb2, 0xa1, ..]
-        | [0xa1, 0xb2, 0x3c, 0x4d, ..]
-        | [0x4d, 0x3c, 0xb2, 0xa1, ..] => Some(
+    if is_pcap(octets) {
+        Some(
             "These octets begin a capture (pcap). The messages stand inside of its packets: docs/GUIDE.md tells how to take them out.",
-        ),
-        [0x0a, 0x0d, 0x0d, 0x0a, ..] => Some(
+        )
+    } else if is_pcapng(octets) {
+        Some(
             "These octets begin a capture (pcapng). The messages stand inside of its packets: docs/GUIDE.md tells how to take them out.",
-        ),
-        _ => None,
+        )
+    } else {
+        None
     }
 }
 

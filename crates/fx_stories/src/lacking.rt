@@ -1,4 +1,5 @@
 //! What the key of a record lacks: for the report, where it stays unassigned, and for aggregations that don't take it in.
+use crate::fields::element_name;
 use crate::names::entry_named;
 use crate::regions::{axis_word, tell_values};
 use crate::story::Story;
@@ -18,31 +19,13 @@ pub(crate) struct Arriving<'a> {
     pub(crate) fields: &'a Fields,
 }
 
-/// The information element of an axis, or of its leading bits where not all of them are meant.
-fn element_of(axis: Axis, is_whole: bool) -> &'static str {
-    match axis {
-        Axis::Source if is_whole => "sourceIPv4Address",
-        Axis::Source => "sourceIPv4Prefix",
-        Axis::Destination if is_whole => "destinationIPv4Address",
-        Axis::Destination => "destinationIPv4Prefix",
-        Axis::Protocol => "protocolIdentifier",
-        Axis::SourcePort => "sourceTransportPort",
-        Axis::DestinationPort => "destinationTransportPort",
-        Axis::ClassOfService => "ipClassOfService",
-        Axis::Version => "ipVersion",
-        Axis::Source6 if is_whole => "sourceIPv6Address",
-        Axis::Source6 => "sourceIPv6Prefix",
-        Axis::Destination6 if is_whole => "destinationIPv6Address",
-        Axis::Destination6 => "destinationIPv6Prefix",
-    }
-}
-
 /// Tells a field of a key by its information element, with the number of its leading bits where not all of them are meant.
 fn tell_part(story: &mut Story, axis: Axis, bits: u32) {
-    let is_whole = bits >= width(axis);
-    story.text(element_of(axis, is_whole));
-    if !is_whole {
+    if bits < width(axis) {
+        story.text(element_name(axis.prefix_number()));
         story.text_number(" of prefixLength ", u64::from(bits));
+    } else {
+        story.text(element_name(axis.element_number()));
     }
 }
 

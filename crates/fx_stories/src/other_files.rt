@@ -1,5 +1,5 @@
 //! Files of another kind in a document's place, by their first octets.
-use crate::formats::packed_format;
+use crate::formats::{is_pcap, is_pcapng, packed_format};
 use crate::story::Story;
 use std::str;
 
@@ -85,11 +85,7 @@ fn first_word(octets: &[u8]) -> &str {
 /// Which file these octets begin that is no text.
 fn file_of(octets: &[u8]) -> Option<OtherFile> {
     match octets {
-        [0xa1, 0xb2, 0xc3, 0xd4, ..]
-        | [0xd4, 0xc3, 0xb2, 0xa1, ..]
-        | [0xa1, 0xb2, 0x3c, 0x4d, ..]
-        | [0x4d, 0x3c, 0xb2, 0xa1, ..]
-        | [0x0a, 0x0d, 0x0d, 0x0a, ..] => other(
+        _ if is_pcap(octets) || is_pcapng(octets) => other(
             "a capture",
             "the files stand in this order: once run NETWORK TRAFFIC CAPTURE SCHEDULE",
         ),
@@ -115,7 +111,7 @@ pub(crate) fn foreign_words(line: &[u8]) -> Option<&'static str> {
         [0xff, 0xfe, ..] | [0xfe, 0xff, ..] => Some(
             "these octets are a text in UTF-16: write it in UTF-8 (iconv -f UTF-16 -t UTF-8 OLD > NEW)",
         ),
-        [0xa1, 0xb2, 0xc3 | 0x3c, ..] | [0xd4 | 0x4d, 0xc3 | 0x3c, 0xb2, 0xa1, ..] => Some(
+        _ if is_pcap(line) => Some(
             "these octets begin a capture, which once run takes in front of the schedule",
         ),
         [0, 10, ..] => Some("these octets begin a stream of IPFIX, which once collect takes"),
