@@ -19,8 +19,11 @@ pub fn split_at_byte(text: &[u8], at: u8) -> Option<(&[u8], &[u8])>
     None
 }
 
-/// The number of at most `top` that these digits spell.
-fn read_digits(text: &[u8], top: u128) -> Option<u128>
+/// A number up to this one has room for a digit more in 64 bits.
+const ROOMY: u64 = (u64::MAX - 9) / 10;
+
+/// The number of at most `top` that these digits spell, however many they are.
+fn read_wide_digits(text: &[u8], top: u128) -> Option<u128>
     ensures value { result ≡ digits_of top text.now }
     ensures bound { IfSome result (λ n. n ≤ top) }
 {
@@ -36,6 +39,29 @@ fn read_digits(text: &[u8], top: u128) -> Option<u128>
         n = n * 10 + digit;
     }
     Some(n)
+}
+
+/// The number of at most `top` that these digits spell.
+fn read_digits(text: &[u8], top: u128) -> Option<u128>
+    ensures value { result ≡ digits_of top text.now }
+    ensures bound { IfSome result (λ n. n ≤ top) }
+{
+    // Numbers of 64 bits take a few instructions a digit, wider ones a division.
+    let mut n: u64 = 0;
+    for b in text {
+        if !b.is_ascii_digit() {
+            return None;
+        }
+        if n > ROOMY {
+            return read_wide_digits(text, top);
+        }
+        n = n * 10 + (*b - b'0') as u64;
+    }
+    let number = n as u128;
+    if number > top {
+        return None;
+    }
+    Some(number)
 }
 
 /// The number of at most `top` whose decimal text this is.
