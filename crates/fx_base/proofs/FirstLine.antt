@@ -1,9 +1,10 @@
 -- The first line of a text of which some bytes are held.
-use Rattle.std.proofs.Common.{◌≡◌, ℕ, ◌+◌, ◌≤◌, ◌<◌, ◌⊎◌, List, ◌++◌, length, take, drop, Option, Some, None, refl, sym, ap, ◌∙◌, subst, arith, cond, not, ◌==◌, true, false, IfSome, IfNone, Bool, eqb, inl, inr, nat_lt, ◌↔◌}
-use Rattle.std.specs.List.{prefix_len, position, position_or_len}
+use Rattle.std.proofs.Common.{◌≡◌, ℕ, ◌+◌, ◌≤◌, ◌<◌, ◌⊎◌, List, ◌++◌, length, take, drop, get_or, Option, Some, None, refl, sym, ap, ◌∙◌, subst, arith, cond, not, ◌==◌, true, false, IfSome, IfNone, Bool, eqb, inl, inr, nat_lt, ◌↔◌}
+use Rattle.std.specs.List.{prefix_len}
 use Rattle.std.proofs.lemmas.List.Folds.{prefix_len-append}
-use Rattle.std.proofs.lemmas.List.Sums.{prefix_len-le-length}
-use Rattle.std.proofs.lemmas.Bool.{cases_lt, lt-ltb, le-ltb, ne_eqb}
+use Rattle.std.proofs.lemmas.List.Sums.{position_or_len_is, prefix_len-le-length}
+use Rattle.memchr.specs.Find.{IsFirstByte, is_byte}
+use Rattle.std.proofs.lemmas.Bool.{cases_lt, lt-ltb, ne_eqb}
 use Rattle.std.proofs.lemmas.List.{take-append-drop, take-append-le, drop-append-le, take_all, drop_all, append-nil, length-append, length-take-le}
 use Rattle.std.specs.Io.KnownBytes.{prepend_known}
 use Rattle.fx_base.specs.Device.{MayHaveLeft}
@@ -11,12 +12,17 @@ use Rattle.fx_base.specs.Lines.{line_len, first_line, after_line, line_ends}
 use Rattle.fx_base.specs.Part.{HasFeed, IsLast, IsPart}
 use Rattle.fx_base.specs.declared.part.LinePart.{LinePart}
 
-pub position_found : (p : ℕ → Bool) (xs : List ℕ) (o : Option ℕ) → o ≡ position p xs → IfSome o (λ n. (n ≡ position_or_len p xs) × (n < length xs)) × IfNone o (position_or_len p xs ≡ length xs)
-position_found p xs o e =
-    rw e (elim (cases_lt (position_or_len p xs) (length xs)) [
-      | inl lt ↦ rw (lt-ltb _ _ lt) ((refl, lt), tt)
-      | inr le ↦ rw (le-ltb _ _ le) (tt, omega (arith, le, prefix_len-le-length (λ x. not (p x)) xs))
-    ])
+untrue : (t : Bool) → (t ≡ true → ⊥) → t ≡ false
+untrue true h = absurd (h refl)
+untrue false h = refl
+
+-- the first line feed that a search finds ends the first line
+pub feed_found : (bytes : List ℕ) (o : Option ℕ) → IsFirstByte (is_byte 10) bytes o → IfSome o (λ n. (n ≡ line_len bytes) × (n < length bytes)) × IfNone o (line_len bytes ≡ length bytes)
+feed_found bytes (Some k) h =
+    let is : line_len bytes ≡ k = position_or_len_is (λ b. b == 10) bytes k 0 (omega (arith, h.0.high)) (λ j lt. untrue (get_or bytes j 0 == 10) (h.0.before j (omega arith) lt)) (λ lt. h.1) in
+    ((sym is, h.0.high), tt)
+feed_found bytes None h =
+    (tt, position_or_len_is (λ b. b == 10) bytes (length bytes) 0 (omega arith) (λ j lt. untrue (get_or bytes j 0 == 10) (h j (omega arith) lt)) (λ lt. absurd (omega (arith, lt))))
 
 -- more bytes behind don't shorten the first line
 line_len-append : (a b : List ℕ) → line_len a ≤ line_len (a ++ b)

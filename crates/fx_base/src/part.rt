@@ -1,6 +1,5 @@
 //! The next line among the octets of a text.
-ghost use Rattle.std.specs.Prelude.{◌≡◌, ◌+◌, ◌-◌, ◌*◌, ◌≤◌, ◌<◌, length, IfOk, IfErr, IfSome, IfNone, ◌==◌};
-ghost use Rattle.std.specs.List.{position};
+ghost use Rattle.std.specs.Prelude.{◌≡◌, ◌+◌, ◌-◌, ◌*◌, ◌≤◌, ◌<◌, length, IfOk, IfErr, IfSome, IfNone};
 ghost use Rattle.fx_base.specs.Limits.{call_limit};
 ghost use Rattle.fx_base.specs.Device.{IsAsked};
 ghost use Rattle.fx_base.specs.Lines.{line_len};
@@ -9,6 +8,7 @@ ghost use Rattle.fx_base.specs.Window.{octets_of};
 
 use crate::source::Source;
 use crate::window::Window;
+use memchr::memchr;
 
 /// The greatest number of bytes of a line, its line feed not counted.
 pub(crate) const LONGEST: usize = 4096;
@@ -31,18 +31,11 @@ pub(crate) struct LinePart {
 }
 
 /// Where the first line feed is.
-fn position_of_line_feed(bytes: &[u8]) -> Option<usize>
-    ensures { result ≡ position (λ b. b == 10) bytes.now }
-{
-    bytes.iter().position(|b| *b == 10)
-}
-
-/// Where the first line feed is.
 fn line_feed(bytes: &[u8]) -> Option<usize>
     ensures found { IfSome result (λ n. (n ≡ line_len bytes.now) × (n < length bytes.now)) }
     ensures none { IfNone result (line_len bytes.now ≡ length bytes.now) }
 {
-    position_of_line_feed(bytes)
+    memchr(b'\n', bytes)
 }
 
 /// Has the next line held, and answers how much of what is held it is; nothing at the end.
