@@ -30,7 +30,7 @@ parts_more f i lt =
 values_are : (own : Axis → Found) (values : List ℕ) → length values ≡ axis_count → ((axis : Axis) → get_or values (axis_index axis) 0 ≡ value_of axis (own axis)) → values ≡ fields_of own
 values_are own values len is = along (λ axis. value_of axis (own axis)) values len (λ k lt. ap (λ (n : ℕ). get_or values n 0) (sym (index_at k lt)) ∙ is (get_or axes k Source))
 
-value_fits : (axis : Axis) (f : Found) → value_of axis f ≤ get_or tops (axis_index axis) 0
+pub value_fits : (axis : Axis) (f : Found) → value_of axis f ≤ get_or tops (axis_index axis) 0
 value_fits axis None = omega arith
 value_fits axis (Some p) =
     let pos : 0 < 2 ^ axis_width axis = pow_pos (axis_width axis) in
@@ -82,7 +82,7 @@ key_refused : (found : Axis → Result Found StreamFault) (axis : Axis) → is_r
 key_refused found axis h =
     ap (λ (t : Bool). cond t (Err faults.PrefixLength) (Ok (key_of (layout_of (λ axis. found_or_none (found axis))) (fields_of (λ axis. found_or_none (found axis)))))) (on_some (λ axis. is_refused (found axis)) axis h)
 
-key_known : (found : Axis → Result Found StreamFault) (own : Axis → Found) → ((axis : Axis) → found axis ≡ Ok (own axis)) → key_by found ≡ Ok (key_of (layout_of own) (fields_of own))
+pub key_known : (found : Axis → Result Found StreamFault) (own : Axis → Found) → ((axis : Axis) → found axis ≡ Ok (own axis)) → key_by found ≡ Ok (key_of (layout_of own) (fields_of own))
 key_known found own h =
     ap (λ (t : Bool). cond t (Err faults.PrefixLength) (Ok (key_of (layout_of (λ axis. found_or_none (found axis))) (fields_of (λ axis. found_or_none (found axis)))))) (on_no_axis (λ axis. is_refused (found axis)) (λ axis. ap is_refused (h axis)))
     ∙ ap (λ (l : Layout). Ok (key_of l (fields_of (λ axis. found_or_none (found axis))))) (same_parts (λ axis. part_of axis (found_or_none (found axis))) (λ axis. part_of axis (own axis)) axes (λ axis. ap (λ (r : Result Found StreamFault). part_of axis (found_or_none r)) (h axis)))

@@ -3,6 +3,7 @@ pub mod Layouts
 pub mod Keys
 pub mod Numbers
 pub mod Notes
+pub mod PlacesOfFields
 pub mod DataSteps
 pub mod MessageSteps
 pub mod StreamSteps

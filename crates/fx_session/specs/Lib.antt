@@ -8,6 +8,7 @@ pub mod DataSets
 pub mod DataReading
 pub mod Values
 pub mod Parts
+pub mod Places
 pub mod Messages
 pub mod Streams
 pub mod ByCases

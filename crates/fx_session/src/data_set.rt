@@ -1,5 +1,6 @@
 //! Data sets.
-ghost use Rattle.std.specs.Prelude.{◌≡◌, ◌≢◌, ◌≤◌, Ok, Err};
+ghost use Rattle.std.specs.Prelude.{◌≡◌, ◌≢◌, ◌≤◌, length, Ok, Err};
+ghost use Rattle.fx_wire.specs.Values.{shortest_record};
 ghost use Rattle.fx_session.specs.DataSets as sets;
 ghost use Rattle.fx_session.specs.DataReading as reading;
 ghost use Rattle.fx_session.specs.Calls.{Does, Grows};
@@ -23,10 +24,15 @@ fn take_flow<'a>(
     taken: &mut Taken,
     octets: &'a [u8],
 ) -> Result<&'a [u8], StreamFault>
+    requires { shortest_record template.now.fields ≤ length octets.now }
     ensures done { reading.Follows
         (sets.flow_record template.now.fields taken.old octets.now) taken.new result }
     ensures grows { Grows taken.old.waiting taken.new.waiting }
 {
+    if let Some(places) = template.places() {
+        taken.take(Some(places.record_in(octets)))?;
+        return Ok(octets.split_at(template.shortest()).1);
+    }
     let rest = read_record(seen, template, octets).ok_or(StreamFault::CutRecord)?;
     let flow = flow_of(last, seen)?;
     taken.take(flow)?;

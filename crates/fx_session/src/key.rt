@@ -85,7 +85,7 @@ fn add_part(layout: &Layout, axis: Axis, bits: u32) -> Layout
 }
 
 /// The layout with so many leading bits on each axis.
-fn layout_of(bits: &[u32; AXES]) -> Layout
+pub(crate) fn layout_of(bits: &[u32; AXES]) -> Layout
     requires { parts.AllStand bits.now }
     ensures { result ≡ parts.layout_by bits.now }
 {

@@ -9,6 +9,7 @@ mod key;
 mod known;
 mod laws;
 mod number;
+mod places;
 mod seen;
 mod session;
 mod sets;

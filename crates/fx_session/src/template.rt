@@ -1,21 +1,25 @@
 //! Templates.
-ghost use Rattle.std.specs.Prelude.{◌≡◌, ◌≤◌, ◌&&◌, ◌==◌, length, map, IfOk};
+ghost use Rattle.std.specs.Prelude.{◌≡◌, ◌≤◌, ◌&&◌, ◌==◌, length, map, IfOk, IfSome};
 ghost use Rattle.fx_wire.specs.Fields.{element_of};
 ghost use Rattle.fx_wire.specs.Values.{shortest_record};
+ghost use Rattle.fx_session.specs.Places.{ArePlacesOf};
 ghost use Rattle.fx_session.specs.Templates as templates;
 
+use crate::places::RecordPlaces;
 use fx_elements::Element;
 use fx_wire::FieldSpecifier;
 use std::alloc::{AllocError, Global};
 use std::marker::Model;
 
-/// How many fields of a template are scope fields, its fields and their elements, and how few octets a record can have.
+/// How many fields of a template are scope fields, its fields and their elements, how few octets a record can have, and
+/// where the values of flows stand in records, where that is the same in all of them.
 #[derive(Drop)]
 struct Body {
     scope: u16,
     fields: Vec<FieldSpecifier>,
     elements: Vec<Element>,
     shortest: usize,
+    places: Option<RecordPlaces>,
 }
 
 /// A template or an options template: how many of its fields are scope fields, and its fields. It stands in a block of
@@ -26,9 +30,10 @@ pub(crate) struct Template {
 }
 
 impl Model for Template {
-    ghost use Rattle.std.specs.Prelude.{◌≡◌, ◌≤◌, map};
+    ghost use Rattle.std.specs.Prelude.{◌≡◌, ◌≤◌, map, IfSome};
     ghost use Rattle.fx_wire.specs.Fields.{element_of};
     ghost use Rattle.fx_wire.specs.Values.{shortest_record};
+    ghost use Rattle.fx_session.specs.Places.{ArePlacesOf};
     ghost use Rattle.fx_session.specs.Templates as templates;
 
     ghost Value = { templates.Template };
@@ -37,7 +42,8 @@ impl Model for Template {
 
     ghost invariant = { λ t. (t.body.value.shortest ≡ shortest_record t.body.value.fields.items)
         × (1 ≤ t.body.value.shortest)
-        × (t.body.value.elements.items ≡ map element_of t.body.value.fields.items) };
+        × (t.body.value.elements.items ≡ map element_of t.body.value.fields.items)
+        × IfSome t.body.value.places (ArePlacesOf t.body.value.fields.items) };
 }
 
 /// Whether two fields are written in the same way.
@@ -94,11 +100,13 @@ impl Template {
         ensures { IfOk result (λ t. t ≡ record { scope = scope; fields = fields.items }) }
     {
         let elements = elements_of(alloc, fields.as_slice())?;
+        let places = RecordPlaces::of(fields.as_slice(), elements.as_slice());
         let body = Body {
             scope,
             fields,
             elements,
             shortest,
+            places,
         };
         Ok(Template {
             body: Box::new(alloc, body)?,
@@ -117,6 +125,13 @@ impl Template {
         ensures { result.now ≡ map element_of self.now.fields }
     {
         self.body.elements.as_slice()
+    }
+
+    /// Where the values of flows stand in each record, where that is the same in all of them.
+    pub fn places(&self) -> Option<&RecordPlaces>
+        ensures { IfSome result (λ places. ArePlacesOf self.now.fields places.now) }
+    {
+        self.body.places.as_ref()
     }
 
     /// How few octets a record can have.

@@ -1,0 +1,184 @@
+//! Where the values of flows stand in the records of a template, worked out once for all of its records.
+ghost use Rattle.std.specs.Prelude.{◌≡◌, ◌≤◌, ◌<◌, ℕ, List, map, length, slice_index, slice_index_or, Some, IfSome};
+ghost use Rattle.std.specs.List.{list_any};
+ghost use Rattle.fx_elements.specs.declared.axis.Axis as of_axis;
+ghost use Rattle.fx_elements.specs.Axes.{axis_index, axis_width};
+ghost use Rattle.fx_wire.specs.Fields.{element_of};
+ghost use Rattle.fx_session.specs.Flows as flows;
+ghost use Rattle.fx_session.specs.Parts as parts;
+ghost use Rattle.fx_session.specs.Places as placed;
+
+use crate::key::{Leading, layout_of, value_of};
+use crate::number::number_in;
+use fx_base::Counts;
+use fx_boxes::Fields;
+use fx_elements::{AXES, EVERY_AXIS, Element, width};
+use fx_layout::Layout;
+use fx_tables::Record;
+use fx_wire::{FieldSpecifier, VARIABLE};
+
+/// So many fields a template has at most whose records are read by their places. One with more is read field by field,
+/// so that it costs little to declare.
+const MOST_FIELDS: usize = 64;
+
+/// Where a value stands in a record, from 0: its first octet, and the one behind its last.
+#[derive(Clone, Copy, Debug, PartialEq, Eq)]
+pub(crate) struct Place {
+    pub start: usize,
+    pub end: usize,
+}
+
+/// Where the values of flows stand in each record of a template, and the layout of their keys.
+#[derive(Drop)]
+pub(crate) struct RecordPlaces {
+    pub values: [Option<Place>; AXES],
+    pub octets: Place,
+    pub packets: Place,
+    pub layout: Layout,
+}
+
+/// Whether an element is the one that is sought: a value on the same axis, or the same counter of flows.
+fn is_sought(sought: Element, element: Element) -> bool
+    ensures { result ≡ placed.is_sought sought element }
+{
+    match (sought, element) {
+        (Element::OnAxis(axis), Element::OnAxis(other)) => axis.index() == other.index(),
+        (Element::OctetDeltaCount, Element::OctetDeltaCount) => true,
+        (Element::PacketDeltaCount, Element::PacketDeltaCount) => true,
+        _ => false,
+    }
+}
+
+/// Whether no value tells its own length.
+fn have_fixed_lengths(fields: &[FieldSpecifier]) -> bool
+    ensures { result ≡ placed.have_fixed_lengths fields.now }
+{
+    fields.iter().all(|field| field.field_length != VARIABLE)
+}
+
+/// Whether there is a prefix of an address among the elements.
+fn have_prefix(elements: &[Element]) -> bool
+    ensures { result ≡ list_any placed.is_any_prefix elements.now }
+{
+    elements
+        .iter()
+        .any(|element| matches!(element, Element::Prefix(_)))
+}
+
+/// The place of the first field of the element that is sought.
+fn place_of(fields: &[FieldSpecifier], elements: &[Element], sought: Element) -> Option<Place>
+    requires few { length fields.now ≤ MOST_FIELDS }
+    requires elements { elements.now ≡ map element_of fields.now }
+    ensures { result ≡ placed.place_where (placed.is_sought sought) 0 fields.now }
+{
+    let mut start: usize = 0;
+    for place in 0..fields.len() {
+        let end = start + fields[place].field_length as usize;
+        if is_sought(sought, elements[place]) {
+            return Some(Place { start, end });
+        }
+        start = end;
+    }
+    None
+}
+
+/// The place of the value on each axis.
+fn places_of(fields: &[FieldSpecifier], elements: &[Element]) -> [Option<Place>; AXES]
+    requires few { length fields.now ≤ MOST_FIELDS }
+    requires elements { elements.now ≡ map element_of fields.now }
+    ensures { (axis : of_axis.Axis) → slice_index_or result (axis_index axis) None
+        ≡ placed.place_where (flows.is_value axis) 0 fields.now }
+{
+    let mut places = [None; AXES];
+    for k in 0..AXES {
+        places[k] = place_of(fields, elements, Element::OnAxis(EVERY_AXIS[k]));
+    }
+    places
+}
+
+/// How many bits the value on each axis has, 0 where none has a place.
+fn bits_of_places(places: &[Option<Place>; AXES]) -> [u32; AXES]
+    ensures { (axis : of_axis.Axis) (octets : List ℕ) → slice_index result (axis_index axis)
+        ≡ parts.bits_of (placed.found_at octets axis
+        (slice_index_or places.now (axis_index axis) None)) }
+{
+    let mut bits = [0; AXES];
+    for k in 0..AXES {
+        bits[k] = match places[k] {
+            Some(_) => width(EVERY_AXIS[k]),
+            None => 0,
+        };
+    }
+    bits
+}
+
+/// The value on an axis that stands at a place, 0 where there is none.
+fn value_at(k: usize, place: Option<Place>, octets: &[u8]) -> u128
+    requires axis { k < AXES }
+    requires within { IfSome place (placed.IsPlaceIn (length octets.now)) }
+    ensures { (axis : of_axis.Axis) → axis_index axis ≡ k
+        → result ≡ flows.value_of axis (placed.found_at octets.now axis place) }
+{
+    let Some(place) = place else {
+        return 0;
+    };
+    let axis = EVERY_AXIS[k];
+    let found = Leading {
+        bits: width(axis),
+        value: number_in(&octets[place.start..place.end]),
+    };
+    value_of(axis, Some(found))
+}
+
+impl RecordPlaces {
+    /// The places in the records of a template of these fields and their elements. There are none where a value tells
+    /// its own length, where a prefix is read, where a counter of flows is missing, or where there are more than 64
+    /// fields: such records are read field by field.
+    pub fn of(fields: &[FieldSpecifier], elements: &[Element]) -> Option<RecordPlaces>
+        requires { elements.now ≡ map element_of fields.now }
+        ensures { IfSome result (placed.ArePlacesOf fields.now) }
+    {
+        if fields.len() > MOST_FIELDS || !have_fixed_lengths(fields) || have_prefix(elements) {
+            return None;
+        }
+        let octets = place_of(fields, elements, Element::OctetDeltaCount)?;
+        let packets = place_of(fields, elements, Element::PacketDeltaCount)?;
+        let values = places_of(fields, elements);
+        let layout = layout_of(&bits_of_places(&values));
+        Some(RecordPlaces {
+            values,
+            octets,
+            packets,
+            layout,
+        })
+    }
+
+    /// The value on each axis that a record tells, 0 where it tells none.
+    fn fields_at(&self, octets: &[u8]) -> Fields
+        requires { placed.ArePlacesIn (length octets.now) self.now }
+        ensures { result ≡ flows.fields_of
+            (λ axis. placed.found_at octets.now axis (placed.place_on self.now axis)) }
+    {
+        let mut values = [0; AXES];
+        for k in 0..AXES {
+            values[k] = value_at(k, self.values[k], octets);
+        }
+        Fields::of(values)
+    }
+
+    /// The flow record at the front of the octets.
+    pub fn record_in(&self, octets: &[u8]) -> Record
+        requires { placed.ArePlacesIn (length octets.now) self.now }
+        ensures { result ≡ placed.record_by self.now octets.now }
+    {
+        let packets = number_in(&octets[self.packets.start..self.packets.end]);
+        let total = number_in(&octets[self.octets.start..self.octets.end]);
+        Record {
+            key: self.layout.key_of(&self.fields_at(octets)),
+            counts: Counts {
+                packets: (packets % (1u128 << 64)) as u64,
+                octets: (total % (1u128 << 64)) as u64,
+            },
+        }
+    }
+}
