@@ -2,7 +2,6 @@
 use Rattle.std.proofs.Common.{◌≡◌, ℕ, zero, suc, List, [], ◌∷◌, ◌++◌, length, refl, ap, ◌∙◌, Some, inl, inr, ◌⊎◌}
 use Rattle.fx_base.specs.Entries.{entry_numbered}
 use Rattle.fx_machine.specs.Claim.{ExactlyOnce, OnceModulo}
-use Rattle.fx_tables.specs.declared.traffic.Crossing.{Crossing}
 use Rattle.fx_tables.specs.Classes.{Class}
 use Rattle.fx_tables.specs.Network.{Net, entries}
 use Rattle.fx_tables.specs.Ranks.{IsNetwork}

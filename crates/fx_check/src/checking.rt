@@ -6,14 +6,14 @@ ghost use Rattle.fx_machine.specs.Claim.{ExactlyOnce, OnceModulo};
 ghost use Rattle.fx_base.specs.Lines.{Fails};
 ghost use Rattle.fx_plan.specs.Tables.{net_of};
 ghost use Rattle.fx_check.specs.Outcomes.{IsToldBy, Accepts, MayBeAccepted, MayBeCertificate, MayBeRefused};
-ghost use Rattle.fx_check.specs.Remaining.{goals, IsConsistent};
+ghost use Rattle.fx_check.specs.Remaining.{goals, IsConsistent, IsReady};
 ghost use Rattle.fx_traffic.specs.Targets.{AreRegions, targets_of};
 ghost use Rattle.fx_check.specs.FirstRefusal.{whole};
 
 use crate::course::Course;
 use crate::tables::tables_of;
 use fx_base::{Fault, LineReader, Source};
-use fx_leaf::{Scratch, Tables};
+use fx_leaf::{PathScratch, Tables};
 use fx_plan::Plan;
 use fx_traffic::{Target, Traffic};
 use std::alloc::Global;
@@ -21,13 +21,13 @@ use std::alloc::Global;
 /// Takes all lines, the first of which is a certificate's first.
 fn take_lines<R: Source>(
     course: &mut Course,
-    scratch: &mut Scratch,
+    scratch: &mut PathScratch,
     tables: &Tables<'_>,
     targets: &[Target<'_>],
     lines: &mut LineReader<R>,
 ) -> Result<(), Fault>
     requires tables { AreTables tables.now }
-    requires room { length tables.now.net.processes ≤ length scratch.old }
+    requires ready { IsReady tables.now targets.now course.old scratch.old }
     requires consistent { IsConsistent targets.now course.old }
     requires made { course.old.made ≡ 0 }
     requires goals { goals targets.now course.old ≡ whole targets.now }
@@ -63,7 +63,7 @@ fn check_classes<R: Source>(
     ensures numbers { IfErr result (IsToldBy lines.old) }
 {
     let targets = traffic.targets(alloc)?;
-    let mut scratch = Scratch::new(alloc, tables)?;
+    let mut scratch = PathScratch::new(alloc, tables)?;
     let mut course = Course::new(alloc)?;
     take_lines(&mut course, &mut scratch, tables, targets.as_slice(), lines)
 }

@@ -2,9 +2,11 @@
 ghost use Rattle.std.specs.Prelude.{◌≡◌, ◌+◌, ◌<◌, ◌≤◌, [], List, ℕ, length, IfOk, IfErr, OnOk, Ok, Err, Some, None};
 ghost use Rattle.fx_cert.specs.declared.item.Item.TheVariants as of_item;
 ghost use Rattle.fx_elements.specs.Axes.{axis_index};
+ghost use Rattle.fx_leaf.specs.PathTables.{PathTable};
 ghost use Rattle.fx_leaf.specs.Tables.{AreTables};
+ghost use Rattle.fx_leaf.specs.Tables.{Tables as TableView};
 ghost use Rattle.fx_check.specs.Judging.{Judge, judge_of};
-ghost use Rattle.fx_check.specs.Remaining.{goals, rest_goals, IsConsistent, IsInTree, map_result, below_waits, above_waits};
+ghost use Rattle.fx_check.specs.Remaining.{goals, rest_goals, IsConsistent, IsInTree, IsReady, map_result, below_waits, above_waits};
 ghost use Rattle.fx_check.specs.FirstRefusal.{Goal, after, after_reading, split_answer, made_by, made_after, form_fault, reading_of, at_end, by_number};
 
 use crate::judging::{leaf_fault, never_fault};
@@ -13,7 +15,7 @@ use crate::stack::{Stack, WaitingRegion};
 use fx_base::{Fault, Line};
 use fx_cert::{Item, Version, read_item};
 use fx_elements::Axis;
-use fx_leaf::{Counted, Scratch, Tables};
+use fx_leaf::{Counted, PathScratch, Tables};
 use fx_traffic::Target;
 use std::alloc::{AllocError, Global};
 
@@ -63,18 +65,28 @@ impl Course {
     }
 
     /// Takes an item between the trees.
-    fn between(&mut self, targets: &[Target<'_>], item: &Item) -> Result<(), LineFault>
+    fn between(
+        &mut self,
+        scratch: &mut PathScratch,
+        tables: &Tables<'_>,
+        targets: &[Target<'_>],
+        item: &Item,
+    ) -> Result<(), LineFault>
+        requires tables { AreTables tables.now }
+        requires ready { IsReady tables.now targets.now self.old scratch.old }
         requires consistent { IsConsistent targets.now self.old }
         requires stage { self.old.stage ≡ Stage.Between }
         ensures after { (judge : Judge) → after judge self.old.made (goals targets.now self.old)
             item.now ≡ map_result result (goals targets.now self.new) }
         ensures consistent { OnOk result (IsConsistent targets.now self.new) }
         ensures made { OnOk result (self.new.made ≡ made_by self.old.made item.now) }
+        ensures ready { OnOk result (IsReady tables.now targets.now self.new scratch.new) }
     {
         if self.current < targets.len() {
             let target = &targets[self.current];
             if let Item::Class { class, path } = item {
                 if *class == target.class && *path == target.path {
+                    scratch.begin(tables, target.crossings);
                     self.stage = Stage::Tree(WaitingRegion {
                         region: target.region,
                         depth: 0,
@@ -99,6 +111,8 @@ impl Course {
         ensures consistent { IsConsistent targets.now self.new }
         ensures made { self.new.made ≡ self.old.made }
         ensures version { self.new.version ≡ self.old.version }
+        ensures ready { (t : TableView) (room : PathTable) → IsReady t targets.now self.old room
+            → IsReady t targets.now self.new room }
     {
         match self.waiting.pop() {
             Some(top) => {
@@ -114,13 +128,13 @@ impl Course {
     /// Takes a leaf as the tree of a region.
     fn leaf(
         &mut self,
-        scratch: &mut Scratch,
+        scratch: &mut PathScratch,
         tables: &Tables<'_>,
         targets: &[Target<'_>],
         leaf: &Counted,
     ) -> Result<(), LineFault>
         requires tables { AreTables tables.now }
-        requires room { length tables.now.net.processes ≤ length scratch.old }
+        requires ready { IsReady tables.now targets.now self.old scratch.old }
         requires consistent { IsConsistent targets.now self.old }
         requires stage { IsInTree self.old.stage }
         ensures after { after (judge_of tables.now.net) self.old.made (goals targets.now self.old)
@@ -128,7 +142,7 @@ impl Course {
             ≡ map_result result (goals targets.now self.new) }
         ensures consistent { OnOk result (IsConsistent targets.now self.new) }
         ensures made { OnOk result (self.new.made ≡ self.old.made + 1) }
-        ensures size { length scratch.new ≡ length scratch.old }
+        ensures ready { OnOk result (IsReady tables.now targets.now self.new scratch.new) }
     {
         let target = &targets[self.current];
         if target.exempt {
@@ -151,19 +165,19 @@ impl Course {
     /// Takes a leaf that says that nothing is counted as the tree of a region.
     fn never(
         &mut self,
-        scratch: &mut Scratch,
+        scratch: &mut PathScratch,
         tables: &Tables<'_>,
         targets: &[Target<'_>],
     ) -> Result<(), LineFault>
         requires tables { AreTables tables.now }
-        requires room { length tables.now.net.processes ≤ length scratch.old }
+        requires ready { IsReady tables.now targets.now self.old scratch.old }
         requires consistent { IsConsistent targets.now self.old }
         requires stage { IsInTree self.old.stage }
         ensures after { after (judge_of tables.now.net) self.old.made (goals targets.now self.old)
             of_item.Never ≡ map_result result (goals targets.now self.new) }
         ensures consistent { OnOk result (IsConsistent targets.now self.new) }
         ensures made { OnOk result (self.new.made ≡ self.old.made + 1) }
-        ensures size { length scratch.new ≡ length scratch.old }
+        ensures ready { OnOk result (IsReady tables.now targets.now self.new scratch.new) }
     {
         let target = &targets[self.current];
         if self.version == Version::One || !target.exempt {
@@ -191,6 +205,8 @@ impl Course {
             (of_item.Split axis at) ≡ map_result result (goals targets.now self.new) }
         ensures consistent { OnOk result (IsConsistent targets.now self.new) }
         ensures made { OnOk result (self.new.made ≡ self.old.made + 1) }
+        ensures ready { OnOk result ((t : TableView) (room : PathTable)
+            → IsReady t targets.now self.old room → IsReady t targets.now self.new room) }
     {
         let Stage::Tree(here) = &mut self.stage else {
             unreachable!();
@@ -204,20 +220,20 @@ impl Course {
     /// Takes an item of the tree of a region.
     fn within(
         &mut self,
-        scratch: &mut Scratch,
+        scratch: &mut PathScratch,
         tables: &Tables<'_>,
         targets: &[Target<'_>],
         item: &Item,
     ) -> Result<(), LineFault>
         requires tables { AreTables tables.now }
-        requires room { length tables.now.net.processes ≤ length scratch.old }
+        requires ready { IsReady tables.now targets.now self.old scratch.old }
         requires consistent { IsConsistent targets.now self.old }
         requires stage { IsInTree self.old.stage }
         ensures after { after (judge_of tables.now.net) self.old.made (goals targets.now self.old)
             item.now ≡ map_result result (goals targets.now self.new) }
         ensures consistent { OnOk result (IsConsistent targets.now self.new) }
         ensures made { OnOk result (self.new.made ≡ made_by self.old.made item.now) }
-        ensures size { length scratch.new ≡ length scratch.old }
+        ensures ready { OnOk result (IsReady tables.now targets.now self.new scratch.new) }
     {
         match item {
             Item::Leaf {
@@ -241,19 +257,19 @@ impl Course {
     /// Takes an item.
     fn step(
         &mut self,
-        scratch: &mut Scratch,
+        scratch: &mut PathScratch,
         tables: &Tables<'_>,
         targets: &[Target<'_>],
         item: &Item,
     ) -> Result<(), LineFault>
         requires tables { AreTables tables.now }
-        requires room { length tables.now.net.processes ≤ length scratch.old }
+        requires ready { IsReady tables.now targets.now self.old scratch.old }
         requires consistent { IsConsistent targets.now self.old }
         ensures after { after (judge_of tables.now.net) self.old.made (goals targets.now self.old)
             item.now ≡ map_result result (goals targets.now self.new) }
         ensures consistent { OnOk result (IsConsistent targets.now self.new) }
         ensures made { OnOk result (self.new.made ≡ made_by self.old.made item.now) }
-        ensures size { length scratch.new ≡ length scratch.old }
+        ensures ready { OnOk result (IsReady tables.now targets.now self.new scratch.new) }
     {
         match self.stage {
             Stage::Ended => Err(LineFault::BehindEnd),
@@ -265,7 +281,7 @@ impl Course {
                 }
                 _ => Err(LineFault::Header),
             },
-            Stage::Between => self.between(targets, item),
+            Stage::Between => self.between(scratch, tables, targets, item),
             Stage::Tree(_) => self.within(scratch, tables, targets, item),
         }
     }
@@ -289,13 +305,13 @@ impl Course {
     /// isn't strictly inside its region, or something is wrong with a leaf.
     pub(crate) fn take(
         &mut self,
-        scratch: &mut Scratch,
+        scratch: &mut PathScratch,
         tables: &Tables<'_>,
         targets: &[Target<'_>],
         line: &Line<'_>,
     ) -> Result<(), LineFault>
         requires tables { AreTables tables.now }
-        requires room { length tables.now.net.processes ≤ length scratch.old }
+        requires ready { IsReady tables.now targets.now self.old scratch.old }
         requires consistent { IsConsistent targets.now self.old }
         requires short { length line.now.bytes.now ≤ 4096 }
         ensures after { after_reading (judge_of tables.now.net) self.old.made
@@ -304,7 +320,7 @@ impl Course {
         ensures consistent { OnOk result (IsConsistent targets.now self.new) }
         ensures made { OnOk result (self.new.made
             ≡ made_after self.old.made (reading_of (line.now.bytes.now, line.now.ended))) }
-        ensures size { length scratch.new ≡ length scratch.old }
+        ensures ready { OnOk result (IsReady tables.now targets.now self.new scratch.new) }
     {
         if !line.ended {
             return Err(LineFault::Cut);

@@ -1,11 +1,12 @@
 //! What is wrong with a leaf.
-ghost use Rattle.std.specs.Prelude.{◌≡◌, ◌≤◌, length, Some, None};
+ghost use Rattle.std.specs.Prelude.{◌≡◌, Some, None};
+ghost use Rattle.fx_leaf.specs.PathTables.{HasRoom, IsBegun};
 ghost use Rattle.fx_leaf.specs.Tables.{AreTables};
 ghost use Rattle.fx_check.specs.Judging as of_judging;
 
 use fx_base::refusals;
 use fx_boxes::Region;
-use fx_leaf::{Counted, Scratch, Tables, fate, never};
+use fx_leaf::{Counted, PathScratch, Tables};
 use fx_traffic::Target;
 
 fn same_leaf(one: &Counted, other: &Counted) -> bool
@@ -17,19 +18,21 @@ fn same_leaf(one: &Counted, other: &Counted) -> bool
 /// The number of what is wrong with a leaf for a region of a target, if anything is: why no leaf is sound there, or
 /// 410 where another one is.
 pub(crate) fn leaf_fault(
-    scratch: &mut Scratch,
+    scratch: &mut PathScratch,
     tables: &Tables<'_>,
     target: &Target<'_>,
     region: &Region,
     leaf: &Counted,
 ) -> Option<u16>
     requires tables { AreTables tables.now }
-    requires room { length tables.now.net.processes ≤ length scratch.old }
+    requires room { HasRoom tables.now scratch.old }
+    requires begun { IsBegun tables.now target.now.crossings scratch.old }
     ensures fault { result ≡ of_judging.judge_of tables.now.net target.now region.now
         (Some leaf.now) }
-    ensures size { length scratch.new ≡ length scratch.old }
+    ensures room { HasRoom tables.now scratch.new }
+    ensures begun { IsBegun tables.now target.now.crossings scratch.new }
 {
-    match fate(scratch, tables, target.crossings, region) {
+    match scratch.fate(tables, target.crossings, region) {
         Err(e) => Some(e.number),
         Ok(counted) => {
             if same_leaf(&counted, leaf) {
@@ -43,17 +46,19 @@ pub(crate) fn leaf_fault(
 
 /// The number of what is wrong with a leaf that says that no packet of a region of a target is counted.
 pub(crate) fn never_fault(
-    scratch: &mut Scratch,
+    scratch: &mut PathScratch,
     tables: &Tables<'_>,
     target: &Target<'_>,
     region: &Region,
 ) -> Option<u16>
     requires tables { AreTables tables.now }
-    requires room { length tables.now.net.processes ≤ length scratch.old }
+    requires room { HasRoom tables.now scratch.old }
+    requires begun { IsBegun tables.now target.now.crossings scratch.old }
     ensures fault { result ≡ of_judging.judge_of tables.now.net target.now region.now None }
-    ensures size { length scratch.new ≡ length scratch.old }
+    ensures room { HasRoom tables.now scratch.new }
+    ensures begun { IsBegun tables.now target.now.crossings scratch.new }
 {
-    match never(scratch, tables, target.crossings, region) {
+    match scratch.never(tables, target.crossings, region) {
         Err(e) => Some(e.number),
         Ok(()) => None,
     }

@@ -25,3 +25,4 @@ pub mod CausesCut
 pub mod PathSplits
 pub mod JudgementsHold
 pub mod MarksAreClosed
+pub mod SteadyTables

@@ -97,7 +97,7 @@ module _ (t : Tables) (region : Bounds) (layouts process : ℕ) (old : Table) wh
 
 -- ---- row by row
 
-no_bit : (i : ℕ) → bit_at 0 i ≡ 1 → ⊥
+pub no_bit : (i : ℕ) → bit_at 0 i ≡ 1 → ⊥
 no_bit i h = let none = bit_at-zero i in omega (arith, h, none)
 
 -- the marked entries of those that come first in the order are filled

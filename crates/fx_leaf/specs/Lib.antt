@@ -12,3 +12,4 @@ pub mod Splits
 pub mod Causes
 pub mod Judgements
 pub mod Reach
+pub mod PathTables

@@ -42,7 +42,7 @@ fn fault_of(fate: Fate) -> Fault
 }
 
 /// The leaf that is sound by what is known, or why there is none.
-fn leaf_of(known: Result<PathFate, (Axis, u128)>) -> Result<Counted, Fault>
+pub(crate) fn leaf_of(known: Result<PathFate, (Axis, u128)>) -> Result<Counted, Fault>
     ensures ok { IfOk known (λ t. result ≡ leaves.leaf_of (Some t.fate) t.counted) }
     ensures err { IfErr known (λ s. result ≡ Err (leaves.fault_of None)) }
 {
@@ -56,7 +56,7 @@ fn leaf_of(known: Result<PathFate, (Axis, u128)>) -> Result<Counted, Fault>
 }
 
 /// Whether no packet is counted by what is known, or why not.
-fn never_of(known: Result<PathFate, (Axis, u128)>) -> Result<(), Fault>
+pub(crate) fn never_of(known: Result<PathFate, (Axis, u128)>) -> Result<(), Fault>
     ensures ok { IfOk known (λ t. result ≡ leaves.never_of (Some t.fate)) }
     ensures err { IfErr known (λ s. result ≡ Err (leaves.fault_of None)) }
 {

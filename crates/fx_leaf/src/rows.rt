@@ -58,7 +58,7 @@ fn fill_row(
 }
 
 /// Each marked entry is filled, behind those of the processes that its own feeds.
-fn fill(rows: &mut [VerdictRow], marks: &[u64], tables: &Tables<'_>, region: &Region)
+pub(crate) fn fill(rows: &mut [VerdictRow], marks: &[u64], tables: &Tables<'_>, region: &Region)
     requires tables { by_table.AreTables tables.now }
     requires size { length rows.old ≡ length tables.now.net.processes }
     requires marks { length marks.now ≡ length tables.now.net.processes }

@@ -93,7 +93,7 @@ impl Model for Scratch {
 }
 
 /// So many rows without entries.
-fn empty_rows(alloc: Global, count: usize) -> Result<Vec<VerdictRow>, AllocError>
+pub(crate) fn empty_rows(alloc: Global, count: usize) -> Result<Vec<VerdictRow>, AllocError>
     ensures { IfOk result (λ rows. length rows.items ≡ count) }
 {
     let mut rows: Vec<VerdictRow> = Vec::with_capacity(alloc, count)?;
@@ -104,7 +104,7 @@ fn empty_rows(alloc: Global, count: usize) -> Result<Vec<VerdictRow>, AllocError
 }
 
 /// So many processes without marks.
-fn no_marks(alloc: Global, count: usize) -> Result<Vec<u64>, AllocError>
+pub(crate) fn no_marks(alloc: Global, count: usize) -> Result<Vec<u64>, AllocError>
     ensures { IfOk result (λ marks. length marks.items ≡ count) }
 {
     let mut marks: Vec<u64> = Vec::with_capacity(alloc, count)?;

@@ -3,12 +3,12 @@ ghost use Rattle.std.specs.Prelude.{◌≡◌, ◌≤◌, [], ◌∷◌, true, S
 ghost use Rattle.fx_leaf.specs.Tables as by_table;
 ghost use Rattle.fx_elements.specs.declared.axis.Axis.TheVariants as axis;
 
-use crate::meters::{bare, into, meter, sources};
+use crate::meters::{agreed, into, meter, sources};
 use crate::parts::{by_source, exporter, holder, process};
 use fx_boxes::Region;
 use fx_elements::Axis;
 use fx_layout::Layout;
-use fx_leaf::{Counted, Scratch, Tables, cut, fate};
+use fx_leaf::{Counted, PathScratch, Scratch, Tables, cut, fate};
 use fx_tables::{AggregationEntry, Exporter, Holder, MatchEntry, Net, Process};
 use std::alloc::Global;
 use std::process::Abort;
@@ -164,7 +164,12 @@ fn asked(
     let path = [into(rt, alloc, 1)];
     let tables = Tables::new(net, &[2, 1, 0], layouts, &[0, 1, 2]);
     let mut scratch = Scratch::new(alloc, &tables).expect(rt, "memory");
-    let leaf = bare(fate(&mut scratch, &tables, &path, &region));
+    let mut along = PathScratch::new(alloc, &tables).expect(rt, "memory");
+    along.begin(&tables, &path);
+    let leaf = agreed(
+        fate(&mut scratch, &tables, &path, &region),
+        along.fate(&tables, &path, &region),
+    );
     (leaf, cut(&mut scratch, &tables, &path, &region))
 }
 

@@ -1,11 +1,11 @@
 //! Two meters on one path, each with a filter of its own.
 ghost use Rattle.std.specs.Prelude.{◌≡◌, [], ◌∷◌};
 
-use crate::meters::{bare, into, meter, sources};
+use crate::meters::{agreed, into, meter, sources};
 use crate::parts::{by_source, collector, exporter, holder, process};
 use fx_elements::Axis;
 use fx_layout::Layout;
-use fx_leaf::{Counted, Judgement, Scratch, Tables, cut, fate, judge, never};
+use fx_leaf::{Counted, Judgement, PathScratch, Scratch, Tables, cut, fate, judge, never};
 use fx_tables::{DeviceEntry, Exporter, Holder, Net};
 use std::alloc::Global;
 use std::process::Abort;
@@ -67,6 +67,7 @@ fn network(rt: &impl Abort, alloc: Global, sent: Sent, report: Layout) -> Net
 }
 
 /// The leaf, or the number of the fault; whether no packet is counted, in the same way; the split; and the judgement.
+/// The first two are asked for twice, alone and along the path.
 type Answers = (
     Result<Counted, u16>,
     Result<(), u16>,
@@ -86,8 +87,16 @@ fn asked(rt: &impl Abort, alloc: Global, net: &Net, low: u128, high: u128) -> An
     let layouts = [Layout::new()];
     let tables = Tables::new(net, &[0], &layouts, &[0, 0]);
     let mut scratch = Scratch::new(alloc, &tables).expect(rt, "memory");
-    let leaf = bare(fate(&mut scratch, &tables, &path, &region));
-    let uncounted = bare(never(&mut scratch, &tables, &path, &region));
+    let mut along = PathScratch::new(alloc, &tables).expect(rt, "memory");
+    along.begin(&tables, &path);
+    let leaf = agreed(
+        fate(&mut scratch, &tables, &path, &region),
+        along.fate(&tables, &path, &region),
+    );
+    let uncounted = agreed(
+        never(&mut scratch, &tables, &path, &region),
+        along.never(&tables, &path, &region),
+    );
     let split = cut(&mut scratch, &tables, &path, &region);
     let judgement = judge(&mut scratch, &tables, &path, &region);
     (leaf, uncounted, split, judgement)

@@ -73,3 +73,12 @@ pub(crate) fn bare<T>(answer: Result<T, Fault>) -> Result<T, u16> {
         }),
     }
 }
+
+/// What both answer; 0 where they differ.
+pub(crate) fn agreed<T: PartialEq + Drop>(
+    one: Result<T, Fault>,
+    other: Result<T, Fault>,
+) -> Result<T, u16> {
+    let one = bare(one);
+    if one == bare(other) { one } else { Err(0) }
+}

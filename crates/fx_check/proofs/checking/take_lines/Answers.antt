@@ -35,7 +35,7 @@ lines-preserved g c =
     let after = lent_line (λ l. after_reading judge c.lines.course.made gs (reading_of l)) c.advance.new.self c.line.result.bytes.now c.line.result.ended c.line.ensures.bytes c.line.ensures.ended ∙ c.in_default.ensures.after in
     let made = c.in_default.ensures.made ∙ sym (lent_line (λ l. made_after c.lines.course.made (reading_of l)) c.advance.new.self c.line.result.bytes.now c.line.result.ended c.line.ensures.bytes c.line.ensures.ended) in
     record {
-      room = rw c.take.ensures.size c.lines.invariant.room;
+      ready = c.in_default.ensures.ready;
       consistent = c.in_default.ensures.consistent;
       stopped = λ e. λ h. absurd (let n = at.going.1 in cc);
       on = goes_then c.args.lines.now c.lines.lines c.advance.new.self c.lines.invariant.on (to_line c.lines.lines c.advance.new.self at (ended_line judge c.lines.course.made gs _ (c.advance.new.self.line, c.advance.new.self.ended) after));

@@ -1,15 +1,15 @@
-use Rattle.std.proofs.Common.{◌≡◌, ◌≤◌, Some, length}
+use Rattle.std.proofs.Common.{◌≡◌, Some}
 use Rattle.fx_base.specs.declared.fault.Fault.{Fault}
 use Rattle.fx_base.specs.Lines.{GoesOnToLines, line_budget}
 use Rattle.fx_check.specs.Judging.{judge_of}
 use Rattle.fx_check.specs.Outcomes.{Continues}
-use Rattle.fx_check.specs.Remaining.{goals, IsConsistent}
+use Rattle.fx_check.specs.Remaining.{goals, IsConsistent, IsReady}
 use Rattle.fx_check.specs.FirstRefusal.{whole}
 use Rattle.fx_check.proofs.checking.take_lines.Given as goal
 
 abbrev pub invariant-lines : goal.invariant-lines
 invariant-lines g l = record {
-  room : length l.tables.net.processes ≤ length l.scratch;
+  ready : IsReady l.tables l.targets l.course l.scratch;
   consistent : IsConsistent l.targets l.course;
   stopped : (e : Fault) → l.lines.stopped ≡ Some e → l.fn.lines.stopped ≡ Some e;
   on : GoesOnToLines l.fn.lines l.lines;

@@ -1,0 +1,33 @@
+-- What is kept from leaf to leaf along a path: the marks, and verdicts that hold whatever the region.
+use Rattle.std.specs.Prelude.{◌≡◌, ◌⊎◌, ℕ, Bool, true, List, [], length, slice_get, slice_index, Some}
+use Rattle.fx_boxes.specs.Boxes.{Bounds}
+use Rattle.fx_tables.specs.declared.process.Process.{Process}
+use Rattle.fx_tables.specs.declared.traffic.Crossing.{Crossing}
+use Rattle.fx_leaf.specs.Tables.{Table, Tables}
+use Rattle.fx_leaf.specs.Reach.{HoldsAlongPath, IsClosed, IsFilled, IsMarked}
+
+-- verdicts by collecting process, marks of those that are needed, and whether these verdicts hold for each region
+pub record PathTable : Type 0 where
+  pub table : Table
+  pub marks : List ℕ
+  pub steady : Bool
+
+-- there is room for the network's collecting processes, and for no others
+pub record HasRoom (t : Tables) (p : PathTable) : Type 0 where
+  pub table : length p.table ≡ length t.net.processes
+  pub marks : length p.marks ≡ length t.net.processes
+
+-- no record comes to the collecting process, or it has no aggregation to take it in, by its match
+abbrev pub HasNoMarkOrAggregation : ℕ → Process → Type 0
+HasNoMarkOrAggregation mark p = (mark ≡ 0) ⊎ (p.aggregations ≡ [])
+
+-- so it is at all of these collecting processes
+abbrev pub TakeNoneIn : List Process → List ℕ → Type 0
+TakeNoneIn processes marks =
+    (process : ℕ) (p : Process) → slice_get processes process ≡ Some p → HasNoMarkOrAggregation (slice_index marks process) p
+
+-- the path's marks are there, and its verdicts, where they hold for each region
+pub record IsBegun (t : Tables) (path : List Crossing) (p : PathTable) : Type 0 where
+  pub along : HoldsAlongPath t.net t.numbering (IsMarked p.marks) path
+  pub closed : IsClosed t.net t.numbering p.marks
+  pub filled : p.steady ≡ true → (region : Bounds) → IsFilled t.net t.numbering region p.marks p.table
