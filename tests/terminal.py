@@ -20,16 +20,19 @@ import threading
 import rows
 from verdict import told
 
-WORDS = "Write --words once and without a value; it goes with each command, in front of it or behind its files."
-PROGRESS = "Write --progress once and without a value; it goes with audit, collect and run."
-LIMIT = "--limit goes with audit alone, behind that word: `once audit NETWORK TRAFFIC --limit N`."
-LINKS = "--links goes with run alone, behind that word: `once run NETWORK TRAFFIC CAPTURE SCHEDULE --links PREFIX`."
+FLAG = "Write %s once, without a value and in front of any --, behind which all words are files; it goes with %s."
+WORDS = FLAG % ("--words", "each command")
+PROGRESS = FLAG % ("--progress", "audit, collect and run")
+OPTION_OF_ONE = "%s goes with %s alone, behind that word and in front of any --: `once %s`."
+LIMIT = OPTION_OF_ONE % ("--limit", "audit", "audit NETWORK TRAFFIC --limit N")
+LINKS = OPTION_OF_ONE % ("--links", "run", "run NETWORK TRAFFIC CAPTURE SCHEDULE --links PREFIX")
 NUMBER = "Write --limit once, with a whole number from 1 to 1000000 behind it, as in --limit 20000."
 OPTION = (
     "There is no such option. --words goes with each command, --progress with audit, collect and run, --limit with audit "
     "and --links with run. A file whose name begins with - is named behind --, as in `once lint -- -file`."
 )
 COMMAND = "The first word is a command: `once help` lists them."
+BEHIND_HELP = "Behind help stands one command, as in `once help check`; what a number means tells `once explain 407`."
 MISSING = "Write what is missing, in the order of the usage line; `once help COMMAND` tells what each is."
 
 # A run over a capture that puts octets on link 1.
@@ -39,6 +42,8 @@ RUN_WITH_LINKS = "run-over-a-packet-of-ipv6"
 ADVICE = {
     "--words --words check n t c": WORDS,
     "check n t c --words --words": WORDS,
+    "audit n t -- --words": WORDS,
+    "audit -- n t --words": WORDS,
     "--word check n t c": WORDS,
     "check n t c --wrods": WORDS,
     "check n t c --Word": WORDS,
@@ -46,6 +51,7 @@ ADVICE = {
     "lint --words=yes n": WORDS,
     "audit n t --progress=1": PROGRESS,
     "audit n t --progress --progress": PROGRESS,
+    "audit -- n t --progress": PROGRESS,
     "collect n s --progres": PROGRESS,
     "audit n t --limit many": NUMBER,
     "audit n t --limit 0": NUMBER,
@@ -56,6 +62,7 @@ ADVICE = {
     "audit n t --limt 5": LIMIT,
     "check n t c --limit 5": LIMIT,
     "--limit 5 audit n t": LIMIT,
+    "audit -- n t --limit 5": LIMIT,
     "audit n t --links x": LINKS,
     "check n t c --link x": LINKS,
     "run n t c s --links": "Write --links once, with what the names of the links' files are to begin with behind it, as in --links link.",
@@ -67,6 +74,8 @@ ADVICE = {
     "explain": MISSING,
     "chek n t c": COMMAND,
     "help audits": COMMAND,
+    "help audit check": BEHIND_HELP,
+    "help explain 407": BEHIND_HELP,
 }
 
 

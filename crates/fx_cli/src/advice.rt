@@ -7,19 +7,19 @@ use std::alloc::{AllocError, Global};
 const OPTIONS: [(&str, &str); 6] = [
     (
         "--words",
-        "Write --words once and without a value; it goes with each command, in front of it or behind its files.",
+        "Write --words once, without a value and in front of any --, behind which all words are files; it goes with each command.",
     ),
     (
         "--progress",
-        "Write --progress once and without a value; it goes with audit, collect and run.",
+        "Write --progress once, without a value and in front of any --, behind which all words are files; it goes with audit, collect and run.",
     ),
     (
         "--limit",
-        "--limit goes with audit alone, behind that word: `once audit NETWORK TRAFFIC --limit N`.",
+        "--limit goes with audit alone, behind that word and in front of any --: `once audit NETWORK TRAFFIC --limit N`.",
     ),
     (
         "--links",
-        "--links goes with run alone, behind that word: `once run NETWORK TRAFFIC CAPTURE SCHEDULE --links PREFIX`.",
+        "--links goes with run alone, behind that word and in front of any --: `once run NETWORK TRAFFIC CAPTURE SCHEDULE --links PREFIX`.",
     ),
     (
         "--help",
@@ -85,6 +85,15 @@ fn unknown_word_advice(word: &str) -> &'static str {
     option_advice(word).unwrap_or(NO_OPTION)
 }
 
+/// What to do about a word that is no command: the first, or one behind `help` and a command.
+fn unknown_command_advice(text: &str) -> &'static str {
+    if text.contains(" <COMMAND>") {
+        "The first word is a command: `once help` lists them."
+    } else {
+        "Behind help stands one command, as in `once help check`; what a number means tells `once explain 407`."
+    }
+}
+
 /// The word that an error's text is about, which stands there first in quotation marks.
 fn word_told(text: &str) -> &str {
     match text.split_once("'") {
@@ -122,9 +131,9 @@ fn advice_of(kind: ErrorKind, text: &str) -> Option<&'static str> {
         ErrorKind::UnknownArgument => {
             Some(extra_word_advice(text).unwrap_or(unknown_word_advice(word_told(text))))
         }
-        ErrorKind::InvalidSubcommand => Some(option_advice(word_told(text)).unwrap_or(
-            "The first word is a command: `once help` lists them.",
-        )),
+        ErrorKind::InvalidSubcommand => {
+            Some(option_advice(word_told(text)).unwrap_or(unknown_command_advice(text)))
+        }
         ErrorKind::MissingSubcommand => Some("Write a command: `once help` lists them."),
         ErrorKind::MissingRequiredArgument => Some(
             "Write what is missing, in the order of the usage line; `once help COMMAND` tells what each is.",
