@@ -3,7 +3,7 @@
 
 Without words on a terminal it must print its help and not wait. With words that don't parse it must end with status 6,
 and tell last what to do (`ADVICE`), without the tip that an option is a file's name. With `--words` it must not wait for
-a pipe that it has read to its end, and it must say of a directory that it is one, not write a link's file over one of a
+a pipe that it has read to its end, and it must say of a directory that it is one and of standard input that it is closed, not write a link's file over one of a
 run's own, and take the documents that its help shows.
 
 Prints a line for each fault, and last `N passed, M failed`. The exit status is 1 where something failed.
@@ -139,6 +139,13 @@ def faults_of_directory(program):
             yield "status %d, printed %r, which doesn't begin with %r" % (run.returncode, run.stdout, wanted)
 
 
+def faults_of_closed_input(program):
+    run = subprocess.run([program, "--words"], preexec_fn=lambda: os.close(0), stdout=subprocess.PIPE, timeout=60)
+    wanted = b"device 901\nfile: standard input: it is closed, it is a directory, or a read of it failed\n"
+    if run.returncode != 5 or not run.stdout.startswith(wanted):
+        yield "status %d, printed %r, which doesn't begin with %r" % (run.returncode, run.stdout, wanted)
+
+
 def faults_of_help_documents(program):
     """The documents that the help of `lint` shows must be accepted as they stand there."""
     said = subprocess.run([program, "lint", "--help"], stdout=subprocess.PIPE, timeout=60).stdout.decode()
@@ -184,6 +191,7 @@ def cases(program):
         yield words, faults_of_words(program, words, advice)
     yield "pipe", faults_of_pipe(program)
     yield "directory", faults_of_directory(program)
+    yield "closed input", faults_of_closed_input(program)
     yield "documents in the help", faults_of_help_documents(program)
     yield "links over input", faults_of_links_over_input(program)
 

@@ -3,7 +3,8 @@ ghost use Rattle.std.specs.Prelude.{◌≡◌};
 
 use crate::kept::{KeptSource, OctetCopy};
 use crate::progress::Progress;
-use fx_base::Source;
+use fx_audit::Answer;
+use fx_base::{Fault, Source, refusals};
 use std::alloc::{AllocError, Global};
 use std::io;
 use std::rt::Clock;
@@ -46,6 +47,17 @@ impl FailedFile {
     pub fn unwritten(&mut self, path: &str) {
         if self.keeps && self.told.is_none() {
             self.told = String::from_str(self.alloc, path).ok();
+        }
+    }
+
+    /// Notes that standard input can't be read.
+    fn unread_input(&mut self) {
+        if self.keeps {
+            self.told = String::from_str(
+                self.alloc,
+                "standard input: it is closed, it is a directory, or a read of it failed",
+            )
+            .ok();
         }
     }
 
@@ -115,6 +127,20 @@ impl Notes {
         ensures { result.source ≡ source }
     {
         KeptSource::new(source, OctetCopy::new(self.alloc, self.keeps))
+    }
+
+    /// Keeps the copy of a bundle, and notes where the bundle has no answer since it couldn't be read.
+    pub(crate) fn keep_bundle<R: Source>(
+        &mut self,
+        input: KeptSource<R>,
+        answer: &Result<Answer, Fault>,
+    ) {
+        self.bundle = input.into_copy();
+        if let Err(fault) = answer {
+            if fault.number == refusals::FAILED_READ {
+                self.failed_file.unread_input();
+            }
+        }
     }
 
     /// Keeps the copies of the two documents.

@@ -36,7 +36,7 @@ fn answer_input<R: AllocGlobal + Input + RandomSource, S: Sink>(
     let seed = seed_at_random(rt)?;
     let mut input = notes.source(Outside::new(rt.reader()));
     let answer = bundle_bytes(rt.alloc(), seed, &mut input, sink);
-    notes.bundle = input.into_copy();
+    notes.keep_bundle(input, &answer);
     answer
 }
 
