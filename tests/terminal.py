@@ -3,15 +3,19 @@
 
 Without words on a terminal it must print its help and not wait. With words that don't parse it must end with status 6,
 and tell last what to do (`ADVICE`), without the tip that an option is a file's name. With `--words` it must not wait for
-a pipe that it has read to its end, and it must say of a directory that it is one and of standard input that it is closed, not write a link's file over one of a
-run's own, and take the documents that its help shows.
+a pipe that it has read to its end, and it must say of a directory that it is one and of standard input that it is closed,
+not write a link's file over one of a run's own. The lines of its help must have at most 100 columns, and it must take what
+stands there as an example: documents, certificate, refutation, run, schedule, totals and the lines for a shell.
 
 Prints a line for each fault, and last `N passed, M failed`. The exit status is 1 where something failed.
 """
+import json
 import os
 import pty
 import shlex
 import shutil
+import socket
+import struct
 import subprocess
 import sys
 import tempfile
@@ -146,21 +150,118 @@ def faults_of_closed_input(program):
         yield "status %d, printed %r, which doesn't begin with %r" % (run.returncode, run.stdout, wanted)
 
 
+def help_of(program, *command):
+    return subprocess.run([program, "help", *command], stdout=subprocess.PIPE, timeout=60).stdout.decode()
+
+
+def faults_of_width(program):
+    """Each line of each help has at most 100 columns."""
+    listed = help_of(program).split("\nCommands:\n", 1)[1].split("\n\n", 1)[0]
+    for command in [(), *((line.split()[0],) for line in listed.splitlines())]:
+        for line in help_of(program, *command).splitlines():
+            if len(line) > 100:
+                yield "a line of help %s has %d columns: %r" % (" ".join(command), len(line), line)
+
+
+def help_documents(program):
+    """The documents that the help of `lint` shows."""
+    return [text + "\n" for text in help_of(program, "lint").split("\n\n") if text.startswith("  {")]
+
+
+def write(folder, name, octets):
+    with open(os.path.join(folder, name), "wb") as file:
+        file.write(octets if isinstance(octets, bytes) else octets.encode())
+
+
+def printed_by(program, folder, *words):
+    """What the program prints in a folder."""
+    return subprocess.run([program, *words], cwd=folder, stdout=subprocess.PIPE, timeout=60).stdout.decode()
+
+
 def faults_of_help_documents(program):
-    """The documents that the help of `lint` shows must be accepted as they stand there."""
-    said = subprocess.run([program, "lint", "--help"], stdout=subprocess.PIPE, timeout=60).stdout.decode()
-    found = [text for text in said.split("\n\n") if text.startswith("  {")]
-    if len(found) != 2:
-        yield "the help has %d documents in place of 2" % len(found)
+    """The documents that the help of `lint` shows must be accepted as they stand there, and counted once."""
+    found = help_documents(program)
+    if len(found) != 4:
+        yield "the help has %d documents in place of 4" % len(found)
         return
+    for network, traffic in (found[:2], found[2:]):
+        with tempfile.TemporaryDirectory() as folder:
+            write(folder, "network", network)
+            write(folder, "traffic", traffic)
+            said = printed_by(program, folder, "lint", "network", "traffic", "--words")
+            # Of the second traffic it is told that a class is exempt, and that one of its paths has no crossing.
+            if said != "ok\n" and (network is found[0] or said.split("\n")[0] != "ok"):
+                yield "printed %r of the documents in the help" % said
+            said = printed_by(program, folder, "audit", "network", "traffic")
+            if not said.startswith("once-certificate "):
+                yield "printed %r in an audit of the documents in the help" % said
+
+
+def help_example(program, command, heading="Example:"):
+    """The lines that the help of a command has below a heading."""
+    behind = help_of(program, command).split("\n%s\n" % heading, 1)[1].split("\n\n", 1)[0]
+    return "".join(line[2:] + "\n" for line in behind.splitlines())
+
+
+def two_packets():
+    """A capture of raw IP: two packets from 10.0.0.1, of 80 octets each."""
+    packet = struct.pack(">BBHHHBBH", 0x45, 0, 80, 0, 0, 64, 17, 0)
+    packet += socket.inet_aton("10.0.0.1") + socket.inet_aton("192.0.2.1") + struct.pack(">HHHH", 5353, 53, 60, 0) + bytes(52)
+    record = struct.pack("<IIII", 1700000000, 0, len(packet), len(packet)) + packet
+    return struct.pack("<IHHiIII", 0xA1B2C3D4, 2, 4, 0, 0, 65535, 101) + record * 2
+
+
+TOTALS_OF_RUN = "keys 1\n10.0.0.1 packets 2 octets 1580\nunassigned 0\ncomplete yes\n"
+TOTALS_OF_CAPTURE = "keys 1\n10.0.0.1 packets 2 octets 160\nunassigned 0\nskipped other 0 malformed 0\n"
+REFUTED = "refuted\nrun\nkeys 0\nunassigned 0\nplain\nkeys 1\n10.0.0.1 packets 1 octets 1500\nunassigned 0\n"
+
+
+def faults_of_help_lines(program):
+    """The lines that the helps show must be taken with the first documents of the help of `lint`."""
+    network, traffic = help_documents(program)[:2]
+    unlinked = json.dumps({**json.loads(network), "links": []})
+    totals = help_example(program, "sum", "Example of totals:")
     with tempfile.TemporaryDirectory() as folder:
-        for name, text in zip(("network", "traffic"), found):
-            with open(os.path.join(folder, name), "w", encoding="utf-8") as file:
-                file.write(text)
-        words = [program, "lint", "network", "traffic", "--words"]
-        run = subprocess.run(words, cwd=folder, stdout=subprocess.PIPE, timeout=60)
-    if run.stdout != b"ok\n":
-        yield "printed %r of the documents in the help" % run.stdout
+        for name, text in (("network", network), ("unlinked", unlinked), ("traffic", traffic), ("capture", two_packets())):
+            write(folder, name, text)
+        for words, text, wanted in (
+            (("check", "network", "traffic"), help_example(program, "check", "Example of a certificate:"), "yes\n"),
+            (("confirm", "unlinked", "traffic"), help_example(program, "confirm", "Example of a refutation:"), REFUTED),
+            (("replay", "network", "traffic"), help_example(program, "replay", "Example of a run:"), TOTALS_OF_RUN),
+            (("run", "network", "traffic", "capture"), help_example(program, "run", "Example of a schedule:"), TOTALS_OF_CAPTURE),
+            (("sum", "network"), totals, totals),
+        ):
+            write(folder, "lines", text)
+            said = printed_by(program, folder, *words, "lines")
+            if said != wanted:
+                yield "%s printed %r of the lines in its help, in place of %r" % (words[0], said, wanted)
+
+
+def faults_of_help_commands(program):
+    """The lines for a shell of the program's own help and of that of `sum` must do what they say."""
+    network, traffic = help_documents(program)[:2]
+    stream = rows.octets_of(os.path.join(rows.ROWS, "stream-of-two-messages"), "stream.ipfix")
+    bundled = [line for line in help_of(program).splitlines() if line.startswith("  (echo audit")]
+    with tempfile.TemporaryDirectory() as folder:
+        os.symlink(program, os.path.join(folder, "once"))
+        os.mkdir(os.path.join(folder, "streams"))
+        write(folder, "network.json", network.rstrip())
+        write(folder, "traffic.json", traffic.rstrip())
+        for name, octets in (("one", stream), ("the other", stream), ("cut", stream[:-1])):
+            write(folder, "streams/" + name, octets)
+        wanted = "keys 1\n10.0.0.1 packets 6 octets 1200\nunassigned 0\ngaps 0\nskipped 0\n"
+        for lines, wanted in (
+            ("".join(bundled), "once-certificate 1\nclass 1 path 1\nL 1 1 1\nend\n"),
+            (help_example(program, "sum"), wanted),
+        ):
+            run = subprocess.run(
+                ["sh", "-c", lines], cwd=folder, env={**os.environ, "PATH": folder + ":" + os.environ["PATH"]},
+                stdout=subprocess.PIPE, stderr=subprocess.PIPE, timeout=60,
+            )
+            if run.stdout.decode() != wanted or run.stderr:
+                yield "%r printed %r and %r in place of %r" % (lines, run.stdout, run.stderr, wanted)
+        if os.listdir(os.path.join(folder, "refused")) != ["cut"]:
+            yield "the stream that is refused isn't kept apart"
 
 
 def faults_of_links_over_input(program):
@@ -192,7 +293,10 @@ def cases(program):
     yield "pipe", faults_of_pipe(program)
     yield "directory", faults_of_directory(program)
     yield "closed input", faults_of_closed_input(program)
+    yield "width of the help", faults_of_width(program)
     yield "documents in the help", faults_of_help_documents(program)
+    yield "lines in the helps", faults_of_help_lines(program)
+    yield "commands in the helps", faults_of_help_commands(program)
     yield "links over input", faults_of_links_over_input(program)
 
 

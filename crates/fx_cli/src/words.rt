@@ -306,7 +306,7 @@ fn lint_command<'a>(alloc: Global) -> Result<Command<'a>, AllocError>
     let command = network_command(
         alloc,
         "lint",
-        "Says whether a network document, and a traffic declaration, have a fault, and which comes first",
+        "Says whether a network document, and its traffic, have a fault, and which comes first",
         help_text::LINT,
     )?;
     with_choice(alloc, command, "TRAFFIC", "The traffic declaration (JSON)")
