@@ -1,9 +1,10 @@
 //! The values that packets have under a layout.
-ghost use Rattle.std.specs.Prelude.{◌≡◌, ◌↔◌, ℕ, ◌-◌, ◌/◌, ◌^◌, ◌<◌, ◌≤◌, ◌&&◌, Bool, true, IfSome, is_some, length, bytes_eq};
+ghost use Rattle.std.specs.Prelude.{◌≡◌, ◌↔◌, ℕ, ◌-◌, ◌/◌, ◌^◌, ◌<◌, ◌≤◌, ◌&&◌, Bool, true, false, IfSome, is_some, length, bytes_eq};
 ghost use Rattle.fx_layout.specs.Keys as keys;
 ghost use Rattle.fx_elements.specs.Axes as axes;
 
 use crate::layout::{Layout, Part};
+use crate::values::Values;
 use arrayvec::ArrayVec;
 use fx_boxes::Fields;
 use fx_elements::{AXES, Axis, width};
@@ -165,6 +166,24 @@ impl Key {
             layout: layout.copy(),
             values,
         })
+    }
+
+    /// Projects the values of the key alone: under a coarser layout `values` become those of the key that
+    /// [`project`](Key::project) answers. False, and they stay, where its own layout doesn't refine that.
+    pub fn project_values(&self, layout: &Layout, values: &mut Values) -> bool
+        ensures exact { result ≡ keys.refines self.now.layout layout.now }
+        ensures value { result ≡ true → values.new ≡ (keys.project self.now layout.now).values }
+        ensures bits { result ≡ true → keys.HasBits layout.now values.new }
+        ensures same { result ≡ false → values.new ≡ values.old }
+    {
+        if !self.layout.refines(layout) {
+            return false;
+        }
+        values.items.clear();
+        for part in layout.parts() {
+            values.items.push(self.bits_on(part.axis, part.bits));
+        }
+        true
     }
 }
 

@@ -1,5 +1,5 @@
 //! The values of a key by themselves, to look keys of one layout up and to order them.
-ghost use Rattle.std.specs.Prelude.{◌≡◌, length, ◌≤◌, Some, nat_eq, refl};
+ghost use Rattle.std.specs.Prelude.{◌≡◌, [], length, ◌≤◌, Some, nat_eq, refl};
 ghost use Rattle.std.specs.Ordering.{nat_cmp};
 ghost use Rattle.std.specs.Cmp.{on_equiv, on_total, on_po, on_per, partial_equiv_from_equiv};
 ghost use Rattle.std.specs.Cmp.Lexicographic.{pointwise, slice_cmp, nat_list_eq_equiv, nat_list_cmp_total, texts_po, texts_ties};
@@ -18,7 +18,7 @@ use std::marker::Model;
 /// by the first value that differs, in axis order.
 #[derive(Debug, Drop)]
 pub struct Values {
-    items: ArrayVec<u128, AXES>,
+    pub(crate) items: ArrayVec<u128, AXES>,
 }
 
 impl Model for Values {
@@ -30,6 +30,15 @@ impl Model for Values {
 }
 
 impl Values {
+    /// No values.
+    pub fn new() -> Values
+        ensures { result ≡ [] }
+    {
+        Values {
+            items: ArrayVec::new(),
+        }
+    }
+
     /// The values of the key.
     pub fn of(key: &Key) -> Values
         ensures { result ≡ key.now.values }

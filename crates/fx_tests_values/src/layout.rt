@@ -1,7 +1,7 @@
 //! Layouts in the order of the axes, and keys that are projected.
 use fx_boxes::Fields;
 use fx_elements::Axis;
-use fx_layout::{Key, Layout, Seed};
+use fx_layout::{Key, Layout, Seed, Values};
 use std::hash::{BuildHasher, Hasher};
 
 /// A packet from 10.1.2.3 to 192.0.2.1.
@@ -75,6 +75,19 @@ fn is_projected(key: &Key, coarse: &Layout, fine: &Layout) -> bool {
         Some(projected) => is_whole & is_coarse_key(projected, coarse, fine),
         None => false,
     }
+}
+
+/// Whether the values of a key under a layout are these.
+fn has_values_under(key: &Key, layout: &Layout, values: &[u128]) -> bool {
+    let mut found = Values::new();
+    key.project_values(layout, &mut found) & (found.as_slice() == values)
+}
+
+#[test]
+fn projects_the_values_of_a_key(rt: HostRuntime) {
+    let fine = source_layout(24).expect(&rt, "a layout");
+    let coarse = source_layout(16).expect(&rt, "a layout");
+    assert!(rt; has_values_under(&fine.key_of(&web_packet()), &coarse, &[0x0a01]));
 }
 
 #[test]
