@@ -1,8 +1,6 @@
 //! What a collector has counted under each key.
 ghost use Rattle.std.specs.Prelude.{◌≡◌, ℕ, ◌+◌, ◌%◌, ◌^◌, None, Some, IsPermutation, IfOk, IfErr, OnOk, length};
 ghost use Rattle.fx_base.specs.Fault.{IsMemory};
-ghost use Rattle.fx_layout.specs.Keys.{HasBits};
-ghost use Rattle.fx_machine.specs.States.{add_at};
 ghost use Rattle.fx_machine.specs.Sums.{total_at};
 ghost use Rattle.fx_collect.specs.Totals.{nothing, with_record, with_records, with_unassigned, totals_of};
 ghost use Rattle.fx_collect.specs.Report.{KeysAscend};
@@ -53,27 +51,6 @@ impl Totals {
         })
     }
 
-    /// Adds the counts at the values of a key.
-    fn add(&mut self, values: Values, counts: &Counts) -> Result<(), Fault>
-        requires { HasBits self.old.layout values }
-        ensures ok { OnOk result (self.new ≡ record self.old {
-          entries = add_at self.old.entries
-              (record { layout = self.old.layout; values = values }) counts.now;
-        }) }
-        ensures err { IfErr result (λ e. IsMemory e × (self.new ≡ self.old)) }
-    {
-        match self.counts.get_index_of(&values) {
-            Some(place) => {
-                let total = &mut self.counts[place];
-                *total = total.add(counts);
-            }
-            None => {
-                self.counts.insert(values, *counts)?;
-            }
-        }
-        Ok(())
-    }
-
     /// Adds the record's counts at its key under the layout of these totals. A record whose layout doesn't
     /// refine that is counted as unassigned, modulo 2 to the 64.
     ///
@@ -82,13 +59,21 @@ impl Totals {
         ensures ok { OnOk result (self.new ≡ with_record self.old entry.now) }
         ensures err { IfErr result (λ e. IsMemory e × (self.new ≡ self.old)) }
     {
-        match entry.key.project(&self.layout) {
-            Some(key) => self.add(Values::of(&key), &entry.counts),
+        let mut values = Values::new();
+        if !entry.key.project_values(&self.layout, &mut values) {
+            self.unassigned = self.unassigned.wrapping_add(1);
+            return Ok(());
+        }
+        match self.counts.get_index_of(&values) {
+            Some(place) => {
+                let total = &mut self.counts[place];
+                *total = total.add(&entry.counts);
+            }
             None => {
-                self.unassigned = self.unassigned.wrapping_add(1);
-                Ok(())
+                self.counts.insert(values, entry.counts)?;
             }
         }
+        Ok(())
     }
 
     /// Counts so many records more that had no key under the layout, modulo 2 to the 64.
