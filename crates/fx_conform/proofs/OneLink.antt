@@ -3,13 +3,13 @@ use Rattle.std.proofs.Common.{◌≡◌, ℕ, ◌+◌, ◌^◌, ◌<◌, ◌≤�
 use Rattle.std.specs.List.{AllByRecursion}
 use Rattle.std.proofs.lemmas.List.{take-append-drop}
 use Rattle.fx_tables.specs.declared.record.Record.{Record}
-use Rattle.fx_session.specs.Streams.{SessionState, start, after_piece, behind}
+use Rattle.fx_session.specs.Streams.{SessionState, start, after_piece, behind, without_waiting}
 use Rattle.fx_session.proofs.StreamSteps.{pieces, after_piece-on, all_none}
 use Rattle.fx_session.proofs.InFront.{after_piece-behind}
 use Rattle.fx_link.specs.Sending.{Sender, IsSent, KeepsUp, layout_of, knows, joins, after_batch, after_sent, sent_octets, has_room_for}
 use Rattle.fx_link.specs.Outgoing.{Outgoing, after_flush, with_one, with_all}
 use Rattle.fx_link.specs.Ongoing.{Ongoing, at_rest, to_put, after_finish, after_carry}
-use Rattle.fx_link.specs.Wires.{Wire, new_wire, on_link, without_waiting, sent_on, InStep}
+use Rattle.fx_link.specs.Wires.{Wire, new_wire, on_link, sent_on, InStep}
 use Rattle.fx_link.proofs.FlushedMessages.{flushes_are_sent}
 use Rattle.fx_link.proofs.StreamTrip.{records_back}
 use Rattle.fx_link.proofs.WireTrip.{sending_adds, putting_sends, new_in_step}

@@ -3,11 +3,11 @@ use Rattle.std.proofs.Common.{arith, ◌≡◌, ℕ, suc, ◌+◌, ◌^◌, ◌<
 use Rattle.std.specs.List.{AllByRecursion}
 use Rattle.std.proofs.lemmas.List.{take-append-drop, append-nil}
 use Rattle.fx_tables.specs.declared.record.Record.{Record}
-use Rattle.fx_session.specs.Streams.{SessionState, start, after_piece, behind}
+use Rattle.fx_session.specs.Streams.{SessionState, start, after_piece, behind, without_waiting}
 use Rattle.fx_session.proofs.StreamSteps.{pieces, after_piece-on, all_none}
 use Rattle.fx_session.proofs.InFront.{after_piece-behind}
 use Rattle.fx_link.specs.Sending.{IsSent, KeepsUp, after_sent, sent_octets}
-use Rattle.fx_link.specs.Wires.{Wire, new_wire, on_link, without_waiting, after_octets, sent_on, InStep}
+use Rattle.fx_link.specs.Wires.{Wire, new_wire, on_link, after_octets, sent_on, InStep}
 use Rattle.fx_link.specs.Outgoing.{Outgoing, with_all}
 use Rattle.fx_link.specs.Ongoing.{Ongoing, at_rest, after_finish}
 use Rattle.fx_link.proofs.FlushedMessages.{flushes_are_sent}

@@ -2,7 +2,7 @@
 use Rattle.std.specs.Prelude.{◌≡◌, ℕ, zero, suc, ◌+◌, ◌^◌, ◌<◌, List, [], ◌++◌, length, take, drop}
 use Rattle.std.specs.List.{AllByRecursion}
 use Rattle.fx_tables.specs.declared.record.Record.{Record}
-use Rattle.fx_session.specs.Streams.{SessionState, start, after_piece}
+use Rattle.fx_session.specs.Streams.{SessionState, start, after_piece, without_waiting}
 use Rattle.fx_link.specs.Sending.{Sender, new_sender, IsSender, IsSent, KeepsUp, sent_octets, after_sent}
 
 -- a link: what its sender keeps, the octets that haven't been carried yet, and what its receiver has read
@@ -18,10 +18,6 @@ new_wire = record { sender = new_sender; queue = []; receiver = start }
 -- the records on a link: those that the receiver would read, were all octets carried
 abbrev pub on_link : Wire → List Record
 on_link wire = (after_piece wire.receiver wire.queue).known.waiting
-
--- what has been read leaves
-abbrev pub without_waiting : SessionState → SessionState
-without_waiting st = record st { known = record st.known { waiting = [] } }
 
 -- so many octets reach the receiver, and all records that were read are handled
 abbrev pub after_octets : ℕ → Wire → Wire

@@ -74,6 +74,13 @@ ReadsAll old place octets new later = read_all old place octets ≡ waits new la
 abbrev pub Starves : SessionState → List ℕ → SessionState → Type 0
 Starves old piece new = (count : ℕ) × (read : Known) × (ReadsAll old.known old.place (take count (old.rest ++ piece)) read new.place) × (new ≡ fails read new.place faults.OutOfMemory)
 
+-- the records that wait leave
+abbrev pub known_without_waiting : Known → Known
+known_without_waiting k = record { domains = k.domains; waiting = []; gaps = k.gaps; skipped = k.skipped }
+
+abbrev pub without_waiting : SessionState → SessionState
+without_waiting st = record { known = known_without_waiting st.known; place = st.place; rest = st.rest; fault = st.fault }
+
 -- ---- what the code keeps
 
 abbrev pub rest_of : List ℕ → ℕ → Option StreamFault → List ℕ

@@ -1,5 +1,5 @@
 //! What a session knows.
-ghost use Rattle.std.specs.Prelude.{◌≡◌, ◌≢◌, ◌+◌, ◌%◌, ◌^◌, [], ◌∷◌, Ok, Err, OnErr, Some, None};
+ghost use Rattle.std.specs.Prelude.{◌≡◌, ◌≢◌, ◌+◌, ◌++◌, ◌%◌, ◌^◌, [], ◌∷◌, Ok, Err, OnErr, Some, None};
 ghost use Rattle.fx_session.specs.Calls.{Does, Grows};
 ghost use Rattle.fx_session.specs.Messages as messages;
 ghost use Rattle.fx_session.specs.Streams as streams;
@@ -146,6 +146,20 @@ impl Known {
         ensures { streams.FirstLeaves self.old self.new result }
     {
         self.taken.next()
+    }
+
+    /// The records that wait, in order: those of the first slice, and then those of the second.
+    pub fn records(&self) -> (&[Record], &[Record])
+        ensures { self.now.waiting ≡ result.0.now ++ result.1.now }
+    {
+        self.taken.records()
+    }
+
+    /// All records that wait are let go.
+    pub fn clear_records(&mut self)
+        ensures { self.new ≡ streams.known_without_waiting self.old }
+    {
+        self.taken.clear();
     }
 
     /// The number of gaps, modulo 2 to the 64.

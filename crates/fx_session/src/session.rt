@@ -156,6 +156,20 @@ impl Session {
         self.known.next_record()
     }
 
+    /// The records that wait, in order: those of the first slice, and then those of the second.
+    pub fn records(&self) -> (&[Record], &[Record])
+        ensures { self.now.known.waiting ≡ result.0.now ++ result.1.now }
+    {
+        self.known.records()
+    }
+
+    /// All records that wait are let go.
+    pub fn clear_records(&mut self)
+        ensures { self.new ≡ streams.without_waiting self.old }
+    {
+        self.known.clear_records();
+    }
+
     /// How many messages had another sequence number than the one that came next in their domain, modulo 2 to the 64.
     pub fn gaps(&self) -> u64
         ensures { result ≡ self.now.known.gaps }

@@ -120,4 +120,22 @@ impl Taken {
     {
         self.waiting.pop_front()
     }
+
+    /// The records that wait, in order: those of the first slice, and then those of the second.
+    pub fn records(&self) -> (&[Record], &[Record])
+        ensures { self.now.waiting ≡ result.0.now ++ result.1.now }
+    {
+        self.waiting.as_slices()
+    }
+
+    /// All records that wait are let go.
+    pub fn clear(&mut self)
+        ensures { self.new ≡ record {
+          waiting = [];
+          skipped = self.old.skipped;
+          count = self.old.count;
+        } }
+    {
+        self.waiting.clear();
+    }
 }

@@ -196,6 +196,29 @@ fn reads_records_by_octet(rt: HostRuntime) {
     assert!(rt; waits_alone(&mut session, 0x0a00_0001, 1, 100));
 }
 
+/// The packets of all records.
+fn packets_of(records: &[Record]) -> u64 {
+    let mut packets = 0u64;
+    for record in records {
+        packets = packets.wrapping_add(record.counts.packets);
+    }
+    packets
+}
+
+/// The packets of the records that wait, which stay.
+fn packets_waiting(session: &Session) -> u64 {
+    let (first, second) = session.records();
+    packets_of(first).wrapping_add(packets_of(second))
+}
+
+#[test]
+fn lends_records_and_lets_them_go(rt: HostRuntime) {
+    let mut session = by_octet(&rt, rt.alloc(), &FIRST);
+    let lent = packets_waiting(&session);
+    session.clear_records();
+    assert!(rt; (lent == 2) & (packets_waiting(&session) == 0));
+}
+
 /// Whether the record of a message waits behind which a refused one came, and nothing is read from then on.
 fn keeps_before_a_fault(session: &mut Session, fault: &Fault) -> bool {
     answers::ends(session.feed(&FIRST), 0)
