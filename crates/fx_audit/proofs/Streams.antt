@@ -1,5 +1,5 @@
 -- A stream's records, taken out as they come.
-use Rattle.std.proofs.Common.{◌≡◌, ◌⊎◌, inl, inr, ℕ, ◌+◌, ◌<◌, ◌≤◌, List, [], ◌∷◌, ◌++◌, length, refl, sym, ap, subst, ◌∙◌, arith, append_assoc, Option, Some, None, Err, codes}
+use Rattle.std.proofs.Common.{◌≡◌, ◌⊎◌, inl, inr, ℕ, ◌+◌, ◌≤◌, List, [], ◌∷◌, ◌++◌, length, refl, sym, ap, subst, ◌∙◌, arith, append_assoc, Option, Some, None, Err, codes}
 use Rattle.std.proofs.lemmas.List.{append-nil, length-append}
 use Rattle.std.specs.Io.KnownBytes.{prepend_known}
 use Rattle.fx_base.proofs.GoingOn.{something_left}
@@ -12,28 +12,8 @@ use Rattle.fx_collect.specs.Report.{number_line}
 use Rattle.fx_collect.specs.Totals.{Totals, with_record, with_records}
 use Rattle.fx_session.proofs.InFront.{after_piece-behind}
 use Rattle.fx_session.proofs.StreamSteps.{all_none, after_piece-off, pieces}
-use Rattle.fx_session.specs.Streams.{IsNextRecord, SessionState, answer_of, behind, after_piece, start}
-use Rattle.fx_audit.specs.Streams.{IsTallied, without_waiting, stream_read}
-
--- ---- one record after another
-
-pub next_tallied : (t : Totals) (r : Record) (old new : SessionState) → IsNextRecord old new (Some r) → with_records (with_record t r) new.known.waiting ≡ with_records t old.known.waiting
-next_tallied t r old new e = ap (λ (st : SessionState). with_records t st.known.waiting) (sym e)
-
-pub next_without_waiting : (r : Record) (old new : SessionState) → IsNextRecord old new (Some r) → without_waiting new ≡ without_waiting old
-next_without_waiting r old new e = ap without_waiting (sym e)
-
-pub next_smaller : (r : Record) (old new : SessionState) → IsNextRecord old new (Some r) → length new.known.waiting < length old.known.waiting
-next_smaller r old new e = let d = ap (λ (st : SessionState). length st.known.waiting) e in omega (arith, d)
-
-pub none_tallied : (t : Totals) (old new : SessionState) → IsNextRecord old new None → t ≡ with_records t old.known.waiting
-none_tallied t old new h = ap (with_records t) (sym h.0)
-
--- a session in which no record waits
-pub none_waiting : (old new : SessionState) → IsNextRecord old new None → new ≡ without_waiting old
-none_waiting old new h = h.1 ∙ empty old h.0 where
-  empty : (st : SessionState) → st.known.waiting ≡ [] → st ≡ without_waiting st
-  empty st e = ap (λ (rs : List Record). let other : SessionState = record { known = record { domains = st.known.domains; waiting = rs; gaps = st.known.gaps; skipped = st.known.skipped }; place = st.place; rest = st.rest; fault = st.fault } in other) e
+use Rattle.fx_session.specs.Streams.{SessionState, answer_of, behind, after_piece, start, without_waiting}
+use Rattle.fx_audit.specs.Streams.{IsTallied, stream_read}
 
 -- ---- piece after piece
 

@@ -8,7 +8,7 @@ use Rattle.fx_collect.specs.Totals.{Totals, nothing, with_records}
 use Rattle.fx_collect.specs.Report.{KeysAscend, number_line, totals_text}
 use Rattle.fx_layout.specs.Keys.{Layout}
 use Rattle.fx_session.specs.Messages.{Known}
-use Rattle.fx_session.specs.Streams.{SessionState, answer_of, after_piece, start}
+use Rattle.fx_session.specs.Streams.{SessionState, answer_of, after_piece, start, without_waiting}
 
 -- what a session has read that is fed a whole stream
 abbrev pub stream_read : List ℕ → SessionState
@@ -38,15 +38,6 @@ abbrev pub IsStreamText : Layout → Known → List ℕ → Type 0
 IsStreamText layout k text = IsTotalsText (with_records (nothing layout) k.waiting) k.gaps k.skipped text
 
 -- ---- what is kept while a stream is read
-
--- no record waits any more
-abbrev pub without_waiting : SessionState → SessionState
-without_waiting st = record {
-  known = record { domains = st.known.domains; waiting = []; gaps = st.known.gaps; skipped = st.known.skipped };
-  place = st.place;
-  rest = st.rest;
-  fault = st.fault;
-}
 
 -- a session that has read these octets, and whose records were tallied
 pub record IsTallied (octets : List ℕ) (before : Totals) (session : SessionState) (totals : Totals) : Type 0 where

@@ -4,9 +4,10 @@ ghost use Rattle.fx_base.specs.Device.{MayHaveLeft, IsWriteFault};
 ghost use Rattle.fx_base.specs.Fault.{IsMemory};
 ghost use Rattle.fx_collect.specs.Totals.{with_records};
 ghost use Rattle.fx_session.specs.Streams as streams;
+ghost use Rattle.fx_session.specs.Streams.{without_waiting};
 ghost use Rattle.fx_audit.specs.Documents.{CannotRead};
 ghost use Rattle.fx_audit.specs.Outputs.{AnswersWith, FailsQuietly, Prints};
-ghost use Rattle.fx_audit.specs.Streams.{without_waiting, stream_read, IsRefusedStream, IsStreamText, IsTallied, IsTotalsText, EndsWithMessage};
+ghost use Rattle.fx_audit.specs.Streams.{stream_read, IsRefusedStream, IsStreamText, IsTallied, IsTotalsText, EndsWithMessage};
 ghost use Rattle.fx_audit.specs.Texts.{IsCollectText};
 ghost use Rattle.fx_audit.specs.declared.answer.Answer.TheVariants.{Yes};
 
@@ -24,9 +25,10 @@ fn tally_waiting(session: &mut Session, totals: &mut Totals) -> Result<(), Fault
     ensures session { OnOk result (session.new ≡ without_waiting session.old) }
     ensures err { IfErr result IsMemory }
 {
-    while let Some(entry) = session.next_record() {
-        totals.tally(&entry)?;
-    }
+    let (first, second) = session.records();
+    totals.tally_all(first)?;
+    totals.tally_all(second)?;
+    session.clear_records();
     Ok(())
 }
 

@@ -98,8 +98,8 @@ impl Totals {
         Ok(totals)
     }
 
-    /// Adds one record after another.
-    fn tally_all(&mut self, entries: &[Record]) -> Result<(), Fault>
+    /// Adds one record after another. Fails with 900, at no place, for want of memory.
+    pub fn tally_all(&mut self, entries: &[Record]) -> Result<(), Fault>
         ensures ok { OnOk result (self.new ≡ with_records self.old entries.now) }
         ensures err { IfErr result IsMemory }
     {

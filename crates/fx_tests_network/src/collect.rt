@@ -88,6 +88,23 @@ fn tells_all(rt: HostRuntime) {
     assert!(rt; tells_one(totals, key(&rt, 0x0a01_0203, 6), 3, 9, text));
 }
 
+/// A record of all packets.
+fn record_of_all(packets: u64, octets: u64) -> Record {
+    let counts = Counts { packets, octets };
+    Record {
+        key: key_of_all(),
+        counts,
+    }
+}
+
+#[test]
+fn tallies_records_in_turn(rt: HostRuntime) {
+    let mut totals = Totals::new(rt.alloc(), seed(), Layout::new()).expect(&rt, "memory");
+    let records = [record_of_all(1, 40), record_of_all(2, 80)];
+    let text = b"keys 1\nall packets 3 octets 120\nunassigned 0\n";
+    assert!(rt; ends(totals.tally_all(&records), 0) & is_text(&mut totals, text));
+}
+
 /// The version, 32 bits of the source and the destination.
 fn layout_of_ipv6(rt: &impl Abort) -> Layout {
     let layout = Layout::new().with(Axis::Version, 8).expect(rt, "version");

@@ -1,20 +1,12 @@
-use Rattle.std.proofs.Common.{◌∙◌, ap}
+-- The records of one slice and then those of the other are all that wait.
+use Rattle.std.proofs.Common.{◌∙◌, ap, sym}
 use Rattle.fx_collect.specs.Totals.{with_records}
-use Rattle.fx_audit.proofs.Streams.{next_tallied, next_without_waiting, next_smaller, none_tallied, none_waiting}
+use Rattle.fx_audit.proofs.Streams.{with_more}
 use Rattle.fx_audit.proofs.collecting.tally_waiting.Goals as goal
 
-pub loop-entry-smaller : goal.loop-entry-smaller
-loop-entry-smaller c = next_smaller c.in-Some.entry c.loop-entry.session c.next_record.new.self c.in-Some.ensures
-
-pub loop-entry-preserved : goal.loop-entry-preserved
-loop-entry-preserved c = record {
-  totals = ap (λ t. with_records t c.next_record.new.self.known.waiting) c.in_ok-tally.ensures.ok
-      ∙ next_tallied c.loop-entry.totals c.in-Some.entry c.loop-entry.session c.next_record.new.self c.in-Some.ensures ∙ c.loop-entry.invariant.totals;
-  session = next_without_waiting c.in-Some.entry c.loop-entry.session c.next_record.new.self c.in-Some.ensures ∙ c.loop-entry.invariant.session;
-}
-
 pub returns-clause-totals : goal.returns-clause-totals
-returns-clause-totals c = none_tallied c.loop-entry.totals c.loop-entry.session c.next_record.new.self c.in_default.ensures ∙ c.loop-entry.invariant.totals
-
-pub returns-clause-session : goal.returns-clause-session
-returns-clause-session c = none_waiting c.loop-entry.session c.next_record.new.self c.in_default.ensures ∙ c.loop-entry.invariant.session
+returns-clause-totals c =
+    let first = c.records.result.0.now in
+    let second = c.records.result.1.now in
+    c.in_ok-tally_all-2.ensures.ok ∙ ap (λ t. with_records t second) c.in_ok-tally_all.ensures.ok
+    ∙ sym (with_more c.args.totals.now first second) ∙ ap (with_records c.args.totals.now) (sym c.records.ensures)
