@@ -6,8 +6,13 @@ SHELL := /bin/bash
 .PHONY: help kit replay once test proofs run-wrong wrong rows examples run-rows run-examples pictures torture clean \
 	install uninstall deb manual
 
-# The libraries that the program stands on, lowest first, as crates.txt has them.
-LIBRARIES = $(shell sed -n 's/^\(fx_[a-z_]*\):.*/\1/p' crates.txt | grep -v '^fx_tests_')
+# The libraries that the program stands on, lowest first, and what each of them names, as crates.txt has them.
+LIBRARIES := $(shell sed -n 's/^\(fx_[a-z_]*\):.*/\1/p' crates.txt | grep -v '^fx_tests_\|^fx_callers$$')
+named_by = $(filter $(LIBRARIES),$(shell sed -n 's/^$(1)://p' crates.txt))
+
+# How many libraries `make once` proves at a time. These two are large, and are proved by as many processes each.
+JOBS ?= $(shell nproc)
+LARGE = fx_stories fx_cli
 
 # Prints what the part took when it ends.
 part = TIMEFORMAT='part $(1): %0R s, %0U and %0S s of processor time'; time
@@ -35,16 +40,24 @@ replay: kit
 	@cd crates/once && rt try < stdin
 	@echo 'This ran without proof. `make once` proves the program and builds it as ./once.'
 
-# The program, proved and built; each library keeps what it said in its out/said.
+# The program, proved and built.
 once: kit
-	@for crate in $(LIBRARIES); do \
-	  mkdir -p crates/$$crate/out; \
-	  (cd crates/$$crate && rt lib > out/said 2>&1) || { cat crates/$$crate/out/said; echo "$$crate: NOT PROVED"; exit 1; }; \
-	  echo "$$crate: proved"; \
-	done
+	@$(MAKE) --no-print-directory -j $(JOBS) $(LIBRARIES:%=prove-%)
 	@mkdir -p crates/once/out; cd crates/once && rt run < stdin > out/said 2>&1 || { cat out/said; exit 1; }
 	@ln -sf crates/once/out/once once
 	@echo 'once: proved and built as ./once'
+
+# A library is proved behind those that it names, and keeps what was said of it in its out/said.
+define proved
+prove-$(1): $(patsubst %,prove-%,$(call named_by,$(1)))
+	@mkdir -p crates/$(1)/out
+	@cd crates/$(1) && rt lib --jobs $(if $(filter $(1),$(LARGE)),$(JOBS),1) > out/said 2>&1 \
+	  || { cat out/said; echo "$(1): NOT PROVED"; exit 1; }
+	@echo "$(1): proved"
+
+.PHONY: prove-$(1)
+endef
+$(foreach library,$(LIBRARIES),$(eval $(call proved,$(library))))
 
 # The gate. Libraries that earlier checks left go first, so that the wrong bodies are tried over those that are proved here.
 test: kit
