@@ -98,6 +98,21 @@ impl Key {
         }
     }
 
+    /// The key with these values, one for each part of the layout.
+    pub fn of_values(layout: &Layout, values: &Values) -> Key
+        requires { keys.HasBits layout.now values.now }
+        ensures { result ≡ record { layout = layout.now; values = values.now } }
+    {
+        let mut items: ArrayVec<u128, AXES> = ArrayVec::new();
+        for value in values.items.as_slice() {
+            items.push(*value);
+        }
+        Key {
+            layout: layout.copy(),
+            values: items,
+        }
+    }
+
     /// The key's layout.
     pub fn layout(&self) -> &Layout
         ensures { result.now ≡ self.now.layout }

@@ -1,5 +1,5 @@
 //! The values of a key by themselves, to look keys of one layout up and to order them.
-ghost use Rattle.std.specs.Prelude.{◌≡◌, [], length, ◌≤◌, Some, nat_eq, refl};
+ghost use Rattle.std.specs.Prelude.{◌≡◌, [], length, ◌++◌, ◌∷◌, ◌<◌, ◌≤◌, Some, nat_eq, refl};
 ghost use Rattle.std.specs.Ordering.{nat_cmp};
 ghost use Rattle.std.specs.Cmp.{on_equiv, on_total, on_po, on_per, partial_equiv_from_equiv};
 ghost use Rattle.std.specs.Cmp.Lexicographic.{pointwise, slice_cmp, nat_list_eq_equiv, nat_list_cmp_total, texts_po, texts_ties};
@@ -48,6 +48,21 @@ impl Values {
             items.push(*value);
         }
         Values { items }
+    }
+
+    /// No values any more.
+    pub fn clear(&mut self)
+        ensures { self.new ≡ [] }
+    {
+        self.items.clear();
+    }
+
+    /// A value more, for which there has to be room: there are no more values than axes.
+    pub fn push(&mut self, value: u128)
+        requires { length self.old < AXES }
+        ensures { self.new ≡ self.old ++ value ∷ [] }
+    {
+        self.items.push(value);
     }
 
     /// The values, in axis order.

@@ -4,7 +4,7 @@ use Rattle.std.specs.List.{list_all, list_any}
 use Rattle.fx_elements.specs.declared.axis.Axis.{Axis}
 use Rattle.fx_elements.specs.declared.element.Element.{Element}
 use Rattle.fx_elements.specs.declared.element.Element.TheVariants.{OnAxis, OctetDeltaCount, PacketDeltaCount, Prefix}
-use Rattle.fx_elements.specs.Axes.{axis_index, axis_width}
+use Rattle.fx_elements.specs.Axes.{Fields, axis_index, axis_width}
 use Rattle.fx_layout.specs.Keys.{key_of}
 use Rattle.fx_tables.specs.declared.record.Record.{Record}
 use Rattle.fx_wire.specs.Fields.{element_of}
@@ -45,10 +45,14 @@ found_at octets axis None = None
 abbrev pub place_on : RecordPlaces → Axis → Option Place
 place_on places axis = slice_index_or places.values (axis_index axis) None
 
+-- what a record tells on each axis, 0 where it tells nothing
+abbrev pub told_by : RecordPlaces → List ℕ → Fields
+told_by places octets = fields_of (λ axis. found_at octets axis (place_on places axis))
+
 -- the flow record that is read at the places
 abbrev pub record_by : RecordPlaces → List ℕ → Record
 record_by places octets = record {
-  key = key_of places.layout (fields_of (λ axis. found_at octets axis (place_on places axis)));
+  key = key_of places.layout (told_by places octets);
   counts = record {
     packets = number_in (octets_at places.packets octets) % 2 ^ 64;
     octets = number_in (octets_at places.octets octets) % 2 ^ 64;

@@ -11,6 +11,7 @@ use crate::seen::{Seen, read_record};
 use crate::stream_fault::StreamFault;
 use crate::taken::Taken;
 use crate::template::Template;
+use fx_layout::Values;
 use fx_wire::cut_record;
 
 /// The data record at the front is taken; answers the octets behind it.
@@ -21,6 +22,7 @@ fn take_flow<'a>(
     template: &Template,
     seen: &mut Seen,
     last: &mut LastLayout,
+    values: &mut Values,
     taken: &mut Taken,
     octets: &'a [u8],
 ) -> Result<&'a [u8], StreamFault>
@@ -30,7 +32,7 @@ fn take_flow<'a>(
     ensures grows { Grows taken.old.waiting taken.new.waiting }
 {
     if let Some(places) = template.places() {
-        taken.take(Some(places.record_in(octets)))?;
+        taken.add(places.record_in(octets, values))?;
         return Ok(octets.split_at(template.shortest()).1);
     }
     let rest = read_record(seen, template, octets).ok_or(StreamFault::CutRecord)?;
@@ -53,9 +55,10 @@ pub(crate) fn take_flows(
     let shortest = template.shortest();
     let mut seen = Seen::new();
     let mut last = LastLayout::new();
+    let mut values = Values::new();
     let mut rest = octets;
     while rest.len() >= shortest {
-        rest = take_flow(template, &mut seen, &mut last, taken, rest)?;
+        rest = take_flow(template, &mut seen, &mut last, &mut values, taken, rest)?;
     }
     Ok(())
 }

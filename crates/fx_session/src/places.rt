@@ -3,6 +3,7 @@ ghost use Rattle.std.specs.Prelude.{◌≡◌, ◌≤◌, ◌<◌, ℕ, List, ma
 ghost use Rattle.std.specs.List.{list_any};
 ghost use Rattle.fx_elements.specs.declared.axis.Axis as of_axis;
 ghost use Rattle.fx_elements.specs.Axes.{axis_index, axis_width};
+ghost use Rattle.fx_layout.specs.Keys as keys;
 ghost use Rattle.fx_wire.specs.Fields.{element_of};
 ghost use Rattle.fx_session.specs.Flows as flows;
 ghost use Rattle.fx_session.specs.Parts as parts;
@@ -11,9 +12,8 @@ ghost use Rattle.fx_session.specs.Places as placed;
 use crate::key::{Leading, layout_of, value_of};
 use crate::number::number_in;
 use fx_base::Counts;
-use fx_boxes::Fields;
 use fx_elements::{AXES, EVERY_AXIS, Element, width};
-use fx_layout::Layout;
+use fx_layout::{Key, Layout, Values, leading_bits};
 use fx_tables::Record;
 use fx_wire::{FieldSpecifier, VARIABLE};
 
@@ -153,28 +153,32 @@ impl RecordPlaces {
         })
     }
 
-    /// The value on each axis that a record tells, 0 where it tells none.
-    fn fields_at(&self, octets: &[u8]) -> Fields
+    /// The values of a record's key take the place of the others.
+    fn read_values(&self, octets: &[u8], values: &mut Values)
         requires { placed.ArePlacesIn (length octets.now) self.now }
-        ensures { result ≡ flows.fields_of
-            (λ axis. placed.found_at octets.now axis (placed.place_on self.now axis)) }
+        ensures key { values.new ≡ (keys.key_of self.now.layout
+            (placed.told_by self.now octets.now)).values }
+        ensures bits { keys.HasBits self.now.layout values.new }
     {
-        let mut values = [0; AXES];
-        for k in 0..AXES {
-            values[k] = value_at(k, self.values[k], octets);
+        values.clear();
+        for part in self.layout.parts() {
+            let k = part.axis.index();
+            let value = value_at(k, self.values[k], octets);
+            values.push(leading_bits(width(part.axis), part.bits, value));
         }
-        Fields::of(values)
     }
 
-    /// The flow record at the front of the octets.
-    pub fn record_in(&self, octets: &[u8]) -> Record
+    /// The flow record at the front of the octets. The values of its key are put together where those of the record
+    /// before were.
+    pub fn record_in(&self, octets: &[u8], values: &mut Values) -> Record
         requires { placed.ArePlacesIn (length octets.now) self.now }
         ensures { result ≡ placed.record_by self.now octets.now }
     {
+        self.read_values(octets, values);
         let packets = number_in(&octets[self.packets.start..self.packets.end]);
         let total = number_in(&octets[self.octets.start..self.octets.end]);
         Record {
-            key: self.layout.key_of(&self.fields_at(octets)),
+            key: Key::of_values(&self.layout, values),
             counts: Counts {
                 packets: (packets % (1u128 << 64)) as u64,
                 octets: (total % (1u128 << 64)) as u64,

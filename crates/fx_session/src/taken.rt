@@ -53,6 +53,19 @@ impl Taken {
         self.count = 0;
     }
 
+    /// A data record whose flow record waits.
+    ///
+    /// Fails for want of memory, and then nothing is taken.
+    pub fn add(&mut self, flow: Record) -> Result<(), AllocError>
+        ensures ok { OnOk result (self.new ≡ sets.with_flow self.old (Some flow)) }
+        ensures same { OnErr result (self.new ≡ self.old) }
+        ensures grows { Grows self.old.waiting self.new.waiting }
+    {
+        self.waiting.push_back(flow)?;
+        self.pass();
+        Ok(())
+    }
+
     /// A data record whose flow record waits, or that is skipped.
     ///
     /// Fails for want of memory, and then nothing is taken.
@@ -62,11 +75,13 @@ impl Taken {
         ensures grows { Grows self.old.waiting self.new.waiting }
     {
         match flow {
-            Some(entry) => self.waiting.push_back(entry)?,
-            None => self.skipped = self.skipped.wrapping_add(1),
+            Some(flow) => self.add(flow),
+            None => {
+                self.skipped = self.skipped.wrapping_add(1);
+                self.pass();
+                Ok(())
+            }
         }
-        self.pass();
-        Ok(())
     }
 
     /// A data record that isn't read.

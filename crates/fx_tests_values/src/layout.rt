@@ -91,6 +91,22 @@ fn projects_the_values_of_a_key(rt: HostRuntime) {
 }
 
 #[test]
+fn makes_the_key_of_values(rt: HostRuntime) {
+    let layout = Layout::new();
+    let key = Key::of_values(&layout, &Values::new());
+    assert!(rt; key.same(&layout.key_of(&web_packet())));
+}
+
+#[test]
+fn keeps_the_values_since_they_were_cleared(rt: HostRuntime) {
+    let mut values = Values::new();
+    values.push(7);
+    values.clear();
+    values.push(9);
+    assert!(rt; values.as_slice() == [9].as_slice());
+}
+
+#[test]
 fn projects_a_key(rt: HostRuntime) {
     let fine = source_layout(24).expect(&rt, "a layout");
     let coarse = source_layout(16).expect(&rt, "a layout");

@@ -8,4 +8,4 @@ record_in-requires c = places_within c.args.template.now.fields c.in-Some.places
 pub returns-in-Some-clause-done : goal.returns-in-Some-clause-done
 returns-in-Some-clause-done c =
     let read = flow_record-places c.args.template.now.fields c.in-Some.places.now c.args.taken.now c.args.octets.now c.in-Some.ensures c.requires in
-    cc (read, c.record_in.ensures, c.in_ok-take.ensures.ok, c.shortest.ensures.value, c.split_at.ensures.back)
+    cc (read, c.record_in.ensures, c.in_ok-add.ensures.ok, c.shortest.ensures.value, c.split_at.ensures.back)
