@@ -114,6 +114,7 @@ run-rows:
 	python3 tests/addresses.py ./once
 	python3 tests/carried_in_pieces.py ./once
 	python3 tests/link_octets.py ./once
+	python3 bench/instructions.py ./once --noted docs/SPEED.md
 
 # Replays the runs of the examples, checks their certificates, confirms their refutations and meters their captures, and
 # compares with what they should print; then has what an audit of each answers judged.

@@ -14,11 +14,13 @@ the units that it has more, so that the start and the reading of documents don't
   audit     a line of a certificate that is found, 125 filters that are split apart: 20 and 40 paths
   run       a packet of a capture that a meter with a timeout cache counts: 20,000 and 40,000 packets of 1,000 flows
 
-It needs valgrind (Debian's package) on the PATH.
+It needs valgrind (Debian's package) on the PATH. Where that isn't there, the comparison with a page says so, and passes:
+the gate makes it.
 """
 import argparse
 import os
 import re
+import shutil
 import subprocess
 import sys
 import tempfile
@@ -117,6 +119,9 @@ def main(words):
     parser.add_argument("--noted")
     parser.add_argument("--most", type=float, default=1.10)
     words, dear = parser.parse_args(words), []
+    if words.noted and not shutil.which("valgrind"):
+        print("instructions: valgrind isn't on the PATH, so nothing was counted")
+        return 0
     with tempfile.TemporaryDirectory() as work:
         inputs = {name: (make(work, size), make(work, 2 * size)) for name, (make, size) in KINDS.items()}
         before = befores(words, inputs)
