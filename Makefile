@@ -33,7 +33,7 @@ help:
 	@echo 'make clean             removes what was built'
 
 kit:
-	@command -v rt >/dev/null || { echo "rt not found: install the Rattle kit (rattle-kit-13f) and put its bin/ folder on the PATH"; exit 2; }
+	@command -v rt >/dev/null || { echo "rt not found: install the Rattle kit (rattle-kit-13b) and put its bin/ folder on the PATH"; exit 2; }
 
 # Runs the program on the stored bundle, a run of two packets through one meter and one collector, before any proof.
 replay: kit

@@ -1,7 +1,7 @@
 //! The texts of help: what clap doesn't say by itself of the program and of each command.
 
 /// The program's name for its version, and the toolchain that it is proved with.
-pub const VERSION: &str = "1.0.0 (rattle-kit-13f)";
+pub const VERSION: &str = "1.0.0 (rattle-kit-13b)";
 
 /// Behind the list of commands.
 pub const PROGRAM: &str = "\
