@@ -121,7 +121,11 @@ fn names_of(device: &NetworkDevice, holder: HolderName) -> &[Name] {
 }
 
 /// The aggregation of this number of a collecting process.
-fn aggregation_at(device: &NetworkDevice, process: u64, number: u64) -> Option<&Aggregation> {
+pub(crate) fn aggregation_at(
+    device: &NetworkDevice,
+    process: u64,
+    number: u64,
+) -> Option<&Aggregation> {
     let process = entry_numbered(device.config.collecting_processes.as_slice(), process)?;
     entry_numbered(process.aggregations.as_slice(), number)
 }

@@ -1,69 +1,175 @@
 //! What becomes of records behind the devices at which a path's packets are metered.
 use crate::holders::leads_to_report;
-use crate::matches::tell_matches;
-use crate::names::entry_named;
+use crate::lacking::Arriving;
+use crate::matches::{Taken, tell_untaken};
 use crate::sending::{tell_end, tell_sending};
 use crate::story::Story;
 use fx_base::{Name, entry_at, entry_numbered};
 use fx_boxes::Region;
 use fx_config::{Aggregation, CollectingProcess};
+use fx_leaf::{Overlap, selection_overlap};
 use fx_plan::Plan;
-use fx_tables::Crossing;
+use fx_tables::{Crossing, HolderName, Point};
 use fx_topology::{NamedLink, NetworkDevice};
+use fx_walk::place_of;
 
-/// How many collecting processes are told.
+/// How many ways to collecting processes are told.
 const TOLD: usize = 64;
 
-/// Links that lead to different collecting processes, by their places, as many as are told.
+/// Ways by which records come to different collecting processes, or with different keys, as many as are told.
 #[derive(Drop)]
 struct Found<'a> {
-    links: &'a [NamedLink],
+    plan: &'a Plan,
+    /// The places of their links.
     places: [usize; TOLD],
+    /// The cache or the aggregation that the records of each left last.
+    holders: [HolderName; TOLD],
     count: usize,
 }
 
+/// Whether two links lead to the same collecting process.
+fn is_same_end(one: &NamedLink, other: &NamedLink) -> bool {
+    one.to_device == other.to_device && one.to_process == other.to_process
+}
+
+/// Whether the records of two caches or aggregations have the same key.
+fn is_same_key(plan: &Plan, one: HolderName, other: HolderName) -> bool {
+    let net = plan.net();
+    match (net.holder_place(one), net.holder_place(other)) {
+        (Some(one), Some(other)) => net.layout_at(one).same(&net.layout_at(other)),
+        _ => false,
+    }
+}
+
 impl Found<'_> {
-    /// Whether one of the links leads to the collecting process of this link.
-    fn leads_to(&self, link: &NamedLink) -> bool {
-        self.places
-            .iter()
-            .take(self.count)
-            .any(|place| match entry_at(self.links, *place) {
-                Some(other) => other.to_device == link.to_device
-                    && other.to_process == link.to_process,
-                None => false,
-            })
+    /// Whether the way at a place leads to the collecting process of a link.
+    fn ends_at(&self, place: usize, link: &NamedLink) -> bool {
+        let links = self.plan.network().links.as_slice();
+        match entry_at(links, place) {
+            Some(other) => is_same_end(other, link),
+            None => false,
+        }
     }
 
-    /// Adds the link at a place, unless one leads to its collecting process.
-    fn add(&mut self, place: usize, link: &NamedLink) {
-        if self.count < TOLD && !self.leads_to(link) {
+    /// Whether one of the first so many ways leads to the collecting process of a link.
+    fn has_end(&self, link: &NamedLink, before: usize) -> bool {
+        self.places
+            .iter()
+            .take(before)
+            .any(|place| self.ends_at(*place, link))
+    }
+
+    /// Whether records with the same key come to the collecting process of a link already.
+    fn has(&self, link: &NamedLink, holder: HolderName) -> bool {
+        for known in 0..TOLD {
+            if known < self.count
+                && self.ends_at(self.places[known], link)
+                && is_same_key(self.plan, self.holders[known], holder)
+            {
+                return true;
+            }
+        }
+        false
+    }
+
+    /// Adds the link at a place, by which records of a cache or an aggregation come.
+    fn add(&mut self, place: usize, link: &NamedLink, holder: HolderName) {
+        if self.count < TOLD && !self.has(link, holder) {
             self.places[self.count] = place;
+            self.holders[self.count] = holder;
             self.count += 1;
         }
     }
 }
 
-/// Adds the links by which exporting processes of a device send.
-fn add_links(found: &mut Found<'_>, device: &NetworkDevice, exporters: &[Name]) {
-    let links = found.links;
+/// Adds the links by which exporting processes of a device send the records of a cache or an aggregation.
+fn add_links(
+    found: &mut Found<'_>,
+    device: &NetworkDevice,
+    exporters: &[Name],
+    holder: HolderName,
+) {
+    let links = found.plan.network().links.as_slice();
     for place in 0..links.len() {
         let link = &links[place];
         if link.device == device.name
             && exporters.iter().any(|name| *name == link.exporting_process)
         {
-            found.add(place, link);
+            found.add(place, link, holder);
         }
     }
 }
 
-/// Adds the links by which the caches of a crossing's device send.
-fn add_first(found: &mut Found<'_>, plan: &Plan, crossing: &Crossing) {
-    let devices = plan.network().devices.as_slice();
-    if let Some(device) = entry_numbered(devices, crossing.device) {
-        for cache in device.config.caches.as_slice() {
-            add_links(found, device, cache.exporting_processes.as_slice());
+/// Whether a point hands packets of a region to the cache at a place of the network's table.
+fn is_selected(point: &Point, region: &Region, holder: Option<usize>) -> bool {
+    for selection in point.selections() {
+        if selection.holder == holder
+            && !matches!(
+                selection_overlap(region, &selection.region),
+                Overlap::Nothing
+            )
+        {
+            return true;
         }
+    }
+    false
+}
+
+/// Whether a cache meters packets of a region that make a crossing.
+fn is_metered(plan: &Plan, region: &Region, crossing: &Crossing, cache: HolderName) -> bool {
+    let holder = plan.net().holder_place(cache);
+    for point in plan.net().points_of(crossing.device) {
+        if point.watches(crossing) && is_selected(point, region, holder) {
+            return holder.is_some();
+        }
+    }
+    false
+}
+
+/// Adds the links by which those caches of a crossing's device send that meter packets of a region there.
+fn add_first(found: &mut Found<'_>, region: &Region, crossing: &Crossing) {
+    let plan = found.plan;
+    let devices = plan.network().devices.as_slice();
+    let Some(device) = entry_numbered(devices, crossing.device) else {
+        return;
+    };
+    let caches = device.config.caches.as_slice();
+    for place in 0..caches.len() {
+        let cache = HolderName::Cache {
+            device: crossing.device,
+            cache: place as u64 + 1,
+        };
+        if is_metered(plan, region, crossing, cache) {
+            let exporters = caches[place].exporting_processes.as_slice();
+            add_links(found, device, exporters, cache);
+        }
+    }
+}
+
+/// Adds the links by which a collecting process sends records on, those of aggregations too. The places of its device and
+/// of itself count from 0.
+fn add_onward(
+    found: &mut Found<'_>,
+    device: &NetworkDevice,
+    process: &CollectingProcess,
+    places: (usize, usize),
+    holder: HolderName,
+) {
+    add_links(
+        found,
+        device,
+        process.exporting_processes.as_slice(),
+        holder,
+    );
+    let aggregations = process.aggregations.as_slice();
+    for place in 0..aggregations.len() {
+        let aggregation = HolderName::Aggregation {
+            device: (places.0 as u64).saturating_add(1),
+            process: (places.1 as u64).saturating_add(1),
+            aggregation: place as u64 + 1,
+        };
+        let exporters = aggregations[place].exporting_processes.as_slice();
+        add_links(found, device, exporters, aggregation);
     }
 }
 
@@ -84,71 +190,125 @@ fn tell_aggregation(
     let _choices = tell_sending(story, plan, device, exporters, &[]);
 }
 
-/// Tells what a collecting process does with records, and adds the links by which it sends them on.
+/// Tells the collecting process to which a link leads, and where it sends records on.
 fn tell_process(
     story: &mut Story,
-    found: &mut Found<'_>,
     plan: &Plan,
+    link: &NamedLink,
     device: &NetworkDevice,
     process: &CollectingProcess,
 ) {
     let exporters = process.exporting_processes.as_slice();
-    if !exporters.is_empty() {
-        story.text("; it forwards: ");
-        let _choices = tell_sending(story, plan, device, exporters, &[]);
-        add_links(found, device, exporters);
-    }
-    for aggregation in process.aggregations.as_slice() {
-        tell_aggregation(story, plan, device, aggregation);
-        add_links(found, device, aggregation.exporting_processes.as_slice());
-    }
-}
-
-/// Tells what the collecting process does with the records of a region's packets to which a link leads.
-fn tell_link(
-    story: &mut Story,
-    found: &mut Found<'_>,
-    plan: &Plan,
-    region: &Region,
-    link: &NamedLink,
-) {
     tell_end(story, link);
     if leads_to_report(&plan.network().report, link) {
         story.text(" is the report's");
     }
-    if let Some(device) = entry_named(plan.network().devices.as_slice(), &link.to_device) {
-        let processes = device.config.collecting_processes.as_slice();
-        if let Some(process) = entry_named(processes, &link.to_process) {
-            tell_process(story, found, plan, device, process);
-            story.end_line();
-            tell_matches(story, region, device, process);
-            return;
-        }
+    if !exporters.is_empty() {
+        story.text("; it forwards: ");
+        let _choices = tell_sending(story, plan, device, exporters, &[]);
+    }
+    for aggregation in process.aggregations.as_slice() {
+        tell_aggregation(story, plan, device, aggregation);
     }
     story.end_line();
 }
 
+/// Tells why the records of a cache or an aggregation stay unassigned that come by the link at a place, or aren't taken in
+/// by aggregations of a collecting process.
+fn tell_lacking<'x>(
+    story: &mut Story,
+    plan: &'x Plan,
+    region: &'x Region,
+    place: usize,
+    holder: HolderName,
+    device: &'x NetworkDevice,
+    process: &'x CollectingProcess,
+) {
+    let net = plan.net();
+    let Some(end) = entry_at(net.links(), place).copied() else {
+        return;
+    };
+    let fields = region.corner();
+    let arriving = Arriving {
+        plan,
+        origin: net.holder_place(holder).unwrap_or(usize::MAX),
+        fields: &fields,
+    };
+    if end == net.report() {
+        arriving.tell_unassigned_of(story, holder);
+    }
+    if let Some(handled) = entry_at(net.processes(), end) {
+        let taken = Taken {
+            region,
+            arriving,
+            holder,
+            device,
+            process,
+        };
+        tell_untaken(story, &taken, handled.aggregations());
+    }
+}
+
+/// Tells what becomes of records at the end of the way of this number from 0, which is told where no way before leads there,
+/// and adds those by which they are sent on.
+fn tell_way(
+    story: &mut Story,
+    found: &mut Found<'_>,
+    region: &Region,
+    place: usize,
+    next: usize,
+    holder: HolderName,
+) {
+    let plan = found.plan;
+    let Some(link) = entry_at(plan.network().links.as_slice(), place) else {
+        return;
+    };
+    let devices = plan.network().devices.as_slice();
+    let Some(at) = place_of(devices, &link.to_device) else {
+        return;
+    };
+    let Some(device) = entry_at(devices, at) else {
+        return;
+    };
+    let processes = device.config.collecting_processes.as_slice();
+    let Some(of) = place_of(processes, &link.to_process) else {
+        return;
+    };
+    if let Some(process) = entry_at(processes, of) {
+        if !found.has_end(link, next) {
+            tell_process(story, plan, link, device, process);
+        }
+        tell_lacking(story, plan, region, place, holder, device, process);
+        add_onward(found, device, process, (at, of), holder);
+    }
+}
+
 /// Tells the collecting processes to which the records of a region's packets may come that take a path, each once and 64
-/// at most, where each sends them, and which matches of their aggregations don't hold for all of these packets.
+/// at most, where each sends them, what their key lacks for the report, and which aggregations don't take all of them in,
+/// and why.
 pub(crate) fn tell_following(
     story: &mut Story,
     plan: &Plan,
     region: &Region,
     crossings: &[Crossing],
 ) {
+    let nothing = HolderName::Cache {
+        device: 0,
+        cache: 0,
+    };
     let mut found = Found {
-        links: plan.network().links.as_slice(),
+        plan,
         places: [0; TOLD],
+        holders: [nothing; TOLD],
         count: 0,
     };
     for crossing in crossings {
-        add_first(&mut found, plan, crossing);
+        add_first(&mut found, region, crossing);
     }
     for next in 0..TOLD {
         if next < found.count {
-            if let Some(link) = entry_at(found.links, found.places[next]) {
-                tell_link(story, &mut found, plan, region, link);
-            }
+            let (place, holder) = (found.places[next], found.holders[next]);
+            tell_way(story, &mut found, region, place, next, holder);
         }
     }
 }

@@ -1,4 +1,5 @@
 //! Records that leave a cache or an aggregation, and records that reach a collecting process.
+use crate::choosing::aggregation_at;
 use crate::names::entry_named;
 use crate::packets::tell_missing;
 use crate::sending::{tell_end, tell_sending};
@@ -72,6 +73,7 @@ fn tell_aggregation(
         return;
     };
     story.text_quoted("a record leaves aggregation ", aggregation.name.as_str());
+    story.text_quoted(" of collecting process ", found.name.as_str());
     tell_leaving(
         story,
         plan,
@@ -79,6 +81,41 @@ fn tell_aggregation(
         aggregation.exporting_processes.as_slice(),
         choices,
     );
+}
+
+/// Tells the cache of this number of a device.
+fn tell_cache_name(story: &mut Story, device: &NetworkDevice, number: u64) {
+    if let Some(cache) = entry_numbered(device.config.caches.as_slice(), number) {
+        story.text_quoted("cache ", cache.name.as_str());
+    }
+}
+
+/// Tells the aggregation of this number of a collecting process of a device.
+fn tell_aggregation_name(story: &mut Story, device: &NetworkDevice, process: u64, number: u64) {
+    if let Some(aggregation) = aggregation_at(device, process, number) {
+        story.text_quoted("aggregation ", aggregation.name.as_str());
+    }
+}
+
+/// Tells a cache or an aggregation by its name and its device's.
+pub(crate) fn tell_holder(story: &mut Story, plan: &Plan, holder: HolderName) {
+    let number = match holder {
+        HolderName::Cache { device, .. } => device,
+        HolderName::Aggregation { device, .. } => device,
+    };
+    let Some(device) = entry_numbered(plan.network().devices.as_slice(), number) else {
+        return;
+    };
+    match holder {
+        HolderName::Cache { cache, .. } => tell_cache_name(story, device, cache),
+        HolderName::Aggregation {
+            process,
+            aggregation,
+            ..
+        } => tell_aggregation_name(story, device, process, aggregation),
+    }
+    story.text(" of ");
+    story.text(device.name.as_str());
 }
 
 /// Tells that a record leaves what holds it, and where it goes by the choices of the step.

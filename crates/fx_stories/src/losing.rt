@@ -20,8 +20,8 @@ an exporting process there that is linked to one, and audit again: ";
 
 /// What to do about an aggregation that lets a record go.
 const LET_GO: &str =
-    "Keep what the aggregation asks for in each cache and aggregation on the way, ask for less in its key or its match, or \
-add an aggregation for such packets, and audit again: ";
+    "Keep what the aggregation asks for among the flow keys (isFlowKey) of each cache and in the key of each aggregation on \
+the way, ask for less in its key or its match, or add an aggregation for such packets, and audit again: ";
 
 /// What to do about a record that is lost where it leaves a cache or an aggregation.
 fn leaving_remedy(net: &Net, holder: HolderName) -> &'static str {
@@ -65,8 +65,8 @@ pub(crate) fn tell_lost(
         }
         Some(Step::Arrive { link, choices, .. }) => {
             story.text(arriving_remedy(plan.net(), *link));
+            arriving(documents, packet, at.holder).tell_untaken(story, *link, "; ");
             tell_arrival(story, plan, *link, choices.as_slice());
-            arriving(documents, packet, at.holder).tell(story, *link);
         }
         _ => {}
     }

@@ -1,9 +1,23 @@
-//! Matches of aggregations that don't hold for all packets of a region.
+//! Aggregations that don't take in all records of a region's packets.
+use crate::holders::tell_holder;
+use crate::lacking::Arriving;
 use crate::regions::{axis_word, tell_values};
 use crate::story::Story;
 use fx_boxes::Region;
 use fx_config::{Aggregation, CollectingProcess, PropertyMatch};
+use fx_tables::{AggregationEntry, HolderName};
 use fx_topology::NetworkDevice;
+
+/// Records of a region's packets that come to a collecting process.
+#[derive(Drop)]
+pub(crate) struct Taken<'a> {
+    pub(crate) region: &'a Region,
+    pub(crate) arriving: Arriving<'a>,
+    /// The cache or the aggregation that they left last.
+    pub(crate) holder: HolderName,
+    pub(crate) device: &'a NetworkDevice,
+    pub(crate) process: &'a CollectingProcess,
+}
 
 /// For how many of a region's packets a match holds, in words, where it doesn't hold for all.
 fn hold_words(region: &Region, property: &PropertyMatch) -> Option<&'static str> {
@@ -18,54 +32,66 @@ fn hold_words(region: &Region, property: &PropertyMatch) -> Option<&'static str>
     }
 }
 
-/// Tells for how many of a region's packets a match of an aggregation holds.
-fn tell_match<'x>(
-    story: &mut Story,
-    device: &'x NetworkDevice,
-    process: &'x CollectingProcess,
-    aggregation: &'x Aggregation,
-    property: &PropertyMatch,
-    words: &'static str,
-) {
-    story.text_quoted("aggregation ", aggregation.name.as_str());
-    story.text_quoted(" of collecting process ", process.name.as_str());
-    story.text(" of ");
-    story.text(device.name.as_str());
-    story.text(": its match on ");
-    story.text(axis_word(property.axis));
-    story.text(" ");
-    tell_values(
-        story,
-        property.axis,
-        property.range.low,
-        property.range.high,
-    );
-    story.sentence(words);
-}
+impl Taken<'_> {
+    /// Tells an aggregation of the collecting process.
+    fn tell_name(&self, story: &mut Story, aggregation: &Aggregation) {
+        story.text_quoted("aggregation ", aggregation.name.as_str());
+        story.text_quoted(" of collecting process ", self.process.name.as_str());
+        story.text(" of ");
+        story.text(self.device.name.as_str());
+    }
 
-/// Tells which matches of an aggregation don't hold for all packets of a region.
-fn tell_aggregation(
-    story: &mut Story,
-    region: &Region,
-    device: &NetworkDevice,
-    process: &CollectingProcess,
-    aggregation: &Aggregation,
-) {
-    for property in aggregation.matches.as_slice() {
-        if let Some(words) = hold_words(region, property) {
-            tell_match(story, device, process, aggregation, property, words);
+    /// Tells for how many of a region's packets a match of an aggregation holds.
+    fn tell_match(
+        &self,
+        story: &mut Story,
+        aggregation: &Aggregation,
+        property: &PropertyMatch,
+        words: &'static str,
+    ) {
+        self.tell_name(story, aggregation);
+        story.text(": its match on ");
+        story.text(axis_word(property.axis));
+        story.text(" ");
+        tell_values(
+            story,
+            property.axis,
+            property.range.low,
+            property.range.high,
+        );
+        story.sentence(words);
+    }
+
+    /// Tells why an aggregation takes in no records with this key, or which of its matches don't hold for all packets.
+    fn tell_aggregation(
+        &self,
+        story: &mut Story,
+        aggregation: &Aggregation,
+        entry: &AggregationEntry,
+    ) {
+        if !self.arriving.reads_all(aggregation, entry) {
+            self.tell_name(story, aggregation);
+            story.text(" doesn't take in the records of ");
+            tell_holder(story, self.arriving.plan, self.holder);
+            story.text(": ");
+            self.arriving.tell_unread(story, aggregation, entry);
+            story.end_line();
+            return;
+        }
+        for property in aggregation.matches.as_slice() {
+            if let Some(words) = hold_words(self.region, property) {
+                self.tell_match(story, aggregation, property, words);
+            }
         }
     }
 }
 
-/// Tells which matches of the aggregations of a collecting process don't hold for all packets of a region.
-pub(crate) fn tell_matches(
-    story: &mut Story,
-    region: &Region,
-    device: &NetworkDevice,
-    process: &CollectingProcess,
-) {
-    for aggregation in process.aggregations.as_slice() {
-        tell_aggregation(story, region, device, process, aggregation);
+/// Tells which aggregations of a collecting process don't take in all records that come there, and why.
+pub(crate) fn tell_untaken(story: &mut Story, taken: &Taken<'_>, entries: &[AggregationEntry]) {
+    let aggregations = taken.process.aggregations.as_slice();
+    for place in 0..aggregations.len() {
+        if place < entries.len() {
+            taken.tell_aggregation(story, &aggregations[place], &entries[place]);
+        }
     }
 }
