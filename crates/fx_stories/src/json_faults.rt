@@ -8,6 +8,9 @@ const TOLD: usize = 40;
 /// How many values may stand in one another.
 const DEEPEST: u64 = 127;
 
+/// What is told of a text that begins with another octet than a document.
+const ANOTHER_FILE: &str = "a document begins with {, and this file doesn't: is it another one?";
+
 /// What is told of an octet that is no UTF-8.
 const OTHER_ENCODING: &str =
     "this octet is no UTF-8 there: the text is in another encoding; write it in UTF-8 (of Windows or Latin-1: iconv -f WINDOWS-1252 -t UTF-8 OLD > NEW)";
@@ -185,6 +188,8 @@ fn octet_there_words(octet: u8, last: u8) -> Option<&'static str> {
             "a colon stands there; it stands once behind a member's name, which is a string",
         ),
         b'\'' => Some("names and texts stand in double quotation marks"),
+        b'=' => Some("a colon stands behind a member's name, and no equals sign"),
+        b';' => Some("a comma stands between members and between values, and no semicolon"),
         b'/' | b'#' => Some("JSON has no comments"),
         b'0'..=b'9' | b'+' | b'-' | b'.' => {
             Some(
@@ -228,8 +233,10 @@ fn foreign_words(octets: &[u8]) -> Option<&'static str> {
 /// What is wrong with a text that begins with this octet, in words.
 fn first_words(octet: u8) -> Option<&'static str> {
     Some(match octet {
-        b'/' | b'#' => "JSON has no comments",
-        _ => "a document begins with {, and this file doesn't: is it another one?",
+        b'/' | b'#' => {
+            "JSON has no comments, and a document begins with {: take them out, or name the document where this is another file"
+        }
+        _ => ANOTHER_FILE,
     })
 }
 
@@ -240,8 +247,6 @@ fn place_words(octet: u8, behind: &[u8], before: &Before) -> Option<&'static str
         octet_there_words(octet, before.last)
     } else if before.depth == 0 && before.last != 0 {
         Some("the document has ended before it: a file has one document, which is one object")
-    } else if before.depth >= DEEPEST && is_opening {
-        Some("values may stand in at most 127 others")
     } else if is_opening || matches!(octet, b'}' | b']') {
         Some(bracket_words(octet, before.last))
     } else if before.last == 0 {
@@ -269,6 +274,26 @@ fn tell_open(story: &mut Story, octets: &[u8]) {
     });
 }
 
+/// Whether a text begins as a document does, behind white space.
+fn begins_as_document(octets: &[u8]) -> bool {
+    match octets.iter().find(|octet| !octet.is_ascii_whitespace()) {
+        Some(octet) => *octet == b'{',
+        None => true,
+    }
+}
+
+/// Tells what is wrong with a text at an octet that begins no string, with those behind it and what stands before it, and
+/// that the text doesn't begin as a document does.
+fn tell_octet(story: &mut Story, octets: &[u8], octet: u8, behind: &[u8], before: &Before) {
+    let Some(words) = place_words(octet, behind, before) else {
+        return;
+    };
+    story.sentence(words);
+    if before.last != 0 && !begins_as_document(octets) {
+        story.sentence(ANOTHER_FILE);
+    }
+}
+
 /// Tells what is wrong with a JSON text at a place, as far as that is known.
 pub(crate) fn tell_fault(story: &mut Story, octets: &[u8], place: usize) {
     let (Some(before), Some(behind)) = (octets.get(..place), octets.get(place..)) else {
@@ -279,9 +304,11 @@ pub(crate) fn tell_fault(story: &mut Story, octets: &[u8], place: usize) {
         return;
     };
     let before = before_end(before);
-    if octet == b'"' {
+    if before.depth > DEEPEST {
+        story.sentence("values may stand in at most 127 others");
+    } else if octet == b'"' {
         tell_string(story, behind, &before);
-    } else if let Some(words) = place_words(octet, behind, &before) {
-        story.sentence(words);
+    } else {
+        tell_octet(story, octets, octet, behind, &before);
     }
 }

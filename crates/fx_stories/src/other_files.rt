@@ -66,11 +66,24 @@ fn text_of(word: &str) -> Option<OtherFile> {
             "a text in YAML",
             "a document is JSON: turn it to that, as yq -o json does",
         ),
+        "<!DOCTYPE" | "<!doctype" | "<html>" | "<html" | "<HTML>" | "<HTML" => other(
+            "a page in HTML",
+            "was an error page saved in the document's place? Look at it, and fetch the document once more",
+        ),
+        _ if word.starts_with("#!") => other("a script", LEFT_OUT),
         _ if word.starts_with('<') => other(
             "a text in XML",
             "a document is JSON: turn a configuration to that by the rules of RFC 7951, as yanglint -f json does",
         ),
         _ => text_of_once(word),
+    }
+}
+
+/// Whether a text is a table of a network, by one of its lines.
+fn is_table(octets: &[u8]) -> bool {
+    match str::from_utf8(octets) {
+        Ok(text) => text.contains("\nobservation-point "),
+        Err(_) => false,
     }
 }
 
@@ -94,6 +107,7 @@ fn file_of(octets: &[u8]) -> Option<OtherFile> {
             "the files stand in this order: once collect NETWORK STREAM",
         ),
         [0, 5 | 9, ..] => other("a stream of NetFlow", LEFT_OUT),
+        [0x0c, 0xa5, ..] | [0xa5, 0x0c, ..] => other("a file of nfdump", LEFT_OUT),
         [b'P', b'K', 3, 4, ..] => other(
             "a zip archive",
             "unpack it, and name the document that stands in it",
@@ -101,6 +115,10 @@ fn file_of(octets: &[u8]) -> Option<OtherFile> {
         [0x7f, b'E', b'L', b'F', ..] => other("a program (ELF)", LEFT_OUT),
         [b'%', b'P', b'D', b'F', ..] => other("a file of PDF", LEFT_OUT),
         [0x89, b'P', b'N', b'G', ..] => other("a picture (PNG)", LEFT_OUT),
+        [b'#' | b'd', ..] if is_table(octets) => other(
+            "a table of a network",
+            "examples/tools/network_from_table.py makes a network document and a traffic declaration of it",
+        ),
         _ => None,
     }
 }
