@@ -3,7 +3,7 @@
 
 Each object of the documents of `schema_cases` gets a member more, of a name that is near none. Behind `refused 102` must
 stand those members that the object's schema names and the object doesn't have, but for those that are refused with a
-number of their own, whose schema is `"not": {}`.
+number of their own, whose schema is `"not": {}`, and those of a choice (`oneOf`) of which the object has another.
 
 Prints a line for each object that isn't told so, and last `N passed, M failed`. The exit status is 1 where one failed.
 """
@@ -51,10 +51,15 @@ def names_of(schemas, whole):
     return None
 
 
+def choice_of(schemas):
+    """The members of which an object of these schemas has one alone."""
+    return [name for schema in schemas for one in schema.get("oneOf", ()) for name in one.get("required", ())]
+
+
 def objects(value, schemas, whole, place=()):
-    """The objects of a document, each with its place and the members that it may have."""
+    """The objects of a document, each with its place, the members that it may have, and those of which it has one."""
     if isinstance(value, dict):
-        yield place, names_of(schemas, whole)
+        yield place, names_of(schemas, whole), choice_of(schemas)
     steps = value.items() if isinstance(value, dict) else enumerate(value) if isinstance(value, list) else ()
     for step, below in steps:
         found = [one for schema in schemas for one in part(schema, whole, step)]
@@ -87,14 +92,16 @@ def cases(program, folder, kind):
     network = document("tests", "schema_cases", "network.json")
     whole = document("docs", "schemas", kind + ".schema.json")
     value = document("tests", "schema_cases", kind + ".json")
-    for place, names in objects(value, list(behind(whole, whole)), whole):
+    for place, names, choice in objects(value, list(behind(whole, whole)), whole):
         if names is None:
             continue
         changed = copy.deepcopy(value)
         at(changed, place)[STRANGE] = 0
         others = [("network.json", network)] if kind == "traffic" else []
         found = allowed(program, folder, others + [(kind + ".json", changed)])
-        wanted = [name for name in names if name not in at(value, place)]
+        there = at(value, place)
+        made = any(name in there for name in choice)
+        wanted = [name for name in names if name not in there and not (made and name in choice)]
         where = "/".join(map(str, ("",) + place))
         wrong = not isinstance(found, list) or sorted(found) != sorted(wanted)
         yield "%s %s" % (kind, where), ["names %r in place of %r" % (found, wanted)] if wrong else []

@@ -1,4 +1,5 @@
 //! Members that an object may have, and those that one has which it may not.
+use crate::members::one_required;
 use crate::near::near_of;
 use crate::parts::tell_whole;
 use crate::pointers::last_member;
@@ -183,13 +184,31 @@ fn members_allowed(member: &str, is_network: bool) -> &'static [&'static str] {
     }
 }
 
-/// Tells which of these names an object doesn't have yet, which may not have a member of another name.
-fn tell_free(story: &mut Story, object: &Value, name: &str, names: &'static [&'static str]) {
+/// Whether an object has one of these members.
+fn has_one(object: &Value, names: &[&str]) -> bool {
+    names.iter().any(|name| object.get(*name).is_some())
+}
+
+/// Whether a name is one of these.
+fn is_one_of(names: &[&str], name: &str) -> bool {
+    names.iter().any(|known| *known == name)
+}
+
+/// Tells which of these names an object doesn't have yet, which may not have a member of another name. Of those of which
+/// it has one at most none is told where it has one.
+fn tell_free(
+    story: &mut Story,
+    object: &Value,
+    name: &str,
+    names: &'static [&'static str],
+    choice: &'static [&'static str],
+) {
+    let is_made = has_one(object, choice);
     story.text_quoted("no member ", name);
     story.text(" may be there; those that may, and aren't there yet: ");
     let mut told = false;
     for free in names {
-        if object.get(*free).is_none() {
+        if object.get(*free).is_none() && !(is_made && is_one_of(choice, free)) {
             story.text(between(told, ", "));
             story.text(free);
             told = true;
@@ -242,19 +261,27 @@ fn region_example(name: &str) -> Option<&'static str> {
     }
 }
 
-/// Tells how a member of a region is written that has another name there.
-fn tell_example<'x>(story: &mut Story, name: &'x str, example: &'x str) {
+/// Tells how a member is written that has another name in the region of a class, or in a filter or a match of a network.
+fn tell_example<'x>(story: &mut Story, name: &'x str, example: &'x str, is_network: bool) {
     story.text_quoted("no member ", name);
-    story.text(" may be there; what a region holds is written so: ");
+    story.text(if is_network {
+        " may be there; the length of a prefix stands in its value: "
+    } else {
+        " may be there; what a region holds is written so: "
+    });
     story.sentence(example);
 }
 
-/// The example for a member of another name, where it stands in a region.
+/// The example for a member of another name, where it stands in a region, or for the length of a prefix in a filter or a
+/// match.
 fn example_at(place: &str, name: &str, is_network: bool) -> Option<&'static str> {
-    if is_network || last_member(place) != "region" {
-        return None;
+    match (last_member(place), name) {
+        ("filterMatch" | "match", "prefixLength") if is_network => {
+            Some("\"ieName\": \"sourceIPv4Prefix\", \"value\": \"192.0.2.0/24\"")
+        }
+        ("region", _) if !is_network => region_example(name),
+        _ => None,
     }
-    region_example(name)
 }
 
 /// Tells a member that an object may not have: the nearest name that is allowed, or the names that are. The pointer
@@ -273,13 +300,13 @@ pub(crate) fn tell_unknown_member(
         return Ok(());
     };
     if let Some(example) = example_at(place, name, is_network) {
-        tell_example(story, name, example);
+        tell_example(story, name, example, is_network);
         return Ok(());
     }
     let names = members_allowed(last_member(place), is_network);
     match near_of(alloc, name, names)? {
         Some(known) => tell_near(story, object, name, known),
-        None => tell_free(story, object, name, names),
+        None => tell_free(story, object, name, names, one_required(last_member(place))),
     }
     if let (Some(member), true) = (object.get(name), place.is_empty()) {
         tell_whole(story, object, member, is_network);

@@ -1,4 +1,5 @@
 //! What is wrong with a text that should spell a value of an axis.
+use crate::fields::element_name;
 use crate::story::Story;
 use fx_elements::{Axis, Element, read_number, read_on, top, width};
 
@@ -154,9 +155,11 @@ pub(crate) fn tell_spelling(story: &mut Story, element: Element, text: &str) {
         return;
     }
     match element {
-        Element::OnAxis(axis) if axis.is_address() && text.contains('/') => story.sentence(
-            "the element has one address; for a prefix name the element of the prefix",
-        ),
+        Element::OnAxis(axis) if axis.is_address() && text.contains('/') => {
+            story.text("the element has one address; for a prefix name ");
+            story.text(element_name(axis.prefix_number()));
+            story.sentence(" in its place");
+        }
         Element::OnAxis(axis) | Element::Prefix(axis) if is_range(axis, text) => story.sentence(
             "one value is allowed there, or a prefix; LOW-HIGH stands in the regions of traffic alone",
         ),
