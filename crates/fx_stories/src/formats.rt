@@ -51,6 +51,9 @@ pub(crate) fn flow_format(octets: &[u8]) -> Option<&'static str> {
         [0, 0, 0, 5, ..] => Some(
             "These octets begin a datagram of sFlow 5 in place of IPFIX. Have the exporter send IPFIX (version 10).",
         ),
+        [0x0c, 0xa5, ..] | [0xa5, 0x0c, ..] => Some(
+            "These octets begin a file of nfdump, which nfcapd wrote, and not what the exporter sent. Capture that: docs/GUIDE.md tells how to take the messages out.",
+        ),
         _ => None,
     }
 }
@@ -79,8 +82,21 @@ pub(crate) fn is_text(octets: &[u8]) -> bool {
     }
 }
 
+/// Whether octets begin the hexadecimal digits of an IPFIX message.
+fn is_digits_of_message(octets: &[u8]) -> bool {
+    matches!(
+        octets,
+        [b'0', b'0', b'0', b'a' | b'A', ..] | [b'0', b'0', b' ', b'0', b'a' | b'A', ..]
+    )
+}
+
 /// What octets are that begin a text.
 fn text_format(octets: &[u8]) -> Option<&'static str> {
+    if is_digits_of_message(octets) {
+        return Some(
+            "These octets are the hexadecimal digits of messages, as tshark prints them: xxd -r -p OLD > NEW makes octets of them.",
+        );
+    }
     is_text(octets).then_some(
         "These octets are text. Messages are octets; is the file another one than the stream, as a network document?",
     )

@@ -180,6 +180,9 @@ impl Reading {
                 there as u64,
             );
             story.end_line();
+            if let Some(words) = format_of(self.octets.as_slice()) {
+                story.sentence(words);
+            }
             return;
         }
         let length = number16(self.octets.as_slice(), 2);
