@@ -8,7 +8,7 @@ use crate::again::{Documents, documents_again};
 use crate::due_items::{tell_behind_end, tell_between, tell_due};
 use crate::following::tell_following;
 use crate::leaves::tell_leaf;
-use crate::line_forms::Kind;
+use crate::line_forms::{Kind, axis_named};
 use crate::lines::{next_line, tell_line};
 use crate::paths::tell_path;
 use crate::regions::{axis_word, tell_region};
@@ -20,7 +20,7 @@ use fx_base::{Fault, Line, LineReader, Place, Room, Sink, Source, put_text, refu
 use fx_boxes::Region;
 use fx_cert::{Item, put_item, read_item};
 use fx_check::tables_of;
-use fx_elements::Axis;
+use fx_elements::{Axis, Words, is_word, read_on};
 use fx_leaf::{Counted, Scratch, cut};
 use fx_plan::Plan;
 use fx_tables::Crossing;
@@ -35,6 +35,18 @@ fn tell_split_line(story: &mut Story, axis: Axis, at: u128) {
     let _written = put_item(&mut room, &Item::Split { axis, at });
     story.text("its line is: ");
     story.lines_of(room.octets());
+}
+
+/// The axis and the value of a split that has the value as it is written there, and not as a number, as an address.
+fn split_at_value(line: &[u8]) -> Option<(Axis, u128)> {
+    let (kind, words) = Words::new(line).word()?;
+    let (named, words) = words.word()?;
+    let (at, _words) = words.word()?;
+    let axis = axis_named(named)?;
+    if !is_word(kind, b"S") || !axis.is_address() {
+        return None;
+    }
+    Some((axis, read_on(axis, at)?))
 }
 
 /// Tells where to split a region that something cuts.
@@ -201,6 +213,9 @@ fn tell_form(story: &mut Story, line: &Line<'_>, number: u64, fault: u16) {
         tell_wrong_header(story, "once-certificate", " where no class is exempt", line);
     } else if fault == refusals::CERTIFICATE_LINE {
         let _otherwise = tell_wrong_line(story, Kind::Certificate, line);
+        if let Some((axis, at)) = split_at_value(line.bytes) {
+            tell_split_line(story, axis, at);
+        }
     } else if !line.ended {
         story.sentence("no line feed ends the line");
     }
@@ -261,10 +276,10 @@ fn story_of<C: Source>(
 /// Writes in sentences what a refusal of a certificate, 401 to 415 at a line, is about: the line, at most 200 octets of
 /// it; of one whose form is wrong the first word that is, and the form that it should have; the class and the path by
 /// name; the region of the line, with what the line names and what is due there; what stands behind the end; and for a leaf
-/// what sees the region's packets along the path and where its records go, up to the report, with the matches of
-/// aggregations that don't hold for all of them, and where to split it, if something cuts it. The documents are those over which the
-/// certificate was refused, the lines those of its text, opened anew. What can't be told is left out. The text has no
-/// control characters but line feeds.
+/// what sees the region's packets along the path and where its records go, up to the report, with what their keys lack for
+/// it, the aggregations that don't take them in and the matches that don't hold for all of them, and where to split it, if
+/// something cuts it. The documents are those over which the certificate was refused, the lines those of its text, opened
+/// anew. What can't be told is left out. The text has no control characters but line feeds.
 ///
 /// Fails with 900 for want of memory; with 901 where a read fails, or the reader hasn't ended after 4,294,967,296 calls;
 /// with 903 at a line of more than 4,096 octets; with 902 where a write fails. Nothing is written for a fault other than

@@ -93,7 +93,7 @@ pub(crate) fn is_literal(word: &str) -> bool {
 }
 
 /// The axis of this word.
-fn axis_named(word: &[u8]) -> Option<Axis> {
+pub(crate) fn axis_named(word: &[u8]) -> Option<Axis> {
     EVERY_AXIS
         .iter()
         .copied()

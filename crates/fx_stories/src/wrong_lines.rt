@@ -265,6 +265,8 @@ pub(crate) fn tell_wrong_header(
     }
     if let Some(words) = strange_word(line.bytes) {
         story.sentence(words);
+    } else if line.bytes.starts_with(b" ") || line.bytes.ends_with(b" ") {
+        story.sentence(blank_words(line.bytes));
     } else if line.bytes.starts_with(name.as_bytes()) {
         story.sentence(
             "behind the name stand one blank and the version, 2 or 1, and nothing more; other versions aren't known here",
