@@ -18,6 +18,7 @@ pub(crate) fn tell_fields(
     octets: u64,
 ) {
     let mut before = separator;
+    let mut told = false;
     for axis in EVERY_AXIS {
         let value = fields.get(axis);
         if value != 0 {
@@ -26,10 +27,18 @@ pub(crate) fn tell_fields(
             story.text(" ");
             story.value(axis, value);
             before = ", ";
+            told = true;
         }
     }
     story.text(before);
-    story.text_number("0 in all other fields, octets ", octets);
+    story.text_number(
+        if told {
+            "0 in all other fields, octets "
+        } else {
+            "0 in all fields, octets "
+        },
+        octets,
+    );
     story.end_line();
 }
 

@@ -57,7 +57,7 @@ fn tell_unmade(
         return Ok(());
     };
     tell_step_line(story, unmade.line_of(unmade.place), step);
-    story.text("this step can't be made: ");
+    story.text("this step can't be made; what it asks for: ");
     tell_step(unmade.alloc, story, unmade.documents, unmade.packets, step)?;
     unmade.tell(story, state)
 }
@@ -270,7 +270,7 @@ fn story_of<C: Source>(
 /// that the line should have; of a schedule's line for which nothing is there (802) which number names nothing, or what is
 /// lacking; of a packet that isn't in its class its number in the run, its fields and which of them lie outside of the
 /// class's region. One of 503 and 851 to 853: the line of the first step that is refused, with its number,
-/// what it names, and why it can't be made in the state before it. One of 504 and 505: the refutation's run, and of one
+/// what it names, and why it can't be made in the state before it, with the position that a choice may be. One of 504 and 505: the refutation's run, and of one
 /// that isn't complete the crossings that are to come and the records that are left. The documents are those over which
 /// the run was refused, the lines those of its text, opened anew. What can't be told is left out. The text has no control
 /// characters but line feeds.

@@ -8,6 +8,9 @@ use std::alloc::{AllocError, Global};
 /// More choices than these aren't tried.
 const FEW: usize = 4096;
 
+/// How many records' keys are tried.
+const RECORDS: u64 = 64;
+
 /// Makes a step, and answers the number that it is refused with, if it is.
 pub(crate) fn refusal_of(state: &mut State<'_>, step: &Step) -> Result<Option<u16>, AllocError> {
     let number = match state.step(step) {
@@ -113,6 +116,15 @@ fn with_choices(step: &Step, choices: Choices) -> Step {
     }
 }
 
+/// A choice that is wrong.
+#[derive(Clone, Copy, Drop)]
+pub(crate) struct Wrong {
+    /// Its place among the choices.
+    pub(crate) place: usize,
+    /// The first position of a record with the same key, where such a one may be chosen and is found.
+    pub(crate) position: Option<u64>,
+}
+
 /// A step whose choices are tried, of which the first so many are numbers of destinations.
 #[derive(Drop)]
 pub(crate) struct Trial<'a> {
@@ -155,18 +167,60 @@ impl Trial<'_> {
         Ok(refusal_of(state, &step)?.is_none())
     }
 
-    /// The place of the first choice that is wrong, where they are as many as they should be. Where it is found, the step
-    /// is made with another one.
-    pub(crate) fn wrong_place(
+    /// The first position, of 64, at which there is a record with the same key, behind these choices, of which the next is
+    /// the position of such a record. Where it is found, the step is made with it.
+    fn same_key(
         &self,
         alloc: Global,
         state: &mut State<'_>,
-    ) -> Result<Option<usize>, AllocError> {
+        before: &[Option<u64>],
+        count: usize,
+    ) -> Result<Option<u64>, AllocError> {
+        for position in 1..=RECORDS {
+            let mut tried = Vec::from_slice(alloc, before)?;
+            tried.push(Some(position))?;
+            if self.succeeds(alloc, state, tried.as_slice(), count)? {
+                return Ok(Some(position));
+            }
+        }
+        Ok(None)
+    }
+
+    /// What is due in place of the choice at a place, if it is the first that is wrong: for a record a position with the
+    /// same key, or else another one. Where that is found, the step is made with it.
+    fn wrong_at(
+        &self,
+        alloc: Global,
+        state: &mut State<'_>,
+        place: usize,
+    ) -> Result<Option<Wrong>, AllocError> {
         let written = choices_of(self.step);
-        for behind in 0..written.len() {
-            let place = written.len() - 1 - behind;
-            if self.succeeds(alloc, state, &written[..place], written.len())? {
-                return Ok(Some(place));
+        let before = written.get(..place).unwrap_or(&[]);
+        if place >= self.exporters {
+            let position = self.same_key(alloc, state, before, written.len())?;
+            if position.is_some() {
+                return Ok(Some(Wrong { place, position }));
+            }
+        }
+        let position = None;
+        if self.succeeds(alloc, state, before, written.len())? {
+            return Ok(Some(Wrong { place, position }));
+        }
+        Ok(None)
+    }
+
+    /// The first choice that is wrong, where they are as many as they should be. Where it is found, the step is made with
+    /// another one.
+    pub(crate) fn wrong_choice(
+        &self,
+        alloc: Global,
+        state: &mut State<'_>,
+    ) -> Result<Option<Wrong>, AllocError> {
+        let count = choices_of(self.step).len();
+        for behind in 0..count {
+            let wrong = self.wrong_at(alloc, state, count - 1 - behind)?;
+            if wrong.is_some() {
+                return Ok(wrong);
             }
         }
         Ok(None)

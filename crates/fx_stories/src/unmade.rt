@@ -143,10 +143,11 @@ impl Unmade<'_> {
             step,
             exporters: choosers.exporters.len(),
         };
-        match trial.wrong_place(self.alloc, state)? {
-            Some(place) => {
-                let chosen = choices_of(step).get(place).copied().flatten();
-                tell_wrong_choice(story, &choosers, place, chosen);
+        match trial.wrong_choice(self.alloc, state)? {
+            Some(wrong) => {
+                let chosen = choices_of(step).get(wrong.place).copied().flatten();
+                tell_wrong_choice(story, &choosers, wrong.place, chosen);
+                tell_same_key(story, wrong.position);
             }
             None => self.tell_count(story, state, &trial, &choosers)?,
         }
@@ -198,6 +199,17 @@ fn tell_wrong_choice(
     tell_chosen(story, chosen);
     story.text("; ");
     choosers.tell_due(story, place);
+}
+
+/// Tells at which position the first record with the same key is.
+fn tell_same_key(story: &mut Story, position: Option<u64>) {
+    if let Some(position) = position {
+        story.text_number(
+            "the first record there with the same key is at position ",
+            position,
+        );
+        story.end_line();
+    }
 }
 
 /// Tells what is due as each of so many choices, and which exporting processes take none.

@@ -43,7 +43,7 @@ end
 ";
 
 const RUN_WORDS: &[u8] = b"line 4: expire cache 1 1 2
-this step can't be made: a record leaves cache \"ca\" of m1: exporting process \"ex\" sends to destination \"d\", which is linked to collecting process \"cp\" of c1
+this step can't be made; what it asks for: a record leaves cache \"ca\" of m1: exporting process \"ex\" sends to destination \"d\", which is linked to collecting process \"cp\" of c1
 before this step the number of records there is 1; positions count from 1, and none is at 2
 ";
 
