@@ -146,8 +146,8 @@ aggregation on the way, or take it out of the report's key, and audit again: ";
     fn tell(&self, story: &mut Story, sightings: &[Sighting], counted: u64) {
         if self.documents.traffic.classes().exempts(self.packet) {
             story.text(
-                "Take what counts the packet off its path, keep it out by a filter, or don't declare its class exempt, and \
-audit again: ",
+                "Take what counts the packet off its path, keep it out by a filter, give its class a region that leaves out the \
+packets that are to be counted, or don't declare the class exempt, and audit again: ",
             );
             self.tell_sightings(story, sightings);
         } else if counted > 1 {

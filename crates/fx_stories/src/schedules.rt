@@ -112,7 +112,10 @@ fn tell_first_class(story: &mut Story, documents: &Documents, fields: &Fields) {
             story.text_quoted(" ", class_name(documents, number));
             story.end_line();
         }
-        None => story.sentence("no class of the traffic holds the packet"),
+        None => story.sentence(
+            "no class of the traffic holds the packet: add a last class without a region, which holds all other packets, with \
+the paths that they take, or filter the capture",
+        ),
     }
 }
 

@@ -95,7 +95,8 @@ pub(crate) fn tell_unmetered_path(story: &mut Story, documents: &Documents, pack
     }
     story.text(
         "Have a selection process with a cache select the packet at a crossing, by the right name of the interface, a wider \
-filter, a cache or another observation point, or write exempt in its class if it isn't to be counted, and audit again: ",
+filter (which may count packets of another path there a second time), a cache or another observation point, or write exempt \
+in its class if it isn't to be counted, and audit again: ",
     );
     tell_crossings_of(story, documents, crossings);
     tell_version(story, documents, packet, crossings);

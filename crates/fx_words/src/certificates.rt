@@ -144,9 +144,9 @@ pub const CERTIFICATES: &[Row] = &[
         refusals::EXEMPT_COUNTED,
         "The packets of a leaf are of an exempt class, and each is counted once.",
         "no filter keeps the exempt traffic, as that of the management, out of the meters on its \
-         path.",
-        "Keep the packets out by filters (filterMatch), or take `exempt` off the class where \
-         they are to be counted.",
+         path, or the class has no region, and so holds the packets of all other classes too.",
+        "Keep the packets out by filters (filterMatch), give the class a region that leaves out \
+         the packets that are to be counted, or take `exempt` off it.",
         "FORMATS, traffic and a certificate",
     ),
 ];

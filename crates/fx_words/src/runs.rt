@@ -36,7 +36,8 @@ pub const RUNS: &[Row] = &[
          isn't there.",
         "a schedule that was written for another capture or another traffic declaration.",
         "Write `next` alone, which takes the first class that holds the packet, or name a class \
-         whose region holds it.",
+         whose region holds it. Where none does, add a last class without a region, or filter the \
+         capture.",
         "FORMATS, a schedule",
     ),
     (
