@@ -16,6 +16,7 @@ use crate::ends::{
 use crate::entries::tell_entries;
 use crate::json::tell_json;
 use crate::kinds::tell_kinds;
+use crate::layouts::tell_layouts;
 use crate::members::tell_lacking;
 use crate::parts::tell_list;
 use crate::pointers::last_member;
@@ -142,6 +143,7 @@ fn tell_at(
             tell_lacking(story, value, last_member(pointer), at.is_network);
         }
         refusals::MISSING_COUNTER => tell_counters(alloc, story, value)?,
+        refusals::TOO_MANY_LAYOUTS => tell_layouts(alloc, story, value)?,
         refusals::TOO_MANY_ENTRIES | refusals::TOO_MUCH_TRAFFIC => {
             tell_entries(story, pointer, value, at.is_network);
         }
@@ -235,7 +237,7 @@ fn story_of(
 /// Writes in sentences what a refusal of a document, 101 to 115, 201 to 207 or 301 to 305, is about: the name of the
 /// file, which is the network's where the network is refused, else the traffic's; where a text is no JSON, the line,
 /// the column and what is wrong there, or which other file it is; of a part of a document in its place where it stands;
-/// how many entries a list has, and how many it may have; which members are missing and which are there; the name for
+/// how many entries a list has, or how many different keys there are, and how many there may be; which members are missing and which are there; the name for
 /// which a misspelled member stands, or the members that are allowed; a value that isn't allowed, at most 200 octets of
 /// its JSON text, with its kind and the kind that is due, what is wrong in it or with the elements that it names, and
 /// the values that are allowed; which counters a cache lacks; which name names nothing, and the names that there are;

@@ -1,4 +1,5 @@
 //! Values that aren't allowed, and the elements that they name.
+use crate::fields::element_name;
 use crate::near::near_of;
 use crate::pointers::{text_member, text_or_none};
 use crate::story::{Story, between};
@@ -131,6 +132,49 @@ fn near_name(alloc: Global, object: &Value) -> Result<Option<&'static str>, Allo
         Some(name) if by_name(name) == Element::Other => near_of(alloc, name, &NAMES),
         _ => Ok(None),
     }
+}
+
+/// Tells a field of a cache whose element is misspelled.
+fn tell_misspelled<'x>(
+    story: &mut Story,
+    device: &'x str,
+    cache: &'x str,
+    field: &'x Value,
+    known: &'x str,
+) {
+    story.text_quoted("field ", text_or_none(field, "name"));
+    story.text_quoted(" of cache ", cache);
+    story.text(" of ");
+    story.text(device);
+    story.text_quoted(
+        " names no element that is read: ",
+        text_or_none(field, "ieName"),
+    );
+    story.text("; the nearest name is ");
+    story.sentence(known);
+}
+
+/// Whether an element that isn't told apart has this name.
+fn is_registered(name: &str) -> bool {
+    (0..256).any(|number| element_name(number) == name)
+}
+
+/// Tells the fields of a layout whose elements are misspelled, of a cache of a device.
+pub(crate) fn tell_misspelled_fields(
+    alloc: Global,
+    story: &mut Story,
+    device: &str,
+    cache: &str,
+    fields: &[Value],
+) -> Result<(), AllocError> {
+    for field in fields {
+        if let Some(known) = near_name(alloc, field)? {
+            if !is_of_enterprise(field) && !is_registered(text_or_none(field, "ieName")) {
+                tell_misspelled(story, device, cache, field, known);
+            }
+        }
+    }
+    Ok(())
 }
 
 /// Tells what is wrong with the element that an object names, where packets aren't told apart by it: the nearest name,

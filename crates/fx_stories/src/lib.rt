@@ -29,6 +29,7 @@ mod json;
 mod json_faults;
 mod kinds;
 mod lacking;
+mod layouts;
 mod leaves;
 mod left;
 mod line_forms;

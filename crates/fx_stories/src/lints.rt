@@ -11,7 +11,7 @@ use crate::overlapping::tell_overlapping;
 use crate::prefixes::{tell_prefixes, tell_prefixes_of_classes};
 use crate::scanning::tell_twice;
 use crate::story::Story;
-use crate::unread::tell_unread_members;
+use crate::unread::{tell_unread_fields, tell_unread_members};
 use crate::unseen::tell_unseen;
 use crate::unused::tell_unused;
 use fx_base::{Fault, Sink, put_text};
@@ -24,6 +24,7 @@ fn tell_network(alloc: Global, story: &mut Story, network: &[u8]) -> Result<(), 
     };
     tell_twice(alloc, story, "network", network)?;
     tell_unread_members(story, &value);
+    tell_unread_fields(alloc, story, &value)?;
     tell_prefixes(story, &value);
     if let Some(plan) = plan_again(alloc, network)? {
         tell_unused(story, &plan);
@@ -90,9 +91,9 @@ fn story_of(alloc: Global, network: &[u8], traffic: Option<&[u8]>) -> Result<Sto
 }
 
 /// Writes in sentences what is read in silence in a network's document that is accepted, and in a traffic declaration:
-/// members that stand twice in an object, of which the last one counts; members that nothing reads; prefixes whose
+/// members that stand twice in an object, of which the last one counts; members that nothing reads; fields of caches whose elements are misspelled; prefixes whose
 /// address has bits behind its length; observation points, selection processes, caches, destinations and aggregations
-/// that lead nowhere; caches and collecting processes that nothing feeds; selection processes whose filters exclude one
+/// that lead nowhere; caches without a flow key; caches and collecting processes that nothing feeds; selection processes whose filters exclude one
 /// another; classes that are exempt, or that there are none, and classes that overlap; crossings whose interface is at
 /// no observation point, with the interfaces that are at one, paths of which no observation point sees a crossing, and
 /// observation points that observe the other direction alone. Where there is nothing of the kind, nothing is written.

@@ -1,7 +1,9 @@
 //! Members of a network's document that nothing reads.
+use crate::elements::tell_misspelled_fields;
 use crate::pointers::{configuration, items_member, text_or_none};
 use crate::story::Story;
 use serde_json::Value;
+use std::alloc::{AllocError, Global};
 
 /// The transports of destinations and of collecting processes.
 const TRANSPORTS: [&str; 6] = [
@@ -11,6 +13,14 @@ const TRANSPORTS: [&str; 6] = [
     "tcpCollector",
     "sctpCollector",
     "udpCollector",
+];
+
+/// The members of which a cache has one, in which its layout stands.
+const KINDS: [&str; 4] = [
+    "immediateCache",
+    "timeoutCache",
+    "naturalCache",
+    "permanentCache",
 ];
 
 /// Whether a member is an object that isn't empty.
@@ -104,4 +114,45 @@ pub(crate) fn tell_unread_members(story: &mut Story, network: &Value) {
     for device in items_member(network, "devices") {
         tell_device(story, device);
     }
+}
+
+/// The layout of a cache.
+fn layout_of(cache: &Value) -> Option<&Value> {
+    for kind in KINDS {
+        if let Some(members) = cache.get(kind) {
+            return members.get("cacheLayout");
+        }
+    }
+    None
+}
+
+/// Tells the fields of a device's caches whose elements are misspelled.
+fn tell_fields(alloc: Global, story: &mut Story, device: &Value) -> Result<(), AllocError> {
+    let Some(container) = configuration(device) else {
+        return Ok(());
+    };
+    for cache in items_member(container, "cache") {
+        if let Some(layout) = layout_of(cache) {
+            tell_misspelled_fields(
+                alloc,
+                story,
+                text_or_none(device, "name"),
+                text_or_none(cache, "name"),
+                items_member(layout, "cacheField"),
+            )?;
+        }
+    }
+    Ok(())
+}
+
+/// Tells the fields of caches of a network's document whose elements are misspelled, and so aren't read.
+pub(crate) fn tell_unread_fields(
+    alloc: Global,
+    story: &mut Story,
+    network: &Value,
+) -> Result<(), AllocError> {
+    for device in items_member(network, "devices") {
+        tell_fields(alloc, story, device)?;
+    }
+    Ok(())
 }

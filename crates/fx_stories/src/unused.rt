@@ -116,6 +116,16 @@ fn tell_unexported(story: &mut Story, device: &NetworkDevice) {
     }
 }
 
+/// Tells the caches of a device that have no flow key.
+fn tell_keyless(story: &mut Story, device: &NetworkDevice) {
+    for cache in device.config.caches.as_slice() {
+        if cache.layout.parts().is_empty() {
+            let words = " has no flow key (isFlowKey), so its records tell no packets apart";
+            tell_end(story, "cache", &cache.name, &device.name, words);
+        }
+    }
+}
+
 /// Tells the aggregations of a collecting process whose records go nowhere.
 fn tell_unsent(story: &mut Story, device: &NetworkDevice, process: &CollectingProcess) {
     for aggregation in process.aggregations.as_slice() {
@@ -151,6 +161,7 @@ fn tell_device(story: &mut Story, links: &[NamedLink], device: &NetworkDevice) {
     tell_unmetered(story, device);
     tell_caches(story, device);
     tell_unexported(story, device);
+    tell_keyless(story, device);
     for process in device.config.exporting_processes.as_slice() {
         tell_destinations(story, links, &device.name, process);
     }
