@@ -86,6 +86,82 @@ fn texts_in(octets: &[u8]) -> (u64, bool) {
     (count, !rest.is_empty())
 }
 
+/// Whether a line has `%%` at its end, or in front, and isn't it.
+fn is_nearly_mark(line: &[u8], at_end: bool) -> bool {
+    let begins = line.starts_with(b"%%");
+    if at_end {
+        line.ends_with(b"%%") && !begins
+    } else {
+        begins && line.len() > 2
+    }
+}
+
+/// How many lines have `%%` at their ends, or in front, and aren't it, and the number of the first, where these begin with
+/// the second of all.
+fn nearly_marks(octets: &[u8], at_end: bool) -> (u64, u64) {
+    let mut rest = octets;
+    let mut count: u64 = 0;
+    let mut first: u64 = 0;
+    let mut number: u64 = 1;
+    for _ in 0..octets.len() {
+        let (line, behind) = first_line(rest);
+        rest = behind;
+        number = number.saturating_add(1);
+        if is_nearly_mark(line, at_end) {
+            count = count.saturating_add(1);
+            if first == 0 {
+                first = number;
+            }
+        }
+        if rest.is_empty() {
+            break;
+        }
+    }
+    (count, first)
+}
+
+/// Writes how many lines have `%%` at their ends, or in front, and aren't it, where there are some, and what to do.
+fn put_nearly_marks(octets: &[u8], at_end: bool, sink: &mut Words) -> Result<(), Fault> {
+    let (count, first) = nearly_marks(octets, at_end);
+    if count == 0 {
+        return Ok(());
+    }
+    put_text(
+        sink,
+        if at_end {
+            b"lines that end in %%, behind something else: ".as_slice()
+        } else {
+            b"lines that begin with %% and go on: "
+        },
+    )?;
+    put_number(sink, count)?;
+    put_text(sink, b" (the first is line ")?;
+    put_number(sink, first)?;
+    put_text(
+        sink,
+        if at_end {
+            b"); put a line feed in front of each %%\n".as_slice()
+        } else {
+            b"); take out what stands behind each %%\n"
+        },
+    )
+}
+
+/// Writes how many lines `%%` a bundle has and its command wants, and which lines nearly are such.
+fn put_mark_words(octets: &[u8], count: u64, wanted: u64, sink: &mut Words) -> Result<(), Fault> {
+    put_text(sink, b"the bundle has ")?;
+    put_number(sink, count)?;
+    put_text(sink, b" lines %%; its command wants ")?;
+    put_number(sink, wanted)?;
+    put_text(sink, b", one behind each text\n")?;
+    put_nearly_marks(octets, true, sink)?;
+    put_nearly_marks(octets, false, sink)?;
+    if octets.ends_with(b"\n%%") {
+        put_text(sink, b"no line feed stands behind the last %%\n")?;
+    }
+    Ok(())
+}
+
 /// How many texts stand behind a bundle's first line; 0 where that is no command.
 fn texts_of(command: &[u8]) -> u64 {
     match command {
@@ -150,11 +226,7 @@ pub(crate) fn put_bundle_words(octets: &[u8], sink: &mut Words) -> Result<(), Fa
     }
     let (count, has_more) = texts_in(rest);
     if count != wanted {
-        put_text(sink, b"the bundle has ")?;
-        put_number(sink, count)?;
-        put_text(sink, b" lines %%; its command wants ")?;
-        put_number(sink, wanted)?;
-        return put_text(sink, b", one behind each text\n");
+        return put_mark_words(rest, count, wanted, sink);
     }
     if has_more {
         return put_text(sink, b"something stands behind the bundle's last line %%\n");

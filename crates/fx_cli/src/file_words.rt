@@ -8,6 +8,10 @@ use fx_base::{Fault, Place, put_text, refusals};
 use std::fs;
 use std::rt::Files;
 
+/// Where the lines of a bundle's third text are, which have numbers of their own.
+const IN_BUNDLE: &[u8] =
+    b"file: standard input, the third text in the bundle, of which the lines are counted from 1\n";
+
 /// Whether a directory has this name.
 fn is_directory<R: Files>(rt: &R, path: &str) -> bool {
     match fs::metadata(rt, path) {
@@ -16,11 +20,19 @@ fn is_directory<R: Files>(rt: &R, path: &str) -> bool {
     }
 }
 
-/// Whether a refusal has its place in what a call reads behind its documents.
+/// Whether a refusal of this number is that of a run's step, which has no place.
+fn is_of_step(number: u16) -> bool {
+    matches!(
+        number,
+        refusals::STEP_NOT_ENABLED | refusals::WRONG_CHOICES | refusals::NO_RECORD_THERE
+    )
+}
+
+/// Whether a refusal is about what a call reads behind its documents.
 fn is_behind_documents(fault: &Fault) -> bool {
     fault.number >= refusals::CERTIFICATE_FIRST
         && fault.number < refusals::WANT_OF_MEMORY
-        && !matches!(fault.place, Place::None)
+        && (!matches!(fault.place, Place::None) || is_of_step(fault.number))
 }
 
 /// Writes a file's name in a line of its own.
@@ -106,6 +118,14 @@ pub(crate) fn put_text_name<R: Files>(
 ) -> Result<(), Fault> {
     match text {
         LinesAt::File(file) => put_file_name(rt, file, sink),
-        LinesAt::Octets(_) => Ok(()),
+        LinesAt::Octets(_) => put_text(sink, IN_BUNDLE),
+    }
+}
+
+/// Writes that a text is in a bundle, where it is; a file's name was written before.
+pub(crate) fn put_bundled_name(text: LinesAt<'_>, sink: &mut Words) -> Result<(), Fault> {
+    match text {
+        LinesAt::File(_) => Ok(()),
+        LinesAt::Octets(_) => put_text(sink, IN_BUNDLE),
     }
 }

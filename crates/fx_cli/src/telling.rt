@@ -2,7 +2,7 @@
 
 use crate::asked::{Asked, LinesAt, Question, question_of};
 use crate::bundles::put_bundle_words;
-use crate::file_words::{put_file_words, put_text_name};
+use crate::file_words::{put_bundled_name, put_file_words, put_text_name};
 use crate::notes::Notes;
 use crate::reading_again::{file_again, lines_again, put_lines_not_again, put_not_again};
 use crate::words::Call;
@@ -284,7 +284,10 @@ fn put_refused_words<R: AllocGlobal + Files>(
         return put_document_place(rt.alloc(), question, fault, sink);
     }
     match question.asked {
-        Asked::Replay(run) => put_step_words(rt, run, question, fault, sink),
+        Asked::Replay(run) => {
+            put_bundled_name(run, sink)?;
+            put_step_words(rt, run, question, fault, sink)
+        }
         Asked::Run { capture, schedule } => {
             put_metering_words(rt, capture, schedule, question, fault, sink)
         }
