@@ -1,5 +1,5 @@
 -- Tables of one collecting process, to which two caches send.
-use Rattle.std.proofs.Common.{◌≡◌, ℕ, zero, suc, ◌<◌, List, [], ◌∷◌, Some, refl, sym, ap, subst, arith, slice_get}
+use Rattle.std.proofs.Common.{◌≡◌, ℕ, zero, suc, ◌<◌, List, [], ◌∷◌, Some, refl, sym, ap, subst, ◌∙◌, arith, slice_get}
 use Rattle.std.specs.Prelude.{Contains}
 use Rattle.std.specs.List.{AllByRecursion}
 use Rattle.fx_layout.specs.Keys.{Layout, Fits}
@@ -65,3 +65,10 @@ two_meters t holders processes report order numbering =
     let n = t.net in
     let P : List Holder → List Process → ℕ → List ℕ → Numbering → Type 0 = λ hs. λ ps. λ r. λ o. λ i. AreTables (record { net = net_of n.devices n.exporters n.links n.report_layout hs ps r; order = o; numbering = i }) in
     subst (λ hs. P hs n.processes n.report t.order t.numbering) (sym holders) (subst (λ ps. P two_caches ps n.report t.order t.numbering) (sym processes) (subst (λ r. P two_caches one_process r t.order t.numbering) (sym report) (subst (λ o. P two_caches one_process 0 o t.numbering) (sym order) (subst (λ i. P two_caches one_process 0 (0 ∷ []) i) (sym numbering) (small_tables n.devices n.exporters n.links n.report_layout)))))
+
+-- lent with the one layout, which has no part
+pub lent : (t : Tables) (net : Net) (l : Layout) → t ≡ record { net = net; order = 0 ∷ []; numbering = record { layouts = l ∷ []; numbers = 0 ∷ 0 ∷ [] } } → l ≡ []
+    → net.holders ≡ two_caches → net.processes ≡ one_process → net.report ≡ 0 → AreTables t
+lent t net l is none holders processes report =
+    let numbering : t.numbering ≡ one_layout = ap (λ (t : Tables). t.numbering) is ∙ ap (λ (l : Layout). let n : Numbering = record { layouts = l ∷ []; numbers = 0 ∷ 0 ∷ [] } in n) none in
+    two_meters t (ap (λ (t : Tables). t.net.holders) is ∙ holders) (ap (λ (t : Tables). t.net.processes) is ∙ processes) (ap (λ (t : Tables). t.net.report) is ∙ report) (ap (λ (t : Tables). t.order) is) numbering

@@ -1,37 +1,23 @@
-use Rattle.std.proofs.Common.{◌≡◌, ◌∙◌, ap, List, [], ◌∷◌}
-use Rattle.fx_layout.specs.Keys.{Layout}
-use Rattle.fx_leaf.specs.Tables.{Tables, Numbering}
-use Rattle.fx_tests_network.proofs.TwoMeters.{two_meters}
+use Rattle.fx_tests_network.proofs.TwoMeters.{lent}
 use Rattle.fx_tests_network.proofs.leaf_filters.asked.Goals as goal
 
+pub begin-requires-clause-tables : goal.begin-requires-clause-tables
+begin-requires-clause-tables g c = lent c.new-tables.result c.args.net.now c.new.result c.new-tables.ensures c.new.ensures c.requires.holders c.requires.processes c.requires.report
+
 pub fate-requires-clause-tables : goal.fate-requires-clause-tables
-fate-requires-clause-tables g c =
-    let is = c.new-tables.ensures in
-    let numbering : c.new-tables.result.numbering ≡ record { layouts = [] ∷ []; numbers = 0 ∷ 0 ∷ [] } =
-    ap (λ (t : Tables). t.numbering) is ∙ ap (λ (l : Layout). let n : Numbering = record { layouts = l ∷ []; numbers = 0 ∷ 0 ∷ [] } in n) c.new.ensures
-    in
-    two_meters c.new-tables.result (ap (λ (t : Tables). t.net.holders) is ∙ c.requires.holders) (ap (λ (t : Tables). t.net.processes) is ∙ c.requires.processes) (ap (λ (t : Tables). t.net.report) is ∙ c.requires.report) (ap (λ (t : Tables). t.order) is) numbering
+fate-requires-clause-tables g c = lent c.new-tables.result c.args.net.now c.new.result c.new-tables.ensures c.new.ensures c.requires.holders c.requires.processes c.requires.report
+
+pub fate-requires-2-clause-tables : goal.fate-requires-2-clause-tables
+fate-requires-2-clause-tables g c = lent c.new-tables.result c.args.net.now c.new.result c.new-tables.ensures c.new.ensures c.requires.holders c.requires.processes c.requires.report
 
 pub never-requires-clause-tables : goal.never-requires-clause-tables
-never-requires-clause-tables g c =
-    let is = c.new-tables.ensures in
-    let numbering : c.new-tables.result.numbering ≡ record { layouts = [] ∷ []; numbers = 0 ∷ 0 ∷ [] } =
-    ap (λ (t : Tables). t.numbering) is ∙ ap (λ (l : Layout). let n : Numbering = record { layouts = l ∷ []; numbers = 0 ∷ 0 ∷ [] } in n) c.new.ensures
-    in
-    two_meters c.new-tables.result (ap (λ (t : Tables). t.net.holders) is ∙ c.requires.holders) (ap (λ (t : Tables). t.net.processes) is ∙ c.requires.processes) (ap (λ (t : Tables). t.net.report) is ∙ c.requires.report) (ap (λ (t : Tables). t.order) is) numbering
+never-requires-clause-tables g c = lent c.new-tables.result c.args.net.now c.new.result c.new-tables.ensures c.new.ensures c.requires.holders c.requires.processes c.requires.report
+
+pub never-requires-2-clause-tables : goal.never-requires-2-clause-tables
+never-requires-2-clause-tables g c = lent c.new-tables.result c.args.net.now c.new.result c.new-tables.ensures c.new.ensures c.requires.holders c.requires.processes c.requires.report
 
 pub cut-split-requires-clause-tables : goal.cut-split-requires-clause-tables
-cut-split-requires-clause-tables g c =
-    let is = c.new-tables.ensures in
-    let numbering : c.new-tables.result.numbering ≡ record { layouts = [] ∷ []; numbers = 0 ∷ 0 ∷ [] } =
-    ap (λ (t : Tables). t.numbering) is ∙ ap (λ (l : Layout). let n : Numbering = record { layouts = l ∷ []; numbers = 0 ∷ 0 ∷ [] } in n) c.new.ensures
-    in
-    two_meters c.new-tables.result (ap (λ (t : Tables). t.net.holders) is ∙ c.requires.holders) (ap (λ (t : Tables). t.net.processes) is ∙ c.requires.processes) (ap (λ (t : Tables). t.net.report) is ∙ c.requires.report) (ap (λ (t : Tables). t.order) is) numbering
+cut-split-requires-clause-tables g c = lent c.new-tables.result c.args.net.now c.new.result c.new-tables.ensures c.new.ensures c.requires.holders c.requires.processes c.requires.report
 
 pub judge-judgement-requires-clause-tables : goal.judge-judgement-requires-clause-tables
-judge-judgement-requires-clause-tables g c =
-    let is = c.new-tables.ensures in
-    let numbering : c.new-tables.result.numbering ≡ record { layouts = [] ∷ []; numbers = 0 ∷ 0 ∷ [] } =
-    ap (λ (t : Tables). t.numbering) is ∙ ap (λ (l : Layout). let n : Numbering = record { layouts = l ∷ []; numbers = 0 ∷ 0 ∷ [] } in n) c.new.ensures
-    in
-    two_meters c.new-tables.result (ap (λ (t : Tables). t.net.holders) is ∙ c.requires.holders) (ap (λ (t : Tables). t.net.processes) is ∙ c.requires.processes) (ap (λ (t : Tables). t.net.report) is ∙ c.requires.report) (ap (λ (t : Tables). t.order) is) numbering
+judge-judgement-requires-clause-tables g c = lent c.new-tables.result c.args.net.now c.new.result c.new-tables.ensures c.new.ensures c.requires.holders c.requires.processes c.requires.report
