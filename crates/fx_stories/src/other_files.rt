@@ -25,7 +25,7 @@ fn text_of_once(word: &str) -> Option<OtherFile> {
     match word {
         "once-certificate" => other(
             "a certificate",
-            "the files stand in this order: once check NETWORK TRAFFIC CERTIFICATE, as of once draw",
+            "the files stand in this order: once check (or draw) NETWORK TRAFFIC CERTIFICATE",
         ),
         "once-run" => other(
             "a run",
@@ -33,7 +33,7 @@ fn text_of_once(word: &str) -> Option<OtherFile> {
         ),
         "once-refutation" => other(
             "a refutation",
-            "the files stand in this order: once confirm NETWORK TRAFFIC REFUTATION, as of once draw",
+            "the files stand in this order: once confirm (or draw) NETWORK TRAFFIC REFUTATION",
         ),
         "keys" => other(
             "a text of totals",
