@@ -2,7 +2,7 @@
 use Rattle.std.specs.Prelude.{◌≡◌, ℕ, ◌+◌, ◌<◌, ◌≤◌, List, [], ◌∷◌, length, drop, slice_get, Some, Result, Ok, Err}
 use Rattle.fx_boxes.specs.Boxes.{below_part, above_part}
 use Rattle.fx_cert.specs.declared.item.Version.{Version}
-use Rattle.fx_leaf.specs.PathTables.{HasRoom, IsBegun, PathTable}
+use Rattle.fx_leaf.specs.PathTables.{HasProcessRoom, IsPathBegun, PathTable}
 use Rattle.fx_leaf.specs.Tables.{Tables}
 use Rattle.fx_traffic.specs.Targets.{Target}
 use Rattle.fx_check.specs.declared.stack.WaitingRegion.{WaitingRegion}
@@ -64,14 +64,14 @@ IsInTree stage.Ended = ⊥
 
 -- in the tree of a target, the path of that target is begun
 abbrev pub HasBegun : Tables → List Target → ℕ → Stage → PathTable → Type 0
-HasBegun t ts at (stage.Tree w) p = (target : Target) → slice_get ts at ≡ Some target → IsBegun t target.crossings p
+HasBegun t ts at (stage.Tree w) p = (target : Target) → slice_get ts at ≡ Some target → IsPathBegun t target.crossings p
 HasBegun t ts at stage.Header p = Unit {0}
 HasBegun t ts at stage.Between p = Unit {0}
 HasBegun t ts at stage.Ended p = Unit {0}
 
 -- the room is there in which leaves are judged
 abbrev pub IsReady : Tables → List Target → Course → PathTable → Type 0
-IsReady t ts c p = HasRoom t p × HasBegun t ts c.current c.stage p
+IsReady t ts c p = HasProcessRoom t p × HasBegun t ts c.current c.stage p
 
 abbrev pub rest_of_tree : Version → List Target → List WaitingRegion → List Goal
 rest_of_tree v [] ws = []

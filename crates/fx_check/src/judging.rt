@@ -1,6 +1,6 @@
 //! What is wrong with a leaf.
 ghost use Rattle.std.specs.Prelude.{◌≡◌, Some, None};
-ghost use Rattle.fx_leaf.specs.PathTables.{HasRoom, IsBegun};
+ghost use Rattle.fx_leaf.specs.PathTables.{HasProcessRoom, IsPathBegun};
 ghost use Rattle.fx_leaf.specs.Tables.{AreTables};
 ghost use Rattle.fx_check.specs.Judging as of_judging;
 
@@ -25,12 +25,12 @@ pub(crate) fn leaf_fault(
     leaf: &Counted,
 ) -> Option<u16>
     requires tables { AreTables tables.now }
-    requires room { HasRoom tables.now scratch.old }
-    requires begun { IsBegun tables.now target.now.crossings scratch.old }
+    requires room { HasProcessRoom tables.now scratch.old }
+    requires begun { IsPathBegun tables.now target.now.crossings scratch.old }
     ensures fault { result ≡ of_judging.judge_of tables.now.net target.now region.now
         (Some leaf.now) }
-    ensures room { HasRoom tables.now scratch.new }
-    ensures begun { IsBegun tables.now target.now.crossings scratch.new }
+    ensures room { HasProcessRoom tables.now scratch.new }
+    ensures begun { IsPathBegun tables.now target.now.crossings scratch.new }
 {
     match scratch.fate(tables, target.crossings, region) {
         Err(e) => Some(e.number),
@@ -52,11 +52,11 @@ pub(crate) fn never_fault(
     region: &Region,
 ) -> Option<u16>
     requires tables { AreTables tables.now }
-    requires room { HasRoom tables.now scratch.old }
-    requires begun { IsBegun tables.now target.now.crossings scratch.old }
+    requires room { HasProcessRoom tables.now scratch.old }
+    requires begun { IsPathBegun tables.now target.now.crossings scratch.old }
     ensures fault { result ≡ of_judging.judge_of tables.now.net target.now region.now None }
-    ensures room { HasRoom tables.now scratch.new }
-    ensures begun { IsBegun tables.now target.now.crossings scratch.new }
+    ensures room { HasProcessRoom tables.now scratch.new }
+    ensures begun { IsPathBegun tables.now target.now.crossings scratch.new }
 {
     match scratch.never(tables, target.crossings, region) {
         Err(e) => Some(e.number),

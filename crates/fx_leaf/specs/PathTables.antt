@@ -13,7 +13,7 @@ pub record PathTable : Type 0 where
   pub steady : Bool
 
 -- there is room for the network's collecting processes, and for no others
-pub record HasRoom (t : Tables) (p : PathTable) : Type 0 where
+pub record HasProcessRoom (t : Tables) (p : PathTable) : Type 0 where
   pub table : length p.table ≡ length t.net.processes
   pub marks : length p.marks ≡ length t.net.processes
 
@@ -27,7 +27,7 @@ TakeNoneIn processes marks =
     (process : ℕ) (p : Process) → slice_get processes process ≡ Some p → HasNoMarkOrAggregation (slice_index marks process) p
 
 -- the path's marks are there, and its verdicts, where they hold for each region
-pub record IsBegun (t : Tables) (path : List Crossing) (p : PathTable) : Type 0 where
+pub record IsPathBegun (t : Tables) (path : List Crossing) (p : PathTable) : Type 0 where
   pub along : HoldsAlongPath t.net t.numbering (IsMarked p.marks) path
   pub closed : IsClosed t.net t.numbering p.marks
   pub filled : p.steady ≡ true → (region : Bounds) → IsFilled t.net t.numbering region p.marks p.table

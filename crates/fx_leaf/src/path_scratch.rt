@@ -69,7 +69,7 @@ impl PathScratch {
     ///
     /// Fails with 900, at no place, for want of memory.
     pub fn new(alloc: Global, tables: &Tables<'_>) -> Result<PathScratch, Fault>
-        ensures ok { IfOk result (path_tables.HasRoom tables.now) }
+        ensures ok { IfOk result (path_tables.HasProcessRoom tables.now) }
         ensures err { IfErr result IsMemory }
     {
         let count = tables.net().processes().len();
@@ -83,9 +83,9 @@ impl PathScratch {
     /// A path begins, whose leaves are judged from now on.
     pub fn begin(&mut self, tables: &Tables<'_>, path: &[Crossing])
         requires tables { by_table.AreTables tables.now }
-        requires room { path_tables.HasRoom tables.now self.old }
-        ensures begun { path_tables.IsBegun tables.now path.now self.new }
-        ensures room { path_tables.HasRoom tables.now self.new }
+        requires room { path_tables.HasProcessRoom tables.now self.old }
+        ensures begun { path_tables.IsPathBegun tables.now path.now self.new }
+        ensures room { path_tables.HasProcessRoom tables.now self.new }
     {
         mark(&mut self.marks, tables, path);
         self.steady = take_none_in(&self.marks, tables.net().processes());
@@ -97,12 +97,12 @@ impl PathScratch {
     /// The verdicts are those on the packets of this region.
     fn fill_for(&mut self, tables: &Tables<'_>, path: &[Crossing], region: &Region)
         requires tables { by_table.AreTables tables.now }
-        requires room { path_tables.HasRoom tables.now self.old }
-        requires begun { path_tables.IsBegun tables.now path.now self.old }
+        requires room { path_tables.HasProcessRoom tables.now self.old }
+        requires begun { path_tables.IsPathBegun tables.now path.now self.old }
         ensures filled { reach.IsFilled tables.now.net tables.now.numbering region.now
             self.new.marks self.new.table }
-        ensures begun { path_tables.IsBegun tables.now path.now self.new }
-        ensures room { path_tables.HasRoom tables.now self.new }
+        ensures begun { path_tables.IsPathBegun tables.now path.now self.new }
+        ensures room { path_tables.HasProcessRoom tables.now self.new }
     {
         if self.steady {
             return;
@@ -118,13 +118,13 @@ impl PathScratch {
         region: &Region,
     ) -> Result<PathFate, (Axis, u128)>
         requires tables { by_table.AreTables tables.now }
-        requires room { path_tables.HasRoom tables.now self.old }
-        requires begun { path_tables.IsBegun tables.now path.now self.old }
+        requires room { path_tables.HasProcessRoom tables.now self.old }
+        requires begun { path_tables.IsPathBegun tables.now path.now self.old }
         ensures ok { IfOk result (leaves.IsPathFate tables.now.net path.now region.now) }
         ensures err { IfErr result (λ s. splits.IsSplit tables.now.net path.now region.now s.0
             s.1) }
-        ensures begun { path_tables.IsBegun tables.now path.now self.new }
-        ensures room { path_tables.HasRoom tables.now self.new }
+        ensures begun { path_tables.IsPathBegun tables.now path.now self.new }
+        ensures room { path_tables.HasProcessRoom tables.now self.new }
     {
         // For the prover alone: the bounds of a region hold.
         bounds_hold(region);
@@ -152,11 +152,11 @@ impl PathScratch {
         region: &Region,
     ) -> Result<Counted, Fault>
         requires tables { by_table.AreTables tables.now }
-        requires room { path_tables.HasRoom tables.now self.old }
-        requires begun { path_tables.IsBegun tables.now path.now self.old }
+        requires room { path_tables.HasProcessRoom tables.now self.old }
+        requires begun { path_tables.IsPathBegun tables.now path.now self.old }
         ensures answer { result ≡ leaves.path_leaf tables.now.net path.now region.now }
-        ensures begun { path_tables.IsBegun tables.now path.now self.new }
-        ensures room { path_tables.HasRoom tables.now self.new }
+        ensures begun { path_tables.IsPathBegun tables.now path.now self.new }
+        ensures room { path_tables.HasProcessRoom tables.now self.new }
     {
         // For the prover alone: the bounds of a region hold.
         bounds_hold(region);
@@ -174,12 +174,12 @@ impl PathScratch {
         region: &Region,
     ) -> Result<(), Fault>
         requires tables { by_table.AreTables tables.now }
-        requires room { path_tables.HasRoom tables.now self.old }
-        requires begun { path_tables.IsBegun tables.now path.now self.old }
+        requires room { path_tables.HasProcessRoom tables.now self.old }
+        requires begun { path_tables.IsPathBegun tables.now path.now self.old }
         ensures answer { result ≡ leaves.never_of
             (verdicts.path_verdict tables.now.net region.now path.now) }
-        ensures begun { path_tables.IsBegun tables.now path.now self.new }
-        ensures room { path_tables.HasRoom tables.now self.new }
+        ensures begun { path_tables.IsPathBegun tables.now path.now self.new }
+        ensures room { path_tables.HasProcessRoom tables.now self.new }
     {
         // For the prover alone: the bounds of a region hold.
         bounds_hold(region);

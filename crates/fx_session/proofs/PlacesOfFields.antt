@@ -12,11 +12,11 @@ use Rattle.fx_wire.specs.Values.{Value, variable_at, value_at, record_at, before
 use Rattle.fx_wire.specs.Values.{octets_at as octets_or_none}
 use Rattle.fx_wire.specs.declared.field.FieldSpecifier.{FieldSpecifier}
 use Rattle.fx_wire.proofs.RecordSteps.{here_and_on, none_left, record_at-first, record_at-end}
-use Rattle.fx_session.specs.declared.places.Place.{Place}
+use Rattle.fx_session.specs.declared.places.ValuePlace.{ValuePlace}
 use Rattle.fx_session.specs.declared.places.RecordPlaces.{RecordPlaces}
 use Rattle.fx_session.specs.DataSets.{Taken, after_flow, after_values, flow_record, with_flow}
 use Rattle.fx_session.specs.Flows.{Found, first_where, found_in, flow_in, is_value, is_prefix, is_prefix_length, is_octets, is_packets, number_in, part_on, prefix_part}
-use Rattle.fx_session.specs.Places.{ArePlacesIn, ArePlacesOf, IsPlaceIn, found_at, have_fixed_lengths, is_any_prefix, octets_at, place_on, place_where, record_by}
+use Rattle.fx_session.specs.Places.{ArePlacesIn, ArePlacesOf, IsPlaceIn, found_at, have_fixed_lengths, is_any_prefix, octets_of_place, place_on, place_where, record_by}
 use Rattle.fx_session.proofs.Keys.{key_known}
 
 -- ---- the first field of an element
@@ -66,7 +66,7 @@ value_at-fixed f fs at all h fits =
 -- the values of a record are the octets at the places of their fields
 pub values_at : (fields : List FieldSpecifier) (at : ℕ) (all : List ℕ) → have_fixed_lengths fields ≡ true → at + shortest_record fields ≤ length all
     → (vs : List Value) × (record_at fields (drop at all) ≡ Some (vs, drop (at + shortest_record fields) all))
-    × ((is : Element → Bool) → first_where is vs ≡ option_map (λ (p : Place). number_in (octets_at p all)) (place_where is at fields))
+    × ((is : Element → Bool) → first_where is vs ≡ option_map (λ (p : ValuePlace). number_in (octets_of_place p all)) (place_where is at fields))
 values_at [] at all h fits = ([], record_at-end (drop at all) ∙ ap (λ (n : ℕ). Some ([], drop n all)) (omega arith), λ is. refl)
 values_at (f ∷ fs) at all h fits =
     let n = f.field_length in
@@ -79,9 +79,9 @@ values_at (f ∷ fs) at all h fits =
           ∙ ap (λ (m : ℕ). Some (v ∷ rest.0, drop m all)) (omega (arith, long)),
       λ is. by is rest.0 (is (element_of f)) (rest.2 is),
     ) where
-      by : (is : Element → Bool) (vs : List Value) (t : Bool) → first_where is vs ≡ option_map (λ (p : Place). number_in (octets_at p all)) (place_where is (at + f.field_length) fs)
+      by : (is : Element → Bool) (vs : List Value) (t : Bool) → first_where is vs ≡ option_map (λ (p : ValuePlace). number_in (octets_of_place p all)) (place_where is (at + f.field_length) fs)
           → option_map (λ (w : Value). number_in w.content) (cond t (Some (record { field = f; content = take f.field_length (drop at all) })) (find (λ (w : Value). is (element_of w.field)) vs))
-          ≡ option_map (λ (p : Place). number_in (octets_at p all)) (cond t (Some (record { start = at; end = at + f.field_length })) (place_where is (at + f.field_length) fs))
+          ≡ option_map (λ (p : ValuePlace). number_in (octets_of_place p all)) (cond t (Some (record { start = at; end = at + f.field_length })) (place_where is (at + f.field_length) fs))
       by is vs true ih = ap (λ (m : ℕ). Some (number_in (take m (drop at all)))) (omega arith)
       by is vs false ih = ih
 
@@ -122,13 +122,13 @@ place_where-no_prefix axis (f ∷ fs) at h =
 
 pub places_within : (fields : List FieldSpecifier) (places : RecordPlaces) (n : ℕ) → ArePlacesOf fields places → shortest_record fields ≤ n → ArePlacesIn n places
 places_within fields places n are fits = record {
-  values = λ axis. subst (λ (p : Option Place). IfSome p (IsPlaceIn n)) (sym (are.values axis)) (place_where-within (is_value axis) fields 0 n are.fixed (omega (arith, fits)));
-  octets = subst (λ (p : Option Place). IfSome p (IsPlaceIn n)) are.octets (place_where-within is_octets fields 0 n are.fixed (omega (arith, fits)));
-  packets = subst (λ (p : Option Place). IfSome p (IsPlaceIn n)) are.packets (place_where-within is_packets fields 0 n are.fixed (omega (arith, fits)));
+  values = λ axis. subst (λ (p : Option ValuePlace). IfSome p (IsPlaceIn n)) (sym (are.values axis)) (place_where-within (is_value axis) fields 0 n are.fixed (omega (arith, fits)));
+  octets = subst (λ (p : Option ValuePlace). IfSome p (IsPlaceIn n)) are.octets (place_where-within is_octets fields 0 n are.fixed (omega (arith, fits)));
+  packets = subst (λ (p : Option ValuePlace). IfSome p (IsPlaceIn n)) are.packets (place_where-within is_packets fields 0 n are.fixed (omega (arith, fits)));
 }
 
 -- what is found on an axis, where no prefix of it is read
-part_at : (axis : Axis) (octets : List ℕ) (place : Option Place) (lengths : Option ℕ) → part_on axis (option_map (λ (p : Place). number_in (octets_at p octets)) place) None lengths ≡ Ok (found_at octets axis place)
+part_at : (axis : Axis) (octets : List ℕ) (place : Option ValuePlace) (lengths : Option ℕ) → part_on axis (option_map (λ (p : ValuePlace). number_in (octets_of_place p octets)) place) None lengths ≡ Ok (found_at octets axis place)
 part_at axis octets (Some place) lengths = refl
 part_at axis octets None lengths = either (is_address axis) where
   either : (t : Bool) → cond t (prefix_part axis None lengths) (Ok None) ≡ Ok None
@@ -136,11 +136,11 @@ part_at axis octets None lengths = either (is_address axis) where
   either false = refl
 
 flow_in-places : (fields : List FieldSpecifier) (places : RecordPlaces) (octets : List ℕ) (vs : List Value) → ArePlacesOf fields places
-    → ((is : Element → Bool) → first_where is vs ≡ option_map (λ (p : Place). number_in (octets_at p octets)) (place_where is 0 fields))
+    → ((is : Element → Bool) → first_where is vs ≡ option_map (λ (p : ValuePlace). number_in (octets_of_place p octets)) (place_where is 0 fields))
     → flow_in vs ≡ Ok (Some (record_by places octets))
 unfolding flow_in
 flow_in-places fields places octets vs are is =
-    let number : Option Place → Option ℕ = option_map (λ (p : Place). number_in (octets_at p octets)) in
+    let number : Option ValuePlace → Option ℕ = option_map (λ (p : ValuePlace). number_in (octets_of_place p octets)) in
     let own : Axis → Found = λ axis. found_at octets axis (place_on places axis) in
     let found : (axis : Axis) → found_in vs axis ≡ Ok (own axis) = λ axis.
     cc (is (is_value axis) ∙ ap number (sym (are.values axis)), is (is_prefix axis) ∙ ap number (place_where-no_prefix axis fields 0 are.plain), part_at axis octets (place_on places axis) (first_where (is_prefix_length axis) vs)) in

@@ -9,7 +9,7 @@ use Rattle.fx_layout.specs.Keys.{key_of}
 use Rattle.fx_tables.specs.declared.record.Record.{Record}
 use Rattle.fx_wire.specs.Fields.{element_of}
 use Rattle.fx_wire.specs.declared.field.FieldSpecifier.{FieldSpecifier}
-use Rattle.fx_session.specs.declared.places.Place.{Place}
+use Rattle.fx_session.specs.declared.places.ValuePlace.{ValuePlace}
 use Rattle.fx_session.specs.declared.places.RecordPlaces.{RecordPlaces}
 use Rattle.fx_session.specs.Flows.{Found, fields_of, is_value, is_octets, is_packets, layout_of, number_in}
 
@@ -29,20 +29,20 @@ abbrev pub have_fixed_lengths : List FieldSpecifier → Bool
 have_fixed_lengths fields = list_all (λ f. not (f.field_length == 65535)) fields
 
 -- the place of the first field of such an element, where the first of the fields begins at this octet of a record
-abbrev pub place_where : (Element → Bool) → ℕ → List FieldSpecifier → Option Place
+abbrev pub place_where : (Element → Bool) → ℕ → List FieldSpecifier → Option ValuePlace
 place_where is at [] = None
 place_where is at (f ∷ fs) =
     if is (element_of f) then Some (record { start = at; end = at + f.field_length }) else place_where is (at + f.field_length) fs
 
-abbrev pub octets_at : Place → List ℕ → List ℕ
-octets_at place octets = slice_range octets place.start place.end
+abbrev pub octets_of_place : ValuePlace → List ℕ → List ℕ
+octets_of_place place octets = slice_range octets place.start place.end
 
 -- what the octets of a record tell of an axis
-abbrev pub found_at : List ℕ → Axis → Option Place → Found
-found_at octets axis (Some place) = Some (record { bits = axis_width axis; value = number_in (octets_at place octets) })
+abbrev pub found_at : List ℕ → Axis → Option ValuePlace → Found
+found_at octets axis (Some place) = Some (record { bits = axis_width axis; value = number_in (octets_of_place place octets) })
 found_at octets axis None = None
 
-abbrev pub place_on : RecordPlaces → Axis → Option Place
+abbrev pub place_on : RecordPlaces → Axis → Option ValuePlace
 place_on places axis = slice_index_or places.values (axis_index axis) None
 
 -- what a record tells on each axis, 0 where it tells nothing
@@ -54,13 +54,13 @@ abbrev pub record_by : RecordPlaces → List ℕ → Record
 record_by places octets = record {
   key = key_of places.layout (told_by places octets);
   counts = record {
-    packets = number_in (octets_at places.packets octets) % 2 ^ 64;
-    octets = number_in (octets_at places.octets octets) % 2 ^ 64;
+    packets = number_in (octets_of_place places.packets octets) % 2 ^ 64;
+    octets = number_in (octets_of_place places.octets octets) % 2 ^ 64;
   };
 }
 
 -- a place in so many octets
-abbrev pub IsPlaceIn : ℕ → Place → Type 0
+abbrev pub IsPlaceIn : ℕ → ValuePlace → Type 0
 IsPlaceIn n place = (place.start ≤ place.end) × (place.end ≤ n)
 
 pub record ArePlacesIn (n : ℕ) (places : RecordPlaces) : Type 0 where

@@ -23,7 +23,7 @@ const MOST_FIELDS: usize = 64;
 
 /// Where a value stands in a record, from 0: its first octet, and the one behind its last.
 #[derive(Clone, Copy, Debug, PartialEq, Eq)]
-pub(crate) struct Place {
+pub(crate) struct ValuePlace {
     pub start: usize,
     pub end: usize,
 }
@@ -31,9 +31,9 @@ pub(crate) struct Place {
 /// Where the values of flows stand in each record of a template, and the layout of their keys.
 #[derive(Drop)]
 pub(crate) struct RecordPlaces {
-    pub values: [Option<Place>; AXES],
-    pub octets: Place,
-    pub packets: Place,
+    pub values: [Option<ValuePlace>; AXES],
+    pub octets: ValuePlace,
+    pub packets: ValuePlace,
     pub layout: Layout,
 }
 
@@ -66,7 +66,7 @@ fn have_prefix(elements: &[Element]) -> bool
 }
 
 /// The place of the first field of the element that is sought.
-fn place_of(fields: &[FieldSpecifier], elements: &[Element], sought: Element) -> Option<Place>
+fn place_of(fields: &[FieldSpecifier], elements: &[Element], sought: Element) -> Option<ValuePlace>
     requires few { length fields.now ≤ MOST_FIELDS }
     requires elements { elements.now ≡ map element_of fields.now }
     ensures { result ≡ placed.place_where (placed.is_sought sought) 0 fields.now }
@@ -75,7 +75,7 @@ fn place_of(fields: &[FieldSpecifier], elements: &[Element], sought: Element) ->
     for place in 0..fields.len() {
         let end = start + fields[place].field_length as usize;
         if is_sought(sought, elements[place]) {
-            return Some(Place { start, end });
+            return Some(ValuePlace { start, end });
         }
         start = end;
     }
@@ -83,7 +83,7 @@ fn place_of(fields: &[FieldSpecifier], elements: &[Element], sought: Element) ->
 }
 
 /// The place of the value on each axis.
-fn places_of(fields: &[FieldSpecifier], elements: &[Element]) -> [Option<Place>; AXES]
+fn places_of(fields: &[FieldSpecifier], elements: &[Element]) -> [Option<ValuePlace>; AXES]
     requires few { length fields.now ≤ MOST_FIELDS }
     requires elements { elements.now ≡ map element_of fields.now }
     ensures { (axis : of_axis.Axis) → slice_index_or result (axis_index axis) None
@@ -97,7 +97,7 @@ fn places_of(fields: &[FieldSpecifier], elements: &[Element]) -> [Option<Place>;
 }
 
 /// How many bits the value on each axis has, 0 where none has a place.
-fn bits_of_places(places: &[Option<Place>; AXES]) -> [u32; AXES]
+fn bits_of_places(places: &[Option<ValuePlace>; AXES]) -> [u32; AXES]
     ensures { (axis : of_axis.Axis) (octets : List ℕ) → slice_index result (axis_index axis)
         ≡ parts.bits_of (placed.found_at octets axis
         (slice_index_or places.now (axis_index axis) None)) }
@@ -113,7 +113,7 @@ fn bits_of_places(places: &[Option<Place>; AXES]) -> [u32; AXES]
 }
 
 /// The value on an axis that stands at a place, 0 where there is none.
-fn value_at(k: usize, place: Option<Place>, octets: &[u8]) -> u128
+fn value_at(k: usize, place: Option<ValuePlace>, octets: &[u8]) -> u128
     requires axis { k < AXES }
     requires within { IfSome place (placed.IsPlaceIn (length octets.now)) }
     ensures { (axis : of_axis.Axis) → axis_index axis ≡ k

@@ -3,7 +3,7 @@ use Rattle.std.specs.Vec.{with_items}
 use Rattle.std.proofs.lemmas.List.{with_items_is}
 use Rattle.fx_tables.specs.Network.{Net, Process}
 use Rattle.fx_leaf.specs.Tables.{Table}
-use Rattle.fx_leaf.specs.PathTables.{IsBegun, TakeNoneIn}
+use Rattle.fx_leaf.specs.PathTables.{IsPathBegun, TakeNoneIn}
 use Rattle.fx_leaf.specs.Reach.{IsClosed, IsFilled}
 use Rattle.fx_leaf.proofs.SteadyTables.{filled_for_each}
 use Rattle.fx_leaf.proofs.path_scratch.PathScratch.begin.Goals as goal
@@ -26,13 +26,13 @@ returns-then-self-clause-begun c =
     let same = c.processes.ensures ∙ ap (λ (net : Net). net.processes) c.net.ensures in
     let none = subst (λ (ps : List Process). TakeNoneIn ps marks) same (subst (TakeNoneIn c.processes.result.now) (c.deref.ensures.value ∙ marks_are) (c.take_none_in-self-inside.ensures c.if-self.true)) in
     let filled = subst (λ (ms : List ℕ). IsFilled t.net t.numbering c.whole.result ms rows) (c.deref-then-self.ensures.value ∙ marks_are) c.fill.ensures in
-    let begun : IsBegun t path (record { table = rows; marks = marks; steady = steady }) = record {
+    let begun : IsPathBegun t path (record { table = rows; marks = marks; steady = steady }) = record {
       along = c.mark.ensures.along;
       closed = c.mark.ensures.closed;
       filled = λ is. filled_for_each t c.requires.tables marks rows none c.whole.result filled;
     } in
-    let filled_in = subst (λ (rs : Table). IsBegun t path (record { table = rs; marks = marks; steady = steady })) (sym rows_are) begun in
-    subst (λ (ms : List ℕ). IsBegun t path (record { table = (with_items c.self.inside.rows rows).items; marks = ms; steady = steady })) (sym marks_are) filled_in
+    let filled_in = subst (λ (rs : Table). IsPathBegun t path (record { table = rs; marks = marks; steady = steady })) (sym rows_are) begun in
+    subst (λ (ms : List ℕ). IsPathBegun t path (record { table = (with_items c.self.inside.rows rows).items; marks = ms; steady = steady })) (sym marks_are) filled_in
 
 pub returns-else-self-clause-begun : goal.returns-else-self-clause-begun
 returns-else-self-clause-begun c =
@@ -42,9 +42,9 @@ returns-else-self-clause-begun c =
     let rows = c.self.inside.rows.items in
     let path = c.args.path.now in
     let steady = c.take_none_in-self-inside.result in
-    let begun : IsBegun t path (record { table = rows; marks = marks; steady = steady }) = record {
+    let begun : IsPathBegun t path (record { table = rows; marks = marks; steady = steady }) = record {
       along = c.mark.ensures.along;
       closed = c.mark.ensures.closed;
       filled = λ is. let no = c.if-self.false in absurd cc;
     } in
-    subst (λ (ms : List ℕ). IsBegun t path (record { table = rows; marks = ms; steady = steady })) (sym marks_are) begun
+    subst (λ (ms : List ℕ). IsPathBegun t path (record { table = rows; marks = ms; steady = steady })) (sym marks_are) begun

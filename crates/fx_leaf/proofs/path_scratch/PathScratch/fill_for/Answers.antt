@@ -1,5 +1,5 @@
 use Rattle.std.proofs.Common.{ap, sym, subst, ◌∙◌}
-use Rattle.fx_leaf.specs.PathTables.{IsBegun, PathTable}
+use Rattle.fx_leaf.specs.PathTables.{IsPathBegun, PathTable}
 use Rattle.fx_leaf.proofs.path_scratch.PathScratch.fill_for.Goals as goal
 
 pub returns-then-self-clause-filled : goal.returns-then-self-clause-filled
@@ -7,7 +7,7 @@ returns-then-self-clause-filled c = c.requires.begun.filled (ap (λ (p : PathTab
 
 pub returns-clause-begun : goal.returns-clause-begun
 returns-clause-begun c =
-    let begun = subst (IsBegun c.args.tables.now c.args.path.now) (sym c.self.view_is) c.requires.begun in
+    let begun = subst (IsPathBegun c.args.tables.now c.args.path.now) (sym c.self.view_is) c.requires.begun in
     record {
       along = begun.along;
       closed = begun.closed;

@@ -4,7 +4,7 @@ use Rattle.fx_elements.specs.declared.axis.Axis.{Axis}
 use Rattle.fx_elements.specs.declared.axis.Axis.TheVariants as axes
 use Rattle.fx_elements.specs.Axes.{axis_index, axis_width}
 use Rattle.fx_layout.specs.Keys.{can_stand}
-use Rattle.fx_session.specs.declared.places.Place.{Place}
+use Rattle.fx_session.specs.declared.places.ValuePlace.{ValuePlace}
 use Rattle.fx_session.specs.Parts.{Stands}
 use Rattle.fx_session.specs.Places.{found_at, is_any_prefix}
 use Rattle.fx_session.proofs.Layouts.{bits_stand, layout_by-is}
@@ -21,7 +21,7 @@ all_bits_stand axes.Version = refl
 all_bits_stand axes.Source6 = refl
 all_bits_stand axes.Destination6 = refl
 
-stands_at : (octets : List ℕ) (axis : Axis) (place : Option Place) → Stands axis (found_at octets axis place)
+stands_at : (octets : List ℕ) (axis : Axis) (place : Option ValuePlace) → Stands axis (found_at octets axis place)
 stands_at octets axis (Some place) = all_bits_stand axis
 stands_at octets axis None = tt
 
