@@ -54,6 +54,15 @@ fn text_of_once(word: &str) -> Option<OtherFile> {
     }
 }
 
+/// Whether a word begins a page in HTML.
+fn is_page(word: &str) -> bool {
+    word.starts_with("<!DOCTYPE")
+        || word.starts_with("<!doctype")
+        || word.starts_with("<html")
+        || word.starts_with("<HTML")
+        || word.starts_with("<head")
+}
+
 /// Which other text a word begins.
 fn text_of(word: &str) -> Option<OtherFile> {
     match word {
@@ -66,7 +75,7 @@ fn text_of(word: &str) -> Option<OtherFile> {
             "a text in YAML",
             "a document is JSON: turn it to that, as yq -o json does",
         ),
-        "<!DOCTYPE" | "<!doctype" | "<html>" | "<html" | "<HTML>" | "<HTML" => other(
+        _ if is_page(word) => other(
             "a page in HTML",
             "was an error page saved in the document's place? Look at it, and fetch the document once more",
         ),
