@@ -1,5 +1,5 @@
 //! The values that packets have under a layout.
-ghost use Rattle.std.specs.Prelude.{◌≡◌, ◌↔◌, ℕ, ◌-◌, ◌/◌, ◌^◌, ◌<◌, ◌≤◌, ◌&&◌, Bool, true, false, IfSome, is_some, length, bytes_eq};
+ghost use Rattle.std.specs.Prelude.{◌≡◌, ◌↔◌, ℕ, ◌-◌, ◌/◌, ◌^◌, ◌<◌, ◌≤◌, ◌&&◌, Bool, true, false, [], IfSome, is_some, length, bytes_eq};
 ghost use Rattle.fx_layout.specs.Keys as keys;
 ghost use Rattle.fx_elements.specs.Axes as axes;
 
@@ -59,6 +59,21 @@ fn cut_part(parts: &[Part], values: &[u128], axis: Axis, bits: u32) -> u128
     }
 }
 
+/// These values take the place of the others.
+fn copy_values(into: &mut ArrayVec<u128, AXES>, values: &[u128])
+    requires { length values.now ≤ AXES }
+    ensures { into.new.items ≡ values.now }
+{
+    if into.len() == values.len() {
+        into.as_mut_slice().copy_from_slice(values);
+        return;
+    }
+    into.clear();
+    for value in values {
+        into.push(*value);
+    }
+}
+
 /// Whether the values are the same.
 fn same_values(a: &[u128], b: &[u128]) -> bool
     ensures { result ≡ bytes_eq a.now b.now }
@@ -82,20 +97,37 @@ fn values_before(a: &[u128], b: &[u128]) -> bool
     }
 }
 
+/// The values that a packet with these fields has under a layout take the place of the others.
+fn read_values(into: &mut ArrayVec<u128, AXES>, layout: &Layout, fields: &Fields)
+    ensures value { into.new.items ≡ (keys.key_of layout.now fields.now).values }
+    ensures bits { keys.HasBits layout.now into.new.items }
+{
+    into.clear();
+    let numbers = fields.values();
+    for part in layout.parts() {
+        into.push(leading_bits(width(part.axis), part.bits, numbers[part.axis.index()]));
+    }
+}
+
 impl Key {
     /// The key of a packet with these fields.
     pub(crate) fn of_packet(layout: &Layout, fields: &Fields) -> Key
         ensures { result ≡ keys.key_of layout.now fields.now }
     {
-        let numbers = fields.values();
         let mut values: ArrayVec<u128, AXES> = ArrayVec::new();
-        for part in layout.parts() {
-            values.push(leading_bits(width(part.axis), part.bits, numbers[part.axis.index()]));
-        }
+        read_values(&mut values, layout, fields);
         Key {
             layout: layout.copy(),
             values,
         }
+    }
+
+    /// The key of a packet with these fields takes the place of this one, in its room: see [`Layout::key_of`].
+    pub fn become_of_packet(&mut self, layout: &Layout, fields: &Fields)
+        ensures { self.new ≡ keys.key_of layout.now fields.now }
+    {
+        self.layout.become_copy_of(layout);
+        read_values(&mut self.values, layout, fields);
     }
 
     /// The key with these values, one for each part of the layout.
@@ -111,6 +143,25 @@ impl Key {
             layout: layout.copy(),
             values: items,
         }
+    }
+
+    /// The key under the layout without parts, which all packets have.
+    pub fn of_all() -> Key
+        ensures { result ≡ record { layout = []; values = [] } }
+    {
+        Key {
+            layout: Layout::new(),
+            values: ArrayVec::new(),
+        }
+    }
+
+    /// The key that [`of_values`](Key::of_values) answers takes the place of this one, in its room.
+    pub fn become_of_values(&mut self, layout: &Layout, values: &Values)
+        requires { keys.HasBits layout.now values.now }
+        ensures { self.new ≡ record { layout = layout.now; values = values.now } }
+    {
+        self.layout.become_copy_of(layout);
+        copy_values(&mut self.values, values.items.as_slice());
     }
 
     /// The key's layout.

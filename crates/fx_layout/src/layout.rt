@@ -80,6 +80,17 @@ fn place_for(parts: &[Part], axis: Axis) -> usize
     }
 }
 
+/// These parts take the place of the others.
+fn copy_parts(into: &mut ArrayVec<Part, AXES>, parts: &[Part])
+    requires { length parts.now ≤ AXES }
+    ensures { into.new.items ≡ parts.now }
+{
+    into.clear();
+    for part in parts {
+        into.push(*part);
+    }
+}
+
 impl Layout {
     /// The layout without parts: all packets have one key.
     pub fn new() -> Layout
@@ -149,6 +160,16 @@ impl Layout {
             parts.push(*part);
         }
         Layout { parts }
+    }
+
+    /// Becomes the same as the other layout, in its own room.
+    pub(crate) fn become_copy_of(&mut self, other: &Layout)
+        ensures { self.new ≡ other.now }
+    {
+        // Mostly it is the same already.
+        if !self.same(other) {
+            copy_parts(&mut self.parts, other.parts.as_slice());
+        }
     }
 
     /// The key of a packet with these fields.

@@ -65,6 +65,17 @@ impl Values {
         self.items.push(value);
     }
 
+    /// The same values once more.
+    pub fn copy(&self) -> Values
+        ensures { result ≡ self.now }
+    {
+        let mut items: ArrayVec<u128, AXES> = ArrayVec::new();
+        for value in self.items.as_slice() {
+            items.push(*value);
+        }
+        Values { items }
+    }
+
     /// The values, in axis order.
     pub fn as_slice(&self) -> &[u128]
         ensures { result.now ≡ self.now }

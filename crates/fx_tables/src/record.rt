@@ -1,5 +1,5 @@
 //! Flow records: a key and what was counted under it.
-ghost use Rattle.std.specs.Prelude.{◌≡◌};
+ghost use Rattle.std.specs.Prelude.{◌≡◌, []};
 
 use fx_base::Counts;
 use fx_layout::{Key, Layout};
@@ -17,6 +17,22 @@ impl Record {
         ensures { result.now ≡ self.now.key.layout }
     {
         self.key.layout()
+    }
+
+    /// A record of no packets, under the key that all packets have.
+    pub fn of_all() -> Record
+        ensures { result ≡ record {
+          key = record { layout = []; values = [] };
+          counts = record { packets = 0; octets = 0 };
+        } }
+    {
+        Record {
+            key: Key::of_all(),
+            counts: Counts {
+                packets: 0,
+                octets: 0,
+            },
+        }
     }
 
     /// The same record.

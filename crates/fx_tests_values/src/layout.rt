@@ -97,6 +97,30 @@ fn makes_the_key_of_values(rt: HostRuntime) {
     assert!(rt; key.same(&layout.key_of(&web_packet())));
 }
 
+/// Whether a key becomes that of the web packet under a layout, by its values under a finer one.
+fn takes_the_place_by_values(key: &mut Key, fine: &Layout, coarse: &Layout) -> bool {
+    let mut values = Values::new();
+    if !fine
+        .key_of(&web_packet())
+        .project_values(coarse, &mut values)
+    {
+        return false;
+    }
+    key.become_of_values(coarse, &values.copy());
+    is_coarse_key(key.copy(), coarse, fine)
+}
+
+#[test]
+fn takes_the_place_of_a_key(rt: HostRuntime) {
+    let fine = source_layout(24).expect(&rt, "a layout");
+    let coarse = source_layout(16).expect(&rt, "a layout");
+    let mut key = Key::of_all();
+    let is_of_all = key.same(&Layout::new().key_of(&web_packet()));
+    key.become_of_packet(&fine, &web_packet());
+    let is_of_packet = key.same(&fine.key_of(&web_packet()));
+    assert!(rt; is_of_all & is_of_packet & takes_the_place_by_values(&mut key, &fine, &coarse));
+}
+
 #[test]
 fn keeps_the_values_since_they_were_cleared(rt: HostRuntime) {
     let mut values = Values::new();

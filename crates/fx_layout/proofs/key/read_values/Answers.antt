@@ -6,16 +6,21 @@ use Rattle.fx_boxes.specs.Boxes.{IsFields}
 use Rattle.fx_layout.specs.declared.layout.Part.{Part}
 use Rattle.fx_layout.specs.Keys.{Layout, HasBits, can_stand, leading_bits}
 use Rattle.fx_layout.proofs.Layouts.{so_many, all_of, key_has_bits}
-use Rattle.fx_layout.proofs.key.Key.of_packet.Goals as goal
+use Rattle.fx_layout.proofs.key.read_values.Goals as goal
 
 pub push-requires : goal.push-requires
 push-requires c = (omega arith, so_many _ _ _ _ c.loop-part.invariant c.loop-part-test.true c.parts-part-items.ensures.kept.ascends)
 
-pub invariant_of-result : goal.invariant_of-result
-invariant_of-result c =
+pub returns-clause-value : goal.returns-clause-value
+returns-clause-value c =
+    let g : Part → ℕ = λ part. leading_bits (axis_width part.axis) part.bits (field c.args.fields.now part.axis) in
+    all_of g _ _ _ c.loop-part.invariant c.loop-part-test.false ∙ ap (map g) c.parts-part-items.ensures.value
+
+pub returns-clause-bits : goal.returns-clause-bits
+returns-clause-bits c =
     let parts = c.parts-part-items in
     let fields : IsFields c.args.fields.now = subst IsFields c.values-numbers.ensures.value c.values-numbers.ensures.kept in
     let stands : list_all can_stand c.args.layout.now ≡ true = subst (λ (l : Layout). list_all can_stand l ≡ true) parts.ensures.value parts.ensures.kept.stands in
     let g : Part → ℕ = λ part. leading_bits (axis_width part.axis) part.bits (field c.args.fields.now part.axis) in
-    let all : c.loop-part.values.items ≡ map g c.args.layout.now = all_of g _ _ _ c.loop-part.invariant c.loop-part-test.false ∙ ap (map g) parts.ensures.value in
-    subst (λ (vs : List ℕ). HasBits c.copy.result vs) (sym all) (subst (λ (l : Layout). HasBits l (map g c.args.layout.now)) (sym c.copy.ensures) (key_has_bits c.args.layout.now c.args.fields.now stands fields))
+    let all = all_of g _ _ _ c.loop-part.invariant c.loop-part-test.false ∙ ap (map g) parts.ensures.value in
+    subst (HasBits c.args.layout.now) (sym all) (key_has_bits c.args.layout.now c.args.fields.now stands fields)
