@@ -10,3 +10,4 @@ pub mod StreamSteps
 pub mod InFront
 pub mod Examples
 pub mod ByCases
+pub mod PlacesThatWait

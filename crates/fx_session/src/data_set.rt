@@ -32,7 +32,7 @@ fn take_flow<'a>(
     ensures grows { Grows taken.old.waiting taken.new.waiting }
 {
     if let Some(places) = template.places() {
-        taken.add(places.record_in(octets, values))?;
+        taken.add_at(places, octets, values)?;
         return Ok(octets.split_at(template.shortest()).1);
     }
     let rest = read_record(seen, template, octets).ok_or(StreamFault::CutRecord)?;

@@ -13,7 +13,7 @@ use crate::key::{Leading, layout_of, value_of};
 use crate::number::number_in;
 use fx_base::Counts;
 use fx_elements::{AXES, EVERY_AXIS, Element, width};
-use fx_layout::{Key, Layout, Values, leading_bits};
+use fx_layout::{Layout, Values, leading_bits};
 use fx_tables::Record;
 use fx_wire::{FieldSpecifier, VARIABLE};
 
@@ -168,21 +168,19 @@ impl RecordPlaces {
         }
     }
 
-    /// The flow record at the front of the octets. The values of its key are put together where those of the record
-    /// before were.
-    pub fn record_in(&self, octets: &[u8], values: &mut Values) -> Record
+    /// The flow record at the front of the octets takes the place of another. The values of its key are put together in
+    /// `values`, where those of the record before were.
+    pub fn read_record(&self, octets: &[u8], values: &mut Values, record: &mut Record)
         requires { placed.ArePlacesIn (length octets.now) self.now }
-        ensures { result ≡ placed.record_by self.now octets.now }
+        ensures { record.new ≡ placed.record_by self.now octets.now }
     {
         self.read_values(octets, values);
+        record.key.become_of_values(&self.layout, values);
         let packets = number_in(&octets[self.packets.start..self.packets.end]);
         let total = number_in(&octets[self.octets.start..self.octets.end]);
-        Record {
-            key: Key::of_values(&self.layout, values),
-            counts: Counts {
-                packets: (packets % (1u128 << 64)) as u64,
-                octets: (total % (1u128 << 64)) as u64,
-            },
-        }
+        record.counts = Counts {
+            packets: (packets % (1u128 << 64)) as u64,
+            octets: (total % (1u128 << 64)) as u64,
+        };
     }
 }

@@ -1,32 +1,78 @@
 //! What is taken from messages.
-ghost use Rattle.std.specs.Prelude.{◌≡◌, ◌+◌, ◌%◌, ◌^◌, ◌≤◌, [], ◌∷◌, ◌++◌, length, take, OnOk, OnErr, Some, None};
+ghost use Rattle.std.specs.Prelude.{◌≡◌, ◌+◌, ◌%◌, ◌^◌, ◌≤◌, ◌<◌, [], ◌∷◌, ◌++◌, length, take, slice_range, OnOk, OnErr, Some, None};
 ghost use Rattle.fx_session.specs.DataSets as sets;
 ghost use Rattle.fx_session.specs.Calls.{Grows};
+ghost use Rattle.fx_session.specs.Places.{ArePlacesIn, record_by};
 
+use crate::places::RecordPlaces;
+use fx_layout::Values;
 use fx_tables::Record;
 use std::alloc::{AllocError, Global};
-use std::collections::VecDeque;
 use std::marker::Model;
 
 /// The records that wait, the number of skipped ones modulo 2 to the 64, and the number of data records that the
 /// message had so far, modulo 2 to the 32.
+///
+/// The records from `start` to `end` wait. The others are places that later records take, so that a record that is read
+/// at its places is put together where it waits.
 #[derive(Drop)]
 pub(crate) struct Taken {
-    waiting: VecDeque<Record>,
+    records: Vec<Record>,
+    start: usize,
+    end: usize,
     skipped: u64,
     count: u32,
 }
 
 impl Model for Taken {
+    ghost use Rattle.std.specs.Prelude.{◌≤◌, length, slice_range};
     ghost use Rattle.fx_session.specs.DataSets as sets;
 
     ghost Value = { sets.Taken };
 
     ghost view = { λ t. record {
-      waiting = t.waiting.items;
+      waiting = slice_range t.records.items t.start t.end;
       skipped = t.skipped;
       count = t.count;
     } };
+
+    ghost invariant = { λ t. (t.start ≤ t.end) × (t.end ≤ length t.records.items) };
+}
+
+/// Those from `start` to `end` move to the front where they stand at the end and the front has room for as many, so that
+/// the places in front are taken again.
+fn use_front_again(records: &mut Vec<Record>, start: &mut usize, end: &mut usize)
+    requires { (start.old ≤ end.old) × (end.old ≤ length records.old.items) }
+    ensures same { slice_range records.new.items start.new end.new
+        ≡ slice_range records.old.items start.old end.old }
+    ensures bounds { (start.new ≤ end.new) × (end.new ≤ length records.new.items) }
+{
+    if *end == records.len() && *end - *start <= *start {
+        records.rotate_left(*start);
+        *end -= *start;
+        *start = 0;
+    }
+}
+
+/// Makes a place behind those from `start` to `end`.
+///
+/// Fails for want of memory.
+fn make_place(
+    records: &mut Vec<Record>,
+    start: &mut usize,
+    end: &mut usize,
+) -> Result<(), AllocError>
+    requires { (start.old ≤ end.old) × (end.old ≤ length records.old.items) }
+    ensures same { slice_range records.new.items start.new end.new
+        ≡ slice_range records.old.items start.old end.old }
+    ensures bounds { (start.new ≤ end.new) × (end.new ≤ length records.new.items) }
+    ensures room { OnOk result (end.new < length records.new.items) }
+{
+    use_front_again(records, start, end);
+    if *end == records.len() {
+        records.push(Record::of_all())?;
+    }
+    Ok(())
 }
 
 impl Taken {
@@ -35,7 +81,9 @@ impl Taken {
         ensures { result ≡ record { waiting = []; skipped = 0; count = 0 } }
     {
         Taken {
-            waiting: VecDeque::new(alloc),
+            records: Vec::new(alloc),
+            start: 0,
+            end: 0,
             skipped: 0,
             count: 0,
         }
@@ -56,12 +104,39 @@ impl Taken {
     /// A data record whose flow record waits.
     ///
     /// Fails for want of memory, and then nothing is taken.
+    #[tactic(auto, using(crate::proofs::PlacesThatWait::one_more_waits))]
     pub fn add(&mut self, flow: Record) -> Result<(), AllocError>
         ensures ok { OnOk result (self.new ≡ sets.with_flow self.old (Some flow)) }
         ensures same { OnErr result (self.new ≡ self.old) }
         ensures grows { Grows self.old.waiting self.new.waiting }
     {
-        self.waiting.push_back(flow)?;
+        make_place(&mut self.records, &mut self.start, &mut self.end)?;
+        self.records[self.end] = flow;
+        self.end += 1;
+        self.pass();
+        Ok(())
+    }
+
+    /// The data record at the front of the octets, whose flow record is read at its places and waits. The values of its
+    /// key are put together in `values`.
+    ///
+    /// Fails for want of memory, and then nothing is taken.
+    #[tactic(auto, using(crate::proofs::PlacesThatWait::one_more_waits))]
+    pub fn add_at(
+        &mut self,
+        places: &RecordPlaces,
+        octets: &[u8],
+        values: &mut Values,
+    ) -> Result<(), AllocError>
+        requires { ArePlacesIn (length octets.now) places.now }
+        ensures ok { OnOk result (self.new
+            ≡ sets.with_flow self.old (Some (record_by places.now octets.now))) }
+        ensures same { OnErr result (self.new ≡ self.old) }
+        ensures grows { Grows self.old.waiting self.new.waiting }
+    {
+        make_place(&mut self.records, &mut self.start, &mut self.end)?;
+        places.read_record(octets, values, &mut self.records[self.end]);
+        self.end += 1;
         self.pass();
         Ok(())
     }
@@ -100,7 +175,7 @@ impl Taken {
     pub fn waiting(&self) -> usize
         ensures { result ≡ length self.now.waiting }
     {
-        self.waiting.len()
+        self.end - self.start
     }
 
     /// The number of skipped records, modulo 2 to the 64.
@@ -125,7 +200,7 @@ impl Taken {
           count = self.old.count;
         } }
     {
-        self.waiting.truncate(waiting);
+        self.end = self.start + waiting.min(self.end - self.start);
         self.skipped = skipped;
     }
 
@@ -133,14 +208,19 @@ impl Taken {
     pub fn next(&mut self) -> Option<Record>
         ensures { sets.FirstLeaves self.old self.new result }
     {
-        self.waiting.pop_front()
+        if self.start == self.end {
+            return None;
+        }
+        let record = self.records[self.start].copy();
+        self.start += 1;
+        Some(record)
     }
 
     /// The records that wait, in order: those of the first slice, and then those of the second.
     pub fn records(&self) -> (&[Record], &[Record])
         ensures { self.now.waiting ≡ result.0.now ++ result.1.now }
     {
-        self.waiting.as_slices()
+        (&self.records[self.start..self.end], &[])
     }
 
     /// All records that wait are let go.
@@ -151,6 +231,7 @@ impl Taken {
           count = self.old.count;
         } }
     {
-        self.waiting.clear();
+        self.start = 0;
+        self.end = 0;
     }
 }

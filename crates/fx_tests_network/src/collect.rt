@@ -90,11 +90,9 @@ fn tells_all(rt: HostRuntime) {
 
 /// A record of all packets.
 fn record_of_all(packets: u64, octets: u64) -> Record {
-    let counts = Counts { packets, octets };
-    Record {
-        key: key_of_all(),
-        counts,
-    }
+    let mut record = Record::of_all();
+    record.counts = record.counts.add(&Counts { packets, octets });
+    record
 }
 
 #[test]
