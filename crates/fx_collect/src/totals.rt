@@ -51,6 +51,27 @@ impl Totals {
         })
     }
 
+    /// Adds the record's counts as [`tally`](Totals::tally) does. The values of its key are put together in `values`.
+    fn tally_by(&mut self, entry: &Record, values: &mut Values) -> Result<(), Fault>
+        ensures ok { OnOk result (self.new ≡ with_record self.old entry.now) }
+        ensures err { IfErr result (λ e. IsMemory e × (self.new ≡ self.old)) }
+    {
+        if !entry.key.project_values(&self.layout, values) {
+            self.unassigned = self.unassigned.wrapping_add(1);
+            return Ok(());
+        }
+        match self.counts.get_index_of(&*values) {
+            Some(place) => {
+                let total = &mut self.counts[place];
+                *total = total.add(&entry.counts);
+            }
+            None => {
+                self.counts.insert(values.copy(), entry.counts)?;
+            }
+        }
+        Ok(())
+    }
+
     /// Adds the record's counts at its key under the layout of these totals. A record whose layout doesn't
     /// refine that is counted as unassigned, modulo 2 to the 64.
     ///
@@ -59,21 +80,7 @@ impl Totals {
         ensures ok { OnOk result (self.new ≡ with_record self.old entry.now) }
         ensures err { IfErr result (λ e. IsMemory e × (self.new ≡ self.old)) }
     {
-        let mut values = Values::new();
-        if !entry.key.project_values(&self.layout, &mut values) {
-            self.unassigned = self.unassigned.wrapping_add(1);
-            return Ok(());
-        }
-        match self.counts.get_index_of(&values) {
-            Some(place) => {
-                let total = &mut self.counts[place];
-                *total = total.add(&entry.counts);
-            }
-            None => {
-                self.counts.insert(values, entry.counts)?;
-            }
-        }
-        Ok(())
+        self.tally_by(entry, &mut Values::new())
     }
 
     /// Counts so many records more that had no key under the layout, modulo 2 to the 64.
@@ -103,8 +110,9 @@ impl Totals {
         ensures ok { OnOk result (self.new ≡ with_records self.old entries.now) }
         ensures err { IfErr result IsMemory }
     {
+        let mut values = Values::new();
         for entry in entries {
-            self.tally(entry)?;
+            self.tally_by(entry, &mut values)?;
         }
         Ok(())
     }

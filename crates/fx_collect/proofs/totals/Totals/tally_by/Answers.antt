@@ -8,8 +8,8 @@ use Rattle.fx_tables.specs.declared.record.Record.{Record}
 use Rattle.fx_machine.specs.States.{add_at}
 use Rattle.fx_collect.specs.Totals.{Totals, counts_with, records_of, AllHaveBits, with_record}
 use Rattle.fx_collect.proofs.MapsOfCounts.{insert_adds, insert_has_bits, put_at, put_new}
-use Rattle.fx_collect.proofs.totals.Totals.tally.Goals.{in-Some, in-None+in_ok-insert-in-None}
-use Rattle.fx_collect.proofs.totals.Totals.tally.Goals as goal
+use Rattle.fx_collect.proofs.totals.Totals.tally_by.Goals.{in-Some, in-None+in_ok-insert-in-None}
+use Rattle.fx_collect.proofs.totals.Totals.tally_by.Goals as goal
 
 -- the values have their bits, and keep them
 kept : (layout : Layout) (es after : List (List ℕ × Counts)) (k : List ℕ) (n : Counts) → HasBits layout k → AllHaveBits layout es → after ≡ insert_entry bytes_eq es k n → AllHaveBits layout after
@@ -23,7 +23,9 @@ invariant_of-self-in-Some c =
 
 pub invariant_of-self-in_ok-insert-in-None : goal.invariant_of-self-in_ok-insert-in-None
 invariant_of-self-in_ok-insert-in-None c =
-    kept c.self.inside.layout c.self.inside.counts.entries c.insert.new.self.entries c.project_values.new.values c.args.entry.now.counts (c.project_values.ensures.bits c.if-not-project_values.false) c.self.invariant c.in_ok-insert-in-None.ensures.entries
+    let copied : insert_entry bytes_eq c.self.inside.counts.entries c.copy.result c.args.entry.now.counts ≡ insert_entry bytes_eq c.self.inside.counts.entries c.project_values.new.values c.args.entry.now.counts =
+    ap (λ (k : List ℕ). insert_entry bytes_eq c.self.inside.counts.entries k c.args.entry.now.counts) c.copy.ensures in
+    kept c.self.inside.layout c.self.inside.counts.entries c.insert.new.self.entries c.project_values.new.values c.args.entry.now.counts (c.project_values.ensures.bits c.if-not-project_values.false) c.self.invariant (c.in_ok-insert-in-None.ensures.entries ∙ copied)
 
 -- what was put is what was counted before with the record
 tallied : (t : Totals) (r : Record) (layout : Layout) (es after : List (List ℕ × Counts)) (unassigned : ℕ) (k : List ℕ)
@@ -50,5 +52,5 @@ returns-clause-ok c =
       | in-Some w ↦ w.self-is ∙ tallied c.args.self.now c.args.entry.now c.self.inside.layout c.self.inside.counts.entries _ c.self.inside.unassigned values c.self.view_is fine projected
           (put_at c.self.inside.counts.entries values w.in-Some.place w.index_mut-total.result.now c.args.entry.now.counts w.add.result (sym w.in-Some.ensures.index) (sym w.in-Some.ensures.value ∙ w.index_mut-total.ensures.value) w.add.ensures)
       | in-None+in_ok-insert-in-None w ↦ w.self-is ∙ tallied c.args.self.now c.args.entry.now c.self.inside.layout c.self.inside.counts.entries w.insert.new.self.entries c.self.inside.unassigned values c.self.view_is fine projected
-          (w.in_ok-insert-in-None.ensures.entries ∙ put_new c.self.inside.counts.entries values c.args.entry.now.counts (sym w.in-None.ensures.found))
+          (w.in_ok-insert-in-None.ensures.entries ∙ ap (λ (k : List ℕ). insert_entry bytes_eq c.self.inside.counts.entries k c.args.entry.now.counts) w.copy.ensures ∙ put_new c.self.inside.counts.entries values c.args.entry.now.counts (sym w.in-None.ensures.found))
     ]
