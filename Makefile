@@ -6,14 +6,6 @@ SHELL := /bin/bash
 .PHONY: help kit replay once test proofs run-wrong wrong rows examples run-rows run-examples pictures torture clean \
 	install uninstall deb manual
 
-# The libraries that the program stands on, lowest first, and what each of them names, as crates.txt has them.
-LIBRARIES := $(shell sed -n 's/^\(fx_[a-z_]*\):.*/\1/p' crates.txt | grep -v '^fx_tests_\|^fx_callers$$')
-named_by = $(filter $(LIBRARIES),$(shell sed -n 's/^$(1)://p' crates.txt))
-
-# How many libraries `make once` proves at a time. These two are large, and are proved by as many processes each.
-JOBS ?= $(shell nproc)
-LARGE = fx_stories fx_cli
-
 # Prints what the part took when it ends.
 part = TIMEFORMAT='part $(1): %0R s, %0U and %0S s of processor time'; time
 
@@ -40,24 +32,12 @@ replay: kit
 	@cd crates/once && rt try < stdin
 	@echo 'This ran without proof. `make once` proves the program and builds it as ./once.'
 
-# The program, proved and built.
+# The program, proved and built; run on the stored bundle.
 once: kit
-	@$(MAKE) --no-print-directory -j $(JOBS) $(LIBRARIES:%=prove-%)
-	@mkdir -p crates/once/out; cd crates/once && rt run < stdin > out/said 2>&1 || { cat out/said; exit 1; }
-	@ln -sf crates/once/out/once once
+	@python3 packaging/prove_program.py
+	@crates/once/out/program/once < crates/once/stdin | diff - crates/once/stdout
+	@ln -sf crates/once/out/program/once once
 	@echo 'once: proved and built as ./once'
-
-# A library is proved behind those that it names, and keeps what was said of it in its out/said.
-define proved
-prove-$(1): $(patsubst %,prove-%,$(call named_by,$(1)))
-	@mkdir -p crates/$(1)/out
-	@cd crates/$(1) && rt lib --jobs $(if $(filter $(1),$(LARGE)),$(JOBS),1) > out/said 2>&1 \
-	  || { cat out/said; echo "$(1): NOT PROVED"; exit 1; }
-	@echo "$(1): proved"
-
-.PHONY: prove-$(1)
-endef
-$(foreach library,$(LIBRARIES),$(eval $(call proved,$(library))))
 
 # The gate. Libraries that earlier checks left go first, so that the wrong bodies are tried over those that are proved here.
 test: kit

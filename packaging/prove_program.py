@@ -1,0 +1,91 @@
+#!/usr/bin/env python3
+"""Proves the libraries that the program stands on, lowest first, and builds the program from what is proved.
+
+usage: prove_program.py [NAME..]
+
+Run at the top of the repository. Each NAME is a crate as crates.txt has it, which is proved with all that it stands on;
+the program where none is given. A crate is proved once all libraries that it names are, side by side as many as there are
+processors and memory, first those with the longest chain of others behind them; a processor that no other crate can use
+helps with one that is being proved. RT_JOBS=N in the environment sets how many are proved at a time.
+
+What is proved lies in the crate's out/program, with what was said of it in the file `said`: its library, or of the program
+`once`. A library keeps the statements that crates above may cite and leaves the proofs out, so that it is read quickly. A
+crate whose files, libraries and kit are as they were is kept.
+"""
+import os
+import subprocess
+import sys
+
+TOP = os.path.dirname(os.path.dirname(os.path.realpath(__file__)))
+sys.dont_write_bytecode = True
+sys.path.insert(0, os.path.join(TOP, "tests"))
+from wrong_bodies import load_rt
+
+PROGRAM = "once"
+
+
+def made_by(crate):
+    """The library that a proof of the crate gives, or the program."""
+    return os.path.join(crate.folder, "out", "program", crate.name + ("" if crate.is_program else ".rlib"))
+
+
+def build(rt, crate, jobs, said):
+    """Proves a crate and builds its library, or links the program; whether it is proved."""
+    made = made_by(crate)
+    words = crate.words(["--jobs", str(jobs)], keeps=False)
+    if crate.is_program:
+        words += ["--toolchain", rt.KIT + "/toolchain", "--backend", "llvm", "-o", made + ".o"]
+    else:
+        words += ["--statements", "-o", made]
+    how = {"cwd": crate.folder, "stdin": subprocess.DEVNULL, "stdout": said, "stderr": subprocess.STDOUT}
+    if subprocess.run([*rt.rtlib.guarded(), rt.rtlib.RATTLE, "build", *words], **how).returncode:
+        return False
+    return not crate.is_program or crate.link(made + ".o", made) == 0
+
+
+def prove(rt, crate, given, jobs):
+    """Proves a crate whose libraries are proved, unless it is as it was, and says so; whether it is proved."""
+    if not all(given[it.name, "proof"] for it in crate.below()):
+        return False
+    folder = os.path.dirname(made_by(crate))
+    noted, stamp = os.path.join(folder, "stamp"), crate.stamp()
+    if os.path.exists(made_by(crate)) and rt.rtlib.text_of(noted) == stamp:
+        return True
+    os.makedirs(folder, exist_ok=True)
+    if os.path.exists(noted):
+        os.remove(noted)
+    file = os.path.join(folder, "said")
+    with open(file, "w") as said:
+        is_proved = build(rt, crate, jobs, said)
+    if not is_proved:
+        print("%s%s: NOT PROVED" % (rt.rtlib.text_of(file), crate.name), flush=True)
+        return False
+    with open(noted, "w") as it:
+        it.write(stamp)
+    print("%s: proved" % crate.name, flush=True)
+    return True
+
+
+def main(names):
+    rt = load_rt()
+    os.environ.pop(rt.rtlib.ALLOW_C, None)
+    rt.rtlib.guarded()
+    rt.rtlib.Crate = rt.Crate
+    every = rt.rtlib.crates_below(TOP)
+    lacking = [it for it in names if it not in [crate.name for crate in every]]
+    if lacking:
+        sys.exit("crates.txt has no crate %s" % lacking[0])
+    asked = names or [PROGRAM]
+    wanted = {below.name for it in every if it.name in asked for below in [it, *it.below()]}
+    tasks = {}
+    for crate in every:
+        crate.rlib = made_by(crate)
+        if crate.name in wanted:
+            work = lambda given, jobs, crate=crate: prove(rt, crate, given, jobs)
+            waits = [(it.name, "proof") for it in crate.below()]
+            tasks[crate.name, "proof"] = waits, crate.count(rb"\n"), rt.need(crate), work
+    return 0 if all(rt.in_lanes(tasks).values()) else 1
+
+
+if __name__ == "__main__":
+    sys.exit(main(sys.argv[1:]))
