@@ -14,6 +14,27 @@ use crate::template::Template;
 use fx_layout::Values;
 use fx_wire::cut_record;
 
+/// The data record at the front is read field by field and taken; answers the octets behind it.
+///
+/// Fails where it is cut, where a prefix that is read is longer than the address, and for want of memory; nothing is
+/// taken then.
+fn take_by_fields<'a>(
+    template: &Template,
+    seen: &mut Seen,
+    last: &mut LastLayout,
+    taken: &mut Taken,
+    octets: &'a [u8],
+) -> Result<&'a [u8], StreamFault>
+    ensures done { reading.Follows
+        (sets.flow_record template.now.fields taken.old octets.now) taken.new result }
+    ensures grows { Grows taken.old.waiting taken.new.waiting }
+{
+    let rest = read_record(seen, template, octets).ok_or(StreamFault::CutRecord)?;
+    let flow = flow_of(last, seen)?;
+    taken.take(flow)?;
+    Ok(rest)
+}
+
 /// The data record at the front is taken; answers the octets behind it.
 ///
 /// Fails where it is cut, where a prefix that is read is longer than the address, and for want of memory; nothing is
@@ -35,10 +56,7 @@ fn take_flow<'a>(
         taken.add_at(places, octets, values)?;
         return Ok(octets.split_at(template.shortest()).1);
     }
-    let rest = read_record(seen, template, octets).ok_or(StreamFault::CutRecord)?;
-    let flow = flow_of(last, seen)?;
-    taken.take(flow)?;
-    Ok(rest)
+    take_by_fields(template, seen, last, taken, octets)
 }
 
 /// The data records of a set under a template are taken.

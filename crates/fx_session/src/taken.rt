@@ -54,7 +54,7 @@ fn use_front_again(records: &mut Vec<Record>, start: &mut usize, end: &mut usize
     }
 }
 
-/// Makes a place behind those from `start` to `end`.
+/// Makes a place behind those from `start` to `end`, at the front or at the end of the list.
 ///
 /// Fails for want of memory.
 fn make_place(
@@ -73,6 +73,26 @@ fn make_place(
         records.push(Record::of_all())?;
     }
     Ok(())
+}
+
+/// Finds a place behind those from `start` to `end`, and makes one only where there is none.
+///
+/// Fails for want of memory.
+fn find_place(
+    records: &mut Vec<Record>,
+    start: &mut usize,
+    end: &mut usize,
+) -> Result<(), AllocError>
+    requires { (start.old ≤ end.old) × (end.old ≤ length records.old.items) }
+    ensures same { slice_range records.new.items start.new end.new
+        ≡ slice_range records.old.items start.old end.old }
+    ensures bounds { (start.new ≤ end.new) × (end.new ≤ length records.new.items) }
+    ensures room { OnOk result (end.new < length records.new.items) }
+{
+    if *end < records.len() {
+        return Ok(());
+    }
+    make_place(records, start, end)
 }
 
 impl Taken {
@@ -110,7 +130,7 @@ impl Taken {
         ensures same { OnErr result (self.new ≡ self.old) }
         ensures grows { Grows self.old.waiting self.new.waiting }
     {
-        make_place(&mut self.records, &mut self.start, &mut self.end)?;
+        find_place(&mut self.records, &mut self.start, &mut self.end)?;
         self.records[self.end] = flow;
         self.end += 1;
         self.pass();
@@ -134,7 +154,7 @@ impl Taken {
         ensures same { OnErr result (self.new ≡ self.old) }
         ensures grows { Grows self.old.waiting self.new.waiting }
     {
-        make_place(&mut self.records, &mut self.start, &mut self.end)?;
+        find_place(&mut self.records, &mut self.start, &mut self.end)?;
         places.read_record(octets, values, &mut self.records[self.end]);
         self.end += 1;
         self.pass();
