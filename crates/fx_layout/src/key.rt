@@ -14,7 +14,7 @@ use std::marker::Model;
 #[derive(Debug, Drop)]
 pub struct Key {
     layout: Layout,
-    values: ArrayVec<u128, AXES>,
+    values: Values,
 }
 
 impl Model for Key {
@@ -22,9 +22,9 @@ impl Model for Key {
 
     ghost Value = { keys.Key };
 
-    ghost view = { λ k. record { layout = k.layout; values = k.values.items } };
+    ghost view = { λ k. record { layout = k.layout; values = k.values } };
 
-    ghost invariant = { λ k. keys.HasBits k.layout k.values.items };
+    ghost invariant = { λ k. keys.HasBits k.layout k.values };
 }
 
 /// The leading `bits` of a value that has `width` bits.
@@ -118,7 +118,7 @@ impl Key {
         read_values(&mut values, layout, fields);
         Key {
             layout: layout.copy(),
-            values,
+            values: Values { items: values },
         }
     }
 
@@ -127,7 +127,7 @@ impl Key {
         ensures { self.new ≡ keys.key_of layout.now fields.now }
     {
         self.layout.become_copy_of(layout);
-        read_values(&mut self.values, layout, fields);
+        read_values(&mut self.values.items, layout, fields);
     }
 
     /// The key with these values, one for each part of the layout.
@@ -135,13 +135,9 @@ impl Key {
         requires { keys.HasBits layout.now values.now }
         ensures { result ≡ record { layout = layout.now; values = values.now } }
     {
-        let mut items: ArrayVec<u128, AXES> = ArrayVec::new();
-        for value in values.items.as_slice() {
-            items.push(*value);
-        }
         Key {
             layout: layout.copy(),
-            values: items,
+            values: values.copy(),
         }
     }
 
@@ -151,7 +147,7 @@ impl Key {
     {
         Key {
             layout: Layout::new(),
-            values: ArrayVec::new(),
+            values: Values::new(),
         }
     }
 
@@ -161,7 +157,7 @@ impl Key {
         ensures { self.new ≡ record { layout = layout.now; values = values.now } }
     {
         self.layout.become_copy_of(layout);
-        copy_values(&mut self.values, values.items.as_slice());
+        copy_values(&mut self.values.items, values.items.as_slice());
     }
 
     /// The key's layout.
@@ -177,7 +173,15 @@ impl Key {
         ensures bits { keys.HasBits self.now.layout result.now }
         ensures room { length result.now ≤ AXES }
     {
-        self.values.as_slice()
+        self.values.items.as_slice()
+    }
+
+    /// The same by themselves, to look up what stands under the key.
+    pub fn own_values(&self) -> &Values
+        ensures value { result.now ≡ self.now.values }
+        ensures bits { keys.HasBits self.now.layout result.now }
+    {
+        &self.values
     }
 
     /// Whether the two keys are the same: equal layouts and equal values.
@@ -206,13 +210,9 @@ impl Key {
     pub fn copy(&self) -> Key
         ensures { result ≡ self.now }
     {
-        let mut values: ArrayVec<u128, AXES> = ArrayVec::new();
-        for value in self.values.as_slice() {
-            values.push(*value);
-        }
         Key {
             layout: self.layout.copy(),
-            values,
+            values: self.values.copy(),
         }
     }
 
@@ -230,7 +230,7 @@ impl Key {
         }
         Some(Key {
             layout: layout.copy(),
-            values,
+            values: Values { items: values },
         })
     }
 

@@ -43,11 +43,7 @@ impl Values {
     pub fn of(key: &Key) -> Values
         ensures { result ≡ key.now.values }
     {
-        let mut items: ArrayVec<u128, AXES> = ArrayVec::new();
-        for value in key.values() {
-            items.push(*value);
-        }
-        Values { items }
+        key.own_values().copy()
     }
 
     /// No values any more.
