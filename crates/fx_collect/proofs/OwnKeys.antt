@@ -4,9 +4,11 @@ use Rattle.std.proofs.Math.Nat.{div-one}
 use Rattle.fx_elements.specs.declared.axis.Axis.{Axis}
 use Rattle.fx_elements.specs.Axes.{axis_index, same_axis}
 use Rattle.fx_layout.specs.declared.layout.Part.{Part}
-use Rattle.fx_layout.specs.Keys.{Layout, Key, AxesAscend, IsLayout, reads, refines, leading_bits, cut_in, project}
+use Rattle.fx_tables.specs.declared.record.Record.{Record}
+use Rattle.fx_layout.specs.Keys.{Layout, Key, AxesAscend, HasBits, IsLayout, reads, refines, leading_bits, cut_in, project}
 use Rattle.fx_layout.proofs.Projections.{and_both}
-use Rattle.fx_collect.specs.Totals.{IsUnder}
+use Rattle.fx_machine.specs.States.{add_at}
+use Rattle.fx_collect.specs.Totals.{IsUnder, Totals, with_record}
 
 -- two axes with different numbers
 other_axis : (a b : Axis) → axis_index a < axis_index b → same_axis a b ≡ false
@@ -68,3 +70,25 @@ project_own layout key h under =
     let here : cuts layout key.values layout ≡ key.values = cuts_own layout key.values 0 h.ascends under.1 in
     let values : cuts key.layout key.values layout ≡ key.values = subst (λ (l : Layout). cuts l key.values layout ≡ key.values) (sym under.0) here in
     ap₂ (λ (l : Layout) (vs : List ℕ). record { layout = l; values = vs }) (sym under.0) values
+
+-- a value for each part
+so_long : (layout : Layout) (values : List ℕ) → HasBits layout values → length values ≡ length layout
+so_long [] [] h = refl
+so_long [] (v ∷ vs) h = absurd h
+so_long (p ∷ ps) [] h = absurd h
+so_long (p ∷ ps) (v ∷ vs) h = ap suc (so_long ps vs h.1)
+
+-- a record under the layout of the totals is counted at its own values
+pub own_record : (t : Totals) (r : Record) → IsLayout t.layout → HasBits r.key.layout r.key.values → t.layout ≡ r.key.layout
+    → record t { entries = add_at t.entries (record { layout = t.layout; values = r.key.values }) r.counts } ≡ with_record t r
+own_record t r is bits same =
+    let fine : refines r.key.layout t.layout ≡ true = subst (λ (l : Layout). refines l t.layout ≡ true) same (refines_own t.layout is) in
+    let own : project r.key t.layout ≡ r.key = project_own t.layout r.key is (sym same, so_long r.key.layout r.key.values bits ∙ ap length (sym same)) in
+    let key : record { layout = t.layout; values = r.key.values } ≡ project r.key t.layout = ap (λ (l : Layout). record { layout = l; values = r.key.values }) same ∙ sym own in
+    rw fine (ap (λ (k : Key). record t { entries = add_at t.entries k r.counts }) key)
+
+-- a record under a finer layout is counted at its projected values
+pub projected_record : (t : Totals) (r : Record) (values : List ℕ) → refines r.key.layout t.layout ≡ true → values ≡ (project r.key t.layout).values
+    → record t { entries = add_at t.entries (record { layout = t.layout; values = values }) r.counts } ≡ with_record t r
+projected_record t r values fine is =
+    rw fine (ap (λ (vs : List ℕ). record t { entries = add_at t.entries (record { layout = t.layout; values = vs }) r.counts }) is)

@@ -1,6 +1,8 @@
 //! What a collector has counted under each key.
 ghost use Rattle.std.specs.Prelude.{◌≡◌, ℕ, ◌+◌, ◌%◌, ◌^◌, None, Some, IsPermutation, IfOk, IfErr, OnOk, length};
 ghost use Rattle.fx_base.specs.Fault.{IsMemory};
+ghost use Rattle.fx_layout.specs.Keys.{HasBits};
+ghost use Rattle.fx_machine.specs.States.{add_at};
 ghost use Rattle.fx_machine.specs.Sums.{total_at};
 ghost use Rattle.fx_collect.specs.Totals.{nothing, with_record, with_records, with_unassigned, totals_of};
 ghost use Rattle.fx_collect.specs.Report.{KeysAscend};
@@ -51,25 +53,45 @@ impl Totals {
         })
     }
 
-    /// Adds the record's counts as [`tally`](Totals::tally) does. The values of its key are put together in `values`.
+    /// Adds the counts at these values under the layout of these totals.
+    ///
+    /// Fails for want of memory; the totals are as before then.
+    fn add_counts_at(&mut self, values: &Values, counts: &Counts) -> Result<(), Fault>
+        requires { HasBits self.old.layout values.now }
+        ensures ok { OnOk result (self.new ≡ record self.old {
+          entries = add_at self.old.entries
+              (record { layout = self.old.layout; values = values.now }) counts.now;
+        }) }
+        ensures err { IfErr result (λ e. IsMemory e × (self.new ≡ self.old)) }
+    {
+        match self.counts.get_index_of(values) {
+            Some(place) => {
+                let total = &mut self.counts[place];
+                *total = total.add(counts);
+            }
+            None => {
+                self.counts.insert(values.copy(), *counts)?;
+            }
+        }
+        Ok(())
+    }
+
+    /// Adds the record's counts as [`tally`](Totals::tally) does. The values of its key are put together in `values`
+    /// where it has another layout.
     fn tally_by(&mut self, entry: &Record, values: &mut Values) -> Result<(), Fault>
         ensures ok { OnOk result (self.new ≡ with_record self.old entry.now) }
         ensures err { IfErr result (λ e. IsMemory e × (self.new ≡ self.old)) }
     {
+        // For the prover alone: the axes of the layout come in order.
+        let _parts = self.layout.parts();
+        if self.layout.same(entry.key.layout()) {
+            return self.add_counts_at(entry.key.own_values(), &entry.counts);
+        }
         if !entry.key.project_values(&self.layout, values) {
             self.unassigned = self.unassigned.wrapping_add(1);
             return Ok(());
         }
-        match self.counts.get_index_of(&*values) {
-            Some(place) => {
-                let total = &mut self.counts[place];
-                *total = total.add(&entry.counts);
-            }
-            None => {
-                self.counts.insert(values.copy(), entry.counts)?;
-            }
-        }
-        Ok(())
+        self.add_counts_at(values, &entry.counts)
     }
 
     /// Adds the record's counts at its key under the layout of these totals. A record whose layout doesn't
