@@ -25,6 +25,8 @@ use Rattle.fx_run_text.specs.declared.text_version.TextVersion.{TextVersion}
 use Rattle.fx_run_text.specs.declared.text_version.TextVersion.TheVariants.{One, Two}
 use Rattle.fx_run_text.specs.declared.run_line.RunLine.{RunLine}
 use Rattle.fx_run_text.specs.declared.run_line.RunLine.TheVariants as line
+use Rattle.fx_run_text.specs.declared.run_line.ReadLine.{ReadLine}
+use Rattle.fx_run_text.specs.declared.run_line.ReadLine.TheVariants as read
 use Rattle.fx_base.specs.Entries.{entry_numbered}
 use Rattle.fx_base.specs.Refusals.{long_line, run_header, run_form, run_packet}
 use Rattle.fx_tables.specs.Classes.{Class, is_of}
@@ -135,6 +137,12 @@ step_of kind ws = do
   Some (step_with action.0 choices)
 
 -- ---- a line
+
+-- what was read of a line, with the packet in its place
+abbrev pub line_with : Packet → ReadLine → RunLine
+line_with packet read.Packet = line.Packet packet
+line_with packet (read.Step s) = line.Step s
+line_with packet read.End = line.End
 
 -- the line of this kind: a packet, the end, or a step
 unfoldable pub line_of_kind : TextVersion → List ℕ → Words → Option RunLine

@@ -58,10 +58,10 @@ impl Run {
     }
 
     /// Adds a packet as the last one.
-    pub(crate) fn add_packet(&mut self, packet: Packet) -> Result<(), AllocError>
-        ensures { OnOk result (self.new ≡ with_packet self.old packet) }
+    pub(crate) fn add_packet(&mut self, packet: &Packet) -> Result<(), AllocError>
+        ensures { OnOk result (self.new ≡ with_packet self.old packet.now) }
     {
-        self.packets.push(packet)?;
+        self.packets.push(*packet)?;
         Ok(())
     }
 

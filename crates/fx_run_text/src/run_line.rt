@@ -1,12 +1,12 @@
 //! The lines of a run's text.
-ghost use Rattle.std.specs.Prelude.{◌≡◌, ◌≤◌, ◌<◌, ◌^◌, [], IfOk, IfSome};
+ghost use Rattle.std.specs.Prelude.{◌≡◌, ◌≤◌, ◌<◌, ◌^◌, [], IfOk, IfSome, option_map};
 ghost use Rattle.fx_elements.specs.Words.{words};
-ghost use Rattle.fx_run_text.specs.RunReading.{last_first, fields_first, packet_of, cache_first, aggregation_first, holder_first, cross_first, expire_first, arrive_first, action_of, choice_of, choices_behind, step_with, step_of, line_of_kind, line_of};
+ghost use Rattle.fx_run_text.specs.RunReading.{last_first, fields_first, packet_of, cache_first, aggregation_first, holder_first, cross_first, expire_first, arrive_first, action_of, choice_of, choices_behind, step_with, step_of, line_with, line_of_kind, line_of};
 
 use crate::step::{Choices, Step};
 use crate::text_version::TextVersion;
 use fx_boxes::Fields;
-use fx_elements::{Axis, Words, is_word, read_u64};
+use fx_elements::{AXES, Axis, Words, is_word, read_u64};
 use fx_tables::{HolderName, Packet};
 use std::alloc::{AllocError, Global};
 
@@ -52,6 +52,37 @@ pub enum RunLine {
     Step(Step),
     /// The run's end.
     End,
+}
+
+/// What was read of a line behind the first. The values of a packet stand in the place that was given for them.
+#[derive(Debug, Drop)]
+pub(crate) enum ReadLine {
+    Packet,
+    Step(Step),
+    End,
+}
+
+impl ReadLine {
+    /// What the line says, where this is in the place for a packet.
+    fn with(self, packet: Packet) -> RunLine
+        ensures { result ≡ line_with packet self }
+    {
+        match self {
+            ReadLine::Packet => RunLine::Packet(packet),
+            ReadLine::Step(step) => RunLine::Step(step),
+            ReadLine::End => RunLine::End,
+        }
+    }
+}
+
+/// A place for a packet.
+pub(crate) fn blank_packet() -> Packet {
+    Packet {
+        fields: Fields::of([0; AXES]),
+        octets: 0,
+        class: 0,
+        path: 0,
+    }
 }
 
 /// The values on the axes behind the first six.
@@ -118,10 +149,10 @@ fn read_fields(version: TextVersion, words: Words<'_>) -> Option<(Fields, Words<
     Some((fields, words))
 }
 
-/// What stands behind the word of a packet.
+/// Reads what stands behind the word of a packet into the place for it.
 #[tactic(auto, unfolding(crate::specs::RunReading::packet_of))]
-fn read_packet(version: TextVersion, words: Words<'_>) -> Option<Packet>
-    ensures { result ≡ packet_of version words.entry }
+fn read_packet(version: TextVersion, words: Words<'_>, packet: &mut Packet) -> Option<()>
+    ensures { option_map (λ _. packet.new) result ≡ packet_of version words.entry }
 {
     let (class, words) = words.number()?;
     let (path, words) = words.number()?;
@@ -130,12 +161,13 @@ fn read_packet(version: TextVersion, words: Words<'_>) -> Option<Packet>
     if !words.is_empty() {
         return None;
     }
-    Some(Packet {
+    *packet = Packet {
         fields,
         octets,
         class,
         path,
-    })
+    };
+    Some(())
 }
 
 /// The numbers of a cache.
@@ -242,16 +274,16 @@ fn read_choice(word: &[u8]) -> Option<Option<u64>>
 fn read_choices(alloc: Global, words: Words<'_>) -> Result<Option<Choices>, AllocError>
     ensures { IfOk result (λ choices. choices ≡ choices_behind [] words.entry) }
 {
-    let mut items = Vec::new(alloc);
+    let mut choices = Choices::none(alloc);
     let mut words = words;
     'words: loop {
         let Some((word, rest)) = words.word() else {
-            return Ok(Some(Choices::new(items)));
+            return Ok(Some(choices));
         };
         let Some(choice) = read_choice(word) else {
             return Ok(None);
         };
-        items.push(choice)?;
+        choices.push(choice)?;
         words = rest;
     }
 }
@@ -270,26 +302,45 @@ fn read_step(alloc: Global, kind: &[u8], words: Words<'_>) -> Result<Option<Step
     Ok(Some(action.with(choices)))
 }
 
-/// What a line of this kind says.
+/// Reads what a line of this kind says, a packet into the place for it.
 #[tactic(auto, unfolding(crate::specs::RunReading::line_of_kind))]
 fn read_kind(
     alloc: Global,
     version: TextVersion,
     kind: &[u8],
     words: Words<'_>,
-) -> Result<Option<RunLine>, AllocError>
-    ensures { IfOk result (λ x. x ≡ line_of_kind version kind.now words.entry) }
+    packet: &mut Packet,
+) -> Result<Option<ReadLine>, AllocError>
+    ensures { IfOk result (λ x. option_map (line_with packet.new) x
+        ≡ line_of_kind version kind.now words.entry) }
 {
     if is_word(kind, b"packet") {
-        return Ok(read_packet(version, words).map(RunLine::Packet));
+        let read = read_packet(version, words, packet);
+        return Ok(read.is_some().then_some(ReadLine::Packet));
     }
     if is_word(kind, b"end") {
-        return Ok(words.is_empty().then_some(RunLine::End));
+        return Ok(words.is_empty().then_some(ReadLine::End));
     }
     match read_step(alloc, kind, words)? {
-        Some(step) => Ok(Some(RunLine::Step(step))),
+        Some(step) => Ok(Some(ReadLine::Step(step))),
         None => Ok(None),
     }
+}
+
+/// Reads what a line behind the first says, if it is well-formed, a packet into the place for it.
+pub(crate) fn read_line(
+    alloc: Global,
+    version: TextVersion,
+    line: &[u8],
+    packet: &mut Packet,
+) -> Result<Option<ReadLine>, AllocError>
+    ensures { IfOk result (λ x. option_map (line_with packet.new) x
+        ≡ line_of version (words line.now)) }
+{
+    let Some((kind, words)) = Words::new(line).word() else {
+        return Ok(None);
+    };
+    read_kind(alloc, version, kind, words, packet)
 }
 
 /// What a line behind the first says, if it is well-formed: a packet, a step, or the run's end.
@@ -302,8 +353,9 @@ pub fn read_run_line(
 ) -> Result<Option<RunLine>, AllocError>
     ensures { IfOk result (λ x. x ≡ line_of version (words line.now)) }
 {
-    let Some((kind, words)) = Words::new(line).word() else {
-        return Ok(None);
-    };
-    read_kind(alloc, version, kind, words)
+    let mut packet = blank_packet();
+    match read_line(alloc, version, line, &mut packet)? {
+        Some(x) => Ok(Some(x.with(packet))),
+        None => Ok(None),
+    }
 }

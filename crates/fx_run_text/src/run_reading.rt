@@ -5,14 +5,14 @@ ghost use Rattle.fx_base.specs.Lines.{GoesOnToLines, text_lines, line_budget, Fa
 ghost use Rattle.fx_tables.specs.Classes.{Class};
 ghost use Rattle.fx_run_text.specs.declared.text_version.TextVersion.{TextVersion};
 ghost use Rattle.fx_run_text.specs.RunText.{Run, run_text, run_lines, IsWritableRun, AreShort};
-ghost use Rattle.fx_run_text.specs.RunReading.{run_in, MayEnd, MayReadRun, MayReadBehind, ReadsFirst, ReadsNextLine};
+ghost use Rattle.fx_run_text.specs.RunReading.{run_in, MayEnd, MayReadRun, MayReadBehind, ReadsFirst, ReadsNextLine, line_with};
 
 use crate::run::Run;
-use crate::run_line::{RunLine, read_run_line};
+use crate::run_line::{ReadLine, blank_packet, read_line};
 use crate::text_version::TextVersion;
 use fx_base::{Fault, LineReader, Source, refusals};
 use fx_elements::is_word;
-use fx_tables::Classes;
+use fx_tables::{Classes, Packet};
 use std::alloc::Global;
 
 /// Goes past the first line, which tells the text's version.
@@ -36,16 +36,18 @@ fn read_first<R: Source>(lines: &mut LineReader<R>) -> Result<TextVersion, Fault
     }
 }
 
-/// Reads the next line.
+/// Reads the next line, a packet into the place for it.
 fn read_next<R: Source>(
     alloc: Global,
     version: TextVersion,
     lines: &mut LineReader<R>,
-) -> Result<RunLine, Fault>
+    packet: &mut Packet,
+) -> Result<ReadLine, Fault>
     requires { lines.old.stopped ≡ None }
     ensures going { OnOk result (lines.new.stopped ≡ None) }
     ensures on { OnOk result (GoesOnToLines lines.old lines.new) }
-    ensures ok { IfOk result (λ x. ReadsNextLine version lines.old lines.new x) }
+    ensures ok { IfOk result (λ x. ReadsNextLine version lines.old lines.new
+        (line_with packet.new x)) }
     ensures smaller { OnOk result (line_budget lines.new < line_budget lines.old) }
     ensures err { IfErr result (λ e. IsMemory e ⊎ (Fails lines.old lines.new e
         ⊎ ((classes : List Class) (run : Run)
@@ -58,7 +60,7 @@ fn read_next<R: Source>(
     if !line.ended {
         return Err(Fault::at_line(refusals::RUN_FORM, line.number));
     }
-    match read_run_line(alloc, version, line.bytes)? {
+    match read_line(alloc, version, line.bytes, packet)? {
         Some(x) => Ok(x),
         None => Err(Fault::at_line(refusals::RUN_FORM, line.number)),
     }
@@ -105,16 +107,17 @@ pub fn read_run<R: Source>(
 {
     let version = read_first(lines)?;
     let mut run = Run::new(alloc);
+    let mut packet = blank_packet();
     'lines: loop {
-        match read_next(alloc, version, lines)? {
-            RunLine::Packet(packet) => {
+        match read_next(alloc, version, lines, &mut packet)? {
+            ReadLine::Packet => {
                 if let Some(number) = run.fault_of_packet(classes, &packet) {
                     return Err(Fault::at_line(number, lines.number()));
                 }
-                run.add_packet(packet)?;
+                run.add_packet(&packet)?;
             }
-            RunLine::Step(step) => run.add_step(step)?,
-            RunLine::End => {
+            ReadLine::Step(step) => run.add_step(step)?,
+            ReadLine::End => {
                 read_end(lines)?;
                 return Ok(run);
             }

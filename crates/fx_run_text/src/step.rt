@@ -1,15 +1,20 @@
 //! The steps of a run.
-ghost use Rattle.std.specs.Prelude.{◌≡◌};
+ghost use Rattle.std.specs.Prelude.{◌≡◌, ◌++◌, ◌∷◌, [], OnOk};
 
 use fx_tables::HolderName;
+use smallvec::SmallVec;
+use std::alloc::{AllocError, Global};
 use std::marker::Model;
+
+/// So many choices of a step take no memory of their own: most steps have one or none.
+const FEW: usize = 2;
 
 /// What a step chooses, one after another. A holder that takes in a record chooses none for a new record, or
 /// the position of the held record that it joins; an exporting process that isn't parallel chooses the number
 /// of a destination. Positions and numbers count from 1.
 #[derive(Debug, Drop)]
 pub struct Choices {
-    pub(crate) items: Vec<Option<u64>>,
+    items: SmallVec<Option<u64>, FEW>,
 }
 
 impl Model for Choices {
@@ -25,7 +30,26 @@ impl Choices {
     pub fn new(items: Vec<Option<u64>>) -> Choices
         ensures { result ≡ items.items }
     {
-        Choices { items }
+        Choices {
+            items: SmallVec::from_vec(items),
+        }
+    }
+
+    /// No choices.
+    pub(crate) fn none(alloc: Global) -> Choices
+        ensures { result ≡ [] }
+    {
+        Choices {
+            items: SmallVec::new(alloc),
+        }
+    }
+
+    /// Adds a choice as the last one.
+    pub(crate) fn push(&mut self, choice: Option<u64>) -> Result<(), AllocError>
+        ensures { OnOk result (self.new ≡ self.old ++ choice ∷ []) }
+    {
+        self.items.push(choice)?;
+        Ok(())
     }
 
     /// The choices, in order.

@@ -11,34 +11,34 @@ returns-in_err-version-clause-err g c =
     let p = err_from_is_err_and c.from_residual.result c.from_residual.ensures.1 in
     rw (p.1, p.2) (inr (first_fault c.args.classes.now c.args.lines.now c.read_first.new.lines _ c.in_err-version.ensures.err))
 
-pub returns-in_err-packet-clause-err : goal.returns-in_err-packet-clause-err
-returns-in_err-packet-clause-err g c =
-    let p = err_from_is_err_and c.from_residual-in_err-packet.result c.from_residual-in_err-packet.ensures.1 in
-    rw (p.1, p.2) (next_fault c.in_ok-version.version c.args.classes.now c.args.lines.now c.lines.lines c.read_next.new.lines c.lines.run _ c.lines.invariant.going c.lines.invariant.on c.lines.invariant.reads c.in_err-packet.ensures.err)
+pub returns-in_err-read_next-clause-err : goal.returns-in_err-read_next-clause-err
+returns-in_err-read_next-clause-err g c =
+    let p = err_from_is_err_and c.from_residual-in_err-read_next.result c.from_residual-in_err-read_next.ensures.1 in
+    rw (p.1, p.2) (next_fault c.in_ok-version.version c.args.classes.now c.args.lines.now c.lines.lines c.read_next.new.lines c.lines.run _ c.lines.invariant.going c.lines.invariant.on c.lines.invariant.reads c.in_err-read_next.ensures.err)
 
 pub returns-in-Some-clause-err : goal.returns-in-Some-clause-err
 returns-in-Some-clause-err g c =
-    let next : ReadsNextLine c.in_ok-version.version c.lines.lines c.read_next.new.lines (line.Packet c.in-Packet.packet) = search rules in
-    let wrong : packet_fault c.args.classes.now c.lines.run c.in-Packet.packet ≡ Some c.in-Some.number = search rules in
+    let next : ReadsNextLine c.in_ok-version.version c.lines.lines c.read_next.new.lines (line.Packet c.read_next.new.packet) = search rules in
+    let wrong : packet_fault c.args.classes.now c.lines.run c.read_next.new.packet ≡ Some c.in-Some.number = search rules in
     let number : c.number.result ≡ c.read_next.new.lines.number = search rules in
-    inr (inr (rw (c.at_line.ensures, number) (packet_wrong c.in_ok-version.version c.args.classes.now c.args.lines.now c.lines.lines c.read_next.new.lines c.lines.run c.in-Packet.packet c.in-Some.number c.lines.invariant.reads next wrong)))
+    inr (inr (rw (c.at_line.ensures, number) (packet_wrong c.in_ok-version.version c.args.classes.now c.args.lines.now c.lines.lines c.read_next.new.lines c.lines.run c.read_next.new.packet c.in-Some.number c.lines.invariant.reads next wrong)))
 
 pub lines-preserved-in-Continue-branch-4 : goal.lines-preserved-in-Continue-branch-4
 lines-preserved-in-Continue-branch-4 g c =
-    let next : ReadsNextLine c.in_ok-version.version c.lines.lines c.read_next.new.lines (line.Packet c.in-Packet.packet) = search rules in
-    let none : packet_fault c.args.classes.now c.lines.run c.in-Packet.packet ≡ None = search rules in
+    let next : ReadsNextLine c.in_ok-version.version c.lines.lines c.read_next.new.lines (line.Packet c.read_next.new.packet) = search rules in
+    let none : packet_fault c.args.classes.now c.lines.run c.read_next.new.packet ≡ None = search rules in
     record {
       going = search rules;
-      on = goes_then c.args.lines.now c.lines.lines c.read_next.new.lines c.lines.invariant.on c.in_ok-packet.ensures.on;
-      reads = on_packet c.in_ok-version.version c.args.classes.now c.args.lines.now c.lines.lines c.read_next.new.lines c.lines.run c.add_packet.new.self c.in-Packet.packet c.lines.invariant.reads next none (search rules);
+      on = goes_then c.args.lines.now c.lines.lines c.read_next.new.lines c.lines.invariant.on c.in_ok-read_next.ensures.on;
+      reads = on_packet c.in_ok-version.version c.args.classes.now c.args.lines.now c.lines.lines c.read_next.new.lines c.lines.run c.add_packet.new.self c.read_next.new.packet c.lines.invariant.reads next none (search rules);
     }
 
 pub returns-in_err-read_end-in-End-clause-err : goal.returns-in_err-read_end-in-End-clause-err
 returns-in_err-read_end-in-End-clause-err g c =
     let p = err_from_is_err_and c.from_residual-in_err-read_end-in-End.result c.from_residual-in_err-read_end-in-End.ensures.1 in
     let next : ReadsNextLine c.in_ok-version.version c.lines.lines c.read_next.new.lines line.End = search rules in
-    let on = goes_then c.args.lines.now c.lines.lines c.read_next.new.lines c.lines.invariant.on c.in_ok-packet.ensures.on in
-    rw (p.1, p.2) (inr (end_fault c.in_ok-version.version c.args.classes.now c.args.lines.now c.lines.lines c.read_next.new.lines c.read_end.new.lines c.lines.run _ on c.in_ok-packet.ensures.going c.lines.invariant.reads next c.in_err-read_end-in-End.ensures.err))
+    let on = goes_then c.args.lines.now c.lines.lines c.read_next.new.lines c.lines.invariant.on c.in_ok-read_next.ensures.on in
+    rw (p.1, p.2) (inr (end_fault c.in_ok-version.version c.args.classes.now c.args.lines.now c.lines.lines c.read_next.new.lines c.read_end.new.lines c.lines.run _ on c.in_ok-read_next.ensures.going c.lines.invariant.reads next c.in_err-read_end-in-End.ensures.err))
 
 pub returns-in-End-clause-ok : goal.returns-in-End-clause-ok
 returns-in-End-clause-ok g c =
