@@ -22,5 +22,6 @@ pub mod Sends
 pub mod Holds
 pub mod Handling
 pub mod Comings
+pub mod MarkLists
 pub mod Tallies
 pub mod Stores
