@@ -5,14 +5,15 @@ ghost use Rattle.fx_base.specs.declared.fault.Place.TheVariants as faults;
 ghost use Rattle.fx_base.specs.Refusals.{wrong_choices};
 ghost use Rattle.fx_machine.specs.Acts as acts;
 ghost use Rattle.fx_machine.specs.Holds as holds;
+ghost use Rattle.fx_machine.specs.Intakes.{key_in};
 ghost use Rattle.fx_machine.specs.Steps as steps;
 ghost use Rattle.fx_tables.specs.Holdings.{met_holdings};
 ghost use Rattle.fx_tables.specs.Network as network;
 ghost use Rattle.fx_tables.specs.declared.record.Record as of_record;
 
+use crate::intake::Intake;
 use crate::records::Records;
 use fx_base::{Counts, Fault, refusals};
-use fx_layout::Key;
 use fx_tables::{Holding, Net, Occurrence, Packet, Record};
 
 /// The place of a held record, from 0, and what was counted under it before another joined it.
@@ -30,14 +31,19 @@ pub struct Taking {
 }
 
 /// The counts are added to the held record of this number, from 1, if it is there and has the key.
-fn join(records: &mut Vec<Record>, number: u64, key: &Key, counts: &Counts) -> Option<Joined>
+fn join(
+    records: &mut Vec<Record>,
+    number: u64,
+    intake: &Intake<'_>,
+    counts: &Counts,
+) -> Option<Joined>
     ensures some { IfSome result (λ j. (acts.records_joining
         (network.entry_numbered records.old.items number) records.old.items number
-        (record { key = key.now; counts = counts.now }) ≡ Some records.new.items)
+        (record { key = key_in intake.now; counts = counts.now }) ≡ Some records.new.items)
         × (holds.with_counts records.new.items j.place j.counts ≡ records.old.items)) }
     ensures none { IfNone result ((acts.records_joining
         (network.entry_numbered records.old.items number) records.old.items number
-        (record { key = key.now; counts = counts.now }) ≡ None)
+        (record { key = key_in intake.now; counts = counts.now }) ≡ None)
         × (records.new.items ≡ records.old.items)) }
 {
     if number == 0 || number > records.len() as u64 {
@@ -45,7 +51,7 @@ fn join(records: &mut Vec<Record>, number: u64, key: &Key, counts: &Counts) -> O
     }
     let place = (number - 1) as usize;
     let held = &mut records[place];
-    if !held.key.same(key) {
+    if !intake.has(&held.key) {
         return None;
     }
     let before = held.counts;
@@ -71,27 +77,27 @@ impl Records {
     /// this number.
     fn take_in(
         &mut self,
-        key: &Key,
+        intake: &Intake<'_>,
         counts: &Counts,
         choice: Option<u64>,
     ) -> Result<Option<Joined>, Fault>
         ensures ok { IfOk result (λ j. (acts.taken_in self.old choice
-            (record { key = key.now; counts = counts.now }) ≡ Some self.new)
+            (record { key = key_in intake.now; counts = counts.now }) ≡ Some self.new)
             × (holds.given_back j self.new ≡ self.old)) }
         ensures same { OnErr result (self.new ≡ self.old) }
         ensures err { IfErr result (λ e. IsMemory e
             ⊎ ((e ≡ fault_at wrong_choices faults.None) × (acts.taken_in self.old choice
-            (record { key = key.now; counts = counts.now }) ≡ None))) }
+            (record { key = key_in intake.now; counts = counts.now }) ≡ None))) }
     {
         match choice {
             None => {
                 self.items.push(Record {
-                    key: key.copy(),
+                    key: intake.key(),
                     counts: *counts,
                 })?;
                 Ok(None)
             }
-            Some(number) => match join(&mut self.items, number, key, counts) {
+            Some(number) => match join(&mut self.items, number, intake, counts) {
                 None => Err(Fault::bare(refusals::WRONG_CHOICES)),
                 Some(joined) => Ok(Some(joined)),
             },
@@ -114,25 +120,25 @@ impl Records {
 /// A holder takes in a record.
 fn hold(
     held: &mut Vec<Records>,
-    holding: &Holding,
+    holder: usize,
+    intake: &Intake<'_>,
     counts: &Counts,
     choice: Option<u64>,
 ) -> Result<Taking, Fault>
-    ensures ok { IfOk result (λ t. (holds.held_with held.old.items counts.now holding.now choice
-        ≡ Some held.new.items)
+    ensures ok { IfOk result (λ t. (holds.held_with held.old.items counts.now
+        (record { holder = holder; key = key_in intake.now }) choice ≡ Some held.new.items)
         × (holds.back_at held.new.items t.holder t.joined ≡ held.old.items)) }
     ensures same { OnErr result (held.new.items ≡ held.old.items) }
     ensures err { IfErr result (λ e. IsMemory e
         ⊎ ((e ≡ fault_at wrong_choices faults.None)
-        × (holds.held_with held.old.items counts.now holding.now
-        choice ≡ None))) }
+        × (holds.held_with held.old.items counts.now
+        (record { holder = holder; key = key_in intake.now }) choice ≡ None))) }
 {
-    let holder = holding.holder;
     if holder >= held.len() {
         return Err(Fault::bare(refusals::WRONG_CHOICES));
     }
     let records = &mut held[holder];
-    let joined = records.take_in(&holding.key, counts, choice)?;
+    let joined = records.take_in(intake, counts, choice)?;
     Ok(Taking { holder, joined })
 }
 
@@ -150,21 +156,22 @@ fn give_back(held: &mut Vec<Records>, taking: Taking)
 fn hold_next(
     held: &mut Vec<Records>,
     log: &mut Vec<Taking>,
-    holding: &Holding,
+    holder: usize,
+    intake: &Intake<'_>,
     counts: &Counts,
     choice: Option<u64>,
 ) -> Result<(), Fault>
-    ensures ok { OnOk result ((holds.held_with held.old.items counts.now holding.now choice
-        ≡ Some held.new.items)
+    ensures ok { OnOk result ((holds.held_with held.old.items counts.now
+        (record { holder = holder; key = key_in intake.now }) choice ≡ Some held.new.items)
         × (holds.undone log.new.items held.new.items ≡ holds.undone log.old.items held.old.items)) }
     ensures same { OnErr result ((held.new.items ≡ held.old.items)
         × (log.new.items ≡ log.old.items)) }
     ensures err { IfErr result (λ e. IsMemory e
         ⊎ ((e ≡ fault_at wrong_choices faults.None)
-        × (holds.held_with held.old.items counts.now holding.now
-        choice ≡ None))) }
+        × (holds.held_with held.old.items counts.now
+        (record { holder = holder; key = key_in intake.now }) choice ≡ None))) }
 {
-    let taking = hold(held, holding, counts, choice)?;
+    let taking = hold(held, holder, intake, counts, choice)?;
     if log.push(taking).is_err() {
         give_back(held, taking);
         return Err(Fault::bare(refusals::WANT_OF_MEMORY));
@@ -207,7 +214,9 @@ pub fn hold_all(
     }
     log.clear();
     for place in 0..holdings.len() {
-        if let Err(fault) = hold_next(held, log, &holdings[place], counts, choices[place]) {
+        let holding = &holdings[place];
+        let intake = Intake::Keyed(&holding.key);
+        if let Err(fault) = hold_next(held, log, holding.holder, &intake, counts, choices[place]) {
             give_all_back(held, log.as_slice());
             return Err(fault);
         }
@@ -244,8 +253,20 @@ pub fn hold_met(
     };
     log.clear();
     for place in 0..met.len() {
-        let holding = net.holding(&met[place], &packet.fields);
-        if let Err(fault) = hold_next(held, log, &holding, &counts, choices[place]) {
+        let occurrence = &met[place];
+        let intake = Intake::Met {
+            net,
+            occurrence,
+            fields: &packet.fields,
+        };
+        if let Err(fault) = hold_next(
+            held,
+            log,
+            occurrence.holder,
+            &intake,
+            &counts,
+            choices[place],
+        ) {
             give_all_back(held, log.as_slice());
             return Err(fault);
         }
