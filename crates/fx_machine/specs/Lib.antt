@@ -20,7 +20,9 @@ pub mod CompleteRun
 pub mod Places
 pub mod Sends
 pub mod Holds
+pub mod Intakes
 pub mod Handling
 pub mod Comings
+pub mod MarkLists
 pub mod Tallies
 pub mod Stores

@@ -1,24 +1,70 @@
 //! The crossings that are to come.
-ghost use Rattle.std.specs.Prelude.{◌≡◌, IfOk, Some, false};
+ghost use Rattle.std.specs.Prelude.{◌≡◌, ◌≤◌, IfOk, Some, true, false, replicate};
 ghost use Rattle.fx_machine.specs.Comings as comings;
 ghost use Rattle.fx_machine.specs.States as states;
 
+use arrayvec::ArrayVec;
 use fx_base::entry_numbered;
 use std::alloc::{AllocError, Global};
 use std::marker::Model;
 
+/// How many marks stand in a list itself.
+const FEW: usize = 8;
+
+/// A list of marks, which has memory of its own only for more than a few.
+#[derive(Debug, Drop)]
+enum MarkList {
+    Few(ArrayVec<bool, FEW>),
+    Many(Vec<bool>),
+}
+
 /// Which crossings of a packet are to come, in the order of its path.
 #[derive(Debug, Drop)]
 pub struct Marks {
-    items: Vec<bool>,
+    list: MarkList,
 }
 
 impl Model for Marks {
     ghost use Rattle.std.specs.Prelude.{Bool, List};
+    ghost use Rattle.fx_machine.specs.MarkLists as lists;
 
     ghost Value = { List Bool };
 
-    ghost view = { λ m. m.items.items };
+    ghost view = { λ m. lists.marks_in m.list };
+}
+
+/// So few crossings, all to come.
+fn few_marks(count: usize) -> ArrayVec<bool, FEW>
+    requires { count ≤ FEW }
+    ensures { result.items ≡ replicate count true }
+{
+    let mut few: ArrayVec<bool, FEW> = ArrayVec::new();
+    for _crossing in 0..count {
+        few.push(true);
+    }
+    few
+}
+
+/// So many crossings, all to come.
+fn many_marks(alloc: Global, count: usize) -> Result<Vec<bool>, AllocError>
+    ensures { IfOk result (λ many. many.items ≡ replicate count true) }
+{
+    let mut many: Vec<bool> = Vec::with_capacity(alloc, count)?;
+    for _crossing in 0..count {
+        many.push(true)?;
+    }
+    Ok(many)
+}
+
+/// The crossing of this number isn't to come any more.
+fn clear_mark(marks: &mut [bool], crossing: u64)
+    ensures { marks.new ≡ states.with_entry marks.old crossing false }
+{
+    if crossing == 0 || crossing > marks.len() as u64 {
+        return;
+    }
+    let place = (crossing - 1) as usize;
+    marks[place] = false;
 }
 
 impl Marks {
@@ -26,18 +72,31 @@ impl Marks {
     pub fn new(alloc: Global, count: usize) -> Result<Marks, AllocError>
         ensures { IfOk result (λ marks. marks ≡ comings.marks count) }
     {
-        let mut items: Vec<bool> = Vec::with_capacity(alloc, count)?;
-        for _crossing in 0..count {
-            items.push(true)?;
+        if count <= FEW {
+            return Ok(Marks {
+                list: MarkList::Few(few_marks(count)),
+            });
         }
-        Ok(Marks { items })
+        Ok(Marks {
+            list: MarkList::Many(many_marks(alloc, count)?),
+        })
+    }
+
+    /// The marks, in order.
+    fn as_slice(&self) -> &[bool]
+        ensures { result.now ≡ self.now }
+    {
+        match &self.list {
+            MarkList::Few(few) => few.as_slice(),
+            MarkList::Many(many) => many.as_slice(),
+        }
     }
 
     /// Whether the crossing of this number is to come.
     fn has(&self, crossing: u64) -> bool
         ensures { result ≡ comings.has_mark (Some self.now) crossing }
     {
-        match entry_numbered(self.items.as_slice(), crossing) {
+        match entry_numbered(self.as_slice(), crossing) {
             None => false,
             Some(mark) => *mark,
         }
@@ -47,18 +106,17 @@ impl Marks {
     fn clear(&mut self, crossing: u64)
         ensures { self.new ≡ states.with_entry self.old crossing false }
     {
-        if crossing == 0 || crossing > self.items.len() as u64 {
-            return;
+        match &mut self.list {
+            MarkList::Few(few) => clear_mark(few.as_mut_slice(), crossing),
+            MarkList::Many(many) => clear_mark(many.as_mut_slice(), crossing),
         }
-        let place = (crossing - 1) as usize;
-        self.items[place] = false;
     }
 
     /// Whether no crossing is to come.
     fn none(&self) -> bool
         ensures { result ≡ comings.none_marked self.now }
     {
-        for mark in self.items.as_slice() {
+        for mark in self.as_slice() {
             if *mark {
                 return false;
             }

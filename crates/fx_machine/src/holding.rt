@@ -5,13 +5,16 @@ ghost use Rattle.fx_base.specs.declared.fault.Place.TheVariants as faults;
 ghost use Rattle.fx_base.specs.Refusals.{wrong_choices};
 ghost use Rattle.fx_machine.specs.Acts as acts;
 ghost use Rattle.fx_machine.specs.Holds as holds;
+ghost use Rattle.fx_machine.specs.Intakes.{key_in};
+ghost use Rattle.fx_machine.specs.Steps as steps;
+ghost use Rattle.fx_tables.specs.Holdings.{met_holdings};
 ghost use Rattle.fx_tables.specs.Network as network;
 ghost use Rattle.fx_tables.specs.declared.record.Record as of_record;
 
+use crate::intake::Intake;
 use crate::records::Records;
 use fx_base::{Counts, Fault, refusals};
-use fx_tables::{Holding, Record};
-use std::alloc::{AllocError, Global};
+use fx_tables::{Holding, Net, Occurrence, Packet, Record};
 
 /// The place of a held record, from 0, and what was counted under it before another joined it.
 #[derive(Clone, Copy, Debug, PartialEq, Eq)]
@@ -27,15 +30,20 @@ pub struct Taking {
     pub joined: Option<Joined>,
 }
 
-/// The counts of a record are added to the held record of this number, from 1, if it is there and has the key.
-fn join(records: &mut Vec<Record>, number: u64, entry: &Record) -> Option<Joined>
+/// The counts are added to the held record of this number, from 1, if it is there and has the key.
+fn join(
+    records: &mut Vec<Record>,
+    number: u64,
+    intake: &Intake<'_>,
+    counts: &Counts,
+) -> Option<Joined>
     ensures some { IfSome result (λ j. (acts.records_joining
-        (network.entry_numbered records.old.items number)
-        records.old.items number entry.now ≡ Some records.new.items)
+        (network.entry_numbered records.old.items number) records.old.items number
+        (record { key = key_in intake.now; counts = counts.now }) ≡ Some records.new.items)
         × (holds.with_counts records.new.items j.place j.counts ≡ records.old.items)) }
     ensures none { IfNone result ((acts.records_joining
-        (network.entry_numbered records.old.items number)
-        records.old.items number entry.now ≡ None)
+        (network.entry_numbered records.old.items number) records.old.items number
+        (record { key = key_in intake.now; counts = counts.now }) ≡ None)
         × (records.new.items ≡ records.old.items)) }
 {
     if number == 0 || number > records.len() as u64 {
@@ -43,12 +51,15 @@ fn join(records: &mut Vec<Record>, number: u64, entry: &Record) -> Option<Joined
     }
     let place = (number - 1) as usize;
     let held = &mut records[place];
-    if !held.key.same(&entry.key) {
+    if !intake.has(&held.key) {
         return None;
     }
-    let counts = held.counts;
-    held.counts = counts.add(&entry.counts);
-    Some(Joined { place, counts })
+    let before = held.counts;
+    held.counts = before.add(counts);
+    Some(Joined {
+        place,
+        counts: before,
+    })
 }
 
 /// The held record at this place has these counts.
@@ -62,21 +73,31 @@ fn set_counts(records: &mut Vec<Record>, joined: Joined)
 }
 
 impl Records {
-    /// Takes in a record: as a new one, which comes last, or added to the held record of this number.
-    fn take_in(&mut self, entry: Record, choice: Option<u64>) -> Result<Option<Joined>, Fault>
-        ensures ok { IfOk result (λ j. (acts.taken_in self.old choice entry ≡ Some self.new)
+    /// Takes in a record of this key and these counts: as a new one, which comes last, or added to the held record of
+    /// this number.
+    fn take_in(
+        &mut self,
+        intake: &Intake<'_>,
+        counts: &Counts,
+        choice: Option<u64>,
+    ) -> Result<Option<Joined>, Fault>
+        ensures ok { IfOk result (λ j. (acts.taken_in self.old choice
+            (record { key = key_in intake.now; counts = counts.now }) ≡ Some self.new)
             × (holds.given_back j self.new ≡ self.old)) }
         ensures same { OnErr result (self.new ≡ self.old) }
         ensures err { IfErr result (λ e. IsMemory e
-            ⊎ ((e ≡ fault_at wrong_choices faults.None)
-            × (acts.taken_in self.old choice entry ≡ None))) }
+            ⊎ ((e ≡ fault_at wrong_choices faults.None) × (acts.taken_in self.old choice
+            (record { key = key_in intake.now; counts = counts.now }) ≡ None))) }
     {
         match choice {
             None => {
-                self.items.push(entry)?;
+                self.items.push(Record {
+                    key: intake.key(),
+                    counts: *counts,
+                })?;
                 Ok(None)
             }
-            Some(number) => match join(&mut self.items, number, &entry) {
+            Some(number) => match join(&mut self.items, number, intake, counts) {
                 None => Err(Fault::bare(refusals::WRONG_CHOICES)),
                 Some(joined) => Ok(Some(joined)),
             },
@@ -99,29 +120,25 @@ impl Records {
 /// A holder takes in a record.
 fn hold(
     held: &mut Vec<Records>,
-    holding: &Holding,
+    holder: usize,
+    intake: &Intake<'_>,
     counts: &Counts,
     choice: Option<u64>,
 ) -> Result<Taking, Fault>
-    ensures ok { IfOk result (λ t. (holds.held_with held.old.items counts.now holding.now choice
-        ≡ Some held.new.items)
+    ensures ok { IfOk result (λ t. (holds.held_with held.old.items counts.now
+        (record { holder = holder; key = key_in intake.now }) choice ≡ Some held.new.items)
         × (holds.back_at held.new.items t.holder t.joined ≡ held.old.items)) }
     ensures same { OnErr result (held.new.items ≡ held.old.items) }
     ensures err { IfErr result (λ e. IsMemory e
         ⊎ ((e ≡ fault_at wrong_choices faults.None)
-        × (holds.held_with held.old.items counts.now holding.now
-        choice ≡ None))) }
+        × (holds.held_with held.old.items counts.now
+        (record { holder = holder; key = key_in intake.now }) choice ≡ None))) }
 {
-    let holder = holding.holder;
     if holder >= held.len() {
         return Err(Fault::bare(refusals::WRONG_CHOICES));
     }
-    let entry = Record {
-        key: holding.key.copy(),
-        counts: *counts,
-    };
     let records = &mut held[holder];
-    let joined = records.take_in(entry, choice)?;
+    let joined = records.take_in(intake, counts, choice)?;
     Ok(Taking { holder, joined })
 }
 
@@ -139,21 +156,22 @@ fn give_back(held: &mut Vec<Records>, taking: Taking)
 fn hold_next(
     held: &mut Vec<Records>,
     log: &mut Vec<Taking>,
-    holding: &Holding,
+    holder: usize,
+    intake: &Intake<'_>,
     counts: &Counts,
     choice: Option<u64>,
 ) -> Result<(), Fault>
-    ensures ok { OnOk result ((holds.held_with held.old.items counts.now holding.now choice
-        ≡ Some held.new.items)
+    ensures ok { OnOk result ((holds.held_with held.old.items counts.now
+        (record { holder = holder; key = key_in intake.now }) choice ≡ Some held.new.items)
         × (holds.undone log.new.items held.new.items ≡ holds.undone log.old.items held.old.items)) }
     ensures same { OnErr result ((held.new.items ≡ held.old.items)
         × (log.new.items ≡ log.old.items)) }
     ensures err { IfErr result (λ e. IsMemory e
         ⊎ ((e ≡ fault_at wrong_choices faults.None)
-        × (holds.held_with held.old.items counts.now holding.now
-        choice ≡ None))) }
+        × (holds.held_with held.old.items counts.now
+        (record { holder = holder; key = key_in intake.now }) choice ≡ None))) }
 {
-    let taking = hold(held, holding, counts, choice)?;
+    let taking = hold(held, holder, intake, counts, choice)?;
     if log.push(taking).is_err() {
         give_back(held, taking);
         return Err(Fault::bare(refusals::WANT_OF_MEMORY));
@@ -170,21 +188,21 @@ pub fn give_all_back(held: &mut Vec<Records>, log: &[Taking])
     }
 }
 
-/// Each of these holders in turn takes in a record of these counts, by the next choice, and what they took in
-/// is answered; or none does.
+/// Each of these holders in turn takes in a record of these counts, by the next choice, and the log becomes what
+/// they took in; or none does.
 ///
 /// Fails with 852 where the choices aren't as many as the holders or one of them can't be made, and with 900
 /// for want of memory.
 pub fn hold_all(
-    alloc: Global,
     held: &mut Vec<Records>,
+    log: &mut Vec<Taking>,
     holdings: &[Holding],
     counts: &Counts,
     choices: &[Option<u64>],
-) -> Result<Vec<Taking>, Fault>
-    ensures ok { IfOk result (λ log. (holds.hold_all counts.now holdings.now held.old.items
+) -> Result<(), Fault>
+    ensures ok { OnOk result ((holds.hold_all counts.now holdings.now held.old.items
         choices.now ≡ Some held.new.items)
-        × (holds.undone log.items held.new.items ≡ held.old.items)) }
+        × (holds.undone log.new.items held.new.items ≡ held.old.items)) }
     ensures same { OnErr result (held.new.items ≡ held.old.items) }
     ensures err { IfErr result (λ e. IsMemory e
         ⊎ ((e ≡ fault_at wrong_choices faults.None)
@@ -194,12 +212,64 @@ pub fn hold_all(
     if holdings.len() != choices.len() {
         return Err(Fault::bare(refusals::WRONG_CHOICES));
     }
-    let mut log: Vec<Taking> = Vec::new(alloc);
+    log.clear();
     for place in 0..holdings.len() {
-        if let Err(fault) = hold_next(held, &mut log, &holdings[place], counts, choices[place]) {
+        let holding = &holdings[place];
+        let intake = Intake::Keyed(&holding.key);
+        if let Err(fault) = hold_next(held, log, holding.holder, &intake, counts, choices[place]) {
             give_all_back(held, log.as_slice());
             return Err(fault);
         }
     }
-    Ok(log)
+    Ok(())
+}
+
+/// The caches of these occurrences in turn take in a record of these counts, each at the key that a packet with
+/// these fields has there, as [`hold_all`] has it.
+pub fn hold_met(
+    held: &mut Vec<Records>,
+    log: &mut Vec<Taking>,
+    net: &Net,
+    met: &[Occurrence],
+    packet: &Packet,
+    choices: &[Option<u64>],
+) -> Result<(), Fault>
+    ensures ok { OnOk result (holds.hold_all (steps.one_packet packet.now)
+        (met_holdings net.now.holders packet.now.fields met.now) held.old.items
+        choices.now ≡ Some held.new.items) }
+    ensures same { OnErr result (held.new.items ≡ held.old.items) }
+    ensures err { IfErr result (λ e. IsMemory e
+        ⊎ ((e ≡ fault_at wrong_choices faults.None)
+        × (holds.hold_all (steps.one_packet packet.now)
+        (met_holdings net.now.holders packet.now.fields met.now) held.old.items
+        choices.now ≡ None))) }
+{
+    if met.len() != choices.len() {
+        return Err(Fault::bare(refusals::WRONG_CHOICES));
+    }
+    let counts = Counts {
+        packets: 1,
+        octets: packet.octets,
+    };
+    log.clear();
+    for place in 0..met.len() {
+        let occurrence = &met[place];
+        let intake = Intake::Met {
+            net,
+            occurrence,
+            fields: &packet.fields,
+        };
+        if let Err(fault) = hold_next(
+            held,
+            log,
+            occurrence.holder,
+            &intake,
+            &counts,
+            choices[place],
+        ) {
+            give_all_back(held, log.as_slice());
+            return Err(fault);
+        }
+    }
+    Ok(())
 }

@@ -5,6 +5,7 @@
 mod coming;
 mod handling;
 mod holding;
+mod intake;
 mod laws;
 mod records;
 mod sending;

@@ -122,7 +122,6 @@ impl<'a> State<'a> {
                 crossing,
                 choices,
             } => self.store.cross(
-                self.alloc,
                 self.net,
                 self.classes,
                 self.packets.as_slice(),

@@ -5,6 +5,7 @@ ghost use Rattle.fx_base.specs.Refusals.{want_of_memory};
 ghost use Rattle.fx_machine.specs.Comings as comings;
 ghost use Rattle.fx_machine.specs.Holds as holds;
 ghost use Rattle.fx_tables.specs.Classes as traffic;
+ghost use Rattle.fx_tables.specs.Holdings.{met_holdings};
 ghost use Rattle.fx_tables.specs.Network as network;
 ghost use Rattle.fx_machine.specs.States as states;
 ghost use Rattle.fx_machine.specs.Steps as steps;
@@ -12,17 +13,20 @@ ghost use Rattle.fx_machine.specs.Stores as stores;
 
 use crate::coming::{Marks, all_crossed, clear, is_to_come};
 use crate::handling::handling_at;
-use crate::holding::{give_all_back, hold_all};
+use crate::holding::{Taking, give_all_back, hold_all, hold_met};
 use crate::records::Records;
 use crate::sending::{choices_from, chosen_links, put_all};
 use crate::tallying::send_and_tally;
-use fx_base::{Counts, Fault, entry_at, entry_numbered, refusals};
-use fx_tables::{Classes, HolderName, Holding, Net, Packet, Record};
+use fx_base::{Fault, entry_at, entry_numbered, refusals};
+use fx_tables::{Classes, HolderName, Net, Occurrence, Packet, Record};
 use std::alloc::{AllocError, Global};
 use std::marker::Model;
 
 /// What a network holds: the crossings to come, the records at each holder and on each link, the totals, and
 /// the number of unassigned records modulo 2 to the 64.
+///
+/// Where a packet is metered and what holders take in are lists of one step alone: they are kept for the memory
+/// that they have.
 #[derive(Debug, Drop)]
 pub struct Store {
     to_come: Vec<Marks>,
@@ -30,6 +34,8 @@ pub struct Store {
     carried: Vec<Records>,
     totals: Vec<Record>,
     unassigned: u64,
+    met: Vec<Occurrence>,
+    log: Vec<Taking>,
 }
 
 impl Model for Store {
@@ -87,7 +93,7 @@ fn all_to_come(
     ensures { IfOk result (λ to_come. comings.coming_of 1 to_come.items
         ≡ states.coming_from classes.now 1 packets.now) }
 {
-    let mut to_come: Vec<Marks> = Vec::new(alloc);
+    let mut to_come: Vec<Marks> = Vec::with_capacity(alloc, packets.len())?;
     for packet in packets {
         to_come.push(Marks::new(alloc, classes.path_of(packet).len())?)?;
     }
@@ -114,23 +120,24 @@ fn take_out_at(lists: &mut Vec<Records>, place: usize, number: u64)
     }
 }
 
-/// The caches that meter a packet at a crossing of its path, and the keys that it has there.
-fn crossing_holdings(
-    alloc: Global,
+/// The list becomes that of where a packet is metered at a crossing of its path.
+fn meet(
+    met: &mut Vec<Occurrence>,
     net: &Net,
     classes: &Classes,
     packet: &Packet,
     crossing: u64,
-) -> Result<Vec<Holding>, AllocError>
-    ensures { IfOk result (λ holdings. map holds.hold_act holdings.items
+) -> Result<(), AllocError>
+    ensures { OnOk result (map holds.hold_act
+        (met_holdings net.now.holders packet.now.fields met.new.items)
         ≡ steps.crossing_acts net.now packet.now.fields
         (network.entry_numbered (traffic.path classes.now packet.now) crossing)) }
 {
-    let Some(found) = entry_numbered(classes.path_of(packet), crossing) else {
-        return Ok(Vec::new(alloc));
-    };
-    let occurrences = net.occurrences(alloc, found, &packet.fields)?;
-    net.holdings(alloc, occurrences.as_slice(), &packet.fields)
+    met.clear();
+    match entry_numbered(classes.path_of(packet), crossing) {
+        None => Ok(()),
+        Some(found) => net.push_occurrences(met, found, &packet.fields),
+    }
 }
 
 impl Store {
@@ -149,6 +156,8 @@ impl Store {
             carried: empty_lists(alloc, net.links().len())?,
             totals: Vec::new(alloc),
             unassigned: 0,
+            met: Vec::new(alloc),
+            log: Vec::new(alloc),
         })
     }
 
@@ -180,7 +189,6 @@ impl Store {
     /// A packet makes a crossing, and the caches there meter it.
     pub fn cross(
         &mut self,
-        alloc: Global,
         net: &Net,
         classes: &Classes,
         packets: &[Packet],
@@ -205,12 +213,15 @@ impl Store {
         let Some(found) = entry_numbered(packets, packet) else {
             return Err(Fault::bare(refusals::STEP_NOT_ENABLED));
         };
-        let counts = Counts {
-            packets: 1,
-            octets: found.octets,
-        };
-        let holdings = crossing_holdings(alloc, net, classes, found, crossing)?;
-        hold_all(alloc, &mut self.held, holdings.as_slice(), &counts, choices)?;
+        meet(&mut self.met, net, classes, found, crossing)?;
+        hold_met(
+            &mut self.held,
+            &mut self.log,
+            net,
+            self.met.as_slice(),
+            found,
+            choices,
+        )?;
         clear(&mut self.to_come, packet, crossing);
         Ok(())
     }
@@ -289,9 +300,9 @@ impl Store {
         let handling = handling_at(alloc, net, place, &entry.key)?;
         let (links, used) = chosen_links(alloc, net.exporters(), handling.exporters, choices)?;
         let left = choices_from(choices, used);
-        let log = hold_all(
-            alloc,
+        hold_all(
             &mut self.held,
+            &mut self.log,
             handling.holdings.as_slice(),
             &entry.counts,
             left,
@@ -305,7 +316,7 @@ impl Store {
             net.report_layout(),
             &entry,
         ) {
-            give_all_back(&mut self.held, log.as_slice());
+            give_all_back(&mut self.held, self.log.as_slice());
             return Err(Fault::bare(refusals::WANT_OF_MEMORY));
         }
         take_out_at(&mut self.carried, place, number);

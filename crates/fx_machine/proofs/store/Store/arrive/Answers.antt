@@ -34,8 +34,8 @@ returns-in_err-links-clause-err c =
       )
     ])
 
-pub returns-in_err-log-clause-err : goal.returns-in_err-log-clause-err
-returns-in_err-log-clause-err c =
+pub returns-in_err-hold_all-clause-err : goal.returns-in_err-hold_all-clause-err
+returns-in_err-hold_all-clause-err c =
     let in' = c.self.inside in
     let net = c.args.net.now in
     let place = c.in-Some.place in
@@ -49,8 +49,8 @@ returns-in_err-log-clause-err c =
     let n : Some r ≡ entry_numbered rs c.args.number = ap Some c.copy-entry.ensures ∙ c.in-Some-record_numbered.ensures in
     let picked : chosen_from [] (at_places net.exporters h'.exporters.now) cs ≡ Some (record { links = links; rest = rest }) =
     ap (λ (xs : List Exporter). chosen_from [] (at_places xs h'.exporters.now) cs) (sym c.exporters.ensures) ∙ c.in_ok-links.ensures.ok.1 in
-    let p = err_from_is_err_and c.from_residual-in_err-log.result c.from_residual-in_err-log.ensures.1 in
-    rw (p.1, p.2) (elim c.in_err-log.ensures.err [
+    let p = err_from_is_err_and c.from_residual-in_err-hold_all.result c.from_residual-in_err-hold_all.ensures.1 in
+    rw (p.1, p.2) (elim c.in_err-hold_all.ensures.err [
       | inl a ↦ (ap (λ (f : Fault). f.place) a, inl (ap (λ (f : Fault). f.number) a))
       | inr b ↦ (
         ap (λ (f : Fault). f.place) b.0,
@@ -75,7 +75,7 @@ returns-clause-ok c s e =
     let picked : chosen_from [] (at_places net.exporters h'.exporters.now) cs ≡ Some (record { links = links; rest = rest }) =
     ap (λ (xs : List Exporter). chosen_from [] (at_places xs h'.exporters.now) cs) (sym c.exporters.ensures) ∙ c.in_ok-links.ensures.ok.1 in
     let taken : hold_all r.counts h'.holdings.items in'.held.items rest ≡ Some c.hold_all.new.held.items =
-    ap₂ (λ (xs : List Holding) (ys : List (Option ℕ)). hold_all r.counts xs in'.held.items ys) (sym c.as_slice-2.ensures.value) (sym c.choices_from-left.ensures) ∙ c.in_ok-log.ensures.ok.0 in
+    ap₂ (λ (xs : List Holding) (ys : List (Option ℕ)). hold_all r.counts xs in'.held.items ys) (sym c.as_slice-2.ensures.value) (sym c.choices_from-left.ensures) ∙ c.in_ok-hold_all.ensures.ok.0 in
     let done = c.in_default-send_and_tally.ensures.ok in
     let out : c.take_out_at.new.lists.items ≡ taken_out (put_all links r in'.carried.items) place c.args.number =
     c.take_out_at.ensures ∙ ap (λ (x : List (List Record)). taken_out x place c.args.number) (done.0 ∙ ap (λ (ls : List ℕ). put_all ls r in'.carried.items) c.as_slice-3.ensures.value) in

@@ -1,0 +1,8 @@
+-- The marks of a list, wherever they stand.
+use Rattle.std.specs.Prelude.{Bool, List}
+use Rattle.fx_machine.specs.declared.coming.MarkList.{MarkList}
+use Rattle.fx_machine.specs.declared.coming.MarkList.TheVariants.{Few, Many}
+
+abbrev pub marks_in : MarkList → List Bool
+marks_in (Few few) = few.items
+marks_in (Many many) = many.items

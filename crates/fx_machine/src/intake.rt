@@ -1,0 +1,80 @@
+//! The keys under which holders take records in.
+ghost use Rattle.std.specs.Prelude.{◌≡◌, bytes_eq, map};
+ghost use Rattle.fx_elements.specs.Axes.{axis_width, field};
+ghost use Rattle.fx_layout.specs.Keys as keys;
+ghost use Rattle.fx_machine.specs.Intakes.{key_in};
+
+use fx_base::entry_at;
+use fx_boxes::Fields;
+use fx_elements::width;
+use fx_layout::{Key, Layout, Part, leading_bits};
+use fx_tables::{Net, Occurrence};
+
+/// The key under which a holder takes a record in: one that stands already, or that of a packet where it is metered,
+/// which has to be made only for a new record.
+#[derive(Clone, Copy, Debug)]
+pub enum Intake<'a> {
+    Keyed(&'a Key),
+    Met {
+        net: &'a Net,
+        occurrence: &'a Occurrence,
+        fields: &'a Fields,
+    },
+}
+
+/// Whether these are the values that a packet with these fields has for these parts.
+fn has_values(values: &[u128], parts: &[Part], fields: &Fields) -> bool
+    ensures { result ≡ bytes_eq values.now (map (λ part. keys.leading_bits (axis_width part.axis)
+        part.bits (field fields.now part.axis)) parts.now) }
+{
+    match values {
+        [] => parts.is_empty(),
+        [value, values @ ..] => match parts {
+            [] => false,
+            [part, parts @ ..] => {
+                *value == leading_bits(width(part.axis), part.bits, fields.get(part.axis))
+                    && has_values(values, parts, fields)
+            }
+        },
+    }
+}
+
+/// Whether the key is the one that a packet with these fields has under the layout.
+fn is_key_of(key: &Key, layout: &Layout, fields: &Fields) -> bool
+    ensures { result ≡ keys.same_key key.now (keys.key_of layout.now fields.now) }
+{
+    key.layout().same(layout) && has_values(key.values(), layout.parts(), fields)
+}
+
+impl<'a> Intake<'a> {
+    /// Whether the key is the same as that of a held record.
+    pub fn has(&self, held: &Key) -> bool
+        ensures { result ≡ keys.same_key held.now (key_in self.now) }
+    {
+        match self {
+            Intake::Keyed(key) => held.same(key),
+            Intake::Met {
+                net,
+                occurrence,
+                fields,
+            } => match entry_at(net.holders(), occurrence.holder) {
+                None => is_key_of(held, &Layout::new(), fields),
+                Some(holder) => is_key_of(held, holder.layout(), fields),
+            },
+        }
+    }
+
+    /// The key.
+    pub fn key(&self) -> Key
+        ensures { result ≡ key_in self.now }
+    {
+        match self {
+            Intake::Keyed(key) => key.copy(),
+            Intake::Met {
+                net,
+                occurrence,
+                fields,
+            } => net.holding(occurrence, fields).key,
+        }
+    }
+}
