@@ -2,11 +2,13 @@
 ghost use Rattle.std.specs.Prelude.{◌≡◌, ◌==◌, [], Some, None, OnOk, OnErr, IfOk, IfErr, IfSome, IfNone, IsOk, IsSome};
 ghost use Rattle.std.specs.FinMap as map;
 ghost use Rattle.fx_base.specs.Fault.{IsMemory};
+ghost use Rattle.fx_layout.specs.Keys.{key_of};
 ghost use Rattle.fx_store.specs.Flows.{Adds, least, without};
 ghost use Rattle.fx_net.specs.Stores.{flows_in, makes_room, new_store, with_counts, without_entry};
 
 use fx_base::{Counts, Fault};
-use fx_layout::{Key, Seed};
+use fx_boxes::Fields;
+use fx_layout::{Key, Layout, Seed};
 use fx_store::{BoundedStore, FlowStore, ListStore};
 use std::alloc::Global;
 use std::marker::Model;
@@ -77,6 +79,31 @@ impl FlowStore for HolderStore {
         match &mut self.kind {
             StoreKind::Unbounded(store) => store.add(key, counts),
             StoreKind::Bounded(store) => store.add(key, counts),
+        }
+    }
+
+    /// Adds the counts at the key of a packet. Where there is a bound, the store is full and the key is new, the
+    /// least recently added-to entry leaves.
+    fn add_packet(
+        &mut self,
+        layout: &Layout,
+        fields: &Fields,
+        counts: Counts,
+    ) -> Result<Option<(Key, Counts)>, Fault>
+        ensures ok { IfOk result (λ left. Adds (flows_in self.old) (flows_in self.new)
+            (key_of layout.now fields.now) counts left) }
+        ensures err { IfErr result (λ e. IsMemory e
+            × (flows_in self.new ≡ flows_in self.old)) }
+        ensures held { IsSome (map.get (flows_in self.old) (key_of layout.now fields.now))
+            → IsOk result }
+        ensures stored { OnOk result (self.new
+            ≡ with_counts self.old (key_of layout.now fields.now) counts) }
+        ensures leaves { IfOk result (λ left. left
+            ≡ makes_room self.old (key_of layout.now fields.now) counts) }
+    {
+        match &mut self.kind {
+            StoreKind::Unbounded(store) => store.add_packet(layout, fields, counts),
+            StoreKind::Bounded(store) => store.add_packet(layout, fields, counts),
         }
     }
 

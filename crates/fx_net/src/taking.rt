@@ -1,7 +1,8 @@
 //! Caches and aggregations take in what comes to them.
 ghost use Rattle.std.specs.Prelude.{◌≡◌, ◌++◌, [], ◌∷◌, OnOk, IfErr};
 ghost use Rattle.fx_base.specs.Fault.{IsMemory};
-ghost use Rattle.fx_tables.specs.Holdings.{met_holdings};
+ghost use Rattle.fx_layout.specs.Keys.{key_of};
+ghost use Rattle.fx_tables.specs.Holdings.{holding_of, met_holdings};
 ghost use Rattle.fx_net.specs.Leaving as leaving;
 ghost use Rattle.fx_net.specs.Taking as taking;
 
@@ -11,7 +12,7 @@ use crate::leaving::Leaver;
 use crate::store::HolderStore;
 use fx_base::{Counts, Fault};
 use fx_boxes::Fields;
-use fx_layout::Key;
+use fx_layout::{Key, Layout};
 use fx_store::FlowStore;
 use fx_tables::{Holding, Net, Occurrence, Record};
 use std::alloc::Global;
@@ -134,6 +135,70 @@ fn take_all(
     Ok(())
 }
 
+/// The counts are added at the key that a packet has under the layout of a holder, and what leaves to make room comes
+/// last.
+fn add_packet(
+    stores: &mut Vec<Option<HolderStore>>,
+    left: &mut Vec<Leaver>,
+    place: usize,
+    layout: &Layout,
+    fields: &Fields,
+    counts: Counts,
+) -> Result<(), Fault>
+    ensures ok { OnOk result (record { stores = stores.new.items; left = left.new.items }
+        ≡ taking.with_holding counts
+        (record { holder = place; key = key_of layout.now fields.now })
+        (record { stores = stores.old.items; left = left.old.items })) }
+    ensures err { IfErr result IsMemory }
+{
+    let Some(store) = stores.get_mut(place) else {
+        return Ok(());
+    };
+    let Some(store) = store else {
+        return Ok(());
+    };
+    match store.add_packet(layout, fields, counts) {
+        Err(fault) => Err(fault),
+        Ok(None) => Ok(()),
+        Ok(Some((key, counts))) => push_leaver(left, place, key, counts),
+    }
+}
+
+/// The cache of an occurrence takes the counts in at the packet's key there, and what leaves comes last. The key is made
+/// only where its record leaves at once.
+fn take_packet(
+    stores: &mut Vec<Option<HolderStore>>,
+    leavers: &mut Leavers,
+    net: &Net,
+    occurrence: &Occurrence,
+    fields: &Fields,
+    counts: Counts,
+) -> Result<(), Fault>
+    ensures ok { OnOk result (record { stores = stores.new.items; left = leavers.new.left.items }
+        ≡ taking.with_holding counts (holding_of net.now.holders fields.now occurrence.now)
+        (record { stores = stores.old.items; left = leavers.old.left.items })) }
+    ensures passing { OnOk result (leavers.new.passing.items ≡ leavers.old.passing.items
+        ++ taking.leaves_at_once stores.old.items counts
+        (holding_of net.now.holders fields.now occurrence.now)) }
+    ensures err { IfErr result IsMemory }
+{
+    let place = occurrence.holder;
+    if is_immediate(stores.as_slice(), place) {
+        return take(stores, leavers, net.holding(occurrence, fields), counts);
+    }
+    match net.holders().get(place) {
+        Some(holder) => add_packet(
+            stores,
+            &mut leavers.left,
+            place,
+            holder.layout(),
+            fields,
+            counts,
+        ),
+        None => take(stores, leavers, net.holding(occurrence, fields), counts),
+    }
+}
+
 /// The caches of these occurrences take the counts in, one after another, each at the packet's key there.
 fn meet_all(
     stores: &mut Vec<Option<HolderStore>>,
@@ -152,7 +217,7 @@ fn meet_all(
     ensures err { IfErr result IsMemory }
 {
     for occurrence in met {
-        take(stores, leavers, net.holding(occurrence, fields), counts)?;
+        take_packet(stores, leavers, net, occurrence, fields, counts)?;
     }
     Ok(())
 }

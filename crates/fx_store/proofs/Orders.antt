@@ -3,6 +3,7 @@ use Rattle.std.proofs.Common.{◌≡◌, ℕ, zero, suc, ◌-◌, ◌<◌, ◌�
 use Rattle.std.specs.List.{list_any}
 use Rattle.std.specs.Option.{option_map_or}
 use Rattle.std.specs.BTreeMap.{is_at}
+use Rattle.std.specs.Map.{set_value}
 use Rattle.std.specs.Ordering.{is_gt, eq_by_cmp}
 use Rattle.std.specs.Cmp.{eq_by_cmp_equiv}
 use Rattle.std.specs.FinMap.{get, insert, remove, contains_key, get-insert, get-remove, same_map}
@@ -10,7 +11,8 @@ use Rattle.std.proofs.lemmas.List.{take_all}
 use Rattle.std.proofs.lemmas.Map.Views.{tells_apart}
 use Rattle.fx_base.specs.declared.counts.Counts.{Counts}
 use Rattle.fx_layout.specs.Keys.{Key, same_key}
-use Rattle.lru.specs.LruCache.{lru_cache, put_entries, displaced}
+use Rattle.fx_layout.proofs.Projections.{key_same}
+use Rattle.lru.specs.LruCache.{lru_cache, put_entries, displaced, promoted}
 use Rattle.fx_store.specs.Order.{key_cmp}
 use Rattle.fx_store.specs.KeyOrder.{key_cmp_total, key_cmp_apart}
 use Rattle.fx_store.specs.Flows.{Entry, Flows, flows_of, least, without, with_added, with_more, Adds}
@@ -31,6 +33,16 @@ put_held es n k before c room h =
     past [] i h = refl
     past (x ∷ xs) zero h = absurd (omega arith)
     past (x ∷ xs) (suc i) h = past xs i (omega arith)
+
+-- counts that are written in place of what was found are put there
+pub written_held : (es : List Entry) (n : ℕ) (k : Key) (before c v : Counts) → length es ≤ n → counts_at es k ≡ Some before → v ≡ with_more (Some before) c → (set_value (same_key k) (promoted (same_key k) es) v ≡ take n (with_latest es k c)) × (slice_get (with_latest es k c) n ≡ None)
+written_held es n k before c v room h is =
+    let on = (entry_at k es before h).0 in
+    let put = put_held es n k before c room h in
+    let first : set_value (same_key k) (promoted (same_key k) es) v ≡ set_value (same_key k) ((k, before) ∷ without_key es k) v = ap (λ (o : Option Entry). set_value (same_key k) (option_map_or (λ (e : Entry). e ∷ without_key es k) o es) v) on in
+    let written : set_value (same_key k) ((k, before) ∷ without_key es k) v ≡ (k, v) ∷ without_key es k = ap (λ (b : Bool). cond b ((k, v) ∷ without_key es k) ((k, before) ∷ set_value (same_key k) (without_key es k) v)) (key_same k) in
+    let made : put_entries same_key (lru_cache es n) k v ≡ (k, v) ∷ without_key es k = ap (λ (o : Option Entry). option_map_or (λ (e : Entry). (e.0, v) ∷ without_key es k) o ((k, v) ∷ take (n - 1) es)) on in
+    (first ∙ written ∙ sym made ∙ ap (put_entries same_key (lru_cache es n) k) is ∙ put.0, put.1)
 
 pub put_new : (es : List Entry) (n : ℕ) (k : Key) (c : Counts) → 0 < n → counts_at es k ≡ None → (put_entries same_key (lru_cache es n) k c ≡ take n (with_latest es k c)) × (displaced same_key (lru_cache es n) k c ≡ slice_get (with_latest es k c) n)
 put_new es n k c some h =

@@ -2,13 +2,15 @@
 ghost use Rattle.std.specs.Prelude.{◌≡◌, ◌≤◌, ◌<◌, [], None, Some, length, option_map, OnOk, OnErr, IfOk, IfErr, IfSome, IfNone, IsOk, IsSome};
 ghost use Rattle.std.specs.FinMap as map;
 ghost use Rattle.fx_base.specs.Fault.{IsMemory};
+ghost use Rattle.fx_layout.specs.Keys.{key_of};
 ghost use Rattle.fx_store.specs.Flows.{Adds, flows_of, least, without};
 ghost use Rattle.fx_store.specs.Recent.{after_add, counts_at, pushed_out, without_key};
 
 use crate::ordered::Ordered;
 use crate::store::FlowStore;
 use fx_base::{Counts, Fault};
-use fx_layout::{Key, Seed};
+use fx_boxes::Fields;
+use fx_layout::{Key, Layout, Seed};
 use lru::LruCache;
 use std::alloc::Global;
 use std::collections::BTreeSet;
@@ -23,6 +25,8 @@ use std::num::NonZeroUsize;
 pub struct BoundedStore {
     recent: LruCache<Ordered, Counts, Seed>,
     order: BTreeSet<Ordered>,
+    /// The room of a packet's key, by which it is looked up.
+    probe: Ordered,
 }
 
 impl Model for BoundedStore {
@@ -51,6 +55,7 @@ impl BoundedStore {
         Ok(BoundedStore {
             recent,
             order: BTreeSet::new(alloc),
+            probe: Ordered::of_all(),
         })
     }
 
@@ -102,6 +107,38 @@ impl FlowStore for BoundedStore {
             }
             None => self.add_new(key, counts),
         }
+    }
+
+    /// Adds the counts at the key of a packet. Where the store is full and the key is new, the least
+    /// recently added-to entry leaves.
+    fn add_packet(
+        &mut self,
+        layout: &Layout,
+        fields: &Fields,
+        counts: Counts,
+    ) -> Result<Option<(Key, Counts)>, Fault>
+        ensures ok { IfOk result (λ left. Adds (flows_of self.old.entries)
+            (flows_of self.new.entries) (key_of layout.now fields.now) counts left) }
+        ensures err { IfErr result (λ e. IsMemory e
+            × (flows_of self.new.entries ≡ flows_of self.old.entries)) }
+        ensures held { IsSome (map.get (flows_of self.old.entries)
+            (key_of layout.now fields.now)) → IsOk result }
+        ensures recent { OnOk result (self.new
+            ≡ after_add self.old (key_of layout.now fields.now) counts) }
+        ensures leaves { IfOk result (λ left. left
+            ≡ pushed_out self.old (key_of layout.now fields.now) counts) }
+        ensures unchanged { OnErr result (self.new ≡ self.old) }
+    {
+        self.probe.become_of_packet(layout, fields);
+        let _held = self.recent.len();
+        match self.recent.get_mut(&self.probe) {
+            Some(held) => *held = held.add(&counts),
+            None => {
+                let key = self.probe.copy();
+                return self.add_new(key, counts);
+            }
+        }
+        Ok(None)
     }
 
     fn take(&mut self, key: &Key) -> Option<Counts>

@@ -2,13 +2,15 @@
 ghost use Rattle.std.specs.Prelude.{◌≡◌, [], None, OnOk, OnErr, IfOk, IfErr, IsOk, IsSome};
 ghost use Rattle.std.specs.FinMap as map;
 ghost use Rattle.fx_base.specs.Fault.{IsMemory};
+ghost use Rattle.fx_layout.specs.Keys.{key_of};
 ghost use Rattle.fx_store.specs.Flows.{Adds, flows_of, least, without};
 ghost use Rattle.fx_store.specs.Recent.{counts_at};
 
 use crate::ordered::Ordered;
 use crate::store::FlowStore;
 use fx_base::{Counts, Fault};
-use fx_layout::{Key, Seed};
+use fx_boxes::Fields;
+use fx_layout::{Key, Layout, Seed};
 use indexmap::IndexMap;
 use std::alloc::Global;
 use std::collections::BTreeSet;
@@ -21,6 +23,8 @@ use std::marker::Model;
 pub struct ListStore {
     flows: IndexMap<Ordered, Counts, Seed>,
     order: BTreeSet<Ordered>,
+    /// The room of a packet's key, by which it is looked up.
+    probe: Ordered,
 }
 
 impl Model for ListStore {
@@ -43,6 +47,7 @@ impl ListStore {
         ListStore {
             flows: IndexMap::with_hasher(alloc, seed),
             order: BTreeSet::new(alloc),
+            probe: Ordered::of_all(),
         }
     }
 
@@ -80,6 +85,33 @@ impl FlowStore for ListStore {
         match self.flows.get_mut(&key) {
             Some(held) => *held = held.add(&counts),
             None => self.add_new(key, counts)?,
+        }
+        Ok(None)
+    }
+
+    /// Adds the counts at the key of a packet; no entry leaves.
+    fn add_packet(
+        &mut self,
+        layout: &Layout,
+        fields: &Fields,
+        counts: Counts,
+    ) -> Result<Option<(Key, Counts)>, Fault>
+        ensures ok { IfOk result (λ left. Adds (flows_of self.old) (flows_of self.new)
+            (key_of layout.now fields.now) counts left) }
+        ensures err { IfErr result (λ e. IsMemory e
+            × (flows_of self.new ≡ flows_of self.old)) }
+        ensures held { IsSome (map.get (flows_of self.old) (key_of layout.now fields.now))
+            → IsOk result }
+        ensures stays { IfOk result (λ left. left ≡ None) }
+        ensures unchanged { OnErr result (self.new ≡ self.old) }
+    {
+        self.probe.become_of_packet(layout, fields);
+        match self.flows.get_mut(&self.probe) {
+            Some(held) => *held = held.add(&counts),
+            None => {
+                let key = self.probe.copy();
+                self.add_new(key, counts)?;
+            }
         }
         Ok(None)
     }

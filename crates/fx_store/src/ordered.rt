@@ -1,11 +1,12 @@
 //! Flow keys in their order.
-ghost use Rattle.std.specs.Prelude.{◌≡◌, Some, refl};
+ghost use Rattle.std.specs.Prelude.{◌≡◌, [], Some, refl};
 ghost use Rattle.std.specs.Cmp.{partial_equiv_from_equiv, po};
-ghost use Rattle.fx_layout.specs.Keys.{same_key};
+ghost use Rattle.fx_layout.specs.Keys.{key_of, same_key};
 ghost use Rattle.fx_store.specs.Order.{key_cmp, layout_cmp, part_cmp};
 ghost use Rattle.fx_store.specs.KeyOrder.{key_cmp_total, same_key_equiv, same_key_ties, hash_writes, hashes_alike};
 
-use fx_layout::{Key, Part};
+use fx_boxes::Fields;
+use fx_layout::{Key, Layout, Part};
 use std::cmp::Ordering;
 use std::hash::{Hash, Hasher};
 use std::marker::Model;
@@ -63,6 +64,20 @@ impl Ordered {
         ensures { result ≡ key }
     {
         Ordered { key }
+    }
+
+    /// The key under the layout without parts.
+    pub(crate) fn of_all() -> Ordered
+        ensures { result ≡ record { layout = []; values = [] } }
+    {
+        Ordered { key: Key::of_all() }
+    }
+
+    /// The key that a packet with these fields has under the layout takes the place of this one.
+    pub(crate) fn become_of_packet(&mut self, layout: &Layout, fields: &Fields)
+        ensures { self.new ≡ key_of layout.now fields.now }
+    {
+        self.key.become_of_packet(layout, fields);
     }
 
     /// The key.

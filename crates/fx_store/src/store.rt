@@ -2,10 +2,12 @@
 ghost use Rattle.std.specs.Prelude.{◌≡◌, IfOk, IfErr, IsOk, IsSome};
 ghost use Rattle.std.specs.FinMap as map;
 ghost use Rattle.fx_base.specs.Fault.{IsMemory};
+ghost use Rattle.fx_layout.specs.Keys.{key_of};
 ghost use Rattle.fx_store.specs.Flows.{Flows, Adds, least, without};
 
 use fx_base::{Counts, Fault};
-use fx_layout::Key;
+use fx_boxes::Fields;
+use fx_layout::{Key, Layout};
 
 /// A finite map from flow keys to counts.
 ///
@@ -26,6 +28,23 @@ pub trait FlowStore: Drop {
         ensures err { IfErr result (λ e. IsMemory e
             × (flows self.new ≡ flows self.old)) }
         ensures held { IsSome (map.get (flows self.old) key) → IsOk result };
+
+    /// Adds the counts at the key that a packet with these fields has under the layout, as
+    /// [`FlowStore::add`] does: where the key is there, it is not copied.
+    ///
+    /// Fails as [`FlowStore::add`].
+    fn add_packet(
+        &mut self,
+        layout: &Layout,
+        fields: &Fields,
+        counts: Counts,
+    ) -> Result<Option<(Key, Counts)>, Fault>
+        ensures ok { IfOk result (λ left. Adds (flows self.old) (flows self.new)
+            (key_of layout.now fields.now) counts left) }
+        ensures err { IfErr result (λ e. IsMemory e
+            × (flows self.new ≡ flows self.old)) }
+        ensures held { IsSome (map.get (flows self.old) (key_of layout.now fields.now))
+            → IsOk result };
 
     /// Takes the key's entry out, and answers its counts, if it is there.
     fn take(&mut self, key: &Key) -> Option<Counts>

@@ -74,6 +74,48 @@ fn fills_and_empties_a_bounded_store(rt: HostRuntime) {
     assert!(rt; is_filled_and_emptied(&rt, store));
 }
 
+/// Adds a packet from an address by its fields, under the layout of whole addresses: whether this address left then, or
+/// none for 0.
+fn adds_packet<S: FlowStore>(rt: &impl Abort, store: &mut S, source: u32, left: u128) -> bool {
+    let layout = Layout::new().with(Axis::Source, 32).expect(rt, "a layout");
+    let fields = Fields::of([u128::from(source), 0, 0, 0, 0, 0, 4, 0, 0]);
+    is_left(store.add_packet(&layout, &fields, COUNTS), left)
+}
+
+/// Adds three packets of two addresses and one at a key of them: whether the store holds what was counted.
+fn counts_packets<S: FlowStore>(rt: &impl Abort, mut store: S) -> bool {
+    adds_packet(rt, &mut store, 0x0a00_0002, 0)
+        & adds_packet(rt, &mut store, 0x0a00_0001, 0)
+        & adds_packet(rt, &mut store, 0x0a00_0002, 0)
+        & adds(rt, &mut store, 0x0a00_0001, 0)
+        & (least(&mut store) == Some((0x0a00_0001, 2, 20)))
+        & (least(&mut store) == Some((0x0a00_0002, 2, 20)))
+        & least(&mut store).is_none()
+}
+
+#[test]
+fn counts_packets_in_a_list(rt: HostRuntime) {
+    assert!(rt; counts_packets(&rt, ListStore::new(rt.alloc(), seed())));
+}
+
+/// Whether a store for two keys lets the one leave to which a packet was added longest ago.
+fn lets_a_packet_leave<S: FlowStore>(rt: &impl Abort, mut store: S) -> bool {
+    adds_packet(rt, &mut store, 1, 0)
+        & adds_packet(rt, &mut store, 2, 0)
+        & adds_packet(rt, &mut store, 1, 0)
+        & adds_packet(rt, &mut store, 3, 2)
+        & (least(&mut store) == Some((1, 2, 20)))
+        & (least(&mut store) == Some((3, 1, 10)))
+}
+
+#[test]
+fn counts_packets_in_a_bounded_store(rt: HostRuntime) {
+    let store = BoundedStore::new(rt.alloc(), seed(), 2).expect(&rt, "memory");
+    assert!(rt; counts_packets(&rt, store));
+    let store = BoundedStore::new(rt.alloc(), seed(), 2).expect(&rt, "memory");
+    assert!(rt; lets_a_packet_leave(&rt, store));
+}
+
 /// Whether a store for two keys lets the one leave that was added to longest ago, and keeps the others.
 fn lets_leave<S: FlowStore>(rt: &impl Abort, mut store: S) -> bool {
     adds(rt, &mut store, 1, 0)
