@@ -95,6 +95,7 @@ struct LastFields {
 
 /// The values on the axes behind the first six: in the first version those of a packet of IPv4.
 #[tactic(auto, unfolding(crate::specs::RunReading::last_first))]
+#[inline(always)]
 fn read_last(version: TextVersion, words: Words<'_>) -> Option<(LastFields, Words<'_>)>
     ensures value { result ≡ last_first version words.entry }
     ensures bound { IfSome result (λ r. (r.0.version ≤ 255) × (r.0.source < 2 ^ 128)
@@ -304,6 +305,7 @@ fn read_step(alloc: Global, kind: &[u8], words: Words<'_>) -> Result<Option<Step
 
 /// Reads what a line of this kind says, a packet into the place for it.
 #[tactic(auto, unfolding(crate::specs::RunReading::line_of_kind))]
+#[inline(always)]
 fn read_kind(
     alloc: Global,
     version: TextVersion,
@@ -328,6 +330,7 @@ fn read_kind(
 }
 
 /// Reads what a line behind the first says, if it is well-formed, a packet into the place for it.
+#[inline(always)]
 pub(crate) fn read_line(
     alloc: Global,
     version: TextVersion,
