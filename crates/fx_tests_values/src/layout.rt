@@ -65,6 +65,7 @@ fn is_coarse_key(key: Key, coarse: &Layout, fine: &Layout) -> bool {
     key.same(&coarse.key_of(&web_packet()))
         & key.layout().same(coarse)
         & (key.values() == [0x0a01].as_slice())
+        & (key.own_values().as_slice() == key.values())
         & key.project(fine).is_none()
 }
 
