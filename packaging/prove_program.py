@@ -13,6 +13,7 @@ What is proved lies in the crate's out/program, with what was said of it in the 
 crate whose files, libraries and kit are as they were is kept.
 """
 import os
+import signal
 import subprocess
 import sys
 
@@ -22,6 +23,9 @@ sys.path.insert(0, os.path.join(TOP, "tests"))
 from wrong_bodies import load_rt
 
 PROGRAM = "once"
+
+# What a proof takes of the memory that the kit foresees for it, which is that of a check that keeps its work too.
+SHARE_OF_MEMORY = 0.5
 
 
 def made_by(crate):
@@ -38,9 +42,11 @@ def build(rt, crate, jobs, said):
     else:
         words += ["--statements", "-o", made]
     how = {"cwd": crate.folder, "stdin": subprocess.DEVNULL, "stdout": said, "stderr": subprocess.STDOUT}
-    if subprocess.run([*rt.rtlib.guarded(), rt.rtlib.RATTLE, "build", *words], **how).returncode:
-        return False
-    return not crate.is_program or crate.link(made + ".o", made) == 0
+    status = subprocess.run([*rt.rtlib.guarded(), rt.rtlib.RATTLE, "build", *words], **how).returncode
+    if status == -signal.SIGKILL and jobs > 1:
+        # Most likely for memory.
+        return build(rt, crate, 1, said)
+    return status == 0 and (not crate.is_program or crate.link(made + ".o", made) == 0)
 
 
 def prove(rt, crate, given, jobs):
@@ -83,7 +89,7 @@ def main(names):
         if crate.name in wanted:
             work = lambda given, jobs, crate=crate: prove(rt, crate, given, jobs)
             waits = [(it.name, "proof") for it in crate.below()]
-            tasks[crate.name, "proof"] = waits, crate.count(rb"\n"), rt.need(crate), work
+            tasks[crate.name, "proof"] = waits, crate.count(rb"\n"), SHARE_OF_MEMORY * rt.need(crate), work
     return 0 if all(rt.in_lanes(tasks).values()) else 1
 
 
