@@ -46,7 +46,7 @@ def build(rt, crate, jobs, said):
     if status == -signal.SIGKILL and jobs > 1:
         # Most likely for memory.
         return build(rt, crate, 1, said)
-    return status == 0 and (not crate.is_program or crate.link(made + ".o", made) == 0)
+    return status == 0 and (not crate.is_program or crate.link(made + ".o", os.path.relpath(made, crate.folder)) == 0)
 
 
 def prove(rt, crate, given, jobs):
