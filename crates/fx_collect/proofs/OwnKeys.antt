@@ -86,9 +86,3 @@ own_record t r is bits same =
     let own : project r.key t.layout ≡ r.key = project_own t.layout r.key is (sym same, so_long r.key.layout r.key.values bits ∙ ap length (sym same)) in
     let key : record { layout = t.layout; values = r.key.values } ≡ project r.key t.layout = ap (λ (l : Layout). record { layout = l; values = r.key.values }) same ∙ sym own in
     rw fine (ap (λ (k : Key). record t { entries = add_at t.entries k r.counts }) key)
-
--- a record under a finer layout is counted at its projected values
-pub projected_record : (t : Totals) (r : Record) (values : List ℕ) → refines r.key.layout t.layout ≡ true → values ≡ (project r.key t.layout).values
-    → record t { entries = add_at t.entries (record { layout = t.layout; values = values }) r.counts } ≡ with_record t r
-projected_record t r values fine is =
-    rw fine (ap (λ (vs : List ℕ). record t { entries = add_at t.entries (record { layout = t.layout; values = vs }) r.counts }) is)
