@@ -8,6 +8,7 @@ ghost use Rattle.fx_elements.specs.Values.{written_on, value_text};
 ghost use Rattle.fx_elements.specs.declared.axis.Axis.{Axis};
 
 /// The parts before and after the first byte that is `at`.
+#[inline(always)]
 pub fn split_at_byte(text: &[u8], at: u8) -> Option<(&[u8], &[u8])>
     ensures { option_map (λ p. (p.0.now, p.1.now)) result ≡ cut_at at text.now }
 {
@@ -42,6 +43,7 @@ fn read_wide_digits(text: &[u8], top: u128) -> Option<u128>
 }
 
 /// The number of at most `top` that these digits spell.
+#[inline(always)]
 fn read_digits(text: &[u8], top: u128) -> Option<u128>
     ensures value { result ≡ digits_of top text.now }
     ensures bound { IfSome result (λ n. n ≤ top) }
@@ -66,6 +68,7 @@ fn read_digits(text: &[u8], top: u128) -> Option<u128>
 
 /// The number of at most `top` whose decimal text this is.
 #[tactic(auto, unfolding(crate::specs::Spelling::number_of))]
+#[inline(always)]
 pub fn read_number(text: &[u8], top: u128) -> Option<u128>
     ensures value { result ≡ number_of top text.now }
     ensures bound { IfSome result (λ n. n ≤ top) }
@@ -78,10 +81,44 @@ pub fn read_number(text: &[u8], top: u128) -> Option<u128>
 }
 
 /// The number below 2 to the 64 whose decimal text this is.
+#[inline(always)]
 pub fn read_u64(text: &[u8]) -> Option<u64>
     ensures { result ≡ number_of largest text.now }
 {
     Some(read_number(text, u64::MAX as u128)? as u64)
+}
+
+/// The number of at most 255 that these digits spell.
+#[inline(always)]
+fn read_few_digits(text: &[u8]) -> Option<u64>
+    ensures value { result ≡ digits_of 255 text.now }
+    ensures bound { IfSome result (λ n. n ≤ 255) }
+{
+    let mut n: u64 = 0;
+    for b in text {
+        if !b.is_ascii_digit() {
+            return None;
+        }
+        n = n * 10 + (*b - b'0') as u64;
+        if n > 255 {
+            return None;
+        }
+    }
+    Some(n)
+}
+
+/// The number of at most 255 whose decimal text this is.
+#[tactic(auto, unfolding(crate::specs::Spelling::number_of))]
+#[inline(always)]
+fn read_octet(text: &[u8]) -> Option<u64>
+    ensures value { result ≡ number_of 255 text.now }
+    ensures bound { IfSome result (λ n. n ≤ 255) }
+{
+    match text {
+        [] => None,
+        [b'0', _, ..] => None,
+        _ => read_few_digits(text),
+    }
 }
 
 /// The address whose dotted quad this is.
@@ -93,11 +130,11 @@ pub fn read_quad(text: &[u8]) -> Option<u128>
     let (a, rest) = split_at_byte(text, b'.')?;
     let (b, rest) = split_at_byte(rest, b'.')?;
     let (c, d) = split_at_byte(rest, b'.')?;
-    let a = read_number(a, 255)?;
-    let b = read_number(b, 255)?;
-    let c = read_number(c, 255)?;
-    let d = read_number(d, 255)?;
-    Some(((a * 256 + b) * 256 + c) * 256 + d)
+    let a = read_octet(a)?;
+    let b = read_octet(b)?;
+    let c = read_octet(c)?;
+    let d = read_octet(d)?;
+    Some((((a * 256 + b) * 256 + c) * 256 + d) as u128)
 }
 
 /// The address and the number of leading bits of `a.b.c.d/n`.

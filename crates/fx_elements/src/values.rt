@@ -19,6 +19,7 @@ pub struct Range {
 }
 
 /// The value on the axis whose written form this is: a dotted quad, eight groups, a decimal number.
+#[inline(always)]
 pub fn read_written(axis: Axis, text: &[u8]) -> Option<u128>
     ensures value { result ≡ written_on axis text.now }
     ensures bound { IfSome result (λ v. v ≤ slice_index tops (axis_index axis)) }

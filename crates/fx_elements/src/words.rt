@@ -33,6 +33,7 @@ impl<'a> Words<'a> {
     }
 
     /// The first word, and the words behind it.
+    #[inline(always)]
     pub fn word(self) -> Option<(&'a [u8], Words<'a>)>
         ensures { option_map (λ p. (p.0.now, p.1)) result ≡ first_word self.entry }
     {
@@ -44,6 +45,7 @@ impl<'a> Words<'a> {
     }
 
     /// The number in the first word, below 2 to the 64, and the words behind it.
+    #[inline(always)]
     pub fn number(self) -> Option<(u64, Words<'a>)>
         ensures { result ≡ number_first self.entry }
     {
@@ -53,6 +55,7 @@ impl<'a> Words<'a> {
     }
 
     /// The value on the axis whose written form the first word is, and the words behind it.
+    #[inline(always)]
     pub fn value(self, axis: Axis) -> Option<(u128, Words<'a>)>
         ensures value { result ≡ value_first axis self.entry }
         ensures bound { IfSome result (λ p. p.0 ≤ slice_index tops (axis_index axis)) }
